@@ -1,0 +1,7 @@
+pub mod Tree
+pub mod View
+pub mod Substitute
+pub mod Height
+pub mod Context
+pub mod Act
+pub mod State

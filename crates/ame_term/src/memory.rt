@@ -1,0 +1,5 @@
+//! Want of memory.
+
+/// Memory was wanted and not there.
+#[derive(Clone, Copy, PartialEq, Eq, Debug)]
+pub struct NoMemory;

@@ -1,1 +1,3 @@
-pub mod EndLemmas
+pub mod CountsLemmas
+pub mod ReadsLemmas
+pub mod WritesLemmas

@@ -44,3 +44,56 @@ pub fn read_all<S: Source>(alloc: Global, source: &mut S) -> Result<Vec<u8>, Rea
         }
     }
 }
+
+#[cfg(test)]
+mod tests {
+    use super::*;
+    use crate::mem_source::MemSource;
+    use std::test::Fail;
+
+    #[test]
+    fn reads_up_to_the_limit(rt: HostRuntime) -> Result<(), Fail> {
+        let too_long = Err(ReadAllFail::TooLong);
+        let rows = [
+            (0, Ok(0)),
+            (1, Ok(1)),
+            (10_000, Ok(10_000)),
+            (READ_LIMIT, Ok(READ_LIMIT)),
+            (READ_LIMIT + 1, too_long),
+        ];
+        for (len, answer) in rows {
+            let bytes = vec![in rt.alloc(); 7u8; len]?;
+            let mut source = MemSource::new(bytes, 5000, Vec::new(rt.alloc()));
+            let whole = read_all(rt.alloc(), &mut source);
+            assert_eq!(rt; whole.map(|bytes| bytes.len()), answer, "at {len}");
+        }
+        Ok(())
+    }
+
+    #[test]
+    fn keeps_the_order_of_chunks(rt: HostRuntime) -> Result<(), Fail> {
+        let bytes = vec![in rt.alloc(); 1u8, 2, 3, 4, 5]?;
+        let mut source = MemSource::new(bytes, 2, Vec::new(rt.alloc()));
+        assert_eq!(rt;
+            read_all(rt.alloc(), &mut source)?.as_slice(),
+            [1, 2, 3, 4, 5].as_slice()
+        );
+        Ok(())
+    }
+
+    #[test]
+    fn a_fault_in_mid_stream_is_answered(rt: HostRuntime) -> Result<(), Fail> {
+        let bytes = vec![in rt.alloc(); 1u8, 2, 3, 4, 5]?;
+        let fails = vec![in rt.alloc(); 2u64]?;
+        let mut source = MemSource::new(bytes, 2, fails);
+        assert_eq!(rt;
+            read_all(rt.alloc(), &mut source).err(),
+            Some(ReadAllFail::ReadFault)
+        );
+        assert_eq!(rt;
+            read_all(rt.alloc(), &mut source)?.as_slice(),
+            [3, 4, 5].as_slice()
+        );
+        Ok(())
+    }
+}

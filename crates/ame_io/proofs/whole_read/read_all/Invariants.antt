@@ -9,7 +9,7 @@ invariant-reads g l = record {
   within : vec_len l.bytes ≤ 1048576;
   has_room : 1048576 ≤ vec_capacity l.bytes;
   stayed : g.S.Source.faults l.source ≡ g.S.Source.faults l.initial.source;
-  taken : Consumes (g.S.Source.left l.initial.source) (g.S.Source.left l.source) l.bytes.items
+  taken : Consumes (g.S.Source.left l.initial.source) (g.S.Source.left l.source) l.bytes.items;
 }
 
 abbrev pub decreases-reads : goal.decreases-reads

@@ -7,7 +7,7 @@ abbrev pub invariant-writes : goal.invariant-writes
 invariant-writes g l = record {
   within : l.gone ≤ length l.bytes;
   stayed : g.K.Sink.faults l.sink ≡ g.K.Sink.faults l.initial.sink;
-  appended : Appends (g.K.Sink.written l.initial.sink) (g.K.Sink.written l.sink) (take l.gone l.bytes)
+  appended : Appends (g.K.Sink.written l.initial.sink) (g.K.Sink.written l.sink) (take l.gone l.bytes);
 }
 
 abbrev pub decreases-writes : goal.decreases-writes

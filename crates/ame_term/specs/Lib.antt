@@ -5,3 +5,4 @@ pub mod Height
 pub mod Context
 pub mod Act
 pub mod State
+pub mod Written

@@ -6,3 +6,4 @@ pub mod Context
 pub mod Act
 pub mod State
 pub mod Written
+pub mod Typing

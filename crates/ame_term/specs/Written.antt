@@ -1,7 +1,7 @@
 -- What reading a text ensures of its term.
-use Rattle.std.specs.Prelude.{◌≡◌, ℕ, ◌+◌, List, [], ◌∷◌, Option, Some, None}
+use Rattle.std.specs.Prelude.{ℕ, ◌+◌, List, [], ◌∷◌, Option, Some, None}
 use Rattle.std.specs.List.{Contains}
-use Rattle.ame_term.specs.Tree.{OwnName, Head, Val, Tree, Trees}
+use Rattle.ame_term.specs.Tree.{OwnName, Val, Tree, Trees}
 
 unfoldable mutual
   -- the number of nodes of a term; a held value is one

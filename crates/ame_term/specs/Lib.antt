@@ -6,3 +6,5 @@ pub mod Context
 pub mod Answers
 pub mod Act
 pub mod State
+pub mod Written
+pub mod Typing

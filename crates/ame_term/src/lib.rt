@@ -8,6 +8,7 @@ mod copied;
 mod copy;
 mod focus;
 mod heights;
+mod accepted;
 mod memory;
 mod program;
 mod semantics;
@@ -16,6 +17,7 @@ mod term;
 mod types;
 
 pub use locs::Locs;
+pub use accepted::Accepted;
 pub use memory::NoMemory;
 pub use context::{refill, split};
 pub use copied::Copied;

@@ -2,13 +2,13 @@
 //! as definitions.
 #![tactic(auto)]
 
-mod locs;
+mod accepted;
 mod context;
 mod copied;
 mod copy;
 mod focus;
 mod heights;
-mod accepted;
+mod locs;
 mod memory;
 mod program;
 mod semantics;
@@ -16,14 +16,13 @@ mod substitution;
 mod term;
 mod types;
 
-pub use locs::Locs;
 pub use accepted::Accepted;
-pub use memory::NoMemory;
 pub use context::{refill, split};
 pub use copied::Copied;
 pub use copy::{copy_function, copy_term, copy_ty, copy_value};
 pub use focus::Split;
 pub use heights::{TALL, height};
+pub use locs::Locs;
 pub use memory::{NoMemory, boxed, push};
 pub use program::Program;
 pub use semantics::{Label, StepKind};

@@ -37,8 +37,8 @@ run_rest {run = run} {rest = rest} r = ap (drop (length run)) r.split ∙ drop-a
 pub run_front : {p : ℕ → Bool} {text run rest : Text} → IsRun p text run rest → take (length run) text ≡ run
 run_front {run = run} {rest = rest} r = ap (take (length run)) r.split ∙ take-append_seam run rest
 
-pub run_at_len : {p : ℕ → Bool} (text : Text) → length (take (prefix_len p text) text) ≡ prefix_len p text
-run_at_len {p} text = sym (run_len (run_of p text))
+pub run_at_len : (p : ℕ → Bool) (text : Text) → length (take (prefix_len p text) text) ≡ prefix_len p text
+run_at_len p text = sym (run_len (run_of p text))
 
 -- a byte that continues a number is a digit
 digit_class : (class : Class) → continues_number class ≡ true → class ≡ Digit

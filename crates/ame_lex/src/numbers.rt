@@ -1,8 +1,7 @@
 //! Numbers at the front of a text.
 
-ghost use Rattle.std.specs.Prelude.{◌≡◌, ◌+◌, ◌^◌, ◌<◌, SomeIff, FitsSigned, length, if◌then◌else◌, true};
+ghost use Rattle.std.specs.Prelude.{◌≡◌, ◌+◌, ◌-◌, ◌^◌, ◌<◌, min, SomeIff, FitsSigned, length, if◌then◌else◌, true};
 ghost use Rattle.std.specs.Int.{w64};
-ghost use Rattle.std.specs.List.{AllByRecursion};
 ghost use Rattle.ame_lex.specs.Bytes as bytes;
 ghost use Rattle.ame_lex.specs.Reading as spec;
 
@@ -10,28 +9,25 @@ use crate::pieces::Piece;
 use crate::runs::{digits_len, is_word_byte};
 use crate::tokens::Kind;
 
-/// The value of decimal digits, where it fits.
-fn decimal(digits: &[u8]) -> Option<u64>
-    requires { AllByRecursion (λ b. bytes.is_digit b ≡ true) digits.now }
-    ensures { SomeIff result (bytes.decimal digits.now < 2 ^ 64) (bytes.decimal digits.now) }
+/// The value of decimal digits, or the greatest `u64` where it doesn't fit.
+fn decimal(digits: &[u8]) -> u64
+    ensures { result ≡ min (bytes.decimal digits.now) (2 ^ 64 - 1) }
 {
     let mut value: u64 = 0;
     for digit in digits {
-        value = value.checked_mul(10)?.checked_add(u64::from(*digit - b'0'))?;
+        value = value.saturating_mul(10).saturating_add(u64::from(digit.saturating_sub(b'0')));
     }
-    Some(value)
+    value
 }
 
 /// The value of digits after their sign, where it fits.
 fn value_of(is_negative: bool, digits: &[u8]) -> Option<i64>
-    requires { AllByRecursion (λ b. bytes.is_digit b ≡ true) digits.now }
     ensures { SomeIff result (FitsSigned w64 (spec.value_of is_negative digits.now)) (spec.value_of is_negative digits.now) }
 {
-    let value = decimal(digits)?;
     if is_negative {
-        0i64.checked_sub_unsigned(value)
+        0i64.checked_sub_unsigned(decimal(digits))
     } else {
-        0i64.checked_add_unsigned(value)
+        0i64.checked_add_unsigned(decimal(digits))
     }
 }
 

@@ -5,3 +5,5 @@ pub mod Height
 pub mod Context
 pub mod Act
 pub mod State
+pub mod Written
+pub mod Typing

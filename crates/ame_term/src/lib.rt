@@ -2,12 +2,14 @@
 //! as definitions.
 #![tactic(auto)]
 
+mod accepted;
 mod memory;
 mod program;
 mod semantics;
 mod term;
 mod types;
 
+pub use accepted::Accepted;
 pub use memory::NoMemory;
 pub use program::Program;
 pub use semantics::{Label, StepKind};

@@ -4,7 +4,7 @@ use Rattle.ame_term.specs.Tree.{Tree, Trees}
 use Rattle.ame_parse.specs.declared.words.Word.{Word}
 use Rattle.ame_parse.specs.declared.words.Word.TheVariants as w
 use Rattle.ame_parse.specs.declared.ahead.Ahead.{Ahead}
-use Rattle.ame_parse.specs.declared.ahead.Ahead.TheVariants as ahead
+use Rattle.ame_parse.specs.declared.ahead.Ahead.TheVariants as a
 use Rattle.ame_parse.specs.declared.forms.OnePart.{OnePart}
 use Rattle.ame_parse.specs.declared.forms.OnePart.TheVariants as one
 use Rattle.ame_parse.specs.declared.forms.Form.{Form}
@@ -19,7 +19,7 @@ form_of_word _ = None
 
 -- the form that begins with this after its parenthesis
 unfoldable pub form_of : Ahead → Option Form
-form_of (ahead.Reserved word) = form_of_word word
+form_of (a.Reserved word) = form_of_word word
 form_of _ = None
 
 -- a form with one part

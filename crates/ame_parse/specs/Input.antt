@@ -5,7 +5,7 @@ use Rattle.ame_lex.specs.declared.tokens.Kind.{Kind}
 use Rattle.ame_lex.specs.declared.tokens.Kind.TheVariants as kind
 use Rattle.ame_parse.specs.declared.words.Word.{Word}
 use Rattle.ame_parse.specs.declared.ahead.Ahead.{Ahead}
-use Rattle.ame_parse.specs.declared.ahead.Ahead.TheVariants as ahead
+use Rattle.ame_parse.specs.declared.ahead.Ahead.TheVariants as a
 use Rattle.ame_parse.specs.declared.fault.Want.{Want}
 use Rattle.ame_parse.specs.declared.fault.Want.TheVariants as want
 use Rattle.ame_parse.specs.declared.fault.ParseFault.{ParseFault}
@@ -27,19 +27,19 @@ pub record Input : Type 0 where
 
 -- what a word is that may be reserved
 abbrev pub ahead_of_word : Option Word → Ahead
-ahead_of_word (Some word) = ahead.Reserved word
-ahead_of_word None = ahead.Name
+ahead_of_word (Some word) = a.Reserved word
+ahead_of_word None = a.Name
 
 -- what a token of this kind and this spelling is
 abbrev pub ahead_of : Kind → Text → Ahead
-ahead_of kind.Open spelling = ahead.Opening
-ahead_of kind.Close spelling = ahead.Closing
-ahead_of (kind.Number value) spelling = ahead.Number value
-ahead_of (kind.Symbol symbol) spelling = ahead.Symbol symbol
+ahead_of kind.Open spelling = a.Opening
+ahead_of kind.Close spelling = a.Closing
+ahead_of (kind.Number value) spelling = a.Number value
+ahead_of (kind.Symbol symbol) spelling = a.Symbol symbol
 ahead_of kind.Word spelling = ahead_of_word (word_of spelling)
 
 abbrev pub ahead_in : List Seen → Ahead
-ahead_in [] = ahead.End
+ahead_in [] = a.End
 ahead_in (token ∷ rest) = ahead_of token.kind token.spelling
 
 -- what comes next
@@ -104,7 +104,7 @@ abbrev pub mark : Parser (Unit {0})
 mark = λ i. Ok (tt, marked i)
 
 abbrev pub is_closing : Ahead → Bool
-is_closing ahead.Closing = true
+is_closing a.Closing = true
 is_closing _ = false
 
 unfoldable pub sees_closing : Parser Bool
@@ -112,7 +112,7 @@ sees_closing = λ i. Ok (is_closing (ahead i), i)
 
 -- the parenthesis that ends a form
 abbrev pub closing_by : Ahead → Parser (Unit {0})
-closing_by ahead.Closing = advance
+closing_by a.Closing = advance
 closing_by _ = expected want.Closing
 
 unfoldable pub closing : Parser (Unit {0})
@@ -120,7 +120,7 @@ closing = peek >>= closing_by
 
 -- nothing comes after the program
 abbrev pub finish_by : Ahead → Parser (Unit {0})
-finish_by ahead.End = pure tt
+finish_by a.End = pure tt
 finish_by _ = λ i. Err (Trailing (place i))
 
 unfoldable pub finish : Parser (Unit {0})

@@ -1,11 +1,11 @@
 -- The program of a list of tokens, computed: what is read, or the first fault.
-use Rattle.std.specs.Prelude.{ℕ, zero, suc, ℤ, List, [], ◌∷◌, ◌++◌, map, Option, Some, None, Result, Ok, Err}
+use Rattle.std.specs.Prelude.{ℕ, zero, suc, if◌then◌else◌, ℤ, List, [], ◌∷◌, ◌++◌, map, Option, Some, None, Result, Ok, Err}
 use Rattle.ame_lex.specs.Bytes.{Text}
 use Rattle.ame_term.specs.Tree.{Val, Tree, Trees, unit_tree}
 use Rattle.ame_parse.specs.declared.words.Word.{Word}
 use Rattle.ame_parse.specs.declared.words.Word.TheVariants as w
 use Rattle.ame_parse.specs.declared.ahead.Ahead.{Ahead}
-use Rattle.ame_parse.specs.declared.ahead.Ahead.TheVariants as ahead
+use Rattle.ame_parse.specs.declared.ahead.Ahead.TheVariants as a
 use Rattle.ame_parse.specs.declared.fault.Want.{Want}
 use Rattle.ame_parse.specs.declared.fault.Want.TheVariants as want
 use Rattle.ame_parse.specs.declared.fault.ParseFault.{ParseFault}
@@ -56,7 +56,7 @@ module _ (part : Parser Tree) where
 
   -- after the opening parenthesis
   unfoldable pub compound : Parser Tree
-  compound = peek >>= (λ a. form_by (form_of a))
+  compound = peek >>= (λ next. form_by (form_of next))
 
 -- ---- terms
 
@@ -70,9 +70,9 @@ constant_by _ = expected want.Term
 
 -- a term of one token
 abbrev pub atom_by : Ahead → Parser Tree
-atom_by (ahead.Number value) = advance >> pure (Tree.Held (Val.Int value))
-atom_by (ahead.Reserved word) = constant_by word
-atom_by ahead.Name = λ i. Err (UnknownName (place i))
+atom_by (a.Number value) = advance >> pure (Tree.Held (Val.Int value))
+atom_by (a.Reserved word) = constant_by word
+atom_by a.Name = λ i. Err (UnknownName (place i))
 atom_by _ = expected want.Term
 
 unfoldable pub atom : Parser Tree
@@ -80,7 +80,7 @@ atom = peek >>= atom_by
 
 -- a term that is the form where it begins with a parenthesis
 abbrev pub term_by : Parser Tree → Ahead → Parser Tree
-term_by form ahead.Opening = form
+term_by form a.Opening = form
 term_by form _ = atom
 
 abbrev pub too_nested : Parser Tree

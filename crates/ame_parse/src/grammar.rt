@@ -36,6 +36,7 @@ fn atom(reader: &mut Reader<'_>) -> Result<Term, ParseFault>
 }
 
 #[cycle(grammar)]
+#[tactic(auto, unfolding(crate::specs::Reading::one))]
 fn one(
     alloc: Global,
     reader: &mut Reader<'_>,
@@ -71,6 +72,7 @@ fn more(
 }
 
 #[cycle(grammar)]
+#[tactic(auto, unfolding(crate::specs::Reading::two))]
 fn two(alloc: Global, reader: &mut Reader<'_>, depth: usize) -> Result<Vec<Term>, ParseFault>
     ensures { Reads (λ v. map tree_of v.items) (spec.two (spec.term depth) reader.old) result reader.new }
 {
@@ -83,6 +85,7 @@ fn two(alloc: Global, reader: &mut Reader<'_>, depth: usize) -> Result<Vec<Term>
 }
 
 #[cycle(grammar)]
+#[tactic(auto, unfolding(crate::specs::Reading::sequence))]
 fn sequence(alloc: Global, reader: &mut Reader<'_>, depth: usize) -> Result<Term, ParseFault>
     ensures { Reads tree_of (spec.sequence (spec.term depth) reader.old) result reader.new }
 {
@@ -94,6 +97,7 @@ fn sequence(alloc: Global, reader: &mut Reader<'_>, depth: usize) -> Result<Term
 
 /// What stands after an opening parenthesis.
 #[cycle(grammar)]
+#[tactic(auto, unfolding(crate::specs::Reading::compound))]
 fn compound(alloc: Global, reader: &mut Reader<'_>, depth: usize) -> Result<Term, ParseFault>
     ensures { Reads tree_of (spec.compound (spec.term depth) reader.old) result reader.new }
 {

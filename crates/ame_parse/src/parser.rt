@@ -1,11 +1,12 @@
 //! The program of a whole list of tokens.
 
-ghost use Rattle.std.specs.Prelude.{◌≡◌, ◌≤◌, ℕ, length, IfOk, Ok, Err};
+ghost use Rattle.std.specs.Prelude.{◌≡◌, ◌≤◌, ℕ, [], length, IfOk, Ok, Err};
 ghost use Rattle.ame_lex.specs.Reading.{tokens_of};
 ghost use Rattle.ame_parse.specs.Input.{Reads};
 ghost use Rattle.ame_parse.specs.Reading as spec;
 ghost use Rattle.ame_parse.specs.Text.{reading, source_of, Fault};
 ghost use Rattle.ame_term.specs.View.{tree_of};
+ghost use Rattle.ame_term.specs.Written.{nodes, IsWritten, IsBound};
 ghost use Rattle.ame_parse.specs.declared.fault.Want.{Want};
 
 use std::alloc::Global;
@@ -27,6 +28,11 @@ pub fn parse(alloc: Global, text: &[u8], tokens: &[Token]) -> Result<Program, Pa
 
     // The program is the one that is read of the text.
     ensures program { IfOk result (λ p. reading text.now ≡ Ok (source_of p)) }
+
+    // Each node has a place, each `do` two parts or more, and each name stands within a form that binds it.
+    ensures places { IfOk result (λ p. length p.places.items ≡ nodes (tree_of p.term)) }
+    ensures written { IfOk result (λ p. IsWritten (tree_of p.term)) }
+    ensures bound { IfOk result (λ p. IsBound [] (tree_of p.term)) }
 
     // A fault is the first one of the text, which then has no program.
     ensures expected { (place : ℕ) (want : Want) → result ≡ Err (ParseFault.Expected place want) → reading text.now ≡ Err (Fault.Syntactic (ParseFault.Expected place want)) }

@@ -47,6 +47,7 @@ impl<'a> Reader<'a> {
         }
     }
 
+    #[tactic(auto, unfolding(crate::specs::Input::ahead))]
     pub fn ahead(&self) -> Ahead
         ensures { result ≡ spec.ahead self.now }
     {
@@ -60,6 +61,7 @@ impl<'a> Reader<'a> {
     }
 
     /// The place of the next token, or of the end.
+    #[tactic(auto, unfolding(crate::specs::Input::place))]
     pub fn place(&self) -> u32
         ensures { result ≡ spec.place self.now }
     {
@@ -70,6 +72,7 @@ impl<'a> Reader<'a> {
     }
 
     /// How many tokens are left.
+    #[tactic(auto, unfolding(crate::specs::Input::left))]
     pub fn left(&self) -> usize
         ensures { result ≡ spec.left self.now }
     {
@@ -82,6 +85,7 @@ impl<'a> Reader<'a> {
         ParseFault::Expected(self.place(), want)
     }
 
+    #[tactic(auto, unfolding(crate::specs::Input::after))]
     pub fn advance(&mut self)
         ensures { self.new ≡ spec.after self.old }
     {
@@ -91,6 +95,7 @@ impl<'a> Reader<'a> {
     }
 
     /// A node begins at the next token.
+    #[tactic(auto, unfolding(crate::specs::Input::marked))]
     pub fn mark(&mut self) -> Result<(), ParseFault>
         ensures { Reads (λ x. x) (spec.mark self.old) result self.new }
     {
@@ -99,12 +104,14 @@ impl<'a> Reader<'a> {
         Ok(())
     }
 
+    #[tactic(auto, unfolding(crate::specs::Input::sees_closing))]
     pub fn sees_closing(&self) -> bool
         ensures { spec.sees_closing self.now ≡ Ok (result, self.now) }
     {
         matches!(self.ahead(), Ahead::Closing)
     }
 
+    #[tactic(auto, unfolding(crate::specs::Input::closing))]
     pub fn closing(&mut self) -> Result<(), ParseFault>
         ensures { Reads (λ x. x) (spec.closing self.old) result self.new }
     {
@@ -117,6 +124,7 @@ impl<'a> Reader<'a> {
         }
     }
 
+    #[tactic(auto, unfolding(crate::specs::Input::finish))]
     pub fn finish(&self) -> Result<(), ParseFault>
         ensures { Reads (λ x. x) (spec.finish self.now) result self.now }
     {

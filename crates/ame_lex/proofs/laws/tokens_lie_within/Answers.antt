@@ -1,0 +1,8 @@
+use Rattle.ame_lex.proofs.Places.{ordered_tokens, tokens_within}
+use Rattle.ame_lex.proofs.laws.tokens_lie_within.Goals as goal
+
+pub returns-clause-within : goal.returns-clause-within
+returns-clause-within c = tokens_within
+
+pub returns-clause-in_order : goal.returns-clause-in_order
+returns-clause-in_order c = ordered_tokens

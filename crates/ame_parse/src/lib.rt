@@ -1,0 +1,14 @@
+//! The program of a list of tokens, or the first token at which the reading can't go on.
+#![tactic(auto)]
+
+mod ahead;
+mod build;
+mod fault;
+mod forms;
+mod grammar;
+mod parser;
+mod reader;
+mod words;
+
+pub use fault::{ParseFault, Want};
+pub use parser::parse;

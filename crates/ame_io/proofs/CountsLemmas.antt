@@ -1,6 +1,6 @@
 -- Counts of faults over several calls.
 use Rattle.std.proofs.Common.{ℕ, ◌≤◌, arith}
-use Rattle.ame_io.specs.Counts.{next_count, HasRisen, HasNotRisen}
+use Rattle.ame_io.specs.Counts.{HasRisen, HasNotRisen}
 
 -- a count that rose and then stayed or rose again
 pub HasRisen-then : (before mid now : ℕ) → HasRisen before mid → mid ≤ now → HasRisen before now

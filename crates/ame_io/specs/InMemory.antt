@@ -1,5 +1,5 @@
 -- What contracts see of a source and a sink in memory.
-use Rattle.std.specs.Prelude.{◌≡◌, ℕ, List, Contains}
+use Rattle.std.specs.Prelude.{ℕ, List, Contains}
 use Rattle.ame_io.specs.Counts.{next_count}
 
 -- the bytes left, the most that a read gives, the numbers of the calls that fail, the calls made and the faults met

@@ -1,5 +1,5 @@
 -- How a replay goes on: one more entry, and one more step.
-use Rattle.std.proofs.Common.{◌≡◌, ℕ, zero, suc, ◌==◌, ℤ, Bool, true, false, List, [], ◌∷◌, ◌++◌, Option, Some, None, option_and_then, is_some, if◌then◌else◌, refl, sym, ap, ◌∙◌, subst}
+use Rattle.std.proofs.Common.{◌+◌, append-nil, append_assoc, add-one, arith, ◌≡◌, ℕ, zero, suc, ◌==◌, ℤ, Bool, true, false, List, [], ◌∷◌, ◌++◌, Option, Some, None, option_and_then, is_some, if◌then◌else◌, refl, sym, ap, ◌∙◌, subst}
 use Rattle.std.proofs.lemmas.Option.{option_and_then_some}
 use Rattle.ame_term.specs.Act.{Act}
 use Rattle.ame_term.specs.State.{State, after}
@@ -7,8 +7,8 @@ use Rattle.ame_term.specs.declared.semantics.StepKind.{StepKind}
 use Rattle.ame_term.specs.declared.semantics.Label.{Label}
 use Rattle.ame_journal.specs.declared.entry.Entry.{Entry}
 use Rattle.ame_journal.specs.declared.entry.EntryKind.{EntryKind}
-use Rattle.ame_journal.specs.Replay.{Replayed, Supply, member_act, next_kind, steps, fragment, settled, entering, noted, is_at_unprotected, replay_ran, replay_kind, replay_from, replay_entry}
-use Rattle.ame_journal.proofs.StepLemmas.{locations, fresh_of, step-act, activated-resting, ended-staying}
+use Rattle.ame_journal.specs.Replay.{Replayed, Supply, member_act, next_kind, steps, fragment, settled, entering, noted, is_at_unprotected, replay_ran, replay_kind, replay_from, replay_entry, locations, fresh_of, resting, UnderWay}
+use Rattle.ame_journal.proofs.StepLemmas.{step-keeps, activate-is, step-act, activated-resting, ended-staying}
 
 and_then-assoc : {A B C : Type 0} (f : A → Option B) (g : B → Option C) (o : Option A) →
     option_and_then g (option_and_then f o) ≡ option_and_then (λ a. option_and_then g (f a)) o
@@ -118,10 +118,6 @@ steps-step i n fresh kind s t u e is_active legal =
     let told = step-act kind i t u is_active legal in
     steps-one_more Label.Step i n fresh (fresh_of kind) s t u e (told.0, kind, told.1, told.2, legal)
 
--- nothing is inside
-abbrev pub resting : State → Replayed
-resting s = record { state = s; inside = [] }
-
 fragment-made : (i n : ℕ) (fresh : List ℕ) (s a t : State) →
     after s (Label.Activate i) ≡ Some a → steps Label.Step i n (locations fresh) a ≡ Some t → fragment i n fresh s ≡ Some t
 fragment-made i n fresh s a t begins made = ap (λ o. option_and_then (λ w. steps Label.Step i n (locations fresh) w) o) begins ∙ made
@@ -160,3 +156,40 @@ replay-cut entry s a t kind answer begins made =
     ∙ ap (λ o. replay_kind EntryKind.Cut (resting s) i n entry.fresh o) answer
     ∙ ap (λ b. noted (is_some (if b then steps (Label.Free i) i n (locations entry.fresh) s else fragment i n entry.fresh s)) (resting s)) (activated-resting i s a begins)
     ∙ ap (λ o. noted (is_some o) (resting s)) (fragment-made i n entry.fresh s a t begins made)
+
+-- A fragment under way: how it begins, goes on, and is told by an entry.
+module _ (s : State) where
+  pub UnderWay-begun : (i : ℕ) (a : State) → after s (Label.Activate i) ≡ Some a → UnderWay s i 0 [] a
+  UnderWay-begun i a e =
+      let is = activate-is i s a e in
+      record {
+        begun = a;
+        activates = e;
+        made = refl;
+        active = ap (λ t. t.active) is;
+        printed = ([], ap (λ t. t.output) is ∙ sym (append-nil s.output));
+        few = let same : a.next ≡ s.next = ap (λ t. t.next) is in omega arith;
+      }
+
+  pub UnderWay-step : (i n : ℕ) (fresh : List ℕ) (kind : StepKind) (t u : State) →
+      UnderWay s i n fresh t → after t (Label.Step kind) ≡ Some u → UnderWay s i (n + 1) (fresh ++ fresh_of kind) u
+  UnderWay-step i n fresh kind t u way e =
+      let keeps = step-keeps kind i t u way.active e in
+      record {
+        begun = way.begun;
+        activates = way.activates;
+        made = subst (λ k. steps Label.Step i k (locations (fresh ++ fresh_of kind)) way.begun ≡ Some u) (sym (add-one n)) (steps-step i n fresh kind way.begun t u way.made way.active e);
+        active = keeps.active ∙ way.active;
+        printed = (way.printed.0 ++ keeps.output.0, keeps.output.1 ∙ ap (λ o. o ++ keeps.output.0) way.printed.1 ∙ append_assoc s.output way.printed.0 keeps.output.0);
+        few = let one = keeps.next in let before = way.few in omega arith;
+      }
+
+  -- the entry of a fragment that ended
+  pub UnderWay-ended : (entry : Entry) (t u : State) → UnderWay s entry.number entry.steps entry.fresh t → after t Label.End ≡ Some u →
+      entry.kind ≡ EntryKind.Ran → entry.answer ≡ None → replay_entry (resting s) entry ≡ Some (resting u)
+  UnderWay-ended entry t u way ends kind answer = replay-ended entry s way.begun t u kind answer way.activates way.made ends
+
+  -- the entry of a fragment that was cut off
+  pub UnderWay-cut : (entry : Entry) (t : State) → UnderWay s entry.number entry.steps entry.fresh t →
+      entry.kind ≡ EntryKind.Cut → entry.answer ≡ None → replay_entry (resting s) entry ≡ Some (resting s)
+  UnderWay-cut entry t way kind answer = replay-cut entry s way.begun t kind answer way.activates way.made

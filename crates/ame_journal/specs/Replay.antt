@@ -1,6 +1,6 @@
 -- Which run of the strong semantics a journal stands for. A journal tells members, counts of steps,
 -- fresh locations and device answers; all else is determined.
-use Rattle.std.specs.Prelude.{ℕ, zero, suc, ◌==◌, ℤ, Bool, true, false, not, List, [], ◌∷◌, filter, Option, Some, None, is_some, is_none, option_map, option_and_then, if◌then◌else◌}
+use Rattle.std.specs.Prelude.{◌≡◌, ◌+◌, ◌≤◌, ◌++◌, ℕ, zero, suc, ◌==◌, ℤ, Bool, true, false, not, List, [], ◌∷◌, filter, Option, Some, None, is_some, is_none, option_map, option_and_then, if◌then◌else◌}
 use Rattle.std.specs.List.{list_any}
 use Rattle.ame_term.specs.Tree.{Val, Tree}
 use Rattle.ame_term.specs.Height.{height}
@@ -32,6 +32,10 @@ is_nothing _ _ = false
 abbrev pub is_used : Supply → Bool
 is_used supply = is_nothing supply.fresh supply.answer
 
+-- fresh locations alone
+abbrev pub locations : List ℕ → Supply
+locations fresh = record { fresh = fresh; answer = None }
+
 -- Steps
 
 -- what the redex of a term does, where it has one
@@ -59,6 +63,11 @@ next_kind last Act.Passes fresh answer = Some (StepKind.Block, record { fresh = 
 next_kind true (Act.Calls device n) fresh (Some answer) = Some (StepKind.Device answer, record { fresh = fresh; answer = None })
 next_kind last act fresh answer = None
 
+-- the fresh location of a step
+abbrev pub fresh_of : StepKind → List ℕ
+fresh_of (StepKind.Alloc l) = l.0 ∷ []
+fresh_of _ = []
+
 -- n steps of member i by labels of one form, which use the whole supply
 abbrev pub steps : (StepKind → Label) → ℕ → ℕ → Supply → State → Option State
 steps label i zero supply s = if is_used supply then Some s else None
@@ -70,7 +79,18 @@ steps label i (suc n) supply s =
 -- a fragment of a member: it becomes active and makes n steps
 abbrev pub fragment : ℕ → ℕ → List ℕ → State → Option State
 fragment i n fresh s =
-    option_and_then (λ t. steps Label.Step i n (record { fresh = fresh; answer = None }) t) (after s (Label.Activate i))
+    option_and_then (λ t. steps Label.Step i n (locations fresh) t) (after s (Label.Activate i))
+
+-- A fragment of member i under way: it became active in the state s, and n steps with these fresh
+-- locations have led to the state t, where it is active still. What it printed stands behind what was
+-- printed before, and each step added one member at most.
+pub record UnderWay (s : State) (i n : ℕ) (fresh : List ℕ) (t : State) : Type 0 where
+  pub begun : State
+  pub activates : after s (Label.Activate i) ≡ Some begun
+  pub made : steps Label.Step i n (locations fresh) begun ≡ Some t
+  pub active : t.active ≡ Some i
+  pub printed : (more : List ℤ) × (t.output ≡ s.output ++ more)
+  pub few : t.next ≤ s.next + n
 
 -- Entries
 
@@ -86,6 +106,10 @@ is_at_unprotected i s = is_some (option_and_then (λ term. if at_unprotected (fo
 -- whether a member is inside
 abbrev pub is_inside : Replayed → ℕ → Bool
 is_inside r i = list_any (λ j. j == i) r.inside
+
+-- nothing is inside
+abbrev pub resting : State → Replayed
+resting s = record { state = s; inside = [] }
 
 -- with the member inside, or no longer inside
 abbrev pub entering : Replayed → ℕ → State → Replayed
@@ -114,12 +138,12 @@ replay_free r i zero fresh answer = None
 replay_free r i (suc n) fresh answer =
     or_else
     (option_map (staying r) (steps (Label.Free i) i (suc n) (record { fresh = fresh; answer = answer }) r.state))
-    (if is_none answer then option_map (leaving r i) (option_and_then (λ t. after t (Label.Close i)) (steps (Label.Free i) i n (record { fresh = fresh; answer = None }) r.state)) else None)
+    (if is_none answer then option_map (leaving r i) (option_and_then (λ t. after t (Label.Close i)) (steps (Label.Free i) i n (locations fresh) r.state)) else None)
 
 -- where a fragment, or steps under `unprotected` without a call, lead from here
 abbrev pub attempt : ℕ → ℕ → List ℕ → State → Option State
 attempt i n fresh s =
-    if is_at_unprotected i s then steps (Label.Free i) i n (record { fresh = fresh; answer = None }) s else fragment i n fresh s
+    if is_at_unprotected i s then steps (Label.Free i) i n (locations fresh) s else fragment i n fresh s
 
 -- whether the active member has come to a condition that is false
 abbrev pub is_failing : Option Act → Bool
@@ -166,7 +190,7 @@ replay_from r (entry ∷ entries) = option_and_then (λ t. replay_from t entries
 
 -- where a program begins
 abbrev pub begun : Tree → Replayed
-begun program = record { state = start program; inside = [] }
+begun program = resting (start program)
 
 -- the state after all entries, where the journal is one of a run of the program
 abbrev pub replay : Tree → List Entry → Option Replayed

@@ -3,6 +3,6 @@ pub mod View
 pub mod Substitute
 pub mod Height
 pub mod Context
-pub mod Answers
+pub mod Split
 pub mod Act
 pub mod State

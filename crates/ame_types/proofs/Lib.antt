@@ -1,0 +1,4 @@
+pub mod Nodes
+pub mod Stored
+pub mod Parts
+pub mod Faults

@@ -7,3 +7,4 @@ pub mod Act
 pub mod State
 pub mod Written
 pub mod Typing
+pub mod Has

@@ -2,3 +2,4 @@ pub mod Nodes
 pub mod Stored
 pub mod Parts
 pub mod Faults
+pub mod Counts

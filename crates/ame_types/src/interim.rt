@@ -1,6 +1,6 @@
 //! To go.
 
-ghost use Rattle.std.specs.Prelude.{◌≡◌, IfOk};
+ghost use Rattle.std.specs.Prelude.{◌≡◌, [], ◌∷◌, ◌++◌, IfOk, OnOk, OnErr};
 ghost use Rattle.ame_term.specs.View.{typ_of};
 
 use ame_term::{NoMemory, Ty};
@@ -12,6 +12,17 @@ pub fn boxed<T: Drop>(alloc: Global, value: T) -> Result<Box<T>, NoMemory>
 {
     match Box::new(alloc, value) {
         Ok(b) => Ok(b),
+        Err(_) => Err(NoMemory),
+    }
+}
+
+/// One more item at the end of a vector; an item that found no place is dropped.
+pub fn push<T: Drop>(items: &mut Vec<T>, item: T) -> Result<(), NoMemory>
+    ensures ok { OnOk result (items.new.items ≡ items.old.items ++ item ∷ []) }
+    ensures err { OnErr result (items.new.items ≡ items.old.items) }
+{
+    match items.push(item) {
+        Ok(()) => Ok(()),
         Err(_) => Err(NoMemory),
     }
 }

@@ -12,3 +12,6 @@ mod seen;
 
 pub use fault::{Shown, TypeFault, TypesFail};
 pub use program::check;
+
+#[cfg(test)]
+mod tests;

@@ -26,7 +26,7 @@ pub number-digits : (is_negative : Bool) (first : ℕ) (text more rest : Text) �
 unfolding reading.number
 number-digits is_negative first text more rest e run =
     let count : prefix_len is_digit (first ∷ text) ≡ suc (length more) =
-        ap (λ k. cond (continues_number k) (1 + prefix_len is_digit text) 0) e ∙ ap (λ n. 1 + n) (run_len run) ∙ one-plus (length more) in
+    ap (λ k. cond (continues_number k) (1 + prefix_len is_digit text) 0) e ∙ ap (λ n. 1 + n) (run_len run) ∙ one-plus (length more) in
     rw (count, run_front run, run_rest run) refl
 
 -- the piece at a number

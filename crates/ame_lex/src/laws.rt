@@ -10,18 +10,15 @@ ghost use Rattle.ame_lex.specs.Tokens.{IsWithin, InOrder};
 /// A text is by the grammar exactly what is read of it, so each text has an outcome.
 pub fn grammar_is_reading()
     ensures { (text : List ℕ) (outcome : Result (List Token) LexFault) → Lexes 0 text outcome ↔ (tokens_of text ≡ outcome) }
-{
-}
+{}
 
 /// A text has at most one outcome by the grammar.
 pub fn one_outcome()
     ensures { (text : List ℕ) (one other : Result (List Token) LexFault) → Lexes 0 text one → Lexes 0 text other → one ≡ other }
-{
-}
+{}
 
 /// The tokens of a text stand in it, one after another.
 pub fn tokens_lie_within()
     ensures within { (text : List ℕ) (tokens : List Token) → tokens_of text ≡ Ok tokens → All (IsWithin text) tokens }
     ensures in_order { (text : List ℕ) (tokens : List Token) → tokens_of text ≡ Ok tokens → InOrder 0 tokens (length text) }
-{
-}
+{}

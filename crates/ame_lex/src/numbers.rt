@@ -15,7 +15,9 @@ fn decimal(digits: &[u8]) -> u64
 {
     let mut value: u64 = 0;
     for digit in digits {
-        value = value.saturating_mul(10).saturating_add(u64::from(digit.saturating_sub(b'0')));
+        value = value
+            .saturating_mul(10)
+            .saturating_add(u64::from(digit.saturating_sub(b'0')));
     }
     value
 }

@@ -36,8 +36,7 @@ fn value_of(is_negative: bool, digits: &[u8]) -> Option<i64>
 /// The number whose digits stand at the front of the text, after its sign.
 #[tactic(auto, unfolding(crate::specs::Reading::number))]
 pub fn number(is_negative: bool, text: &[u8]) -> Piece
-    requires some { bytes.begins bytes.is_digit text.now ≡ true }
-    requires small { length text.now < 2 ^ 63 }
+    requires { bytes.begins bytes.is_digit text.now ≡ true }
     ensures value { result ≡ spec.number is_negative text.now }
     ensures within { spec.FitsIn ((if is_negative then 1 else 0) + length text.now) result }
 {

@@ -5,3 +5,4 @@ pub mod Cursor
 pub mod Forms
 pub mod Reading
 pub mod Text
+pub mod Grammar

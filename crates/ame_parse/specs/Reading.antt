@@ -78,18 +78,22 @@ atom_by _ = expected want.Term
 unfoldable pub atom : Parser Tree
 atom = peek >>= atom_by
 
--- a term that is the form where it begins with a parenthesis
+-- a term, where `form` reads one that begins with a parenthesis
 abbrev pub term_by : Parser Tree → Ahead → Parser Tree
 term_by form a.Opening = form
 term_by form _ = atom
 
-abbrev pub too_nested : Parser Tree
-too_nested = λ i. Err (TooNested (place i))
+abbrev pub term_of : Parser Tree → Parser Tree
+term_of form = mark >> peek >>= term_by form
 
--- a term with at most so many open parentheses
+-- a form, where at most so many parentheses may be open in it
+unfoldable pub nested : ℕ → Parser Tree
+nested zero = λ i. Err (TooNested (place i))
+nested (suc n) = advance >> compound (term_of (nested n))
+
+-- a term, where at most so many parentheses may be open in it
 unfoldable pub term : ℕ → Parser Tree
-term zero = mark >> peek >>= term_by too_nested
-term (suc n) = mark >> peek >>= term_by (advance >> compound (term n))
+term n = term_of (nested n)
 
 -- ---- programs
 

@@ -111,18 +111,27 @@ fn compound(alloc: Global, reader: &mut Reader<'_>, depth: usize) -> Result<Term
     }
 }
 
-/// A term with at most so many open parentheses.
+/// A form, where at most so many parentheses may be open in it.
 #[cycle(grammar)]
-pub fn term(alloc: Global, reader: &mut Reader<'_>, depth: usize) -> Result<Term, ParseFault>
-    ensures { Reads tree_of (spec.term depth reader.old) result reader.new }
+fn nested(alloc: Global, reader: &mut Reader<'_>, depth: usize) -> Result<Term, ParseFault>
+    ensures { Reads tree_of (spec.nested depth reader.old) result reader.new }
 {
-    reader.mark()?;
-    if reader.ahead() != Ahead::Opening {
-        return atom(reader);
-    }
     if depth == 0 {
         return Err(ParseFault::TooNested(reader.place()));
     }
     reader.advance();
     compound(alloc, reader, depth - 1)
+}
+
+/// A term, where at most so many parentheses may be open in it.
+#[cycle(grammar)]
+#[tactic(auto, unfolding(crate::specs::Reading::term))]
+pub fn term(alloc: Global, reader: &mut Reader<'_>, depth: usize) -> Result<Term, ParseFault>
+    ensures { Reads tree_of (spec.term depth reader.old) result reader.new }
+{
+    reader.mark()?;
+    match reader.ahead() {
+        Ahead::Opening => nested(alloc, reader, depth),
+        _ => atom(reader),
+    }
 }

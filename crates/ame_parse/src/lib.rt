@@ -6,9 +6,11 @@ mod build;
 mod fault;
 mod forms;
 mod grammar;
+mod laws;
 mod parser;
 mod reader;
 mod words;
 
 pub use fault::{ParseFault, Want};
+pub use laws::{bytes_come_first, one_program, spelled_is_read};
 pub use parser::parse;

@@ -1,14 +1,13 @@
 -- What is spelled is read so.
-use Rattle.std.proofs.Common.{◌≡◌, ℕ, zero, suc, ◌+◌, ◌<◌, ◌≤◌, refl, sym, ap, ◌∙◌, Bool, true, false, cond, List, [], ◌∷◌, ◌++◌, length, drop, append_assoc, append-nil, arith, Ok, Err, Some, None}
+use Rattle.std.proofs.Common.{◌≡◌, ℕ, zero, suc, ◌+◌, ◌<◌, ◌≤◌, refl, sym, ap, ◌∙◌, false, cond, List, [], ◌∷◌, ◌++◌, length, drop, append_assoc, append-nil, arith, Ok}
 use Rattle.ame_term.specs.Tree.{Tree}
-use Rattle.ame_parse.specs.declared.words.Word.TheVariants as w
 use Rattle.ame_parse.specs.declared.ahead.Ahead.{Ahead}
 use Rattle.ame_parse.specs.declared.ahead.Ahead.TheVariants as a
 use Rattle.ame_parse.specs.declared.forms.OnePart.{OnePart}
 use Rattle.ame_parse.specs.declared.forms.OnePart.TheVariants as o
-use Rattle.ame_parse.specs.Input.{Seen, Input, Outcome, Parser, and_then, is_closing, ahead_in, ahead, after, marked, left, closing_by, closing, sees_closing}
+use Rattle.ame_parse.specs.Input.{Seen, Input, Parser, and_then, is_closing, ahead_in, ahead, after, marked, left, closing_by, closing, sees_closing}
 use Rattle.ame_parse.specs.Forms.{form_of, one_part, row}
-use Rattle.ame_parse.specs.Reading.{one, more_from, more, two, sequence, form_by, compound, constant_by, atom_by, atom, term_by, term_of, nested, term}
+use Rattle.ame_parse.specs.Reading.{one, more_from, more, two, sequence, form_by, compound, atom_by, atom, term_by, nested, term}
 use Rattle.ame_parse.specs.Grammar as g
 use Rattle.ame_parse.specs.Grammar.{IsTerm, IsForm, AreParts}
 
@@ -94,6 +93,7 @@ more_goes_on part m found i j x open_ read =
 
 mutual
   unfolding form_of
+
   pub term_reads : {n : ℕ} {i j : Input} {tree : Tree} → IsTerm n i tree j → term n i ≡ Ok (tree, j)
   term_reads (g.number {n = n} {i = i} {value = value} e) = term_at n i _ e ∙ atom_at i _ e
   term_reads (g.unit {n = n} {i = i} e) = term_at n i _ e ∙ atom_at i _ e

@@ -1,5 +1,5 @@
 -- What holds of each term that is spelled.
-use Rattle.std.proofs.Common.{◌≡◌, refl, ap, ℕ, suc, ◌+◌, List, [], ◌∷◌, ◌++◌, length, length-append, arith}
+use Rattle.std.proofs.Common.{◌≡◌, refl, ap, ℕ, ◌+◌, List, [], ◌∷◌, length, length-append, arith}
 use Rattle.ame_term.specs.Tree.{Tree}
 use Rattle.ame_term.specs.Written.{nodes, all_nodes, IsWritten, AllWritten, IsBound, AllBound}
 use Rattle.ame_parse.specs.Input.{Input, place, after, marked}
@@ -18,6 +18,7 @@ none_marked i = refl
 -- each node has a place
 mutual
   unfolding nodes
+
   pub term_places : {n : ℕ} {i j : Input} {tree : Tree} → IsTerm n i tree j → length j.places ≡ length i.places + nodes tree
   term_places (g.number {i = i} e) = one_marked i
   term_places (g.unit {i = i} e) = one_marked i
@@ -37,6 +38,7 @@ mutual
 -- a term holds constants alone, and each `do` has two parts or more
 mutual
   unfolding IsWritten
+
   pub term_written : {n : ℕ} {i j : Input} {tree : Tree} → IsTerm n i tree j → IsWritten tree
   term_written (g.number e) = tt
   term_written (g.unit e) = tt
@@ -54,6 +56,7 @@ mutual
 -- each name stands within a form that binds it
 mutual
   unfolding IsBound
+
   pub term_bound : {n : ℕ} {i j : Input} {tree : Tree} → IsTerm n i tree j → IsBound [] tree
   term_bound (g.number e) = tt
   term_bound (g.unit e) = tt

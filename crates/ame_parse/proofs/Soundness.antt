@@ -1,22 +1,18 @@
 -- What is read is spelled so.
-use Rattle.std.proofs.Common.{◌≡◌, ℕ, zero, suc, ◌+◌, refl, sym, ap, subst, ◌∙◌, Bool, true, false, cond, List, [], ◌∷◌, ◌++◌, append_assoc, append-nil, Ok, Err, Some, None}
-use Rattle.ame_lex.specs.Bytes.{Text}
-use Rattle.ame_lex.specs.Grammar.{Lexes}
-use Rattle.ame_lex.specs.declared.tokens.Token.{Token}
-use Rattle.ame_term.specs.Tree.{Tree, Trees}
+use Rattle.std.proofs.Common.{◌≡◌, ℕ, zero, suc, refl, sym, ap, subst, ◌∙◌, Bool, true, false, cond, List, [], ◌∷◌, ◌++◌, append_assoc, append-nil}
+use Rattle.ame_term.specs.Tree.{Tree}
 use Rattle.ame_parse.specs.declared.words.Word.{Word}
 use Rattle.ame_parse.specs.declared.words.Word.TheVariants as w
 use Rattle.ame_parse.specs.declared.ahead.Ahead.{Ahead}
 use Rattle.ame_parse.specs.declared.ahead.Ahead.TheVariants as a
 use Rattle.ame_parse.specs.declared.forms.OnePart.{OnePart}
 use Rattle.ame_parse.specs.declared.forms.OnePart.TheVariants as o
-use Rattle.ame_parse.specs.Input.{Input, Outcome, Parser, and_then, ◌>>=◌, ◌>>◌, pure, is_closing, ahead, after, marked, left, closing, sees_closing, finish}
-use Rattle.ame_parse.specs.Seen.{start_of}
+use Rattle.ame_parse.specs.Input.{Input, Parser, ◌>>=◌, pure, is_closing, ahead, after, marked, left, sees_closing}
 use Rattle.ame_parse.specs.Forms.{form_of, one_part, row}
-use Rattle.ame_parse.specs.Reading.{one, more_from, more, two, sequence, form_by, compound, constant_by, atom_by, atom, term_by, term_of, nested, term, max_open, program}
+use Rattle.ame_parse.specs.Reading.{one, more_from, more, two, sequence, form_by, compound, constant_by, atom_by, atom, term_by, term_of, nested, term}
 use Rattle.ame_parse.specs.Grammar as g
 use Rattle.ame_parse.specs.Grammar.{IsTerm, IsForm, AreParts}
-use Rattle.ame_parse.proofs.Steps.{Leads, leads_pure, leads_on, leads_shut, leads_end}
+use Rattle.ame_parse.proofs.Steps.{Leads, leads_pure, leads_on, leads_shut}
 
 closing_test : (next : Ahead) → is_closing next ≡ true → next ≡ a.Closing
 closing_test a.Closing e = refl
@@ -38,7 +34,7 @@ module _ (n : ℕ) (part : Parser Tree) (gives : (i : Input) → Leads part i (I
       leads_pure found i (λ all k. (others : List Tree) × (found ++ others ≡ all) × AreParts n i others k) ([], append-nil found, g.none (closing_test (ahead i) test))
   more_leads_by rest h found i false test = leads_on part _ (IsTerm n i) (λ all k. (others : List Tree) × (found ++ others ≡ all) × AreParts n i others k) i (gives i)
       (λ x j first all k e. let others = h (found ++ x ∷ []) j all k e in
-        (x ∷ others.0, sym (append_assoc found (x ∷ []) others.0) ∙ others.1, g.more first others.2))
+      (x ∷ others.0, sym (append_assoc found (x ∷ []) others.0) ∙ others.1, g.more first others.2))
 
   more_leads : (m : ℕ) → LeadsParts (more_from part m)
   unfolding more_from sees_closing
@@ -59,8 +55,8 @@ module _ (n : ℕ) (part : Parser Tree) (gives : (i : Input) → Leads part i (I
   sequence_leads i e = leads_on (two part) _ (ArePair (after i)) (IsForm n i) (after i) (two_leads (after i)) (λ pair k h.
       leads_on (more part pair) _ (λ all l. (others : List Tree) × (pair ++ others ≡ all) × AreParts n k others l) (IsForm n i) k (more_leads (left k) pair k) (λ all l h'.
       leads_shut _ (IsForm n i) l (λ shut. leads_pure (Tree.Do (row all)) (after l) (IsForm n i) (
-        let same : h.0 ∷ h.1 ∷ h'.0 ≡ all = ap (λ z. z ++ h'.0) h.5 ∙ h'.1 in
-        subst (λ z. IsForm n i (Tree.Do (row z)) (after l)) same (g.sequence e h.3 h.4 h'.2 shut)))))
+      let same : h.0 ∷ h.1 ∷ h'.0 ≡ all = ap (λ z. z ++ h'.0) h.5 ∙ h'.1 in
+      subst (λ z. IsForm n i (Tree.Do (row z)) (after l)) same (g.sequence e h.3 h.4 h'.2 shut)))))
 
   compound_leads_by : (next : Ahead) (i : Input) → ahead i ≡ next → Leads (form_by part (form_of next)) i (IsForm n i)
   unfolding form_of

@@ -1,5 +1,5 @@
 -- A whole text: what is read of it is what it spells.
-use Rattle.std.proofs.Common.{◌≡◌, ◌≢◌, ◌↔◌, ℕ, refl, sym, ap, subst, ◌∙◌, List, [], ◌∷◌, length, Result, Ok, Err, arith}
+use Rattle.std.proofs.Common.{◌≡◌, ◌≢◌, ◌↔◌, ℕ, refl, sym, ap, subst, ◌∙◌, List, [], length, Result, Ok, Err, arith}
 use Rattle.ame_lex.specs.Bytes.{Text}
 use Rattle.ame_lex.specs.Grammar.{Lexes}
 use Rattle.ame_lex.specs.Reading.{tokens_of}
@@ -12,7 +12,7 @@ use Rattle.ame_parse.specs.declared.fault.ParseFault.TheVariants.{Expected, Unkn
 use Rattle.ame_parse.specs.Input.{Input, Outcome, ahead, finish_by, finish}
 use Rattle.ame_parse.specs.Seen.{start_of}
 use Rattle.ame_parse.specs.Reading.{term, max_open, program}
-use Rattle.ame_parse.specs.Text.{Source, Fault, source_by, reading_by, reading, Answers}
+use Rattle.ame_parse.specs.Text.{Source, source_by, reading_by, reading, Answers}
 use Rattle.ame_parse.specs.Grammar as g
 use Rattle.ame_parse.specs.Grammar.{IsTerm, Spells}
 use Rattle.ame_term.specs.Written.{nodes, IsWritten, IsBound}

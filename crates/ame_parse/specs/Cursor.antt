@@ -1,10 +1,8 @@
 -- What a `Reader` shows, and what it keeps.
 use Rattle.std.specs.Prelude.{◌<◌, ◌^◌, All, map, length}
-use Rattle.ame_lex.specs.Bytes.{Text}
-use Rattle.ame_lex.specs.declared.tokens.Token.{Token}
-use Rattle.ame_lex.specs.Tokens.{spelled, IsWithin}
+use Rattle.ame_lex.specs.Tokens.{IsWithin}
 use Rattle.ame_parse.specs.declared.reader.Reader.TheInside.{Inside}
-use Rattle.ame_parse.specs.Input.{Seen, Input}
+use Rattle.ame_parse.specs.Input.{Input}
 use Rattle.ame_parse.specs.Seen.{seen}
 
 abbrev pub input_of : Inside → Input

@@ -3,7 +3,7 @@ use Rattle.std.specs.Prelude.{◌≡◌, ℕ, suc, ℤ, List, [], ◌∷◌, Ok}
 use Rattle.ame_lex.specs.Bytes.{Text}
 use Rattle.ame_lex.specs.Grammar.{Lexes}
 use Rattle.ame_lex.specs.declared.tokens.Token.{Token}
-use Rattle.ame_term.specs.Tree.{Val, Tree, Trees, unit_tree}
+use Rattle.ame_term.specs.Tree.{Val, Tree, unit_tree}
 use Rattle.ame_parse.specs.declared.words.Word.TheVariants as w
 use Rattle.ame_parse.specs.declared.ahead.Ahead.TheVariants as a
 use Rattle.ame_parse.specs.Input.{Input, ahead, after, marked}

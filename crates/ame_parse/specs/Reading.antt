@@ -1,20 +1,17 @@
 -- The program of a list of tokens, computed: what is read, or the first fault.
-use Rattle.std.specs.Prelude.{ℕ, zero, suc, if◌then◌else◌, ℤ, List, [], ◌∷◌, ◌++◌, map, Option, Some, None, Result, Ok, Err}
-use Rattle.ame_lex.specs.Bytes.{Text}
-use Rattle.ame_term.specs.Tree.{Val, Tree, Trees, unit_tree}
+use Rattle.std.specs.Prelude.{ℕ, zero, suc, if◌then◌else◌, List, [], ◌∷◌, ◌++◌, Option, Some, None, Err}
+use Rattle.ame_term.specs.Tree.{Val, Tree, unit_tree}
 use Rattle.ame_parse.specs.declared.words.Word.{Word}
 use Rattle.ame_parse.specs.declared.words.Word.TheVariants as w
 use Rattle.ame_parse.specs.declared.ahead.Ahead.{Ahead}
 use Rattle.ame_parse.specs.declared.ahead.Ahead.TheVariants as a
-use Rattle.ame_parse.specs.declared.fault.Want.{Want}
 use Rattle.ame_parse.specs.declared.fault.Want.TheVariants as want
-use Rattle.ame_parse.specs.declared.fault.ParseFault.{ParseFault}
 use Rattle.ame_parse.specs.declared.fault.ParseFault.TheVariants.{UnknownName, TooNested}
 use Rattle.ame_parse.specs.declared.forms.OnePart.{OnePart}
 use Rattle.ame_parse.specs.declared.forms.Form.{Form}
 use Rattle.ame_parse.specs.declared.forms.Form.TheVariants as form
 use Rattle.ame_parse.specs.Forms.{form_of, one_part, row}
-use Rattle.ame_parse.specs.Input.{Input, Parser, ◌>>=◌, ◌>>◌, pure, expected, peek, place, advance, mark, closing, sees_closing, left, finish}
+use Rattle.ame_parse.specs.Input.{Parser, ◌>>=◌, ◌>>◌, pure, expected, peek, place, advance, mark, closing, sees_closing, left, finish}
 
 -- ---- the forms, over a parser of their parts
 

@@ -5,11 +5,9 @@ ghost use Rattle.ame_term.specs.Tree as tree;
 ghost use Rattle.ame_term.specs.View.{tree_of};
 ghost use Rattle.ame_parse.specs.Forms as spec;
 
-use std::alloc::{AllocFailed, Global};
-
-use ame_term::Term;
-
 use crate::forms::OnePart;
+use ame_term::Term;
+use std::alloc::{AllocFailed, Global};
 
 pub fn one_part(alloc: Global, form: OnePart, part: Term) -> Result<Term, AllocFailed<Term>>
     ensures { IfOk result (λ t. tree_of t ≡ spec.one_part form (tree_of part)) }

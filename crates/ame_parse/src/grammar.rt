@@ -5,16 +5,14 @@ ghost use Rattle.ame_term.specs.View.{tree_of};
 ghost use Rattle.ame_parse.specs.Input.{Reads};
 ghost use Rattle.ame_parse.specs.Reading as spec;
 
-use std::alloc::Global;
-
-use ame_term::{Term, Value};
-
 use crate::ahead::Ahead;
 use crate::build;
 use crate::fault::{ParseFault, Want};
 use crate::forms::{Form, OnePart, form_of};
 use crate::reader::Reader;
 use crate::words::Word;
+use ame_term::{Term, Value};
+use std::alloc::Global;
 
 #[tactic(auto, unfolding(crate::specs::Reading::atom))]
 fn atom(reader: &mut Reader<'_>) -> Result<Term, ParseFault>

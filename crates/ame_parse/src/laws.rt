@@ -26,5 +26,4 @@ pub fn one_program()
 #[tactic(auto, unfolding(crate::specs::Text::reading))]
 pub fn bytes_come_first()
     ensures { (text : List ℕ) (fault : LexFault) → tokens_of text ≡ Err fault → reading text ≡ Err (Fault.Lexical fault) }
-{
-}
+{}

@@ -14,3 +14,6 @@ mod words;
 pub use fault::{ParseFault, Want};
 pub use laws::{bytes_come_first, one_program, spelled_is_read};
 pub use parser::parse;
+
+#[cfg(test)]
+mod tests;

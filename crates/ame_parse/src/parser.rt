@@ -8,14 +8,12 @@ ghost use Rattle.ame_parse.specs.Text.{Answers};
 ghost use Rattle.ame_term.specs.View.{tree_of};
 ghost use Rattle.ame_term.specs.Written.{nodes, IsWritten, IsBound};
 
-use std::alloc::Global;
-
-use ame_lex::{Token, tokens_lie_within};
-use ame_term::{Program, Term};
-
 use crate::fault::ParseFault;
 use crate::grammar::term;
 use crate::reader::Reader;
+use ame_lex::{Token, tokens_lie_within};
+use ame_term::{Program, Term};
+use std::alloc::Global;
 
 /// How many parentheses may be open.
 const MAX_OPEN: usize = 200;

@@ -7,13 +7,11 @@ ghost use Rattle.ame_parse.specs.Input as spec;
 ghost use Rattle.ame_parse.specs.Input.{Reads};
 ghost use Rattle.ame_parse.specs.Seen.{start_of};
 
-use std::alloc::Global;
-use std::marker::Model;
-
-use ame_lex::Token;
-
 use crate::ahead::{Ahead, ahead_of};
 use crate::fault::{ParseFault, Want};
+use ame_lex::Token;
+use std::alloc::Global;
+use std::marker::Model;
 
 #[derive(Drop)]
 pub struct Reader<'a> {

@@ -1,5 +1,4 @@
 use Rattle.ame_parse.proofs.Whole as whole
-use Rattle.ame_parse.proofs.Facts as facts
 use Rattle.ame_parse.proofs.laws.spelled_is_read.Goals as goal
 
 pub returns : goal.returns

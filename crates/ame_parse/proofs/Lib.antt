@@ -1,4 +1,6 @@
 pub mod Steps
+pub mod NameLemmas
+pub mod ReaderLemmas
 pub mod Facts
 pub mod Whole
 pub mod Soundness

@@ -4,5 +4,6 @@ pub mod Seen
 pub mod Cursor
 pub mod Forms
 pub mod Reading
+pub mod Names
 pub mod Text
 pub mod Grammar

@@ -29,7 +29,7 @@ pub data Fault : Type 0 where
   Syntactic : ParseFault → Fault
 
 abbrev pub source_by : Outcome Tree → Result Source Fault
-source_by (Ok (tree, i)) = Ok (record { names = []; places = i.places; tree = tree })
+source_by (Ok (tree, i)) = Ok (record { names = i.names; places = i.places; tree = tree })
 source_by (Err fault) = Err (Fault.Syntactic fault)
 
 abbrev pub reading_by : Text → Result (List Token) LexFault → Result Source Fault

@@ -7,6 +7,7 @@ mod fault;
 mod forms;
 mod grammar;
 mod laws;
+mod names;
 mod parser;
 mod reader;
 mod words;

@@ -34,11 +34,14 @@ pub fn parse(alloc: Global, text: &[u8], tokens: &[Token]) -> Result<Program, Pa
     tokens_lie_within();
     let mut reader = Reader::new(alloc, text, tokens);
     match program(alloc, &mut reader) {
-        Ok(term) => Ok(Program {
-            names: Vec::new(alloc),
-            places: reader.into_places(),
-            term,
-        }),
+        Ok(term) => {
+            let (names, places) = reader.into_lists(alloc)?;
+            Ok(Program {
+                names,
+                places,
+                term,
+            })
+        }
         Err(fault) => Err(fault),
     }
 }

@@ -7,9 +7,11 @@ mod fault;
 mod forms;
 mod grammar;
 mod laws;
+mod letters;
 mod names;
 mod parser;
 mod reader;
+mod ty;
 mod words;
 
 pub use fault::{ParseFault, Want};

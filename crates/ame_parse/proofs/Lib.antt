@@ -1,9 +1,7 @@
 pub mod Steps
+pub mod LetterSteps
+pub mod TypeSoundness
 pub mod NameLemmas
 pub mod ReaderLemmas
-pub mod Facts
-pub mod Whole
-pub mod Soundness
-pub mod Completeness
 pub mod TreeLemmas
 pub mod Turns

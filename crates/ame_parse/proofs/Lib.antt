@@ -1,2 +1,7 @@
+pub mod Steps
+pub mod LetterSteps
+pub mod TypeSoundness
+pub mod NameLemmas
+pub mod ReaderLemmas
 pub mod TreeLemmas
 pub mod Turns

@@ -1,0 +1,5 @@
+use Rattle.ame_parse.proofs.TypeSoundness as types
+use Rattle.ame_parse.proofs.laws.spelled_is_read.Goals as goal
+
+pub returns : goal.returns
+returns c = ?

@@ -1,0 +1,13 @@
+//! The turn and its seats: one shared state passes from seat to seat, and each seat knows what it will find.
+#![tactic(auto)]
+
+mod seats;
+mod state;
+mod steps;
+mod turn;
+mod view;
+
+pub use seats::{Seat, SeatAt};
+pub use state::{Leaves, Rowed};
+pub use turn::Baton;
+pub use view::{Knows, Left};

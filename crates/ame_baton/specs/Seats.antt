@@ -1,5 +1,5 @@
 -- What a seat knows, and what it may say of the state when it takes the turn, gives it and ends.
-use Rattle.std.specs.Prelude.{◌≡◌, ◌≢◌, ℕ, ◌+◌, ◌<◌, ◌≤◌, ◌==◌, true, false, List, [], ◌∷◌, ◌++◌, length, filter, All, Option, Some, IsSomeAnd, slice_get, slice_set}
+use Rattle.std.specs.Prelude.{◌≡◌, ◌≢◌, ℕ, ◌+◌, ◌<◌, ◌≤◌, ◌==◌, true, false, List, [], ◌++◌, length, filter, All, Option, Some, IsSome, IsSomeAnd, slice_get, slice_set}
 use mathlib.Core.List.{IsPrefix}
 use Rattle.ame_baton.specs.declared.view.Knows.{Knows}
 use Rattle.ame_baton.specs.declared.view.Left.{Left}
@@ -28,6 +28,12 @@ pub record IsUntouched {R E : Type 0} (empty : R) (seat_of : E → ℕ) (number 
 abbrev pub first_seat : {F R E : Type 0} → F → ℕ → R → Knows F R E
 first_seat fixed seats empty = record { number = 0; fixed = Some fixed; row = empty; seen = []; own = []; holds = false; rows = []; seats = seats; made = 1; ended = [] }
 
+-- seat 0, where it doesn't hold the turn
+pub record IsFirst {F R E : Type 0} (k : Knows F R E) : Type 0 where
+  pub seated : IsSome k.fixed
+  pub numbered : k.number ≡ 0
+  pub free : k.holds ≡ false
+
 -- the next seat, as seat 0 makes it
 abbrev pub next_seat : {F R E : Type 0} → Knows F R E → R → Knows F R E
 next_seat k empty = record k { number = k.made; row = empty; own = []; holds = false; rows = []; made = 0; ended = [] }
@@ -46,7 +52,7 @@ pub record OthersStay {F R E : Type 0} (empty : R) (seat_of : E → ℕ) (first 
   pub not_made : (n : ℕ) → first.made ≤ n → IsUntouched empty seat_of n rows entries
 
 -- a pop: the seat takes the state, and the first seat finds what the others left
-pub record Pops {S F R E : Type 0} (stands_for : S → F → List R → List E → Type 0) (empty : R) (seat_of : E → ℕ) (before : Knows F R E) (state : S) (after : Knows F R E) : Type 0 where
+pub record Popped {S F R E : Type 0} (stands_for : S → F → List R → List E → Type 0) (empty : R) (seat_of : E → ℕ) (before : Knows F R E) (state : S) (after : Knows F R E) : Type 0 where
   pub takes : Takes stands_for seat_of before state after
   pub others : before.number ≡ 0 → OthersStay empty seat_of before after.rows after.seen
 

@@ -44,9 +44,9 @@ pub struct Takes<S> {
 }
 
 impl<S: Rowed> Outcome<S, Knows<S::Fixed, S::Row, S::Entry>> for Takes<S> {
-    ghost use Rattle.ame_baton.specs.Seats.{Pops};
+    ghost use Rattle.ame_baton.specs.Seats.{Popped};
 
-    ghost then = { Pops S.stands_for S.empty_row S.seat_of };
+    ghost then = { Popped S.stands_for S.empty_row S.seat_of };
 }
 
 impl<S: Rowed> Lesson<S, Knows<S::Fixed, S::Row, S::Entry>> for Takes<S> {

@@ -1,7 +1,7 @@
 //! How the state comes out of the baton at the end.
-ghost use Rattle.std.specs.Prelude.{◌≡◌, ◌+◌, [], ◌∷◌, map, vec_len, IsSome};
+ghost use Rattle.std.specs.Prelude.{◌≡◌, ◌+◌, [], ◌∷◌, ◌++◌, map, length, vec_len};
 ghost use Rattle.crossbeam_queue.specs.Passes.{view, IsPassOf};
-ghost use Rattle.ame_baton.specs.Seats.{left_by, Ends};
+ghost use Rattle.ame_baton.specs.Seats.{left_by, IsFirst, Ends};
 ghost use Rattle.ame_baton.specs.Batons.{knows, IsReady, AreReady};
 
 use super::Baton;
@@ -32,15 +32,25 @@ impl<S: Rowed> Baton<S> {
     // The first seat's pass keeps what each other seat left.
     fn join_all(&self, pass: &mut Pass<S, View<S>>, rest: Vec<Seat<S>>)
         requires of { IsPassOf self.now.queue pass.old }
-        requires seated { IsSome (view pass.old).fixed }
-        requires first { (view pass.old).number ≡ 0 }
-        requires none_ended { (view pass.old).ended ≡ [] }
+        requires first { IsFirst (view pass.old) }
+        requires none_yet { (view pass.old).ended ≡ [] }
         requires rest { AreReady self.now 1 rest.items }
         ensures of { IsPassOf self.now.queue pass.new }
         ensures kept { view pass.new ≡ record (view pass.old) { ended = map (λ s. left_by (knows s)) rest.items } }
     {
         for seat in rest {
-            self.queue.absorb::<Keeps<S>>(pass, seat.into_pass());
+            self.join(pass, seat);
         }
+    }
+
+    // It keeps what the next seat left.
+    fn join(&self, pass: &mut Pass<S, View<S>>, seat: Seat<S>)
+        requires of { IsPassOf self.now.queue pass.old }
+        requires first { IsFirst (view pass.old) }
+        requires next { IsReady self.now (length (view pass.old).ended + 1) seat }
+        ensures of { IsPassOf self.now.queue pass.new }
+        ensures kept { view pass.new ≡ record (view pass.old) { ended = (view pass.old).ended ++ left_by (knows seat) ∷ [] } }
+    {
+        self.queue.absorb::<Keeps<S>>(pass, seat.into_pass());
     }
 }

@@ -1,0 +1,4 @@
+pub mod Lookups
+pub mod Staying
+pub mod Moves
+pub mod Readiness

@@ -2,3 +2,4 @@ pub mod Lookups
 pub mod Staying
 pub mod Moves
 pub mod Readiness
+pub mod Counting

@@ -4,10 +4,11 @@
 mod seats;
 mod state;
 mod steps;
+pub mod tally;
 mod turn;
 mod view;
 
 pub use seats::{Seat, SeatAt};
-pub use state::{Leaves, Rowed};
+pub use state::{AnyRow, Leaves, Rowed};
 pub use turn::Baton;
 pub use view::{Knows, Left};

@@ -30,3 +30,12 @@ pub trait Rowed {
 pub trait Leaves<R> {
     ghost leaves: { R → Type 0 };
 }
+
+/// Any row, where the state itself shows it whole.
+pub struct AnyRow;
+
+impl<R> Leaves<R> for AnyRow {
+    ghost use Rattle.std.specs.Prelude.{⊤};
+
+    ghost leaves = { λ row. ⊤ };
+}

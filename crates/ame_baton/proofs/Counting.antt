@@ -1,11 +1,12 @@
 -- What a seat that counts may give, and what it then knows.
-use Rattle.std.proofs.Common.{◌≡◌, ℕ, zero, suc, ◌<◌, List, [], ◌∷◌, ◌++◌, length, set, All, Option, Some, None, IsSomeAnd, Result, Ok, Err, OnOk, OnErr, slice_get, sym, refl, ap, ◌∙◌, subst, arith}
+use Rattle.std.proofs.Common.{◌≡◌, ℕ, zero, suc, List, [], ◌∷◌, ◌++◌, length, set, All, Option, Some, None, IsSomeAnd, Result, Ok, Err, OnOk, OnErr, slice_get, sym, refl, ap, ◌∙◌, subst}
 use Rattle.std.proofs.lemmas.List.{append_cancel_left, append-nil, length-set}
 use Rattle.std.proofs.lemmas.List.Elements.{All-nil, All-cons}
 use Rattle.ame_baton.specs.declared.view.Knows.{Knows}
 use Rattle.ame_baton.specs.declared.tally.Tally.{Tally}
-use Rattle.ame_baton.specs.Seats.{Takes, MayGive, Gives, having_given}
-use Rattle.ame_baton.specs.Tallies.{TallyStandsFor, Counts, IsAsBefore}
+use Rattle.ame_baton.specs.declared.view.Left.{Left}
+use Rattle.ame_baton.specs.Seats.{entries_of, Takes, MayGive, Gives, Ends}
+use Rattle.ame_baton.specs.Tallies.{TallyStandsFor, Counts, IsAsBefore, times_of}
 
 set_again : {A : Type 0} (l : List A) (i : ℕ) (a : A) → slice_get l i ≡ Some a → set l i a ≡ l
 set_again [] i a e = refl
@@ -70,3 +71,9 @@ module _ (before k : Known) (t t' : Tally) (taken : Takes TallyStandsFor own bef
       let entries : k.seen ++ it.added ≡ t'.log.items = and_of (λ f. TallyStandsFor t' f (set k.rows k.number it.row) (k.seen ++ it.added)) (k.seen ++ it.added ≡ t'.log.items) k.fixed (λ f h. h.2) it.stands in
       let same : it.added ≡ added = append_cancel_left k.seen it.added added (entries ∙ (is ∙ ap (λ l. l ++ added) (sym seen_now))) in
       ap (λ (x : Known). x.own) given.1 ∙ (ap (λ l. k.own ++ l) same ∙ ap (λ (x : Known). x.own ++ added) taken.rest)
+
+-- at the end a seat that left so many entries of its own is in the log so often
+pub counted_at_end : (fixed : Option ℕ) (seats : List (Left ℕ ℕ)) (t : Tally) (n times : ℕ) (it : Left ℕ ℕ) → Ends TallyStandsFor 0 own fixed seats t → slice_get seats n ≡ Some it → length it.own ≡ times → times_of n t ≡ times
+counted_at_end fixed seats t n times it e at is =
+    let log : e.entries ≡ t.log.items = and_of (λ f. TallyStandsFor t f e.rows e.entries) (e.entries ≡ t.log.items) fixed (λ f h. h.2) e.stands in
+    ap (λ l. length (entries_of own n l)) (sym log) ∙ (ap length (e.stays n it at).own ∙ is)

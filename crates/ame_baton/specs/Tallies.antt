@@ -1,5 +1,5 @@
 -- What a clause says of a tally.
-use Rattle.std.specs.Prelude.{◌≡◌, ℕ, ◌+◌, ◌==◌, List, ◌∷◌, [], ◌++◌, length, filter, slice_set}
+use Rattle.std.specs.Prelude.{◌≡◌, ℕ, ◌==◌, List, ◌∷◌, [], ◌++◌, length, filter, slice_set}
 use Rattle.ame_baton.specs.declared.view.Knows.{Knows}
 use Rattle.ame_baton.specs.declared.tally.Tally.{Tally}
 

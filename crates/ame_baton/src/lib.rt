@@ -12,3 +12,6 @@ pub use seats::{Seat, SeatAt};
 pub use state::{AnyRow, Leaves, Rowed};
 pub use turn::Baton;
 pub use view::{Knows, Left};
+
+#[cfg(test)]
+mod tests;

@@ -1,6 +1,6 @@
 //! The smallest state with rows and entries: a counter, and the list of who counted. It is an example of a caller, and what the tests run.
 ghost use Rattle.std.specs.Prelude.{◌≡◌, ◌<◌, ◌+◌, ◌++◌, ◌∷◌, [], false, length, replicate, vec_len, IfOk, OnOk, OnErr};
-ghost use Rattle.ame_baton.specs.Batons.{knows, IsSeatOf};
+ghost use Rattle.ame_baton.specs.Batons.{knows, IsSeatOf, IsReady};
 ghost use Rattle.ame_baton.specs.Tallies.{Counts, IsAsBefore, IsSameSeat, times_of};
 ghost use Rattle.ame_baton.specs.Counted.{IsFresh, HasCounted};
 
@@ -23,7 +23,9 @@ pub struct Tally {
 
 impl Rowed for Tally {
     type Fixed = usize;
+
     type Row = usize;
+
     type Entry = u32;
 
     ghost use Rattle.std.specs.Prelude.{length};
@@ -113,7 +115,7 @@ pub fn count_by_two<R: Threads + Wait + Sync>(
     ensures first { IfOk result (λ t. times_of 0 t ≡ times) }
     ensures second { IfOk result (λ t. times_of 1 t ≡ times) }
 {
-    let mut rest = Vec::with_capacity(alloc, 1)?;
+    let rest = Vec::with_capacity(alloc, 1)?;
     let tally = Tally::new(alloc, 2)?;
     let Ok((baton, mut first)) = Baton::new(rt, alloc, tally) else {
         return Err(AllocError);
@@ -131,7 +133,24 @@ pub fn count_by_two<R: Threads + Wait + Sync>(
             ensures { IfOk result (λ s. HasCounted shared.entry.now 1 times s) }
         { count_all(rt, shared, second, times) },
     );
-    let first = first?;
-    rest.push(second?)?;
+    gather(rt, baton, first?, second?, rest)
+}
+
+// Ends the baton of two seats.
+fn gather<R: Wait>(
+    rt: &R,
+    baton: Baton<Tally>,
+    first: Seat<Tally>,
+    second: Seat<Tally>,
+    mut rest: Vec<Seat<Tally>>,
+) -> Result<Tally, AllocError>
+    requires first { IsReady baton 0 first }
+    requires second { IsReady baton 1 second }
+    requires all { (knows first).made ≡ 2 }
+    requires none_yet { rest.items ≡ [] }
+    ensures first { IfOk result (λ t. times_of 0 t ≡ length (knows first).own) }
+    ensures second { IfOk result (λ t. times_of 1 t ≡ length (knows second).own) }
+{
+    rest.push(second)?;
     Ok(baton.end(rt, first, rest))
 }

@@ -1,4 +1,4 @@
-use Rattle.std.proofs.Common.{◌≡◌, [], ◌∷◌, ◌++◌, OnOk, OnErr, ap, sym, subst, ◌∙◌, append-nil}
+use Rattle.std.proofs.Common.{◌≡◌, [], ◌∷◌, ◌++◌, OnOk, ap, sym, subst, ◌∙◌, append-nil}
 use Rattle.std.proofs.lemmas.Result.{on_ok_weaker, on_err_weaker}
 use Rattle.ame_baton.specs.Batons.{knows}
 use Rattle.ame_baton.specs.Tallies.{Counts, IsAsBefore}
@@ -14,12 +14,12 @@ pub returns-clause-counted : goal.returns-clause-counted
 returns-clause-counted g c = let before : Known = knows c.args.seat.now in let taken = c.take-tally.ensures.taken in let n = c.number.result in
     let t = c.take-tally.result in let t' = c.add-counted.new.self in let after : Known = knows c.give.new.seat in
     let all : Counts n t t' → after.own ≡ before.own ++ before.number ∷ [] = λ is. gave_added before (knows c.take-tally.new.seat) t t' taken (λ row. Unit {0}) after (n ∷ []) c.give.ensures.given is.log
-      ∙ ap (λ m. before.own ++ m ∷ []) (c.number.ensures ∙ ap (λ (x : Known). x.number) taken.rest) in
+    ∙ ap (λ m. before.own ++ m ∷ []) (c.number.ensures ∙ ap (λ (x : Known). x.number) taken.rest) in
     on_ok_weaker c.add-counted.result all c.add-counted.ensures.ok
 
 pub returns-clause-refused : goal.returns-clause-refused
 returns-clause-refused g c = let before : Known = knows c.args.seat.now in let taken = c.take-tally.ensures.taken in
     let t = c.take-tally.result in let t' = c.add-counted.new.self in let after : Known = knows c.give.new.seat in
     let all : IsAsBefore t t' → after.own ≡ before.own = λ is. gave_added before (knows c.take-tally.new.seat) t t' taken (λ row. Unit {0}) after [] c.give.ensures.given (is.log ∙ sym (append-nil t.log.items))
-      ∙ append-nil before.own in
+    ∙ append-nil before.own in
     on_err_weaker c.add-counted.result all c.add-counted.ensures.err

@@ -72,6 +72,17 @@ module _ (before k : Known) (t t' : Tally) (taken : Takes TallyStandsFor own bef
       let same : it.added ≡ added = append_cancel_left k.seen it.added added (entries ∙ (is ∙ ap (λ l. l ++ added) (sym seen_now))) in
       ap (λ (x : Known). x.own) given.1 ∙ (ap (λ l. k.own ++ l) same ∙ ap (λ (x : Known). x.own ++ added) taken.rest)
 
+-- a seat may give the state as it took it
+pub may_return : (k : Known) (t : Tally) → slice_get k.rows k.number ≡ Some k.row → IsSomeAnd k.fixed (λ f. TallyStandsFor t f k.rows k.seen) → MayGive TallyStandsFor own (λ row. Unit {0}) k t
+may_return k t row stands = record {
+  row = k.row;
+  added = [];
+  stands = and_so (λ f. TallyStandsFor t f k.rows k.seen) (λ f. TallyStandsFor t f (set k.rows k.number k.row) (k.seen ++ [])) k.fixed
+      (λ f h. (h.0, set_again k.rows k.number k.row row ∙ h.1, append-nil k.seen ∙ h.2)) stands;
+  by_seat = All-nil (λ s. s ≡ k.number);
+  leaves_row = tt;
+}
+
 -- at the end a seat that left so many entries of its own is in the log so often
 pub counted_at_end : (fixed : Option ℕ) (seats : List (Left ℕ ℕ)) (t : Tally) (n times : ℕ) (it : Left ℕ ℕ) → Ends TallyStandsFor 0 own fixed seats t → slice_get seats n ≡ Some it → length it.own ≡ times → times_of n t ≡ times
 counted_at_end fixed seats t n times it e at is =

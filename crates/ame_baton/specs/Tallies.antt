@@ -21,7 +21,8 @@ pub record IsAsBefore (old new : Tally) : Type 0 where
 abbrev pub times_of : ℕ → Tally → ℕ
 times_of seat t = length (filter (λ s. s == seat) t.log.items)
 
--- the seat has the number that it had, and has made as many seats
+-- the seat has the number that it had, and has made as many seats of as many
 pub record IsSameSeat {F R E : Type 0} (old new : Knows F R E) : Type 0 where
   pub number : new.number ≡ old.number
   pub made : new.made ≡ old.made
+  pub seats : new.seats ≡ old.seats

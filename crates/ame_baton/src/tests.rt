@@ -3,9 +3,9 @@ ghost use Rattle.ame_baton.specs.Batons.{knows, IsSeatOf};
 ghost use Rattle.ame_baton.specs.Tallies.{TallyStandsFor, IsSameSeat};
 
 use super::*;
+use crate::tally::{Tally, count, count_by_two};
 use std::sync::Wait;
 use std::test::*;
-use tally::{Tally, count, count_by_two};
 
 fn give_back<R: Wait>(rt: &R, baton: &Baton<Tally>, seat: &mut Seat<Tally>, tally: Tally)
     requires of { IsSeatOf baton.now seat.old }

@@ -1,0 +1,6 @@
+use Rattle.ame_baton.specs.Batons.{knows}
+use Rattle.ame_baton.proofs.Counting.{may_return}
+use Rattle.ame_baton.proofs.tests.give_back.Goals as goal
+
+pub give-requires-clause-may : goal.give-requires-clause-may
+give-requires-clause-may g c = may_return (knows c.args.seat.now) c.args.tally c.requires.row c.requires.stands

@@ -2,7 +2,7 @@ use Rattle.std.proofs.Common.{◌≡◌, ◌+◌, false, IsSome, is_some, length
 use Rattle.crossbeam_queue.specs.Passes.{view}
 use Rattle.ame_baton.specs.Seats.{left_by, Popped}
 use Rattle.ame_baton.specs.Batons.{knows}
-use Rattle.ame_baton.proofs.Moves.{takes, elsewhere}
+use Rattle.ame_baton.proofs.Pops.{takes, elsewhere}
 use Rattle.ame_baton.proofs.Readiness.{length_map, ends}
 use Rattle.ame_baton.proofs.turn.Baton.end.Goals as goal
 

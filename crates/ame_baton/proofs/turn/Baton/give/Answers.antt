@@ -1,4 +1,4 @@
-use Rattle.ame_baton.proofs.Moves.{gives, sees_empty}
+use Rattle.ame_baton.proofs.Pushes.{gives, sees_empty}
 use Rattle.ame_baton.proofs.turn.Baton.give.Goals as goal
 
 pub push_as-requires-clause-rule : goal.push_as-requires-clause-rule

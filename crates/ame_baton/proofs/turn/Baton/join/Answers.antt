@@ -1,4 +1,4 @@
-use Rattle.ame_baton.proofs.Moves.{merges}
+use Rattle.ame_baton.proofs.Joins.{merges}
 use Rattle.ame_baton.proofs.turn.Baton.join.Goals as goal
 
 pub absorb-requires-clause-rule : goal.absorb-requires-clause-rule

@@ -1,5 +1,5 @@
 use Rattle.std.proofs.Common.{arith}
-use Rattle.ame_baton.proofs.Moves.{opens, opens_empty}
+use Rattle.ame_baton.proofs.Opens.{opens, opens_empty}
 use Rattle.ame_baton.proofs.turn.Baton.new.Goals as goal
 
 pub push_as-requires-clause-rule : goal.push_as-requires-clause-rule

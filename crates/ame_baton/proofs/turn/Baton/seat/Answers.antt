@@ -1,4 +1,4 @@
-use Rattle.ame_baton.proofs.Moves.{forks}
+use Rattle.ame_baton.proofs.Splits.{forks}
 use Rattle.ame_baton.proofs.turn.Baton.seat.Goals as goal
 
 pub another-pass-requires-clause-rule : goal.another-pass-requires-clause-rule

@@ -1,4 +1,4 @@
-use Rattle.ame_baton.proofs.Moves.{takes, elsewhere}
+use Rattle.ame_baton.proofs.Pops.{takes, elsewhere}
 use Rattle.ame_baton.proofs.turn.Baton.try_take.Goals as goal
 
 pub pop_as-requires-clause-rule : goal.pop_as-requires-clause-rule

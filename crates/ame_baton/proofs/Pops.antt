@@ -6,8 +6,8 @@ use Rattle.crossbeam_queue.specs.Fifo.{Pops, Learns}
 use Rattle.crossbeam_queue.proofs.Lists.{set_here}
 use Rattle.ame_baton.specs.declared.view.Knows.{Knows}
 use Rattle.ame_baton.specs.declared.view.Left.{Left}
-use Rattle.ame_baton.specs.Seats.{left_by, Stays, IsUntouched, Popped, IsElsewhere}
-use Rattle.ame_baton.specs.Rule.{Truth, Agrees, Fits, TurnIs}
+use Rattle.ame_baton.specs.Seats.{left_by, Stays, IsUntouched, IsElsewhere}
+use Rattle.ame_baton.specs.Rule.{Truth, Agrees, Fits, TurnIs, Popped}
 use Rattle.ame_baton.proofs.Lookups.{at_within, all_set, prefix_self}
 use Rattle.ame_baton.proofs.Reading.{Rule, beyond, opened, seated, not_both, Place}
 

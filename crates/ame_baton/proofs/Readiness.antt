@@ -4,7 +4,8 @@ use Rattle.ame_baton.specs.declared.view.Knows.{Knows}
 use Rattle.ame_baton.specs.declared.view.Left.{Left}
 use Rattle.ame_baton.specs.declared.seats.SeatAt.{SeatAt}
 use Rattle.ame_baton.specs.declared.turn.Baton.{Baton}
-use Rattle.ame_baton.specs.Seats.{left_by, Stays, OthersStay, Popped, IsElsewhere, Ends}
+use Rattle.ame_baton.specs.Seats.{left_by, Stays, IsElsewhere, Ends}
+use Rattle.ame_baton.specs.Rule.{OthersStay, Popped}
 use Rattle.ame_baton.specs.Batons.{IsReady, AreReady}
 
 module _ {S F R E : Type 0} (baton : Baton S F R E) (n : ℕ) (seat : SeatAt S F R E) (seats : List (SeatAt S F R E)) where

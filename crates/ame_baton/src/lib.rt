@@ -1,4 +1,5 @@
-//! The turn and its seats: one shared state passes from seat to seat, and each seat knows what it will find.
+//! The turn and its seats: one shared state passes from seat to seat, and each seat knows what it
+//! will find.
 #![tactic(auto)]
 
 mod seats;

@@ -26,7 +26,8 @@ pub trait Rowed {
     ghost seat_of: { Self.Entry → ℕ };
 }
 
-/// Which rows a seat may leave when it gives the turn away. It says what the state itself doesn't show.
+/// Which rows a seat may leave when it gives the turn away. It says what the state itself doesn't
+/// show.
 pub trait Leaves<R> {
     ghost leaves: { R → Type 0 };
 }

@@ -44,7 +44,7 @@ pub struct Takes<S> {
 }
 
 impl<S: Rowed> Outcome<S, Knows<S::Fixed, S::Row, S::Entry>> for Takes<S> {
-    ghost use Rattle.ame_baton.specs.Seats.{Popped};
+    ghost use Rattle.ame_baton.specs.Rule.{Popped};
 
     ghost then = { Popped S.stands_for S.empty_row S.seat_of };
 }

@@ -1,4 +1,5 @@
-//! The smallest state with rows and entries: a counter, and the list of who counted. It is an example of a caller, and what the tests run.
+//! The smallest state with rows and entries: a counter, and the list of who counted.
+//! It is an example of a caller, and what the tests run.
 ghost use Rattle.std.specs.Prelude.{◌≡◌, ◌<◌, ◌+◌, ◌++◌, ◌∷◌, [], false, length, replicate, vec_len, IfOk, OnOk, OnErr};
 ghost use Rattle.ame_baton.specs.Batons.{knows, IsSeatOf, IsReady};
 ghost use Rattle.ame_baton.specs.Tallies.{Counts, IsAsBefore, IsSameSeat, times_of};
@@ -77,7 +78,8 @@ pub fn count<R: Wait>(
     ensures of { IsSeatOf baton.now seat.new }
     ensures free { (knows seat.new).holds ≡ false }
     ensures same { IsSameSeat (knows seat.old) (knows seat.new) }
-    ensures counted { OnOk result ((knows seat.new).own ≡ (knows seat.old).own ++ (knows seat.old).number ∷ []) }
+    ensures counted { let k = knows seat.old in
+        OnOk result ((knows seat.new).own ≡ k.own ++ k.number ∷ []) }
     ensures refused { OnErr result ((knows seat.new).own ≡ (knows seat.old).own) }
 {
     let mut tally = baton.take(rt, seat);

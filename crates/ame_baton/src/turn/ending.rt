@@ -1,8 +1,9 @@
 //! How the state comes out of the baton at the end.
-ghost use Rattle.std.specs.Prelude.{◌≡◌, ◌+◌, [], ◌∷◌, ◌++◌, map, length, vec_len};
+ghost use Rattle.std.specs.Prelude.{◌≡◌, ◌+◌, [], ◌∷◌, ◌++◌, length, vec_len};
 ghost use Rattle.crossbeam_queue.specs.Passes.{view, IsPassOf};
-ghost use Rattle.ame_baton.specs.Seats.{left_by, IsFirst, Ends};
-ghost use Rattle.ame_baton.specs.Batons.{knows, IsReady, AreReady};
+ghost use Rattle.ame_baton.specs.Seats.{left_by, Ends};
+ghost use Rattle.ame_baton.specs.Rule.{IsFirst, with_ended};
+ghost use Rattle.ame_baton.specs.Batons.{knows, left_by_each, IsReady, AreReady};
 
 use super::Baton;
 use crate::seats::Seat;
@@ -12,14 +13,16 @@ use crossbeam_queue::Pass;
 use std::sync::Wait;
 
 impl<S: Rowed> Baton<S> {
-    /// Takes the state out, once every seat that was made is handed back, in the order of their numbers. It takes no memory.
+    /// Takes the state out, once every seat that was made is handed back, in the order of their numbers.
+    /// It takes no memory.
     pub fn end<R: Wait>(self, rt: &R, first: Seat<S>, rest: Vec<Seat<S>>) -> S
     where
         S: Drop,
         requires first { IsReady self 0 first }
         requires rest { AreReady self 1 rest.items }
         requires all { (knows first).made ≡ vec_len rest + 1 }
-        ensures { Ends S.stands_for S.empty_row S.seat_of (knows first).fixed (left_by (knows first) ∷ map (λ s. left_by (knows s)) rest.items) result }
+        ensures { Ends S.stands_for S.empty_row S.seat_of
+            (knows first).fixed (left_by (knows first) ∷ left_by_each rest.items) result }
     {
         let mut pass = first.into_pass();
         self.join_all(&mut pass, rest);
@@ -36,7 +39,7 @@ impl<S: Rowed> Baton<S> {
         requires none_yet { (view pass.old).ended ≡ [] }
         requires rest { AreReady self.now 1 rest.items }
         ensures of { IsPassOf self.now.queue pass.new }
-        ensures kept { view pass.new ≡ record (view pass.old) { ended = map (λ s. left_by (knows s)) rest.items } }
+        ensures kept { view pass.new ≡ with_ended (view pass.old) (left_by_each rest.items) }
     {
         for seat in rest {
             self.join(pass, seat);
@@ -49,7 +52,8 @@ impl<S: Rowed> Baton<S> {
         requires first { IsFirst (view pass.old) }
         requires next { IsReady self.now (length (view pass.old).ended + 1) seat }
         ensures of { IsPassOf self.now.queue pass.new }
-        ensures kept { view pass.new ≡ record (view pass.old) { ended = (view pass.old).ended ++ left_by (knows seat) ∷ [] } }
+        ensures kept { let k = view pass.old in
+            view pass.new ≡ with_ended k (k.ended ++ left_by (knows seat) ∷ []) }
     {
         self.queue.absorb::<Keeps<S>>(pass, seat.into_pass());
     }

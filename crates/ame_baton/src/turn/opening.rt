@@ -17,9 +17,11 @@ impl<S: Rowed> Baton<S> {
         requires some { 1 ≤ S.seats_in (S.opening state) }
         requires few { S.seats_in (S.opening state) ≤ 32 }
         // The state stands for its own opening, with empty rows and no entries.
-        requires opening { S.stands_for state (S.opening state) (replicate (S.seats_in (S.opening state)) S.empty_row) [] }
+        requires opening { let fixed = S.opening state in
+            S.stands_for state fixed (replicate (S.seats_in fixed) S.empty_row) [] }
         ensures made { IfOk result (λ r. IsSeatOf r.0 r.1) }
-        ensures first { IfOk result (λ r. knows r.1 ≡ first_seat (S.opening state) (S.seats_in (S.opening state)) S.empty_row) }
+        ensures first { let fixed = S.opening state in
+            IfOk result (λ r. knows r.1 ≡ first_seat fixed (S.seats_in fixed) S.empty_row) }
         ensures back { IfErr result (λ back. back ≡ state) }
     {
         let Ok((queue, mut pass)) = RuledArrayQueue::ruled(alloc, 1) else {
@@ -47,7 +49,8 @@ impl<S: Rowed> Baton<S> {
         ensures made { IsSeatOf self.now result }
         ensures next { knows result ≡ next_seat (knows first.old) S.empty_row }
         ensures of { IsSeatOf self.now first.new }
-        ensures counted { knows first.new ≡ record (knows first.old) { made = (knows first.old).made + 1 } }
+        ensures counted { let k = knows first.old in
+            knows first.new ≡ record k { made = k.made + 1 } }
     {
         let pass = self.queue.another::<Seats<S>>(&mut first.pass);
         let number = first.made;

@@ -39,7 +39,8 @@ impl<S: Rowed> Baton<S> {
         unreachable!()
     }
 
-    /// Puts the state back. Which row the seat leaves is the state's to say, and `M`'s where the state doesn't show it. It takes no memory.
+    /// Puts the state back. Which row the seat leaves is the state's to say, and `M`'s where the state
+    /// doesn't show it. It takes no memory.
     pub fn give<M: Leaves<S::Row>, R: Wait>(&self, rt: &R, seat: &mut Seat<S>, state: S)
         requires of { IsSeatOf self.now seat.old }
         requires holds { (knows seat.old).holds ≡ true }

@@ -1,6 +1,7 @@
 use Rattle.std.proofs.Common.{◌≡◌, ◌+◌, false, IsSome, is_some, length, map, ap, subst, ◌∙◌, arith}
 use Rattle.crossbeam_queue.specs.Passes.{view}
-use Rattle.ame_baton.specs.Seats.{left_by, Popped}
+use Rattle.ame_baton.specs.Seats.{left_by}
+use Rattle.ame_baton.specs.Rule.{Popped}
 use Rattle.ame_baton.specs.Batons.{knows}
 use Rattle.ame_baton.proofs.Pops.{takes, elsewhere}
 use Rattle.ame_baton.proofs.Readiness.{length_map, ends}

@@ -1,7 +1,8 @@
 use Rattle.std.proofs.Common.{◌≡◌, ◌+◌, ◌++◌, ◌∷◌, [], length, refl, sym, ap, subst, ◌∙◌, append_assoc, length-append, arith}
 use Rattle.std.specs.Vec.Iter.{into_iter_items}
 use Rattle.crossbeam_queue.specs.Passes.{view}
-use Rattle.ame_baton.specs.Seats.{left_by, IsFirst}
+use Rattle.ame_baton.specs.Seats.{left_by}
+use Rattle.ame_baton.specs.Rule.{IsFirst}
 use Rattle.ame_baton.specs.Batons.{knows, IsReady, AreReady}
 use Rattle.ame_baton.proofs.Readiness.{ready_head, ready_tail, length_map, kept_more}
 use Rattle.ame_baton.proofs.turn.Baton.join_all.Goals as goal

@@ -1,7 +1,8 @@
 use Rattle.std.proofs.Common.{◌≡◌, ◌+◌, ◌++◌, length, map}
 use Rattle.std.specs.Vec.Iter.{into_iter_items, into_iter_len}
 use Rattle.crossbeam_queue.specs.Passes.{view, IsPassOf}
-use Rattle.ame_baton.specs.Seats.{left_by, IsFirst}
+use Rattle.ame_baton.specs.Seats.{left_by}
+use Rattle.ame_baton.specs.Rule.{IsFirst}
 use Rattle.ame_baton.specs.Batons.{knows, AreReady}
 use Rattle.ame_baton.proofs.turn.Baton.join_all.Given as goal
 

@@ -16,7 +16,8 @@ impl<S: Rowed> Baton<S> {
         requires of { IsSeatOf self.now seat.old }
         requires free { (knows seat.old).holds ≡ false }
         ensures of { IsSeatOf self.now seat.new }
-        ensures taken { IfSome result (λ state. Takes S.stands_for S.seat_of (knows seat.old) state (knows seat.new)) }
+        ensures taken { let before = knows seat.old in
+            IfSome result (λ state. Takes S.stands_for S.seat_of before state (knows seat.new)) }
         ensures busy { IfNone result (IsElsewhere (knows seat.old)) }
         ensures same { IfNone result (knows seat.new ≡ knows seat.old) }
     {

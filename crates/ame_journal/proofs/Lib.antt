@@ -1,2 +1,4 @@
 pub mod StepLemmas
 pub mod ReplayLemmas
+pub mod NumberLemmas
+pub mod WordLemmas

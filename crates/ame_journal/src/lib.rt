@@ -2,7 +2,12 @@
 #![tactic(auto)]
 
 mod entry;
+mod fault;
 mod journal;
+mod line;
+mod numbers;
+mod words;
 
 pub use entry::{Entry, EntryKind};
+pub use fault::JournalFault;
 pub use journal::Journal;

@@ -2,3 +2,4 @@ pub mod StepLemmas
 pub mod ReplayLemmas
 pub mod NumberLemmas
 pub mod WordLemmas
+pub mod LineLemmas

@@ -1,5 +1,8 @@
 -- What is read from the words of a line, part by part.
-use Rattle.std.specs.Prelude.{◌≡◌, ◌≢◌, ◌==◌, ◌+◌, ◌<◌, ◌^◌, ℕ, ℤ, Bool, false, List, [], ◌∷◌, ◌++◌, map, All, Option, Some, None, IfSome, FitsSigned, decimal}
+use Rattle.std.specs.Prelude.{◌≡◌, ◌≢◌, ◌==◌, ◌+◌, ◌<◌, ◌^◌, ℕ, ℤ, Bool, false, List, [], ◌∷◌, ◌++◌, map, All, Option, Some, None, IfSome, FitsSigned, decimal, codes}
+use Rattle.std.specs.Fmt.{signed_decimal}
+use Rattle.ame_journal.specs.declared.entry.Entry.{Entry}
+use Rattle.ame_journal.specs.Text.{line_of, IsSpellable}
 use Rattle.std.specs.Int.{w64}
 use Rattle.ame_journal.specs.declared.entry.EntryKind.{EntryKind}
 use Rattle.ame_journal.specs.declared.line.Head.{Head}
@@ -39,4 +42,22 @@ Lacks b bytes = All (λ x. (x == b) ≡ false) bytes
 -- the bytes before the first line feed, and those behind it
 pub record IsCut (text line behind : List ℕ) : Type 0 where
   pub split : text ≡ line ++ 10 ∷ behind
-  pub line : Lacks 10 line
+  pub no_feed : Lacks 10 line
+
+-- the first line spells this entry, and this stands behind it
+pub record ReadsLine (text : List ℕ) (entry : Entry) (behind : List ℕ) : Type 0 where
+  pub spelled : text ≡ line_of entry ++ behind
+  pub spellable : IsSpellable entry
+
+-- no line of an entry stands at the front of a text
+abbrev pub ReadsNoLine : List ℕ → Type 0
+ReadsNoLine text = (entry : Entry) (after : List ℕ) → IsSpellable entry → text ≢ line_of entry ++ after
+
+-- a word behind its space
+abbrev pub part_of : List ℕ → List ℕ
+part_of word = 32 ∷ word
+
+-- an answer as it is written, where there is one
+abbrev pub answer_text : Option ℤ → List ℕ
+answer_text None = []
+answer_text (Some answer) = codes " = " ++ signed_decimal answer

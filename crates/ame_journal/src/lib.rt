@@ -6,6 +6,7 @@ mod fault;
 mod journal;
 mod line;
 mod numbers;
+mod spelling;
 mod words;
 
 pub use entry::{Entry, EntryKind};

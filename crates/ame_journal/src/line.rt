@@ -20,7 +20,7 @@ struct Head {
     steps: u64,
 }
 
-fn head(words: &mut Words) -> Option<Head>
+fn take_head(words: &mut Words) -> Option<Head>
     ensures { TakesHead words.old result words.new }
 {
     Some(Head {
@@ -32,7 +32,7 @@ fn head(words: &mut Words) -> Option<Head>
 }
 
 /// The locations that follow, as many as there are.
-fn fresh(alloc: Global, words: &mut Words) -> Result<Vec<Loc>, NoMemory>
+fn take_fresh(alloc: Global, words: &mut Words) -> Result<Vec<Loc>, NoMemory>
     ensures { IfOk result (λ fresh. TakesLocations words.old (map (λ l. l.0) fresh.items) words.new) }
 {
     let mut fresh = Vec::new(alloc);
@@ -43,7 +43,7 @@ fn fresh(alloc: Global, words: &mut Words) -> Result<Vec<Loc>, NoMemory>
 }
 
 /// What stands behind the locations: nothing, or for `free` an equals sign and the answer.
-fn answer(kind: EntryKind, words: &mut Words) -> Option<Option<i64>>
+fn answer_of(kind: EntryKind, words: &mut Words) -> Option<Option<i64>>
     ensures { Reads answer_words (IsAnswer kind) words.old result }
 {
     if words.is_empty() {
@@ -62,15 +62,15 @@ fn answer(kind: EntryKind, words: &mut Words) -> Option<Option<i64>>
 }
 
 /// The entry that a line spells, without its line feed.
-pub fn entry(alloc: Global, line: &[u8]) -> Result<Option<Entry>, NoMemory>
+pub fn entry_of(alloc: Global, line: &[u8]) -> Result<Option<Entry>, NoMemory>
     ensures { IfOk result (Reads words_of IsSpellable (spec.words line.now)) }
 {
     let mut words = Words::new(line);
-    let Some(head) = head(&mut words) else {
+    let Some(head) = take_head(&mut words) else {
         return Ok(None);
     };
-    let fresh = fresh(alloc, &mut words)?;
-    match answer(head.kind, &mut words) {
+    let fresh = take_fresh(alloc, &mut words)?;
+    match answer_of(head.kind, &mut words) {
         None => Ok(None),
         Some(answer) => Ok(Some(Entry {
             kind: head.kind,

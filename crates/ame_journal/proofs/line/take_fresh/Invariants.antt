@@ -1,5 +1,5 @@
 use Rattle.std.proofs.Common.{◌≡◌, ◌<◌, ◌^◌, ◌++◌, All, map, length, decimal}
-use Rattle.ame_journal.proofs.line.fresh.Given as goal
+use Rattle.ame_journal.proofs.line.take_fresh.Given as goal
 
 abbrev pub invariant-loop-location : goal.invariant-loop-location
 invariant-loop-location l =

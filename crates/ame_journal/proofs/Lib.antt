@@ -3,3 +3,4 @@ pub mod ReplayLemmas
 pub mod NumberLemmas
 pub mod WordLemmas
 pub mod LineLemmas
+pub mod SpellingLemmas

@@ -1,6 +1,7 @@
 //! Writing one line of a journal's text.
 
-ghost use Rattle.std.specs.Prelude.{◌≡◌, ◌++◌, ◌<◌, ◌^◌, All, OnOk, decimal, map};
+ghost use Rattle.std.specs.Prelude.{◌≡◌, ◌++◌, ◌<◌, ◌^◌, All, FitsSigned, IfSome, OnOk, decimal, map};
+ghost use Rattle.std.specs.Int.{w64};
 ghost use Rattle.std.specs.List.{flat_map};
 ghost use Rattle.ame_journal.specs.Log.{IsFit};
 ghost use Rattle.ame_journal.specs.Text.{line_of, IsSpellable};
@@ -34,7 +35,8 @@ fn write(text: &mut Vec<u8>, bytes: &[u8]) -> Result<(), NoMemory>
 
 /// Appends a space and a number.
 fn write_number(text: &mut Vec<u8>, number: u64) -> Result<(), NoMemory>
-    ensures { OnOk result (text.new.items ≡ text.old.items ++ part_of (decimal number)) }
+    ensures written { OnOk result (text.new.items ≡ text.old.items ++ part_of (decimal number)) }
+    ensures range { number < 2 ^ 64 }
 {
     let mut buffer = Buffer::new();
     write(text, b" ")?;
@@ -44,7 +46,7 @@ fn write_number(text: &mut Vec<u8>, number: u64) -> Result<(), NoMemory>
 /// Appends each location, behind a space.
 fn write_fresh(text: &mut Vec<u8>, fresh: &[Loc]) -> Result<(), NoMemory>
     ensures written { OnOk result (text.new.items ≡ text.old.items ++ flat_map (λ l. part_of (decimal l)) (map (λ l. l.0) fresh.now)) }
-    ensures small { OnOk result (All (λ l. l < 2 ^ 32) (map (λ l. l.0) fresh.now)) }
+    ensures range { OnOk result (All (λ l. l < 2 ^ 32) (map (λ l. l.0) fresh.now)) }
 {
     for location in fresh {
         write_number(text, u64::from(location.0))?;
@@ -54,7 +56,8 @@ fn write_fresh(text: &mut Vec<u8>, fresh: &[Loc]) -> Result<(), NoMemory>
 
 /// Appends an equals sign and the answer, where there is one.
 fn write_answer(text: &mut Vec<u8>, answer: Option<i64>) -> Result<(), NoMemory>
-    ensures { OnOk result (text.new.items ≡ text.old.items ++ answer_text answer) }
+    ensures written { OnOk result (text.new.items ≡ text.old.items ++ answer_text answer) }
+    ensures range { IfSome answer (FitsSigned w64) }
 {
     match answer {
         None => Ok(()),

@@ -1,5 +1,7 @@
 //! Entries of a journal.
 
+ghost use Rattle.std.specs.Prelude.{◌≡◌};
+
 use ame_term::Locs;
 
 /// What an entry is.
@@ -15,6 +17,23 @@ pub enum EntryKind {
     Cut,
     /// A note: here the fragment comes to a value of height 1,001.
     Tall,
+}
+
+impl EntryKind {
+    ghost use Rattle.ame_journal.specs.Kinds.{kind_word};
+
+    /// The word for a kind in a journal's text.
+    pub fn word(self) -> &'static [u8]
+        ensures { result.now ≡ kind_word self }
+    {
+        match self {
+            EntryKind::Ran => b"ran",
+            EntryKind::Free => b"free",
+            EntryKind::Stuck => b"stuck",
+            EntryKind::Cut => b"cut",
+            EntryKind::Tall => b"tall",
+        }
+    }
 }
 
 /// One entry: the seat that made it, the member's number, the number of steps, the locations that

@@ -2,7 +2,13 @@
 #![tactic(auto)]
 
 mod entry;
+mod fault;
 mod journal;
+mod line;
+mod numbers;
+mod spelling;
+mod words;
 
 pub use entry::{Entry, EntryKind};
+pub use fault::JournalFault;
 pub use journal::Journal;

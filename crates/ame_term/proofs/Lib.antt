@@ -1,1 +1,2 @@
 pub mod TreesLemmas
+pub mod RedexLemmas

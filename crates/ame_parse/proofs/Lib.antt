@@ -1,5 +1,6 @@
 pub mod Steps
 pub mod LetterSteps
+pub mod Completeness
 pub mod TypeSoundness
 pub mod Soundness
 pub mod NameLemmas

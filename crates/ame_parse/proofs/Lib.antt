@@ -2,6 +2,9 @@ pub mod Steps
 pub mod LetterSteps
 pub mod Completeness
 pub mod TypeSoundness
+pub mod Facts
+pub mod Whole
+pub mod Bound
 pub mod Soundness
 pub mod NameLemmas
 pub mod ReaderLemmas

@@ -71,7 +71,7 @@ mutual
   form_scope (g.rec {i = i} {j = j} {k = k} {l = l} {x = x} e q e' p t body shut) =
       let own = number (after (after i)) in
       let inner : scope_of (after l) ≡ (scope_of k ++ own ∷ []) ++ x ∷ [] =
-        scope_after l ∙ term_scope body ∙ scope_bound x (bound own k) ∙ ap (λ s. s ++ x ∷ []) (scope_bound own k) in
+      scope_after l ∙ term_scope body ∙ scope_bound x (bound own k) ∙ ap (λ s. s ++ x ∷ []) (scope_bound own k) in
       scope_unbound (unbound (after l)) (scope_of k) own (scope_unbound (after l) (scope_of k ++ own ∷ []) x inner)
       ∙ type_scope t ∙ param_scope p ∙ scope_named (after (after i)) ∙ scope_after (after i) ∙ scope_after i
   form_scope (g.app {i = i} {k = k} e h h' shut) = scope_after k ∙ term_scope h' ∙ term_scope h ∙ scope_after i
@@ -121,6 +121,7 @@ variable_covered names i x covers e = covers x e
 
 mutual
   unfolding IsBound
+
   pub term_bound : {n : ℕ} {i j : Input} {tree : Tree} → IsTerm n i tree j → (names : List ℕ) → Covers names (scope_of i) → IsBound names tree
   term_bound (g.int e) names covers = tt
   term_bound (g.unit e) names covers = tt
@@ -139,15 +140,22 @@ mutual
       term_bound body (x ∷ own ∷ names) (one_more (own ∷ names) _ _ x (scope_bound x (bound own k)) (one_more names _ _ own (scope_bound own k) here))
   form_bound (g.app {i = i} {j = j} e h h' shut) names covers =
       (term_bound h names (moved names _ _ (scope_after i) covers), term_bound h' names (moved names _ _ (term_scope h ∙ scope_after i) covers))
-  form_bound (g.bind {i = i} {j = j} e e' h h' shut) names covers =
-      (term_bound h names (moved names _ _ (scope_named (after i) ∙ scope_after i) covers),
-        term_bound h' (number (after i) ∷ names) (one_more names _ _ (number (after i)) (scope_bound (number (after i)) j) (moved names _ _ (term_scope h ∙ scope_named (after i) ∙ scope_after i) covers)))
-  form_bound (g.sequence {i = i} e h h' others shut) names covers =
-      (term_bound h names (moved names _ _ (scope_after i) covers), (term_bound h' names (moved names _ _ (term_scope h ∙ scope_after i) covers),
-        parts_bound others names (moved names _ _ (term_scope h' ∙ term_scope h ∙ scope_after i) covers)))
-  form_bound (g.choice {i = i} e h h' h'' shut) names covers =
-      (term_bound h names (moved names _ _ (scope_after i) covers), term_bound h' names (moved names _ _ (term_scope h ∙ scope_after i) covers),
-        term_bound h'' names (moved names _ _ (term_scope h' ∙ term_scope h ∙ scope_after i) covers))
+  form_bound (g.bind {i = i} {j = j} e e' h h' shut) names covers = (
+    term_bound h names (moved names _ _ (scope_named (after i) ∙ scope_after i) covers),
+    term_bound h' (number (after i) ∷ names) (one_more names _ _ (number (after i)) (scope_bound (number (after i)) j) (moved names _ _ (term_scope h ∙ scope_named (after i) ∙ scope_after i) covers)),
+  )
+  form_bound (g.sequence {i = i} e h h' others shut) names covers = (
+    term_bound h names (moved names _ _ (scope_after i) covers),
+    (
+      term_bound h' names (moved names _ _ (term_scope h ∙ scope_after i) covers),
+      parts_bound others names (moved names _ _ (term_scope h' ∙ term_scope h ∙ scope_after i) covers),
+    ),
+  )
+  form_bound (g.choice {i = i} e h h' h'' shut) names covers = (
+    term_bound h names (moved names _ _ (scope_after i) covers),
+    term_bound h' names (moved names _ _ (term_scope h ∙ scope_after i) covers),
+    term_bound h'' names (moved names _ _ (term_scope h' ∙ term_scope h ∙ scope_after i) covers),
+  )
   form_bound (g.operation {i = i} e o h h' shut) names covers =
       (term_bound h names (moved names _ _ (scope_after i) covers), term_bound h' names (moved names _ _ (term_scope h ∙ scope_after i) covers))
   form_bound (g.negation {i = i} e h shut) names covers = term_bound h names (moved names _ _ (scope_after i) covers)

@@ -98,8 +98,21 @@ mutual
   form_takes (g.fn {i = i} {j = j} {k = k} {x = x} e q p body shut) =
       omega (arith, left_after i, left_after (after i), param_takes p, left_bound x j, term_takes body, left_after k, left_unbound (after k))
   form_takes (g.rec {i = i} {j = j} {k = k} {l = l} {x = x} e q e' p t body shut) =
-      omega (arith, left_after i, left_after (after i), left_named (after (after i)), left_after (after (after i)), param_takes p, type_takes t,
-        left_bound x (bound (number (after (after i))) k), left_bound (number (after (after i))) k, term_takes body, left_after l, left_unbound (after l), left_unbound (unbound (after l)))
+      omega (
+        arith,
+        left_after i,
+        left_after (after i),
+        left_named (after (after i)),
+        left_after (after (after i)),
+        param_takes p,
+        type_takes t,
+        left_bound x (bound (number (after (after i))) k),
+        left_bound (number (after (after i))) k,
+        term_takes body,
+        left_after l,
+        left_unbound (after l),
+        left_unbound (unbound (after l)),
+      )
   form_takes (g.app {i = i} {k = k} e h h' shut) = omega (arith, left_after i, left_after k, term_takes h, term_takes h')
   form_takes (g.bind {i = i} {j = j} {k = k} e e' h h' shut) =
       omega (arith, left_after i, left_named (after i), left_after (after i), term_takes h, left_bound (number (after i)) j, term_takes h', left_after k, left_unbound (after k))
@@ -264,7 +277,7 @@ unfolding variable
 variable_reads i e is_bound =
     rw (name_at (marked i) (ahead_marked i ∙ e))
     (ap (λ b. cond b (Ok (Tree.Var (number (marked i)), named (marked i))) (Err (UnknownName (place (marked i)))))
-      (binds_named (number (marked i)) i ∙ ap (λ x. binds x i) (number_marked i) ∙ is_bound)
+    (binds_named (number (marked i)) i ∙ ap (λ x. binds x i) (number_marked i) ∙ is_bound)
     ∙ ap (λ x. Ok (Tree.Var x, named (marked i))) (number_marked i))
 
 -- ---- the forms, over a parser that reads their parts
@@ -306,7 +319,7 @@ function_reads part parameter i j k q x type body effect read read' shut = rw (e
 recursive_reads : (part : Parser Tree) (parameter : Parser (ℕ × Typ)) (type_ : Parser Typ) (i j k l : Input) (q : Effect) (x : ℕ) (type gives : Typ) (body : Tree) → IsEffect i q
     → ahead (after i) ≡ a.Name → parameter (named (after i)) ≡ Ok ((x, type), j) → type_ j ≡ Ok (gives, k) → part (bound x (bound (number (after i)) k)) ≡ Ok (body, l) → ahead l ≡ a.Closing
     → recursive part parameter type_ i
-      ≡ Ok (Tree.Lambda (record { effect = q; own = Some (record { name = number (after i); result = gives }); param = x; param_type = type }) body, unbound (unbound (after l)))
+    ≡ Ok (Tree.Lambda (record { effect = q; own = Some (record { name = number (after i); result = gives }); param = x; param_type = type }) body, unbound (unbound (after l)))
 unfolding recursive
 recursive_reads part parameter type_ i j k l q x type gives body effect e read read' read'' shut =
     rw (effect_at i q effect) (rw (name_at (after i) e) (rw read (rw read' (rw read'' (rw (closing_at l shut))))))
@@ -339,6 +352,7 @@ more_goes_on part m found i j x open_ read =
 
 mutual
   unfolding form_of
+
   pub term_reads : {n : ℕ} {i j : Input} {tree : Tree} → IsTerm n i tree j → term n i ≡ Ok (tree, j)
   term_reads (g.int {n = n} {i = i} e) = term_at n i _ e ∙ atom_at i _ e
   term_reads (g.unit {n = n} {i = i} e) = term_at n i _ e ∙ atom_at i _ e ∙ unit_reads (marked i)

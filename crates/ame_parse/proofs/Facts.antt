@@ -61,6 +61,7 @@ param_places (g.param {i = i} {j = j} e e' h shut) = omega (arith, count_after i
 -- each node has a place; that of a form is its opening parenthesis
 mutual
   unfolding nodes
+
   pub term_places : {n : ℕ} {i j : Input} {tree : Tree} → IsTerm n i tree j → count j ≡ count i + nodes tree
   term_places (g.int {i = i} e) = one_marked i
   term_places (g.unit {i = i} e) = one_marked i
@@ -74,8 +75,20 @@ mutual
   form_places (g.fn {i = i} {j = j} {k = k} {x = x} e q p body shut) =
       omega (arith, count_after i, count_after (after i), param_places p, count_bound x j, term_places body, count_after k, count_unbound (after k))
   form_places (g.rec {i = i} {j = j} {k = k} {l = l} {x = x} e q e' p t body shut) =
-      omega (arith, count_after i, count_after (after i), count_named (after (after i)), param_places p, type_places t,
-        count_bound x (bound (number (after (after i))) k), count_bound (number (after (after i))) k, term_places body, count_after l, count_unbound (after l), count_unbound (unbound (after l)))
+      omega (
+        arith,
+        count_after i,
+        count_after (after i),
+        count_named (after (after i)),
+        param_places p,
+        type_places t,
+        count_bound x (bound (number (after (after i))) k),
+        count_bound (number (after (after i))) k,
+        term_places body,
+        count_after l,
+        count_unbound (after l),
+        count_unbound (unbound (after l)),
+      )
   form_places (g.app {i = i} {k = k} e h h' shut) = omega (arith, count_after i, count_after k, term_places h, term_places h')
   form_places (g.bind {i = i} {j = j} {k = k} e e' h h' shut) =
       omega (arith, count_after i, count_named (after i), term_places h, count_bound (number (after i)) j, term_places h', count_after k, count_unbound (after k))
@@ -104,6 +117,7 @@ mutual
 
 mutual
   unfolding IsWritten
+
   pub term_written : {n : ℕ} {i j : Input} {tree : Tree} → IsTerm n i tree j → IsWritten tree
   term_written (g.int e) = tt
   term_written (g.unit e) = tt

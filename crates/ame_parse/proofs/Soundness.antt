@@ -61,7 +61,7 @@ module _ (n : ℕ) (part : Parser Tree) (gives : (i : Input) → Leads part i (I
       leads_pure found i (λ all k. (others : List Tree) × (found ++ others ≡ all) × AreParts n i others k) ([], append-nil found, g.none (closing_test (ahead i) test))
   more_leads_by rest h found i false test = leads_on part _ (IsTerm n i) (λ all k. (others : List Tree) × (found ++ others ≡ all) × AreParts n i others k) i (gives i)
       (λ x j first all k e. let others = h (found ++ x ∷ []) j all k e in
-        (x ∷ others.0, sym (append_assoc found (x ∷ []) others.0) ∙ others.1, g.more first others.2))
+      (x ∷ others.0, sym (append_assoc found (x ∷ []) others.0) ∙ others.1, g.more first others.2))
 
   more_leads : (m : ℕ) → LeadsParts (more_from part m)
   unfolding more_from sees_closing
@@ -82,8 +82,8 @@ module _ (n : ℕ) (part : Parser Tree) (gives : (i : Input) → Leads part i (I
   sequence_leads i e = leads_on (first_two part) _ (ArePair (after i)) (IsForm n i) (after i) (first_two_lead (after i)) (λ pair k h.
       leads_on (more part pair) _ (λ all l. (others : List Tree) × (pair ++ others ≡ all) × AreParts n k others l) (IsForm n i) k (more_leads (left k) pair k) (λ all l h'.
       leads_shut _ (IsForm n i) l (λ shut. leads_pure (Tree.Do (row all)) (after l) (IsForm n i) (
-        let same : h.0 ∷ h.1 ∷ h'.0 ≡ all = ap (λ z. z ++ h'.0) h.5 ∙ h'.1 in
-        subst (λ z. IsForm n i (Tree.Do (row z)) (after l)) same (g.sequence e h.3 h.4 h'.2 shut)))))
+      let same : h.0 ∷ h.1 ∷ h'.0 ≡ all = ap (λ z. z ++ h'.0) h.5 ∙ h'.1 in
+      subst (λ z. IsForm n i (Tree.Do (row z)) (after l)) same (g.sequence e h.3 h.4 h'.2 shut)))))
 
   -- ---- references and calls
 
@@ -127,7 +127,7 @@ module _ (n : ℕ) (part : Parser Tree) (gives : (i : Input) → Leads part i (I
       leads_on part _ (IsTerm n inner) (IsForm n i) inner (gives inner) (λ body l h''.
       leads_shut _ (IsForm n i) l (λ shut.
       leads_pure (Tree.Lambda (record { effect = q; own = Some (record { name = own; result = t }); param = p.0; param_type = p.1 }) body) (unbound (unbound (after l))) (IsForm n i)
-        (g.rec e effect e' h h' h'' shut)))))))
+      (g.rec e effect e' h h' h'' shut)))))))
 
   -- ---- the form of a word or a symbol
 
@@ -200,7 +200,7 @@ variable_test : (n : ℕ) (i : Input) (p : ℕ) (x : ℕ) → ahead i ≡ a.Name
 variable_test n i p x e same true test =
     leads_pure (Tree.Var x) (named (marked i)) (IsTerm n i)
     (subst (λ y. IsTerm n i (Tree.Var y) (named (marked i))) (sym (number_marked i) ∙ same)
-      (g.variable e (ap (λ y. binds y i) (sym (number_marked i) ∙ same) ∙ sym (binds_named x i) ∙ test)))
+    (g.variable e (ap (λ y. binds y i) (sym (number_marked i) ∙ same) ∙ sym (binds_named x i) ∙ test)))
 variable_test n i p x e same false test = λ y j read. absurd (cc)
 
 variable_leads : (n : ℕ) (i : Input) → ahead i ≡ a.Name → Leads variable (marked i) (IsTerm n i)

@@ -8,7 +8,7 @@ use Rattle.std.proofs.lemmas.List.Elements.{All-from_recursion}
 use Rattle.ame_lex.specs.declared.tokens.Kind.{Kind}
 use Rattle.ame_lex.specs.declared.tokens.Token.{Token}
 use Rattle.ame_lex.specs.Bytes.{Text}
-use Rattle.ame_lex.specs.Tokens.{Spells}
+use Rattle.ame_lex.specs.Tokens.{IsSpelled}
 use Rattle.ame_lex.specs.Grammar.{IsToken, Lexes, finished, blank, comment, token}
 use Rattle.ame_lex.specs.Reading.{tokens_of, token_at}
 use Rattle.ame_lex.proofs.PieceLemmas.{token-splits}
@@ -20,7 +20,7 @@ after_front whole text front rest at e split =
     sym (drop-append_seam front rest) ∙ ap (drop (length front)) (sym split ∙ e) ∙ drop-drop (length front) at whole
 
 -- a token that stands from a place on spells its kind there
-spells_token : (whole text spelling rest : Text) (kind : Kind) (at : ℕ) → IsToken text kind spelling rest → text ≡ drop at whole → Spells whole (token_at at kind (length spelling))
+spells_token : (whole text spelling rest : Text) (kind : Kind) (at : ℕ) → IsToken text kind spelling rest → text ≡ drop at whole → IsSpelled whole (token_at at kind (length spelling))
 spells_token whole text spelling rest kind at t e =
     let splits = token-splits t in
     let after = after_front whole text spelling rest at e splits.0 in
@@ -30,7 +30,7 @@ spells_token whole text spelling rest kind at t e =
     subst (λ z. IsToken (drop at whole) kind z (drop (at + length spelling) whole)) spelled
     (subst (λ z. IsToken (drop at whole) kind spelling z) after (subst (λ z. IsToken z kind spelling rest) e t))
 
-spells : (whole : Text) {at : ℕ} {text : Text} {tokens : List Token} → Lexes at text (Ok tokens) → text ≡ drop at whole → AllByRecursion (Spells whole) tokens
+spells : (whole : Text) {at : ℕ} {text : Text} {tokens : List Token} → Lexes at text (Ok tokens) → text ≡ drop at whole → AllByRecursion (IsSpelled whole) tokens
 spells whole finished e = tt
 spells whole (blank {at = at} {b = b} {rest = rest} {outcome = Ok tokens} is more) e =
     spells whole more (after_front whole (b ∷ rest) (b ∷ []) rest at e refl)
@@ -40,5 +40,5 @@ spells whole (comment {at = at} {b = b} {text = text} {body = body} {rest = rest
 spells whole (token {at = at} {text = text} {spelling = spelling} {rest = rest} {kind = kind} t more) e =
     (spells_token whole text spelling rest kind at t e, spells whole more (after_front whole text spelling rest at e (token-splits t).0))
 
-pub tokens_spell : (text : Text) (tokens : List Token) → tokens_of text ≡ Ok tokens → All (Spells text) tokens
-tokens_spell text tokens e = All-from_recursion (Spells text) tokens (spells text (subst (Lexes 0 text) e (lexes_text text)) refl)
+pub tokens_spell : (text : Text) (tokens : List Token) → tokens_of text ≡ Ok tokens → All (IsSpelled text) tokens
+tokens_spell text tokens e = All-from_recursion (IsSpelled text) tokens (spells text (subst (Lexes 0 text) e (lexes_text text)) refl)

@@ -6,6 +6,7 @@ use Rattle.ame_lex.specs.declared.tokens.LexFault.TheVariants.{BadByte, LongNumb
 use Rattle.ame_lex.specs.Bytes.{Text}
 use Rattle.ame_lex.specs.Grammar.{Lexes}
 
+-- the text has tokens and no fault
 abbrev pub HasTokens : Text → Type 0
 HasTokens text = (tokens : List Token) × Lexes 0 text (Ok tokens)
 

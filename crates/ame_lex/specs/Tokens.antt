@@ -13,9 +13,9 @@ pub record IsWithin (text : Text) (token : Token) : Type 0 where
   pub some : token.start < token.end
   pub inside : token.end ≤ length text
 
--- by the grammar the bytes of the token are a token of its kind, with what follows them
-abbrev pub Spells : Text → Token → Type 0
-Spells text token = IsToken (drop token.start text) token.kind (spelled text token) (drop token.end text)
+-- the bytes of the token are a token of its kind by the grammar, before what follows them in the text
+abbrev pub IsSpelled : Text → Token → Type 0
+IsSpelled text token = IsToken (drop token.start text) token.kind (spelled text token) (drop token.end text)
 
 -- the tokens stand one after another between two places
 abbrev pub InOrder : ℕ → List Token → ℕ → Type 0

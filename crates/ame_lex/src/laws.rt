@@ -6,7 +6,7 @@ ghost use Rattle.ame_lex.specs.declared.tokens.LexFault.{LexFault};
 ghost use Rattle.ame_lex.specs.Faults.{HasTokens, StandsAt};
 ghost use Rattle.ame_lex.specs.Grammar.{Lexes};
 ghost use Rattle.ame_lex.specs.Reading.{tokens_of};
-ghost use Rattle.ame_lex.specs.Tokens.{IsWithin, InOrder, Spells};
+ghost use Rattle.ame_lex.specs.Tokens.{IsWithin, InOrder, IsSpelled};
 
 /// A text is by the grammar exactly what is read of it, so each text has an outcome.
 pub fn grammar_is_reading()
@@ -22,7 +22,7 @@ pub fn one_outcome()
 pub fn tokens_lie_within()
     ensures within { (text : List ℕ) (tokens : List Token) → tokens_of text ≡ Ok tokens → All (IsWithin text) tokens }
     ensures in_order { (text : List ℕ) (tokens : List Token) → tokens_of text ≡ Ok tokens → InOrder 0 tokens (length text) }
-    ensures spelled { (text : List ℕ) (tokens : List Token) → tokens_of text ≡ Ok tokens → All (Spells text) tokens }
+    ensures spelled { (text : List ℕ) (tokens : List Token) → tokens_of text ≡ Ok tokens → All (IsSpelled text) tokens }
 {}
 
 /// A fault is the first: the text before it has tokens, and no text that begins with the faulty one has.

@@ -3,7 +3,7 @@
 ghost use Rattle.std.specs.Prelude.{◌≡◌, ◌≤◌, ◌^◌, length, All, IfOk, Ok, Err, ℕ};
 ghost use Rattle.ame_lex.specs.Grammar.{Lexes};
 ghost use Rattle.ame_lex.specs.Reading.{tokens_of, Answers};
-ghost use Rattle.ame_lex.specs.Tokens.{IsWithin, InOrder, Spells};
+ghost use Rattle.ame_lex.specs.Tokens.{IsWithin, InOrder, IsSpelled};
 
 use crate::pieces::{Piece, first_piece};
 use crate::tokens::{LexFault, Token};
@@ -48,7 +48,7 @@ pub fn lex(alloc: Global, text: &[u8]) -> Result<Vec<Token>, LexFault>
 
     // The tokens stand in the text, one after another.
     ensures within { IfOk result (λ v. All (IsWithin text.now) v.items) }
-    ensures spelled { IfOk result (λ v. All (Spells text.now) v.items) }
+    ensures spelled { IfOk result (λ v. All (IsSpelled text.now) v.items) }
     ensures in_order { IfOk result (λ v. InOrder 0 v.items (length text.now)) }
 {
     scan(alloc, text)

@@ -3,7 +3,10 @@ pub mod View
 pub mod Substitute
 pub mod Height
 pub mod Context
+pub mod Redex
+pub mod Split
 pub mod Act
 pub mod State
 pub mod Written
 pub mod Typing
+pub mod Has

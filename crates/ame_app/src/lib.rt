@@ -1,0 +1,4 @@
+//! From a program's bytes to its lines: reading, checking, running, and telling how it ended.
+#![tactic(auto)]
+
+mod line;

@@ -80,4 +80,4 @@ param_leads n i = leads_opening n _ (λ p j. IsParam n i p.0 p.1 j) i (λ some e
     leads_name _ (λ p j. IsParam n i p.0 p.1 j) (after i) (λ e'.
     leads_on (ty (n - 1)) _ (IsType (n - 1) (named (after i))) (λ p j. IsParam n i p.0 p.1 j) (named (after i)) (ty_leads (n - 1) (named (after i))) (λ t j h.
     leads_shut _ (λ p j. IsParam n i p.0 p.1 j) j (λ shut. leads_pure (number (after i), t) (after j) (λ p j. IsParam n i p.0 p.1 j)
-      (subst (λ m. IsParam m i (number (after i)) t (after j)) (more_than_none n some) (g.param e e' h shut))))))
+    (subst (λ m. IsParam m i (number (after i)) t (after j)) (more_than_none n some) (g.param e e' h shut))))))

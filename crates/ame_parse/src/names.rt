@@ -3,10 +3,9 @@
 ghost use Rattle.std.specs.Prelude.{◌≡◌, ◌+◌, ◌<◌, ◌≤◌, [], map, length, IfOk, OnErr};
 ghost use Rattle.ame_parse.specs.Names as spec;
 
+use indexmap::IndexSet;
 use std::alloc::{AllocError, Global};
 use std::marker::Model;
-
-use indexmap::IndexSet;
 
 #[derive(Drop)]
 pub struct Names {

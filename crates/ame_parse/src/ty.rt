@@ -135,11 +135,7 @@ pub fn ty(alloc: Global, reader: &mut Reader<'_>, depth: usize) -> Result<Ty, Pa
 
 /// A parameter, where at most so many parentheses may be open in it.
 #[tactic(auto, unfolding(crate::specs::Types::param))]
-pub fn param(
-    alloc: Global,
-    reader: &mut Reader<'_>,
-    depth: usize,
-) -> Result<(Name, Ty), ParseFault>
+pub fn param(alloc: Global, reader: &mut Reader<'_>, depth: usize) -> Result<(Name, Ty), ParseFault>
     ensures { Reads (λ p. (p.0.0, typ_of p.1)) (spec.param depth reader.old) result reader.new }
 {
     reader.opening(depth)?;

@@ -3,15 +3,27 @@
 #![tactic(auto)]
 
 mod accepted;
+mod context;
+mod copied;
+mod copy;
+mod focus;
+mod heights;
 mod memory;
 mod program;
 mod semantics;
+mod substitution;
 mod term;
 mod types;
 
 pub use accepted::Accepted;
-pub use memory::NoMemory;
+pub use context::{refill, split};
+pub use copied::Copied;
+pub use copy::{copy_function, copy_term, copy_ty, copy_value};
+pub use focus::Split;
+pub use heights::{TALL, height};
+pub use memory::{NoMemory, boxed, push};
 pub use program::Program;
 pub use semantics::{Label, StepKind};
+pub use substitution::substitute;
 pub use term::{Function, Own, Term, Value};
 pub use types::{Effect, Loc, Name, Op, Sort, Ty, TyNo};

@@ -1,5 +1,5 @@
 -- What the tests of the typing table mean, and what a row's answer tells of its parts.
-use Rattle.std.proofs.Common.{◌≡◌, ℕ, ◌<◌, Bool, true, false, ◌&&◌, ◌⊎◌, Option, Some, None, Ok, Err, refl, sym, ap, ◌∙◌, inl, inr}
+use Rattle.std.proofs.Common.{◌≡◌, ℕ, ◌<◌, Bool, true, false, ◌&&◌, ◌⊎◌, Option, Some, None, Ok, Err, refl, sym, ap, subst, ◌∙◌, inl, inr}
 use Rattle.std.specs.Prelude.{nat_lt}
 use Rattle.ame_term.specs.Tree.{Typ, OwnName}
 use Rattle.ame_term.specs.Typing.{Outcome, Fault, Shown, same, same_sort, same_effect, touches, fits, then_, need, want, want_unit, want_effect, known, cell_type, function_row, call_row, read_row, peeked_row, write_row, first_of, second_of, breaks}
@@ -73,6 +73,9 @@ touches-true _ _ e = cc
 pub touches-own : (s : Sort) → touches s (code_of s) ≡ true
 touches-own Sort.Protected = refl
 touches-own Sort.Unprotected = refl
+
+pub touches-all : (s : Sort) (q : Effect) → code_of s ≡ q → touches s q ≡ true
+touches-all s q e = subst (λ (x : Effect). touches s x ≡ true) e (touches-own s)
 
 pub fits-true : (r q : Effect) → fits r q ≡ true → (r ≡ q) ⊎ (r ≡ Effect.Either)
 fits-true Effect.Either q e = inr refl

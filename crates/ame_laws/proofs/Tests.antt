@@ -1,6 +1,5 @@
 -- What the tests of the typing table mean, and what a row's answer tells of its parts.
-use Rattle.std.proofs.Common.{◌≡◌, ℕ, ◌<◌, Bool, true, false, ◌&&◌, ◌⊎◌, Option, Some, None, Ok, Err, refl, sym, ap, subst, ◌∙◌, inl, inr}
-use Rattle.std.specs.Prelude.{nat_lt}
+use Rattle.std.proofs.Common.{◌≡◌, ℕ, Bool, true, false, ◌&&◌, ◌⊎◌, Option, Some, None, Ok, Err, refl, sym, ap, subst, ◌∙◌, inl, inr}
 use Rattle.ame_term.specs.Tree.{Typ, OwnName}
 use Rattle.ame_term.specs.Typing.{Outcome, Fault, Shown, same, same_sort, same_effect, touches, fits, then_, need, want, want_unit, want_effect, known, cell_type, function_row, call_row, read_row, peeked_row, write_row, first_of, second_of, breaks}
 use Rattle.ame_term.specs.Has.{code_of}

@@ -4,3 +4,4 @@ pub mod NumberLemmas
 pub mod WordLemmas
 pub mod LineLemmas
 pub mod SpellingLemmas
+pub mod TextLemmas

@@ -7,6 +7,7 @@ mod journal;
 mod line;
 mod numbers;
 mod spelling;
+mod text;
 mod words;
 
 pub use entry::{Entry, EntryKind};

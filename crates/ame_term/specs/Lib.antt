@@ -3,7 +3,8 @@ pub mod View
 pub mod Substitute
 pub mod Height
 pub mod Context
-pub mod Answers
+pub mod Redex
+pub mod Split
 pub mod Act
 pub mod State
 pub mod Written

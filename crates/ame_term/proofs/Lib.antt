@@ -1,0 +1,3 @@
+pub mod TreesLemmas
+pub mod RedexLemmas
+pub mod PartsLemmas

@@ -5,3 +5,5 @@ pub mod WordLemmas
 pub mod LineLemmas
 pub mod SpellingLemmas
 pub mod TextLemmas
+pub mod LabelLemmas
+pub mod UniqueLemmas

@@ -9,6 +9,8 @@ mod line;
 mod numbers;
 mod spelling;
 mod text;
+#[cfg(test)]
+mod tests;
 mod words;
 
 pub use entry::{Entry, EntryKind};

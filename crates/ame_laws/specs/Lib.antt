@@ -1,0 +1,4 @@
+pub mod Swap
+pub mod Standing
+pub mod Free
+pub mod Size

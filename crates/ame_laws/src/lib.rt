@@ -1,0 +1,11 @@
+//! Laws of terms, each the contract of a function that does nothing: a caller that wants a law calls
+//! its function.
+#![tactic(auto)]
+
+mod contexts;
+mod names;
+mod sizes;
+
+pub use contexts::{contexts_are_focus, one_decomposition, one_standing};
+pub use names::{closed_terms_stay, filling_keeps_closed, free_names, substitutions_commute};
+pub use sizes::filled_size;

@@ -1,6 +1,6 @@
 -- Where `focus` finds the redex.
-use Rattle.std.proofs.Common.{◌≡◌, ℕ, Bool, true, false, ◌&&◌, if◌then◌else◌, refl, sym, ap, ◌∙◌, subst}
-use Rattle.ame_term.specs.Tree.{Val, Tree, Trees, is_held}
+use Rattle.std.proofs.Common.{◌≡◌, Bool, true, false, ◌&&◌, if◌then◌else◌, refl, sym, ap, ◌∙◌, subst}
+use Rattle.ame_term.specs.Tree.{Tree, Trees, is_held}
 use Rattle.ame_term.specs.Context.{Focus, focus, focus_first, fill, fill_first, here, inside}
 use Rattle.ame_term.specs.Redex.{is_redex}
 use Rattle.ame_laws.specs.Swap.{Swap, hole, app_function, app_argument, let_bound, do_first, if_test, bin_left, bin_right, not_part, ref_part, get_part, peek_part, set_cell, set_content, block_part, unprotected_part, print_part, call_part, pair_first, pair_second, first_part, second_part}

@@ -1,6 +1,6 @@
 -- The size of a term with its redex replaced.
-use Rattle.std.proofs.Common.{◌≡◌, ℕ, ◌+◌, Bool, refl, sym, ap, ◌∙◌, add_comm, arith}
-use Rattle.ame_term.specs.Tree.{Val, Tree, Trees}
+use Rattle.std.proofs.Common.{◌≡◌, ◌+◌, Bool, add_comm, arith}
+use Rattle.ame_term.specs.Tree.{Tree}
 use Rattle.ame_laws.specs.Size.{size, size_all}
 use Rattle.ame_laws.specs.Swap.{Swap, hole, app_function, app_argument, let_bound, do_first, if_test, bin_left, bin_right, not_part, ref_part, get_part, peek_part, set_cell, set_content, block_part, unprotected_part, print_part, call_part, pair_first, pair_second, first_part, second_part}
 

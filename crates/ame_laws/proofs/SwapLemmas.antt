@@ -1,5 +1,5 @@
 -- The contexts, and what `focus` and `fill` do.
-use Rattle.std.proofs.Common.{◌≡◌, ℕ, ◌+◌, Bool, true, false, not, ◌&&◌, ◌||◌, if◌then◌else◌, refl, sym, ap, ◌∙◌, subst, arith}
+use Rattle.std.proofs.Common.{◌≡◌, Bool, true, false, ◌&&◌, if◌then◌else◌, refl, sym, ap}
 use Rattle.ame_term.specs.Tree.{Val, Tree, Trees, is_held}
 use Rattle.ame_term.specs.Context.{Focus, focus, focus_first, fill, fill_first, here, inside}
 use Rattle.ame_term.specs.Redex.{is_redex, starts_held}

@@ -7,5 +7,7 @@ mod names;
 mod sizes;
 
 pub use contexts::{contexts_are_focus, one_decomposition, one_standing};
-pub use names::{closed_terms_stay, filling_keeps_closed, free_names, substitutions_commute};
+pub use names::{
+    closed_terms_stay, entered_names, filling_keeps_closed, free_names, substitutions_commute,
+};
 pub use sizes::filled_size;

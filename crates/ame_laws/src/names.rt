@@ -1,9 +1,9 @@
 //! Free names, substitution and closed terms.
 
 ghost use Rattle.std.specs.Prelude.{◌≡◌, ◌≢◌, ℕ, Bool, false, not, ◌&&◌, ◌==◌};
-ghost use Rattle.ame_term.specs.Tree.{Val, Tree};
+ghost use Rattle.ame_term.specs.Tree.{Head, Val, Tree, Lambda};
 ghost use Rattle.ame_term.specs.Context.{AtRedex, focus, fill};
-ghost use Rattle.ame_term.specs.Substitute.{substitute};
+ghost use Rattle.ame_term.specs.Substitute.{substitute, entered};
 ghost use Rattle.ame_laws.specs.Free.{is_free, IsClosed};
 
 /// The free names of a term with a value in for a name are the term's, without that name.
@@ -22,6 +22,13 @@ pub fn closed_terms_stay()
 pub fn substitutions_commute()
     ensures { (x y : ℕ) (t : Tree) (v w : Val) → x ≢ y
         → substitute (substitute t x v) y w ≡ substitute (substitute t y w) x v }
+{}
+
+/// A function's body with a value for its parameter, and the function for its own name, has the free
+/// names of the function form.
+pub fn entered_names()
+    ensures { (x : ℕ) (head : Head) (body : Tree) (v : Val)
+        → is_free x (entered head body v) ≡ is_free x (Lambda head body) }
 {}
 
 /// A closed term has a closed redex, and with a closed part in its place it is closed.

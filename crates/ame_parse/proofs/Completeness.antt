@@ -84,7 +84,7 @@ param_takes : {n : ℕ} {i j : Input} {x : ℕ} {type : Typ} → IsParam n i x t
 param_takes (g.param {i = i} {j = j} e e' h shut) = omega (arith, left_after i, left_named (after i), left_after (after i), left_after j, type_takes h)
 
 mutual
-  term_takes : {n : ℕ} {i j : Input} {tree : Tree} → IsTerm n i tree j → left j < left i
+  pub term_takes : {n : ℕ} {i j : Input} {tree : Tree} → IsTerm n i tree j → left j < left i
   term_takes (g.int {i = i} e) = omega (arith, left_marked i, one_less i (λ e'. cc))
   term_takes (g.unit {i = i} e) = omega (arith, left_marked i, one_less i (λ e'. cc))
   term_takes (g.truth {i = i} e) = omega (arith, left_marked i, one_less i (λ e'. cc))

@@ -238,11 +238,11 @@ binds_named : (x : ℕ) (i : Input) → binds x (named (marked i)) ≡ binds x i
 unfolding binds named marked
 binds_named x i = refl
 
-term_at : (n : ℕ) (i : Input) (next : Ahead) → ahead i ≡ next → term n i ≡ term_by (nested n) next (marked i)
+pub term_at : (n : ℕ) (i : Input) (next : Ahead) → ahead i ≡ next → term n i ≡ term_by (nested n) next (marked i)
 unfolding term marked ahead
 term_at n i next e = ap (λ z. term_by (nested n) z (marked i)) e
 
-atom_at : (i : Input) (next : Ahead) → ahead i ≡ next → atom (marked i) ≡ atom_by next (marked i)
+pub atom_at : (i : Input) (next : Ahead) → ahead i ≡ next → atom (marked i) ≡ atom_by next (marked i)
 unfolding atom
 atom_at i next e = ap (λ z. atom_by z (marked i)) (ahead_marked i ∙ e)
 

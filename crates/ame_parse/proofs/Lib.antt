@@ -7,6 +7,7 @@ pub mod Whole
 pub mod Bound
 pub mod Locality
 pub mod LocalForms
+pub mod LocalTerms
 pub mod Soundness
 pub mod NameLemmas
 pub mod ReaderLemmas

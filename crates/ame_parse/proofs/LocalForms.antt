@@ -43,11 +43,11 @@ finish_by_local : (m : ℕ) (next : Ahead) → IsLocal m (finish_by next)
 finish_by_local m a.End = local_pure m tt
 finish_by_local m _ = local_fault m Trailing (λ n. refl)
 
-local_finish : (m : ℕ) → IsLocal m finish
+pub local_finish : (m : ℕ) → IsLocal m finish
 unfolding finish
 local_finish m = local_bind m peek finish_by (local_peek m) (finish_by_local m)
 
-take_name_local : (m : ℕ) → IsLocal m (λ i. Ok (number i, named i))
+pub take_name_local : (m : ℕ) → IsLocal m (λ i. Ok (number i, named i))
 unfolding number named spelling
 take_name_local m i few = goes (take 1 i.rest) (sym (take-append-drop 1 i.rest)) refl
     (λ rest end few' alike.
@@ -99,11 +99,11 @@ unfolding device
 local_device m = local_bind m peek (λ z. device_by (device_of z)) (local_peek m) (λ z. device_by_local m (device_of z))
 
 -- a token is taken, and then the parser goes on
-after_one : {A : Type 0} (m : ℕ) (p : Parser A) → IsLocal m p → IsLocal m (advance >> p)
+pub after_one : {A : Type 0} (m : ℕ) (p : Parser A) → IsLocal m p → IsLocal m (advance >> p)
 after_one m p local = local_bind m advance (λ _. p) (local_advance m) (λ _. local)
 
 -- a form ends with this value
-shut : {A : Type 0} (m : ℕ) (x : A) → IsLocal m (closing >> pure x)
+pub shut : {A : Type 0} (m : ℕ) (x : A) → IsLocal m (closing >> pure x)
 shut m x = local_bind m closing (λ _. pure x) (local_closing m) (λ _. local_pure m x)
 
 -- ---- types
@@ -154,50 +154,50 @@ unfolding t.nested
 nested_type_local m zero = local_fault m TooNested (λ n. refl)
 nested_type_local m (suc n) = after_one m (t.compound (t.ty_of (t.nested n))) (type_form_local m (t.ty_of (t.nested n)) (ty_of_local m (t.nested n) (nested_type_local m n)))
 
-local_ty : (m n : ℕ) → IsLocal m (ty n)
+pub local_ty : (m n : ℕ) → IsLocal m (ty n)
 unfolding ty
 local_ty m n = ty_of_local m (t.nested n) (nested_type_local m n)
 
-local_param : (m n : ℕ) → IsLocal m (param n)
+pub local_param : (m n : ℕ) → IsLocal m (param n)
 unfolding param
 local_param m n = local_bind m (opening n) _ (local_opening m n) (λ _. local_bind m name _ (local_name m) (λ x. local_bind m (ty (n - 1)) _ (local_ty m (n - 1)) (λ type. shut m (x, type))))
 
 -- ---- forms
 
 module _ (m : ℕ) (part : Parser Tree) (local : IsLocal m part) where
-  one_local : (f : OnePart) → IsLocal m (one part f)
+  pub one_local : (f : OnePart) → IsLocal m (one part f)
   unfolding one
   one_local f = local_bind m part _ local (λ x. shut m (one_part f x))
 
-  two_local : (f : TwoParts) → IsLocal m (two part f)
+  pub two_local : (f : TwoParts) → IsLocal m (two part f)
   unfolding two
   two_local f = local_bind m part _ local (λ x. local_bind m part _ local (λ y. shut m (two_parts f x y)))
 
-  choice_local : IsLocal m (choice part)
+  pub choice_local : IsLocal m (choice part)
   unfolding choice
   choice_local = local_bind m part _ local (λ x. local_bind m part _ local (λ y. local_bind m part _ local (λ z. shut m (Tree.If x y z))))
 
-  reference_local : IsLocal m (reference part)
+  pub reference_local : IsLocal m (reference part)
   unfolding reference
   reference_local = local_bind m sort _ (local_sort m) (λ s. local_bind m part _ local (λ x. shut m (Tree.Ref s x)))
 
-  call_local : IsLocal m (call part)
+  pub call_local : IsLocal m (call part)
   unfolding call
   call_local = local_bind m device _ (local_device m) (λ d. local_bind m part _ local (λ x. shut m (Tree.Call d x)))
 
   unbinding : (x : Tree) → IsLocal m (closing >> (unbind >> pure x))
   unbinding x = local_bind m closing _ (local_closing m) (λ _. local_bind m unbind _ (local_unbound m) (λ _. local_pure m x))
 
-  binding_local : IsLocal m (binding part)
+  pub binding_local : IsLocal m (binding part)
   unfolding binding
   binding_local = local_bind m name _ (local_name m) (λ x. local_bind m part _ local (λ value. local_bind m (bind x) _ (local_bound m x) (λ _. local_bind m part _ local (λ body. unbinding (Tree.Let x value body)))))
 
-  function_local : (n : ℕ) → IsLocal m (function part (param n))
+  pub function_local : (n : ℕ) → IsLocal m (function part (param n))
   unfolding function
   function_local n = local_bind m effect _ (local_effect m) (λ q. local_bind m (param n) _ (local_param m n) (λ p. local_bind m (bind p.0) _ (local_bound m p.0) (λ _.
       local_bind m part _ local (λ body. unbinding (Tree.Lambda (record { effect = q; own = None; param = p.0; param_type = p.1 }) body)))))
 
-  recursive_local : (n : ℕ) → IsLocal m (recursive part (param n) (ty n))
+  pub recursive_local : (n : ℕ) → IsLocal m (recursive part (param n) (ty n))
   unfolding recursive
   recursive_local n = local_bind m effect _ (local_effect m) (λ q. local_bind m name _ (local_name m) (λ own. local_bind m (param n) _ (local_param m n) (λ p. local_bind m (ty n) _ (local_ty m n) (λ gives.
       local_bind m (bind own) _ (local_bound m own) (λ _. local_bind m (bind p.0) _ (local_bound m p.0) (λ _. local_bind m part _ local (λ body.
@@ -209,7 +209,7 @@ module _ (m : ℕ) (part : Parser Tree) (local : IsLocal m part) where
   more_by_local found rest rest_local true = local_pure m found
   more_by_local found rest rest_local false = local_bind m part _ local (λ x. rest_local (found ++ x ∷ []))
 
-  more_from_local : (k : ℕ) (found : List Tree) → IsLocal m (more_from part k found)
+  pub more_from_local : (k : ℕ) (found : List Tree) → IsLocal m (more_from part k found)
   unfolding more_from
   more_from_local zero found = local_expected m want.Term
   more_from_local (suc k) found = local_bind m sees_closing _ (local_sees_closing m) (more_by_local found (more_from part k) (more_from_local k))

@@ -1,2 +1,3 @@
 pub mod TreesLemmas
 pub mod RedexLemmas
+pub mod PartsLemmas

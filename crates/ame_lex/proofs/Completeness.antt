@@ -1,21 +1,20 @@
 -- What a text is by the grammar is what is read of it.
-use Rattle.std.proofs.Common.{◌≡◌, ℕ, zero, suc, ◌+◌, ◌-◌, ◌<◌, ◌≤◌, Bool, true, false, cond, ℤ, pos, neg_ℤ, List, [], ◌∷◌, ◌++◌, length, length-append, drop, refl, sym, ap, ◌∙◌, add-zero, Ok, Err, Result, arith}
+use Rattle.std.proofs.Common.{◌≡◌, ℕ, suc, ◌+◌, ◌<◌, ◌≤◌, cond, ◌∷◌, length, length-append, drop, refl, ap, ◌∙◌, add-zero, Err, arith}
 use Rattle.std.specs.List.{prefix_len}
 use Rattle.std.proofs.Math.Seq.{drop-append_seam}
 use Rattle.ame_lex.specs.declared.classes.Class.{Class}
-use Rattle.ame_lex.specs.declared.classes.Class.TheVariants.{Blank, Semicolon, Underscore, Other}
+use Rattle.ame_lex.specs.declared.classes.Class.TheVariants.{Blank, Semicolon}
 use Rattle.ame_lex.specs.declared.pieces.Piece.TheVariants.{Space, Found, Bad, Long}
 use Rattle.ame_lex.specs.declared.tokens.Kind.{Kind}
 use Rattle.ame_lex.specs.declared.tokens.Kind.TheVariants.{Number}
-use Rattle.ame_lex.specs.declared.tokens.Token.{Token}
 use Rattle.ame_lex.specs.declared.tokens.LexFault.{LexFault}
-use Rattle.ame_lex.specs.declared.tokens.LexFault.TheVariants.{BadByte, LongNumber}
-use Rattle.ame_lex.specs.Bytes.{Text, class_of, is_word_byte, is_comment_byte, begins, IsRun}
-use Rattle.ame_lex.specs.Grammar.{BeginsNothing, underscore, other, IsToken, Lexes, finished, blank, comment, token, later, bad_byte, long_number, letter_after_number}
-use Rattle.ame_lex.specs.Reading.{Outcome, fits, checked, piece_by, with_first, token_at, tokens_from, tokens_of}
+use Rattle.ame_lex.specs.declared.tokens.LexFault.TheVariants.{BadByte}
+use Rattle.ame_lex.specs.Bytes.{Text, is_word_byte, is_comment_byte, begins}
+use Rattle.ame_lex.specs.Grammar.{BeginsNothing, underscore, other, IsToken, IsFault, bad_byte, long_number, letter_after_number, Lexes, finished, blank, comment, token, later, faulty}
+use Rattle.ame_lex.specs.Reading.{Outcome, piece_by, with_first, token_at, tokens_from, tokens_of}
 use Rattle.ame_lex.proofs.RunLemmas.{one-plus, run_len, run_rest}
 use Rattle.ame_lex.proofs.FitLemmas.{fits_test, long_test}
-use Rattle.ame_lex.proofs.ReadingLemmas.{front, tokens_from-space, tokens_from-found, tokens_from-bad, tokens_from-long}
+use Rattle.ame_lex.proofs.ReadingLemmas.{tokens_from-space, tokens_from-found, tokens_from-bad, tokens_from-long}
 use Rattle.ame_lex.proofs.PieceLemmas.{front_by, front-number, front-token, number-splits, token-splits}
 
 -- a token is read, and then what is after it
@@ -32,6 +31,19 @@ read-nothing : (class : Class) (b : ℕ) (rest : Text) → BeginsNothing class �
 read-nothing class b rest underscore = refl
 read-nothing class b rest other = refl
 
+read-fault : {at : ℕ} {text : Text} {fault : LexFault} → IsFault at text fault → tokens_from at 0 text ≡ Err fault
+read-fault (bad_byte {at = at} {b = b} {rest = rest} nothing) =
+    tokens_from-bad at 0 (b ∷ rest) (front_by _ b rest refl ∙ read-nothing _ b rest nothing) ∙ ap (λ n. Err (BadByte n)) (add-zero at)
+read-fault (long_number {at = at} {text = text} {spelling = spelling} {rest = rest} {value = value} n long) =
+    let splits = number-splits n in
+    let some : 0 < length text = omega (arith, ap length splits.0, length-append spelling rest, splits.1) in
+    tokens_from-long at text some
+    (front-number n ∙ ap (λ b. cond b (cond (begins is_word_byte rest) (Bad (length spelling)) (Found (Number value) (length spelling))) Long) (long_test value long))
+read-fault (letter_after_number {at = at} {text = text} {spelling = spelling} {rest = rest} {value = value} n fit letter) =
+    tokens_from-bad at (length spelling) text
+    (front-number n ∙ ap (λ b. cond b (cond (begins is_word_byte rest) (Bad (length spelling)) (Found (Number value) (length spelling))) Long) (fits_test value fit)
+    ∙ ap (λ b. cond b (Bad (length spelling)) (Found (Number value) (length spelling))) letter)
+
 pub read_so : {at : ℕ} {text : Text} {outcome : Outcome} → Lexes at text outcome → tokens_from at 0 text ≡ outcome
 unfolding tokens_from
 read_so finished = refl
@@ -44,17 +56,7 @@ read_so (comment {at = at} {b = b} {text = text} {body = body} {rest = rest} e r
     ∙ ap (λ z. tokens_from (at + suc (length body)) 0 z) (run_rest run) ∙ ap (λ k. tokens_from k 0 rest) place ∙ read_so more
 read_so (token {at = at} {spelling = spelling} {kind = kind} t more) = read-token at t ∙ ap (with_first (token_at at kind (length spelling))) (read_so more)
 read_so (later {at = at} {spelling = spelling} {kind = kind} t more) = read-token at t ∙ ap (with_first (token_at at kind (length spelling))) (read_so more)
-read_so (bad_byte {at = at} {b = b} {rest = rest} nothing) =
-    tokens_from-bad at 0 (b ∷ rest) (front_by _ b rest refl ∙ read-nothing _ b rest nothing) ∙ ap (λ n. Err (BadByte n)) (add-zero at)
-read_so (long_number {at = at} {text = text} {spelling = spelling} {rest = rest} {value = value} n long) =
-    let splits = number-splits n in
-    let some : 0 < length text = omega (arith, ap length splits.0, length-append spelling rest, splits.1) in
-    tokens_from-long at text some
-    (front-number n ∙ ap (λ b. cond b (cond (begins is_word_byte rest) (Bad (length spelling)) (Found (Number value) (length spelling))) Long) (long_test value long))
-read_so (letter_after_number {at = at} {text = text} {spelling = spelling} {rest = rest} {value = value} n fit letter) =
-    tokens_from-bad at (length spelling) text
-    (front-number n ∙ ap (λ b. cond b (cond (begins is_word_byte rest) (Bad (length spelling)) (Found (Number value) (length spelling))) Long) (fits_test value fit)
-    ∙ ap (λ b. cond b (Bad (length spelling)) (Found (Number value) (length spelling))) letter)
+read_so (faulty f) = read-fault f
 
 pub read_text : (text : Text) (outcome : Outcome) → Lexes 0 text outcome → tokens_of text ≡ outcome
 unfolding tokens_of

@@ -1,5 +1,5 @@
 -- What the test of a number's size says.
-use Rattle.std.proofs.Common.{◌≡◌, ℕ, ◌^◌, ◌<◌, true, false, ℤ, pos, negsuc, FitsSigned, w64, ap, arith, ltb-true, ltb-false, lt-ltb}
+use Rattle.std.proofs.Common.{◌≡◌, true, false, ℤ, pos, negsuc, FitsSigned, w64, arith}
 use Rattle.ame_lex.specs.Reading.{fits}
 
 pub fits_so : (value : ℤ) → fits value ≡ true → FitsSigned w64 value

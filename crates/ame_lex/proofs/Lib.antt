@@ -6,3 +6,7 @@ pub mod PieceLemmas
 pub mod Completeness
 pub mod Soundness
 pub mod Places
+pub mod Spelling
+pub mod Cuts
+pub mod Growing
+pub mod FirstFaults

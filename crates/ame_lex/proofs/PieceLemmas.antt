@@ -1,13 +1,12 @@
 -- The piece at the front of a text, where the grammar has a number or a token there.
-use Rattle.std.proofs.Common.{◌≡◌, ℕ, zero, suc, ◌+◌, ◌-◌, ◌<◌, ◌≤◌, Bool, true, false, cond, ℤ, pos, neg_ℤ, FitsSigned, w64, lit<, List, [], ◌∷◌, ◌++◌, length, take, drop, refl, sym, ap, ◌∙◌, arith}
+use Rattle.std.proofs.Common.{◌≡◌, ℕ, suc, ◌+◌, ◌<◌, Bool, true, false, cond, ℤ, pos, neg_ℤ, lit<, ◌∷◌, ◌++◌, length, refl, ap, ◌∙◌, arith}
 use Rattle.std.specs.List.{prefix_len}
 use Rattle.ame_lex.specs.declared.classes.Class.{Class}
-use Rattle.ame_lex.specs.declared.classes.Class.TheVariants.{Blank, Semicolon, Opening, Closing, Letter, Digit, Underscore, Minus, Operator, Other}
-use Rattle.ame_lex.specs.declared.pieces.Piece.{Piece}
-use Rattle.ame_lex.specs.declared.pieces.Piece.TheVariants.{Space, Found, Bad, Long}
+use Rattle.ame_lex.specs.declared.classes.Class.TheVariants.{Opening, Closing, Letter, Digit, Minus, Operator}
+use Rattle.ame_lex.specs.declared.pieces.Piece.TheVariants.{Found, Bad, Long}
 use Rattle.ame_lex.specs.declared.tokens.Kind.{Kind}
-use Rattle.ame_lex.specs.declared.tokens.Kind.TheVariants.{Open, Close, Word, Number, Symbol}
-use Rattle.ame_lex.specs.Bytes.{Text, class_of, continues_number, is_word_byte, is_digit, is_comment_byte, begins, IsRun, decimal}
+use Rattle.ame_lex.specs.declared.tokens.Kind.TheVariants.{Word, Number, Symbol}
+use Rattle.ame_lex.specs.Bytes.{Text, class_of, continues_number, is_word_byte, is_digit, begins, IsRun, decimal}
 use Rattle.ame_lex.specs.Grammar.{IsNumber, IsToken, plain, negative, opening, closing, word, number, symbol, minus}
 use Rattle.ame_lex.specs.Reading as reading
 use Rattle.ame_lex.specs.Reading.{fits, value_of, checked, piece_by, first_piece}
@@ -26,7 +25,7 @@ pub number-digits : (is_negative : Bool) (first : ℕ) (text more rest : Text) �
 unfolding reading.number
 number-digits is_negative first text more rest e run =
     let count : prefix_len is_digit (first ∷ text) ≡ suc (length more) =
-        ap (λ k. cond (continues_number k) (1 + prefix_len is_digit text) 0) e ∙ ap (λ n. 1 + n) (run_len run) ∙ one-plus (length more) in
+    ap (λ k. cond (continues_number k) (1 + prefix_len is_digit text) 0) e ∙ ap (λ n. 1 + n) (run_len run) ∙ one-plus (length more) in
     rw (count, run_front run, run_rest run) refl
 
 -- the piece at a number

@@ -1,11 +1,11 @@
 -- One turn of the loop over a text keeps that the tokens so far and the reading of the rest are the reading of the text.
-use Rattle.std.proofs.Common.{◌≡◌, ℕ, zero, suc, ◌+◌, ◌-◌, ◌<◌, ◌≤◌, List, [], ◌∷◌, ◌++◌, length, drop, get_or, refl, sym, ap, ◌∙◌, length-drop, append-nil, Ok, Err, arith}
+use Rattle.std.proofs.Common.{◌≡◌, ℕ, ◌+◌, ◌-◌, ◌<◌, ◌≤◌, List, [], ◌∷◌, ◌++◌, length, drop, get_or, refl, sym, ap, ◌∙◌, length-drop, append-nil, Ok, Err, arith}
 use Rattle.ame_lex.specs.declared.pieces.Piece.TheVariants.{Space, Found, Bad, Long}
 use Rattle.ame_lex.specs.declared.tokens.Kind.{Kind}
 use Rattle.ame_lex.specs.declared.tokens.Token.{Token}
 use Rattle.ame_lex.specs.declared.tokens.LexFault.TheVariants.{BadByte, LongNumber}
 use Rattle.ame_lex.specs.Bytes.{Text}
-use Rattle.ame_lex.specs.Reading.{Outcome, first_piece, token_at, tokens_from, tokens_of}
+use Rattle.ame_lex.specs.Reading.{first_piece, token_at, tokens_from, tokens_of}
 use Rattle.ame_lex.proofs.ReadingLemmas.{front, with_front, with_front-first, with_front-none, tokens_from-space, tokens_from-found, tokens_from-bad, tokens_from-long}
 
 -- the tokens so far, and the reading of the rest, are the reading of the text

@@ -1,15 +1,14 @@
 -- What is read of a text is what it is by the grammar.
-use Rattle.std.proofs.Common.{◌≡◌, ℕ, zero, suc, ◌+◌, ◌-◌, Bool, true, false, cond, ℤ, pos, neg_ℤ, FitsSigned, w64, List, [], ◌∷◌, ◌++◌, length, take, drop, refl, sym, ap, ◌∙◌, subst, add-zero, Ok, Err, arith}
+use Rattle.std.proofs.Common.{◌≡◌, ℕ, zero, suc, ◌+◌, ◌-◌, Bool, true, false, cond, ℤ, pos, neg_ℤ, [], ◌∷◌, length, take, drop, refl, sym, subst, add-zero, Ok, Err, arith}
 use Rattle.std.specs.List.{prefix_len}
 use Rattle.ame_lex.specs.declared.classes.Class.{Class}
 use Rattle.ame_lex.specs.declared.classes.Class.TheVariants.{Blank, Semicolon, Opening, Closing, Letter, Digit, Underscore, Minus, Operator, Other}
-use Rattle.ame_lex.specs.declared.pieces.Piece.{Piece}
 use Rattle.ame_lex.specs.declared.pieces.Piece.TheVariants.{Space, Found, Bad, Long}
 use Rattle.ame_lex.specs.declared.tokens.Kind.{Kind}
-use Rattle.ame_lex.specs.declared.tokens.Kind.TheVariants.{Open, Close, Word, Number, Symbol}
+use Rattle.ame_lex.specs.declared.tokens.Kind.TheVariants.{Word, Number, Symbol}
 use Rattle.ame_lex.specs.declared.tokens.LexFault.TheVariants.{BadByte}
-use Rattle.ame_lex.specs.Bytes.{Text, class_of, continues_number, is_word_byte, is_digit, is_comment_byte, begins, IsRun, decimal}
-use Rattle.ame_lex.specs.Grammar.{IsNumber, plain, negative, IsToken, opening, closing, word, number, symbol, minus, BeginsNothing, underscore, other, Lexes, finished, blank, comment, token, later, bad_byte, long_number, letter_after_number}
+use Rattle.ame_lex.specs.Bytes.{Text, class_of, is_word_byte, is_digit, is_comment_byte, begins, decimal}
+use Rattle.ame_lex.specs.Grammar.{IsNumber, plain, negative, IsToken, opening, closing, word, number, symbol, minus, BeginsNothing, underscore, other, bad_byte, long_number, letter_after_number, Lexes, finished, blank, comment, token, later, faulty}
 use Rattle.ame_lex.specs.Reading as reading
 use Rattle.ame_lex.specs.Reading.{Outcome, fits, value_of, checked, piece_by, first_piece, after_piece, with_first, token_at, tokens_from, tokens_of}
 use Rattle.ame_lex.proofs.RunLemmas.{run_of, run_at_len, digit_is}
@@ -17,7 +16,7 @@ use Rattle.ame_lex.proofs.FitLemmas.{fits_so, too_long}
 use Rattle.ame_lex.proofs.PieceLemmas.{number-digits}
 
 -- a token, and then whatever the rest is
-lexes-token : {at : ℕ} {text spelling rest : Text} {kind : Kind} (len : ℕ) (outcome : Outcome) → IsToken text kind spelling rest → length spelling ≡ len
+pub lexes-token : {at : ℕ} {text spelling rest : Text} {kind : Kind} (len : ℕ) (outcome : Outcome) → IsToken text kind spelling rest → length spelling ≡ len
     → Lexes (at + len) rest outcome → Lexes at text (with_first (token_at at kind len) outcome)
 lexes-token {at} {text} {spelling} {rest} {kind} len (Ok tokens) t e more =
     subst (λ n. Lexes at text (Ok (token_at at kind n ∷ tokens))) e (token t (subst (λ n. Lexes (at + n) rest (Ok tokens)) (sym e) more))
@@ -35,9 +34,9 @@ module _ (at b : ℕ) (text : Text) (next : ℕ → Outcome) (lexes : (more : �
   lexes-number : (spelling rest : Text) (value : ℤ) (more len : ℕ) (fit : Bool) (letter : Bool) → IsNumber (b ∷ text) value spelling rest → length spelling ≡ len → len ≡ suc more → rest ≡ drop more text
       → fits value ≡ fit → begins is_word_byte rest ≡ letter
       → Lexes at (b ∷ text) (after_piece (cond fit (cond letter (Bad len) (Found (Number value) len)) Long) at next)
-  lexes-number spelling rest value more len false letter n spelled e after fit glued = long_number n (too_long value fit)
+  lexes-number spelling rest value more len false letter n spelled e after fit glued = faulty (long_number n (too_long value fit))
   lexes-number spelling rest value more len true true n spelled e after fit glued =
-      subst (λ k. Lexes at (b ∷ text) (Err (BadByte (at + k)))) spelled (letter_after_number n (fits_so value fit) glued)
+      subst (λ k. Lexes at (b ∷ text) (Err (BadByte (at + k)))) spelled (faulty (letter_after_number n (fits_so value fit) glued))
   lexes-number spelling rest value more len true false n spelled e after fit glued =
       lexes-token len (next (len - 1)) (number n (fits_so value fit) glued) spelled (subst (λ z. Lexes (at + len) z (next (len - 1))) (sym after) (lexes-after more len e))
 
@@ -76,7 +75,7 @@ lexes-minus at b (d ∷ text) next lexes true e signed =
     (lexes-number at b (d ∷ text) next lexes (b ∷ d ∷ take count text) (drop count text) (neg_ℤ (pos (decimal (d ∷ take count text)))) (suc count) _ _ _ (negative e digit run) len more refl refl refl)
 
 lexes-nothing : (at b : ℕ) (text : Text) → BeginsNothing (class_of b) → Lexes at (b ∷ text) (Err (BadByte (at + 0)))
-lexes-nothing at b text nothing = rw add-zero (bad_byte nothing)
+lexes-nothing at b text nothing = rw add-zero (faulty (bad_byte nothing))
 
 -- one piece, by the class of its first byte
 lexes-piece : (at b : ℕ) (text : Text) (next : ℕ → Outcome) (lexes : (more : ℕ) → Lexes (at + 1 + more) (drop more text) (next more)) (class : Class) → class_of b ≡ class

@@ -1,10 +1,11 @@
 -- What the bytes of a text are, and the runs of bytes that tokens and comments are made of.
-use Rattle.std.specs.Prelude.{◌≡◌, ℕ, ◌-◌, ◌+◌, ◌*◌, ◌||◌, Bool, true, false, not, if◌then◌else◌, ◌==◌, nat_le, List, [], ◌∷◌, ◌++◌}
+use Rattle.std.specs.Prelude.{◌≡◌, ℕ, ◌-◌, ◌+◌, ◌*◌, ◌||◌, Bool, true, false, not, if◌then◌else◌, ◌==◌, List, [], ◌∷◌, ◌++◌}
 use Rattle.std.specs.List.{AllByRecursion, fold}
 use Rattle.std.specs.Char.{is_ascii_alphabetic, is_ascii_digit}
 use Rattle.ame_lex.specs.declared.classes.Class.{Class}
 use Rattle.ame_lex.specs.declared.classes.Class.TheVariants.{Blank, Semicolon, Opening, Closing, Letter, Digit, Underscore, Minus, Operator, Other}
 
+-- a text is its bytes
 abbrev pub Text : Type 0
 Text = List ℕ
 
@@ -29,13 +30,16 @@ continues_word Digit = true
 continues_word Underscore = true
 continues_word _ = false
 
+-- a letter, a digit or an underscore
 abbrev pub is_word_byte : ℕ → Bool
 is_word_byte b = continues_word (class_of b)
 
+-- a number goes on with digits
 abbrev pub continues_number : Class → Bool
 continues_number Digit = true
 continues_number _ = false
 
+-- one of `0` to `9`
 abbrev pub is_digit : ℕ → Bool
 is_digit b = continues_number (class_of b)
 

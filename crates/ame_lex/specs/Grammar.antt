@@ -1,5 +1,5 @@
 -- The grammar of tokens: which token stands at the front of a text, and what a whole text is.
-use Rattle.std.specs.Prelude.{◌≡◌, ℕ, ◌+◌, Bool, true, false, ℤ, pos, neg_ℤ, FitsSigned, List, [], ◌∷◌, length, Result, Ok, Err}
+use Rattle.std.specs.Prelude.{◌≡◌, ℕ, ◌+◌, true, false, ℤ, pos, neg_ℤ, FitsSigned, List, [], ◌∷◌, length, Result, Ok, Err}
 use Rattle.std.specs.Int.{w64}
 use Rattle.ame_lex.specs.declared.classes.Class.{Class}
 use Rattle.ame_lex.specs.declared.classes.Class.TheVariants.{Blank, Semicolon, Opening, Closing, Letter, Digit, Underscore, Minus, Operator, Other}
@@ -33,10 +33,20 @@ pub data IsToken : Text → Kind → Text → Text → Type 0 where
   -- a minus that belongs to no number
   minus : {b : ℕ} {rest : Text} → class_of b ≡ Minus → begins is_digit rest ≡ false → IsToken (b ∷ rest) (Symbol b) (b ∷ []) rest
 
--- A byte that begins no token, blank or comment.
+-- a byte that begins no token, blank or comment
 pub data BeginsNothing : Class → Type 0 where
   underscore : BeginsNothing Underscore
   other : BeginsNothing Other
+
+-- The text, whose first byte stands at this place, begins with this fault.
+pub data IsFault : ℕ → Text → LexFault → Type 0 where
+  bad_byte : {at b : ℕ} {rest : Text} → BeginsNothing (class_of b) → IsFault at (b ∷ rest) (BadByte at)
+  -- a number that doesn't fit 64 bits, whatever follows it
+  long_number : {at : ℕ} {text spelling rest : Text} {value : ℤ} → IsNumber text value spelling rest → ¬ (FitsSigned w64 value)
+      → IsFault at text (LongNumber at)
+  -- the letter or underscore right after a number
+  letter_after_number : {at : ℕ} {text spelling rest : Text} {value : ℤ} → IsNumber text value spelling rest → FitsSigned w64 value → begins is_word_byte rest ≡ true
+      → IsFault at text (BadByte (at + length spelling))
 
 -- The text, whose first byte stands at this place, has these tokens, or this first fault.
 pub data Lexes : ℕ → Text → Result (List Token) LexFault → Type 0 where
@@ -47,11 +57,7 @@ pub data Lexes : ℕ → Text → Result (List Token) LexFault → Type 0 where
       → Lexes (at + 1 + length body) rest outcome → Lexes at (b ∷ text) outcome
   token : {at : ℕ} {text spelling rest : Text} {kind : Kind} {tokens : List Token} → IsToken text kind spelling rest
       → Lexes (at + length spelling) rest (Ok tokens) → Lexes at text (Ok (record { start = at; end = at + length spelling; kind = kind } ∷ tokens))
-  -- the fault is after a token
+  -- the first fault is after this token
   later : {at : ℕ} {text spelling rest : Text} {kind : Kind} {fault : LexFault} → IsToken text kind spelling rest
       → Lexes (at + length spelling) rest (Err fault) → Lexes at text (Err fault)
-  bad_byte : {at b : ℕ} {rest : Text} → BeginsNothing (class_of b) → Lexes at (b ∷ rest) (Err (BadByte at))
-  long_number : {at : ℕ} {text spelling rest : Text} {value : ℤ} → IsNumber text value spelling rest → ¬ (FitsSigned w64 value)
-      → Lexes at text (Err (LongNumber at))
-  letter_after_number : {at : ℕ} {text spelling rest : Text} {value : ℤ} → IsNumber text value spelling rest → FitsSigned w64 value → begins is_word_byte rest ≡ true
-      → Lexes at text (Err (BadByte (at + length spelling)))
+  faulty : {at : ℕ} {text : Text} {fault : LexFault} → IsFault at text fault → Lexes at text (Err fault)

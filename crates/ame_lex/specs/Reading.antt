@@ -1,5 +1,5 @@
 -- What a text is, computed: its tokens, or its first fault.
-use Rattle.std.specs.Prelude.{◌≡◌, ℕ, zero, suc, ◌+◌, ◌-◌, ◌^◌, ◌<◌, ◌≤◌, Bool, true, false, if◌then◌else◌, nat_lt, ℤ, pos, negsuc, neg_ℤ, List, [], ◌∷◌, length, take, drop, Result, Ok, Err, ⊤}
+use Rattle.std.specs.Prelude.{◌≡◌, ℕ, zero, suc, ◌+◌, ◌-◌, ◌^◌, ◌<◌, ◌≤◌, Bool, true, false, if◌then◌else◌, nat_lt, ℤ, pos, negsuc, neg_ℤ, List, [], ◌∷◌, take, drop, Result, Ok, Err, ⊤}
 use Rattle.std.specs.List.{prefix_len}
 use Rattle.ame_lex.specs.declared.classes.Class.{Class}
 use Rattle.ame_lex.specs.declared.classes.Class.TheVariants.{Blank, Semicolon, Opening, Closing, Letter, Digit, Underscore, Minus, Operator, Other}
@@ -32,6 +32,7 @@ number is_negative text =
     let count = prefix_len is_digit text in
     checked (value_of is_negative (take count text)) ((if is_negative then 1 else 0) + count) (drop count text)
 
+-- what stands at the front of a text, by the class of its first byte
 abbrev pub piece_by : Class → ℕ → Text → Piece
 piece_by Blank b rest = Space 1
 piece_by Semicolon b rest = Space (1 + prefix_len is_comment_byte rest)
@@ -48,13 +49,16 @@ piece_by Other b rest = Bad 0
 unfoldable pub first_piece : ℕ → Text → Piece
 first_piece b rest = piece_by (class_of b) b rest
 
+-- the tokens, or the first fault
 abbrev pub Outcome : Type 0
 Outcome = Result (List Token) LexFault
 
+-- the outcome with this token before it
 abbrev pub with_first : Token → Outcome → Outcome
 with_first token (Ok tokens) = Ok (token ∷ tokens)
 with_first token (Err fault) = Err fault
 
+-- the token of this kind and this many bytes at a place
 abbrev pub token_at : ℕ → Kind → ℕ → Token
 token_at at kind len = record { start = at; end = at + len; kind = kind }
 
@@ -83,7 +87,7 @@ Answers items (Err fault) outcome = outcome ≡ Err fault
 
 -- a piece that stands at the front of a text of this length
 abbrev pub FitsIn : ℕ → Piece → Type 0
-FitsIn length (Space len) = (0 < len) × (len ≤ length)
-FitsIn length (Found kind len) = (0 < len) × (len ≤ length)
-FitsIn length (Bad offset) = offset < length
-FitsIn length Long = ⊤
+FitsIn size (Space len) = (0 < len) × (len ≤ size)
+FitsIn size (Found kind len) = (0 < len) × (len ≤ size)
+FitsIn size (Bad offset) = offset < size
+FitsIn size Long = ⊤

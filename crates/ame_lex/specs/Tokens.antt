@@ -1,7 +1,8 @@
 -- Where the tokens of a text stand.
-use Rattle.std.specs.Prelude.{◌≡◌, ℕ, ◌<◌, ◌≤◌, List, [], ◌∷◌, length, slice_range}
+use Rattle.std.specs.Prelude.{ℕ, ◌<◌, ◌≤◌, List, [], ◌∷◌, length, drop, slice_range}
 use Rattle.ame_lex.specs.declared.tokens.Token.{Token}
 use Rattle.ame_lex.specs.Bytes.{Text}
+use Rattle.ame_lex.specs.Grammar.{IsToken}
 
 -- the bytes of a token
 abbrev pub spelled : Text → Token → Text
@@ -11,6 +12,10 @@ spelled text token = slice_range text token.start token.end
 pub record IsWithin (text : Text) (token : Token) : Type 0 where
   pub some : token.start < token.end
   pub inside : token.end ≤ length text
+
+-- the bytes of the token are a token of its kind by the grammar, before what follows them in the text
+abbrev pub IsSpelled : Text → Token → Type 0
+IsSpelled text token = IsToken (drop token.start text) token.kind (spelled text token) (drop token.end text)
 
 -- the tokens stand one after another between two places
 abbrev pub InOrder : ℕ → List Token → ℕ → Type 0

@@ -3,12 +3,11 @@
 ghost use Rattle.std.specs.Prelude.{◌≡◌, ◌≤◌, ◌^◌, length, All, IfOk, Ok, Err, ℕ};
 ghost use Rattle.ame_lex.specs.Grammar.{Lexes};
 ghost use Rattle.ame_lex.specs.Reading.{tokens_of, Answers};
-ghost use Rattle.ame_lex.specs.Tokens.{IsWithin, InOrder};
-
-use std::alloc::Global;
+ghost use Rattle.ame_lex.specs.Tokens.{IsWithin, InOrder, IsSpelled};
 
 use crate::pieces::{Piece, first_piece};
 use crate::tokens::{LexFault, Token};
+use std::alloc::Global;
 
 /// The tokens of the text in order, or its first fault.
 fn scan(alloc: Global, text: &[u8]) -> Result<Vec<Token>, LexFault>
@@ -22,7 +21,11 @@ fn scan(alloc: Global, text: &[u8]) -> Result<Vec<Token>, LexFault>
         match first_piece(rest) {
             Piece::Space(len) => rest = rest.split_at(len).1,
             Piece::Found(kind, len) => {
-                let token = Token { start: at as u32, end: (at + len) as u32, kind };
+                let token = Token {
+                    start: at as u32,
+                    end: (at + len) as u32,
+                    kind,
+                };
                 tokens.push(token)?;
                 rest = rest.split_at(len).1;
             }
@@ -45,6 +48,7 @@ pub fn lex(alloc: Global, text: &[u8]) -> Result<Vec<Token>, LexFault>
 
     // The tokens stand in the text, one after another.
     ensures within { IfOk result (λ v. All (IsWithin text.now) v.items) }
+    ensures spelled { IfOk result (λ v. All (IsSpelled text.now) v.items) }
     ensures in_order { IfOk result (λ v. InOrder 0 v.items (length text.now)) }
 {
     scan(alloc, text)

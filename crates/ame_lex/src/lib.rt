@@ -9,7 +9,7 @@ mod pieces;
 mod runs;
 mod tokens;
 
-pub use laws::{grammar_is_reading, one_outcome, tokens_lie_within};
+pub use laws::{fault_is_first, grammar_is_reading, one_outcome, tokens_lie_within};
 pub use lexer::lex;
 pub use tokens::{Kind, LexFault, Token};
 

@@ -15,7 +15,9 @@ fn decimal(digits: &[u8]) -> u64
 {
     let mut value: u64 = 0;
     for digit in digits {
-        value = value.saturating_mul(10).saturating_add(u64::from(digit.saturating_sub(b'0')));
+        value = value
+            .saturating_mul(10)
+            .saturating_add(u64::from(digit.saturating_sub(b'0')));
     }
     value
 }
@@ -34,8 +36,7 @@ fn value_of(is_negative: bool, digits: &[u8]) -> Option<i64>
 /// The number whose digits stand at the front of the text, after its sign.
 #[tactic(auto, unfolding(crate::specs::Reading::number))]
 pub fn number(is_negative: bool, text: &[u8]) -> Piece
-    requires some { bytes.begins bytes.is_digit text.now ≡ true }
-    requires small { length text.now < 2 ^ 63 }
+    requires { bytes.begins bytes.is_digit text.now ≡ true }
     ensures value { result ≡ spec.number is_negative text.now }
     ensures within { spec.FitsIn ((if is_negative then 1 else 0) + length text.now) result }
 {

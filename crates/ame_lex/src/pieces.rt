@@ -23,8 +23,7 @@ pub enum Piece {
 /// The piece at the front of a text: its first byte, and the bytes after it.
 #[tactic(auto, unfolding(crate::specs::Reading::first_piece))]
 pub fn first_piece(text: &[u8]) -> Piece
-    requires some { 0 < length text.now }
-    requires small { length text.now < 2 ^ 63 }
+    requires { 0 < length text.now }
     ensures value { result ≡ spec.first_piece (slice_index text.now 0) (drop 1 text.now) }
     ensures within { spec.FitsIn (length text.now) result }
 {

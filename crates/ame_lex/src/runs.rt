@@ -9,7 +9,10 @@ use crate::classes::{Class, class_of};
 pub fn is_word_byte(b: u8) -> bool
     ensures { result ≡ spec.is_word_byte b }
 {
-    matches!(class_of(b), Class::Letter | Class::Digit | Class::Underscore)
+    matches!(
+        class_of(b),
+        Class::Letter | Class::Digit | Class::Underscore
+    )
 }
 
 pub fn is_digit(b: u8) -> bool

@@ -1,5 +1,5 @@
 -- The parts of a `do` form, as the items of its vector.
-use Rattle.std.proofs.Common.{◌≡◌, ap, ◌∙◌, refl, List, [], ◌∷◌, map, Vec, Global}
+use Rattle.std.proofs.Common.{◌≡◌, ap, ◌∙◌, refl, map, Vec, Global}
 use mathlib.Core.Former.{Count}
 use Rattle.ame_term.specs.declared.term.Term.{Term, Do, Do', Row_of-Term, end_of-Term, more_of-Term, items-the_row-Term, items_hidden-the_row-Term-0}
 use Rattle.ame_term.specs.Tree as tree

@@ -1,5 +1,5 @@
 -- What is read from, and the steps that every form is read by.
-use Rattle.std.specs.Prelude.{◌≡◌, ◌≢◌, ℕ, ℤ, Bool, true, false, List, [], ◌∷◌, ◌++◌, length, drop, Option, Some, None, Result, Ok, Err, refl}
+use Rattle.std.specs.Prelude.{◌≡◌, ◌≢◌, ℕ, Bool, true, false, List, [], ◌∷◌, ◌++◌, length, take, drop, ◌-◌, ◌==◌, if◌then◌else◌, Option, Some, None, Result, Ok, Err}
 use Rattle.ame_lex.specs.Bytes.{Text}
 use Rattle.ame_lex.specs.declared.tokens.Kind.{Kind}
 use Rattle.ame_lex.specs.declared.tokens.Kind.TheVariants as kind
@@ -9,7 +9,9 @@ use Rattle.ame_parse.specs.declared.ahead.Ahead.TheVariants as a
 use Rattle.ame_parse.specs.declared.fault.Want.{Want}
 use Rattle.ame_parse.specs.declared.fault.Want.TheVariants as want
 use Rattle.ame_parse.specs.declared.fault.ParseFault.{ParseFault}
-use Rattle.ame_parse.specs.declared.fault.ParseFault.TheVariants.{Expected, UnknownName, TooNested, Trailing, NoMemory}
+use Rattle.ame_parse.specs.declared.fault.ParseFault.TheVariants.{Expected, TooNested, Trailing, NoMemory}
+use Rattle.std.specs.List.{list_any}
+use Rattle.ame_parse.specs.Names.{number_in, with_name}
 use Rattle.ame_parse.specs.Words.{word_of}
 
 -- a token: its place, its kind and its bytes
@@ -22,6 +24,9 @@ pub record Input : Type 0 where
   -- the tokens that are left, and the place of the text's end
   pub rest : List Seen
   pub end : ℕ
+  -- the names so far, by their numbers, and the numbers of those that are bound here, the innermost last
+  pub names : List Text
+  pub scope : List ℕ
   -- the places of the nodes so far, in preorder
   pub places : List ℕ
 
@@ -54,9 +59,35 @@ place_in end (token ∷ rest) = token.place
 unfoldable pub place : Input → ℕ
 place i = place_in i.end i.rest
 
+abbrev pub spelling_in : List Seen → Text
+spelling_in [] = []
+spelling_in (token ∷ rest) = token.spelling
+
+-- the bytes of the next token; none at the end
+unfoldable pub spelling : Input → Text
+spelling i = spelling_in i.rest
+
 -- the input after the next token
 unfoldable pub after : Input → Input
 after i = record i { rest = drop 1 i.rest }
+
+-- the number of the name that comes next, and the input after it
+unfoldable pub number : Input → ℕ
+number i = number_in i.names (spelling i)
+
+unfoldable pub named : Input → Input
+named i = record i { rest = drop 1 i.rest; names = with_name i.names (spelling i) }
+
+-- whether a name is bound here
+unfoldable pub binds : ℕ → Input → Bool
+binds x i = list_any (λ y. y == x) i.scope
+
+-- the input with a name bound, and with the innermost one no longer bound
+unfoldable pub bound : ℕ → Input → Input
+bound x i = record i { scope = i.scope ++ x ∷ [] }
+
+unfoldable pub unbound : Input → Input
+unbound i = record i { scope = take (length i.scope - 1) i.scope }
 
 -- how many tokens are left
 unfoldable pub left : Input → ℕ
@@ -117,6 +148,27 @@ closing_by _ = expected want.Closing
 
 unfoldable pub closing : Parser (Unit {0})
 closing = peek >>= closing_by
+
+-- the opening parenthesis of a parameter, where at most so many parentheses may be open in it
+abbrev pub opening_by : ℕ → Ahead → Parser (Unit {0})
+opening_by n a.Opening = if n == 0 then (λ i. Err (TooNested (place i))) else advance
+opening_by n _ = expected want.Opening
+
+unfoldable pub opening : ℕ → Parser (Unit {0})
+opening n = peek >>= opening_by n
+
+abbrev pub name_by : Ahead → Parser ℕ
+name_by a.Name = λ i. Ok (number i, named i)
+name_by _ = expected want.Name
+
+unfoldable pub name : Parser ℕ
+name = peek >>= name_by
+
+abbrev pub bind : ℕ → Parser (Unit {0})
+bind x = λ i. Ok (tt, bound x i)
+
+abbrev pub unbind : Parser (Unit {0})
+unbind = λ i. Ok (tt, unbound i)
 
 -- nothing comes after the program
 abbrev pub finish_by : Ahead → Parser (Unit {0})

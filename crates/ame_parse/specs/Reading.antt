@@ -1,22 +1,22 @@
 -- The program of a list of tokens, computed: what is read, or the first fault.
-use Rattle.std.specs.Prelude.{ℕ, zero, suc, if◌then◌else◌, ℤ, List, [], ◌∷◌, ◌++◌, map, Option, Some, None, Result, Ok, Err}
-use Rattle.ame_lex.specs.Bytes.{Text}
-use Rattle.ame_term.specs.Tree.{Val, Tree, Trees, unit_tree}
+use Rattle.std.specs.Prelude.{ℕ, zero, suc, if◌then◌else◌, true, false, List, [], ◌∷◌, ◌++◌, Option, Some, None, Ok, Err}
+use Rattle.ame_term.specs.Tree.{Typ, Val, Tree, unit_tree}
 use Rattle.ame_parse.specs.declared.words.Word.{Word}
 use Rattle.ame_parse.specs.declared.words.Word.TheVariants as w
 use Rattle.ame_parse.specs.declared.ahead.Ahead.{Ahead}
 use Rattle.ame_parse.specs.declared.ahead.Ahead.TheVariants as a
-use Rattle.ame_parse.specs.declared.fault.Want.{Want}
 use Rattle.ame_parse.specs.declared.fault.Want.TheVariants as want
-use Rattle.ame_parse.specs.declared.fault.ParseFault.{ParseFault}
 use Rattle.ame_parse.specs.declared.fault.ParseFault.TheVariants.{UnknownName, TooNested}
 use Rattle.ame_parse.specs.declared.forms.OnePart.{OnePart}
+use Rattle.ame_parse.specs.declared.forms.TwoParts.{TwoParts}
 use Rattle.ame_parse.specs.declared.forms.Form.{Form}
 use Rattle.ame_parse.specs.declared.forms.Form.TheVariants as form
-use Rattle.ame_parse.specs.Forms.{form_of, one_part, row}
-use Rattle.ame_parse.specs.Input.{Input, Parser, ◌>>=◌, ◌>>◌, pure, expected, peek, place, advance, mark, closing, sees_closing, left, finish}
+use Rattle.ame_parse.specs.Forms.{form_of, one_part, two_parts, row}
+use Rattle.ame_parse.specs.Input.{Input, Parser, ◌>>=◌, ◌>>◌, pure, expected, peek, place, advance, mark, closing, sees_closing, name, binds, bind, unbind, left, finish}
+use Rattle.ame_parse.specs.Letters.{sort, effect, device}
+use Rattle.ame_parse.specs.Types.{ty, param}
 
--- ---- the forms, over a parser of their parts
+-- ---- the forms, over parsers of their terms, parameters and types
 
 module _ (part : Parser Tree) where
   unfoldable pub one : OnePart → Parser Tree
@@ -24,6 +24,31 @@ module _ (part : Parser Tree) where
     x ← part
     closing
     pure (one_part form x)
+
+  unfoldable pub two : TwoParts → Parser Tree
+  two form = do
+    first ← part
+    second ← part
+    closing
+    pure (two_parts form first second)
+
+  unfoldable pub choice : Parser Tree
+  choice = do
+    test ← part
+    then_part ← part
+    else_part ← part
+    closing
+    pure (Tree.If test then_part else_part)
+
+  unfoldable pub binding : Parser Tree
+  binding = do
+    x ← name
+    bound ← part
+    bind x
+    body ← part
+    closing
+    unbind
+    pure (Tree.Let x bound body)
 
   -- The parts up to the closing parenthesis, after those that were found. Each takes a token, so the count of tokens is enough.
   unfoldable pub more_from : ℕ → List Tree → Parser (List Tree)
@@ -35,8 +60,8 @@ module _ (part : Parser Tree) where
   unfoldable pub more : List Tree → Parser (List Tree)
   more found = λ i. more_from (left i) found i
 
-  unfoldable pub two : Parser (List Tree)
-  two = do
+  unfoldable pub first_two : Parser (List Tree)
+  first_two = do
     first ← part
     second ← part
     pure (first ∷ second ∷ [])
@@ -44,52 +69,111 @@ module _ (part : Parser Tree) where
   -- two parts or more
   unfoldable pub sequence : Parser Tree
   sequence = do
-    first ← two
+    first ← first_two
     parts ← more first
     closing
     pure (Tree.Do (row parts))
 
-  abbrev pub form_by : Option Form → Parser Tree
-  form_by (Some (form.One form)) = advance >> one form
-  form_by (Some form.Do) = advance >> sequence
-  form_by None = expected want.Form
+  unfoldable pub reference : Parser Tree
+  reference = do
+    which ← sort
+    content ← part
+    closing
+    pure (Tree.Ref which content)
 
-  -- after the opening parenthesis
-  unfoldable pub compound : Parser Tree
-  compound = peek >>= (λ next. form_by (form_of next))
+  unfoldable pub call : Parser Tree
+  call = do
+    number ← device
+    x ← part
+    closing
+    pure (Tree.Call number x)
+
+  module _ (parameter : Parser (ℕ × Typ)) where
+    unfoldable pub function : Parser Tree
+    function = do
+      under ← effect
+      p ← parameter
+      bind p.0
+      body ← part
+      closing
+      unbind
+      pure (Tree.Lambda (record { effect = under; own = None; param = p.0; param_type = p.1 }) body)
+
+    module _ (type : Parser Typ) where
+      unfoldable pub recursive : Parser Tree
+      recursive = do
+        under ← effect
+        own ← name
+        p ← parameter
+        gives ← type
+        bind own
+        bind p.0
+        body ← part
+        closing
+        unbind
+        unbind
+        pure (Tree.Lambda (record { effect = under; own = Some (record { name = own; result = gives }); param = p.0; param_type = p.1 }) body)
+
+      abbrev pub form_by : Option Form → Parser Tree
+      form_by (Some (form.One which)) = advance >> one which
+      form_by (Some (form.Two which)) = advance >> two which
+      form_by (Some form.If) = advance >> choice
+      form_by (Some form.Let) = advance >> binding
+      form_by (Some form.Do) = advance >> sequence
+      form_by (Some form.Fn) = advance >> function
+      form_by (Some form.Rec) = advance >> recursive
+      form_by (Some form.Ref) = advance >> reference
+      form_by (Some form.Call) = advance >> call
+      form_by None = expected want.Form
+
+      -- after the opening parenthesis
+      unfoldable pub compound : Parser Tree
+      compound = peek >>= (λ next. form_by (form_of next))
 
 -- ---- terms
 
--- a constant, by its word
-abbrev pub constant_by : Word → Parser Tree
-constant_by w.Unit = advance >> pure unit_tree
-constant_by w.True = expected want.Form
-constant_by w.False = expected want.Form
-constant_by w.Yield = expected want.Form
-constant_by _ = expected want.Term
+-- a name that is bound
+unfoldable pub variable : Parser Tree
+variable = λ i. (name >>= (λ x j. if binds x j then Ok (Tree.Var x, j) else Err (UnknownName (place i)))) i
+
+-- two nodes at one place
+unfoldable pub yielding : Parser Tree
+yielding = mark >> advance >> pure (Tree.Unprotected unit_tree)
+
+-- a constant, or a short form, by its word
+unfoldable pub constant : Word → Parser Tree
+constant w.Unit = advance >> pure unit_tree
+constant w.True = advance >> pure (Tree.Held (Val.Bool true))
+constant w.False = advance >> pure (Tree.Held (Val.Bool false))
+constant w.Yield = yielding
+constant _ = expected want.Term
 
 -- a term of one token
 abbrev pub atom_by : Ahead → Parser Tree
 atom_by (a.Number value) = advance >> pure (Tree.Held (Val.Int value))
-atom_by (a.Reserved word) = constant_by word
-atom_by a.Name = λ i. Err (UnknownName (place i))
+atom_by (a.Reserved word) = constant word
+atom_by a.Name = variable
 atom_by _ = expected want.Term
 
 unfoldable pub atom : Parser Tree
 atom = peek >>= atom_by
 
--- a term that is the form where it begins with a parenthesis
+-- a term, where `form` reads one that begins with a parenthesis
 abbrev pub term_by : Parser Tree → Ahead → Parser Tree
 term_by form a.Opening = form
 term_by form _ = atom
 
-abbrev pub too_nested : Parser Tree
-too_nested = λ i. Err (TooNested (place i))
+abbrev pub term_of : Parser Tree → Parser Tree
+term_of form = mark >> peek >>= term_by form
 
--- a term with at most so many open parentheses
+-- a form, where at most so many parentheses may be open in it
+unfoldable pub nested : ℕ → Parser Tree
+nested zero = λ i. Err (TooNested (place i))
+nested (suc n) = advance >> compound (term_of (nested n)) (param n) (ty n)
+
+-- a term, where at most so many parentheses may be open in it
 unfoldable pub term : ℕ → Parser Tree
-term zero = mark >> peek >>= term_by too_nested
-term (suc n) = mark >> peek >>= term_by (advance >> compound (term n))
+term n = term_of (nested n)
 
 -- ---- programs
 

@@ -1,5 +1,5 @@
 -- The program of a text, or its first fault.
-use Rattle.std.specs.Prelude.{◌≡◌, ℕ, List, [], ◌∷◌, length, map, Result, Ok, Err}
+use Rattle.std.specs.Prelude.{◌≡◌, ℕ, List, [], map, Result, Ok, Err, ⊤}
 use Rattle.ame_lex.specs.Bytes.{Text}
 use Rattle.ame_lex.specs.declared.tokens.Token.{Token}
 use Rattle.ame_lex.specs.declared.tokens.LexFault.{LexFault}
@@ -8,6 +8,7 @@ use Rattle.ame_term.specs.Tree.{Tree}
 use Rattle.ame_term.specs.View.{tree_of}
 use Rattle.ame_term.specs.declared.program.Program.{Program}
 use Rattle.ame_parse.specs.declared.fault.ParseFault.{ParseFault}
+use Rattle.ame_parse.specs.declared.fault.ParseFault.TheVariants.{NoMemory}
 use Rattle.ame_parse.specs.Input.{Outcome}
 use Rattle.ame_parse.specs.Seen.{start_of}
 use Rattle.ame_parse.specs.Reading.{program}
@@ -28,7 +29,7 @@ pub data Fault : Type 0 where
   Syntactic : ParseFault → Fault
 
 abbrev pub source_by : Outcome Tree → Result Source Fault
-source_by (Ok (tree, i)) = Ok (record { names = []; places = i.places; tree = tree })
+source_by (Ok (tree, i)) = Ok (record { names = i.names; places = i.places; tree = tree })
 source_by (Err fault) = Err (Fault.Syntactic fault)
 
 abbrev pub reading_by : Text → Result (List Token) LexFault → Result Source Fault
@@ -38,3 +39,9 @@ reading_by text (Err fault) = Err (Fault.Lexical fault)
 -- the program of a text, or its first fault; a fault of the bytes comes before all others
 unfoldable pub reading : Text → Result Source Fault
 reading text = reading_by text (tokens_of text)
+
+-- what was answered is what is read of the text, unless memory ran out
+abbrev pub Answers : Text → Result Program ParseFault → Type 0
+Answers text (Ok program) = reading text ≡ Ok (source_of program)
+Answers text (Err NoMemory) = ⊤
+Answers text (Err fault) = reading text ≡ Err (Fault.Syntactic fault)

@@ -3,9 +3,8 @@
 ghost use Rattle.std.specs.Prelude.{◌≡◌};
 ghost use Rattle.ame_parse.specs.Input as spec;
 
-use ame_lex::Kind;
-
 use crate::words::{Word, word_of};
+use ame_lex::Kind;
 
 /// What comes next.
 #[derive(Clone, Copy, Debug, PartialEq, Eq)]

@@ -3,7 +3,7 @@
 ghost use Rattle.std.specs.Prelude.{◌≡◌};
 ghost use Rattle.ame_parse.specs.declared.fault.ParseFault.TheVariants.{NoMemory};
 
-use std::alloc::AllocFailed;
+use std::alloc::{AllocError, AllocFailed};
 
 /// What must stand where the reading can't go on.
 #[derive(Clone, Copy, Debug, PartialEq, Eq)]
@@ -41,6 +41,14 @@ impl<T: Drop> From<AllocFailed<T>> for ParseFault {
     ghost from_gives = { λ _ e. e ≡ NoMemory };
 
     fn from(_failed: AllocFailed<T>) -> ParseFault {
+        ParseFault::NoMemory
+    }
+}
+
+impl From<AllocError> for ParseFault {
+    ghost from_gives = { λ _ e. e ≡ NoMemory };
+
+    fn from(_failed: AllocError) -> ParseFault {
         ParseFault::NoMemory
     }
 }

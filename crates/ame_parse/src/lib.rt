@@ -6,9 +6,17 @@ mod build;
 mod fault;
 mod forms;
 mod grammar;
+mod laws;
+mod letters;
+mod names;
 mod parser;
 mod reader;
+mod ty;
 mod words;
 
 pub use fault::{ParseFault, Want};
+pub use laws::{bytes_come_first, one_program, spelled_is_read};
 pub use parser::parse;
+
+#[cfg(test)]
+mod tests;

@@ -9,3 +9,4 @@ pub mod Act
 pub mod State
 pub mod Written
 pub mod Typing
+pub mod Has

@@ -1,7 +1,7 @@
 -- The types of terms. Each row of the table computes a form's type or its first fault. Separation of
 -- protected and unprotected references by effects is after Abadi, Birrell, Harris and Isard (POPL
 -- 2008); the effect that fits both, peeks, pairs and the order of the tests are ours.
-use Rattle.std.specs.Prelude.{◌≡◌, ℕ, ◌+◌, ◌==◌, Bool, true, false, ◌&&◌, List, [], ◌∷◌, ◌++◌, Option, Some, None, slice_index, nat_lt, if◌then◌else◌}
+use Rattle.std.specs.Prelude.{◌≡◌, ℕ, ◌+◌, ◌==◌, Bool, true, false, ◌&&◌, List, [], ◌∷◌, ◌++◌, Option, Some, None, Result, Ok, Err, slice_index, nat_lt, if◌then◌else◌}
 use Rattle.ame_term.specs.Tree.{Typ, OwnName, Val, Tree, Trees}
 use Rattle.ame_term.specs.Written.{nodes}
 use Rattle.ame_term.specs.declared.types.Sort.{Sort}
@@ -23,11 +23,9 @@ pub record Fault : Type 0 where
   pub found : Shown
   pub wanted : Shown
 
--- a term's type and the types of the stored values of its `ref` forms, in the order of the text; or
--- its first fault
-pub data Outcome : Type 0 where
-  Gives : Typ → List Typ → Outcome
-  Breaks : Fault → Outcome
+-- a term's type, or its first fault
+abbrev pub Outcome : Type 0
+Outcome = Result Typ Fault
 
 -- The tests.
 
@@ -65,27 +63,12 @@ fits effect q = same_effect effect q
 
 -- a fault
 abbrev pub breaks : ℕ → ℕ → Shown → Shown → Outcome
-breaks rule place found wanted =
-    Outcome.Breaks (record { rule = rule; place = place; found = found; wanted = wanted })
-
--- a type, where no `ref` form is met
-abbrev pub gives : Typ → Outcome
-gives t = Outcome.Gives t []
-
--- an outcome after what earlier parts store
-abbrev pub storing : List Typ → Outcome → Outcome
-storing refs (Outcome.Gives t more) = Outcome.Gives t (refs ++ more)
-storing refs (Outcome.Breaks fault) = Outcome.Breaks fault
-
--- an outcome with another type
-abbrev pub renamed : (Typ → Typ) → Outcome → Outcome
-renamed other (Outcome.Gives t refs) = Outcome.Gives (other t) refs
-renamed other (Outcome.Breaks fault) = Outcome.Breaks fault
+breaks rule place found wanted = Err (record { rule = rule; place = place; found = found; wanted = wanted })
 
 -- a part, and then the rest, which gets the part's type
 abbrev pub then_ : Outcome → (Typ → Outcome) → Outcome
-then_ (Outcome.Gives t refs) rest = storing refs (rest t)
-then_ (Outcome.Breaks fault) rest = Outcome.Breaks fault
+then_ (Ok t) rest = rest t
+then_ (Err fault) rest = Err fault
 
 -- the rest, if the test holds; else a fault
 abbrev pub need : Bool → Outcome → Outcome → Outcome
@@ -108,15 +91,15 @@ want_effect rule place q wanted rest = need (same_effect q wanted) (breaks rule 
 -- is tested, and the outcomes of the parts.
 
 abbrev pub function_row : Option OwnName → Effect → Typ → ℕ → Outcome → Outcome
-function_row None effect param body_at body = renamed (λ t. Typ.Fun effect param t) body
+function_row None effect param body_at body = then_ body (λ t. Ok (Typ.Fun effect param t))
 function_row (Some own) effect param body_at body =
-    then_ body (λ t. want body_at t own.result (gives (Typ.Fun effect param own.result)))
+    then_ body (λ t. want body_at t own.result (Ok (Typ.Fun effect param own.result)))
 
 -- a call of what has the type, once its argument is typed
 abbrev pub call_row : ℕ → ℕ → ℕ → Effect → Typ → Outcome → Outcome
 call_row at function_at argument_at q (Typ.Fun effect param result) argument =
     then_ argument (λ t. want argument_at t param
-    (need (fits effect q) (breaks 3 at (Shown.Mode effect) (Shown.Mode q)) (gives result)))
+    (need (fits effect q) (breaks 3 at (Shown.Mode effect) (Shown.Mode q)) (Ok result)))
 call_row at function_at argument_at q t argument = breaks 2 function_at (Shown.Ty t) Shown.Nothing
 
 abbrev pub app_row : ℕ → ℕ → ℕ → Effect → Outcome → Outcome → Outcome
@@ -131,7 +114,7 @@ part_row (Trees.More _ _) at part others = then_ part (λ t. want_unit at t othe
 abbrev pub if_row : ℕ → ℕ → Outcome → Outcome → Outcome → Outcome
 if_row test_at else_at test then_part else_part =
     then_ test (λ t. want test_at t Typ.Bool
-    (then_ then_part (λ u. then_ else_part (λ v. want else_at v u (gives u)))))
+    (then_ then_part (λ u. then_ else_part (λ v. want else_at v u (Ok u)))))
 
 -- what an operator gives
 abbrev pub op_type : Op → Typ
@@ -143,19 +126,17 @@ op_type Op.Same = Typ.Bool
 
 abbrev pub bin_row : Op → ℕ → ℕ → Outcome → Outcome → Outcome
 bin_row op left_at right_at left right =
-    then_ left (λ t. want left_at t Typ.Int (then_ right (λ u. want right_at u Typ.Int (gives (op_type op)))))
+    then_ left (λ t. want left_at t Typ.Int (then_ right (λ u. want right_at u Typ.Int (Ok (op_type op)))))
 
 abbrev pub not_row : ℕ → Outcome → Outcome
-not_row part_at part = then_ part (λ t. want part_at t Typ.Bool (gives Typ.Bool))
+not_row part_at part = then_ part (λ t. want part_at t Typ.Bool (Ok Typ.Bool))
 
--- a `ref` form stands before those within it
 abbrev pub ref_row : Sort → Outcome → Outcome
-ref_row sort (Outcome.Gives t refs) = Outcome.Gives (Typ.Ref sort t) (t ∷ refs)
-ref_row sort (Outcome.Breaks fault) = Outcome.Breaks fault
+ref_row sort part = then_ part (λ t. Ok (Typ.Ref sort t))
 
 -- what is read through the type
 abbrev pub read_row : ℕ → ℕ → Effect → Typ → Outcome
-read_row at part_at q (Typ.Ref sort content) = need (touches sort q) (breaks 4 at (Shown.Kind sort) (Shown.Mode q)) (gives content)
+read_row at part_at q (Typ.Ref sort content) = need (touches sort q) (breaks 4 at (Shown.Kind sort) (Shown.Mode q)) (Ok content)
 read_row at part_at q t = breaks 5 part_at (Shown.Ty t) Shown.Nothing
 
 abbrev pub get_row : ℕ → ℕ → Effect → Outcome → Outcome
@@ -163,7 +144,7 @@ get_row at part_at q part = then_ part (λ t. read_row at part_at q t)
 
 -- what is peeked at through the type
 abbrev pub peeked_row : ℕ → ℕ → Typ → Outcome
-peeked_row at part_at (Typ.Ref Sort.Protected content) = gives content
+peeked_row at part_at (Typ.Ref Sort.Protected content) = Ok content
 peeked_row at part_at (Typ.Ref Sort.Unprotected content) = breaks 4 at (Shown.Kind Sort.Unprotected) (Shown.Kind Sort.Protected)
 peeked_row at part_at t = breaks 5 part_at (Shown.Ty t) Shown.Nothing
 
@@ -174,45 +155,45 @@ peek_row at part_at q part = want_effect 3 at q Effect.Unprotected (then_ part (
 abbrev pub write_row : ℕ → ℕ → ℕ → Effect → Typ → Outcome → Outcome
 write_row at cell_at content_at q (Typ.Ref sort wanted) content =
     then_ content (λ t. want content_at t wanted
-    (need (touches sort q) (breaks 4 at (Shown.Kind sort) (Shown.Mode q)) (gives Typ.Unit)))
+    (need (touches sort q) (breaks 4 at (Shown.Kind sort) (Shown.Mode q)) (Ok Typ.Unit)))
 write_row at cell_at content_at q t content = breaks 5 cell_at (Shown.Ty t) Shown.Nothing
 
 abbrev pub set_row : ℕ → ℕ → ℕ → Effect → Outcome → Outcome → Outcome
 set_row at cell_at content_at q cell content = then_ cell (λ t. write_row at cell_at content_at q t content)
 
 abbrev pub async_row : ℕ → Outcome → Outcome
-async_row body_at body = then_ body (λ t. want_unit body_at t (gives Typ.Unit))
+async_row body_at body = then_ body (λ t. want_unit body_at t (Ok Typ.Unit))
 
 abbrev pub program_row : ℕ → Outcome → Outcome
-program_row at program = then_ program (λ t. want_unit at t (gives Typ.Unit))
+program_row at program = then_ program (λ t. want_unit at t (Ok Typ.Unit))
 
 abbrev pub block_row : ℕ → ℕ → Effect → Outcome → Outcome
 block_row at part_at q part =
-    want_effect 6 at q Effect.Protected (then_ part (λ t. want part_at t Typ.Bool (gives Typ.Unit)))
+    want_effect 6 at q Effect.Protected (then_ part (λ t. want part_at t Typ.Bool (Ok Typ.Unit)))
 
 abbrev pub unprotected_row : ℕ → Effect → Outcome → Outcome
 unprotected_row at q part = want_effect 7 at q Effect.Protected part
 
 abbrev pub print_row : ℕ → Outcome → Outcome
-print_row part_at part = then_ part (λ t. want part_at t Typ.Int (gives Typ.Unit))
+print_row part_at part = then_ part (λ t. want part_at t Typ.Int (Ok Typ.Unit))
 
 abbrev pub device_row : ℕ → ℕ → ℕ → ℕ → Effect → Outcome → Outcome
 device_row devices at part_at device q part =
     want_effect 3 at q Effect.Unprotected
     (need (nat_lt device devices) (breaks 8 at (Shown.Device device) (Shown.Device devices))
-    (then_ part (λ t. want part_at t Typ.Int (gives Typ.Int))))
+    (then_ part (λ t. want part_at t Typ.Int (Ok Typ.Int))))
 
 abbrev pub pairing_row : Outcome → Outcome → Outcome
-pairing_row first second = then_ first (λ t. then_ second (λ u. gives (Typ.Pair t u)))
+pairing_row first second = then_ first (λ t. then_ second (λ u. Ok (Typ.Pair t u)))
 
 -- the first part of the type
 abbrev pub first_of : ℕ → Typ → Outcome
-first_of part_at (Typ.Pair first second) = gives first
+first_of part_at (Typ.Pair first second) = Ok first
 first_of part_at t = breaks 11 part_at (Shown.Ty t) Shown.Nothing
 
 -- its second part
 abbrev pub second_of : ℕ → Typ → Outcome
-second_of part_at (Typ.Pair first second) = gives second
+second_of part_at (Typ.Pair first second) = Ok second
 second_of part_at t = breaks 11 part_at (Shown.Ty t) Shown.Nothing
 
 abbrev pub first_row : ℕ → Outcome → Outcome
@@ -228,7 +209,7 @@ stray at = breaks 0 at Shown.Nothing Shown.Nothing
 -- the type that is known, if one is
 abbrev pub known : ℕ → Option Typ → Outcome
 known at None = stray at
-known at (Some t) = gives t
+known at (Some t) = Ok t
 
 -- a cell's reference type
 abbrev pub cell_type : Option (Sort × Typ) → Option Typ
@@ -304,24 +285,73 @@ module _ (devices : ℕ) (cells : ℕ → Option (Sort × Typ)) where
 
     -- the type of a value held at a place; a held function is typed as its form, with no names around it
     pub typed_value : ℕ → Val → Outcome
-    typed_value at Val.Unit = gives Typ.Unit
-    typed_value at (Val.Bool b) = gives Typ.Bool
-    typed_value at (Val.Int n) = gives Typ.Int
+    typed_value at Val.Unit = Ok Typ.Unit
+    typed_value at (Val.Bool b) = Ok Typ.Bool
+    typed_value at (Val.Int n) = Ok Typ.Int
     typed_value at (Val.Loc l) = known at (cell_type (cells l))
     typed_value at (Val.Fun head body) =
         function_row head.own head.effect head.param_type at
         (typed (λ _. at) (within head.effect head.own head.param head.param_type unscoped) head.effect 0 body)
     typed_value at (Val.Pair first second) = pairing_row (typed_value at first) (typed_value at second)
 
+  -- the rest, which gets the type of a part that has one
+  abbrev pub under : Outcome → (Typ → List Typ) → List Typ
+  under (Ok t) rest = rest t
+  under (Err fault) rest = []
+
+  unfoldable mutual
+    -- the types of the values that the `ref` forms of a typed term store, in the order of the text
+    pub stored : (ℕ → ℕ) → Scope → Effect → ℕ → Tree → List Typ
+    stored places names q i (Tree.Held v) = []
+    stored places names q i (Tree.Var x) = []
+    stored places names q i (Tree.Lambda head body) =
+        stored places (within head.effect head.own head.param head.param_type names) head.effect (i + 1) body
+    stored places names q i (Tree.App function argument) =
+        stored places names q (i + 1) function ++ stored places names q (i + 1 + nodes function) argument
+    stored places names q i (Tree.Let x bound body) =
+        stored places names q (i + 1) bound ++
+        under (typed places names q (i + 1) bound) (λ t. stored places (bind x t names) q (i + 1 + nodes bound) body)
+    stored places names q i (Tree.Do parts) = stored_parts places names q (i + 1) parts
+    stored places names q i (Tree.If test then_part else_part) =
+        stored places names q (i + 1) test ++ stored places names q (i + 1 + nodes test) then_part ++
+        stored places names q (i + 1 + nodes test + nodes then_part) else_part
+    stored places names q i (Tree.Bin op left right) =
+        stored places names q (i + 1) left ++ stored places names q (i + 1 + nodes left) right
+    stored places names q i (Tree.Not part) = stored places names q (i + 1) part
+    stored places names q i (Tree.Ref sort part) =
+        under (typed places names q (i + 1) part) (λ t. t ∷ stored places names q (i + 1) part)
+    stored places names q i (Tree.Get part) = stored places names q (i + 1) part
+    stored places names q i (Tree.Peek part) = stored places names q (i + 1) part
+    stored places names q i (Tree.Set cell content) =
+        stored places names q (i + 1) cell ++ stored places names q (i + 1 + nodes cell) content
+    stored places names q i (Tree.Async body) = stored places names Effect.Protected (i + 1) body
+    stored places names q i (Tree.Block part) = stored places names q (i + 1) part
+    stored places names q i (Tree.Unprotected part) = stored places names Effect.Unprotected (i + 1) part
+    stored places names q i (Tree.Print part) = stored places names q (i + 1) part
+    stored places names q i (Tree.Call device part) = stored places names q (i + 1) part
+    stored places names q i (Tree.Pairing first second) =
+        stored places names q (i + 1) first ++ stored places names q (i + 1 + nodes first) second
+    stored places names q i (Tree.First part) = stored places names q (i + 1) part
+    stored places names q i (Tree.Second part) = stored places names q (i + 1) part
+
+    pub stored_parts : (ℕ → ℕ) → Scope → Effect → ℕ → Trees → List Typ
+    stored_parts places names q i Trees.None = []
+    stored_parts places names q i (Trees.More part rest) =
+        stored places names q i part ++ stored_parts places names q (i + nodes part) rest
+
 -- a program has no cells before it runs
 abbrev pub no_cells : ℕ → Option (Sort × Typ)
 no_cells l = None
 
--- A program's stored types, or its first fault: it is Unit under protected.
+-- Whether a program is Unit under protected: Unit, or the first fault. Its nodes have these places.
 abbrev pub typing : ℕ → List ℕ → Tree → Outcome
 typing devices places term =
     program_row (slice_index places 0) (typed devices no_cells (slice_index places) unscoped Effect.Protected 0 term)
 
+-- the types of the values that its `ref` forms store
+abbrev pub ref_types : ℕ → List ℕ → Tree → List Typ
+ref_types devices places term = stored devices no_cells (slice_index places) unscoped Effect.Protected 0 term
+
 -- the program is Unit under protected, and stores values of these types
 abbrev pub Accepts : ℕ → List ℕ → Tree → List Typ → Type 0
-Accepts devices places term refs = typing devices places term ≡ Outcome.Gives Typ.Unit refs
+Accepts devices places term refs = (typing devices places term ≡ Ok Typ.Unit) × (refs ≡ ref_types devices places term)

@@ -1,12 +1,12 @@
-use Rattle.std.proofs.Common.{◌≡◌, ℕ, List, length, IfOk, Ok, Err, Result, Vec, Global, All, sym, ap, ◌∙◌, subst}
+use Rattle.std.proofs.Common.{◌≡◌, ℕ, List, IfOk, Ok, Err, Result, Vec, Global, subst}
 use Rattle.ame_lex.specs.declared.tokens.Token.{Token}
 use Rattle.ame_lex.specs.declared.tokens.LexFault.{LexFault}
-use Rattle.ame_lex.specs.declared.tokens.LexFault.TheVariants.{BadByte, LongNumber, NoMemory}
+use Rattle.ame_lex.specs.declared.tokens.LexFault.TheVariants.{BadByte, LongNumber}
 use Rattle.ame_lex.specs.Grammar.{Lexes}
 use Rattle.ame_lex.specs.Reading.{Answers, tokens_of}
-use Rattle.ame_lex.specs.Tokens.{IsWithin, InOrder}
 use Rattle.ame_lex.proofs.Soundness.{lexes_text}
 use Rattle.ame_lex.proofs.Places.{ordered_tokens, tokens_within}
+use Rattle.ame_lex.proofs.Spelling.{tokens_spell}
 use Rattle.ame_lex.proofs.lexer.lex.Goals as goal
 
 -- what is read of the text is what it is by the grammar
@@ -40,3 +40,6 @@ returns-clause-within c = read_ok _ c.scan.result c.scan.ensures (tokens_within 
 
 pub returns-clause-in_order : goal.returns-clause-in_order
 returns-clause-in_order c = read_ok _ c.scan.result c.scan.ensures (ordered_tokens c.args.text.now)
+
+pub returns-clause-spelled : goal.returns-clause-spelled
+returns-clause-spelled c = read_ok _ c.scan.result c.scan.ensures (tokens_spell c.args.text.now)

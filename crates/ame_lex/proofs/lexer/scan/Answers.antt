@@ -1,5 +1,5 @@
-use Rattle.std.proofs.Common.{◌≡◌, ◌<◌, length, [], sym, ap, ◌∙◌, subst, arith, rules}
-use Rattle.ame_lex.proofs.ScanLemmas.{IsSoFar, begins_so, after_space, after_found, at_bad, at_long, at_end}
+use Rattle.std.proofs.Common.{◌<◌, length, sym, rules}
+use Rattle.ame_lex.proofs.ScanLemmas.{begins_so, after_space, after_found, at_bad, at_long, at_end}
 use Rattle.ame_lex.proofs.lexer.scan.Goals as goal
 
 pub loop-rest-init : goal.loop-rest-init

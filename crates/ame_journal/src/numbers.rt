@@ -51,9 +51,5 @@ pub fn signed_number(word: &[u8]) -> Option<i64>
     let value = signed_value(word)?;
     let mut buffer = Buffer::new();
     let spelled = buffer.format(value).as_bytes();
-    if spelled == word {
-        Some(value)
-    } else {
-        None
-    }
+    if spelled == word { Some(value) } else { None }
 }

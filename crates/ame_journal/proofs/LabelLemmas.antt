@@ -1,15 +1,14 @@
 -- What is replayed unfolds into labels, each of which is legal.
-use Rattle.std.proofs.Common.{◌≡◌, ℕ, zero, suc, ◌==◌, ◌+◌, ◌<◌, ◌⊎◌, inl, inr, ℤ, Bool, true, false, List, [], ◌∷◌, ◌++◌, map, length, Option, Some, None, option_and_then, option_map, is_some, is_none, if◌then◌else◌, refl, sym, ap, ◌∙◌, subst, arith, eqb-true}
+use Rattle.std.proofs.Common.{◌≡◌, ℕ, zero, suc, ◌==◌, ◌⊎◌, inl, inr, ℤ, Bool, true, false, List, [], ◌∷◌, ◌++◌, map, Option, Some, None, option_and_then, option_map, is_some, is_none, if◌then◌else◌, refl, sym, ap, ◌∙◌, subst, arith, eqb-true}
 use Rattle.std.proofs.lemmas.Option.{option_and_then_some}
 use Rattle.ame_term.specs.Act.{Act}
-use Rattle.ame_term.specs.Tree.{Tree}
-use Rattle.ame_term.specs.State.{State, after, run, IsRun}
+use Rattle.ame_term.specs.State.{State, after, run}
 use Rattle.ame_term.specs.declared.semantics.StepKind.{StepKind}
 use Rattle.ame_term.specs.declared.semantics.Label.{Label}
 use Rattle.ame_journal.specs.declared.entry.Entry.{Entry}
 use Rattle.ame_journal.specs.declared.entry.EntryKind.{EntryKind}
-use Rattle.ame_journal.specs.Replay.{Replayed, Supply, member_act, next_kind, fresh_of, steps, fragment, attempt, settled, entering, leaving, staying, noted, is_at_unprotected, is_inside, is_failing, is_tall, fails_after, locations, or_else, replay_ran, replay_free, replay_kind, replay_entry, replay_from, replay, begun}
-use Rattle.ame_journal.specs.Labels.{made_by, answer_of, Answers, AreSteps, fragment_labels, free_labels, attempt_labels, Unfolds, UnfoldsAll}
+use Rattle.ame_journal.specs.Replay.{Replayed, Supply, member_act, next_kind, fresh_of, steps, fragment, attempt, settled, entering, leaving, staying, noted, is_at_unprotected, is_inside, is_failing, is_tall, fails_after, locations, or_else, replay_ran, replay_free, replay_kind, replay_entry, replay_from}
+use Rattle.ame_journal.specs.Labels.{answer_of, Answers, AreSteps, fragment_labels, free_labels, attempt_labels, Unfolds, UnfoldsAll}
 
 -- Runs
 
@@ -85,10 +84,11 @@ steps_run label i (suc n) fresh answer s t e =
     option_and_then_some _ _ _ e (λ act at_act e1.
     option_and_then_some _ _ _ e1 (λ next at_kind e2.
     option_and_then_some _ _ _ e2 (λ w at_state e3.
-    let go = steps_run label i n next.1.fresh next.1.answer w t e3 in
-    (next.0 ∷ go.0,
-     one_step next.0 n fresh answer next.1 go.0 (told (n == 0) act fresh answer next.0 next.1 at_kind) go.1,
-     ap (λ o. option_and_then (λ v. run v (map label go.0)) o) at_state ∙ go.2))))
+    let go = steps_run label i n next.1.fresh next.1.answer w t e3 in (
+      next.0 ∷ go.0,
+      one_step next.0 n fresh answer next.1 go.0 (told (n == 0) act fresh answer next.0 next.1 at_kind) go.1,
+      ap (λ o. option_and_then (λ v. run v (map label go.0)) o) at_state ∙ go.2,
+    ))))
 
 pub fragment_run : (i n : ℕ) (fresh : List ℕ) (s t : State) → fragment i n fresh s ≡ Some t →
     (kinds : List StepKind) × AreSteps kinds n fresh None × (run s (fragment_labels i kinds) ≡ Some t)
@@ -118,13 +118,13 @@ ran_settled r i n fresh t outside e =
     let f = fragment_run i n fresh r.state s made in
     elim (settled-cases r i t (after s Label.Leave) (after s Label.End) settles) [
       | inl x ↦
-        let labels = fragment_labels i f.0 ++ Label.Leave ∷ [] in
-        let runs = run-two r.state s x.0 (fragment_labels i f.0) (Label.Leave ∷ []) f.2 (run-one s x.0 Label.Leave x.1) in
-        (labels, subst (λ u. Unfolds r i EntryKind.Ran n fresh None labels u) x.2 (Unfolds.leaves f.0 n fresh x.0 outside f.1 runs))
+          let labels = fragment_labels i f.0 ++ Label.Leave ∷ [] in
+          let runs = run-two r.state s x.0 (fragment_labels i f.0) (Label.Leave ∷ []) f.2 (run-one s x.0 Label.Leave x.1) in
+          (labels, subst (λ u. Unfolds r i EntryKind.Ran n fresh None labels u) x.2 (Unfolds.leaves f.0 n fresh x.0 outside f.1 runs))
       | inr x ↦
-        let labels = fragment_labels i f.0 ++ Label.End ∷ [] in
-        let runs = run-two r.state s x.0 (fragment_labels i f.0) (Label.End ∷ []) f.2 (run-one s x.0 Label.End x.1) in
-        (labels, subst (λ u. Unfolds r i EntryKind.Ran n fresh None labels u) x.2 (Unfolds.ends f.0 n fresh x.0 outside f.1 runs))
+          let labels = fragment_labels i f.0 ++ Label.End ∷ [] in
+          let runs = run-two r.state s x.0 (fragment_labels i f.0) (Label.End ∷ []) f.2 (run-one s x.0 Label.End x.1) in
+          (labels, subst (λ u. Unfolds r i EntryKind.Ran n fresh None labels u) x.2 (Unfolds.ends f.0 n fresh x.0 outside f.1 runs))
     ])
 
 ran_resting : (r : Replayed) (i : ℕ) (t : Replayed) (b : Bool) → is_inside r i ≡ false → is_at_unprotected i r.state ≡ b →

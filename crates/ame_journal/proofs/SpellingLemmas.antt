@@ -1,5 +1,5 @@
 -- A line as it is written, part by part.
-use Rattle.std.proofs.Common.{◌≡◌, ℕ, suc, ◌+◌, ◌<◌, ◌≤◌, ◌^◌, List, [], ◌∷◌, ◌++◌, All, map, length, get_or, take, decimal, codes, Option, Some, None, Result, Ok, Err, OnOk, is_ok, true, refl, sym, ap, subst, ◌∙◌, arith, append-nil, append_assoc}
+use Rattle.std.proofs.Common.{◌≡◌, ℕ, ◌+◌, ◌<◌, ◌^◌, List, [], ◌∷◌, ◌++◌, All, map, length, get_or, take, decimal, codes, Some, None, Result, Ok, Err, OnOk, is_ok, true, refl, sym, ap, ◌∙◌, append-nil, append_assoc}
 use Rattle.std.specs.List.{flat_map, join_with_byte}
 use Rattle.std.proofs.lemmas.List.Elements.{All-push, All-same}
 use Rattle.std.proofs.lemmas.List.{take_more, map-append}
@@ -30,16 +30,16 @@ fresh-parts (l ∷ ls) = ap (λ t. part_of (decimal l) ++ t) (fresh-parts ls)
 -- a line, part by part
 pub line-parts : (old : List ℕ) (entry : Entry) →
     (((((((old ++ kind_word entry.kind) ++ part_of (decimal entry.seat)) ++ part_of (decimal entry.number)) ++ part_of (decimal entry.steps)) ++ fresh_text entry.fresh)
-      ++ answer_text entry.answer) ++ codes "\n") ≡ old ++ line_of entry
+    ++ answer_text entry.answer) ++ codes "\n") ≡ old ++ line_of entry
 line-parts old entry =
     let rest = map decimal entry.fresh ++ answer_words entry.answer in
     let tail : flat_map part_of rest ≡ fresh_text entry.fresh ++ answer_text entry.answer =
-      flat_map-append part_of (map decimal entry.fresh) (answer_words entry.answer) ∙ ap (λ t. t ++ flat_map part_of (answer_words entry.answer)) (fresh-parts entry.fresh)
-      ∙ ap (λ t. fresh_text entry.fresh ++ t) (answer-parts entry.answer) in
+    flat_map-append part_of (map decimal entry.fresh) (answer_words entry.answer) ∙ ap (λ t. t ++ flat_map part_of (answer_words entry.answer)) (fresh-parts entry.fresh)
+    ∙ ap (λ t. fresh_text entry.fresh ++ t) (answer-parts entry.answer) in
     let whole : join_with_byte 32 (words_of entry)
-        ≡ kind_word entry.kind ++ (part_of (decimal entry.seat) ++ (part_of (decimal entry.number) ++ (part_of (decimal entry.steps) ++ (fresh_text entry.fresh ++ answer_text entry.answer)))) =
-      join-parts (kind_word entry.kind) (decimal entry.seat ∷ decimal entry.number ∷ decimal entry.steps ∷ rest)
-      ∙ ap (λ t. kind_word entry.kind ++ (part_of (decimal entry.seat) ++ (part_of (decimal entry.number) ++ (part_of (decimal entry.steps) ++ t)))) tail in
+    ≡ kind_word entry.kind ++ (part_of (decimal entry.seat) ++ (part_of (decimal entry.number) ++ (part_of (decimal entry.steps) ++ (fresh_text entry.fresh ++ answer_text entry.answer)))) =
+    join-parts (kind_word entry.kind) (decimal entry.seat ∷ decimal entry.number ∷ decimal entry.steps ∷ rest)
+    ∙ ap (λ t. kind_word entry.kind ++ (part_of (decimal entry.seat) ++ (part_of (decimal entry.number) ++ (part_of (decimal entry.steps) ++ t)))) tail in
     sym (ap (λ t. old ++ (t ++ codes "\n")) whole ∙ regroup old (kind_word entry.kind) (part_of (decimal entry.seat)) (part_of (decimal entry.number)) (part_of (decimal entry.steps)) (fresh_text entry.fresh) (answer_text entry.answer) (codes "\n"))
   where
     regroup : (a b c d e f g h : List ℕ) → a ++ ((b ++ (c ++ (d ++ (e ++ (f ++ g))))) ++ h) ≡ ((((((a ++ b) ++ c) ++ d) ++ e) ++ f) ++ g) ++ h

@@ -1,14 +1,14 @@
 -- Lines of a text, and the words of a line, are told apart by line feeds and spaces.
-use Rattle.std.proofs.Common.{◌≡◌, ◌≢◌, ℕ, ℤ, pos, negsuc, suc, ◌+◌, ◌-◌, ◌<◌, ◌≤◌, ◌^◌, Bool, true, false, true≢false, not, cond, ◌&&◌, ◌==◌, eqb, eqb-true, List, [], ◌∷◌, ◌++◌, All, map, length, get_or, take, drop, decimal, codes, Option, Some, None, IfSome, FitsSigned, w64, refl, sym, ap, subst, ◌∙◌, arith, append-nil, append_assoc, length-append}
+use Rattle.std.proofs.Common.{◌≡◌, ℕ, ℤ, pos, negsuc, suc, ◌+◌, ◌-◌, ◌<◌, ◌≤◌, ◌^◌, Bool, true, false, true≢false, not, cond, ◌&&◌, ◌==◌, eqb, eqb-true, List, [], ◌∷◌, ◌++◌, All, map, length, get_or, take, drop, decimal, codes, Option, Some, None, IfSome, FitsSigned, w64, refl, sym, ap, subst, ◌∙◌, arith, append-nil, append_assoc, length-append}
 use Rattle.std.specs.Fmt.{signed_decimal}
-use Rattle.std.specs.List.{flat_map, join_with_byte, slice_split, position_or_len}
+use Rattle.std.specs.List.{flat_map, join_with_byte, position_or_len}
 use Rattle.std.proofs.lemmas.Bool.{ne_eqb}
 use Rattle.std.proofs.lemmas.List.{take_all, take_more}
 use Rattle.std.proofs.lemmas.Grind.{flat_map-append}
 use Rattle.std.proofs.lemmas.List.Elements.{All-nil, All-cons, All-head, All-tail, All-append, All-same, All-push, All-from_get_or}
 use Rattle.std.proofs.lemmas.List.Splits.{slice_split_at, slice_split_none, join_with_byte-slice_split}
 use Rattle.std.proofs.lemmas.Str.Parse.{digit_at}
-use Rattle.std.proofs.lemmas.Fmt.{decimal_injective, signed_decimal_injective, decimal_is_IsNumeral, decimal_nonempty}
+use Rattle.std.proofs.lemmas.Fmt.{decimal_is_IsNumeral}
 use Rattle.ame_journal.specs.declared.entry.Entry.{Entry}
 use Rattle.ame_journal.specs.declared.entry.EntryKind.{EntryKind}
 use Rattle.ame_journal.specs.Kinds.{kind_word}
@@ -248,7 +248,7 @@ one_written text new entries i d inside before is spellable =
     let e = get_or entries i d in
     let more : take (i + 1) entries ≡ take i entries ++ e ∷ [] = take_more entries i d inside in
     let written : text_of (take i entries ++ e ∷ []) ≡ text_of (take i entries) ++ line_of e =
-      flat_map-append line_of (take i entries) (e ∷ []) ∙ ap (λ t. text_of (take i entries) ++ t) (append-nil (line_of e)) in
+    flat_map-append line_of (take i entries) (e ∷ []) ∙ ap (λ t. text_of (take i entries) ++ t) (append-nil (line_of e)) in
     record {
       spelled = is ∙ ap (λ t. t ++ line_of e) before.spelled ∙ sym written ∙ ap text_of (sym more);
       spellable = All-same IsSpellable _ _ more (All-push IsSpellable (take i entries) e before.spellable spellable);

@@ -1,14 +1,13 @@
 -- A text tells its entries, and its first bad line.
-use Rattle.std.proofs.Common.{◌≡◌, ◌≢◌, ℕ, ℤ, pos, negsuc, suc, ◌+◌, ◌<◌, ◌≤◌, ◌^◌, List, [], ◌∷◌, ◌++◌, All, map, length, decimal, codes, Option, Some, None, IfSome, FitsSigned, w64, refl, sym, ap, ◌∙◌, arith, append-nil, append_assoc}
+use Rattle.std.proofs.Common.{◌≡◌, ◌≢◌, ℕ, ℤ, suc, List, [], ◌∷◌, ◌++◌, All, map, length, decimal, Option, Some, None, IfSome, FitsSigned, w64, refl, sym, ap, ◌∙◌, arith, append_assoc}
 use Rattle.std.specs.Fmt.{signed_decimal}
 use Rattle.std.proofs.lemmas.List.Elements.{All-head, All-tail}
 use Rattle.std.proofs.lemmas.Fmt.{decimal_injective, signed_decimal_injective}
 use Rattle.ame_journal.specs.declared.entry.Entry.{Entry}
-use Rattle.ame_journal.specs.declared.entry.EntryKind.{EntryKind}
 use Rattle.ame_journal.specs.Kinds.{kind_word}
 use Rattle.ame_journal.specs.Words.{words}
 use Rattle.ame_journal.specs.Lines.{ReadsNoLine}
-use Rattle.ame_journal.specs.Text.{answer_words, words_of, line_of, text_of, IsSpellable, IsText, IsFirstBad}
+use Rattle.ame_journal.specs.Text.{answer_words, words_of, line_of, text_of, IsSpellable}
 use Rattle.ame_journal.proofs.LineLemmas.{kind_word-same, same-fresh, no_location}
 use Rattle.ame_journal.proofs.TextLemmas.{first-same, bare, bare-lacks, words-bare, line-cut}
 

@@ -1,8 +1,6 @@
 -- How a line is cut into words.
-use Rattle.std.proofs.Common.{◌≡◌, ◌≢◌, ℕ, suc, ◌+◌, ◌<◌, ◌≤◌, ◌^◌, Bool, true, false, not, cond, eqb, List, [], ◌∷◌, ◌++◌, All, map, length, take, drop, decimal, Option, Some, None, IsTrue, is_none, is_some, ◌-◌, refl, sym, ap, ◌∙◌, arith}
-use Rattle.std.specs.List.{slice_split, onto_first, join_with_byte, position_or_len}
-use Rattle.std.proofs.lemmas.List.Elements.{All-head, All-tail, All-append}
-use Rattle.std.proofs.lemmas.List.Splits.{slice_split_at, slice_split_none}
+use Rattle.std.proofs.Common.{◌≡◌, ◌≢◌, ℕ, suc, ◌+◌, ◌<◌, ◌≤◌, ◌^◌, Bool, true, false, not, cond, eqb, List, [], ◌∷◌, length, take, drop, decimal, Option, Some, None, IsTrue, is_none, is_some, ◌-◌, refl, sym, ap, ◌∙◌, arith}
+use Rattle.std.specs.List.{onto_first}
 use Rattle.std.proofs.lemmas.Fmt.{decimal_injective}
 use Rattle.std.proofs.lemmas.List.{take_all}
 use denote.Ref.{Bor}
@@ -18,7 +16,7 @@ one-plus n = omega arith
 
 cut_at : (b : ℕ) (rest : List ℕ) (v : Bool) → words rest ≡ take (word_len rest) rest ∷ words_behind (drop (word_len rest) rest) →
     cond v ([] ∷ words rest) (onto_first b (words rest))
-        ≡ take (cond (not v) (1 + word_len rest) 0) (b ∷ rest) ∷ words_behind (drop (cond (not v) (1 + word_len rest) 0) (b ∷ rest))
+    ≡ take (cond (not v) (1 + word_len rest) 0) (b ∷ rest) ∷ words_behind (drop (cond (not v) (1 + word_len rest) 0) (b ∷ rest))
 cut_at b rest true e = refl
 cut_at b rest false e = rw one-plus (ap (onto_first b) e)
 

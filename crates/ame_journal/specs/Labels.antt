@@ -1,5 +1,5 @@
 -- The labels that a journal stands for: those of its entries, one entry after another.
-use Rattle.std.specs.Prelude.{◌≡◌, ◌<◌, ℕ, suc, ℤ, Bool, true, false, List, [], ◌∷◌, ◌++◌, map, length, Option, Some, None}
+use Rattle.std.specs.Prelude.{◌≡◌, ℕ, suc, ℤ, Bool, true, false, List, [], ◌∷◌, ◌++◌, map, length, Option, Some, None}
 use Rattle.std.specs.List.{flat_map}
 use Rattle.ame_term.specs.State.{State, run}
 use Rattle.ame_term.specs.declared.semantics.StepKind.{StepKind}

@@ -1,5 +1,5 @@
 -- What is read from the words of a line, part by part.
-use Rattle.std.specs.Prelude.{◌≡◌, ◌≢◌, ◌==◌, ◌+◌, ◌<◌, ◌^◌, ℕ, ℤ, Bool, false, List, [], ◌∷◌, ◌++◌, map, All, Option, Some, None, IfSome, FitsSigned, decimal, codes}
+use Rattle.std.specs.Prelude.{◌≡◌, ◌≢◌, ◌==◌, ◌<◌, ◌^◌, ℕ, ℤ, false, List, [], ◌∷◌, ◌++◌, map, All, Option, Some, None, IfSome, FitsSigned, decimal, codes}
 use Rattle.std.specs.Fmt.{signed_decimal}
 use Rattle.ame_journal.specs.declared.entry.Entry.{Entry}
 use Rattle.ame_journal.specs.Text.{line_of, IsSpellable}

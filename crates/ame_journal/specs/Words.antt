@@ -1,9 +1,7 @@
 -- Words of a line, and what is read from them.
-use Rattle.std.specs.Prelude.{◌≡◌, ◌≢◌, ◌==◌, ◌+◌, ◌-◌, ◌*◌, ◌<◌, ◌^◌, ℕ, ℤ, List, [], ◌∷◌, ◌++◌, map, drop, Option, Some, None, FitsSigned, decimal, ⊤}
-use Rattle.std.specs.Int.{w64}
+use Rattle.std.specs.Prelude.{◌≡◌, ◌≢◌, ◌==◌, ◌+◌, ◌-◌, ◌*◌, ℕ, List, [], ◌∷◌, drop, Option, Some, None}
 use denote.Ref.{Bor}
 use Rattle.std.specs.List.{slice_split, fold, position_or_len}
-use Rattle.std.specs.Fmt.{signed_decimal}
 
 -- the words that the spaces of a line separate
 abbrev pub words : List ℕ → List (List ℕ)

@@ -8,9 +8,9 @@ mod laws;
 mod line;
 mod numbers;
 mod spelling;
-mod text;
 #[cfg(test)]
 mod tests;
+mod text;
 mod words;
 
 pub use entry::{Entry, EntryKind};

@@ -50,9 +50,6 @@ pub fn signed_number(word: &[u8]) -> Option<i64>
 {
     let value = signed_value(word)?;
     let mut buffer = Buffer::new();
-    if buffer.format(value).as_bytes() == word {
-        Some(value)
-    } else {
-        None
-    }
+    let spelled = buffer.format(value).as_bytes();
+    if spelled == word { Some(value) } else { None }
 }

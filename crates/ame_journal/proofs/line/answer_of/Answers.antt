@@ -1,4 +1,4 @@
-use Rattle.std.proofs.Common.{◌≡◌, sym, true≢false, subst}
+use Rattle.std.proofs.Common.{sym, true≢false, subst}
 use Rattle.ame_journal.specs.Text.{answer_words}
 use Rattle.ame_journal.specs.Words.{Reads}
 use Rattle.ame_journal.specs.Lines.{IsAnswer}

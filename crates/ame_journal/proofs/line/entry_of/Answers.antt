@@ -1,4 +1,4 @@
-use Rattle.std.proofs.Common.{◌∙◌, sym}
+use Rattle.std.proofs.Common.{◌∙◌}
 use Rattle.ame_journal.proofs.LineLemmas.{head_of, head_is, not_entry}
 use Rattle.ame_journal.proofs.line.entry_of.Goals as goal
 

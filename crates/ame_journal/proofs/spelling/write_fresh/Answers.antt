@@ -9,6 +9,7 @@ loop-location-preserved c =
     let locs = c.args.fresh.now in
     let is = c.in_ok-write_number.ensures.written in
     let number = c.from.ensures in
-    let text = c.loop-location.text.items in
-    (fresh-more c.args.text.now.items text _ locs i (record { 0 = 0 }) (omega arith) c.loop-location.invariant.0 (is ∙ ap (λ n. text ++ part_of (decimal n)) number),
-     small-more locs i (record { 0 = 0 }) (omega arith) c.loop-location.invariant.1 (omega arith))
+    let text = c.loop-location.text.items in (
+      fresh-more c.args.text.now.items text _ locs i (record { 0 = 0 }) (omega arith) c.loop-location.invariant.0 (is ∙ ap (λ n. text ++ part_of (decimal n)) number),
+      small-more locs i (record { 0 = 0 }) (omega arith) c.loop-location.invariant.1 (omega arith),
+    )

@@ -14,3 +14,6 @@ mod verdict;
 pub use ended::Ended;
 pub use report::{Report, refuse, run_words};
 pub use status::{Status, TextFault, TextKind};
+
+#[cfg(test)]
+mod tests;

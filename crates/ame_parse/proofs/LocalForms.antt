@@ -51,8 +51,8 @@ pub take_name_local : (m : ℕ) → IsLocal m (λ i. Ok (number i, named i))
 unfolding number named spelling
 take_name_local m i few = goes (take 1 i.rest) (sym (take-append-drop 1 i.rest)) refl
     (λ rest end few' alike.
-      ap (λ z. Ok (number_in i.names z, record i { rest = drop 1 (take 1 i.rest ++ rest); end = end; names = with_name i.names z })) (spelling_taken i.rest rest i.end end alike)
-      ∙ ap (λ z. Ok (number_in i.names (spelling_in i.rest), record i { rest = z; end = end; names = with_name i.names (spelling_in i.rest) })) (drop_alike i.rest rest i.end end alike))
+    ap (λ z. Ok (number_in i.names z, record i { rest = drop 1 (take 1 i.rest ++ rest); end = end; names = with_name i.names z })) (spelling_taken i.rest rest i.end end alike)
+    ∙ ap (λ z. Ok (number_in i.names (spelling_in i.rest), record i { rest = z; end = end; names = with_name i.names (spelling_in i.rest) })) (drop_alike i.rest rest i.end end alike))
 
 name_by_local : (m : ℕ) (next : Ahead) → IsLocal m (name_by next)
 name_by_local m a.Name = take_name_local m

@@ -131,7 +131,7 @@ enough_by n rest rest' so_far i (Err fault) e same = refl
 enough_at : (n : ℕ) (rest rest' : Rest) (so_far : List Tree) (i : Input) (ends : Bool)
     → ((so_far : List Tree) (j : Input) → left j < left i → rest so_far j ≡ rest' so_far j)
     → cond {A = Parser (List Tree)} ends (pure so_far) (λ i. and_then (term n i) (λ x. rest (so_far ++ x ∷ []))) i
-      ≡ cond {A = Parser (List Tree)} ends (pure so_far) (λ i. and_then (term n i) (λ x. rest' (so_far ++ x ∷ []))) i
+    ≡ cond {A = Parser (List Tree)} ends (pure so_far) (λ i. and_then (term n i) (λ x. rest' (so_far ++ x ∷ []))) i
 enough_at n rest rest' so_far i true same = refl
 enough_at n rest rest' so_far i false same = enough_by n rest rest' so_far i (term n i) refl same
 

@@ -11,12 +11,12 @@ use itoa::Buffer;
 pub(crate) type Line = ArrayString<64>;
 
 /// An integer in decimal.
-pub(crate) fn integer_line(n: i64) -> Line
-    ensures { result.bytes ≡ line_of n }
+pub(crate) fn integer_line(n: &i64) -> Line
+    ensures { result.bytes ≡ line_of n.now }
 {
     let mut buffer = Buffer::new();
     let mut line = Line::new();
-    line.push_str(buffer.format(n));
+    line.push_str(buffer.format(*n));
     line.push_str("\n");
     line
 }

@@ -4,3 +4,6 @@ pub mod NumberLemmas
 pub mod WordLemmas
 pub mod LineLemmas
 pub mod SpellingLemmas
+pub mod TextLemmas
+pub mod LabelLemmas
+pub mod UniqueLemmas

@@ -51,7 +51,7 @@ not_equals n h e =
     let byte : get_or (decimal n) 0 0 ≡ 61 = ap (λ w. get_or w 0 0) e in
     absurd (omega (arith, digit.1))
 
-no_location : (answer : Option ℤ) (n : ℕ) (rest : List (List ℕ)) → n < 2 ^ 64 → decimal n ∷ rest ≢ answer_words answer
+pub no_location : (answer : Option ℤ) (n : ℕ) (rest : List (List ℕ)) → n < 2 ^ 64 → decimal n ∷ rest ≢ answer_words answer
 no_location None n rest h e = cc
 no_location (Some a) n rest h e = not_equals n h cc
 

@@ -31,6 +31,18 @@ replay_from-append r (e ∷ entries) entry = behind (replay_entry r e) (λ t. re
     behind None go = refl
     behind (Some t) go = go t
 
+-- entries are replayed in the state that those before them give
+pub replay_from-front : (r : Replayed) (front rest : List Entry) →
+    replay_from r (front ++ rest) ≡ option_and_then (λ t. replay_from t rest) (replay_from r front)
+replay_from-front r [] rest = refl
+replay_from-front r (e ∷ front) rest = behind (replay_entry r e) (λ t. replay_from-front t front rest)
+  where
+    behind : (o : Option Replayed) →
+        ((t : Replayed) → replay_from t (front ++ rest) ≡ option_and_then (λ u. replay_from u rest) (replay_from t front)) →
+        option_and_then (λ t. replay_from t (front ++ rest)) o ≡ option_and_then (λ u. replay_from u rest) (option_and_then (λ t. replay_from t front) o)
+    behind None go = refl
+    behind (Some t) go = go t
+
 -- with more locations behind what is left
 abbrev with_more : List ℕ → Option (StepKind × Supply) → Option (StepKind × Supply)
 with_more xs None = None

@@ -1,5 +1,5 @@
 -- A line as it is written, part by part.
-use Rattle.std.proofs.Common.{◌≡◌, ℕ, suc, ◌+◌, ◌<◌, ◌≤◌, ◌^◌, List, [], ◌∷◌, ◌++◌, All, map, length, get_or, take, decimal, codes, Option, Some, None, Result, Ok, Err, OnOk, refl, sym, ap, subst, ◌∙◌, arith, append-nil, append_assoc}
+use Rattle.std.proofs.Common.{◌≡◌, ℕ, suc, ◌+◌, ◌<◌, ◌≤◌, ◌^◌, List, [], ◌∷◌, ◌++◌, All, map, length, get_or, take, decimal, codes, Option, Some, None, Result, Ok, Err, OnOk, is_ok, true, refl, sym, ap, subst, ◌∙◌, arith, append-nil, append_assoc}
 use Rattle.std.specs.List.{flat_map, join_with_byte}
 use Rattle.std.proofs.lemmas.List.Elements.{All-push, All-same}
 use Rattle.std.proofs.lemmas.List.{take_more, map-append}
@@ -75,3 +75,7 @@ on_ok P Q (Err e) go h = h
 pub holds_ok : {T E : Type 0} (P : Type 0) (r : Result T E) → P → OnOk r P
 holds_ok P (Ok x) h = h
 holds_ok P (Err e) h = tt
+
+pub from_ok : {T E : Type 0} (P : Type 0) (r : Result T E) → is_ok r ≡ true → OnOk r P → P
+from_ok P (Ok x) ok h = h
+from_ok P (Err e) ok h = cc

@@ -5,3 +5,4 @@ pub mod Text
 pub mod Words
 pub mod Cursor
 pub mod Lines
+pub mod Labels

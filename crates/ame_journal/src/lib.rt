@@ -4,11 +4,19 @@
 mod entry;
 mod fault;
 mod journal;
+mod laws;
 mod line;
 mod numbers;
 mod spelling;
+mod text;
+#[cfg(test)]
+mod tests;
 mod words;
 
 pub use entry::{Entry, EntryKind};
 pub use fault::JournalFault;
 pub use journal::Journal;
+pub use laws::{
+    first_bad_line_is_one, front_is_replayed, journal_is_one_run, one_more_entry,
+    spelled_has_no_bad_line, text_is_of_one_journal,
+};

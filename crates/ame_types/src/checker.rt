@@ -8,11 +8,10 @@ ghost use Rattle.ame_term.specs.declared.types.Effect.TheVariants.{Protected, Un
 
 use crate::expect::{agree, applied, broken, constant, expect, first_of, op_ty, peeked, read, require, second_of, written};
 use crate::fault::{Shown, TypesFail};
-use crate::interim::{boxed, copy_ty};
 use crate::same::same_ty;
 use crate::scope::Scope;
 use crate::seen::{Checker, Seen, fill, reserve};
-use ame_term::{Effect, Function, Name, Op, Own, Sort, Term, Ty, Value};
+use ame_term::{Effect, Function, Name, Op, Own, Sort, Term, Ty, Value, boxed, copy_ty};
 
 #[tactic(auto, unfolding(ame_term::specs::Typing::typed, ame_term::specs::Typing::stored, ame_term::specs::Written::nodes, ame_term::specs::Written::IsWritten, ame_term::specs::Written::IsBound))]
 impl Checker<'_> {

@@ -4,7 +4,6 @@
 mod checker;
 mod expect;
 mod fault;
-mod interim;
 mod program;
 mod same;
 mod scope;

@@ -1,16 +1,16 @@
 -- A fault stands at the first token at which the reading can't go on.
-use Rattle.std.proofs.Common.{◌≡◌, refl, sym, ap, subst, ◌∙◌, ℕ, ◌+◌, ◌<◌, ◌≤◌, List, [], ◌∷◌, ◌++◌, length, length-append, map, arith, Result, Ok, Err}
+use Rattle.std.proofs.Common.{◌≡◌, refl, sym, ap, subst, ◌∙◌, ℕ, ◌+◌, ◌≤◌, List, [], ◌∷◌, ◌++◌, length, map, arith, Ok, Err}
 use Rattle.ame_lex.specs.Bytes.{Text}
 use Rattle.ame_lex.specs.Reading.{tokens_of}
 use Rattle.ame_lex.specs.Tokens.{InOrder}
 use Rattle.ame_lex.specs.declared.tokens.Token.{Token}
 use Rattle.ame_term.specs.Tree.{Tree}
 use Rattle.ame_parse.specs.declared.fault.ParseFault.{ParseFault}
-use Rattle.ame_parse.specs.Input.{Seen, Input, Outcome, Parser, place_in}
+use Rattle.ame_parse.specs.Input.{Seen, Input, Outcome, place_in}
 use Rattle.ame_parse.specs.Seen.{seen, start_of}
 use Rattle.ame_parse.specs.Reading.{program}
 use Rattle.ame_parse.specs.Fault.{place_of, HasTokens}
-use Rattle.ame_parse.specs.Text.{Source, Fault, source_by, reading_by, reading}
+use Rattle.ame_parse.specs.Text.{Fault, source_by, reading_by, reading}
 use Rattle.ame_parse.proofs.Locality.{swapped, Alike, LocalAt, goes, stops}
 use Rattle.ame_parse.proofs.LocalTerms.{local_program}
 

@@ -1,12 +1,10 @@
 -- What is read, or the fault, depends on no token after the next one.
-use Rattle.std.proofs.Common.{◌≡◌, refl, sym, ap, subst, ◌∙◌, ℕ, ◌+◌, ◌≤◌, List, [], ◌∷◌, ◌++◌, length, take, drop, length-append, append_assoc, arith, Ok, Err}
+use Rattle.std.proofs.Common.{◌≡◌, refl, sym, ap, subst, ◌∙◌, ℕ, ◌≤◌, List, [], ◌∷◌, ◌++◌, length, take, drop, length-append, append_assoc, arith, Ok, Err}
 use Rattle.std.proofs.lemmas.List.{take-append-drop}
-use Rattle.ame_parse.specs.declared.ahead.Ahead.{Ahead}
-use Rattle.ame_parse.specs.declared.ahead.Ahead.TheVariants as a
 use Rattle.ame_parse.specs.declared.fault.Want.{Want}
 use Rattle.ame_parse.specs.declared.fault.ParseFault.{ParseFault}
 use Rattle.ame_parse.specs.declared.fault.ParseFault.TheVariants.{Expected}
-use Rattle.ame_parse.specs.Input.{Seen, Input, Outcome, Parser, and_then, ◌>>=◌, pure, expected, peek, advance, mark, bind, unbind, ahead_in, place_in, spelling_in, ahead, place, spelling, after, number, named, marked, bound, unbound, is_closing, sees_closing}
+use Rattle.ame_parse.specs.Input.{Seen, Input, Outcome, Parser, and_then, ◌>>=◌, pure, expected, peek, advance, mark, bind, unbind, ahead_in, place_in, spelling_in, ahead, place, spelling, after, marked, bound, unbound, is_closing, sees_closing}
 use Rattle.ame_parse.specs.Fault.{place_of}
 
 -- the input with other tokens left, and another end

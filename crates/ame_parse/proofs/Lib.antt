@@ -8,6 +8,7 @@ pub mod Bound
 pub mod Locality
 pub mod LocalForms
 pub mod LocalTerms
+pub mod FirstFault
 pub mod Soundness
 pub mod NameLemmas
 pub mod ReaderLemmas

@@ -1,33 +1,25 @@
 -- Each form, type and program is read locally.
-use Rattle.std.proofs.Common.{◌≡◌, refl, sym, ap, subst, ◌∙◌, ℕ, zero, suc, ◌+◌, ◌-◌, ◌<◌, ◌≤◌, ◌==◌, Bool, true, false, cond, List, [], ◌∷◌, ◌++◌, length, take, drop, arith, Option, Some, None, Ok, Err}
+use Rattle.std.proofs.Common.{refl, sym, ap, ◌∙◌, ℕ, zero, suc, ◌-◌, ◌==◌, Bool, true, false, cond, List, [], ◌∷◌, ◌++◌, take, drop, Option, Some, None, Ok, Err}
 use Rattle.std.proofs.lemmas.List.{take-append-drop}
-use Rattle.std.specs.Option.{option_map}
 use Rattle.ame_term.specs.declared.types.Sort.{Sort}
 use Rattle.ame_term.specs.declared.types.Effect.{Effect}
-use Rattle.ame_term.specs.declared.types.Op.{Op}
-use Rattle.ame_term.specs.Tree.{Typ, Val, Tree, unit_tree}
+use Rattle.ame_term.specs.Tree.{Typ, Tree}
 use Rattle.ame_parse.specs.declared.words.Word.{Word}
 use Rattle.ame_parse.specs.declared.words.Word.TheVariants as w
 use Rattle.ame_parse.specs.declared.ahead.Ahead.{Ahead}
 use Rattle.ame_parse.specs.declared.ahead.Ahead.TheVariants as a
 use Rattle.ame_parse.specs.declared.fault.Want.TheVariants as want
-use Rattle.ame_parse.specs.declared.fault.ParseFault.TheVariants.{UnknownName, TooNested, Trailing}
+use Rattle.ame_parse.specs.declared.fault.ParseFault.TheVariants.{TooNested, Trailing}
 use Rattle.ame_parse.specs.declared.forms.OnePart.{OnePart}
 use Rattle.ame_parse.specs.declared.forms.TwoParts.{TwoParts}
-use Rattle.ame_parse.specs.declared.forms.Form.{Form}
-use Rattle.ame_parse.specs.declared.forms.Form.TheVariants as form_
-use Rattle.ame_parse.specs.Input.{Seen, Input, Outcome, Parser, and_then, ◌>>=◌, ◌>>◌, pure, peek, advance, mark, bind, unbind, ahead_in, ahead, place, spelling_in, spelling, after, number, named, marked, binds, left, is_closing, sees_closing, closing_by, closing, opening_by, opening, name_by, name, finish_by, finish}
+use Rattle.ame_parse.specs.Input.{Parser, ◌>>=◌, ◌>>◌, pure, peek, advance, bind, unbind, place, spelling_in, spelling, number, named, sees_closing, closing_by, closing, opening_by, opening, name_by, name, finish_by, finish}
 use Rattle.ame_parse.specs.Names.{number_in, with_name}
 use Rattle.ame_parse.specs.Letters.{sort_of, effect_of, device_of, sort_by, effect_by, device_by, sort, effect, device}
 use Rattle.ame_parse.specs.Types as t
 use Rattle.ame_parse.specs.Types.{ty, param}
-use Rattle.ame_parse.specs.Forms.{form_of, op_of, one_part, two_parts, row}
-use Rattle.ame_parse.specs.Reading.{one, two, choice, binding, more_from, more, first_two, sequence, reference, call, function, recursive, form_by, compound, variable, yielding, constant, atom_by, atom, term_by, term_of, nested, term, max_open, program}
-use Rattle.ame_parse.specs.Grammar.{IsTerm}
-use Rattle.ame_parse.proofs.Steps.{Leads}
-use Rattle.ame_parse.proofs.Soundness.{term_leads}
-use Rattle.ame_parse.proofs.Completeness.{term_takes}
-use Rattle.ame_parse.proofs.Locality.{swapped, Alike, IsLocal, goes, local_bind, local_same, local_pure, local_peek, local_see, local_sees_closing, local_fault, local_expected, local_advance, local_mark, local_bound, local_unbound, spelling_taken, drop_alike, spelling_alike}
+use Rattle.ame_parse.specs.Forms.{one_part, two_parts}
+use Rattle.ame_parse.specs.Reading.{one, two, choice, binding, more_from, reference, call, function, recursive}
+use Rattle.ame_parse.proofs.Locality.{IsLocal, goes, local_bind, local_pure, local_peek, local_see, local_sees_closing, local_fault, local_expected, local_advance, local_bound, local_unbound, spelling_taken, drop_alike}
 
 -- ---- steps by the next token
 
@@ -51,8 +43,8 @@ pub take_name_local : (m : ℕ) → IsLocal m (λ i. Ok (number i, named i))
 unfolding number named spelling
 take_name_local m i few = goes (take 1 i.rest) (sym (take-append-drop 1 i.rest)) refl
     (λ rest end few' alike.
-      ap (λ z. Ok (number_in i.names z, record i { rest = drop 1 (take 1 i.rest ++ rest); end = end; names = with_name i.names z })) (spelling_taken i.rest rest i.end end alike)
-      ∙ ap (λ z. Ok (number_in i.names (spelling_in i.rest), record i { rest = z; end = end; names = with_name i.names (spelling_in i.rest) })) (drop_alike i.rest rest i.end end alike))
+    ap (λ z. Ok (number_in i.names z, record i { rest = drop 1 (take 1 i.rest ++ rest); end = end; names = with_name i.names z })) (spelling_taken i.rest rest i.end end alike)
+    ∙ ap (λ z. Ok (number_in i.names (spelling_in i.rest), record i { rest = z; end = end; names = with_name i.names (spelling_in i.rest) })) (drop_alike i.rest rest i.end end alike))
 
 name_by_local : (m : ℕ) (next : Ahead) → IsLocal m (name_by next)
 name_by_local m a.Name = take_name_local m

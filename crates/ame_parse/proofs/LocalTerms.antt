@@ -1,7 +1,7 @@
 -- Terms and programs are read locally.
-use Rattle.std.proofs.Common.{◌≡◌, refl, sym, ap, subst, ◌∙◌, ℕ, zero, suc, ◌+◌, ◌<◌, ◌≤◌, ◌==◌, Bool, true, false, cond, List, [], ◌∷◌, ◌++◌, length, arith, Option, Some, None, Ok, Err}
+use Rattle.std.proofs.Common.{◌≡◌, refl, sym, ap, ◌∙◌, ℕ, zero, suc, ◌<◌, ◌≤◌, ◌==◌, Bool, true, false, cond, List, [], ◌∷◌, ◌++◌, length, arith, Option, Some, None, Ok, Err}
 use Rattle.std.specs.List.{list_any}
-use Rattle.ame_term.specs.Tree.{Typ, Val, Tree, unit_tree}
+use Rattle.ame_term.specs.Tree.{Val, Tree, unit_tree}
 use Rattle.ame_parse.specs.declared.words.Word.{Word}
 use Rattle.ame_parse.specs.declared.words.Word.TheVariants as w
 use Rattle.ame_parse.specs.declared.ahead.Ahead.{Ahead}
@@ -19,7 +19,7 @@ use Rattle.ame_parse.specs.Reading.{more_from, more, first_two, sequence, one, t
 use Rattle.ame_parse.proofs.Soundness.{term_leads}
 use Rattle.ame_parse.proofs.Completeness.{term_takes, term_at, atom_at}
 use Rattle.ame_parse.proofs.Locality.{swapped, IsLocal, goes, local_bind, local_same, local_pure, local_peek, local_fault, local_expected, local_advance, local_mark, spelling_alike}
-use Rattle.ame_parse.proofs.LocalForms.{take_name_local, local_finish, after_one, shut, local_ty, local_param, one_local, two_local, choice_local, reference_local, call_local, binding_local, function_local, recursive_local, more_from_local}
+use Rattle.ame_parse.proofs.LocalForms.{take_name_local, local_finish, after_one, shut, one_local, two_local, choice_local, reference_local, call_local, binding_local, function_local, recursive_local, more_from_local}
 
 -- ---- a name that is bound
 
@@ -131,7 +131,7 @@ enough_by n rest rest' so_far i (Err fault) e same = refl
 enough_at : (n : ℕ) (rest rest' : Rest) (so_far : List Tree) (i : Input) (ends : Bool)
     → ((so_far : List Tree) (j : Input) → left j < left i → rest so_far j ≡ rest' so_far j)
     → cond {A = Parser (List Tree)} ends (pure so_far) (λ i. and_then (term n i) (λ x. rest (so_far ++ x ∷ []))) i
-      ≡ cond {A = Parser (List Tree)} ends (pure so_far) (λ i. and_then (term n i) (λ x. rest' (so_far ++ x ∷ []))) i
+    ≡ cond {A = Parser (List Tree)} ends (pure so_far) (λ i. and_then (term n i) (λ x. rest' (so_far ++ x ∷ []))) i
 enough_at n rest rest' so_far i true same = refl
 enough_at n rest rest' so_far i false same = enough_by n rest rest' so_far i (term n i) refl same
 

@@ -1,12 +1,10 @@
 -- What is read, or the fault, depends on no token after the next one.
-use Rattle.std.proofs.Common.{◌≡◌, refl, sym, ap, subst, ◌∙◌, ℕ, ◌+◌, ◌≤◌, List, [], ◌∷◌, ◌++◌, length, take, drop, length-append, append_assoc, arith, Ok, Err}
+use Rattle.std.proofs.Common.{◌≡◌, refl, sym, ap, subst, ◌∙◌, ℕ, ◌≤◌, List, [], ◌∷◌, ◌++◌, length, take, drop, length-append, append_assoc, arith, Ok, Err}
 use Rattle.std.proofs.lemmas.List.{take-append-drop}
-use Rattle.ame_parse.specs.declared.ahead.Ahead.{Ahead}
-use Rattle.ame_parse.specs.declared.ahead.Ahead.TheVariants as a
 use Rattle.ame_parse.specs.declared.fault.Want.{Want}
 use Rattle.ame_parse.specs.declared.fault.ParseFault.{ParseFault}
 use Rattle.ame_parse.specs.declared.fault.ParseFault.TheVariants.{Expected}
-use Rattle.ame_parse.specs.Input.{Seen, Input, Outcome, Parser, and_then, ◌>>=◌, pure, expected, peek, advance, mark, bind, unbind, ahead_in, place_in, spelling_in, ahead, place, spelling, after, number, named, marked, bound, unbound, is_closing, sees_closing}
+use Rattle.ame_parse.specs.Input.{Seen, Input, Outcome, Parser, and_then, ◌>>=◌, pure, expected, peek, advance, mark, bind, unbind, ahead_in, place_in, spelling_in, ahead, place, spelling, after, marked, bound, unbound, is_closing, sees_closing}
 use Rattle.ame_parse.specs.Fault.{place_of}
 
 -- the input with other tokens left, and another end
@@ -66,19 +64,19 @@ module _ {A B : Type 0} (m : ℕ) (p : Parser A) (f : A → Parser B) (i : Input
   then_at x j used e same go o (goes {j = k} used' e' same' go') =
       goes (used ++ used') (e ∙ ap (λ z. used ++ z) e' ∙ sym (append_assoc used used' k.rest)) (same' ∙ same)
       (λ rest end few alike.
-        let front : Alike (used' ++ k.rest) k.end (used' ++ rest) end = alike_front used' k.rest rest k.end end alike in
-        let here : Alike j.rest j.end (used' ++ rest) end = subst (λ z. Alike z j.end (used' ++ rest) end) (sym e') (subst (λ z. Alike (used' ++ k.rest) z (used' ++ rest) end) same' front) in
-        ap (λ z. and_then (p (swapped i z end)) f) (append_assoc used used' rest)
-        ∙ ap (λ z. and_then z f) (go (used' ++ rest) end (omega (arith, ap length (append_assoc used used' rest))) here)
-        ∙ go' rest end (omega (arith, length-append (used ++ used') rest, length-append used used', length-append used' rest)) alike)
+      let front : Alike (used' ++ k.rest) k.end (used' ++ rest) end = alike_front used' k.rest rest k.end end alike in
+      let here : Alike j.rest j.end (used' ++ rest) end = subst (λ z. Alike z j.end (used' ++ rest) end) (sym e') (subst (λ z. Alike (used' ++ k.rest) z (used' ++ rest) end) same' front) in
+      ap (λ z. and_then (p (swapped i z end)) f) (append_assoc used used' rest)
+      ∙ ap (λ z. and_then z f) (go (used' ++ rest) end (omega (arith, ap length (append_assoc used used' rest))) here)
+      ∙ go' rest end (omega (arith, length-append (used ++ used') rest, length-append used used', length-append used' rest)) alike)
   then_at x j used e same go o (stops before from e' place stay) =
       stops (used ++ before) from (e ∙ ap (λ z. used ++ z) e' ∙ sym (append_assoc used before from)) (place ∙ ap (λ z. place_in z from) same)
       (λ rest end few alike.
-        let there : Alike from j.end rest end = subst (λ z. Alike from z rest end) (sym same) alike in
-        let here : Alike j.rest j.end (before ++ rest) end = subst (λ z. Alike z j.end (before ++ rest) end) (sym e') (alike_front before from rest j.end end there) in
-        ap (λ z. and_then (p (swapped i z end)) f) (append_assoc used before rest)
-        ∙ ap (λ z. and_then z f) (go (before ++ rest) end (omega (arith, ap length (append_assoc used before rest))) here)
-        ∙ stay rest end (omega (arith, length-append (used ++ before) rest, length-append used before, length-append before rest)) there)
+      let there : Alike from j.end rest end = subst (λ z. Alike from z rest end) (sym same) alike in
+      let here : Alike j.rest j.end (before ++ rest) end = subst (λ z. Alike z j.end (before ++ rest) end) (sym e') (alike_front before from rest j.end end there) in
+      ap (λ z. and_then (p (swapped i z end)) f) (append_assoc used before rest)
+      ∙ ap (λ z. and_then z f) (go (before ++ rest) end (omega (arith, ap length (append_assoc used before rest))) here)
+      ∙ stay rest end (omega (arith, length-append (used ++ before) rest, length-append used before, length-append before rest)) there)
 
   bind_at : (o : Outcome A) → LocalAt m p i o → ((x : A) → IsLocal m (f x)) → length i.rest ≤ m → LocalAt m (p >>= f) i (and_then o f)
   bind_at o (goes {x = x} {j = j} used e same go) local few =

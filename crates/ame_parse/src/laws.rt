@@ -1,12 +1,15 @@
 //! What holds of the grammar of programs.
 
-ghost use Rattle.std.specs.Prelude.{◌≡◌, ◌↔◌, ℕ, List, Ok, Err};
+ghost use Rattle.std.specs.Prelude.{◌≡◌, ◌↔◌, ◌∷◌, ◌++◌, ℕ, List, length, Ok, Err};
 ghost use Rattle.ame_lex.specs.declared.tokens.LexFault.{LexFault};
 ghost use Rattle.ame_lex.specs.Reading.{tokens_of};
+ghost use Rattle.ame_parse.specs.declared.fault.ParseFault.{ParseFault};
+ghost use Rattle.ame_parse.specs.Fault.{place_of, HasTokens};
 ghost use Rattle.ame_parse.specs.Grammar.{Spells};
+ghost use Rattle.ame_parse.specs.Input.{Seen, place_in};
 ghost use Rattle.ame_parse.specs.Text.{reading, Source, Fault};
 
-use ame_lex::grammar_is_reading;
+use ame_lex::{grammar_is_reading, tokens_lie_within};
 
 /// A text spells exactly the program that is read of it.
 pub fn spelled_is_read()
@@ -27,3 +30,15 @@ pub fn one_program()
 pub fn bytes_come_first()
     ensures { (text : List ℕ) (fault : LexFault) → tokens_of text ≡ Err fault → reading text ≡ Err (Fault.Lexical fault) }
 {}
+
+/// A fault stands at a token of the text or at its end, and it is the first: each text with the same
+/// tokens before that token, and with it, has the same fault, so none of them is a program.
+pub fn fault_is_first()
+    ensures stands { (text : List ℕ) (all : List Seen) (fault : ParseFault) → HasTokens text all → reading text ≡ Err (Fault.Syntactic fault)
+        → (before from : List Seen) × (all ≡ before ++ from) × (place_of fault ≡ place_in (length text) from) }
+    ensures stays { (text other : List ℕ) (before after others : List Seen) (token : Seen) (fault : ParseFault)
+        → HasTokens text (before ++ token ∷ after) → reading text ≡ Err (Fault.Syntactic fault) → place_of fault ≡ token.place
+        → HasTokens other (before ++ token ∷ others) → reading other ≡ Err (Fault.Syntactic fault) }
+{
+    tokens_lie_within();
+}

@@ -1,0 +1,116 @@
+-- A fault stands at the first token at which the reading can't go on.
+use Rattle.std.proofs.Common.{◌≡◌, refl, sym, ap, subst, ◌∙◌, ℕ, ◌+◌, ◌≤◌, List, [], ◌∷◌, ◌++◌, length, map, arith, Ok, Err}
+use Rattle.ame_lex.specs.Bytes.{Text}
+use Rattle.ame_lex.specs.Reading.{tokens_of}
+use Rattle.ame_lex.specs.Tokens.{InOrder}
+use Rattle.ame_lex.specs.declared.tokens.Token.{Token}
+use Rattle.ame_term.specs.Tree.{Tree}
+use Rattle.ame_parse.specs.declared.fault.ParseFault.{ParseFault}
+use Rattle.ame_parse.specs.Input.{Seen, Input, Outcome, place_in}
+use Rattle.ame_parse.specs.Seen.{seen, start_of}
+use Rattle.ame_parse.specs.Reading.{program}
+use Rattle.ame_parse.specs.Fault.{place_of, HasTokens}
+use Rattle.ame_parse.specs.Text.{Fault, source_by, reading_by, reading}
+use Rattle.ame_parse.proofs.Locality.{swapped, Alike, LocalAt, goes, stops}
+use Rattle.ame_parse.proofs.LocalTerms.{local_program}
+
+-- ---- places rise
+
+abbrev IsRising : ℕ → List Seen → ℕ → Type 0
+IsRising from [] end = from ≤ end
+IsRising from (token ∷ rest) end = (from ≤ token.place) × IsRising (token.place + 1) rest end
+
+rising_from : (low from : ℕ) (rest : List Seen) (end : ℕ) → low ≤ from → IsRising from rest end → IsRising low rest end
+rising_from low from [] end le h = omega arith
+rising_from low from (token ∷ rest) end le h = (omega (arith, h.0), h.1)
+
+rising_of : (text : Text) (from to : ℕ) (tokens : List Token) → InOrder from tokens to → IsRising from (map (seen text) tokens) to
+rising_of text from to [] h = h
+rising_of text from to (token ∷ tokens) h =
+    (h.0, rising_from (token.start + 1) token.end (map (seen text) tokens) to (omega (arith, h.1)) (rising_of text token.end to tokens h.2))
+
+place_rises : (before rest : List Seen) (from end : ℕ) → IsRising from (before ++ rest) end → from ≤ place_in end rest
+place_rises [] [] from end h = h
+place_rises [] (token ∷ rest) from end h = h.0
+place_rises (token ∷ before) rest from end h = omega (arith, h.0, place_rises before rest (token.place + 1) end h.1)
+
+head_same : (x y : Seen) (xs ys : List Seen) → x ∷ xs ≡ y ∷ ys → x ≡ y
+head_same x y xs ys e = cc
+
+tail_same : (x y : Seen) (xs ys : List Seen) → x ∷ xs ≡ y ∷ ys → xs ≡ ys
+tail_same x y xs ys e = cc
+
+-- one place of the list has this place of the text
+one_place : (before before' rest : List Seen) (token : Seen) (after : List Seen) (from end : ℕ) → IsRising from (before ++ rest) end → before ++ rest ≡ before' ++ (token ∷ after)
+    → place_in end rest ≡ token.place → (before ≡ before') × (rest ≡ token ∷ after)
+one_place [] [] rest token after from end h e place = (refl, e)
+one_place [] (x ∷ before') rest token after from end h e place =
+    let rises : IsRising from (x ∷ (before' ++ (token ∷ after))) end = subst (λ z. IsRising from z end) e h in
+    let first : place_in end rest ≡ x.place = ap (place_in end) e in
+    absurd (omega (arith, place_rises before' (token ∷ after) (x.place + 1) end rises.1, first, place))
+one_place (x ∷ before) [] rest token after from end h e place =
+    let same : x.place ≡ token.place = ap (λ z. z.place) (head_same x token (before ++ rest) after e) in
+    absurd (omega (arith, place_rises before rest (x.place + 1) end h.1, same, place))
+one_place (x ∷ before) (y ∷ before') rest token after from end h e place =
+    let first : x ≡ y = head_same x y (before ++ rest) (before' ++ (token ∷ after)) e in
+    let found = one_place before before' rest token after (x.place + 1) end h.1 (tail_same x y (before ++ rest) (before' ++ (token ∷ after)) e) place in
+    (cc, found.1)
+
+-- ---- where the program stops
+
+record Stop (m : ℕ) (i : Input) (fault : ParseFault) : Type 0 where
+  before : List Seen
+  from : List Seen
+  split : i.rest ≡ before ++ from
+  stands : place_of fault ≡ place_in i.end from
+  stays : (rest : List Seen) (end : ℕ) → length (before ++ rest) ≤ m → Alike from i.end rest end → program (swapped i (before ++ rest) end) ≡ Err fault
+
+stop_of : (m : ℕ) (i : Input) (fault : ParseFault) (o : Outcome Tree) → LocalAt m program i o → o ≡ Err fault → Stop m i fault
+stop_of m i fault o (goes used e ends go) same = absurd (cc)
+stop_of m i fault o (stops {fault = found} before from e place stay) same =
+    let it : found ≡ fault = cc in
+    record { before = before; from = from; split = e; stands = ap place_of (sym it) ∙ place; stays = λ rest end few alike. stay rest end few alike ∙ ap Err it }
+
+stop_at : (m : ℕ) (i : Input) (fault : ParseFault) → length i.rest ≤ m → program i ≡ Err fault → Stop m i fault
+stop_at m i fault few e = stop_of m i fault (program i) (local_program m i few) e
+
+syntactic_by : (o : Outcome Tree) (fault : ParseFault) → source_by o ≡ Err (Fault.Syntactic fault) → o ≡ Err fault
+syntactic_by (Ok p) fault e = absurd (cc)
+syntactic_by (Err found) fault e = let same : found ≡ fault = cc in ap Err same
+
+fault_of_tokens : (text : Text) (tokens : List Token) (fault : ParseFault) → tokens_of text ≡ Ok tokens → reading text ≡ Err (Fault.Syntactic fault)
+    → program (start_of text tokens) ≡ Err fault
+unfolding reading
+fault_of_tokens text tokens fault lexed e = syntactic_by (program (start_of text tokens)) fault (sym (ap (reading_by text) lexed) ∙ e)
+
+reading_of_fault : (text : Text) (tokens : List Token) (fault : ParseFault) → tokens_of text ≡ Ok tokens → program (start_of text tokens) ≡ Err fault
+    → reading text ≡ Err (Fault.Syntactic fault)
+unfolding reading
+reading_of_fault text tokens fault lexed e = ap (reading_by text) lexed ∙ ap source_by e
+
+-- a fault stands at a token of the text, or at its end
+pub fault_stands : (text : Text) (all : List Seen) (fault : ParseFault) → HasTokens text all → reading text ≡ Err (Fault.Syntactic fault)
+    → (before from : List Seen) × (all ≡ before ++ from) × (place_of fault ≡ place_in (length text) from)
+fault_stands text all fault has e =
+    let i = start_of text has.tokens in
+    let stop = stop_at (length i.rest) i fault (omega arith) (fault_of_tokens text has.tokens fault has.lexed e) in
+    (stop.before, stop.from, sym has.seen_so ∙ stop.split, stop.stands)
+
+abbrev AreInOrder : Text → Type 0
+AreInOrder text = (tokens : List Token) → tokens_of text ≡ Ok tokens → InOrder 0 tokens (length text)
+
+-- and stays, whatever comes after that token
+pub fault_stays : (text other : Text) (before after others : List Seen) (token : Seen) (fault : ParseFault) → AreInOrder text
+    → HasTokens text (before ++ token ∷ after) → reading text ≡ Err (Fault.Syntactic fault) → place_of fault ≡ token.place
+    → HasTokens other (before ++ token ∷ others) → reading other ≡ Err (Fault.Syntactic fault)
+fault_stays text other before after others token fault ordered has e place has' =
+    let i = start_of text has.tokens in
+    let m = length (before ++ token ∷ others) + length i.rest in
+    let stop = stop_at m i fault (omega arith) (fault_of_tokens text has.tokens fault has.lexed e) in
+    let rises : IsRising 0 i.rest (length text) = rising_of text 0 (length text) has.tokens (ordered has.tokens has.lexed) in
+    let found = one_place stop.before before stop.from token after 0 (length text) (subst (λ z. IsRising 0 z (length text)) stop.split rises) (sym stop.split ∙ has.seen_so) (sym stop.stands ∙ place) in
+    let few : length (stop.before ++ (token ∷ others)) ≤ m = omega (arith, ap (λ z. length (z ++ (token ∷ others))) found.0) in
+    let alike : Alike stop.from (length text) (token ∷ others) (length other) = subst (λ z. Alike z (length text) (token ∷ others) (length other)) (sym found.1) (others, refl) in
+    let same : stop.before ++ (token ∷ others) ≡ map (seen other) has'.tokens = ap (λ z. z ++ (token ∷ others)) found.0 ∙ sym has'.seen_so in
+    reading_of_fault other has'.tokens fault has'.lexed
+    (ap (λ z. program (swapped i z (length other))) (sym same) ∙ stop.stays (token ∷ others) (length other) few alike)

@@ -12,5 +12,5 @@ mod tell;
 mod verdict;
 
 pub use ended::Ended;
-pub use report::{Report, run_words};
+pub use report::{Report, refuse, run_words};
 pub use status::{Status, TextFault, TextKind};

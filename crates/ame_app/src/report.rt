@@ -1,6 +1,9 @@
 //! The top call: from a program's bytes to its lines.
 
-ghost use Rattle.std.specs.Prelude.{◌≡◌, ◌≢◌, map, string_bytes};
+ghost use Rattle.std.specs.Prelude.{◌≡◌, ◌≢◌, map, string_bytes, None};
+ghost use Rattle.std.specs.Io.KnownBytes.{Appends};
+ghost use Rattle.ame_io.specs.Writes.{AppendsFront};
+ghost use Rattle.ame_app.specs.Verdict.{verdict};
 ghost use Rattle.ame_io.specs.Counts.{HasRisen};
 ghost use Rattle.ame_app.specs.declared.status.Status.{Status};
 ghost use Rattle.ame_app.specs.Causes.{call_of};
@@ -60,6 +63,31 @@ pub fn run_words<S: Source, K: Sink>(
         Err(_) => Report {
             status: Status::WriteFault,
             program,
+            ended,
+            sink,
+        },
+    }
+}
+
+/// Writes the verdict line of a call that has no words to read.
+pub fn refuse<K: Sink>(sink: K, status: Status) -> Report<K>
+    ensures told { result.status ≢ Status.WriteFault → (result.status ≡ status) × Appends (K.written sink) (K.written result.sink) (verdict status) }
+    ensures cut_short { result.status ≡ Status.WriteFault → AppendsFront (K.written sink) (K.written result.sink) (verdict status) }
+    ensures without_run { (result.program ≡ None) × (result.ended ≡ None) }
+    ensures write_fault { result.status ≡ Status.WriteFault → status ≢ Status.WriteFault → HasRisen (K.faults sink) (K.faults result.sink) }
+{
+    let mut sink = sink;
+    let ended = None;
+    match tell(&mut sink, &ended, &status) {
+        Ok(()) => Report {
+            status,
+            program: None,
+            ended,
+            sink,
+        },
+        Err(_) => Report {
+            status: Status::WriteFault,
+            program: None,
             ended,
             sink,
         },

@@ -1,10 +1,9 @@
 -- What is spelled is read so.
-use Rattle.std.proofs.Common.{◌≡◌, ℕ, zero, suc, ◌+◌, ◌-◌, ◌==◌, ◌<◌, ◌≤◌, refl, sym, ap, ◌∙◌, Bool, true, false, cond, pos, List, [], ◌∷◌, ◌++◌, length, drop, append_assoc, append-nil, arith, Option, Ok, Err, Some, None, codes}
+use Rattle.std.proofs.Common.{◌≡◌, ℕ, zero, suc, ◌+◌, ◌-◌, ◌<◌, ◌≤◌, refl, sym, ap, ◌∙◌, true, false, cond, pos, List, [], ◌∷◌, ◌++◌, length, drop, append_assoc, append-nil, arith, Ok, Err, Some, None}
 use Rattle.std.specs.Prelude.{nat_lt}
 use Rattle.std.proofs.Math.Dec.{eqb-suc-zero}
 use Rattle.std.proofs.lemmas.Bool.Decides.{nat_tests}
 use Rattle.std.specs.Option.{option_map}
-use Rattle.ame_lex.specs.Bytes.{Text}
 use Rattle.ame_term.specs.declared.types.Sort.{Sort}
 use Rattle.ame_term.specs.declared.types.Effect.{Effect}
 use Rattle.ame_term.specs.declared.types.Op.{Op}
@@ -18,12 +17,12 @@ use Rattle.ame_parse.specs.declared.forms.OnePart.TheVariants as one_part_
 use Rattle.ame_parse.specs.declared.forms.TwoParts.{TwoParts}
 use Rattle.ame_parse.specs.declared.forms.TwoParts.TheVariants as two_parts_
 use Rattle.ame_parse.specs.declared.forms.Form.TheVariants as form_
-use Rattle.ame_parse.specs.Input.{Seen, Input, Outcome, Parser, and_then, is_closing, ahead_in, spelling_in, ahead, spelling, place, after, marked, number, named, binds, bound, unbound, left, closing_by, closing, sees_closing, name_by, name, opening_by, opening, advance}
+use Rattle.ame_parse.specs.Input.{Seen, Input, Parser, and_then, is_closing, ahead_in, ahead, spelling, place, after, marked, number, named, binds, bound, unbound, left, closing_by, closing, sees_closing, name_by, name, opening_by, opening, advance}
 use Rattle.ame_parse.specs.Letters.{sort_of, effect_of, device_of, sort_by, effect_by, device_by, sort, effect, device}
 use Rattle.ame_parse.specs.Types as t
 use Rattle.ame_parse.specs.Types.{ty, param}
 use Rattle.ame_parse.specs.Forms.{form_of, op_of, one_part, two_parts, row}
-use Rattle.ame_parse.specs.Reading.{one, two, choice, binding, more_from, more, first_two, sequence, reference, call, function, recursive, form_by, compound, variable, yielding, constant, atom_by, atom, term_by, term_of, nested, term}
+use Rattle.ame_parse.specs.Reading.{one, two, choice, binding, more_from, more, first_two, sequence, reference, call, function, recursive, form_by, compound, variable, yielding, constant, atom_by, atom, term_by, nested, term}
 use Rattle.ame_parse.specs.Grammar as g
 use Rattle.ame_parse.specs.Grammar.{IsSort, IsEffect, IsOp, IsType, IsTypeForm, IsParam, IsTerm, IsForm, AreParts}
 
@@ -85,7 +84,7 @@ param_takes : {n : ℕ} {i j : Input} {x : ℕ} {type : Typ} → IsParam n i x t
 param_takes (g.param {i = i} {j = j} e e' h shut) = omega (arith, left_after i, left_named (after i), left_after (after i), left_after j, type_takes h)
 
 mutual
-  term_takes : {n : ℕ} {i j : Input} {tree : Tree} → IsTerm n i tree j → left j < left i
+  pub term_takes : {n : ℕ} {i j : Input} {tree : Tree} → IsTerm n i tree j → left j < left i
   term_takes (g.int {i = i} e) = omega (arith, left_marked i, one_less i (λ e'. cc))
   term_takes (g.unit {i = i} e) = omega (arith, left_marked i, one_less i (λ e'. cc))
   term_takes (g.truth {i = i} e) = omega (arith, left_marked i, one_less i (λ e'. cc))
@@ -239,11 +238,11 @@ binds_named : (x : ℕ) (i : Input) → binds x (named (marked i)) ≡ binds x i
 unfolding binds named marked
 binds_named x i = refl
 
-term_at : (n : ℕ) (i : Input) (next : Ahead) → ahead i ≡ next → term n i ≡ term_by (nested n) next (marked i)
+pub term_at : (n : ℕ) (i : Input) (next : Ahead) → ahead i ≡ next → term n i ≡ term_by (nested n) next (marked i)
 unfolding term marked ahead
 term_at n i next e = ap (λ z. term_by (nested n) z (marked i)) e
 
-atom_at : (i : Input) (next : Ahead) → ahead i ≡ next → atom (marked i) ≡ atom_by next (marked i)
+pub atom_at : (i : Input) (next : Ahead) → ahead i ≡ next → atom (marked i) ≡ atom_by next (marked i)
 unfolding atom
 atom_at i next e = ap (λ z. atom_by z (marked i)) (ahead_marked i ∙ e)
 

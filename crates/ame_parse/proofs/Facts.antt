@@ -1,10 +1,8 @@
 -- What holds of each term that is spelled.
-use Rattle.std.proofs.Common.{◌≡◌, refl, ap, sym, subst, ◌∙◌, ℕ, suc, ◌+◌, ◌-◌, ◌==◌, ◌||◌, Bool, true, false, List, [], ◌∷◌, ◌++◌, length, take, length-append, arith, Contains}
-use Rattle.std.specs.List.{list_any}
-use Rattle.std.proofs.lemmas.Bool.{eqb-true}
+use Rattle.std.proofs.Common.{◌≡◌, refl, ◌∙◌, ℕ, ◌+◌, List, [], ◌∷◌, ◌++◌, length, length-append, arith}
 use Rattle.ame_term.specs.Tree.{Typ, Tree}
-use Rattle.ame_term.specs.Written.{nodes, all_nodes, IsWritten, AllWritten, IsBound, AllBound}
-use Rattle.ame_parse.specs.Input.{Input, place, after, marked, number, named, binds, bound, unbound}
+use Rattle.ame_term.specs.Written.{nodes, all_nodes, IsWritten, AllWritten}
+use Rattle.ame_parse.specs.Input.{Input, place, after, marked, number, named, bound, unbound}
 use Rattle.ame_parse.specs.Forms.{row}
 use Rattle.ame_parse.specs.Grammar as g
 use Rattle.ame_parse.specs.Grammar.{IsType, IsTypeForm, IsParam, IsTerm, IsForm, AreParts}

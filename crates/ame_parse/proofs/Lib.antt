@@ -5,6 +5,9 @@ pub mod TypeSoundness
 pub mod Facts
 pub mod Whole
 pub mod Bound
+pub mod Locality
+pub mod LocalForms
+pub mod LocalTerms
 pub mod Soundness
 pub mod NameLemmas
 pub mod ReaderLemmas

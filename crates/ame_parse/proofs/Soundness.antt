@@ -2,7 +2,7 @@
 use Rattle.std.proofs.Common.{◌≡◌, ℕ, zero, suc, refl, sym, ap, subst, ◌∙◌, Bool, true, false, cond, List, [], ◌∷◌, ◌++◌, append_assoc, append-nil, Option, Some, None, Ok, Err}
 use Rattle.std.specs.Option.{option_map}
 use Rattle.ame_term.specs.declared.types.Op.{Op}
-use Rattle.ame_term.specs.Tree.{Typ, Val, Tree, unit_tree}
+use Rattle.ame_term.specs.Tree.{Val, Tree, unit_tree}
 use Rattle.ame_parse.specs.declared.words.Word.{Word}
 use Rattle.ame_parse.specs.declared.words.Word.TheVariants as w
 use Rattle.ame_parse.specs.declared.ahead.Ahead.{Ahead}
@@ -13,13 +13,13 @@ use Rattle.ame_parse.specs.declared.forms.OnePart.TheVariants as one_part_
 use Rattle.ame_parse.specs.declared.forms.TwoParts.{TwoParts}
 use Rattle.ame_parse.specs.declared.forms.TwoParts.TheVariants as two_parts_
 use Rattle.ame_parse.specs.declared.forms.Form.TheVariants as form_
-use Rattle.ame_parse.specs.Input.{Input, Parser, ◌>>=◌, ◌>>◌, pure, is_closing, ahead, spelling, place, after, marked, number, named, binds, bound, unbound, left, name, sees_closing}
+use Rattle.ame_parse.specs.Input.{Input, Parser, ◌>>=◌, pure, is_closing, ahead, spelling, place, after, marked, number, named, binds, bound, unbound, left, sees_closing}
 use Rattle.ame_parse.specs.Forms.{form_of, op_of, one_part, two_parts, row}
 use Rattle.ame_parse.specs.Types.{ty, param}
 use Rattle.ame_parse.specs.Reading.{one, two, choice, binding, more_from, more, first_two, sequence, reference, call, function, recursive, form_by, compound, variable, yielding, constant, atom_by, atom, term_by, term_of, nested, term}
 use Rattle.ame_parse.specs.Grammar as g
 use Rattle.ame_parse.specs.Grammar.{IsSort, IsEffect, IsOp, IsType, IsParam, IsTerm, IsForm, AreParts}
-use Rattle.ame_parse.proofs.Steps.{Leads, leads_pure, leads_on, leads_at, leads_shut, leads_name}
+use Rattle.ame_parse.proofs.Steps.{Leads, leads_pure, leads_on, leads_shut, leads_name}
 use Rattle.ame_parse.proofs.LetterSteps.{leads_sort, leads_effect, leads_device, op_is}
 use Rattle.ame_parse.proofs.TypeSoundness.{ty_leads, param_leads}
 

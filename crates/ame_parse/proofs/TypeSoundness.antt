@@ -1,5 +1,5 @@
 -- Types that are read are spelled so.
-use Rattle.std.proofs.Common.{◌≡◌, ℕ, zero, suc, ◌-◌, ◌==◌, Bool, true, false, refl, subst, sym, arith, Ok, Err}
+use Rattle.std.proofs.Common.{◌≡◌, ℕ, zero, suc, ◌-◌, ◌==◌, false, refl, subst, arith}
 use Rattle.std.proofs.lemmas.Bool.{eqb-false}
 use Rattle.ame_term.specs.Tree.{Typ}
 use Rattle.ame_parse.specs.declared.words.Word.{Word}

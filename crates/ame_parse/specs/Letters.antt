@@ -9,7 +9,7 @@ use Rattle.ame_term.specs.declared.types.Effect.TheVariants as effects
 use Rattle.ame_parse.specs.declared.ahead.Ahead.{Ahead}
 use Rattle.ame_parse.specs.declared.ahead.Ahead.TheVariants as a
 use Rattle.ame_parse.specs.declared.fault.Want.TheVariants as want
-use Rattle.ame_parse.specs.Input.{Input, Parser, ◌>>=◌, ◌>>◌, pure, expected, peek, advance, ahead, spelling}
+use Rattle.ame_parse.specs.Input.{Parser, ◌>>◌, pure, expected, advance, ahead, spelling}
 
 unfoldable pub sort_of : Text → Option Sort
 sort_of word = if bytes_eq word (codes "p") then Some sorts.Protected else (if bytes_eq word (codes "u") then Some sorts.Unprotected else None)

@@ -7,5 +7,6 @@ pub mod Letters
 pub mod Types
 pub mod Forms
 pub mod Reading
+pub mod Fault
 pub mod Text
 pub mod Grammar

@@ -12,7 +12,7 @@ use Rattle.ame_parse.specs.declared.forms.TwoParts.{TwoParts}
 use Rattle.ame_parse.specs.declared.forms.Form.{Form}
 use Rattle.ame_parse.specs.declared.forms.Form.TheVariants as form
 use Rattle.ame_parse.specs.Forms.{form_of, one_part, two_parts, row}
-use Rattle.ame_parse.specs.Input.{Input, Parser, ◌>>=◌, ◌>>◌, pure, expected, peek, place, advance, mark, closing, sees_closing, name, binds, bind, unbind, left, finish}
+use Rattle.ame_parse.specs.Input.{Parser, ◌>>=◌, ◌>>◌, pure, expected, peek, place, advance, mark, closing, sees_closing, name, binds, bind, unbind, left, finish}
 use Rattle.ame_parse.specs.Letters.{sort, effect, device}
 use Rattle.ame_parse.specs.Types.{ty, param}
 

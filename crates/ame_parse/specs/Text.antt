@@ -1,5 +1,5 @@
 -- The program of a text, or its first fault.
-use Rattle.std.specs.Prelude.{◌≡◌, ℕ, List, [], map, Result, Ok, Err, ⊤}
+use Rattle.std.specs.Prelude.{◌≡◌, ℕ, List, map, Result, Ok, Err, ⊤}
 use Rattle.ame_lex.specs.Bytes.{Text}
 use Rattle.ame_lex.specs.declared.tokens.Token.{Token}
 use Rattle.ame_lex.specs.declared.tokens.LexFault.{LexFault}

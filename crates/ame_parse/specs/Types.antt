@@ -1,5 +1,5 @@
 -- Types, and the parameters of functions.
-use Rattle.std.specs.Prelude.{ℕ, zero, suc, ◌-◌, Ok, Err}
+use Rattle.std.specs.Prelude.{ℕ, zero, suc, ◌-◌, Err}
 use Rattle.ame_term.specs.Tree.{Typ}
 use Rattle.ame_parse.specs.declared.words.Word.{Word}
 use Rattle.ame_parse.specs.declared.words.Word.TheVariants as w
@@ -7,7 +7,7 @@ use Rattle.ame_parse.specs.declared.ahead.Ahead.{Ahead}
 use Rattle.ame_parse.specs.declared.ahead.Ahead.TheVariants as a
 use Rattle.ame_parse.specs.declared.fault.Want.TheVariants as want
 use Rattle.ame_parse.specs.declared.fault.ParseFault.TheVariants.{TooNested}
-use Rattle.ame_parse.specs.Input.{Input, Parser, ◌>>=◌, ◌>>◌, pure, expected, peek, place, advance, closing, opening, name}
+use Rattle.ame_parse.specs.Input.{Parser, ◌>>=◌, ◌>>◌, pure, expected, peek, place, advance, closing, opening, name}
 use Rattle.ame_parse.specs.Letters.{sort, effect}
 
 -- ---- the types with parentheses, over a parser of their parts

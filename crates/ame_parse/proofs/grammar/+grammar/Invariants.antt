@@ -1,4 +1,4 @@
-use Rattle.std.proofs.Common.{◌≡◌, ℕ, ◌+◌, ◌*◌, ◌-◌, map}
+use Rattle.std.proofs.Common.{◌≡◌, ◌+◌, ◌*◌, ◌-◌, map}
 use Rattle.ame_term.specs.View.{tree_of}
 use Rattle.ame_parse.specs.Reading.{term, more, more_from}
 use Rattle.ame_parse.proofs.grammar.+grammar.Given as goal

@@ -1,3 +1,4 @@
+use Rattle.ame_parse.proofs.LocalTerms as local
 use Rattle.ame_parse.proofs.Whole as whole
 use Rattle.ame_parse.proofs.laws.spelled_is_read.Goals as goal
 

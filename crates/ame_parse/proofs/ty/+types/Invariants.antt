@@ -1,4 +1,4 @@
-use Rattle.std.proofs.Common.{ℕ, ◌+◌, ◌*◌}
+use Rattle.std.proofs.Common.{◌+◌, ◌*◌}
 use Rattle.ame_parse.proofs.ty.+types.Given as goal
 
 abbrev pub decreases-nested : goal.decreases-nested

@@ -1,4 +1,4 @@
-use Rattle.std.proofs.Common.{ap, ◌∙◌, map, Vec, Global, ℕ}
+use Rattle.std.proofs.Common.{ap, ◌∙◌, map}
 use Rattle.ame_parse.specs.Names.{number_in, with_name}
 use Rattle.ame_parse.proofs.NameLemmas.{number-items, with_name-items}
 use Rattle.ame_parse.proofs.names.Names.number.Goals as goal

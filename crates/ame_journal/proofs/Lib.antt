@@ -7,3 +7,4 @@ pub mod SpellingLemmas
 pub mod TextLemmas
 pub mod LabelLemmas
 pub mod UniqueLemmas
+pub mod UnfoldLemmas

@@ -49,7 +49,7 @@ with_more xs None = None
 with_more xs (Some next) = Some (next.0, locations (next.1.fresh ++ xs))
 
 -- a step with some locations is also the step with more of them behind
-next_kind-more : (last last' : Bool) (act : Act) (fresh xs : List ℕ) (kind : StepKind) (left : Supply) →
+pub next_kind-more : (last last' : Bool) (act : Act) (fresh xs : List ℕ) (kind : StepKind) (left : Supply) →
     next_kind last act fresh None ≡ Some (kind, left) →
     next_kind last' act (fresh ++ xs) None ≡ Some (kind, locations (left.fresh ++ xs))
 next_kind-more last last' (Act.Becomes term) fresh xs kind left e = ap (with_more xs) e
@@ -72,7 +72,7 @@ answer_in None = None
 answer_in (Some next) = next.1.answer
 
 -- without an answer, none is left
-next_kind-answer : (last : Bool) (act : Act) (fresh : List ℕ) (kind : StepKind) (left : Supply) →
+pub next_kind-answer : (last : Bool) (act : Act) (fresh : List ℕ) (kind : StepKind) (left : Supply) →
     next_kind last act fresh None ≡ Some (kind, left) → left.answer ≡ None
 next_kind-answer last (Act.Becomes term) fresh kind left e = sym (ap answer_in e)
 next_kind-answer last (Act.Allocates v) [] kind left e = cc
@@ -90,7 +90,7 @@ next_kind-answer last (Act.Closes v) fresh kind left e = cc
 next_kind-answer last Act.Stuck fresh kind left e = cc
 
 -- the first of n + 1 steps, and the others
-steps-behind : (label : StepKind → Label) (i n : ℕ) (supply : Supply) (s w : State) (act : Act) (next : StepKind × Supply) →
+pub steps-behind : (label : StepKind → Label) (i n : ℕ) (supply : Supply) (s w : State) (act : Act) (next : StepKind × Supply) →
     member_act i s ≡ Some act → next_kind (n == 0) act supply.fresh supply.answer ≡ Some next → after s (label next.0) ≡ Some w →
     steps label i (suc n) supply s ≡ steps label i n next.1 w
 steps-behind label i n supply s w act next at_act at_kind at_state =
@@ -134,7 +134,7 @@ fragment-made : (i n : ℕ) (fresh : List ℕ) (s a t : State) →
     after s (Label.Activate i) ≡ Some a → steps Label.Step i n (locations fresh) a ≡ Some t → fragment i n fresh s ≡ Some t
 fragment-made i n fresh s a t begins made = ap (λ o. option_and_then (λ w. steps Label.Step i n (locations fresh) w) o) begins ∙ made
 
-ran-settled : (r : Replayed) (i n : ℕ) (fresh : List ℕ) → is_at_unprotected i r.state ≡ false →
+pub ran-settled : (r : Replayed) (i n : ℕ) (fresh : List ℕ) → is_at_unprotected i r.state ≡ false →
     replay_ran r i n fresh ≡ option_and_then (settled r i) (fragment i n fresh r.state)
 ran-settled r i zero [] rests = ap (λ b. if b then Some (entering r i r.state) else option_and_then (settled r i) (fragment i 0 [] r.state)) rests
 ran-settled r i zero (x ∷ fresh) rests = refl

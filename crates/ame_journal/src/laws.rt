@@ -28,6 +28,11 @@ pub fn journal_is_one_run()
         (labels : List Label) × UnfoldsAll (begun program) entries labels r × IsRun program labels r.state }
 {}
 
+/// A journal whose entries unfold into labels can be replayed, and ends in the same state.
+pub fn unfolded_is_replayed()
+    ensures { (program : Tree) (entries : List Entry) (labels : List Label) (r : Replayed) → UnfoldsAll (begun program) entries labels r → replay program entries ≡ Some r }
+{}
+
 /// A text spells one journal at most.
 pub fn text_is_of_one_journal()
     ensures { (text : List ℕ) (entries others : List Entry) → IsText text entries → IsText text others → entries ≡ others }

@@ -18,5 +18,5 @@ pub use fault::JournalFault;
 pub use journal::Journal;
 pub use laws::{
     first_bad_line_is_one, front_is_replayed, journal_is_one_run, one_more_entry,
-    spelled_has_no_bad_line, text_is_of_one_journal,
+    spelled_has_no_bad_line, text_is_of_one_journal, unfolded_is_replayed,
 };

@@ -1,5 +1,5 @@
 -- A redex is replaced as a whole.
-use Rattle.std.proofs.Common.{◌≡◌, Bool, true, false, ◌&&◌, refl, sym, ap, ◌∙◌}
+use Rattle.std.proofs.Common.{◌≡◌, Bool, true, false, ◌&&◌, refl, sym}
 use Rattle.ame_term.specs.Tree.{Tree, Trees, is_held}
 use Rattle.ame_term.specs.Context.{fill, fill_first}
 use Rattle.ame_term.specs.Redex.{is_redex, starts_held}

@@ -13,12 +13,14 @@ mod program;
 mod semantics;
 mod substitution;
 mod term;
+#[cfg(test)]
+mod tests;
 mod types;
 
 pub use accepted::Accepted;
 pub use context::{refill, split};
 pub use copied::Copied;
-pub use copy::{copy_function, copy_term, copy_ty, copy_value};
+pub use copy::{copy_function, copy_parts, copy_term, copy_ty, copy_value};
 pub use focus::Split;
 pub use heights::{TALL, height};
 pub use memory::{NoMemory, boxed, push};

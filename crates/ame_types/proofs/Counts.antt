@@ -1,5 +1,5 @@
 -- The parts of a `do` form, first and others.
-use Rattle.std.proofs.Common.{◌≡◌, ℕ, ◌+◌, ◌<◌, ◌≤◌, List, [], ◌∷◌, length, get_or, drop, sym, subst, refl, arith, slice_index_or, suc, Contains}
+use Rattle.std.proofs.Common.{◌≡◌, ℕ, ◌+◌, ◌<◌, ◌≤◌, List, [], ◌∷◌, length, get_or, drop, subst, refl, arith, suc, Contains}
 use Rattle.ame_term.specs.View.{tree_of, trees_of}
 use Rattle.ame_term.specs.Written.{nodes, all_nodes, HasTwo, IsWritten, AllWritten, IsBound, AllBound}
 use Rattle.ame_term.specs.declared.term.Term.{Term}

@@ -1,5 +1,5 @@
 -- Numbers of nodes.
-use Rattle.std.proofs.Common.{◌≡◌, ℕ, ◌+◌, ◌<◌, arith}
+use Rattle.std.proofs.Common.{◌<◌, arith}
 use Rattle.ame_term.specs.Tree.{Tree}
 use Rattle.ame_term.specs.Written.{nodes}
 

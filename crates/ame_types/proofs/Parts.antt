@@ -97,28 +97,28 @@ module _ (devices : ℕ) (places : ℕ → ℕ) (scope : Scope) (names : List �
         let n' = subst (λ (z : Term). new ≡ more ++ stored devices no_cells places scope q j (tree_of z)) e n in
         let o' = subst (λ (z : Term). k ≡ j + nodes (tree_of z)) e o in
         rw d
-          (record {
-            some = omega arith;
-            outcome = l.outcome ∙ rw h' (rw s (rw o' refl));
-            stored = l.stored ∙ rw (n', o', append_assoc) refl;
-            nodes = l.nodes ∙ rw o' (omega arith);
-            within = omega (arith, l.within, o');
-            written = l.written.1;
-            bound = l.bound.1
-          })
+        (record {
+          some = omega arith;
+          outcome = l.outcome ∙ rw h' (rw s (rw o' refl));
+          stored = l.stored ∙ rw (n', o', append_assoc) refl;
+          nodes = l.nodes ∙ rw o' (omega arith);
+          within = omega (arith, l.within, o');
+          written = l.written.1;
+          bound = l.bound.1;
+        })
 
     -- the last part
     pub ends : (rest : List Term) (x : Term) → Left i refs all j more rest → length rest ≤ 1 → x ≡ get_or rest 0 x →
         (typed_parts devices no_cells places scope q i (trees_of all) ≡ typed devices no_cells places scope q j (tree_of x)) ×
-          (refs ++ stored_parts devices no_cells places scope q i (trees_of all) ≡ more ++ stored devices no_cells places scope q j (tree_of x)) ×
-          (i + all_nodes (trees_of all) ≡ j + nodes (tree_of x))
+        (refs ++ stored_parts devices no_cells places scope q i (trees_of all) ≡ more ++ stored devices no_cells places scope q j (tree_of x)) ×
+        (i + all_nodes (trees_of all) ≡ j + nodes (tree_of x))
     unfolding typed_parts stored_parts all_nodes
     ends [] x l m e = absurd (omega (arith, l.some))
     ends (y ∷ []) x l m e =
         subst
-          (λ (z : Term). (typed_parts devices no_cells places scope q i (trees_of all) ≡ typed devices no_cells places scope q j (tree_of z)) ×
-            (refs ++ stored_parts devices no_cells places scope q i (trees_of all) ≡ more ++ stored devices no_cells places scope q j (tree_of z)) ×
-            (i + all_nodes (trees_of all) ≡ j + nodes (tree_of z)))
-          (sym e)
-          (l.outcome, l.stored ∙ rw append-nil refl, l.nodes ∙ omega arith)
+        (λ (z : Term). (typed_parts devices no_cells places scope q i (trees_of all) ≡ typed devices no_cells places scope q j (tree_of z)) ×
+        (refs ++ stored_parts devices no_cells places scope q i (trees_of all) ≡ more ++ stored devices no_cells places scope q j (tree_of z)) ×
+        (i + all_nodes (trees_of all) ≡ j + nodes (tree_of z)))
+        (sym e)
+        (l.outcome, l.stored ∙ rw append-nil refl, l.nodes ∙ omega arith)
     ends (y ∷ z ∷ zs) x l m e = absurd (omega (arith, m))

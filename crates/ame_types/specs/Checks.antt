@@ -1,6 +1,6 @@
 -- What the checker's functions need and answer.
-use Rattle.std.specs.Prelude.{◌≡◌, ℕ, ◌+◌, ◌≤◌, List, ◌++◌, Result, Ok, Err, length, map, slice_index}
-use Rattle.ame_term.specs.Tree.{Typ, Tree, Trees}
+use Rattle.std.specs.Prelude.{◌≡◌, ◌+◌, ◌≤◌, List, ◌++◌, Result, Ok, Err, length, map, slice_index}
+use Rattle.ame_term.specs.Tree.{Typ, Tree}
 use Rattle.ame_term.specs.View.{typ_of}
 use Rattle.ame_term.specs.Written.{nodes, IsWritten, IsBound}
 use Rattle.ame_term.specs.Typing.{Outcome, typed, stored, no_cells}
@@ -23,14 +23,14 @@ outcome checker scope q seen term =
 abbrev pub stored_after : Checker → Scope → Effect → Seen → Tree → List Typ
 stored_after checker scope q seen term =
     map typ_of seen.ref_tys.items ++
-      stored checker.devices no_cells (slice_index checker.places.now) (scope_of scope) q seen.next term
+    stored checker.devices no_cells (slice_index checker.places.now) (scope_of scope) q seen.next term
 
 -- The answer to such a term: its type, with what it stores after the rest, and then comes the node
 -- after its own; or its first fault; or memory was wanted.
 abbrev pub Checks : Checker → Scope → Effect → Seen → Seen → Tree → Result Ty TypesFail → Type 0
 Checks checker scope q old new term (Ok ty) =
     (outcome checker scope q old term ≡ Ok (typ_of ty)) ×
-      (map typ_of new.ref_tys.items ≡ stored_after checker scope q old term) × (new.next ≡ old.next + nodes term)
+    (map typ_of new.ref_tys.items ≡ stored_after checker scope q old term) × (new.next ≡ old.next + nodes term)
 Checks checker scope q old new term (Err (fail.Fault fault)) = outcome checker scope q old term ≡ Err (fault_of fault)
 Checks checker scope q old new term (Err fail.NoMemory) = Unit {0}
 

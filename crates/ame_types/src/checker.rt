@@ -6,7 +6,10 @@ ghost use Rattle.ame_term.specs.View.{val_of, tree_of, trees_of, head_of};
 ghost use Rattle.ame_types.specs.Checks.{Checks, IsReady};
 ghost use Rattle.ame_term.specs.declared.types.Effect.TheVariants.{Protected, Unprotected};
 
-use crate::expect::{agree, applied, broken, constant, expect, first_of, op_ty, peeked, read, require, second_of, written};
+use crate::expect::{
+    agree, applied, broken, constant, expect, first_of, op_ty, peeked, read, require, second_of,
+    written,
+};
 use crate::fault::{Shown, TypesFail};
 use crate::same::same_ty;
 use crate::scope::Scope;
@@ -17,7 +20,13 @@ use ame_term::{Effect, Function, Name, Op, Own, Sort, Term, Ty, Value, boxed, co
 impl Checker<'_> {
     #[cycle(checker)]
     #[tactic(auto, using(crate::proofs::Parts::do_forms), unfolding(ame_term::specs::Written::nodes))]
-    pub fn term(&self, seen: &mut Seen, scope: &Scope<'_>, q: Effect, term: &Term) -> Result<Ty, TypesFail>
+    pub fn term(
+        &self,
+        seen: &mut Seen,
+        scope: &Scope<'_>,
+        q: Effect,
+        term: &Term,
+    ) -> Result<Ty, TypesFail>
         requires { IsReady self.now scope.now seen.old (tree_of term.now) }
         ensures { Checks self.now scope.now q seen.old seen.new (tree_of term.now) result }
     {
@@ -46,7 +55,13 @@ impl Checker<'_> {
         }
     }
 
-    fn held(&self, seen: &mut Seen, scope: &Scope<'_>, q: Effect, value: &Value) -> Result<Ty, TypesFail>
+    fn held(
+        &self,
+        seen: &mut Seen,
+        scope: &Scope<'_>,
+        q: Effect,
+        value: &Value,
+    ) -> Result<Ty, TypesFail>
         requires { IsReady self.now scope.now seen.old (Tree.Held (val_of value.now)) }
         ensures { Checks self.now scope.now q seen.old seen.new (Tree.Held (val_of value.now)) result }
     {
@@ -54,7 +69,13 @@ impl Checker<'_> {
         Ok(constant(value))
     }
 
-    fn name(&self, seen: &mut Seen, scope: &Scope<'_>, q: Effect, name: Name) -> Result<Ty, TypesFail>
+    fn name(
+        &self,
+        seen: &mut Seen,
+        scope: &Scope<'_>,
+        q: Effect,
+        name: Name,
+    ) -> Result<Ty, TypesFail>
         requires { IsReady self.now scope.now seen.old (Tree.Var name.0) }
         ensures { Checks self.now scope.now q seen.old seen.new (Tree.Var name.0) result }
     {
@@ -64,7 +85,13 @@ impl Checker<'_> {
     }
 
     #[cycle(checker)]
-    fn function(&self, seen: &mut Seen, scope: &Scope<'_>, q: Effect, function: &Function) -> Result<Ty, TypesFail>
+    fn function(
+        &self,
+        seen: &mut Seen,
+        scope: &Scope<'_>,
+        q: Effect,
+        function: &Function,
+    ) -> Result<Ty, TypesFail>
         requires { IsReady self.now scope.now seen.old (Tree.Lambda (head_of function.now.effect function.now.own function.now.param function.now.param_ty) (tree_of function.now.body)) }
         ensures { Checks self.now scope.now q seen.old seen.new (Tree.Lambda (head_of function.now.effect function.now.own function.now.param function.now.param_ty) (tree_of function.now.body)) result }
     {
@@ -75,7 +102,13 @@ impl Checker<'_> {
     }
 
     #[cycle(checker)]
-    fn plain(&self, seen: &mut Seen, scope: &Scope<'_>, q: Effect, function: &Function) -> Result<Ty, TypesFail>
+    fn plain(
+        &self,
+        seen: &mut Seen,
+        scope: &Scope<'_>,
+        q: Effect,
+        function: &Function,
+    ) -> Result<Ty, TypesFail>
         requires none { function.now.own ≡ None }
         requires ready { IsReady self.now scope.now seen.old (Tree.Lambda (head_of function.now.effect function.now.own function.now.param function.now.param_ty) (tree_of function.now.body)) }
         ensures { Checks self.now scope.now q seen.old seen.new (Tree.Lambda (head_of function.now.effect function.now.own function.now.param function.now.param_ty) (tree_of function.now.body)) result }
@@ -88,7 +121,14 @@ impl Checker<'_> {
     }
 
     #[cycle(checker)]
-    fn recursive(&self, seen: &mut Seen, scope: &Scope<'_>, q: Effect, function: &Function, own: &Own) -> Result<Ty, TypesFail>
+    fn recursive(
+        &self,
+        seen: &mut Seen,
+        scope: &Scope<'_>,
+        q: Effect,
+        function: &Function,
+        own: &Own,
+    ) -> Result<Ty, TypesFail>
         requires own { function.now.own ≡ Some own.now }
         requires ready { IsReady self.now scope.now seen.old (Tree.Lambda (head_of function.now.effect function.now.own function.now.param function.now.param_ty) (tree_of function.now.body)) }
         ensures { Checks self.now scope.now q seen.old seen.new (Tree.Lambda (head_of function.now.effect function.now.own function.now.param function.now.param_ty) (tree_of function.now.body)) result }
@@ -109,7 +149,14 @@ impl Checker<'_> {
     }
 
     #[cycle(checker)]
-    fn app(&self, seen: &mut Seen, scope: &Scope<'_>, q: Effect, function: &Term, argument: &Term) -> Result<Ty, TypesFail>
+    fn app(
+        &self,
+        seen: &mut Seen,
+        scope: &Scope<'_>,
+        q: Effect,
+        function: &Term,
+        argument: &Term,
+    ) -> Result<Ty, TypesFail>
         requires { IsReady self.now scope.now seen.old (Tree.App (tree_of function.now) (tree_of argument.now)) }
         ensures { Checks self.now scope.now q seen.old seen.new (Tree.App (tree_of function.now) (tree_of argument.now)) result }
     {
@@ -121,14 +168,30 @@ impl Checker<'_> {
             Ty::Fun(effect, param, answer) => {
                 let argument_at = self.place(seen, argument);
                 let found = self.term(seen, scope, q, argument)?;
-                applied(at, argument_at, q, effect, found, Box::into_inner(param), Box::into_inner(answer))
+                applied(
+                    at,
+                    argument_at,
+                    q,
+                    effect,
+                    found,
+                    Box::into_inner(param),
+                    Box::into_inner(answer),
+                )
             }
             other => broken(2, function_at, Shown::Ty(other), Shown::Nothing),
         }
     }
 
     #[cycle(checker)]
-    fn binding(&self, seen: &mut Seen, scope: &Scope<'_>, q: Effect, name: Name, bound: &Term, body: &Term) -> Result<Ty, TypesFail>
+    fn binding(
+        &self,
+        seen: &mut Seen,
+        scope: &Scope<'_>,
+        q: Effect,
+        name: Name,
+        bound: &Term,
+        body: &Term,
+    ) -> Result<Ty, TypesFail>
         requires { IsReady self.now scope.now seen.old (Tree.Let name.0 (tree_of bound.now) (tree_of body.now)) }
         ensures { Checks self.now scope.now q seen.old seen.new (Tree.Let name.0 (tree_of bound.now) (tree_of body.now)) result }
     {
@@ -140,7 +203,13 @@ impl Checker<'_> {
     }
 
     #[cycle(checker)]
-    fn sequence(&self, seen: &mut Seen, scope: &Scope<'_>, q: Effect, parts: &[Term]) -> Result<Ty, TypesFail>
+    fn sequence(
+        &self,
+        seen: &mut Seen,
+        scope: &Scope<'_>,
+        q: Effect,
+        parts: &[Term],
+    ) -> Result<Ty, TypesFail>
         requires { IsReady self.now scope.now seen.old (Tree.Do (trees_of parts.now)) }
         ensures { Checks self.now scope.now q seen.old seen.new (Tree.Do (trees_of parts.now)) result }
     {
@@ -158,7 +227,15 @@ impl Checker<'_> {
     }
 
     #[cycle(checker)]
-    fn choice(&self, seen: &mut Seen, scope: &Scope<'_>, q: Effect, test: &Term, then: &Term, other: &Term) -> Result<Ty, TypesFail>
+    fn choice(
+        &self,
+        seen: &mut Seen,
+        scope: &Scope<'_>,
+        q: Effect,
+        test: &Term,
+        then: &Term,
+        other: &Term,
+    ) -> Result<Ty, TypesFail>
         requires { IsReady self.now scope.now seen.old (Tree.If (tree_of test.now) (tree_of then.now) (tree_of other.now)) }
         ensures { Checks self.now scope.now q seen.old seen.new (Tree.If (tree_of test.now) (tree_of then.now) (tree_of other.now)) result }
     {
@@ -173,7 +250,15 @@ impl Checker<'_> {
     }
 
     #[cycle(checker)]
-    fn operation(&self, seen: &mut Seen, scope: &Scope<'_>, q: Effect, op: Op, left: &Term, right: &Term) -> Result<Ty, TypesFail>
+    fn operation(
+        &self,
+        seen: &mut Seen,
+        scope: &Scope<'_>,
+        q: Effect,
+        op: Op,
+        left: &Term,
+        right: &Term,
+    ) -> Result<Ty, TypesFail>
         requires { IsReady self.now scope.now seen.old (Tree.Bin op (tree_of left.now) (tree_of right.now)) }
         ensures { Checks self.now scope.now q seen.old seen.new (Tree.Bin op (tree_of left.now) (tree_of right.now)) result }
     {
@@ -187,7 +272,13 @@ impl Checker<'_> {
     }
 
     #[cycle(checker)]
-    fn not(&self, seen: &mut Seen, scope: &Scope<'_>, q: Effect, part: &Term) -> Result<Ty, TypesFail>
+    fn not(
+        &self,
+        seen: &mut Seen,
+        scope: &Scope<'_>,
+        q: Effect,
+        part: &Term,
+    ) -> Result<Ty, TypesFail>
         requires { IsReady self.now scope.now seen.old (Tree.Not (tree_of part.now)) }
         ensures { Checks self.now scope.now q seen.old seen.new (Tree.Not (tree_of part.now)) result }
     {
@@ -199,7 +290,14 @@ impl Checker<'_> {
 
     #[cycle(checker)]
     #[tactic(auto, using(crate::proofs::Stored::lists), unfolding(ame_term::specs::Typing::typed, ame_term::specs::Typing::stored, ame_term::specs::Written::nodes, ame_term::specs::Written::IsWritten, ame_term::specs::Written::IsBound))]
-    fn new_ref(&self, seen: &mut Seen, scope: &Scope<'_>, q: Effect, sort: Sort, part: &Term) -> Result<Ty, TypesFail>
+    fn new_ref(
+        &self,
+        seen: &mut Seen,
+        scope: &Scope<'_>,
+        q: Effect,
+        sort: Sort,
+        part: &Term,
+    ) -> Result<Ty, TypesFail>
         requires { IsReady self.now scope.now seen.old (Tree.Ref sort (tree_of part.now)) }
         ensures { Checks self.now scope.now q seen.old seen.new (Tree.Ref sort (tree_of part.now)) result }
     {
@@ -211,7 +309,13 @@ impl Checker<'_> {
     }
 
     #[cycle(checker)]
-    fn get(&self, seen: &mut Seen, scope: &Scope<'_>, q: Effect, part: &Term) -> Result<Ty, TypesFail>
+    fn get(
+        &self,
+        seen: &mut Seen,
+        scope: &Scope<'_>,
+        q: Effect,
+        part: &Term,
+    ) -> Result<Ty, TypesFail>
         requires { IsReady self.now scope.now seen.old (Tree.Get (tree_of part.now)) }
         ensures { Checks self.now scope.now q seen.old seen.new (Tree.Get (tree_of part.now)) result }
     {
@@ -223,7 +327,13 @@ impl Checker<'_> {
     }
 
     #[cycle(checker)]
-    fn peek(&self, seen: &mut Seen, scope: &Scope<'_>, q: Effect, part: &Term) -> Result<Ty, TypesFail>
+    fn peek(
+        &self,
+        seen: &mut Seen,
+        scope: &Scope<'_>,
+        q: Effect,
+        part: &Term,
+    ) -> Result<Ty, TypesFail>
         requires { IsReady self.now scope.now seen.old (Tree.Peek (tree_of part.now)) }
         ensures { Checks self.now scope.now q seen.old seen.new (Tree.Peek (tree_of part.now)) result }
     {
@@ -238,7 +348,14 @@ impl Checker<'_> {
     }
 
     #[cycle(checker)]
-    fn set(&self, seen: &mut Seen, scope: &Scope<'_>, q: Effect, cell: &Term, content: &Term) -> Result<Ty, TypesFail>
+    fn set(
+        &self,
+        seen: &mut Seen,
+        scope: &Scope<'_>,
+        q: Effect,
+        cell: &Term,
+        content: &Term,
+    ) -> Result<Ty, TypesFail>
         requires { IsReady self.now scope.now seen.old (Tree.Set (tree_of cell.now) (tree_of content.now)) }
         ensures { Checks self.now scope.now q seen.old seen.new (Tree.Set (tree_of cell.now) (tree_of content.now)) result }
     {
@@ -257,7 +374,13 @@ impl Checker<'_> {
     }
 
     #[cycle(checker)]
-    fn spawn(&self, seen: &mut Seen, scope: &Scope<'_>, q: Effect, body: &Term) -> Result<Ty, TypesFail>
+    fn spawn(
+        &self,
+        seen: &mut Seen,
+        scope: &Scope<'_>,
+        q: Effect,
+        body: &Term,
+    ) -> Result<Ty, TypesFail>
         requires { IsReady self.now scope.now seen.old (Tree.Async (tree_of body.now)) }
         ensures { Checks self.now scope.now q seen.old seen.new (Tree.Async (tree_of body.now)) result }
     {
@@ -268,7 +391,13 @@ impl Checker<'_> {
     }
 
     #[cycle(checker)]
-    fn block(&self, seen: &mut Seen, scope: &Scope<'_>, q: Effect, part: &Term) -> Result<Ty, TypesFail>
+    fn block(
+        &self,
+        seen: &mut Seen,
+        scope: &Scope<'_>,
+        q: Effect,
+        part: &Term,
+    ) -> Result<Ty, TypesFail>
         requires { IsReady self.now scope.now seen.old (Tree.Block (tree_of part.now)) }
         ensures { Checks self.now scope.now q seen.old seen.new (Tree.Block (tree_of part.now)) result }
     {
@@ -283,7 +412,13 @@ impl Checker<'_> {
     }
 
     #[cycle(checker)]
-    fn unprotected(&self, seen: &mut Seen, scope: &Scope<'_>, q: Effect, part: &Term) -> Result<Ty, TypesFail>
+    fn unprotected(
+        &self,
+        seen: &mut Seen,
+        scope: &Scope<'_>,
+        q: Effect,
+        part: &Term,
+    ) -> Result<Ty, TypesFail>
         requires { IsReady self.now scope.now seen.old (Tree.Unprotected (tree_of part.now)) }
         ensures { Checks self.now scope.now q seen.old seen.new (Tree.Unprotected (tree_of part.now)) result }
     {
@@ -297,7 +432,13 @@ impl Checker<'_> {
     }
 
     #[cycle(checker)]
-    fn print(&self, seen: &mut Seen, scope: &Scope<'_>, q: Effect, part: &Term) -> Result<Ty, TypesFail>
+    fn print(
+        &self,
+        seen: &mut Seen,
+        scope: &Scope<'_>,
+        q: Effect,
+        part: &Term,
+    ) -> Result<Ty, TypesFail>
         requires { IsReady self.now scope.now seen.old (Tree.Print (tree_of part.now)) }
         ensures { Checks self.now scope.now q seen.old seen.new (Tree.Print (tree_of part.now)) result }
     {
@@ -308,7 +449,14 @@ impl Checker<'_> {
     }
 
     #[cycle(checker)]
-    fn call(&self, seen: &mut Seen, scope: &Scope<'_>, q: Effect, device: u8, part: &Term) -> Result<Ty, TypesFail>
+    fn call(
+        &self,
+        seen: &mut Seen,
+        scope: &Scope<'_>,
+        q: Effect,
+        device: u8,
+        part: &Term,
+    ) -> Result<Ty, TypesFail>
         requires { IsReady self.now scope.now seen.old (Tree.Call device (tree_of part.now)) }
         ensures { Checks self.now scope.now q seen.old seen.new (Tree.Call device (tree_of part.now)) result }
     {
@@ -327,7 +475,14 @@ impl Checker<'_> {
     }
 
     #[cycle(checker)]
-    fn pair(&self, seen: &mut Seen, scope: &Scope<'_>, q: Effect, first: &Term, second: &Term) -> Result<Ty, TypesFail>
+    fn pair(
+        &self,
+        seen: &mut Seen,
+        scope: &Scope<'_>,
+        q: Effect,
+        first: &Term,
+        second: &Term,
+    ) -> Result<Ty, TypesFail>
         requires { IsReady self.now scope.now seen.old (Tree.Pairing (tree_of first.now) (tree_of second.now)) }
         ensures { Checks self.now scope.now q seen.old seen.new (Tree.Pairing (tree_of first.now) (tree_of second.now)) result }
     {
@@ -339,7 +494,13 @@ impl Checker<'_> {
     }
 
     #[cycle(checker)]
-    fn first(&self, seen: &mut Seen, scope: &Scope<'_>, q: Effect, part: &Term) -> Result<Ty, TypesFail>
+    fn first(
+        &self,
+        seen: &mut Seen,
+        scope: &Scope<'_>,
+        q: Effect,
+        part: &Term,
+    ) -> Result<Ty, TypesFail>
         requires { IsReady self.now scope.now seen.old (Tree.First (tree_of part.now)) }
         ensures { Checks self.now scope.now q seen.old seen.new (Tree.First (tree_of part.now)) result }
     {
@@ -350,7 +511,13 @@ impl Checker<'_> {
     }
 
     #[cycle(checker)]
-    fn second(&self, seen: &mut Seen, scope: &Scope<'_>, q: Effect, part: &Term) -> Result<Ty, TypesFail>
+    fn second(
+        &self,
+        seen: &mut Seen,
+        scope: &Scope<'_>,
+        q: Effect,
+        part: &Term,
+    ) -> Result<Ty, TypesFail>
         requires { IsReady self.now scope.now seen.old (Tree.Second (tree_of part.now)) }
         ensures { Checks self.now scope.now q seen.old seen.new (Tree.Second (tree_of part.now)) result }
     {

@@ -78,7 +78,15 @@ fn may_touch(sort: Sort, q: Effect) -> bool
 }
 
 /// The type of a call, whose argument at its place has the type found.
-pub fn applied(at: u32, argument_at: u32, q: Effect, effect: Effect, found: Ty, param: Ty, answer: Ty) -> Result<Ty, TypesFail>
+pub fn applied(
+    at: u32,
+    argument_at: u32,
+    q: Effect,
+    effect: Effect,
+    found: Ty,
+    param: Ty,
+    answer: Ty,
+) -> Result<Ty, TypesFail>
     ensures { Answers (want argument_at (typ_of found) (typ_of param) (need (fits effect q) (breaks 3 at (Seen.Mode effect) (Seen.Mode q)) (Ok (typ_of answer)))) result }
 {
     if !same_ty(&found, &param) {
@@ -118,7 +126,14 @@ pub fn peeked(at: u32, part_at: u32, found: Ty) -> Result<Ty, TypesFail>
 }
 
 /// The type of a write, whose content at its place has the type found.
-pub fn written(at: u32, content_at: u32, q: Effect, sort: Sort, found: Ty, wanted: Ty) -> Result<Ty, TypesFail>
+pub fn written(
+    at: u32,
+    content_at: u32,
+    q: Effect,
+    sort: Sort,
+    found: Ty,
+    wanted: Ty,
+) -> Result<Ty, TypesFail>
     ensures { Answers (want content_at (typ_of found) (typ_of wanted) (need (touches sort q) (breaks 4 at (Seen.Kind sort) (Seen.Mode q)) (Ok Typ.Unit))) result }
 {
     if !same_ty(&found, &wanted) {

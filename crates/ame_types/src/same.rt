@@ -19,9 +19,7 @@ pub fn same_ty(a: &Ty, b: &Ty) -> bool
             *sort == *other_sort && same_ty(content, other_content)
         }
         (Ty::Fun(effect, param, answer), Ty::Fun(other_effect, other_param, other_answer)) => {
-            *effect == *other_effect
-                && same_ty(param, other_param)
-                && same_ty(answer, other_answer)
+            *effect == *other_effect && same_ty(param, other_param) && same_ty(answer, other_answer)
         }
         (Ty::Pair(first, second), Ty::Pair(other_first, other_second)) => {
             same_ty(first, other_first) && same_ty(second, other_second)

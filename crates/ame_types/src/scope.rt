@@ -22,13 +22,7 @@ impl<'a> Scope<'a> {
     {
         match self {
             Scope::Empty => unreachable!(),
-            Scope::Bound(outer, bound, ty) => {
-                if *bound == name {
-                    ty
-                } else {
-                    outer.ty(name)
-                }
-            }
+            Scope::Bound(outer, bound, ty) => { if *bound == name { ty } else { outer.ty(name) } }
         }
     }
 }

@@ -11,7 +11,8 @@ use crate::fault::{Shown, TypesFail};
 use crate::program::check;
 use crate::scope::Scope;
 use ame_term::{
-    Accepted, Effect, Function, Name, NoMemory, Op, Own, Program, Sort, Term, Ty, Value, boxed, push,
+    Accepted, Effect, Function, Name, NoMemory, Op, Own, Program, Sort, Term, Ty, Value, boxed,
+    push,
 };
 use std::alloc::Global;
 use std::test::Fail;
@@ -75,11 +76,7 @@ impl<'a> Reader<'a> {
             "Fun" => {
                 let effect = self.effect();
                 let param = boxed(self.alloc, self.ty(fuel - 1)?)?;
-                Ok(Ty::Fun(
-                    effect,
-                    param,
-                    boxed(self.alloc, self.ty(fuel - 1)?)?,
-                ))
+                Ok(Ty::Fun(effect, param, boxed(self.alloc, self.ty(fuel - 1)?)?))
             }
             _ => Ok(Ty::Unit),
         }
@@ -123,7 +120,14 @@ impl<'a> Reader<'a> {
                 Ok(Term::Call(device, self.part(fuel)?))
             }
             "app" | "set" | "pair" | "+" | "<" => self.two_parts(fuel, word),
-            "get" | "peek" | "async" | "blockUntil" | "unprotected" | "print" | "not" | "fst"
+            "get"
+            | "peek"
+            | "async"
+            | "blockUntil"
+            | "unprotected"
+            | "print"
+            | "not"
+            | "fst"
             | "snd" => self.one_part(fuel, word),
             _ => Ok(leaf(word)),
         }
@@ -207,9 +211,7 @@ fn leaf(word: &str) -> Term {
         "unit" => Term::Held(Value::Unit),
         "true" => Term::Held(Value::Bool(true)),
         "1" => Term::Held(Value::Int(1)),
-        _ => Term::Var(Name(u32::from(
-            word.as_bytes().first().copied().unwrap_or(0),
-        ))),
+        _ => Term::Var(Name(u32::from(word.as_bytes().first().copied().unwrap_or(0)))),
     }
 }
 
@@ -240,14 +242,25 @@ fn count(term: &Term, scope: &Scope<'_>) -> Option<usize>
             sum(count(bound, scope)?, count(body, &inner)?, 0)
         }
         Term::Do(parts) => count_parts(parts, scope),
-        Term::If(test, then, other) => sum(count(test, scope)?, count(then, scope)?, count(other, scope)?),
+        Term::If(test, then, other) => sum(
+            count(test, scope)?,
+            count(then, scope)?,
+            count(other, scope)?,
+        ),
         Term::App(a, b) | Term::Bin(_, a, b) | Term::Set(a, b) | Term::Pair(a, b) => {
             sum(count(a, scope)?, count(b, scope)?, 0)
         }
-        Term::Not(a) | Term::Ref(_, a) | Term::Get(a) | Term::Peek(a) | Term::Async(a) | Term::Block(a)
-        | Term::Unprotected(a) | Term::Print(a) | Term::Call(_, a) | Term::First(a) | Term::Second(a) => {
-            sum(count(a, scope)?, 0, 0)
-        }
+        Term::Not(a)
+        | Term::Ref(_, a)
+        | Term::Get(a)
+        | Term::Peek(a)
+        | Term::Async(a)
+        | Term::Block(a)
+        | Term::Unprotected(a)
+        | Term::Print(a)
+        | Term::Call(_, a)
+        | Term::First(a)
+        | Term::Second(a) => { sum(count(a, scope)?, 0, 0) }
     }
 }
 
@@ -361,7 +374,11 @@ fn each_rule_has_its_place(rt: HostRuntime) -> Result<(), Fail> {
         ("not 1", 0, 1, 1),
         ("< 1 1", 0, 9, 0),
     ] {
-        assert_eq!(rt; verdict(rt.alloc(), text, devices)?, (rule, place), "{text}");
+        assert_eq!(rt;
+            verdict(rt.alloc(), text, devices)?,
+            (rule, place),
+            "{text}"
+        );
     }
     Ok(())
 }
@@ -393,7 +410,11 @@ fn the_first_of_two_faults_is_told(rt: HostRuntime) -> Result<(), Fail> {
         ("+ 1 true", 0, 1, 2),
         ("pair print true app 1 1", 0, 1, 2),
     ] {
-        assert_eq!(rt; verdict(rt.alloc(), text, devices)?, (rule, place), "{text}");
+        assert_eq!(rt;
+            verdict(rt.alloc(), text, devices)?,
+            (rule, place),
+            "{text}"
+        );
     }
     Ok(())
 }
@@ -427,12 +448,26 @@ fn effects_keep_code_apart(rt: HostRuntime) -> Result<(), Fail> {
         ("unprotected print call 0 1", 1, 0, 0),
         ("unprotected print call 15 1", 16, 0, 0),
         ("unprotected print call 16 1", 16, 8, 2),
-        ("app rec p f x Int Unit if < x 1 unit app f + x 1 1", 0, 0, 0),
+        (
+            "app rec p f x Int Unit if < x 1 unit app f + x 1 1",
+            0,
+            0,
+            0,
+        ),
         ("fst pair unit 1", 0, 0, 0),
         ("snd pair 1 unit", 0, 0, 0),
-        ("let r ref p 1 do 2 async set r 1 unprotected print peek r", 0, 0, 1),
+        (
+            "let r ref p 1 do 2 async set r 1 unprotected print peek r",
+            0,
+            0,
+            1,
+        ),
     ] {
-        assert_eq!(rt; verdict(rt.alloc(), text, devices)?, (rule, place), "{text}");
+        assert_eq!(rt;
+            verdict(rt.alloc(), text, devices)?,
+            (rule, place),
+            "{text}"
+        );
     }
     Ok(())
 }

@@ -1,4 +1,3 @@
-use Rattle.std.proofs.Common.{rules}
 use Rattle.ame_types.proofs.Counts.{contains-later}
 use Rattle.ame_types.proofs.tests.+knows.Goals as goal
 

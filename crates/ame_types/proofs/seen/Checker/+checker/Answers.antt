@@ -1,5 +1,4 @@
 -- A part of a `do` form before the last: Unit, or a fault.
-use Rattle.std.proofs.Common.{rules, arith, ◌<◌, length, ◌≡◌, get_or}
 use Rattle.std.proofs.lemmas.Result.{err_from_is_err_and}
 use Rattle.ame_term.specs.Tree.{Tree}
 use Rattle.ame_term.specs.View.{trees_of}
@@ -18,5 +17,5 @@ unfolding typed
 sequence-returns-in_err-require t c =
     let p = err_from_is_err_and c.from_residual-in_err-require.result c.from_residual-in_err-require.ensures.1 in
     rw (p.1, p.2)
-      (at_fault c.args.self.now c.args.scope.now c.args.q c.args.seen.now c.term.new.seen (Tree.Do (trees_of c.args.parts.now)) _ _ _ c.in_err-require.ensures
-        (λ s. breaks_nine _ _ _ _ _ _ _ _ _ c.loop-rest.invariant c.loop-rest-test.true c.index-rest-0.is c.in_ok-found.ensures.0 c.place-place.ensures s))
+    (at_fault c.args.self.now c.args.scope.now c.args.q c.args.seen.now c.term.new.seen (Tree.Do (trees_of c.args.parts.now)) _ _ _ c.in_err-require.ensures
+    (λ s. breaks_nine _ _ _ _ _ _ _ _ _ c.loop-rest.invariant c.loop-rest-test.true c.index-rest-0.is c.in_ok-found.ensures.0 c.place-place.ensures s))

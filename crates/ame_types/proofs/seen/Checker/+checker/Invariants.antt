@@ -1,5 +1,5 @@
 -- A form's function is called by `term`, and calls it with the form's parts.
-use Rattle.std.proofs.Common.{ℕ, ◌+◌, ◌*◌, length, map, slice_index}
+use Rattle.std.proofs.Common.{◌+◌, ◌*◌, length, map, slice_index}
 use Rattle.ame_term.specs.View.{typ_of, tree_of, trees_of}
 use Rattle.ame_term.specs.Written.{nodes, all_nodes}
 use Rattle.ame_types.specs.Scope.{scope_of, names_of}
@@ -75,7 +75,7 @@ decreases-second l = 4 * nodes (tree_of l.part.now) + 1
 abbrev pub invariant-sequence-loop-rest : goal.invariant-sequence-loop-rest
 invariant-sequence-loop-rest l =
     Left l.self.devices (slice_index l.self.places.now) (scope_of l.scope) (names_of l.scope) l.q
-      (l.fn.seen.next + 1) (map typ_of l.fn.seen.ref_tys.items) l.parts l.seen.next (map typ_of l.seen.ref_tys.items) l.rest
+    (l.fn.seen.next + 1) (map typ_of l.fn.seen.ref_tys.items) l.parts l.seen.next (map typ_of l.seen.ref_tys.items) l.rest
 
 abbrev pub decreases-sequence-loop-rest : goal.decreases-sequence-loop-rest
 decreases-sequence-loop-rest l = length l.rest

@@ -1,4 +1,4 @@
-use Rattle.std.proofs.Common.{ℕ, ◌+◌, ◌*◌}
+use Rattle.std.proofs.Common.{◌+◌, ◌*◌}
 use Rattle.ame_types.proofs.tests.Reader.+reader.Given as goal
 
 abbrev pub decreases-term : goal.decreases-term

@@ -1,13 +1,16 @@
 -- What each status tells of a call: of its words, of what the source gave, and of the run.
-use Rattle.std.specs.Prelude.{◌≡◌, ◌≢◌, ℕ, List, [], Option, Some, None, Result, Ok, Err, ⊤}
+use Rattle.std.specs.Prelude.{◌≡◌, ◌≢◌, ◌⊎◌, slice_index, ℕ, List, [], Option, Some, None, Result, Ok, Err, ⊤}
 use Rattle.ame_io.specs.Counts.{HasRisen}
 use Rattle.ame_io.specs.Reads.{IsReadWhole, GivesMoreThan}
 use Rattle.ame_lex.specs.Bytes.{Text}
 use Rattle.ame_lex.specs.declared.tokens.LexFault.{LexFault}
 use Rattle.ame_parse.specs.declared.fault.ParseFault.{ParseFault}
+use Rattle.ame_parse.specs.declared.fault.Want.{Want}
 use Rattle.ame_parse.specs.Text.{Source, Fault, source_of, reading}
 use Rattle.ame_term.specs.View.{tree_of}
+use Rattle.ame_term.specs.Tree.{Typ}
 use Rattle.ame_term.specs.Typing.{typing}
+use Rattle.ame_unbuilt.specs.Unbuilt.{first_unbuilt}
 use Rattle.ame_term.specs.declared.accepted.Accepted.{Accepted}
 use Rattle.ame_types.specs.Fault.{fault_of}
 use Rattle.ame_types.specs.declared.fault.TypeFault.{TypeFault}
@@ -44,14 +47,26 @@ pub record IsIllTyped (text : Text) (fault : TypeFault) : Type 0 where
   pub reads : reading text ≡ Ok source
   pub is : typing 0 source.places source.tree ≡ Err (fault_of fault)
 
--- the accepted program is the one of the text
+-- the text is a program that the types accept, but it has `unprotected` or `blockUntil`, which can't be
+-- run yet; the fault is that of its first such form
+pub record IsUnbuilt (text : Text) (fault : TextFault) : Type 0 where
+  pub source : Source
+  pub reads : reading text ≡ Ok source
+  pub typed : typing 0 source.places source.tree ≡ Ok Typ.Unit
+  pub number : ℕ
+  pub first : first_unbuilt 0 source.tree ≡ Some number
+  pub is : fault ≡ record { place = slice_index source.places number; kind = TextKind.Expected Want.Form }
+
+-- the accepted program is the one of the text, and all its forms can be run
 pub record IsProgramOf (text : Text) (accepted : Accepted) : Type 0 where
   pub reads : reading text ≡ Ok (source_of accepted.program)
   pub devices : accepted.devices ≡ 0
+  pub typed : typing 0 accepted.program.places.items (tree_of accepted.program.term) ≡ Ok Typ.Unit
+  pub built : first_unbuilt 0 (tree_of accepted.program.term) ≡ None
 
 -- What a status tells of a whole text, of the program that was run, and of what the run left.
 abbrev pub TextCause : Text → Status → Option Accepted → Option Ended → Type 0
-TextCause text (Status.Text fault) None None = IsNoProgram text fault
+TextCause text (Status.Text fault) None None = IsNoProgram text fault ⊎ IsUnbuilt text fault
 TextCause text (Status.Types fault) None None = IsIllTyped text fault
 TextCause text Status.Finished (Some a) (Some e) = IsProgramOf text a × IsFinished (tree_of a.program.term) e
 TextCause text Status.Spent (Some a) (Some e) = IsProgramOf text a × IsSpent (tree_of a.program.term) e

@@ -3,7 +3,9 @@
 ghost use Rattle.std.specs.Prelude.{◌≡◌, ◌≤◌, [], length, map, string_bytes, Ok};
 ghost use Rattle.ame_lex.specs.Reading.{tokens_of};
 ghost use Rattle.ame_parse.specs.Text.{reading, source_of};
+ghost use Rattle.ame_term.specs.Tree.{Typ};
 ghost use Rattle.ame_term.specs.View.{tree_of};
+ghost use Rattle.ame_term.specs.Typing.{typing};
 ghost use Rattle.ame_term.specs.Written.{nodes, IsWritten, IsBound};
 ghost use Rattle.ame_app.specs.Causes.{TextCause, IsProgramOf, Cause, call_of};
 ghost use Rattle.ame_lex.specs.Bytes.{Text};
@@ -13,9 +15,10 @@ use crate::execute::{Ending, execute};
 use crate::status::{Status, TextFault, TextKind};
 use ame_io::{ReadAllFail, Source, read_all};
 use ame_lex::{LexFault, Token, lex};
-use ame_parse::{ParseFault, parse};
+use ame_parse::{ParseFault, Want, parse};
 use ame_term::{Accepted, Program};
 use ame_types::{TypesFail, check};
+use ame_unbuilt::unbuilt_place;
 use std::alloc::Global;
 
 /// How a call ends, the program that was run, and what the run left.
@@ -88,8 +91,21 @@ fn decide_program(alloc: Global, program: Program) -> Decision
     }
 }
 
-/// The run of an accepted program.
+/// The same of an accepted program: it is refused at its first form that can't be run yet.
 fn decide_accepted(alloc: Global, accepted: Accepted) -> Decision
+    requires places { length accepted.program.places.items ≡ nodes (tree_of accepted.program.term) }
+    requires typed { typing 0 accepted.program.places.items (tree_of accepted.program.term) ≡ Ok Typ.Unit }
+    requires devices { accepted.devices ≡ 0 }
+    ensures { (text : Text) → reading text ≡ Ok (source_of accepted.program) → TextCause text result.status result.program result.ended }
+{
+    match unbuilt_place(&accepted.program) {
+        Some(place) => no_program(place, TextKind::Expected(Want::Form)),
+        None => decide_run(alloc, accepted),
+    }
+}
+
+/// The run of an accepted program.
+fn decide_run(alloc: Global, accepted: Accepted) -> Decision
     ensures { (text : Text) → IsProgramOf text accepted → TextCause text result.status result.program result.ended }
 {
     let Some(execution) = execute(alloc, &accepted.program.term) else {

@@ -98,6 +98,8 @@ fn texts_and_types_are_refused_at_their_place(rt: HostRuntime) -> Result<(), Fai
         ("(fst 1)", 6, "types: rule 11 at 5\n"),
         ("(let r (ref p 0) (unprotected (print (get r))))", 6, "types: rule 4 at 37\n"),
         ("(unprotected (print (call 0 1)))", 6, "types: rule 8 at 20\n"),
+        ("(do (print 1) yield)", 5, "refused: expected form at 14\n"),
+        ("(blockUntil false)", 5, "refused: expected form at 0\n"),
     ];
     for (text, number, output) in rows {
         let report = report_of(rt.alloc(), text.as_bytes(), &AMPLE)?;

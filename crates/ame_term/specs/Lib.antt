@@ -7,3 +7,6 @@ pub mod Redex
 pub mod Split
 pub mod Act
 pub mod State
+pub mod Written
+pub mod Typing
+pub mod Has

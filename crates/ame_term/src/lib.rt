@@ -2,11 +2,13 @@
 //! as definitions.
 #![tactic(auto)]
 
+mod accepted;
 mod context;
 mod copied;
 mod copy;
 mod focus;
 mod heights;
+mod locs;
 mod memory;
 mod program;
 mod semantics;
@@ -16,11 +18,13 @@ mod term;
 mod tests;
 mod types;
 
+pub use accepted::Accepted;
 pub use context::{refill, split};
 pub use copied::Copied;
 pub use copy::{copy_function, copy_parts, copy_term, copy_ty, copy_value};
 pub use focus::Split;
 pub use heights::{TALL, height};
+pub use locs::Locs;
 pub use memory::{NoMemory, boxed, push};
 pub use program::Program;
 pub use semantics::{Label, StepKind};

@@ -1,0 +1,32 @@
+//! The program: standard input is the text of a program, standard output its lines.
+#![tactic(auto)]
+
+use ame_app::{Status, refuse, run_words};
+use ame_io::{StdSink, StdSource};
+use std::alloc::Alloc;
+use std::env::{self, Env};
+use std::io::{self, ErrorKind};
+use std::process::ExitCode;
+
+/// The words after the program's name. A word that isn't text is no word of a call.
+fn words<R: Env + Alloc>(rt: &R) -> Result<Vec<String, R::A>, Status> {
+    let args = match env::args(rt) {
+        Ok(args) => args,
+        Err(error) if error.kind() == ErrorKind::OutOfMemory => return Err(Status::NoMemory),
+        Err(_) => return Err(Status::Usage),
+    };
+    match args.skip(1).collect(rt.alloc()) {
+        Ok(words) => Ok(words),
+        Err(_) => Err(Status::NoMemory),
+    }
+}
+
+fn main(rt: HostRuntime) -> ExitCode {
+    let mut source = StdSource::new(rt.reader());
+    let sink = StdSink::new(io::writer(&rt));
+    let report = match words(&rt) {
+        Ok(words) => run_words(rt.alloc(), &words, &mut source, sink),
+        Err(status) => refuse(sink, status),
+    };
+    ExitCode::from(report.status.number())
+}

@@ -1,0 +1,4 @@
+pub mod RunLemmas
+pub mod EndingLemmas
+pub mod CauseLemmas
+pub mod TellLemmas

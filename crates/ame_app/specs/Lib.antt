@@ -1,0 +1,7 @@
+pub mod Lines
+pub mod Verdict
+pub mod Runs
+pub mod Endings
+pub mod Execute
+pub mod Causes
+pub mod Reports

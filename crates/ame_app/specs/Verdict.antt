@@ -1,0 +1,57 @@
+-- How a status is told: its number and its line.
+use Rattle.std.specs.Prelude.{ℕ, List, [], ◌++◌, codes, decimal}
+use Rattle.ame_parse.specs.declared.fault.Want.{Want}
+use Rattle.ame_app.specs.declared.status.TextKind.{TextKind}
+use Rattle.ame_app.specs.declared.status.TextFault.{TextFault}
+use Rattle.ame_app.specs.declared.status.Status.{Status}
+
+-- the status of the process
+abbrev pub number_of : Status → ℕ
+number_of Status.Finished = 0
+number_of Status.Spent = 2
+number_of Status.Usage = 3
+number_of Status.ReadFault = 4
+number_of (Status.Text fault) = 5
+number_of (Status.Types fault) = 6
+number_of Status.WriteFault = 7
+number_of Status.NoMemory = 9
+
+-- what was expected, up to the place
+abbrev pub want_line : Want → List ℕ
+want_line Want.Term = codes "refused: expected term at "
+want_line Want.Form = codes "refused: expected form at "
+want_line Want.Name = codes "refused: expected name at "
+want_line Want.Ty = codes "refused: expected type at "
+want_line Want.Effect = codes "refused: expected effect at "
+want_line Want.Sort = codes "refused: expected sort at "
+want_line Want.Device = codes "refused: expected device at "
+want_line Want.Opening = codes "refused: expected opening at "
+want_line Want.Closing = codes "refused: expected closing at "
+
+-- a place in decimal, and the line's end
+abbrev pub placed : List ℕ → ℕ → List ℕ
+placed text place = text ++ (decimal place ++ codes "\n")
+
+-- the line of a fault of the text
+abbrev pub text_line_at : TextKind → ℕ → List ℕ
+text_line_at TextKind.TooLong place = codes "refused: too long" ++ codes "\n"
+text_line_at TextKind.BadByte place = placed (codes "refused: bad byte at ") place
+text_line_at TextKind.LongNumber place = placed (codes "refused: long number at ") place
+text_line_at (TextKind.Expected want) place = placed (want_line want) place
+text_line_at TextKind.UnknownName place = placed (codes "refused: unknown name at ") place
+text_line_at TextKind.TooNested place = placed (codes "refused: too nested at ") place
+text_line_at TextKind.Trailing place = placed (codes "refused: trailing at ") place
+
+abbrev pub text_line : TextFault → List ℕ
+text_line fault = text_line_at fault.kind fault.place
+
+-- the verdict line; there is none after a write fault
+abbrev pub verdict : Status → List ℕ
+verdict Status.Finished = codes "finished" ++ codes "\n"
+verdict Status.Spent = codes "spent" ++ codes "\n"
+verdict Status.Usage = codes "usage" ++ codes "\n"
+verdict Status.ReadFault = codes "read fault" ++ codes "\n"
+verdict (Status.Text fault) = text_line fault
+verdict (Status.Types fault) = codes "types: rule " ++ (decimal fault.rule ++ placed (codes " at ") fault.place)
+verdict Status.WriteFault = []
+verdict Status.NoMemory = codes "no memory" ++ codes "\n"

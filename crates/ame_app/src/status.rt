@@ -1,0 +1,61 @@
+//! How a call ends.
+
+ghost use Rattle.std.specs.Prelude.{◌≡◌};
+ghost use Rattle.ame_app.specs.Verdict.{number_of};
+
+use ame_parse::Want;
+use ame_types::TypeFault;
+
+/// Why a text is no program.
+#[derive(Clone, Copy, PartialEq, Eq, Debug)]
+pub enum TextKind {
+    /// It has more bytes than a program may have.
+    TooLong,
+    BadByte,
+    LongNumber,
+    Expected(Want),
+    UnknownName,
+    TooNested,
+    Trailing,
+}
+
+/// Why a text is no program, and where: an offset in bytes.
+#[derive(Clone, Copy, PartialEq, Eq, Debug)]
+pub struct TextFault {
+    pub place: u32,
+    pub kind: TextKind,
+}
+
+/// How a call ends.
+#[derive(Drop)]
+pub enum Status {
+    /// The pool is empty.
+    Finished,
+    /// All turns are used, and members are left.
+    Spent,
+    /// The words aren't those of a call.
+    Usage,
+    ReadFault,
+    Text(TextFault),
+    Types(TypeFault),
+    WriteFault,
+    NoMemory,
+}
+
+impl Status {
+    /// The status of the process.
+    pub fn number(&self) -> u8
+        ensures { result ≡ number_of self.now }
+    {
+        match self {
+            Status::Finished => 0,
+            Status::Spent => 2,
+            Status::Usage => 3,
+            Status::ReadFault => 4,
+            Status::Text(_) => 5,
+            Status::Types(_) => 6,
+            Status::WriteFault => 7,
+            Status::NoMemory => 9,
+        }
+    }
+}

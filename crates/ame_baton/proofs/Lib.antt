@@ -1,0 +1,11 @@
+pub mod Lookups
+pub mod Staying
+pub mod Reading
+pub mod Opens
+pub mod Pops
+pub mod Pushes
+pub mod Splits
+pub mod Joins
+pub mod Readiness
+pub mod Taking
+pub mod Counting

@@ -1,0 +1,5 @@
+pub mod Seats
+pub mod Rule
+pub mod Batons
+pub mod Tallies
+pub mod Counted

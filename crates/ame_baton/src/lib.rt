@@ -1,0 +1,18 @@
+//! The turn and its seats: one shared state passes from seat to seat, and each seat knows what it
+//! will find.
+#![tactic(auto)]
+
+mod seats;
+mod state;
+mod steps;
+pub mod tally;
+mod turn;
+mod view;
+
+pub use seats::{Seat, SeatAt};
+pub use state::{AnyRow, Leaves, Rowed};
+pub use turn::Baton;
+pub use view::{Knows, Left};
+
+#[cfg(test)]
+mod tests;

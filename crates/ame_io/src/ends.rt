@@ -1,0 +1,42 @@
+//! What a source and a sink promise.
+ghost use Rattle.std.specs.Prelude.{ℕ, ◌<◌, ◌≤◌, List, Option, length, IfOk};
+ghost use Rattle.std.specs.Io.KnownBytes.{ReadConsumes, WriteAppends};
+ghost use Rattle.ame_io.specs.Counts.{CountsFault};
+
+/// The end had a fault in this call, and counted it.
+#[derive(Clone, Copy, Debug, PartialEq, Eq)]
+pub struct Failed;
+
+/// Where bytes come from.
+pub trait Source {
+    // The bytes that reads will give from here on, where the source tells them.
+    ghost left: { Self → Option (List ℕ) };
+
+    // How many calls have failed. It never falls, and a counter of 64 bits stays at its last value.
+    ghost faults: { Self → ℕ };
+
+    /// Moves bytes to the front of the buffer, and answers how many. What stands behind them isn't said.
+    fn read(&mut self, buf: &mut [u8]) -> Result<usize, Failed>
+        requires has_room { 0 < length buf.old }
+        // No bytes come only at the end of the input.
+        ensures within { IfOk result (λ n. n ≤ length buf.new) }
+        ensures bytes { ReadConsumes (left self.old) (left self.new) result buf.new }
+        ensures counts { CountsFault result (faults self.old) (faults self.new) };
+}
+
+/// Where bytes go.
+pub trait Sink {
+    // The bytes written, where the sink tells them.
+    ghost written: { Self → Option (List ℕ) };
+
+    // How many calls have failed. It never falls, and a counter of 64 bits stays at its last value.
+    ghost faults: { Self → ℕ };
+
+    /// Appends bytes from the front of the piece, and answers how many.
+    fn write(&mut self, piece: &[u8]) -> Result<usize, Failed>
+        requires has_bytes { 0 < length piece.now }
+        ensures some { IfOk result (λ n. 1 ≤ n) }
+        ensures within { IfOk result (λ n. n ≤ length piece.now) }
+        ensures bytes { WriteAppends (written self.old) (written self.new) result piece.now }
+        ensures counts { CountsFault result (faults self.old) (faults self.new) };
+}

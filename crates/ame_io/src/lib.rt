@@ -1,0 +1,25 @@
+//! Where bytes come from and where they go: sources and sinks, in memory and real, and how a whole input is
+//! read and a whole text is written.
+#![tactic(auto)]
+
+mod append;
+mod ends;
+mod mem_sink;
+mod mem_source;
+mod no_memory;
+mod plan;
+mod std_sink;
+mod std_source;
+#[cfg(test)]
+mod std_tests;
+mod whole_read;
+mod whole_write;
+
+pub use ends::{Failed, Sink, Source};
+pub use mem_sink::MemSink;
+pub use mem_source::MemSource;
+pub use no_memory::NoMemory;
+pub use std_sink::StdSink;
+pub use std_source::StdSource;
+pub use whole_read::{READ_LIMIT, ReadAllFail, read_all};
+pub use whole_write::{WriteFault, write_all};

@@ -1,0 +1,57 @@
+//! Writing a whole text.
+ghost use Rattle.std.specs.Prelude.{◌≡◌, ◌<◌, length, IfErr, OnOk, OnErr};
+ghost use Rattle.std.specs.Io.KnownBytes.{Appends};
+ghost use Rattle.ame_io.specs.Counts.{HasRisen};
+ghost use Rattle.ame_io.specs.Writes.{AppendsFirst};
+
+use crate::ends::{Failed, Sink};
+
+/// A sink failed after it took the first `gone` bytes.
+#[derive(Clone, Copy, Debug, PartialEq, Eq)]
+pub struct WriteFault {
+    pub gone: usize,
+}
+
+/// Writes all the bytes, by as many writes as the sink needs. It takes no memory.
+pub fn write_all<K: Sink>(sink: &mut K, bytes: &[u8]) -> Result<(), WriteFault>
+    ensures whole { OnOk result (Appends (K.written sink.old) (K.written sink.new) bytes.now) }
+    ensures stayed { OnOk result (K.faults sink.new ≡ K.faults sink.old) }
+
+    // It fails only where the sink does.
+    ensures gone { IfErr result (λ e. AppendsFirst e.gone (K.written sink.old) (K.written sink.new) bytes.now) }
+    ensures short { IfErr result (λ e. e.gone < length bytes.now) }
+    ensures risen { OnErr result (HasRisen (K.faults sink.old) (K.faults sink.new)) }
+{
+    let mut gone = 0;
+    'writes: while gone < bytes.len() {
+        match sink.write(&bytes[gone..]) {
+            Ok(n) => gone += n,
+            Err(Failed) => return Err(WriteFault { gone }),
+        }
+    }
+    Ok(())
+}
+
+#[cfg(test)]
+mod tests {
+    use super::*;
+    use crate::mem_sink::MemSink;
+    use std::test::Fail;
+
+    #[test]
+    fn writes_all_or_tells_how_much(rt: HostRuntime) -> Result<(), Fail> {
+        let rows = [
+            (4, 0, Ok(()), b"1\n2\n".as_slice()),
+            (3, 0, Err(WriteFault { gone: 3 }), b"1\n2"),
+            (4, 2, Err(WriteFault { gone: 2 }), b"1\n"),
+            (0, 0, Err(WriteFault { gone: 0 }), b""),
+        ];
+        for (room, fails, answer, written) in rows {
+            let fails = vec![in rt.alloc(); fails]?;
+            let mut sink = MemSink::new(rt.alloc(), room, 2, fails)?;
+            assert_eq!(rt; write_all(&mut sink, b"1\n2\n"), answer);
+            assert_eq!(rt; sink.written(), written);
+        }
+        Ok(())
+    }
+}

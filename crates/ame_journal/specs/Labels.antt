@@ -1,0 +1,72 @@
+-- The labels that a journal stands for: those of its entries, one entry after another.
+use Rattle.std.specs.Prelude.{◌≡◌, ℕ, suc, ℤ, Bool, true, false, List, [], ◌∷◌, ◌++◌, map, length, Option, Some, None}
+use Rattle.std.specs.List.{flat_map}
+use Rattle.ame_term.specs.State.{State, run}
+use Rattle.ame_term.specs.declared.semantics.StepKind.{StepKind}
+use Rattle.ame_term.specs.declared.semantics.Label.{Label}
+use Rattle.ame_journal.specs.declared.entry.Entry.{Entry}
+use Rattle.ame_journal.specs.declared.entry.EntryKind.{EntryKind}
+use Rattle.ame_journal.specs.Replay.{Replayed, fresh_of, member_act, is_at_unprotected, is_inside, is_failing, is_tall, entering, leaving, staying}
+
+-- the locations that steps make, in order
+abbrev pub made_by : List StepKind → List ℕ
+made_by kinds = flat_map fresh_of kinds
+
+-- the answer of a step that calls a device
+abbrev pub answer_of : StepKind → Option ℤ
+answer_of (StepKind.Device answer) = Some answer
+answer_of _ = None
+
+-- a device is called in the last step alone, and then its answer is told
+abbrev pub Answers : List StepKind → Option ℤ → Type 0
+Answers [] answer = answer ≡ None
+Answers (kind ∷ []) answer = answer ≡ answer_of kind
+Answers (kind ∷ next ∷ kinds) answer = (answer_of kind ≡ None) × Answers (next ∷ kinds) answer
+
+-- n steps of these kinds make these locations and have this answer
+pub record AreSteps (kinds : List StepKind) (n : ℕ) (fresh : List ℕ) (answer : Option ℤ) : Type 0 where
+  pub count : length kinds ≡ n
+  pub made : made_by kinds ≡ fresh
+  pub answered : Answers kinds answer
+
+-- the labels of a fragment that goes on
+abbrev pub fragment_labels : ℕ → List StepKind → List Label
+fragment_labels i kinds = Label.Activate i ∷ map Label.Step kinds
+
+-- the labels of steps under `unprotected`
+abbrev pub free_labels : ℕ → List StepKind → List Label
+free_labels i kinds = map (Label.Free i) kinds
+
+-- the labels of an attempt, at a member that stands at `unprotected` (the first argument true) or doesn't
+abbrev pub attempt_labels : Bool → ℕ → List StepKind → List Label
+attempt_labels true i kinds = free_labels i kinds
+attempt_labels false i kinds = fragment_labels i kinds
+
+-- An entry of a kind for member i, with so many steps, these fresh locations and this answer, unfolds
+-- into labels that lead on. A note has none: what it tells could happen here, and nothing changes.
+pub data Unfolds (r : Replayed) (i : ℕ) : EntryKind → ℕ → List ℕ → Option ℤ → List Label → Replayed → Type 0 where
+  leaves : (kinds : List StepKind) (n : ℕ) (fresh : List ℕ) (s : State) → is_inside r i ≡ false → AreSteps kinds n fresh None →
+      run r.state (fragment_labels i kinds ++ Label.Leave ∷ []) ≡ Some s →
+      Unfolds r i EntryKind.Ran n fresh None (fragment_labels i kinds ++ Label.Leave ∷ []) (entering r i s)
+  ends : (kinds : List StepKind) (n : ℕ) (fresh : List ℕ) (s : State) → is_inside r i ≡ false → AreSteps kinds n fresh None →
+      run r.state (fragment_labels i kinds ++ Label.End ∷ []) ≡ Some s →
+      Unfolds r i EntryKind.Ran n fresh None (fragment_labels i kinds ++ Label.End ∷ []) (staying r s)
+  arrives : is_inside r i ≡ false → is_at_unprotected i r.state ≡ true → Unfolds r i EntryKind.Ran 0 [] None [] (entering r i r.state)
+  goes_on : (kinds : List StepKind) (n : ℕ) (fresh : List ℕ) (answer : Option ℤ) (s : State) → is_inside r i ≡ true → AreSteps kinds (suc n) fresh answer →
+      run r.state (free_labels i kinds) ≡ Some s → Unfolds r i EntryKind.Free (suc n) fresh answer (free_labels i kinds) (staying r s)
+  closes : (kinds : List StepKind) (n : ℕ) (fresh : List ℕ) (s : State) → is_inside r i ≡ true → AreSteps kinds n fresh None →
+      run r.state (free_labels i kinds ++ Label.Close i ∷ []) ≡ Some s →
+      Unfolds r i EntryKind.Free (suc n) fresh None (free_labels i kinds ++ Label.Close i ∷ []) (leaving r i s)
+  fails : (kinds : List StepKind) (n : ℕ) (fresh : List ℕ) (s : State) → AreSteps kinds n fresh None → run r.state (fragment_labels i kinds) ≡ Some s →
+      is_failing (member_act i s) ≡ true → Unfolds r i EntryKind.Stuck n fresh None [] r
+  is_cut : (kinds : List StepKind) (n : ℕ) (fresh : List ℕ) (s : State) → AreSteps kinds n fresh None →
+      run r.state (attempt_labels (is_at_unprotected i r.state) i kinds) ≡ Some s → Unfolds r i EntryKind.Cut n fresh None [] r
+  grows : (kinds : List StepKind) (n : ℕ) (fresh : List ℕ) (s : State) → AreSteps kinds n fresh None →
+      run r.state (attempt_labels (is_at_unprotected i r.state) i kinds) ≡ Some s → is_tall i s ≡ true → Unfolds r i EntryKind.Tall n fresh None [] r
+
+-- the labels of all entries, one entry after another
+pub data UnfoldsAll : Replayed → List Entry → List Label → Replayed → Type 0 where
+  done : (r : Replayed) → UnfoldsAll r [] [] r
+  next : (r s t : Replayed) (entry : Entry) (entries : List Entry) (labels more : List Label) →
+      Unfolds r entry.number entry.kind entry.steps entry.fresh entry.answer labels s → UnfoldsAll s entries more t →
+      UnfoldsAll r (entry ∷ entries) (labels ++ more) t

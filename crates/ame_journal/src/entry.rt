@@ -1,0 +1,49 @@
+//! Entries of a journal.
+
+ghost use Rattle.std.specs.Prelude.{◌≡◌};
+
+use ame_term::Locs;
+
+/// What an entry is.
+#[derive(Clone, Copy, PartialEq, Eq, Debug)]
+pub enum EntryKind {
+    /// A fragment, from being made active to its end or its next `unprotected`.
+    Ran,
+    /// Steps of a member under `unprotected`.
+    Free,
+    /// A note: here the fragment comes to a condition that is false.
+    Stuck,
+    /// A note: here the fragment was cut off.
+    Cut,
+    /// A note: here the fragment comes to a value of height 1,001.
+    Tall,
+}
+
+impl EntryKind {
+    ghost use Rattle.ame_journal.specs.Kinds.{kind_word};
+
+    /// The word for a kind in a journal's text.
+    pub fn word(self) -> &'static [u8]
+        ensures { result.now ≡ kind_word self }
+    {
+        match self {
+            EntryKind::Ran => b"ran",
+            EntryKind::Free => b"free",
+            EntryKind::Stuck => b"stuck",
+            EntryKind::Cut => b"cut",
+            EntryKind::Tall => b"tall",
+        }
+    }
+}
+
+/// One entry: the seat that made it, the member's number, the number of steps, the locations that
+/// they made, in order, and the device's answer where the last step of a `Free` entry is a call.
+#[derive(Drop)]
+pub struct Entry {
+    pub kind: EntryKind,
+    pub seat: u32,
+    pub number: u64,
+    pub steps: u64,
+    pub fresh: Locs,
+    pub answer: Option<i64>,
+}

@@ -1,0 +1,22 @@
+//! The journal of a run: its entries, and what a run it stands for.
+#![tactic(auto)]
+
+mod entry;
+mod fault;
+mod journal;
+mod laws;
+mod line;
+mod numbers;
+mod spelling;
+#[cfg(test)]
+mod tests;
+mod text;
+mod words;
+
+pub use entry::{Entry, EntryKind};
+pub use fault::JournalFault;
+pub use journal::Journal;
+pub use laws::{
+    first_bad_line_is_one, front_is_replayed, journal_is_one_run, one_more_entry,
+    spelled_has_no_bad_line, text_is_of_one_journal,
+};

@@ -1,0 +1,12 @@
+pub mod RunLemmas
+pub mod FitLemmas
+pub mod ReadingLemmas
+pub mod ScanLemmas
+pub mod PieceLemmas
+pub mod Completeness
+pub mod Soundness
+pub mod Places
+pub mod Spelling
+pub mod Cuts
+pub mod Growing
+pub mod FirstFaults

@@ -1,0 +1,5 @@
+pub mod Bytes
+pub mod Faults
+pub mod Grammar
+pub mod Reading
+pub mod Tokens

@@ -1,0 +1,46 @@
+//! Runs of bytes of one kind.
+
+ghost use Rattle.std.specs.Prelude.{◌≡◌, ◌≤◌, length};
+ghost use Rattle.std.specs.List.{prefix_len};
+ghost use Rattle.ame_lex.specs.Bytes as spec;
+
+use crate::classes::{Class, class_of};
+
+pub fn is_word_byte(b: u8) -> bool
+    ensures { result ≡ spec.is_word_byte b }
+{
+    matches!(
+        class_of(b),
+        Class::Letter | Class::Digit | Class::Underscore
+    )
+}
+
+pub fn is_digit(b: u8) -> bool
+    ensures { result ≡ spec.is_digit b }
+{
+    matches!(class_of(b), Class::Digit)
+}
+
+/// How many bytes at the front continue a word.
+pub fn word_len(text: &[u8]) -> usize
+    ensures value { result ≡ prefix_len spec.is_word_byte text.now }
+    ensures within { result ≤ length text.now }
+{
+    text.iter().take_while(|b| is_word_byte(**b)).count()
+}
+
+/// How many digits there are at the front.
+pub fn digits_len(text: &[u8]) -> usize
+    ensures value { result ≡ prefix_len spec.is_digit text.now }
+    ensures within { result ≤ length text.now }
+{
+    text.iter().take_while(|b| is_digit(**b)).count()
+}
+
+/// How many bytes there are before the first line feed.
+pub fn line_len(text: &[u8]) -> usize
+    ensures value { result ≡ prefix_len spec.is_comment_byte text.now }
+    ensures within { result ≤ length text.now }
+{
+    text.iter().take_while(|b| **b != b'\n').count()
+}

@@ -1,0 +1,15 @@
+pub mod Steps
+pub mod LetterSteps
+pub mod Completeness
+pub mod TypeSoundness
+pub mod Facts
+pub mod Whole
+pub mod Bound
+pub mod Locality
+pub mod LocalForms
+pub mod LocalTerms
+pub mod Soundness
+pub mod NameLemmas
+pub mod ReaderLemmas
+pub mod TreeLemmas
+pub mod Turns

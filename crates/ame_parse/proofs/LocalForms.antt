@@ -1,0 +1,215 @@
+-- Each form, type and program is read locally.
+use Rattle.std.proofs.Common.{◌≡◌, refl, sym, ap, subst, ◌∙◌, ℕ, zero, suc, ◌+◌, ◌-◌, ◌<◌, ◌≤◌, ◌==◌, Bool, true, false, cond, List, [], ◌∷◌, ◌++◌, length, take, drop, arith, Option, Some, None, Ok, Err}
+use Rattle.std.proofs.lemmas.List.{take-append-drop}
+use Rattle.std.specs.Option.{option_map}
+use Rattle.ame_term.specs.declared.types.Sort.{Sort}
+use Rattle.ame_term.specs.declared.types.Effect.{Effect}
+use Rattle.ame_term.specs.declared.types.Op.{Op}
+use Rattle.ame_term.specs.Tree.{Typ, Val, Tree, unit_tree}
+use Rattle.ame_parse.specs.declared.words.Word.{Word}
+use Rattle.ame_parse.specs.declared.words.Word.TheVariants as w
+use Rattle.ame_parse.specs.declared.ahead.Ahead.{Ahead}
+use Rattle.ame_parse.specs.declared.ahead.Ahead.TheVariants as a
+use Rattle.ame_parse.specs.declared.fault.Want.TheVariants as want
+use Rattle.ame_parse.specs.declared.fault.ParseFault.TheVariants.{UnknownName, TooNested, Trailing}
+use Rattle.ame_parse.specs.declared.forms.OnePart.{OnePart}
+use Rattle.ame_parse.specs.declared.forms.TwoParts.{TwoParts}
+use Rattle.ame_parse.specs.declared.forms.Form.{Form}
+use Rattle.ame_parse.specs.declared.forms.Form.TheVariants as form_
+use Rattle.ame_parse.specs.Input.{Seen, Input, Outcome, Parser, and_then, ◌>>=◌, ◌>>◌, pure, peek, advance, mark, bind, unbind, ahead_in, ahead, place, spelling_in, spelling, after, number, named, marked, binds, left, is_closing, sees_closing, closing_by, closing, opening_by, opening, name_by, name, finish_by, finish}
+use Rattle.ame_parse.specs.Names.{number_in, with_name}
+use Rattle.ame_parse.specs.Letters.{sort_of, effect_of, device_of, sort_by, effect_by, device_by, sort, effect, device}
+use Rattle.ame_parse.specs.Types as t
+use Rattle.ame_parse.specs.Types.{ty, param}
+use Rattle.ame_parse.specs.Forms.{form_of, op_of, one_part, two_parts, row}
+use Rattle.ame_parse.specs.Reading.{one, two, choice, binding, more_from, more, first_two, sequence, reference, call, function, recursive, form_by, compound, variable, yielding, constant, atom_by, atom, term_by, term_of, nested, term, max_open, program}
+use Rattle.ame_parse.specs.Grammar.{IsTerm}
+use Rattle.ame_parse.proofs.Steps.{Leads}
+use Rattle.ame_parse.proofs.Soundness.{term_leads}
+use Rattle.ame_parse.proofs.Completeness.{term_takes}
+use Rattle.ame_parse.proofs.Locality.{swapped, Alike, IsLocal, goes, local_bind, local_same, local_pure, local_peek, local_see, local_sees_closing, local_fault, local_expected, local_advance, local_mark, local_bound, local_unbound, spelling_taken, drop_alike, spelling_alike}
+
+-- ---- steps by the next token
+
+closing_by_local : (m : ℕ) (next : Ahead) → IsLocal m (closing_by next)
+closing_by_local m a.Closing = local_advance m
+closing_by_local m _ = local_expected m want.Closing
+
+local_closing : (m : ℕ) → IsLocal m closing
+unfolding closing
+local_closing m = local_bind m peek closing_by (local_peek m) (closing_by_local m)
+
+finish_by_local : (m : ℕ) (next : Ahead) → IsLocal m (finish_by next)
+finish_by_local m a.End = local_pure m tt
+finish_by_local m _ = local_fault m Trailing (λ n. refl)
+
+pub local_finish : (m : ℕ) → IsLocal m finish
+unfolding finish
+local_finish m = local_bind m peek finish_by (local_peek m) (finish_by_local m)
+
+pub take_name_local : (m : ℕ) → IsLocal m (λ i. Ok (number i, named i))
+unfolding number named spelling
+take_name_local m i few = goes (take 1 i.rest) (sym (take-append-drop 1 i.rest)) refl
+    (λ rest end few' alike.
+      ap (λ z. Ok (number_in i.names z, record i { rest = drop 1 (take 1 i.rest ++ rest); end = end; names = with_name i.names z })) (spelling_taken i.rest rest i.end end alike)
+      ∙ ap (λ z. Ok (number_in i.names (spelling_in i.rest), record i { rest = z; end = end; names = with_name i.names (spelling_in i.rest) })) (drop_alike i.rest rest i.end end alike))
+
+name_by_local : (m : ℕ) (next : Ahead) → IsLocal m (name_by next)
+name_by_local m a.Name = take_name_local m
+name_by_local m _ = local_expected m want.Name
+
+local_name : (m : ℕ) → IsLocal m name
+unfolding name
+local_name m = local_bind m peek name_by (local_peek m) (name_by_local m)
+
+opening_test_local : (m : ℕ) (b : Bool) → IsLocal m (cond {A = Parser (Unit {0})} b (λ i. Err (TooNested (place i))) advance)
+opening_test_local m true = local_fault m TooNested (λ n. refl)
+opening_test_local m false = local_advance m
+
+opening_by_local : (m n : ℕ) (next : Ahead) → IsLocal m (opening_by n next)
+opening_by_local m n a.Opening = opening_test_local m (n == 0)
+opening_by_local m n _ = local_expected m want.Opening
+
+local_opening : (m n : ℕ) → IsLocal m (opening n)
+unfolding opening
+local_opening m n = local_bind m peek (opening_by n) (local_peek m) (opening_by_local m n)
+
+sort_by_local : (m : ℕ) (found : Option Sort) → IsLocal m (sort_by found)
+sort_by_local m (Some found) = local_bind m advance (λ _. pure found) (local_advance m) (λ _. local_pure m found)
+sort_by_local m None = local_expected m want.Sort
+
+local_sort : (m : ℕ) → IsLocal m sort
+unfolding sort
+local_sort m = local_bind m (λ i. Ok (spelling i, i)) (λ z. sort_by (sort_of z)) (local_see m) (λ z. sort_by_local m (sort_of z))
+
+effect_by_local : (m : ℕ) (found : Option Effect) → IsLocal m (effect_by found)
+effect_by_local m (Some found) = local_bind m advance (λ _. pure found) (local_advance m) (λ _. local_pure m found)
+effect_by_local m None = local_expected m want.Effect
+
+local_effect : (m : ℕ) → IsLocal m effect
+unfolding effect
+local_effect m = local_bind m (λ i. Ok (spelling i, i)) (λ z. effect_by (effect_of z)) (local_see m) (λ z. effect_by_local m (effect_of z))
+
+device_by_local : (m : ℕ) (found : Option ℕ) → IsLocal m (device_by found)
+device_by_local m (Some found) = local_bind m advance (λ _. pure found) (local_advance m) (λ _. local_pure m found)
+device_by_local m None = local_expected m want.Device
+
+local_device : (m : ℕ) → IsLocal m device
+unfolding device
+local_device m = local_bind m peek (λ z. device_by (device_of z)) (local_peek m) (λ z. device_by_local m (device_of z))
+
+-- a token is taken, and then the parser goes on
+pub after_one : {A : Type 0} (m : ℕ) (p : Parser A) → IsLocal m p → IsLocal m (advance >> p)
+after_one m p local = local_bind m advance (λ _. p) (local_advance m) (λ _. local)
+
+-- a form ends with this value
+pub shut : {A : Type 0} (m : ℕ) (x : A) → IsLocal m (closing >> pure x)
+shut m x = local_bind m closing (λ _. pure x) (local_closing m) (λ _. local_pure m x)
+
+-- ---- types
+
+module _ (m : ℕ) (part : Parser Typ) (local : IsLocal m part) where
+  ref_type_local : IsLocal m (t.reference part)
+  unfolding t.reference
+  ref_type_local = local_bind m sort _ (local_sort m) (λ s. local_bind m part _ local (λ x. shut m (Typ.Ref s x)))
+
+  fun_type_local : IsLocal m (t.function part)
+  unfolding t.function
+  fun_type_local = local_bind m effect _ (local_effect m) (λ q. local_bind m part _ local (λ x. local_bind m part _ local (λ y. shut m (Typ.Fun q x y))))
+
+  pair_type_local : IsLocal m (t.pair part)
+  unfolding t.pair
+  pair_type_local = local_bind m part _ local (λ x. local_bind m part _ local (λ y. shut m (Typ.Pair x y)))
+
+  type_word_local : (word : Word) → IsLocal m (t.compound_by_word part word)
+  type_word_local w.RefType = after_one m (t.reference part) ref_type_local
+  type_word_local w.FunType = after_one m (t.function part) fun_type_local
+  type_word_local w.PairType = after_one m (t.pair part) pair_type_local
+  type_word_local _ = local_expected m want.Ty
+
+  type_form_by_local : (next : Ahead) → IsLocal m (t.compound_by part next)
+  type_form_by_local (a.Reserved word) = type_word_local word
+  type_form_by_local _ = local_expected m want.Ty
+
+  type_form_local : IsLocal m (t.compound part)
+  unfolding t.compound
+  type_form_local = local_bind m peek (t.compound_by part) (local_peek m) type_form_by_local
+
+simple_local : (m : ℕ) (word : Word) → IsLocal m (t.simple word)
+simple_local m w.UnitType = after_one m (pure Typ.Unit) (local_pure m Typ.Unit)
+simple_local m w.BoolType = after_one m (pure Typ.Bool) (local_pure m Typ.Bool)
+simple_local m w.IntType = after_one m (pure Typ.Int) (local_pure m Typ.Int)
+simple_local m _ = local_expected m want.Ty
+
+ty_by_local : (m : ℕ) (form : Parser Typ) → IsLocal m form → (next : Ahead) → IsLocal m (t.ty_by form next)
+ty_by_local m form local a.Opening = local
+ty_by_local m form local (a.Reserved word) = simple_local m word
+ty_by_local m form local _ = local_expected m want.Ty
+
+ty_of_local : (m : ℕ) (form : Parser Typ) → IsLocal m form → IsLocal m (t.ty_of form)
+ty_of_local m form local = local_bind m peek (t.ty_by form) (local_peek m) (ty_by_local m form local)
+
+nested_type_local : (m n : ℕ) → IsLocal m (t.nested n)
+unfolding t.nested
+nested_type_local m zero = local_fault m TooNested (λ n. refl)
+nested_type_local m (suc n) = after_one m (t.compound (t.ty_of (t.nested n))) (type_form_local m (t.ty_of (t.nested n)) (ty_of_local m (t.nested n) (nested_type_local m n)))
+
+pub local_ty : (m n : ℕ) → IsLocal m (ty n)
+unfolding ty
+local_ty m n = ty_of_local m (t.nested n) (nested_type_local m n)
+
+pub local_param : (m n : ℕ) → IsLocal m (param n)
+unfolding param
+local_param m n = local_bind m (opening n) _ (local_opening m n) (λ _. local_bind m name _ (local_name m) (λ x. local_bind m (ty (n - 1)) _ (local_ty m (n - 1)) (λ type. shut m (x, type))))
+
+-- ---- forms
+
+module _ (m : ℕ) (part : Parser Tree) (local : IsLocal m part) where
+  pub one_local : (f : OnePart) → IsLocal m (one part f)
+  unfolding one
+  one_local f = local_bind m part _ local (λ x. shut m (one_part f x))
+
+  pub two_local : (f : TwoParts) → IsLocal m (two part f)
+  unfolding two
+  two_local f = local_bind m part _ local (λ x. local_bind m part _ local (λ y. shut m (two_parts f x y)))
+
+  pub choice_local : IsLocal m (choice part)
+  unfolding choice
+  choice_local = local_bind m part _ local (λ x. local_bind m part _ local (λ y. local_bind m part _ local (λ z. shut m (Tree.If x y z))))
+
+  pub reference_local : IsLocal m (reference part)
+  unfolding reference
+  reference_local = local_bind m sort _ (local_sort m) (λ s. local_bind m part _ local (λ x. shut m (Tree.Ref s x)))
+
+  pub call_local : IsLocal m (call part)
+  unfolding call
+  call_local = local_bind m device _ (local_device m) (λ d. local_bind m part _ local (λ x. shut m (Tree.Call d x)))
+
+  unbinding : (x : Tree) → IsLocal m (closing >> (unbind >> pure x))
+  unbinding x = local_bind m closing _ (local_closing m) (λ _. local_bind m unbind _ (local_unbound m) (λ _. local_pure m x))
+
+  pub binding_local : IsLocal m (binding part)
+  unfolding binding
+  binding_local = local_bind m name _ (local_name m) (λ x. local_bind m part _ local (λ value. local_bind m (bind x) _ (local_bound m x) (λ _. local_bind m part _ local (λ body. unbinding (Tree.Let x value body)))))
+
+  pub function_local : (n : ℕ) → IsLocal m (function part (param n))
+  unfolding function
+  function_local n = local_bind m effect _ (local_effect m) (λ q. local_bind m (param n) _ (local_param m n) (λ p. local_bind m (bind p.0) _ (local_bound m p.0) (λ _.
+      local_bind m part _ local (λ body. unbinding (Tree.Lambda (record { effect = q; own = None; param = p.0; param_type = p.1 }) body)))))
+
+  pub recursive_local : (n : ℕ) → IsLocal m (recursive part (param n) (ty n))
+  unfolding recursive
+  recursive_local n = local_bind m effect _ (local_effect m) (λ q. local_bind m name _ (local_name m) (λ own. local_bind m (param n) _ (local_param m n) (λ p. local_bind m (ty n) _ (local_ty m n) (λ gives.
+      local_bind m (bind own) _ (local_bound m own) (λ _. local_bind m (bind p.0) _ (local_bound m p.0) (λ _. local_bind m part _ local (λ body.
+      local_bind m closing _ (local_closing m) (λ _. local_bind m unbind _ (local_unbound m) (λ _. local_bind m unbind _ (local_unbound m) (λ _.
+      local_pure m (Tree.Lambda (record { effect = q; own = Some (record { name = own; result = gives }); param = p.0; param_type = p.1 }) body)))))))))))
+
+  more_by_local : (found : List Tree) (rest : List Tree → Parser (List Tree)) → ((found : List Tree) → IsLocal m (rest found)) → (ends : Bool)
+      → IsLocal m (cond {A = Parser (List Tree)} ends (pure found) (part >>= (λ x. rest (found ++ x ∷ []))))
+  more_by_local found rest rest_local true = local_pure m found
+  more_by_local found rest rest_local false = local_bind m part _ local (λ x. rest_local (found ++ x ∷ []))
+
+  pub more_from_local : (k : ℕ) (found : List Tree) → IsLocal m (more_from part k found)
+  unfolding more_from
+  more_from_local zero found = local_expected m want.Term
+  more_from_local (suc k) found = local_bind m sees_closing _ (local_sees_closing m) (more_by_local found (more_from part k) (more_from_local k))

@@ -1,0 +1,20 @@
+use Rattle.std.proofs.Common.{◌+◌, ◌*◌}
+use Rattle.ame_parse.proofs.ty.+types.Given as goal
+
+abbrev pub decreases-nested : goal.decreases-nested
+decreases-nested l = 5 * l.depth
+
+abbrev pub decreases-ty : goal.decreases-ty
+decreases-ty l = 5 * l.depth + 1
+
+abbrev pub decreases-reference : goal.decreases-reference
+decreases-reference l = 5 * l.depth + 2
+
+abbrev pub decreases-function : goal.decreases-function
+decreases-function l = 5 * l.depth + 2
+
+abbrev pub decreases-pair : goal.decreases-pair
+decreases-pair l = 5 * l.depth + 2
+
+abbrev pub decreases-compound : goal.decreases-compound
+decreases-compound l = 5 * l.depth + 3

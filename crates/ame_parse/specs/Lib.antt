@@ -1,0 +1,12 @@
+pub mod Words
+pub mod Names
+pub mod Input
+pub mod Seen
+pub mod Cursor
+pub mod Letters
+pub mod Types
+pub mod Forms
+pub mod Reading
+pub mod Fault
+pub mod Text
+pub mod Grammar

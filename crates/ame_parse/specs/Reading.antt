@@ -1,0 +1,188 @@
+-- The program of a list of tokens, computed: what is read, or the first fault.
+use Rattle.std.specs.Prelude.{ℕ, zero, suc, if◌then◌else◌, true, false, List, [], ◌∷◌, ◌++◌, Option, Some, None, Ok, Err}
+use Rattle.ame_term.specs.Tree.{Typ, Val, Tree, unit_tree}
+use Rattle.ame_parse.specs.declared.words.Word.{Word}
+use Rattle.ame_parse.specs.declared.words.Word.TheVariants as w
+use Rattle.ame_parse.specs.declared.ahead.Ahead.{Ahead}
+use Rattle.ame_parse.specs.declared.ahead.Ahead.TheVariants as a
+use Rattle.ame_parse.specs.declared.fault.Want.TheVariants as want
+use Rattle.ame_parse.specs.declared.fault.ParseFault.TheVariants.{UnknownName, TooNested}
+use Rattle.ame_parse.specs.declared.forms.OnePart.{OnePart}
+use Rattle.ame_parse.specs.declared.forms.TwoParts.{TwoParts}
+use Rattle.ame_parse.specs.declared.forms.Form.{Form}
+use Rattle.ame_parse.specs.declared.forms.Form.TheVariants as form
+use Rattle.ame_parse.specs.Forms.{form_of, one_part, two_parts, row}
+use Rattle.ame_parse.specs.Input.{Parser, ◌>>=◌, ◌>>◌, pure, expected, peek, place, advance, mark, closing, sees_closing, name, binds, bind, unbind, left, finish}
+use Rattle.ame_parse.specs.Letters.{sort, effect, device}
+use Rattle.ame_parse.specs.Types.{ty, param}
+
+-- ---- the forms, over parsers of their terms, parameters and types
+
+module _ (part : Parser Tree) where
+  unfoldable pub one : OnePart → Parser Tree
+  one form = do
+    x ← part
+    closing
+    pure (one_part form x)
+
+  unfoldable pub two : TwoParts → Parser Tree
+  two form = do
+    first ← part
+    second ← part
+    closing
+    pure (two_parts form first second)
+
+  unfoldable pub choice : Parser Tree
+  choice = do
+    test ← part
+    then_part ← part
+    else_part ← part
+    closing
+    pure (Tree.If test then_part else_part)
+
+  unfoldable pub binding : Parser Tree
+  binding = do
+    x ← name
+    bound ← part
+    bind x
+    body ← part
+    closing
+    unbind
+    pure (Tree.Let x bound body)
+
+  -- The parts up to the closing parenthesis, after those that were found. Each takes a token, so the count of tokens is enough.
+  unfoldable pub more_from : ℕ → List Tree → Parser (List Tree)
+  more_from zero found = expected want.Term
+  more_from (suc n) found = do
+    ends ← sees_closing
+    if ends then pure found else (do x ← part; more_from n (found ++ x ∷ []))
+
+  unfoldable pub more : List Tree → Parser (List Tree)
+  more found = λ i. more_from (left i) found i
+
+  unfoldable pub first_two : Parser (List Tree)
+  first_two = do
+    first ← part
+    second ← part
+    pure (first ∷ second ∷ [])
+
+  -- two parts or more
+  unfoldable pub sequence : Parser Tree
+  sequence = do
+    first ← first_two
+    parts ← more first
+    closing
+    pure (Tree.Do (row parts))
+
+  unfoldable pub reference : Parser Tree
+  reference = do
+    which ← sort
+    content ← part
+    closing
+    pure (Tree.Ref which content)
+
+  unfoldable pub call : Parser Tree
+  call = do
+    number ← device
+    x ← part
+    closing
+    pure (Tree.Call number x)
+
+  module _ (parameter : Parser (ℕ × Typ)) where
+    unfoldable pub function : Parser Tree
+    function = do
+      under ← effect
+      p ← parameter
+      bind p.0
+      body ← part
+      closing
+      unbind
+      pure (Tree.Lambda (record { effect = under; own = None; param = p.0; param_type = p.1 }) body)
+
+    module _ (type : Parser Typ) where
+      unfoldable pub recursive : Parser Tree
+      recursive = do
+        under ← effect
+        own ← name
+        p ← parameter
+        gives ← type
+        bind own
+        bind p.0
+        body ← part
+        closing
+        unbind
+        unbind
+        pure (Tree.Lambda (record { effect = under; own = Some (record { name = own; result = gives }); param = p.0; param_type = p.1 }) body)
+
+      abbrev pub form_by : Option Form → Parser Tree
+      form_by (Some (form.One which)) = advance >> one which
+      form_by (Some (form.Two which)) = advance >> two which
+      form_by (Some form.If) = advance >> choice
+      form_by (Some form.Let) = advance >> binding
+      form_by (Some form.Do) = advance >> sequence
+      form_by (Some form.Fn) = advance >> function
+      form_by (Some form.Rec) = advance >> recursive
+      form_by (Some form.Ref) = advance >> reference
+      form_by (Some form.Call) = advance >> call
+      form_by None = expected want.Form
+
+      -- after the opening parenthesis
+      unfoldable pub compound : Parser Tree
+      compound = peek >>= (λ next. form_by (form_of next))
+
+-- ---- terms
+
+-- a name that is bound
+unfoldable pub variable : Parser Tree
+variable = λ i. (name >>= (λ x j. if binds x j then Ok (Tree.Var x, j) else Err (UnknownName (place i)))) i
+
+-- two nodes at one place
+unfoldable pub yielding : Parser Tree
+yielding = mark >> advance >> pure (Tree.Unprotected unit_tree)
+
+-- a constant, or a short form, by its word
+unfoldable pub constant : Word → Parser Tree
+constant w.Unit = advance >> pure unit_tree
+constant w.True = advance >> pure (Tree.Held (Val.Bool true))
+constant w.False = advance >> pure (Tree.Held (Val.Bool false))
+constant w.Yield = yielding
+constant _ = expected want.Term
+
+-- a term of one token
+abbrev pub atom_by : Ahead → Parser Tree
+atom_by (a.Number value) = advance >> pure (Tree.Held (Val.Int value))
+atom_by (a.Reserved word) = constant word
+atom_by a.Name = variable
+atom_by _ = expected want.Term
+
+unfoldable pub atom : Parser Tree
+atom = peek >>= atom_by
+
+-- a term, where `form` reads one that begins with a parenthesis
+abbrev pub term_by : Parser Tree → Ahead → Parser Tree
+term_by form a.Opening = form
+term_by form _ = atom
+
+abbrev pub term_of : Parser Tree → Parser Tree
+term_of form = mark >> peek >>= term_by form
+
+-- a form, where at most so many parentheses may be open in it
+unfoldable pub nested : ℕ → Parser Tree
+nested zero = λ i. Err (TooNested (place i))
+nested (suc n) = advance >> compound (term_of (nested n)) (param n) (ty n)
+
+-- a term, where at most so many parentheses may be open in it
+unfoldable pub term : ℕ → Parser Tree
+term n = term_of (nested n)
+
+-- ---- programs
+
+-- how many parentheses may be open
+abbrev pub max_open : ℕ
+max_open = 200
+
+unfoldable pub program : Parser Tree
+program = do
+  tree ← term max_open
+  finish
+  pure tree

@@ -1,0 +1,296 @@
+//! Terms and forms, by recursive descent.
+
+ghost use Rattle.std.specs.Prelude.{◌≡◌, map};
+ghost use Rattle.ame_term.specs.View.{tree_of};
+ghost use Rattle.ame_parse.specs.Input.{Reads};
+ghost use Rattle.ame_parse.specs.Reading as spec;
+ghost use Rattle.ame_parse.specs.Types as types;
+
+use crate::ahead::Ahead;
+use crate::build;
+use crate::fault::{ParseFault, Want};
+use crate::forms::{Form, OnePart, TwoParts, form_of};
+use crate::letters::{device, effect, sort};
+use crate::reader::Reader;
+use crate::ty::{param, ty};
+use crate::words::Word;
+use ame_term::{Own, Term, Value};
+use std::alloc::Global;
+
+/// A name that is bound.
+#[tactic(auto, unfolding(crate::specs::Reading::variable))]
+fn variable(alloc: Global, reader: &mut Reader<'_>) -> Result<Term, ParseFault>
+    ensures { Reads tree_of (spec.variable reader.old) result reader.new }
+{
+    let place = reader.place();
+    let name = reader.name(alloc)?;
+    if reader.binds(name) {
+        Ok(Term::Var(name))
+    } else {
+        Err(ParseFault::UnknownName(place))
+    }
+}
+
+/// `yield`, which is two nodes at its place.
+#[tactic(auto, unfolding(crate::specs::Reading::yielding))]
+fn yielding(alloc: Global, reader: &mut Reader<'_>) -> Result<Term, ParseFault>
+    ensures { Reads tree_of (spec.yielding reader.old) result reader.new }
+{
+    reader.mark()?;
+    reader.advance();
+    let whole = build::yielding(alloc)?;
+    Ok(whole)
+}
+
+#[tactic(auto, unfolding(crate::specs::Reading::constant))]
+fn constant(alloc: Global, reader: &mut Reader<'_>, word: Word) -> Result<Term, ParseFault>
+    ensures { Reads tree_of (spec.constant word reader.old) result reader.new }
+{
+    match word {
+        Word::Unit => {
+            reader.advance();
+            Ok(Term::Held(Value::Unit))
+        }
+        Word::True => {
+            reader.advance();
+            Ok(Term::Held(Value::Bool(true)))
+        }
+        Word::False => {
+            reader.advance();
+            Ok(Term::Held(Value::Bool(false)))
+        }
+        Word::Yield => yielding(alloc, reader),
+        _ => Err(reader.expected(Want::Term)),
+    }
+}
+
+/// A term of one token.
+#[tactic(auto, unfolding(crate::specs::Reading::atom))]
+fn atom(alloc: Global, reader: &mut Reader<'_>) -> Result<Term, ParseFault>
+    ensures { Reads tree_of (spec.atom reader.old) result reader.new }
+{
+    match reader.ahead() {
+        Ahead::Number(value) => {
+            reader.advance();
+            Ok(Term::Held(Value::Int(value)))
+        }
+        Ahead::Reserved(word) => constant(alloc, reader, word),
+        Ahead::Name => variable(alloc, reader),
+        _ => Err(reader.expected(Want::Term)),
+    }
+}
+
+#[cycle(grammar)]
+#[tactic(auto, unfolding(crate::specs::Reading::one))]
+fn one(
+    alloc: Global,
+    reader: &mut Reader<'_>,
+    depth: usize,
+    form: OnePart,
+) -> Result<Term, ParseFault>
+    ensures { Reads tree_of (spec.one (spec.term depth) form reader.old) result reader.new }
+{
+    let part = term(alloc, reader, depth)?;
+    reader.closing()?;
+    let whole = build::one_part(alloc, form, part)?;
+    Ok(whole)
+}
+
+#[cycle(grammar)]
+#[tactic(auto, unfolding(crate::specs::Reading::two))]
+fn two(
+    alloc: Global,
+    reader: &mut Reader<'_>,
+    depth: usize,
+    form: TwoParts,
+) -> Result<Term, ParseFault>
+    ensures { Reads tree_of (spec.two (spec.term depth) form reader.old) result reader.new }
+{
+    let first = term(alloc, reader, depth)?;
+    let second = term(alloc, reader, depth)?;
+    reader.closing()?;
+    let whole = build::two_parts(alloc, form, first, second)?;
+    Ok(whole)
+}
+
+#[cycle(grammar)]
+#[tactic(auto, unfolding(crate::specs::Reading::choice))]
+fn choice(alloc: Global, reader: &mut Reader<'_>, depth: usize) -> Result<Term, ParseFault>
+    ensures { Reads tree_of (spec.choice (spec.term depth) reader.old) result reader.new }
+{
+    let test = term(alloc, reader, depth)?;
+    let then_part = term(alloc, reader, depth)?;
+    let else_part = term(alloc, reader, depth)?;
+    reader.closing()?;
+    let whole = build::choice(alloc, test, then_part, else_part)?;
+    Ok(whole)
+}
+
+#[cycle(grammar)]
+#[tactic(auto, unfolding(crate::specs::Reading::binding))]
+fn binding(alloc: Global, reader: &mut Reader<'_>, depth: usize) -> Result<Term, ParseFault>
+    ensures { Reads tree_of (spec.binding (spec.term depth) reader.old) result reader.new }
+{
+    let name = reader.name(alloc)?;
+    let bound = term(alloc, reader, depth)?;
+    reader.bind(name)?;
+    let body = term(alloc, reader, depth)?;
+    reader.closing()?;
+    reader.unbind();
+    let whole = build::binding(alloc, name, bound, body)?;
+    Ok(whole)
+}
+
+/// The parts up to the closing parenthesis, after those that are there.
+#[cycle(grammar)]
+fn more(
+    alloc: Global,
+    reader: &mut Reader<'_>,
+    depth: usize,
+    mut parts: Vec<Term>,
+) -> Result<Vec<Term>, ParseFault>
+    ensures { Reads (λ v. map tree_of v.items) (spec.more (spec.term depth) (map tree_of parts.items) reader.old) result reader.new }
+{
+    for _turn in 0..reader.left() {
+        if reader.sees_closing() {
+            return Ok(parts);
+        }
+        let part = term(alloc, reader, depth)?;
+        parts.push(part)?;
+    }
+    Err(reader.expected(Want::Term))
+}
+
+#[cycle(grammar)]
+#[tactic(auto, unfolding(crate::specs::Reading::first_two))]
+fn first_two(alloc: Global, reader: &mut Reader<'_>, depth: usize) -> Result<Vec<Term>, ParseFault>
+    ensures { Reads (λ v. map tree_of v.items) (spec.first_two (spec.term depth) reader.old) result reader.new }
+{
+    let mut parts = Vec::new(alloc);
+    let first = term(alloc, reader, depth)?;
+    parts.push(first)?;
+    let second = term(alloc, reader, depth)?;
+    parts.push(second)?;
+    Ok(parts)
+}
+
+#[cycle(grammar)]
+#[tactic(auto, unfolding(crate::specs::Reading::sequence))]
+fn sequence(alloc: Global, reader: &mut Reader<'_>, depth: usize) -> Result<Term, ParseFault>
+    ensures { Reads tree_of (spec.sequence (spec.term depth) reader.old) result reader.new }
+{
+    let parts = first_two(alloc, reader, depth)?;
+    let parts = more(alloc, reader, depth, parts)?;
+    reader.closing()?;
+    Ok(build::sequence(parts))
+}
+
+#[cycle(grammar)]
+#[tactic(auto, unfolding(crate::specs::Reading::function))]
+fn function(alloc: Global, reader: &mut Reader<'_>, depth: usize) -> Result<Term, ParseFault>
+    ensures { Reads tree_of (spec.function (spec.term depth) (types.param depth) reader.old) result reader.new }
+{
+    let effect = effect(reader)?;
+    let (name, param_ty) = param(alloc, reader, depth)?;
+    reader.bind(name)?;
+    let body = term(alloc, reader, depth)?;
+    reader.closing()?;
+    reader.unbind();
+    let whole = build::function(alloc, effect, name, param_ty, body)?;
+    Ok(whole)
+}
+
+#[cycle(grammar)]
+#[tactic(auto, unfolding(crate::specs::Reading::recursive))]
+fn recursive(alloc: Global, reader: &mut Reader<'_>, depth: usize) -> Result<Term, ParseFault>
+    ensures { Reads tree_of (spec.recursive (spec.term depth) (types.param depth) (types.ty depth) reader.old) result reader.new }
+{
+    let effect = effect(reader)?;
+    let own = reader.name(alloc)?;
+    let (name, param_ty) = param(alloc, reader, depth)?;
+    let result_ty = ty(alloc, reader, depth)?;
+    reader.bind(own)?;
+    reader.bind(name)?;
+    let body = term(alloc, reader, depth)?;
+    reader.closing()?;
+    reader.unbind();
+    reader.unbind();
+    let own = Own {
+        name: own,
+        result: result_ty,
+    };
+    let whole = build::recursive(alloc, effect, own, name, param_ty, body)?;
+    Ok(whole)
+}
+
+#[cycle(grammar)]
+#[tactic(auto, unfolding(crate::specs::Reading::reference))]
+fn reference(alloc: Global, reader: &mut Reader<'_>, depth: usize) -> Result<Term, ParseFault>
+    ensures { Reads tree_of (spec.reference (spec.term depth) reader.old) result reader.new }
+{
+    let sort = sort(reader)?;
+    let content = term(alloc, reader, depth)?;
+    reader.closing()?;
+    let whole = build::reference(alloc, sort, content)?;
+    Ok(whole)
+}
+
+#[cycle(grammar)]
+#[tactic(auto, unfolding(crate::specs::Reading::call))]
+fn call(alloc: Global, reader: &mut Reader<'_>, depth: usize) -> Result<Term, ParseFault>
+    ensures { Reads tree_of (spec.call (spec.term depth) reader.old) result reader.new }
+{
+    let device = device(reader)?;
+    let part = term(alloc, reader, depth)?;
+    reader.closing()?;
+    let whole = build::call(alloc, device, part)?;
+    Ok(whole)
+}
+
+/// What stands after an opening parenthesis.
+#[cycle(grammar)]
+#[tactic(auto, unfolding(crate::specs::Reading::compound))]
+fn compound(alloc: Global, reader: &mut Reader<'_>, depth: usize) -> Result<Term, ParseFault>
+    ensures { Reads tree_of (spec.compound (spec.term depth) (types.param depth) (types.ty depth) reader.old) result reader.new }
+{
+    let Some(form) = form_of(reader.ahead()) else {
+        return Err(reader.expected(Want::Form));
+    };
+    reader.advance();
+    match form {
+        Form::One(form) => one(alloc, reader, depth, form),
+        Form::Two(form) => two(alloc, reader, depth, form),
+        Form::If => choice(alloc, reader, depth),
+        Form::Let => binding(alloc, reader, depth),
+        Form::Do => sequence(alloc, reader, depth),
+        Form::Fn => function(alloc, reader, depth),
+        Form::Rec => recursive(alloc, reader, depth),
+        Form::Ref => reference(alloc, reader, depth),
+        Form::Call => call(alloc, reader, depth),
+    }
+}
+
+/// A form, where at most so many parentheses may be open in it.
+#[cycle(grammar)]
+fn nested(alloc: Global, reader: &mut Reader<'_>, depth: usize) -> Result<Term, ParseFault>
+    ensures { Reads tree_of (spec.nested depth reader.old) result reader.new }
+{
+    if depth == 0 {
+        return Err(ParseFault::TooNested(reader.place()));
+    }
+    reader.advance();
+    compound(alloc, reader, depth - 1)
+}
+
+/// A term, where at most so many parentheses may be open in it.
+#[cycle(grammar)]
+#[tactic(auto, unfolding(crate::specs::Reading::term))]
+pub fn term(alloc: Global, reader: &mut Reader<'_>, depth: usize) -> Result<Term, ParseFault>
+    ensures { Reads tree_of (spec.term depth reader.old) result reader.new }
+{
+    reader.mark()?;
+    match reader.ahead() {
+        Ahead::Opening => nested(alloc, reader, depth),
+        _ => atom(alloc, reader),
+    }
+}

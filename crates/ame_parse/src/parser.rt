@@ -1,0 +1,57 @@
+//! The program of a whole list of tokens.
+
+ghost use Rattle.std.specs.Prelude.{◌≡◌, ◌≤◌, [], length, IfOk, Ok, Err};
+ghost use Rattle.ame_lex.specs.Reading.{tokens_of};
+ghost use Rattle.ame_parse.specs.Input.{Reads};
+ghost use Rattle.ame_parse.specs.Reading as spec;
+ghost use Rattle.ame_parse.specs.Text.{Answers};
+ghost use Rattle.ame_term.specs.View.{tree_of};
+ghost use Rattle.ame_term.specs.Written.{nodes, IsWritten, IsBound};
+
+use crate::fault::ParseFault;
+use crate::grammar::term;
+use crate::reader::Reader;
+use ame_lex::{Token, tokens_lie_within};
+use ame_term::{Program, Term};
+use std::alloc::Global;
+
+/// How many parentheses may be open.
+const MAX_OPEN: usize = 200;
+
+/// The program of a text's tokens, in time linear in the tokens but for look-ups of names.
+pub fn parse(alloc: Global, text: &[u8], tokens: &[Token]) -> Result<Program, ParseFault>
+    requires of_text { tokens_of text.now ≡ Ok tokens.now }
+    requires small { length text.now ≤ 1048576 }
+
+    // The program is the one that is read of the text, and a fault is the first one of the text.
+    ensures exact { Answers text.now result }
+
+    // Each node has a place, each `do` two parts or more, and each name stands within a form that binds it.
+    ensures places { IfOk result (λ p. length p.places.items ≡ nodes (tree_of p.term)) }
+    ensures written { IfOk result (λ p. IsWritten (tree_of p.term)) }
+    ensures bound { IfOk result (λ p. IsBound [] (tree_of p.term)) }
+{
+    tokens_lie_within();
+    let mut reader = Reader::new(alloc, text, tokens);
+    match program(alloc, &mut reader) {
+        Ok(term) => {
+            let (names, places) = reader.into_lists(alloc)?;
+            Ok(Program {
+                names,
+                places,
+                term,
+            })
+        }
+        Err(fault) => Err(fault),
+    }
+}
+
+/// A term, and nothing after it.
+#[tactic(auto, unfolding(crate::specs::Reading::program))]
+fn program(alloc: Global, reader: &mut Reader<'_>) -> Result<Term, ParseFault>
+    ensures { Reads tree_of (spec.program reader.old) result reader.new }
+{
+    let term = term(alloc, reader, MAX_OPEN)?;
+    reader.finish()?;
+    Ok(term)
+}

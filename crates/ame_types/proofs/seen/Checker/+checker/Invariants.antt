@@ -1,0 +1,81 @@
+-- A form's function is called by `term`, and calls it with the form's parts.
+use Rattle.std.proofs.Common.{ℕ, ◌+◌, ◌*◌, length, map, slice_index}
+use Rattle.ame_term.specs.View.{typ_of, tree_of, trees_of}
+use Rattle.ame_term.specs.Written.{nodes, all_nodes}
+use Rattle.ame_types.specs.Scope.{scope_of, names_of}
+use Rattle.ame_types.proofs.Parts.{Left}
+use Rattle.ame_types.proofs.seen.Checker.+checker.Given as goal
+
+abbrev pub decreases-term : goal.decreases-term
+decreases-term l = 4 * nodes (tree_of l.term.now)
+
+abbrev pub decreases-function : goal.decreases-function
+decreases-function l = 4 * nodes (tree_of l.function.now.body) + 2
+
+abbrev pub decreases-plain : goal.decreases-plain
+decreases-plain l = 4 * nodes (tree_of l.function.now.body) + 1
+
+abbrev pub decreases-recursive : goal.decreases-recursive
+decreases-recursive l = 4 * nodes (tree_of l.function.now.body) + 1
+
+abbrev pub decreases-sequence : goal.decreases-sequence
+decreases-sequence l = 4 * all_nodes (trees_of l.parts.now) + 1
+
+abbrev pub decreases-app : goal.decreases-app
+decreases-app l = 4 * (nodes (tree_of l.function.now) + nodes (tree_of l.argument.now)) + 1
+
+abbrev pub decreases-binding : goal.decreases-binding
+decreases-binding l = 4 * (nodes (tree_of l.bound.now) + nodes (tree_of l.body.now)) + 1
+
+abbrev pub decreases-choice : goal.decreases-choice
+decreases-choice l = 4 * (nodes (tree_of l.test.now) + nodes (tree_of l.then.now) + nodes (tree_of l.other.now)) + 1
+
+abbrev pub decreases-operation : goal.decreases-operation
+decreases-operation l = 4 * (nodes (tree_of l.left.now) + nodes (tree_of l.right.now)) + 1
+
+abbrev pub decreases-not : goal.decreases-not
+decreases-not l = 4 * nodes (tree_of l.part.now) + 1
+
+abbrev pub decreases-new_ref : goal.decreases-new_ref
+decreases-new_ref l = 4 * nodes (tree_of l.part.now) + 1
+
+abbrev pub decreases-get : goal.decreases-get
+decreases-get l = 4 * nodes (tree_of l.part.now) + 1
+
+abbrev pub decreases-peek : goal.decreases-peek
+decreases-peek l = 4 * nodes (tree_of l.part.now) + 1
+
+abbrev pub decreases-set : goal.decreases-set
+decreases-set l = 4 * (nodes (tree_of l.cell.now) + nodes (tree_of l.content.now)) + 1
+
+abbrev pub decreases-spawn : goal.decreases-spawn
+decreases-spawn l = 4 * nodes (tree_of l.body.now) + 1
+
+abbrev pub decreases-block : goal.decreases-block
+decreases-block l = 4 * nodes (tree_of l.part.now) + 1
+
+abbrev pub decreases-unprotected : goal.decreases-unprotected
+decreases-unprotected l = 4 * nodes (tree_of l.part.now) + 1
+
+abbrev pub decreases-print : goal.decreases-print
+decreases-print l = 4 * nodes (tree_of l.part.now) + 1
+
+abbrev pub decreases-call : goal.decreases-call
+decreases-call l = 4 * nodes (tree_of l.part.now) + 1
+
+abbrev pub decreases-pair : goal.decreases-pair
+decreases-pair l = 4 * (nodes (tree_of l.first.now) + nodes (tree_of l.second.now)) + 1
+
+abbrev pub decreases-first : goal.decreases-first
+decreases-first l = 4 * nodes (tree_of l.part.now) + 1
+
+abbrev pub decreases-second : goal.decreases-second
+decreases-second l = 4 * nodes (tree_of l.part.now) + 1
+
+abbrev pub invariant-sequence-loop-rest : goal.invariant-sequence-loop-rest
+invariant-sequence-loop-rest l =
+    Left l.self.devices (slice_index l.self.places.now) (scope_of l.scope) (names_of l.scope) l.q
+      (l.fn.seen.next + 1) (map typ_of l.fn.seen.ref_tys.items) l.parts l.seen.next (map typ_of l.seen.ref_tys.items) l.rest
+
+abbrev pub decreases-sequence-loop-rest : goal.decreases-sequence-loop-rest
+decreases-sequence-loop-rest l = length l.rest

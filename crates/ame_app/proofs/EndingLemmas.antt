@@ -29,7 +29,8 @@ pub rests-finished : (p : Tree) (e : Ended) (entries : List Entry) (s : State) (
 rests-finished p e entries s k same output left empty rests =
     record {
       run = rests-run p e entries s k same output left rests;
-      empty = let P : Option State → Type 0 = λ o. IsSomeAnd o IsEmpty in subst P (sym left) empty }
+      empty = let P : Option State → Type 0 = λ o. IsSomeAnd o IsEmpty in subst P (sym left) empty;
+    }
 
 members-of : (p : Tree) (e : Ended) (entries : List Entry) → entries_of e ≡ entries → HasMembers p entries → HasMembers p (entries_of e)
 members-of p e entries same some = subst (HasMembers p) (sym same) some
@@ -44,7 +45,8 @@ rests-spent p e entries s k same output left turns rests some =
       run = rests-run p e entries s k same output left rests;
       turns = turns;
       left = left-some e s left;
-      members = members-of p e entries same some }
+      members = members-of p e entries same some;
+    }
 
 -- a run that was cut off, with the state before
 pub halts-spent : (p : Tree) (e : Ended) (entries : List Entry) (s : State) (output : List ℤ) → entries_of e ≡ entries → output_of e ≡ s.output → left_of e ≡ Some s →
@@ -54,7 +56,8 @@ halts-spent p e entries s output same printed left turns halts some =
       run = run-of p e entries s same halts.replays (sym printed) (left-is e s left);
       turns = turns;
       left = left-some e s left;
-      members = members-of p e entries same some }
+      members = members-of p e entries same some;
+    }
 
 -- a run that halted
 pub part-run : (p : Tree) (e : Ended) (entries : List Entry) (output : List ℤ) → entries_of e ≡ entries → output_of e ≡ output → left_of e ≡ None →

@@ -40,7 +40,8 @@ ended-rests p entries i n fresh s t u before way ends =
     record {
       replays = replay-pushed p entries (entry_of EntryKind.Ran i n fresh) s (resting u) before (UnderWay-ended s (entry_of EntryKind.Ran i n fresh) t u way ends refl refl);
       idle = ended-idle i t u way.active ends;
-      all_printed = refl }
+      all_printed = refl;
+    }
 
 pub cut-replays : (p : Tree) (entries : List Entry) (i n : ℕ) (fresh : List ℕ) (s t : State) →
     replay p entries ≡ Some (resting s) → UnderWay s i n fresh t →

@@ -105,7 +105,11 @@ fn cut(run: Run) -> Execution
         IfSome run.kept (λ k. HaltsAt p run.journal.entries (state_of k) (take run.printed (state_of run.state).output)) →
         HasMembers p run.journal.entries → EndsAs p result.ending result.ended }
 {
-    let ending = if run.kept.is_some() { Ending::Spent } else { Ending::NoMemory };
+    let ending = if run.kept.is_some() {
+        Ending::Spent
+    } else {
+        Ending::NoMemory
+    };
     Execution {
         ending,
         ended: Ended::cut(run),

@@ -65,7 +65,12 @@ fn programs_run_as_their_journals_tell(rt: HostRuntime) -> Result<(), Fail> {
             "1\n2\nfinished\n",
             "ran 0 0 16\n",
         ),
-        Row("(print (fst (pair 3 true)))", 0, "3\nfinished\n", "ran 0 0 3\n"),
+        Row(
+            "(print (fst (pair 3 true)))",
+            0,
+            "3\nfinished\n",
+            "ran 0 0 3\n",
+        ),
         Row(
             "(print (+ 9223372036854775807 1))",
             0,
@@ -78,7 +83,11 @@ fn programs_run_as_their_journals_tell(rt: HostRuntime) -> Result<(), Fail> {
         assert_eq!(rt; report.status.number(), number, "{text}");
         assert_eq!(rt; report.sink.written(), output.as_bytes(), "{text}");
         let ended = report.ended.ok_or("a run")?;
-        assert_eq!(rt; ended.journal().to_text(rt.alloc())?.as_slice(), journal.as_bytes(), "{text}");
+        assert_eq!(rt;
+            ended.journal().to_text(rt.alloc())?.as_slice(),
+            journal.as_bytes(),
+            "{text}"
+        );
     }
     Ok(())
 }
@@ -96,8 +105,16 @@ fn texts_and_types_are_refused_at_their_place(rt: HostRuntime) -> Result<(), Fai
         ("(print true)", 6, "types: rule 1 at 7\n"),
         ("(get 1)", 6, "types: rule 5 at 5\n"),
         ("(fst 1)", 6, "types: rule 11 at 5\n"),
-        ("(let r (ref p 0) (unprotected (print (get r))))", 6, "types: rule 4 at 37\n"),
-        ("(unprotected (print (call 0 1)))", 6, "types: rule 8 at 20\n"),
+        (
+            "(let r (ref p 0) (unprotected (print (get r))))",
+            6,
+            "types: rule 4 at 37\n",
+        ),
+        (
+            "(unprotected (print (call 0 1)))",
+            6,
+            "types: rule 8 at 20\n",
+        ),
         ("(do (print 1) yield)", 5, "refused: expected form at 14\n"),
         ("(blockUntil false)", 5, "refused: expected form at 0\n"),
     ];
@@ -114,13 +131,58 @@ fn texts_and_types_are_refused_at_their_place(rt: HostRuntime) -> Result<(), Fai
 fn failing_ends_decide_the_status(rt: HostRuntime) -> Result<(), Fail> {
     let text = b"(do (async (print 2)) (print 1))";
     let rows = [
-        (Ends { read_chunk: 1, write_chunk: 1, ..AMPLE }, 0, "1\n2\nfinished\n"),
-        (Ends { failing_read: 1, ..AMPLE }, 4, "read fault\n"),
-        (Ends { read_chunk: 3, failing_read: 2, ..AMPLE }, 4, "read fault\n"),
-        (Ends { failing_write: 1, ..AMPLE }, 7, ""),
-        (Ends { failing_write: 2, ..AMPLE }, 7, "1\n"),
+        (
+            Ends {
+                read_chunk: 1,
+                write_chunk: 1,
+                ..AMPLE
+            },
+            0,
+            "1\n2\nfinished\n",
+        ),
+        (
+            Ends {
+                failing_read: 1,
+                ..AMPLE
+            },
+            4,
+            "read fault\n",
+        ),
+        (
+            Ends {
+                read_chunk: 3,
+                failing_read: 2,
+                ..AMPLE
+            },
+            4,
+            "read fault\n",
+        ),
+        (
+            Ends {
+                failing_write: 1,
+                ..AMPLE
+            },
+            7,
+            "",
+        ),
+        (
+            Ends {
+                failing_write: 2,
+                ..AMPLE
+            },
+            7,
+            "1\n",
+        ),
         (Ends { room: 3, ..AMPLE }, 7, "1\n2"),
-        (Ends { failing_read: 1, failing_write: 1, ..AMPLE }, 7, ""),
+        (
+            Ends {
+                failing_read: 1,
+                failing_write: 1,
+                ..AMPLE
+            },
+            7,
+            "",
+        ),
     ];
     for (ends, number, output) in rows {
         let report = report_of(rt.alloc(), text, &ends)?;
@@ -164,7 +226,10 @@ fn a_loop_is_cut_off_when_turns_are_used(rt: HostRuntime) -> Result<(), Fail> {
     assert_eq!(rt; report.sink.written(), b"spent\n".as_slice());
     let ended = report.ended.ok_or("a run")?;
     assert_eq!(rt; ended.turns(), 1_000_000);
-    assert_eq!(rt; ended.journal().to_text(rt.alloc())?.as_slice(), b"cut 0 0 999999\n".as_slice());
+    assert_eq!(rt;
+        ended.journal().to_text(rt.alloc())?.as_slice(),
+        b"cut 0 0 999999\n".as_slice()
+    );
     let left = ended.left().ok_or("the state before the fragment")?;
     assert_eq!(rt; left.pool_len(), 1);
     Ok(())

@@ -9,4 +9,5 @@ returns-in-Err-clause-front g c =
 pub lines-preserved : goal.lines-preserved
 lines-preserved g c = record {
   written = output-goes_on _ _ _ c.args.output.now c.lines.n-index _ _ (omega arith) c.integer_line.ensures c.lines.invariant.written c.in-Ok.ensures.whole;
-  stayed = c.in-Ok.ensures.stayed ∙ c.lines.invariant.stayed }
+  stayed = c.in-Ok.ensures.stayed ∙ c.lines.invariant.stayed;
+}

@@ -6,4 +6,5 @@ use Rattle.ame_app.proofs.tell.write_output.Given as goal
 abbrev pub invariant-lines : goal.invariant-lines
 invariant-lines g l = record {
   written : Appends (g.K.Sink.written l.fn.sink) (g.K.Sink.written l.sink) (lines (take l.n-index l.output));
-  stayed : g.K.Sink.faults l.sink ≡ g.K.Sink.faults l.fn.sink }
+  stayed : g.K.Sink.faults l.sink ≡ g.K.Sink.faults l.fn.sink;
+}

@@ -1,5 +1,5 @@
 -- What a run leaves, from what it keeps.
-use Rattle.std.proofs.Common.{◌≡◌, ◌≢◌, ℕ, ◌++◌, [], ℤ, List, length, take, Option, Some, None, IfSome, IsSome, IsSomeAnd, refl, sym, ap, ◌∙◌, subst}
+use Rattle.std.proofs.Common.{◌≡◌, ℕ, ℤ, List, Option, Some, None, IfSome, IsSome, IsSomeAnd, refl, sym, ap, ◌∙◌, subst}
 use Rattle.ame_term.specs.Tree.{Tree}
 use Rattle.ame_term.specs.State.{State}
 use Rattle.ame_journal.specs.declared.entry.Entry.{Entry}

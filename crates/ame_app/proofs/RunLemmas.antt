@@ -1,5 +1,5 @@
 -- How a run goes on: labels, entries, and what was printed.
-use Rattle.std.proofs.Common.{◌≡◌, ◌≢◌, ℕ, ◌+◌, ◌≤◌, ℤ, List, [], ◌∷◌, ◌++◌, length, take, Option, Some, None, option_and_then, refl, sym, ap, ◌∙◌, subst, arith, append-nil, Bool, true, false, is_none, if◌then◌else◌, Result, Ok, Err, is_err, OnOk}
+use Rattle.std.proofs.Common.{◌≡◌, ◌≢◌, ℕ, ℤ, List, [], ◌∷◌, ◌++◌, length, take, Some, None, option_and_then, refl, sym, ap, ◌∙◌, subst, arith, append-nil, Bool, true, false, is_none, if◌then◌else◌, Result, Ok, Err, is_err, OnOk}
 use Rattle.std.proofs.Math.Seq.{take-append_seam}
 use Rattle.ame_term.specs.Tree.{Tree}
 use Rattle.ame_term.specs.State.{State, after, at, at_unprotected}
@@ -8,11 +8,11 @@ use Rattle.ame_term.specs.declared.semantics.StepKind.{StepKind}
 use Rattle.ame_term.specs.declared.semantics.Label.{Label}
 use Rattle.ame_journal.specs.declared.entry.Entry.{Entry}
 use Rattle.ame_journal.specs.declared.entry.EntryKind.{EntryKind}
-use Rattle.ame_journal.specs.Replay.{Replayed, UnderWay, resting, replay, replay_from, replay_entry, begun}
+use Rattle.ame_journal.specs.Replay.{Replayed, UnderWay, resting, replay, replay_entry, begun}
 use Rattle.ame_journal.proofs.StepLemmas.{step-keeps, activate-is, end-is}
 use Rattle.ame_journal.proofs.ReplayLemmas.{replay_from-append, UnderWay-ended, UnderWay-cut}
 use Rattle.ame_strong.specs.Pool.{pool, but, first_number}
-use Rattle.ame_app.specs.Runs.{AddsFew, AtRest, HaltsAt, HasMembers, IsEmpty, entry_of}
+use Rattle.ame_app.specs.Runs.{AddsFew, AtRest, HasMembers, IsEmpty, entry_of}
 
 pub activate-few : (s : State) (i : ℕ) → AddsFew s (Label.Activate i)
 activate-few s i t e = let same : t.next ≡ s.next = ap (λ u. u.next) (activate-is i s t e) in omega arith

@@ -1,10 +1,9 @@
 -- Writing a text in parts.
-use Rattle.std.proofs.Common.{◌≡◌, ℕ, suc, ◌+◌, ◌<◌, ℤ, List, [], ◌∷◌, ◌++◌, take, drop, length, Option, Some, None, Result, Ok, Err, OnErr, OnOk, IfErr, refl, sym, ap, ◌∙◌, subst, append_assoc, append-nil, add-one, get_or}
+use Rattle.std.proofs.Common.{◌≡◌, ℕ, ◌+◌, ◌<◌, ℤ, List, [], ◌∷◌, ◌++◌, take, drop, length, Option, Result, Ok, Err, OnErr, IfErr, refl, sym, ap, ◌∙◌, subst, append_assoc, append-nil, add-one, get_or}
 use Rattle.std.proofs.Math.Seq.{take-suc}
 use Rattle.std.proofs.lemmas.List.{take-append-drop}
 use Rattle.std.specs.Io.KnownBytes.{Appends}
 use Rattle.std.proofs.KnownBytes.{Appends-trans}
-use Rattle.ame_io.specs.Counts.{HasRisen}
 use Rattle.ame_io.specs.Writes.{AppendsFront, AppendsFirst}
 use Rattle.ame_io.specs.declared.whole_write.WriteFault.{WriteFault}
 use Rattle.ame_io.proofs.WritesLemmas.{AppendsFront-first, AppendsFront-longer, AppendsFront-after}

@@ -1,5 +1,5 @@
 -- What each status tells of a call: of its words, of what the source gave, and of the run.
-use Rattle.std.specs.Prelude.{◌≡◌, ◌≢◌, ◌⊎◌, slice_index, ℕ, List, [], Option, Some, None, Result, Ok, Err, ⊤}
+use Rattle.std.specs.Prelude.{◌≡◌, ◌≢◌, ◌⊎◌, slice_index, ℕ, List, [], Option, Some, None, Ok, Err, ⊤}
 use Rattle.ame_io.specs.Counts.{HasRisen}
 use Rattle.ame_io.specs.Reads.{IsReadWhole, GivesMoreThan}
 use Rattle.ame_lex.specs.Bytes.{Text}

@@ -1,7 +1,6 @@
 -- What a report tells of what was written.
-use Rattle.std.specs.Prelude.{◌≡◌, ◌≢◌, ℕ, ℤ, List, [], ◌++◌, Option, Some, None}
+use Rattle.std.specs.Prelude.{ℕ, ℤ, List, [], ◌++◌, Option, Some, None}
 use Rattle.std.specs.Io.KnownBytes.{Appends}
-use Rattle.ame_io.specs.Counts.{HasRisen}
 use Rattle.ame_io.specs.Writes.{AppendsFront}
 use Rattle.ame_term.specs.declared.accepted.Accepted.{Accepted}
 use Rattle.ame_app.specs.declared.ended.Ended.{Ended}

@@ -5,10 +5,12 @@ use std::alloc::Global;
 use std::test::Fail;
 
 /// A text and what it must write: a process's status, its output, and the journal's text.
+#[derive(Clone, Copy)]
 struct Row(&'static str, u8, &'static str, &'static str);
 
 /// How the ends behave: the source's chunk, the read that fails (0: none), the sink's room and chunk, and
 /// the write that fails (0: none).
+#[derive(Clone, Copy)]
 struct Ends {
     read_chunk: usize,
     failing_read: u64,
@@ -215,22 +217,5 @@ fn words_are_refused(rt: HostRuntime) -> Result<(), Fail> {
     let sink = MemSink::new(rt.alloc(), 9, 9, Vec::new(rt.alloc()))?;
     let report = refuse(sink, Status::Usage);
     assert_eq!(rt; report.sink.written(), b"usage\n".as_slice());
-    Ok(())
-}
-
-#[test]
-fn a_loop_is_cut_off_when_turns_are_used(rt: HostRuntime) -> Result<(), Fail> {
-    let text = b"(app (rec p f (x Unit) Unit (app f x)) unit)";
-    let report = report_of(rt.alloc(), text, &AMPLE)?;
-    assert_eq!(rt; report.status.number(), 2);
-    assert_eq!(rt; report.sink.written(), b"spent\n".as_slice());
-    let ended = report.ended.ok_or("a run")?;
-    assert_eq!(rt; ended.turns(), 1_000_000);
-    assert_eq!(rt;
-        ended.journal().to_text(rt.alloc())?.as_slice(),
-        b"cut 0 0 999999\n".as_slice()
-    );
-    let left = ended.left().ok_or("the state before the fragment")?;
-    assert_eq!(rt; left.pool_len(), 1);
     Ok(())
 }

@@ -1,4 +1,3 @@
-use Rattle.std.proofs.Common.{◌∙◌}
 use Rattle.ame_io.proofs.WritesLemmas.{AppendsFront-longer}
 use Rattle.ame_app.proofs.TellLemmas.{verdict-after}
 use Rattle.ame_app.proofs.tell.tell.Goals as goal

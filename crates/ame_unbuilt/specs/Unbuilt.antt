@@ -21,7 +21,7 @@ unfoldable mutual
   first_unbuilt i (Tree.Do parts) = first_unbuilt_part (i + 1) parts
   first_unbuilt i (Tree.If test then_part else_part) =
       either (first_unbuilt (i + 1) test)
-        (either (first_unbuilt (i + 1 + nodes test) then_part) (first_unbuilt (i + 1 + nodes test + nodes then_part) else_part))
+      (either (first_unbuilt (i + 1 + nodes test) then_part) (first_unbuilt (i + 1 + nodes test + nodes then_part) else_part))
   first_unbuilt i (Tree.Bin op left right) = either (first_unbuilt (i + 1) left) (first_unbuilt (i + 1 + nodes left) right)
   first_unbuilt i (Tree.Not part) = first_unbuilt (i + 1) part
   first_unbuilt i (Tree.Ref sort part) = first_unbuilt (i + 1) part

@@ -14,4 +14,4 @@ decreases-past_all l = 2 * all_nodes (trees_of l.parts.now) + 1
 abbrev pub invariant-past_all-loop-part : goal.invariant-past_all-loop-part
 invariant-past_all-loop-part l =
     (first_unbuilt_part l.fn.number (trees_of l.parts) ≡ first_unbuilt_part l.next (trees_of (drop l.part-index l.parts))) ×
-      (l.fn.number + all_nodes (trees_of l.parts) ≡ l.next + all_nodes (trees_of (drop l.part-index l.parts))) × (l.fn.number ≤ l.next)
+    (l.fn.number + all_nodes (trees_of l.parts) ≡ l.next + all_nodes (trees_of (drop l.part-index l.parts))) × (l.fn.number ≤ l.next)

@@ -4,3 +4,6 @@
 mod unbuilt;
 
 pub use unbuilt::unbuilt_place;
+
+#[cfg(test)]
+mod tests;

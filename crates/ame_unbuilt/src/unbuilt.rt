@@ -1,6 +1,6 @@
 //! The first form of a program that can't be run yet.
 
-ghost use Rattle.std.specs.Prelude.{◌≡◌, ◌+◌, ◌<◌, ◌≤◌, ◌^◌, Some, None, option_map, length, slice_index, IfOk, IfErr};
+ghost use Rattle.std.specs.Prelude.{◌≡◌, ◌+◌, ◌<◌, ◌^◌, Some, None, option_map, length, slice_index, IfOk, IfErr};
 ghost use Rattle.ame_term.specs.View.{tree_of, trees_of};
 ghost use Rattle.ame_term.specs.Written.{nodes, all_nodes};
 ghost use Rattle.ame_unbuilt.specs.Unbuilt.{first_unbuilt, first_unbuilt_part};

@@ -1,5 +1,5 @@
 -- The parts of a `do` form are fewer than its nodes.
-use Rattle.std.proofs.Common.{◌≡◌, ◌+◌, rules, arith, ap, ◌∙◌}
+use Rattle.std.proofs.Common.{arith, ap, ◌∙◌}
 use Rattle.ame_term.specs.View.{tree_of}
 use Rattle.ame_term.specs.Written.{nodes}
 use Rattle.ame_unbuilt.proofs.Parts.{do_nodes}

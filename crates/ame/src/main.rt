@@ -3,13 +3,13 @@
 
 use ame_app::{Status, refuse, run_words};
 use ame_io::{StdSink, StdSource};
-use std::alloc::Alloc;
+use std::alloc::{Alloc, Global};
 use std::env::{self, Env};
 use std::io::{self, ErrorKind};
 use std::process::ExitCode;
 
 /// The words after the program's name. A word that isn't text is no word of a call.
-fn words<R: Env + Alloc>(rt: &R) -> Result<Vec<String, R::A>, Status> {
+fn words<R: Env + Alloc<A = Global>>(rt: &R) -> Result<Vec<String>, Status> {
     let args = match env::args(rt) {
         Ok(args) => args,
         Err(error) if error.kind() == ErrorKind::OutOfMemory => return Err(Status::NoMemory),

@@ -1,0 +1,9 @@
+//! Tables of tests over several crates. There is nothing else in it.
+#![tactic(auto)]
+
+#[cfg(test)]
+mod labels;
+#[cfg(test)]
+mod numbers;
+#[cfg(test)]
+mod turns;

@@ -4,6 +4,7 @@ use Rattle.ame_parse.specs.declared.fault.Want.{Want}
 use Rattle.ame_app.specs.declared.status.TextKind.{TextKind}
 use Rattle.ame_app.specs.declared.status.TextFault.{TextFault}
 use Rattle.ame_app.specs.declared.status.Status.{Status}
+use Rattle.ame_app.specs.declared.status.WordsFault.{WordsFault}
 
 -- the status of the process
 abbrev pub number_of : Status → ℕ
@@ -15,6 +16,11 @@ number_of (Status.Text fault) = 5
 number_of (Status.Types fault) = 6
 number_of Status.WriteFault = 7
 number_of Status.NoMemory = 9
+
+-- the status of a call whose words can't be read
+abbrev pub unread : WordsFault → Status
+unread WordsFault.NotText = Status.Usage
+unread WordsFault.NoMemory = Status.NoMemory
 
 -- what was expected, up to the place
 abbrev pub want_line : Want → List ℕ

@@ -13,7 +13,7 @@ ghost use Rattle.ame_lex.specs.Bytes.{Text};
 use crate::ended::Ended;
 use crate::execute::{Ending, execute};
 use crate::status::{Status, TextFault, TextKind};
-use ame_io::{ReadAllFail, Source, read_all};
+use ame_io::{READ_LIMIT, ReadAllFail, Source, read_all};
 use ame_lex::{LexFault, Token, lex};
 use ame_parse::{ParseFault, Want, parse};
 use ame_term::{Accepted, Program};
@@ -50,7 +50,7 @@ fn no_program(place: u32, kind: TextKind) -> Decision
 /// Reads a text, checks its program and runs it.
 #[tactic(auto, using(crate::proofs::CauseLemmas::reads_faulty))]
 pub(crate) fn decide_text(alloc: Global, text: &[u8]) -> Decision
-    requires small { length text.now ≤ 1048576 }
+    requires small { length text.now ≤ READ_LIMIT }
     ensures { TextCause text.now result.status result.program result.ended }
 {
     match lex(alloc, text) {
@@ -64,7 +64,7 @@ pub(crate) fn decide_text(alloc: Global, text: &[u8]) -> Decision
 /// The same from the text's tokens on.
 fn decide_tokens(alloc: Global, text: &[u8], tokens: &[Token]) -> Decision
     requires of_text { tokens_of text.now ≡ Ok tokens.now }
-    requires small { length text.now ≤ 1048576 }
+    requires small { length text.now ≤ READ_LIMIT }
     ensures { TextCause text.now result.status result.program result.ended }
 {
     match parse(alloc, text, tokens) {
@@ -133,7 +133,7 @@ pub(crate) fn decide<S: Source>(alloc: Global, words: &[String], source: &mut S)
     match read_all(alloc, source) {
         Ok(text) => decide_text(alloc, &text),
         Err(ReadAllFail::ReadFault) => without_run(Status::ReadFault),
-        Err(ReadAllFail::TooLong) => no_program(1_048_576, TextKind::TooLong),
+        Err(ReadAllFail::TooLong) => no_program(READ_LIMIT as u32, TextKind::TooLong),
         Err(ReadAllFail::NoMemory) => without_run(Status::NoMemory),
     }
 }

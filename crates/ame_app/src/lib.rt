@@ -13,7 +13,7 @@ mod verdict;
 
 pub use ended::Ended;
 pub use report::{Report, refuse, run_words};
-pub use status::{Status, TextFault, TextKind};
+pub use status::{Status, TextFault, TextKind, WordsFault};
 
 #[cfg(test)]
 mod tests;

@@ -3,7 +3,7 @@
 ghost use Rattle.std.specs.Prelude.{◌≡◌, ◌≢◌, map, string_bytes, None};
 ghost use Rattle.std.specs.Io.KnownBytes.{Appends};
 ghost use Rattle.ame_io.specs.Writes.{AppendsFront};
-ghost use Rattle.ame_app.specs.Verdict.{verdict};
+ghost use Rattle.ame_app.specs.Verdict.{verdict, unread};
 ghost use Rattle.ame_io.specs.Counts.{HasRisen};
 ghost use Rattle.ame_app.specs.declared.status.Status.{Status};
 ghost use Rattle.ame_app.specs.Causes.{call_of};
@@ -11,7 +11,7 @@ ghost use Rattle.ame_app.specs.Reports.{IsTold, IsCutShort};
 
 use crate::decide::{Decision, decide};
 use crate::ended::Ended;
-use crate::status::Status;
+use crate::status::{Status, WordsFault};
 use crate::tell::tell;
 use ame_io::{Sink, Source};
 use ame_term::Accepted;
@@ -69,15 +69,18 @@ pub fn run_words<S: Source, K: Sink>(
     }
 }
 
-/// Writes the verdict line of a call that has no words to read.
-pub fn refuse<K: Sink>(sink: K, status: Status) -> Report<K>
-    ensures told { result.status ≢ Status.WriteFault → (result.status ≡ status) × Appends (K.written sink) (K.written result.sink) (verdict status) }
-    ensures cut_short { result.status ≡ Status.WriteFault → AppendsFront (K.written sink) (K.written result.sink) (verdict status) }
+/// Writes the verdict line of a call whose words can't be read.
+pub fn refuse<K: Sink>(sink: K, fault: WordsFault) -> Report<K>
+    ensures told { result.status ≢ Status.WriteFault →
+        (result.status ≡ unread fault) × Appends (K.written sink) (K.written result.sink) (verdict (unread fault)) }
+    ensures cut_short { result.status ≡ Status.WriteFault → AppendsFront (K.written sink) (K.written result.sink) (verdict (unread fault)) }
     ensures without_run { (result.program ≡ None) × (result.ended ≡ None) }
-    ensures write_fault { result.status ≡ Status.WriteFault → status ≢ Status.WriteFault → HasRisen (K.faults sink) (K.faults result.sink) }
+    ensures write_fault { result.status ≡ Status.WriteFault → HasRisen (K.faults sink) (K.faults result.sink) }
+    ensures no_write_fault { result.status ≢ Status.WriteFault → K.faults result.sink ≡ K.faults sink }
 {
     let mut sink = sink;
     let ended = None;
+    let status = unread(fault);
     match tell(&mut sink, &ended, &status) {
         Ok(()) => Report {
             status,
@@ -91,5 +94,15 @@ pub fn refuse<K: Sink>(sink: K, status: Status) -> Report<K>
             ended,
             sink,
         },
+    }
+}
+
+/// The status of a call whose words can't be read.
+fn unread(fault: WordsFault) -> Status
+    ensures { result ≡ unread fault }
+{
+    match fault {
+        WordsFault::NotText => Status::Usage,
+        WordsFault::NoMemory => Status::NoMemory,
     }
 }

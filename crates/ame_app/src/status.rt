@@ -42,6 +42,14 @@ pub enum Status {
     NoMemory,
 }
 
+/// Why a call's words can't be read.
+#[derive(Clone, Copy, PartialEq, Eq, Debug)]
+pub enum WordsFault {
+    /// One of them isn't text.
+    NotText,
+    NoMemory,
+}
+
 impl Status {
     /// The status of the process.
     pub fn number(&self) -> u8

@@ -1,5 +1,5 @@
 //! Rows of texts, words and ends, with the lines, the status and the journal that they must give.
-use crate::{Report, Status, refuse, run_words};
+use crate::{Report, WordsFault, refuse, run_words};
 use ame_io::{MemSink, MemSource};
 use std::alloc::Global;
 use std::test::Fail;
@@ -129,65 +129,45 @@ fn texts_and_types_are_refused_at_their_place(rt: HostRuntime) -> Result<(), Fai
     Ok(())
 }
 
+/// A source that gives at most `chunk` bytes a read, of which one fails.
+const fn failing_read(read_chunk: usize, failing_read: u64) -> Ends {
+    Ends {
+        read_chunk,
+        failing_read,
+        ..AMPLE
+    }
+}
+
+/// A sink of which one write fails.
+const fn failing_write(failing_write: u64) -> Ends {
+    Ends {
+        failing_write,
+        ..AMPLE
+    }
+}
+
 #[test]
 fn failing_ends_decide_the_status(rt: HostRuntime) -> Result<(), Fail> {
-    let text = b"(do (async (print 2)) (print 1))";
+    let small_chunks = Ends {
+        read_chunk: 1,
+        write_chunk: 1,
+        ..AMPLE
+    };
+    let both_fail = Ends {
+        failing_write: 1,
+        ..failing_read(4096, 1)
+    };
     let rows = [
-        (
-            Ends {
-                read_chunk: 1,
-                write_chunk: 1,
-                ..AMPLE
-            },
-            0,
-            "1\n2\nfinished\n",
-        ),
-        (
-            Ends {
-                failing_read: 1,
-                ..AMPLE
-            },
-            4,
-            "read fault\n",
-        ),
-        (
-            Ends {
-                read_chunk: 3,
-                failing_read: 2,
-                ..AMPLE
-            },
-            4,
-            "read fault\n",
-        ),
-        (
-            Ends {
-                failing_write: 1,
-                ..AMPLE
-            },
-            7,
-            "",
-        ),
-        (
-            Ends {
-                failing_write: 2,
-                ..AMPLE
-            },
-            7,
-            "1\n",
-        ),
+        (small_chunks, 0, "1\n2\nfinished\n"),
+        (failing_read(4096, 1), 4, "read fault\n"),
+        (failing_read(3, 2), 4, "read fault\n"),
+        (failing_write(1), 7, ""),
+        (failing_write(2), 7, "1\n"),
         (Ends { room: 3, ..AMPLE }, 7, "1\n2"),
-        (
-            Ends {
-                failing_read: 1,
-                failing_write: 1,
-                ..AMPLE
-            },
-            7,
-            "",
-        ),
+        (both_fail, 7, ""),
     ];
     for (ends, number, output) in rows {
-        let report = report_of(rt.alloc(), text, &ends)?;
+        let report = report_of(rt.alloc(), b"(do (async (print 2)) (print 1))", &ends)?;
         assert_eq!(rt; report.status.number(), number);
         assert_eq!(rt; report.sink.written(), output.as_bytes());
     }
@@ -215,7 +195,7 @@ fn words_are_refused(rt: HostRuntime) -> Result<(), Fail> {
     assert_eq!(rt; report.status.number(), 3);
     assert_eq!(rt; report.sink.written(), b"usage\n".as_slice());
     let sink = MemSink::new(rt.alloc(), 9, 9, Vec::new(rt.alloc()))?;
-    let report = refuse(sink, Status::Usage);
+    let report = refuse(sink, WordsFault::NotText);
     assert_eq!(rt; report.sink.written(), b"usage\n".as_slice());
     Ok(())
 }

@@ -6,4 +6,6 @@ mod labels;
 #[cfg(test)]
 mod numbers;
 #[cfg(test)]
+mod replays;
+#[cfg(test)]
 mod turns;

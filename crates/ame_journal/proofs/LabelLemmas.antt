@@ -197,7 +197,7 @@ unfold-stuck : (r : Replayed) (i n : ℕ) (fresh : List ℕ) (t : Replayed) → 
     (labels : List Label) × Unfolds r i EntryKind.Stuck n fresh None labels t
 unfold-stuck r i n fresh t e =
     let is = noted-is (fails_after r.state i n fresh) r t e in
-    let found = some_where (λ s. is_failing (member_act i s)) (fragment i n fresh r.state) is.0 in
+    let found = some_where (λ s. is_failing i s) (fragment i n fresh r.state) is.0 in
     let f = fragment_run i n fresh r.state found.0 found.1 in
     ([], subst (λ u. Unfolds r i EntryKind.Stuck n fresh None [] u) is.1 (Unfolds.fails f.0 n fresh found.0 f.1 f.2 found.2))
 
@@ -210,11 +210,11 @@ unfold-cut r i n fresh t e =
     ([], subst (λ u. Unfolds r i EntryKind.Cut n fresh None [] u) is.1 (Unfolds.is_cut f.0 n fresh found.0 f.1 f.2))
 
 unfold-tall : (r : Replayed) (i n : ℕ) (fresh : List ℕ) (t : Replayed) →
-    noted (is_some (option_and_then (λ s. if is_tall i s then Some s else None) (attempt i n fresh r.state))) r ≡ Some t →
+    noted (is_some (option_and_then (λ s. if is_tall (is_at_unprotected i r.state) i s then Some s else None) (attempt i n fresh r.state))) r ≡ Some t →
     (labels : List Label) × Unfolds r i EntryKind.Tall n fresh None labels t
 unfold-tall r i n fresh t e =
-    let is = noted-is (is_some (option_and_then (λ s. if is_tall i s then Some s else None) (attempt i n fresh r.state))) r t e in
-    let found = some_where (is_tall i) (attempt i n fresh r.state) is.0 in
+    let is = noted-is (is_some (option_and_then (λ s. if is_tall (is_at_unprotected i r.state) i s then Some s else None) (attempt i n fresh r.state))) r t e in
+    let found = some_where (is_tall (is_at_unprotected i r.state) i) (attempt i n fresh r.state) is.0 in
     let f = attempt_run (is_at_unprotected i r.state) i n fresh r.state found.0 found.1 in
     ([], subst (λ u. Unfolds r i EntryKind.Tall n fresh None [] u) is.1 (Unfolds.grows f.0 n fresh found.0 f.1 f.2 found.2))
 

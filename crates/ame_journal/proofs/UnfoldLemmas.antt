@@ -217,12 +217,12 @@ kind-back r i _ _ _ _ _ _ (Unfolds.closes kinds n fresh s inside are runs) =
     ∙ ap (λ o. option_map (leaving r i) (option_and_then (λ v. after v (Label.Close i)) o)) made
     ∙ ap (λ o. option_map (leaving r i) o) cut.2
 kind-back r i _ _ _ _ _ _ (Unfolds.fails kinds n fresh s are runs fails) =
-    ap (λ o. noted (is_some (option_and_then (λ v. if is_failing (member_act i v) then Some v else None) o)) r) (fragment-back i kinds n fresh r.state s are runs).0
+    ap (λ o. noted (is_some (option_and_then (λ v. if is_failing i v then Some v else None) o)) r) (fragment-back i kinds n fresh r.state s are runs).0
     ∙ ap (λ b. noted (is_some (if b then Some s else None)) r) fails
 kind-back r i _ _ _ _ _ _ (Unfolds.is_cut kinds n fresh s are runs) =
     ap (λ o. noted (is_some o) r) (attempt-back (is_at_unprotected i r.state) i kinds n fresh r.state s are runs)
 kind-back r i _ _ _ _ _ _ (Unfolds.grows kinds n fresh s are runs tall) =
-    ap (λ o. noted (is_some (option_and_then (λ v. if is_tall i v then Some v else None) o)) r) (attempt-back (is_at_unprotected i r.state) i kinds n fresh r.state s are runs)
+    ap (λ o. noted (is_some (option_and_then (λ v. if is_tall (is_at_unprotected i r.state) i v then Some v else None) o)) r) (attempt-back (is_at_unprotected i r.state) i kinds n fresh r.state s are runs)
     ∙ ap (λ b. noted (is_some (if b then Some s else None)) r) tall
 
 entry-back : (r : Replayed) (entry : Entry) (labels : List Label) (t : Replayed) →

@@ -6,7 +6,7 @@ use Rattle.ame_term.specs.declared.semantics.StepKind.{StepKind}
 use Rattle.ame_term.specs.declared.semantics.Label.{Label}
 use Rattle.ame_journal.specs.declared.entry.Entry.{Entry}
 use Rattle.ame_journal.specs.declared.entry.EntryKind.{EntryKind}
-use Rattle.ame_journal.specs.Replay.{Replayed, fresh_of, member_act, is_at_unprotected, is_inside, is_failing, is_tall, entering, leaving, staying}
+use Rattle.ame_journal.specs.Replay.{Replayed, fresh_of, is_at_unprotected, is_inside, is_failing, is_tall, entering, leaving, staying}
 
 -- the locations that steps make, in order
 abbrev pub made_by : List StepKind → List ℕ
@@ -58,11 +58,11 @@ pub data Unfolds (r : Replayed) (i : ℕ) : EntryKind → ℕ → List ℕ → O
       run r.state (free_labels i kinds ++ Label.Close i ∷ []) ≡ Some s →
       Unfolds r i EntryKind.Free (suc n) fresh None (free_labels i kinds ++ Label.Close i ∷ []) (leaving r i s)
   fails : (kinds : List StepKind) (n : ℕ) (fresh : List ℕ) (s : State) → AreSteps kinds n fresh None → run r.state (fragment_labels i kinds) ≡ Some s →
-      is_failing (member_act i s) ≡ true → Unfolds r i EntryKind.Stuck n fresh None [] r
+      is_failing i s ≡ true → Unfolds r i EntryKind.Stuck n fresh None [] r
   is_cut : (kinds : List StepKind) (n : ℕ) (fresh : List ℕ) (s : State) → AreSteps kinds n fresh None →
       run r.state (attempt_labels (is_at_unprotected i r.state) i kinds) ≡ Some s → Unfolds r i EntryKind.Cut n fresh None [] r
   grows : (kinds : List StepKind) (n : ℕ) (fresh : List ℕ) (s : State) → AreSteps kinds n fresh None →
-      run r.state (attempt_labels (is_at_unprotected i r.state) i kinds) ≡ Some s → is_tall i s ≡ true → Unfolds r i EntryKind.Tall n fresh None [] r
+      run r.state (attempt_labels (is_at_unprotected i r.state) i kinds) ≡ Some s → is_tall (is_at_unprotected i r.state) i s ≡ true → Unfolds r i EntryKind.Tall n fresh None [] r
 
 -- the labels of all entries, one entry after another
 pub data UnfoldsAll : Replayed → List Entry → List Label → Replayed → Type 0 where

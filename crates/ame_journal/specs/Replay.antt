@@ -145,25 +145,36 @@ abbrev pub attempt : ℕ → ℕ → List ℕ → State → Option State
 attempt i n fresh s =
     if is_at_unprotected i s then steps (Label.Free i) i n (locations fresh) s else fragment i n fresh s
 
--- whether the active member has come to a condition that is false
-abbrev pub is_failing : Option Act → Bool
-is_failing (Some Act.Fails) = true
-is_failing _ = false
+-- whether a term stands, outside of `unprotected`, at a condition that is false
+abbrev pub is_false_condition : Focus → Bool
+is_false_condition (Focus.AtRedex false (Tree.Block (Tree.Held (Val.Bool false)))) = true
+is_false_condition _ = false
+
+-- whether a member has come to such a condition
+abbrev pub is_failing : ℕ → State → Bool
+is_failing i s = is_some (option_and_then (λ term. if is_false_condition (focus term) then Some term else None) (at s.members i))
 
 -- Certificates: from a state, the fragment of a member makes these steps and comes to a condition
 -- that is false.
 abbrev pub fails_after : State → ℕ → ℕ → List ℕ → Bool
-fails_after s i n fresh = is_some (option_and_then (λ t. if is_failing (member_act i t) then Some t else None) (fragment i n fresh s))
+fails_after s i n fresh = is_some (option_and_then (λ t. if is_failing i t then Some t else None) (fragment i n fresh s))
 
 -- the height of the value that a function form or a pair of values is about to become
-abbrev pub coming_height : Focus → ℕ
-coming_height (Focus.AtRedex inside (Tree.Lambda head body)) = height (Val.Fun head body)
-coming_height (Focus.AtRedex inside (Tree.Pairing (Tree.Held first) (Tree.Held second))) = height (Val.Pair first second)
-coming_height _ = 0
+abbrev pub held_height : Tree → ℕ
+held_height (Tree.Lambda head body) = height (Val.Fun head body)
+held_height (Tree.Pairing (Tree.Held first) (Tree.Held second)) = height (Val.Pair first second)
+held_height _ = 0
 
--- whether a member is about to become a value of height 1,001
-abbrev pub is_tall : ℕ → State → Bool
-is_tall i s = is_some (option_and_then (λ term. if coming_height (focus term) == 1001 then Some term else None) (at s.members i))
+-- the same of the redex of a term, where it is under `unprotected` (the first argument true) or
+-- outside (false)
+abbrev pub coming_height : Bool → Focus → ℕ
+coming_height true (Focus.AtRedex true redex) = held_height redex
+coming_height false (Focus.AtRedex false redex) = held_height redex
+coming_height _ _ = 0
+
+-- whether a member is about to become a value of height 1,001, on the side on which it makes its steps
+abbrev pub is_tall : Bool → ℕ → State → Bool
+is_tall under i s = is_some (option_and_then (λ term. if coming_height under (focus term) == 1001 then Some term else None) (at s.members i))
 
 -- a note changes nothing
 abbrev pub noted : Bool → Replayed → Option Replayed
@@ -175,7 +186,7 @@ replay_kind EntryKind.Free r i n fresh answer = if is_inside r i then replay_fre
 replay_kind EntryKind.Stuck r i n fresh None = noted (fails_after r.state i n fresh) r
 replay_kind EntryKind.Cut r i n fresh None = noted (is_some (attempt i n fresh r.state)) r
 replay_kind EntryKind.Tall r i n fresh None =
-    noted (is_some (option_and_then (λ t. if is_tall i t then Some t else None) (attempt i n fresh r.state))) r
+    noted (is_some (option_and_then (λ t. if is_tall (is_at_unprotected i r.state) i t then Some t else None) (attempt i n fresh r.state))) r
 replay_kind _ r i n fresh (Some answer) = None
 
 -- the state after an entry, where the entry can be made there

@@ -1,0 +1,67 @@
+//! A device that adds.
+ghost use Rattle.std.specs.Prelude.{◌≡◌, ◌≢◌, [], ◌∷◌, ◌++◌, Some, Err, IfOk};
+ghost use Rattle.ame_device.specs.Calls.{Answers, told};
+ghost use Rattle.ame_device.specs.InMemory.{arguments, wrapping_sum};
+
+use crate::device::Device;
+use crate::fault::DeviceFail;
+use crate::log::Log;
+use crate::told::Heard;
+use std::alloc::Global;
+use std::marker::Model;
+
+/// Answers the sum of all arguments that it heard, this one among them, which wraps at 64 bits. It never
+/// fails.
+#[derive(Drop)]
+pub struct Adder {
+    log: Log,
+    sum: i64,
+}
+
+impl Model for Adder {
+    ghost use Rattle.std.specs.Prelude.{◌≡◌};
+    ghost use Rattle.ame_device.specs.InMemory.{Calls, arguments, wrapping_sum};
+
+    ghost Value = { Calls };
+
+    ghost view = { λ device. device.log };
+
+    ghost invariant = { λ device. device.sum ≡ wrapping_sum (arguments device.log.heard) };
+}
+
+impl Adder {
+    /// One that heard nothing yet, without memory.
+    pub fn new(alloc: Global) -> Adder
+        ensures { result ≡ record { heard = []; faults = 0 } }
+    {
+        Adder {
+            log: Log::new(alloc),
+            sum: 0,
+        }
+    }
+}
+
+impl Device for Adder {
+    ghost device_heard = { λ device. Some device.heard };
+
+    ghost device_faults = { λ device. device.faults };
+
+    fn call(&mut self, argument: i64) -> Result<i64, DeviceFail>
+        ensures answers { Answers (told (Some self.old.heard) self.old.faults) argument result (told (Some self.new.heard) self.new.faults) }
+        ensures answer { IfOk result (λ answer. answer ≡ wrapping_sum (arguments self.old.heard ++ argument ∷ [])) }
+        ensures never_fails { result ≢ Err DeviceFail.Failed }
+    {
+        let sum = self.sum.wrapping_add(argument);
+        match self.log.answer(argument, sum) {
+            Ok(answer) => {
+                self.sum = sum;
+                Ok(answer)
+            }
+            Err(fail) => Err(fail),
+        }
+    }
+
+    fn heard(&self) -> Option<&[Heard]> {
+        Some(self.log.calls())
+    }
+}

@@ -1,0 +1,12 @@
+//! The store that seats write in place: cells with numbers and owners.
+#![tactic(auto)]
+
+mod cell;
+mod store;
+mod taken;
+#[cfg(test)]
+mod tests;
+
+pub use cell::Cell;
+pub use store::Store;
+pub use taken::Taken;

@@ -7,3 +7,5 @@ mod labels;
 mod numbers;
 #[cfg(test)]
 mod turns;
+#[cfg(test)]
+mod workload;

@@ -45,8 +45,17 @@ length-account_lines money small =
 
 length-prints : length (flat_map print_of accounts) ≡ 136
 length-prints =
-    simp length-append (omega (arith, length-digit 0 (omega arith), length-digit 1 (omega arith), length-digit 2 (omega arith), length-digit 3 (omega arith),
-      length-digit 4 (omega arith), length-digit 5 (omega arith), length-digit 6 (omega arith), length-digit 7 (omega arith)))
+    simp length-append (omega (
+      arith,
+      length-digit 0 (omega arith),
+      length-digit 1 (omega arith),
+      length-digit 2 (omega arith),
+      length-digit 3 (omega arith),
+      length-digit 4 (omega arith),
+      length-digit 5 (omega arith),
+      length-digit 6 (omega arith),
+      length-digit 7 (omega arith),
+    ))
 
 length-report_line : (size : ℕ) → size < 10000 → length (report_line size) ≤ 182
 length-report_line size small =

@@ -51,11 +51,28 @@ all-paid seed (suc size) =
     let t = transfer seed size in
     let ts = transfers seed size in
     let valid = IsTransfer-transfer seed size in
-    omega (arith, all-paid seed size, paid-once t valid, got-once t valid,
-      sum_by_push (paid 0) ts t, sum_by_push (paid 1) ts t, sum_by_push (paid 2) ts t, sum_by_push (paid 3) ts t,
-      sum_by_push (paid 4) ts t, sum_by_push (paid 5) ts t, sum_by_push (paid 6) ts t, sum_by_push (paid 7) ts t,
-      sum_by_push (got 0) ts t, sum_by_push (got 1) ts t, sum_by_push (got 2) ts t, sum_by_push (got 3) ts t,
-      sum_by_push (got 4) ts t, sum_by_push (got 5) ts t, sum_by_push (got 6) ts t, sum_by_push (got 7) ts t)
+    omega (
+      arith,
+      all-paid seed size,
+      paid-once t valid,
+      got-once t valid,
+      sum_by_push (paid 0) ts t,
+      sum_by_push (paid 1) ts t,
+      sum_by_push (paid 2) ts t,
+      sum_by_push (paid 3) ts t,
+      sum_by_push (paid 4) ts t,
+      sum_by_push (paid 5) ts t,
+      sum_by_push (paid 6) ts t,
+      sum_by_push (paid 7) ts t,
+      sum_by_push (got 0) ts t,
+      sum_by_push (got 1) ts t,
+      sum_by_push (got 2) ts t,
+      sum_by_push (got 3) ts t,
+      sum_by_push (got 4) ts t,
+      sum_by_push (got 5) ts t,
+      sum_by_push (got 6) ts t,
+      sum_by_push (got 7) ts t,
+    )
 
 balance-plus-paid : (seed size account : ℕ) → balance seed size account + sum_by (paid account) (transfers seed size) ≡ start size + sum_by (got account) (transfers seed size)
 balance-plus-paid seed size account = omega (arith, paid-le-start seed size account)

@@ -21,6 +21,7 @@ range-more f old text new n before is =
   where
     first : 0 + n ≡ n
     first = omega arith
+
     whole : flat_map f (range_with_len 0 (n + 1)) ≡ flat_map f (range_with_len 0 n) ++ f n
     whole =
         ap (λ m. flat_map f (range_with_len 0 m)) (add-one n) ∙ ap (flat_map f) (range_with_len-suc 0 n ∙ ap (λ m. range_with_len 0 n ++ m ∷ []) first)

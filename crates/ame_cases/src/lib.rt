@@ -9,3 +9,5 @@ mod numbers;
 mod replays;
 #[cfg(test)]
 mod turns;
+#[cfg(test)]
+mod workload;

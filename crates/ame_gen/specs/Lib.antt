@@ -1,0 +1,4 @@
+pub mod Stream
+pub mod Transfers
+pub mod Balances
+pub mod Template

@@ -1,0 +1,3 @@
+pub mod Weaken
+pub mod Substituted
+pub mod Placed

@@ -1,0 +1,5 @@
+pub mod Cells
+pub mod Formed
+pub mod Fragment
+pub mod TypedState
+pub mod TypedAct

@@ -1,3 +1,6 @@
 pub mod Weaken
 pub mod Substituted
 pub mod Placed
+pub mod FormedLemmas
+pub mod Acts
+pub mod Entries

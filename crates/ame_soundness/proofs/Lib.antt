@@ -4,3 +4,5 @@ pub mod Placed
 pub mod FormedLemmas
 pub mod Acts
 pub mod Entries
+pub mod Effects
+pub mod Preserved

@@ -5,7 +5,7 @@ use Rattle.ame_term.specs.Tree.{Typ, Val, Tree}
 use Rattle.ame_term.specs.State.{State, at}
 use Rattle.ame_term.specs.declared.types.Sort.{Sort}
 use Rattle.ame_term.specs.declared.types.Effect.{Effect}
-use Rattle.ame_soundness.specs.Cells.{Cells}
+use Rattle.ame_soundness.specs.Cells.{Cells, Grows}
 use Rattle.ame_soundness.specs.Fragment.{IsFragment, IsValueOf}
 
 -- a value that is stored at a location has the location's type
@@ -26,4 +26,4 @@ pub record IsTyped (devices : ℕ) (cells : Cells) (s : State) : Type 0 where
 
 -- a state is typed, for some assignment that gives the locations of another one the same types
 abbrev pub IsTypedLater : ℕ → Cells → State → Type 0
-IsTypedLater devices cells s = (later : Cells) × ((l : ℕ) (cell : Sort × Typ) → cells l ≡ Some cell → later l ≡ Some cell) × IsTyped devices later s
+IsTypedLater devices cells s = (later : Cells) × Grows cells later × IsTyped devices later s

@@ -38,7 +38,7 @@ hidden_own x o t u same y s = by (x == y) refl
     by false is e = inr (turned false is, rw (apart x o y same is) at e)
 
 module _ (devices : ℕ) (cells : Cells) where
-  fitted : {q : Effect} {e : Tree} {t : Typ} → Has devices cells unscoped q e t → (r : Effect) → Fits q r → Has devices cells unscoped r e t
+  pub fitted : {q : Effect} {e : Tree} {t : Typ} → Has devices cells unscoped q e t → (r : Effect) → Fits q r → Has devices cells unscoped r e t
   fitted a r f = weaken devices cells cells (λ l cell e. e) a unscoped (within_itself unscoped) r f
 
   plain_entered : (head : Head) (body : Tree) (v : Val) (u : Typ) → head.own ≡ None → Has devices cells (bind head.param head.param_type unscoped) head.effect body u
@@ -67,6 +67,13 @@ module _ (devices : ℕ) (cells : Cells) where
   recursive_entered head own body v o b a =
       subst (λ (z : Option OwnName). Has devices cells unscoped head.effect (with_own z head.param (substitute body head.param v) (Val.Fun head body)) own.result) (sym o)
       (own_entered head own body v b (recursive_value o b) a)
+
+  -- a function's body entered, under the function's effect
+  pub function_entered : (head : Head) (body : Tree) (k : Effect) (u t : Typ) (v : Val) → IsValueOf devices cells (Val.Fun head body) (Typ.Fun k t u) → IsValueOf devices cells v t
+      → IsFragment devices cells k (entered head body v) u
+  unfolding IsFormedValue
+  function_entered head body _ u _ v (function_value o b, formed) a = (plain_entered head body v u o b a.0, formed_entered head body v formed a.1)
+  function_entered head body _ _ _ v (recursive_value {own} o b, formed) a = (recursive_entered head own body v o b a.0, formed_entered head body v formed a.1)
 
   call_typed : (f v : Val) (k q : Effect) (t u : Typ) → Fits k q → HasValue devices cells f (Typ.Fun k t u) → IsFormedValue f → IsValueOf devices cells v t → IsTypedAct devices cells q u (call_act f v)
   unfolding IsFormedValue

@@ -6,3 +6,5 @@ pub mod Acts
 pub mod Entries
 pub mod Effects
 pub mod Preserved
+pub mod Started
+pub mod Refilled

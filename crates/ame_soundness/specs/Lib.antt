@@ -3,3 +3,4 @@ pub mod Formed
 pub mod Fragment
 pub mod TypedState
 pub mod TypedAct
+pub mod TypedTerm

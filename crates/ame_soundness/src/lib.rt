@@ -1,7 +1,12 @@
-//! Preservation and progress: laws about typed states, each the contract of a function that does
-//! nothing.
+//! Preservation and progress: laws about typed states and typed terms, each the contract of a
+//! function that does nothing: a caller that wants a law calls its function.
 #![tactic(auto)]
 
 mod fragments;
+mod states;
 
-pub use fragments::replaced_part_keeps_type;
+pub use fragments::{
+    either_fits, entering_keeps_types, growing_keeps_types, refilling_keeps_types,
+    substituting_keeps_types,
+};
+pub use states::{labels_keep_types, reached_states_are_typed, runs_keep_types, start_is_typed};

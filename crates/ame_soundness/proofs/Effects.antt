@@ -36,7 +36,7 @@ pub int_fragment : (devices : ℕ) (cells : Cells) (q : Effect) (t : Typ) (n : �
 unfolding IsFormedValue
 int_fragment devices cells q t n e = held_fragment devices cells q (Val.Int n) t Typ.Int e (int, tt)
 
-same_cell : (c d : Sort × Typ) (o : Option (Sort × Typ)) → o ≡ Some c → o ≡ Some d → c ≡ d
+pub same_cell : (c d : Sort × Typ) (o : Option (Sort × Typ)) → o ≡ Some c → o ≡ Some d → c ≡ d
 same_cell c d o e f = opened c d (sym e ∙ f)
   where
     opened : (c d : Sort × Typ) → ◌≡◌ {A = Option (Sort × Typ)} (Some c) (Some d) → c ≡ d

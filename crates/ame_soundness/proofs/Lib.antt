@@ -8,3 +8,6 @@ pub mod Effects
 pub mod Preserved
 pub mod Started
 pub mod Refilled
+pub mod ActLemmas
+pub mod Progressed
+pub mod FedLemmas

@@ -4,3 +4,5 @@ pub mod Fragment
 pub mod TypedState
 pub mod TypedAct
 pub mod TypedTerm
+pub mod Progress
+pub mod LocalRun

@@ -1,17 +1,19 @@
 -- Which redexes have no step, and which steps make an act.
-use Rattle.std.proofs.Common.{◌≡◌, ℕ, Bool, true, false, ◌&&◌, Option, Some, None, refl, sym, ap, ◌∙◌, is_some, is_none}
+use Rattle.std.proofs.Common.{◌≡◌, ℕ, Bool, true, false, ◌&&◌, Option, Some, None, refl, sym, ap, ◌∙◌, is_some, is_none, arith, pos}
 use Rattle.std.specs.Prelude.{if◌then◌else◌, option_map, IsSome}
-use Rattle.ame_term.specs.Tree.{Typ, Head, Val, Tree, Trees, unit_tree}
+use Rattle.ame_term.specs.Tree.{Typ, Val, Tree, Trees}
 use Rattle.ame_term.specs.Act.{Act, act_of, call_act, operator_act, set_act}
 use Rattle.ame_term.specs.State.{State, at, put, effect, may_step}
 use Rattle.ame_term.specs.declared.semantics.StepKind.{StepKind}
+use Rattle.ame_term.specs.declared.types.Loc.{Loc}
+use Rattle.ame_term.specs.declared.types.Sort.{Sort}
 use Rattle.ame_term.specs.declared.types.Effect.{Effect}
 use Rattle.ame_term.specs.declared.types.Op.{Op}
 use Rattle.ame_soundness.specs.Cells.{Cells}
 use Rattle.ame_soundness.specs.Fragment.{effect_at}
 use Rattle.ame_soundness.specs.TypedState.{IsTyped}
 use Rattle.ame_soundness.specs.TypedAct.{IsTypedAct}
-use Rattle.ame_soundness.specs.Progress.{is_kind, is_fresh, CanBeMade, waiting}
+use Rattle.ame_soundness.specs.Progress.{is_kind, is_fresh, same_kind, CanBeMade, waiting}
 
 -- an act of another redex than `blockUntil false` and `unprotected` of a value
 abbrev pub IsOther : Act → Type 0
@@ -69,13 +71,13 @@ is_outside : (inside : Bool) → effect_at inside Effect.Protected ≡ Effect.Pr
 is_outside true e = cc
 is_outside false e = refl
 
-module _ (devices : ℕ) (cells : Cells) (s : State) (typed : IsTyped devices cells s) (inside : Bool) (t : Typ) where
-  pub can_be_made : (act : Act) → IsTypedAct devices cells (effect_at inside Effect.Protected) t act → IsOther act → CanBeMade s inside act
+module _ (devices : ℕ) (cells : Cells) (known : ℕ → Bool) (there : (l : ℕ) (cell : Sort × Typ) → cells l ≡ Some cell → known l ≡ true) (inside : Bool) (t : Typ) where
+  pub can_be_made : (act : Act) → IsTypedAct devices cells (effect_at inside Effect.Protected) t act → IsOther act → CanBeMade known inside act
   can_be_made (Act.Becomes e) a o = tt
   can_be_made (Act.Allocates v) a o = tt
-  can_be_made (Act.Reads l) a o = typed.located l (a.0, t) a.1
-  can_be_made (Act.Peeks l) a o = (is_inside inside a.1, typed.located l (_, t) a.0)
-  can_be_made (Act.Writes l v) a o = typed.located l (a.0, a.1) a.2
+  can_be_made (Act.Reads l) a o = there l (a.0, t) a.1
+  can_be_made (Act.Peeks l) a o = (is_inside inside a.1, there l (Sort.Protected, t) a.0)
+  can_be_made (Act.Writes l v) a o = there l (a.0, a.1) a.2
   can_be_made (Act.Spawns body) a o = tt
   can_be_made (Act.Prints n) a o = tt
   can_be_made Act.Passes a o = is_outside inside a.0
@@ -84,6 +86,74 @@ module _ (devices : ℕ) (cells : Cells) (s : State) (typed : IsTyped devices ce
   can_be_made (Act.Closes v) a o = o
   can_be_made Act.Stuck a o = a
 
+-- an act's kind of step, by a number
+act_number : Act → ℕ
+act_number (Act.Becomes e) = 0
+act_number (Act.Allocates v) = 1
+act_number (Act.Reads l) = 2
+act_number (Act.Peeks l) = 3
+act_number (Act.Writes l v) = 4
+act_number (Act.Spawns body) = 5
+act_number (Act.Prints n) = 6
+act_number Act.Passes = 7
+act_number (Act.Calls device n) = 8
+act_number _ = 9
+
+number : StepKind → ℕ
+number StepKind.Local = 0
+number (StepKind.Alloc l) = 1
+number StepKind.Read = 2
+number StepKind.Peek = 3
+number StepKind.Write = 4
+number StepKind.Spawn = 5
+number StepKind.Print = 6
+number StepKind.Block = 7
+number (StepKind.Device answer) = 8
+
+numbered : (kind : StepKind) (act : Act) → is_kind act kind ≡ true → number kind ≡ act_number act
+unfolding act_number number
+numbered StepKind.Local (Act.Becomes e) k = refl
+numbered (StepKind.Alloc l) (Act.Allocates v) k = refl
+numbered StepKind.Read (Act.Reads l) k = refl
+numbered StepKind.Peek (Act.Peeks l) k = refl
+numbered StepKind.Write (Act.Writes l v) k = refl
+numbered StepKind.Spawn (Act.Spawns body) k = refl
+numbered StepKind.Print (Act.Prints n) k = refl
+numbered StepKind.Block Act.Passes k = refl
+numbered (StepKind.Device answer) (Act.Calls device n) k = refl
+numbered _ _ k = cc
+
+same_number : (a b : StepKind) → number a ≡ number b → same_kind a b ≡ true
+unfolding number
+same_number StepKind.Local StepKind.Local e = refl
+same_number (StepKind.Alloc l) (StepKind.Alloc m) e = refl
+same_number StepKind.Read StepKind.Read e = refl
+same_number StepKind.Peek StepKind.Peek e = refl
+same_number StepKind.Write StepKind.Write e = refl
+same_number StepKind.Spawn StepKind.Spawn e = refl
+same_number StepKind.Print StepKind.Print e = refl
+same_number StepKind.Block StepKind.Block e = refl
+same_number (StepKind.Device answer) (StepKind.Device reply) e = refl
+same_number _ _ e = absurd (omega (arith, e))
+
+pub one_kind : (act : Act) (a b : StepKind) → is_kind act a ≡ true → is_kind act b ≡ true → same_kind a b ≡ true
+one_kind act a b k m = same_number a b (numbered a act k ∙ sym (numbered b act m))
+
+pub some_kind : (known : ℕ → Bool) (inside : Bool) (act : Act) (l : Loc) → CanBeMade known inside act → (kind : StepKind) × (is_kind act kind ≡ true)
+some_kind known inside (Act.Becomes e) l c = (StepKind.Local, refl)
+some_kind known inside (Act.Allocates v) l c = (StepKind.Alloc l, refl)
+some_kind known inside (Act.Reads m) l c = (StepKind.Read, refl)
+some_kind known inside (Act.Peeks m) l c = (StepKind.Peek, refl)
+some_kind known inside (Act.Writes m v) l c = (StepKind.Write, refl)
+some_kind known inside (Act.Spawns body) l c = (StepKind.Spawn, refl)
+some_kind known inside (Act.Prints n) l c = (StepKind.Print, refl)
+some_kind known inside Act.Passes l c = (StepKind.Block, refl)
+some_kind known inside Act.Fails l c = absurd c
+some_kind known inside (Act.Calls device n) l c = (StepKind.Device (pos 0), refl)
+some_kind known inside (Act.Closes v) l c = absurd c
+some_kind known inside Act.Stuck l c = absurd c
+
+module _ (devices : ℕ) (cells : Cells) (s : State) (typed : IsTyped devices cells s) (inside : Bool) (t : Typ) where
   -- the steps that make an act may be made where it stands
   pub made_here : (kind : StepKind) (act : Act) → IsTypedAct devices cells (effect_at inside Effect.Protected) t act → is_kind act kind ≡ true → may_step inside kind ≡ true
   made_here StepKind.Local (Act.Becomes e) a k = here inside

@@ -1,13 +1,13 @@
 -- The act of a typed redex.
-use Rattle.std.proofs.Common.{◌≡◌, ℕ, Bool, true, false, not, ◌&&◌, ◌⊎◌, Option, Some, None, refl, sym, ap, subst, ◌∙◌, inl, inr, ℤ, ◌<◌, arith}
+use Rattle.std.proofs.Common.{◌≡◌, ℕ, Bool, true, false, ◌⊎◌, Option, Some, None, refl, sym, subst, ◌∙◌, inl, inr, ℤ, ◌<◌, arith}
 use Rattle.std.proofs.lemmas.Bool.Decides.{nat_tests}
 use Rattle.std.specs.Prelude.{if◌then◌else◌, ◌==◌}
-use Rattle.ame_term.specs.Tree.{Typ, OwnName, Head, Val, Tree, Trees, is_held}
-use Rattle.ame_term.specs.Typing.{Scope, bind, unscoped, op_type}
+use Rattle.ame_term.specs.Tree.{Typ, OwnName, Head, Val, Tree, Trees}
+use Rattle.ame_term.specs.Typing.{bind, unscoped, op_type}
 use Rattle.ame_term.specs.Substitute.{substitute, with_own, entered}
 use Rattle.ame_term.specs.Redex.{is_redex}
-use Rattle.ame_term.specs.Act.{Act, act_of, call_act, if_act, operator_act, result_of, not_act, get_act, peek_act, set_act, block_act, print_act, device_act, first_act, second_act}
-use Rattle.ame_term.specs.Has.{Has, HasLast, HasValue, code_of, held, name, function, recursive, app, binding, sequence, choice, operation, negation, reference, get, peek, set, async, block, unprotected, print, call, pairing, first, second, last, more, unit, bool, int, location, function_value, recursive_value, pair}
+use Rattle.ame_term.specs.Act.{act_of, call_act, if_act, operator_act, result_of, not_act, get_act, peek_act, set_act, block_act, print_act, device_act, first_act, second_act}
+use Rattle.ame_term.specs.Has.{Has, HasValue, code_of, held, name, function, recursive, app, binding, sequence, choice, operation, negation, reference, get, peek, set, async, block, unprotected, print, call, pairing, first, second, last, more, bool, int, location, function_value, recursive_value, pair}
 use Rattle.ame_term.specs.declared.types.Sort.{Sort}
 use Rattle.ame_term.specs.declared.types.Effect.{Effect}
 use Rattle.ame_term.specs.declared.types.Op.{Op}

@@ -1,11 +1,10 @@
 -- A typed state after the effect of a typed act.
-use Rattle.std.proofs.Common.{◌≡◌, ℕ, ◌+◌, Bool, true, false, ◌⊎◌, List, [], ◌∷◌, ◌++◌, Option, Some, None, refl, sym, ap, subst, ◌∙◌, inl, inr, arith, ℤ, is_some}
+use Rattle.std.proofs.Common.{◌≡◌, ℕ, ◌+◌, true, false, ◌⊎◌, [], ◌∷◌, ◌++◌, Option, Some, None, refl, sym, ap, subst, ◌∙◌, inl, inr, arith, ℤ, is_some}
 use Rattle.std.specs.Prelude.{if◌then◌else◌, ◌==◌, option_map, IsSome}
-use Rattle.std.proofs.lemmas.Bool.Decides.{nat_tests}
 use Rattle.ame_term.specs.Tree.{Typ, Val, Tree, unit_tree}
 use Rattle.ame_term.specs.Typing.{unscoped}
 use Rattle.ame_term.specs.Act.{Act}
-use Rattle.ame_term.specs.Has.{Has, HasValue, held, unit, int, location, code_of}
+use Rattle.ame_term.specs.Has.{Has, held, unit, int, location}
 use Rattle.ame_term.specs.State.{State, at, put, effect}
 use Rattle.ame_term.specs.declared.semantics.StepKind.{StepKind}
 use Rattle.ame_term.specs.declared.types.Sort.{Sort}

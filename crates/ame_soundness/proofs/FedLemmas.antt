@@ -1,6 +1,6 @@
 -- A typed fragment after a step that is fed.
-use Rattle.std.proofs.Common.{◌≡◌, ℕ, Bool, Some, refl, sym, ap, subst, ◌∙◌}
-use Rattle.ame_term.specs.Tree.{Typ, Val, Tree, unit_tree}
+use Rattle.std.proofs.Common.{◌≡◌, ℕ, Bool, Some, refl, ap, subst}
+use Rattle.ame_term.specs.Tree.{Typ, Val, Tree}
 use Rattle.ame_term.specs.Typing.{unscoped}
 use Rattle.ame_term.specs.Context.{Focus, focus, fill}
 use Rattle.ame_term.specs.Act.{Act, act_of}
@@ -9,7 +9,7 @@ use Rattle.ame_term.specs.declared.types.Sort.{Sort}
 use Rattle.ame_term.specs.declared.types.Effect.{Effect}
 use Rattle.ame_laws.proofs.Complete.{unique}
 use Rattle.ame_soundness.specs.Cells.{Cells}
-use Rattle.ame_soundness.specs.Formed.{IsFormed, IsFormedValue}
+use Rattle.ame_soundness.specs.Formed.{IsFormedValue}
 use Rattle.ame_soundness.specs.Fragment.{IsFragment, IsValueOf, effect_at}
 use Rattle.ame_soundness.specs.TypedAct.{IsTypedAct}
 use Rattle.ame_soundness.specs.LocalRun.{Fed, LocalRun}

@@ -1,5 +1,5 @@
 -- Each `do` keeps two parts or more.
-use Rattle.std.proofs.Common.{◌≡◌, ℕ, Bool, true, false, Option, Some, None, refl}
+use Rattle.std.proofs.Common.{ℕ, Bool, true, false, Option, Some, None}
 use Rattle.std.specs.Prelude.{if◌then◌else◌, ◌==◌}
 use Rattle.ame_term.specs.Tree.{OwnName, Head, Val, Tree, Trees}
 use Rattle.ame_term.specs.Written.{HasTwo, IsConstant, IsWritten, AllWritten}

@@ -1,14 +1,14 @@
 -- A typed part in place of another one.
-use Rattle.std.proofs.Common.{◌≡◌, ℕ, Bool, true, false, Option, Some, None, refl, sym, ap, subst, ◌∙◌, inl, inr}
-use Rattle.ame_term.specs.Tree.{Typ, Val, Tree, Trees}
+use Rattle.std.proofs.Common.{◌≡◌, ℕ, Bool, true, false, refl, sym, subst, inl}
+use Rattle.ame_term.specs.Tree.{Typ, Tree, Trees}
 use Rattle.ame_term.specs.Typing.{Scope}
-use Rattle.ame_term.specs.Has.{Has, HasLast, HasValue, code_of, held, name, function, recursive, app, binding, sequence, choice, operation, negation, reference, get, peek, set, async, block, unprotected, print, call, pairing, first, second, last, more, unit, bool, int, location, function_value, recursive_value, pair}
+use Rattle.ame_term.specs.Has.{Has, app, binding, sequence, choice, operation, negation, reference, get, peek, set, block, unprotected, print, call, pairing, first, second, last, more}
 use Rattle.ame_term.specs.declared.types.Sort.{Sort}
 use Rattle.ame_term.specs.declared.types.Effect.{Effect}
 use Rattle.ame_laws.specs.Swap.{Swap, hole, app_function, app_argument, let_bound, do_first, if_test, bin_left, bin_right, not_part, ref_part, get_part, peek_part, set_cell, set_content, block_part, unprotected_part, print_part, call_part, pair_first, pair_second, first_part, second_part}
 use Rattle.ame_soundness.specs.Cells.{Cells, Grows}
 use Rattle.ame_soundness.specs.Fragment.{effect_at}
-use Rattle.ame_soundness.proofs.Weaken.{within_itself, weaken, weaken_last, weaken_value}
+use Rattle.ame_soundness.proofs.Weaken.{within_itself, weaken, weaken_last}
 
 under_both : (inside : Bool) → effect_at inside Effect.Unprotected ≡ Effect.Unprotected
 under_both true = refl

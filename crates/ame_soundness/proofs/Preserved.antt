@@ -1,12 +1,12 @@
 -- A typed state after a legal label.
-use Rattle.std.proofs.Common.{◌≡◌, ℕ, ◌+◌, Bool, true, false, List, [], ◌∷◌, Option, Some, None, refl, sym, ap, subst, ◌∙◌, is_some}
-use Rattle.std.specs.Prelude.{option_and_then, IsSome}
+use Rattle.std.proofs.Common.{◌≡◌, ℕ, Bool, true, false, List, [], ◌∷◌, Option, Some, None, refl, sym, ap, subst, ◌∙◌, is_some}
+use Rattle.std.specs.Prelude.{option_and_then}
 use Rattle.ame_term.specs.Tree.{Typ, Val, Tree}
 use Rattle.ame_term.specs.Typing.{unscoped}
 use Rattle.ame_term.specs.Context.{Focus, focus, fill}
 use Rattle.ame_term.specs.Act.{Act, act_of}
-use Rattle.ame_term.specs.Has.{Has, held}
-use Rattle.ame_term.specs.State.{State, at, change, effect, after, run}
+use Rattle.ame_term.specs.Has.{held}
+use Rattle.ame_term.specs.State.{State, at, change, after, run}
 use Rattle.ame_term.specs.declared.semantics.StepKind.{StepKind}
 use Rattle.ame_term.specs.declared.semantics.Label.{Label}
 use Rattle.ame_term.specs.declared.types.Effect.{Effect}
@@ -16,7 +16,7 @@ use Rattle.ame_rules.proofs.Effects.{effect_of}
 use Rattle.ame_rules.proofs.Followed.{rule_of}
 use Rattle.ame_soundness.specs.Cells.{Cells, Grows}
 use Rattle.ame_soundness.specs.Formed.{IsFormed}
-use Rattle.ame_soundness.specs.Fragment.{IsFragment, IsValueOf, effect_at}
+use Rattle.ame_soundness.specs.Fragment.{IsFragment, effect_at}
 use Rattle.ame_soundness.specs.TypedState.{IsTyped, IsTypedLater, IsMember}
 use Rattle.ame_soundness.specs.TypedAct.{IsTypedAct}
 use Rattle.ame_soundness.proofs.Placed.{placed}
@@ -50,20 +50,23 @@ module _ (devices : ℕ) (cells : Cells) (s : State) (typed : IsTyped devices ce
   -- a member's term is changed to another typed one
   changed : (later : Cells) → Grows cells later → (s' : State) → IsTyped devices later s' → (i : ℕ) (term : Tree) → IsMember devices later term
       → IsTypedLater devices cells (record s' { members = change s'.members i term })
-  changed later grows s' state i term member =
-      (later, grows, record {
-        stored = state.stored;
-        located = state.located;
-        members = each-change (IsMember devices later) s'.members i term member state.members;
-        present = λ j is. is_some-change s'.members i j term ∙ state.present j is;
-      })
+  changed later grows s' state i term member = (
+    later,
+    grows,
+    record {
+      stored = state.stored;
+      located = state.located;
+      members = each-change (IsMember devices later) s'.members i term member state.members;
+      present = λ j is. is_some-change s'.members i j term ∙ state.present j is;
+    },
+  )
 
   stepped : (side : Bool) (kind : StepKind) (i : ℕ) (t : State) → Steps s side kind i t → IsTypedLater devices cells t
   stepped side kind i t st =
       let p = at_redex devices cells side Effect.Protected st.term st.redex st.part Typ.Unit (member_typed i st.term st.member) st.stands in
       let made : Made devices cells s (effect_at side Effect.Protected) p.part_type st.part st.after_effect =
-          subst (IsMade devices cells s (effect_at side Effect.Protected) p.part_type) (effect_of s kind st.redex st.part st.after_effect st.reduces)
-          (effect_typed devices cells s typed kind (act_of st.redex) (effect_at side Effect.Protected) p.part_type p.act) in
+      subst (IsMade devices cells s (effect_at side Effect.Protected) p.part_type) (effect_of s kind st.redex st.part st.after_effect st.reduces)
+      (effect_typed devices cells s typed kind (act_of st.redex) (effect_at side Effect.Protected) p.part_type p.act) in
       subst (IsTypedLater devices cells) (sym st.result)
       (changed made.later made.grows st.after_effect made.state i (fill st.term st.part) (p.back made.later made.grows made.part_typed))
 
@@ -79,26 +82,32 @@ module _ (devices : ℕ) (cells : Cells) (s : State) (typed : IsTyped devices ce
   here = typed
 
   pub preserved : (label : Label) (t : State) → Rule s label t → IsTypedLater devices cells t
-  preserved _ _ (Rule.activates i term idle member calm) =
-      (cells, (λ l cell e. e), record {
-        stored = typed.stored;
-        located = typed.located;
-        members = typed.members;
-        present = λ j is. ap (λ n. is_some (at s.members n)) (same i j is) ∙ ap is_some member;
-      })
+  preserved _ _ (Rule.activates i term idle member calm) = (
+    cells,
+    (λ l cell e. e),
+    record {
+      stored = typed.stored;
+      located = typed.located;
+      members = typed.members;
+      present = λ j is. ap (λ n. is_some (at s.members n)) (same i j is) ∙ ap is_some member;
+    },
+  )
     where
       same : (i j : ℕ) → ◌≡◌ {A = Option ℕ} (Some i) (Some j) → j ≡ i
       same i j e = cc
   preserved _ _ (Rule.steps i kind t is st) = stepped false kind i t st
   preserved _ _ (Rule.leaves i term is member stands) =
       (cells, (λ l cell e. e), record { stored = typed.stored; located = typed.located; members = typed.members; present = λ j is. absurd (cc) })
-  preserved _ _ (Rule.ends i term v is member value) =
-      (cells, (λ l cell e. e), record {
-        stored = typed.stored;
-        located = typed.located;
-        members = each-without (IsMember devices cells) s.members i typed.members;
-        present = λ j is. absurd (cc);
-      })
+  preserved _ _ (Rule.ends i term v is member value) = (
+    cells,
+    (λ l cell e. e),
+    record {
+      stored = typed.stored;
+      located = typed.located;
+      members = each-without (IsMember devices cells) s.members i typed.members;
+      present = λ j is. absurd (cc);
+    },
+  )
   preserved _ _ (Rule.frees i kind t idle st) = stepped true kind i t st
   preserved _ _ (Rule.closes i term v idle member stands) = closes i term v member stands
 

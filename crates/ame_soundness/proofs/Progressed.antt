@@ -1,19 +1,20 @@
 -- A member of a typed state goes on, ends, or waits.
 use Rattle.std.proofs.Common.{◌≡◌, ℕ, Bool, true, false, not, ◌&&◌, Option, Some, None, refl, sym, ap, subst, ◌∙◌, is_some, is_none}
-use Rattle.std.specs.Prelude.{if◌then◌else◌, option_map, option_and_then, IsSome}
+use Rattle.std.specs.Prelude.{if◌then◌else◌, option_map, option_and_then}
 use Rattle.ame_term.specs.Tree.{Typ, Val, Tree}
 use Rattle.ame_term.specs.Context.{Focus, focus, fill}
 use Rattle.ame_term.specs.Act.{Act, act_of}
 use Rattle.ame_term.specs.State.{State, at, change, without, effect, may_step, rewritten, reduce, reduce_at, after, at_unprotected, at_value, closing}
 use Rattle.ame_term.specs.declared.semantics.StepKind.{StepKind}
 use Rattle.ame_term.specs.declared.semantics.Label.{Label}
+use Rattle.ame_term.specs.declared.types.Sort.{Sort}
 use Rattle.ame_term.specs.declared.types.Effect.{Effect}
 use Rattle.ame_soundness.specs.Cells.{Cells}
-use Rattle.ame_soundness.specs.Fragment.{effect_at}
+use Rattle.ame_soundness.specs.Fragment.{IsFragment, effect_at}
 use Rattle.ame_soundness.specs.TypedState.{IsTyped, IsMember}
 use Rattle.ame_soundness.specs.TypedTerm.{IsTypedAt}
 use Rattle.ame_soundness.specs.TypedAct.{IsTypedAct}
-use Rattle.ame_soundness.specs.Progress.{is_kind, is_fresh, CanBeMade, Progresses, is_step, is_next, waiting}
+use Rattle.ame_soundness.specs.Progress.{is_kind, is_fresh, Progresses, is_stored, is_cell, is_step, is_next, waiting}
 use Rattle.ame_soundness.proofs.Refilled.{refilled}
 use Rattle.ame_soundness.proofs.Entries.{each-at}
 use Rattle.ame_soundness.proofs.ActLemmas.{Sorted, sorted, can_be_made, made_here, effect_made}
@@ -30,35 +31,44 @@ some-map : {A B : Type 0} (f : A → B) (o : Option A) → is_some (option_map f
 some-map f None = refl
 some-map f (Some x) = refl
 
-module _ (devices : ℕ) (cells : Cells) (s : State) (typed : IsTyped devices cells s) (i : ℕ) (term : Tree) (member : at s.members i ≡ Some term) where
-  term_typed : (inside : Bool) (redex : Tree) → focus term ≡ Focus.AtRedex inside redex → IsTypedAt devices cells inside Effect.Protected term redex Typ.Unit
-  term_typed inside redex e = refilled devices cells Effect.Protected term redex Typ.Unit inside (each-at (IsMember devices cells) s.members i term member typed.members) e
+outside : (inside : Bool) → effect_at inside Effect.Protected ≡ Effect.Protected → inside ≡ false
+outside true e = cc
+outside false e = refl
 
-  pub progressed : Progresses s (focus term)
-  progressed = by (focus term) refl
+-- a typed term under protected
+module _ (devices : ℕ) (cells : Cells) (known : ℕ → Bool) (there : (l : ℕ) (cell : Sort × Typ) → cells l ≡ Some cell → known l ≡ true) where
+  at_redex : (inside : Bool) (redex : Tree) (t : Typ) → IsTypedAct devices cells (effect_at inside Effect.Protected) t (act_of redex) → Sorted redex → Progresses known (Focus.AtRedex inside redex)
+  at_redex inside redex t a (Sorted.waits e) =
+      let b = subst (IsTypedAct devices cells (effect_at inside Effect.Protected) t) (ap act_of e ∙ waiting_act) a in
+      subst (λ (z : Tree). Progresses known (Focus.AtRedex inside z)) (sym e)
+      (subst (λ (z : Bool). Progresses known (Focus.AtRedex z waiting)) (sym (outside inside b.0)) Progresses.waits)
+  at_redex inside redex t a (Sorted.closes v e) =
+      let b = subst (IsTypedAct devices cells (effect_at inside Effect.Protected) t) (ap act_of e ∙ closing_act v) a in
+      subst (λ (z : Tree). Progresses known (Focus.AtRedex inside z)) (sym e)
+      (subst (λ (z : Bool). Progresses known (Focus.AtRedex z (Tree.Unprotected (Tree.Held v)))) (sym (outside inside b.1)) (Progresses.closes v))
+  at_redex inside redex t a (Sorted.other o) = Progresses.steps inside redex (can_be_made devices cells known there inside t (act_of redex) a o)
+
+  pub term_progresses : (term : Tree) (t : Typ) → IsFragment devices cells Effect.Protected term t → Progresses known (focus term)
+  term_progresses term t typed = by (focus term) refl
     where
-      outside : (inside : Bool) (t : Typ) (v : Val) → IsTypedAct devices cells (effect_at inside Effect.Protected) t (Act.Closes v) → inside ≡ false
-      outside true t v a = cc
-      outside false t v a = refl
-
-      waits_outside : (inside : Bool) (t : Typ) → IsTypedAct devices cells (effect_at inside Effect.Protected) t Act.Fails → inside ≡ false
-      waits_outside true t a = let e : Effect.Unprotected ≡ Effect.Protected = a.0 in cc
-      waits_outside false t a = refl
-
-      at_redex : (inside : Bool) (redex : Tree) (t : Typ) → IsTypedAct devices cells (effect_at inside Effect.Protected) t (act_of redex) → Sorted redex → Progresses s (Focus.AtRedex inside redex)
-      at_redex inside redex t a (Sorted.waits e) =
-          let b = subst (IsTypedAct devices cells (effect_at inside Effect.Protected) t) (ap act_of e ∙ waiting_act) a in
-          let o = waits_outside inside t b in
-          subst (λ (z : Tree). Progresses s (Focus.AtRedex inside z)) (sym e) (subst (λ (z : Bool). Progresses s (Focus.AtRedex z waiting)) (sym o) Progresses.waits)
-      at_redex inside redex t a (Sorted.closes v e) =
-          let b = subst (IsTypedAct devices cells (effect_at inside Effect.Protected) t) (ap act_of e ∙ closing_act v) a in
-          let o = outside inside t v b in
-          subst (λ (z : Tree). Progresses s (Focus.AtRedex inside z)) (sym e) (subst (λ (z : Bool). Progresses s (Focus.AtRedex z (Tree.Unprotected (Tree.Held v)))) (sym o) (Progresses.closes v))
-      at_redex inside redex t a (Sorted.other o) = Progresses.steps inside redex (can_be_made devices cells s typed inside t (act_of redex) a o)
-
-      by : (f : Focus) → focus term ≡ f → Progresses s f
+      by : (f : Focus) → focus term ≡ f → Progresses known f
       by (Focus.AtValue v) e = Progresses.ends v
-      by (Focus.AtRedex inside redex) e = let p = term_typed inside redex e in at_redex inside redex p.part_type p.act_typed (sorted redex)
+      by (Focus.AtRedex inside redex) e =
+          let p = refilled devices cells Effect.Protected term redex t inside typed e in
+          at_redex inside redex p.part_type p.act_typed (sorted redex)
+
+pub fragment_progresses : (devices : ℕ) (cells : Cells) (term : Tree) (t : Typ) → IsFragment devices cells Effect.Protected term t → Progresses (is_cell cells) (focus term)
+fragment_progresses devices cells term t typed = term_progresses devices cells (is_cell cells) (λ l cell e. ap is_some e) term t typed
+
+module _ (devices : ℕ) (cells : Cells) (s : State) (typed : IsTyped devices cells s) (i : ℕ) (term : Tree) (member : at s.members i ≡ Some term) where
+  member_typed : IsFragment devices cells Effect.Protected term Typ.Unit
+  member_typed = each-at (IsMember devices cells) s.members i term member typed.members
+
+  term_typed : (inside : Bool) (redex : Tree) → focus term ≡ Focus.AtRedex inside redex → IsTypedAt devices cells inside Effect.Protected term redex Typ.Unit
+  term_typed inside redex e = refilled devices cells Effect.Protected term redex Typ.Unit inside member_typed e
+
+  pub progressed : Progresses (is_stored s) (focus term)
+  progressed = term_progresses devices cells (is_stored s) (λ l cell e. typed.located l cell e) term Typ.Unit member_typed
 
   -- a step at the redex is legal where it makes its act
   stepped_at : (inside : Bool) (redex : Tree) → focus term ≡ Focus.AtRedex inside redex → (kind : StepKind)

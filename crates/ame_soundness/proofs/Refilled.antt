@@ -1,5 +1,5 @@
 -- A typed term at a redex, for every part that may take its place.
-use Rattle.std.proofs.Common.{◌≡◌, ℕ, Bool, refl, sym, subst}
+use Rattle.std.proofs.Common.{◌≡◌, ℕ, Bool, subst}
 use Rattle.ame_term.specs.Tree.{Typ, Tree}
 use Rattle.ame_term.specs.Typing.{unscoped}
 use Rattle.ame_term.specs.Context.{Focus, focus, fill}
@@ -7,7 +7,7 @@ use Rattle.ame_term.specs.Has.{Has}
 use Rattle.ame_term.specs.declared.types.Effect.{Effect}
 use Rattle.ame_laws.proofs.FoundLemmas.{found}
 use Rattle.ame_laws.proofs.Complete.{unique}
-use Rattle.ame_soundness.specs.Cells.{Cells, Grows}
+use Rattle.ame_soundness.specs.Cells.{Cells}
 use Rattle.ame_soundness.specs.Fragment.{IsFragment, effect_at}
 use Rattle.ame_soundness.specs.TypedTerm.{IsTypedAt}
 use Rattle.ame_soundness.proofs.Placed.{placed}

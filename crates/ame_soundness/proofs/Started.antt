@@ -1,10 +1,10 @@
 -- An accepted program begins typed.
-use Rattle.std.proofs.Common.{◌≡◌, ℕ, List, [], ◌∷◌, Option, Some, None, Ok, refl, sym, ap, subst, ◌∙◌, slice_index, is_some}
+use Rattle.std.proofs.Common.{◌≡◌, ℕ, List, Ok, ap, ◌∙◌, slice_index}
 use Rattle.ame_term.specs.Tree.{Typ, Tree}
-use Rattle.ame_term.specs.Typing.{Outcome, typed, typing, want_unit, no_cells, unscoped, Accepts}
+use Rattle.ame_term.specs.Typing.{typed, typing, want_unit, no_cells, unscoped, Accepts}
 use Rattle.ame_term.specs.Written.{IsWritten}
 use Rattle.ame_term.specs.Has.{Has}
-use Rattle.ame_term.specs.State.{State, start}
+use Rattle.ame_term.specs.State.{start}
 use Rattle.ame_term.specs.declared.types.Effect.{Effect}
 use Rattle.ame_laws.proofs.Tests.{then-gave, want_unit-gave}
 use Rattle.ame_laws.proofs.Sound.{sound}

@@ -1,14 +1,13 @@
 -- A value of a name's type in for the name.
-use Rattle.std.proofs.Common.{◌≡◌, ℕ, Bool, true, false, ◌⊎◌, ◌||◌, Option, Some, None, refl, sym, ap, subst, ◌∙◌, inl, inr, arith}
+use Rattle.std.proofs.Common.{◌≡◌, ℕ, Bool, true, false, ◌⊎◌, ◌||◌, Option, Some, None, refl, sym, subst, ◌∙◌, inl, inr, arith}
 use Rattle.std.specs.Prelude.{if◌then◌else◌, ◌==◌}
 use Rattle.std.proofs.lemmas.Bool.Decides.{nat_tests}
 use Rattle.ame_term.specs.Tree.{Typ, OwnName, Head, Val, Tree, Trees}
-use Rattle.ame_term.specs.Typing.{Scope, bind, unscoped}
-use Rattle.ame_term.specs.Substitute.{is_own, binds, substitute, substitute_all, with_own, entered}
-use Rattle.ame_term.specs.Has.{Has, HasLast, HasValue, code_of, held, name, function, recursive, app, binding, sequence, choice, operation, negation, reference, get, peek, set, async, block, unprotected, print, call, pairing, first, second, last, more, unit, bool, int, location, function_value, recursive_value, pair}
-use Rattle.ame_term.specs.declared.types.Sort.{Sort}
+use Rattle.ame_term.specs.Typing.{Scope, bind}
+use Rattle.ame_term.specs.Substitute.{binds, substitute, substitute_all}
+use Rattle.ame_term.specs.Has.{Has, HasLast, HasValue, held, name, function, recursive, app, binding, sequence, choice, operation, negation, reference, get, peek, set, async, block, unprotected, print, call, pairing, first, second, last, more}
 use Rattle.ame_term.specs.declared.types.Effect.{Effect}
-use Rattle.ame_soundness.specs.Cells.{Cells, Grows}
+use Rattle.ame_soundness.specs.Cells.{Cells}
 use Rattle.ame_soundness.proofs.Weaken.{Within, within_bind, weaken}
 
 -- the first scope has x of a type, and otherwise only names that the second one has with their types

@@ -1,7 +1,7 @@
 -- A typing with more names, more locations, and under an effect that fits.
-use Rattle.std.proofs.Common.{◌≡◌, ℕ, Bool, true, false, ◌⊎◌, Option, Some, None, refl, sym, ap, subst, ◌∙◌, inl, inr}
+use Rattle.std.proofs.Common.{◌≡◌, ℕ, Bool, true, false, ◌⊎◌, Some, refl, subst, ◌∙◌, inl, inr}
 use Rattle.std.specs.Prelude.{if◌then◌else◌, ◌==◌}
-use Rattle.ame_term.specs.Tree.{Typ, OwnName, Head, Val, Tree, Trees}
+use Rattle.ame_term.specs.Tree.{Typ, Val, Tree, Trees}
 use Rattle.ame_term.specs.Typing.{Scope, bind, unscoped}
 use Rattle.ame_term.specs.Has.{Has, HasLast, HasValue, code_of, held, name, function, recursive, app, binding, sequence, choice, operation, negation, reference, get, peek, set, async, block, unprotected, print, call, pairing, first, second, last, more, unit, bool, int, location, function_value, recursive_value, pair}
 use Rattle.ame_term.specs.declared.types.Sort.{Sort}

@@ -1,6 +1,5 @@
 -- What typing leaves open: that each `do` has two parts or more, as in every program text. Without
 -- it a typed `do` with one part would have no reduction.
-use Rattle.std.specs.Prelude.{ℕ, ℤ, Bool}
 use Rattle.ame_term.specs.Tree.{Val, Tree, Trees}
 use Rattle.ame_term.specs.Written.{HasTwo}
 

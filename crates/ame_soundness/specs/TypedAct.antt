@@ -1,6 +1,6 @@
 -- What a redex of a type does, and what it may become.
-use Rattle.std.specs.Prelude.{◌≡◌, ℕ, ◌<◌, ℤ, Some}
-use Rattle.ame_term.specs.Tree.{Typ, Val, Tree, unit_tree}
+use Rattle.std.specs.Prelude.{◌≡◌, ℕ, ◌<◌, Some}
+use Rattle.ame_term.specs.Tree.{Typ}
 use Rattle.ame_term.specs.Act.{Act}
 use Rattle.ame_term.specs.Has.{code_of}
 use Rattle.ame_term.specs.declared.types.Sort.{Sort}

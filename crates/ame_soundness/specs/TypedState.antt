@@ -1,5 +1,5 @@
 -- A typed state.
-use Rattle.std.specs.Prelude.{◌≡◌, ℕ, Option, Some, IsSome}
+use Rattle.std.specs.Prelude.{◌≡◌, ℕ, Some, IsSome}
 use Rattle.std.specs.List.{AllByRecursion}
 use Rattle.ame_term.specs.Tree.{Typ, Val, Tree}
 use Rattle.ame_term.specs.State.{State, at}

@@ -12,5 +12,7 @@ pub use fragments::{
     substituting_keeps_types,
 };
 pub use local::{fed_steps_keep_types, local_runs_keep_types};
-pub use progress::{active_labels, members_progress, resting_labels};
+pub use progress::{
+    active_labels, fragments_progress, members_progress, one_kind_makes_an_act, resting_labels,
+};
 pub use states::{labels_keep_types, reached_states_are_typed, runs_keep_types, start_is_typed};

@@ -1,4 +1,3 @@
-use Rattle.std.proofs.Common.{refl, inl}
 use Rattle.ame_soundness.proofs.Acts.{function_entered}
 use Rattle.ame_soundness.proofs.fragments.entering_keeps_types.Goals as goal
 

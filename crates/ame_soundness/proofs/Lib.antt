@@ -1,0 +1,13 @@
+pub mod Weaken
+pub mod Substituted
+pub mod Placed
+pub mod FormedLemmas
+pub mod Acts
+pub mod Entries
+pub mod Effects
+pub mod Preserved
+pub mod Started
+pub mod Refilled
+pub mod ActLemmas
+pub mod Progressed
+pub mod FedLemmas

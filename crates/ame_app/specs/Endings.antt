@@ -5,6 +5,8 @@ use Rattle.ame_term.specs.State.{State}
 use Rattle.ame_strong.specs.View.{state_of}
 use Rattle.ame_journal.specs.declared.entry.Entry.{Entry}
 use Rattle.ame_journal.specs.Replay.{resting, replay}
+use Rattle.ame_soundness.specs.Cells.{Cells}
+use Rattle.ame_soundness.specs.TypedState.{IsTyped}
 use Rattle.ame_app.specs.declared.ended.Ended.{Ended}
 use Rattle.ame_app.specs.Runs.{HasMembers, IsEmpty}
 
@@ -43,3 +45,11 @@ pub record IsSpent (program : Tree) (e : Ended) : Type 0 where
   pub turns : turns_of e ≡ 1000000
   pub left : IsSome (left_of e)
   pub members : HasMembers program (entries_of e)
+
+-- the values stored and the members are typed, for some types of the locations
+abbrev pub IsTypedState : State → Type 0
+IsTypedState s = (cells : Cells) × IsTyped 0 cells s
+
+-- so is the state left, where there is one
+abbrev pub LeavesTyped : Option Ended → Type 0
+LeavesTyped ended = IfSome ended (λ e. IfSome (left_of e) IsTypedState)

@@ -8,6 +8,7 @@ ghost use Rattle.ame_term.specs.View.{tree_of};
 ghost use Rattle.ame_term.specs.Typing.{typing};
 ghost use Rattle.ame_term.specs.Written.{nodes, IsWritten, IsBound};
 ghost use Rattle.ame_app.specs.Causes.{TextCause, IsProgramOf, Cause, call_of};
+ghost use Rattle.ame_app.specs.Endings.{LeavesTyped};
 ghost use Rattle.ame_lex.specs.Bytes.{Text};
 
 use crate::ended::Ended;
@@ -51,7 +52,8 @@ fn no_program(place: u32, kind: TextKind) -> Decision
 #[tactic(auto, using(crate::proofs::CauseLemmas::reads_faulty))]
 pub(crate) fn decide_text(alloc: Global, text: &[u8]) -> Decision
     requires small { length text.now ≤ READ_LIMIT }
-    ensures { TextCause text.now result.status result.program result.ended }
+    ensures cause { TextCause text.now result.status result.program result.ended }
+    ensures typed { LeavesTyped result.ended }
 {
     match lex(alloc, text) {
         Ok(tokens) => decide_tokens(alloc, text, &tokens),
@@ -65,7 +67,8 @@ pub(crate) fn decide_text(alloc: Global, text: &[u8]) -> Decision
 fn decide_tokens(alloc: Global, text: &[u8], tokens: &[Token]) -> Decision
     requires of_text { tokens_of text.now ≡ Ok tokens.now }
     requires small { length text.now ≤ READ_LIMIT }
-    ensures { TextCause text.now result.status result.program result.ended }
+    ensures cause { TextCause text.now result.status result.program result.ended }
+    ensures typed { LeavesTyped result.ended }
 {
     match parse(alloc, text, tokens) {
         Ok(program) => decide_program(alloc, program),
@@ -82,7 +85,8 @@ fn decide_program(alloc: Global, program: Program) -> Decision
     requires places { length program.places.items ≡ nodes (tree_of program.term) }
     requires written { IsWritten (tree_of program.term) }
     requires bound { IsBound [] (tree_of program.term) }
-    ensures { (text : Text) → reading text ≡ Ok (source_of program) → TextCause text result.status result.program result.ended }
+    ensures cause { (text : Text) → reading text ≡ Ok (source_of program) → TextCause text result.status result.program result.ended }
+    ensures typed { LeavesTyped result.ended }
 {
     match check(alloc, program, 0) {
         Ok(accepted) => decide_accepted(alloc, accepted),
@@ -95,8 +99,10 @@ fn decide_program(alloc: Global, program: Program) -> Decision
 fn decide_accepted(alloc: Global, accepted: Accepted) -> Decision
     requires places { length accepted.program.places.items ≡ nodes (tree_of accepted.program.term) }
     requires typed { typing 0 accepted.program.places.items (tree_of accepted.program.term) ≡ Ok Typ.Unit }
+    requires written { IsWritten (tree_of accepted.program.term) }
     requires devices { accepted.devices ≡ 0 }
-    ensures { (text : Text) → reading text ≡ Ok (source_of accepted.program) → TextCause text result.status result.program result.ended }
+    ensures cause { (text : Text) → reading text ≡ Ok (source_of accepted.program) → TextCause text result.status result.program result.ended }
+    ensures typed { LeavesTyped result.ended }
 {
     match unbuilt_place(&accepted.program) {
         Some(place) => no_program(place, TextKind::Expected(Want::Form)),
@@ -106,7 +112,10 @@ fn decide_accepted(alloc: Global, accepted: Accepted) -> Decision
 
 /// The run of an accepted program.
 fn decide_run(alloc: Global, accepted: Accepted) -> Decision
-    ensures { (text : Text) → IsProgramOf text accepted → TextCause text result.status result.program result.ended }
+    requires typed { typing 0 accepted.program.places.items (tree_of accepted.program.term) ≡ Ok Typ.Unit }
+    requires written { IsWritten (tree_of accepted.program.term) }
+    ensures cause { (text : Text) → IsProgramOf text accepted → TextCause text result.status result.program result.ended }
+    ensures typed { LeavesTyped result.ended }
 {
     let Some(execution) = execute(alloc, &accepted.program.term) else {
         return without_run(Status::NoMemory);
@@ -125,7 +134,8 @@ fn decide_run(alloc: Global, accepted: Accepted) -> Decision
 
 /// The program of a call, its run and its end; all but the writing.
 pub(crate) fn decide<S: Source>(alloc: Global, words: &[String], source: &mut S) -> Decision
-    ensures { Cause (call_of (map string_bytes words.now) (S.left source.old) (S.left source.new) (S.faults source.old) (S.faults source.new)) result.status result.program result.ended }
+    ensures typed { LeavesTyped result.ended }
+    ensures cause { Cause (call_of (map string_bytes words.now) (S.left source.old) (S.left source.new) (S.faults source.old) (S.faults source.new)) result.status result.program result.ended }
 {
     if !words.is_empty() {
         return without_run(Status::Usage);

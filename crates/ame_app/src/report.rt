@@ -7,6 +7,7 @@ ghost use Rattle.ame_app.specs.Verdict.{verdict, unread};
 ghost use Rattle.ame_io.specs.Counts.{HasRisen};
 ghost use Rattle.ame_app.specs.declared.status.Status.{Status};
 ghost use Rattle.ame_app.specs.Causes.{call_of};
+ghost use Rattle.ame_app.specs.Endings.{LeavesTyped};
 ghost use Rattle.ame_app.specs.Reports.{IsTold, IsCutShort};
 
 use crate::decide::{Decision, decide};
@@ -40,6 +41,9 @@ pub fn run_words<S: Source, K: Sink>(
         IsTold (call_of (map string_bytes words.now) (S.left source.old) (S.left source.new) (S.faults source.old) (S.faults source.new)) result.status result.program result.ended (K.written sink) (K.written result.sink) }
     ensures cut_short { result.status ≡ Status.WriteFault →
         IsCutShort (call_of (map string_bytes words.now) (S.left source.old) (S.left source.new) (S.faults source.old) (S.faults source.new)) result.program result.ended (K.written sink) (K.written result.sink) }
+
+    // What is left is typed: each stored value by its location, each member as a fragment.
+    ensures typed { LeavesTyped result.ended }
 
     // No fault of the sink is passed over, and none is made up.
     ensures write_fault { result.status ≡ Status.WriteFault → HasRisen (K.faults sink) (K.faults result.sink) }

@@ -67,9 +67,10 @@ impl<V> Row<V> {
         requires for_read { 0 < self.old.room.reads }
         requires for_input { 0 < self.old.room.inputs }
         ensures { self.new ≡ record self.old {
-            reads = self.old.reads ++ record { loc = loc; number = number } ∷ [];
-            inputs = self.old.inputs ++ input ∷ [];
-            room = record self.old.room { reads = self.old.room.reads - 1; inputs = self.old.room.inputs - 1 } } }
+          reads = self.old.reads ++ record { loc = loc; number = number } ∷ [];
+          inputs = self.old.inputs ++ input ∷ [];
+          room = record self.old.room { reads = self.old.room.reads - 1; inputs = self.old.room.inputs - 1 };
+        } }
     {
         self.reads.push_reserved(ReadNote { loc, number });
         self.inputs.push_reserved(input);
@@ -79,8 +80,9 @@ impl<V> Row<V> {
     pub fn note_input(&mut self, input: V)
         requires { 0 < self.old.room.inputs }
         ensures { self.new ≡ record self.old {
-            inputs = self.old.inputs ++ input ∷ [];
-            room = record self.old.room { inputs = self.old.room.inputs - 1 } } }
+          inputs = self.old.inputs ++ input ∷ [];
+          room = record self.old.room { inputs = self.old.room.inputs - 1 };
+        } }
     {
         self.inputs.push_reserved(input);
     }
@@ -89,8 +91,9 @@ impl<V> Row<V> {
     pub fn note_write(&mut self, undo: Undo<V>)
         requires { 0 < self.old.room.undos }
         ensures { self.new ≡ record self.old {
-            undos = self.old.undos ++ undo ∷ [];
-            room = record self.old.room { undos = self.old.room.undos - 1 } } }
+          undos = self.old.undos ++ undo ∷ [];
+          room = record self.old.room { undos = self.old.room.undos - 1 };
+        } }
     {
         self.undos.push_reserved(undo);
     }

@@ -1,6 +1,8 @@
 //! What no clause says: that the calls succeed where there is memory, and a table of reads.
 
-ghost use Rattle.std.specs.Prelude.{◌≡◌, ◌%◌, ◌↔◌, ◌<◌, None, IsTrue, All};
+ghost use Rattle.std.specs.Prelude.{◌≡◌, ◌%◌, ◌↔◌, ◌<◌, None, IsTrue, All, length, slice_get};
+ghost use Rattle.std.specs.Option.{ForSome};
+ghost use Rattle.ame_store.specs.Cells.{IsOwnedBy, CanGrow};
 
 use crate::notes::{Bad, ReadNote, Undo};
 use crate::row::Row;
@@ -116,8 +118,16 @@ const READS: [(u32, &[(u32, u64)], Option<(u32, u64, u64)>); 17] = [
     (1, &[(0, 3)], Some((0, 3, 4))),
     (1, &[(0, 6)], Some((0, 6, 4))),
     (1, &[(0, 4), (0, 2), (4, 2)], Some((0, 2, 4))),
-    (1, &[(4, 18446744073709551614)], Some((4, 18446744073709551614, 0))),
-    (1, &[(1, 18446744073709551615)], Some((1, 18446744073709551615, 3))),
+    (
+        1,
+        &[(4, 18446744073709551614)],
+        Some((4, 18446744073709551614, 0)),
+    ),
+    (
+        1,
+        &[(1, 18446744073709551615)],
+        Some((1, 18446744073709551615, 3)),
+    ),
 ];
 
 /// Whether each read is of a cell below a number of cells.
@@ -142,7 +152,10 @@ fn judged<V: Sample>(
     if !are_within(row.reads(), store.len()) {
         return Err(NoMemory);
     }
-    Ok(row.valid(seat, store).map(|bad| (bad.loc.0, bad.read, bad.now)))
+    Ok(
+        row.valid(seat, store)
+            .map(|bad| (bad.loc.0, bad.read, bad.now)),
+    )
 }
 
 /// How many rows of the table are answered as it says.
@@ -211,6 +224,35 @@ fn logs_of_values_that_take_memory(rt: HostRuntime) -> Result<(), Fail> {
     assert!(rt; notes(rt.alloc(), &mut row)?);
     row.clear();
     assert!(rt; row.reads().is_empty());
+    Ok(())
+}
+
+/// Whether a seat owns a cell, with a small number.
+fn owns<V>(store: &Store<V>, seat: u32, l: Loc) -> bool
+    ensures location { IsTrue result → l.0 < length store.now }
+    ensures owned { IsTrue result → ForSome (slice_get store.now l.0) (IsOwnedBy seat) }
+    ensures can_grow { IsTrue result → ForSome (slice_get store.now l.0) CanGrow }
+{
+    if l.0 >= store.len() {
+        return false;
+    }
+    let cell = store.cell(l);
+    match cell.owner {
+        Some(owner) => owner == seat && cell.number < 1 << 62,
+        None => false,
+    }
+}
+
+#[test]
+fn a_read_of_what_was_put_back(rt: HostRuntime) -> Result<(), Fail> {
+    let mut cells = Vec::new(rt.alloc());
+    cells.push(free(0i64, 2, true))?;
+    let mut store = Store::from_cells(cells);
+    write(&mut store, 1, Loc(0), 5);
+    assert!(rt; owns(&store, 1, Loc(0)));
+    assert_eq!(rt; store.read(Loc(0))?, (5, 3));
+    store.restore(1, Loc(0), 0);
+    assert_eq!(rt; judged(rt.alloc(), &store, 0, &[(0, 3)])?, Some((0, 3, 4)));
     Ok(())
 }
 

@@ -1,0 +1,9 @@
+pub mod NumberLemmas
+pub mod Machine
+pub mod RowLemmas
+pub mod ClapSteps
+pub mod ClapWalk
+pub mod ClapTop
+pub mod GrammarLemmas
+pub mod MatchLemmas
+pub mod SpellingLemmas

@@ -1,0 +1,12 @@
+use Rattle.std.proofs.Common.{◌∙◌, ap}
+use Rattle.clap.specs.Words.{found_of, rows_of}
+use Rattle.clap.proofs.WalkLemmas.{raw_values-rows}
+use Rattle.ame_cli.specs.Rows.{texts_in, values_in}
+use Rattle.ame_cli.specs.Settings.{setting}
+use Rattle.ame_cli.proofs.given.setting_of.Goals as goal
+
+pub returns : goal.returns
+returns c =
+    let found = found_of c.args.matches.now in
+    c.setting.ensures ∙ ap (λ t. setting c.args.item (texts_in t)) (c.get_raw.ensures ∙ raw_values-rows found c.name.result.now)
+    ∙ ap (λ n. setting c.args.item (values_in n (rows_of found))) c.name.ensures

@@ -1,0 +1,60 @@
+-- Which lists of words spell which command.
+use Rattle.std.specs.Prelude.{◌≡◌, ℕ, List, [], ◌∷◌, ◌++◌, Some, codes, if◌then◌else◌}
+use Rattle.std.specs.List.{flat_map}
+use Rattle.ame_cli.specs.declared.item.Item.{Item}
+use Rattle.ame_cli.specs.declared.item.Item.TheVariants.{Workers, Turns, Slice}
+use Rattle.ame_cli.specs.declared.verb.Verb.{Verb}
+use Rattle.ame_cli.specs.declared.command.Options.{Options}
+use Rattle.ame_cli.specs.declared.command.Command.{Command}
+use Rattle.ame_cli.specs.declared.command.Command.TheVariants.{Run}
+use Rattle.ame_cli.specs.Items.{Text, name_of, default_of, is_same}
+use Rattle.ame_cli.specs.Verbs.{word_of}
+use Rattle.ame_cli.specs.Settings.{options_of, command_of}
+
+-- what stands behind the first word: an option and its value, as two words or as one with `=` between, or
+-- a number word
+pub data Part : Type 0 where
+  apart : Item → Text → Part
+  joined : Item → Text → Part
+  number : Text → Part
+
+abbrev pub words_of : Part → List Text
+words_of (apart item value) = (codes "--" ++ name_of item) ∷ value ∷ []
+words_of (joined item value) = (codes "--" ++ name_of item ++ codes "=" ++ value) ∷ []
+words_of (number word) = word ∷ []
+
+-- the value that a part gives an option
+abbrev pub given_by : Item → Part → List Text
+given_by item (apart other value) = if is_same item other then value ∷ [] else []
+given_by item (joined other value) = if is_same item other then value ∷ [] else []
+given_by item (number word) = []
+
+abbrev pub number_by : Part → List Text
+number_by (apart item value) = []
+number_by (joined item value) = []
+number_by (number word) = word ∷ []
+
+-- all values that an option is given
+abbrev pub given : List Part → Item → List Text
+given parts item = flat_map (given_by item) parts
+
+-- all number words, in order
+abbrev pub numbers : List Part → List Text
+numbers parts = flat_map number_by parts
+
+-- no option is given
+abbrev pub defaults : Options
+defaults = record { workers = default_of Workers; turns = default_of Turns; slice = default_of Slice }
+
+-- No words are `run` with the defaults. Else a verb stands first, and then parts in any order, each option at most
+-- once, with as many number words as the verb takes, all numbers in their ranges.
+pub data Spells : List Text → Command → Type 0 where
+  none : Spells [] (Run defaults)
+  some : (verb : Verb) (parts : List Part) (options : Options) (command : Command)
+      → options_of (given parts) ≡ Some options
+      → command_of verb (numbers parts) options ≡ Some command
+      → Spells (word_of verb ∷ flat_map words_of parts) command
+
+-- the words spell no command
+abbrev pub SpellsNothing : List Text → Type 0
+SpellsNothing words = (command : Command) → Spells words command → ⊥

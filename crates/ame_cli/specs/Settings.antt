@@ -1,0 +1,33 @@
+-- What values of options and number words come to.
+use Rattle.std.specs.Prelude.{ℕ, List, [], ◌∷◌, Option, Some, None, option_map, option_and_then}
+use Rattle.ame_cli.specs.declared.item.Item.{Item}
+use Rattle.ame_cli.specs.declared.item.Item.TheVariants.{Workers, Turns, Slice}
+use Rattle.ame_cli.specs.declared.verb.Verb.{Verb}
+use Rattle.ame_cli.specs.declared.verb.Verb.TheVariants as verb
+use Rattle.ame_cli.specs.declared.command.Options.{Options}
+use Rattle.ame_cli.specs.declared.command.Command.{Command}
+use Rattle.ame_cli.specs.declared.command.Command.TheVariants.{Run, Bench}
+use Rattle.ame_cli.specs.Numbers.{number_within}
+pub use Rattle.ame_cli.specs.Items.{Text, name_of, most_of, default_of}
+
+-- an option that is given once has that number, and one that isn't given has its default
+abbrev pub setting : Item → List Text → Option ℕ
+setting item [] = Some (default_of item)
+setting item (value ∷ []) = number_within 1 (most_of item) value
+setting item (value ∷ other ∷ rest) = None
+
+-- the numbers of all options, by the values that each is given
+abbrev pub options_of : (Item → List Text) → Option Options
+options_of values =
+    option_and_then (λ workers. option_and_then (λ turns. option_map (λ slice. record { workers = workers; turns = turns; slice = slice })
+    (setting Slice (values Slice))) (setting Turns (values Turns))) (setting Workers (values Workers))
+
+-- `run` has no number words, and `bench` two: the seed and the size
+abbrev pub command_of : Verb → List Text → Options → Option Command
+command_of verb.Run [] options = Some (Run options)
+command_of verb.Run (word ∷ rest) options = None
+command_of verb.Bench [] options = None
+command_of verb.Bench (seed ∷ []) options = None
+command_of verb.Bench (seed ∷ size ∷ []) options =
+    option_and_then (λ s. option_map (λ z. Bench s z options) (number_within 1 4000 size)) (number_within 0 65536 seed)
+command_of verb.Bench (seed ∷ size ∷ word ∷ rest) options = None

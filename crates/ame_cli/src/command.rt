@@ -1,0 +1,55 @@
+//! Commands and their options.
+ghost use Rattle.std.specs.Prelude.{◌≡◌};
+
+use crate::item::Item;
+use std::alloc::AllocError;
+
+/// How a run goes: how many workers take part, how many turns are made at most, and how many reductions a
+/// worker makes between two events at most.
+#[derive(Clone, Copy, Debug, PartialEq, Eq)]
+pub struct Options {
+    pub workers: u32,
+    pub turns: u32,
+    pub slice: u32,
+}
+
+impl Default for Options {
+    ghost use Rattle.ame_cli.specs.Grammar.{defaults};
+
+    fn default() -> Options
+        ensures { result ≡ defaults }
+    {
+        Options {
+            workers: Item::Workers.default(),
+            turns: Item::Turns.default(),
+            slice: Item::Slice.default(),
+        }
+    }
+}
+
+/// What to do.
+#[derive(Clone, Copy, Debug, PartialEq, Eq)]
+pub enum Command {
+    /// Runs the program on the standard input.
+    Run(Options),
+    /// Runs the generated program of this seed and size.
+    Bench(u32, u32, Options),
+}
+
+/// Why words gave no command.
+#[derive(Clone, Copy, Debug, PartialEq, Eq)]
+pub enum CliFail {
+    /// The words spell no command.
+    Usage,
+    NoMemory,
+}
+
+impl From<AllocError> for CliFail {
+    ghost use Rattle.ame_cli.specs.declared.command.CliFail.TheVariants.{NoMemory};
+
+    ghost from_gives = { λ _ e. e ≡ NoMemory };
+
+    fn from(_error: AllocError) -> CliFail {
+        CliFail::NoMemory
+    }
+}

@@ -1,0 +1,18 @@
+//! What a list of words on the command line asks for: a command with its options, or a usage fault.
+#![tactic(auto)]
+
+mod command;
+mod given;
+mod item;
+mod laws;
+mod numbers;
+mod read;
+mod screen;
+mod syntax;
+mod verb;
+
+pub use command::{CliFail, Command, Options};
+pub use item::Item;
+pub use laws::spells_one_command;
+pub use read::read_words;
+pub use verb::Verb;

@@ -1,0 +1,52 @@
+//! What `clap` is told of the commands.
+ghost use Rattle.std.specs.Prelude.{◌≡◌, IfOk, false};
+ghost use Rattle.ame_cli.specs.Syntax as spec;
+ghost use Rattle.clap.specs.Words.{app_of, rule_of};
+ghost use Rattle.clap.specs.declared.builder.Command.TheViews.{out-Command as fields_of};
+
+use crate::item::Item;
+use crate::verb::Verb;
+use clap::{Arg, ArgAction, Command};
+use std::alloc::{AllocError, Global};
+
+/// The name under which the number words of a command are found.
+pub(crate) const NUMBERS: &str = "numbers";
+
+/// An option with one value. How often it is given is tested when the matches are read.
+fn option<'a>(alloc: Global, name: &'a str) -> Arg<'a>
+    ensures rule { rule_of result ≡ spec.option_rule name.entry.now }
+    ensures local { result.global ≡ false }
+{
+    Arg::new(alloc, name).long(name).action(ArgAction::Append)
+}
+
+/// A command with the options and any number words. Which of them it may have is tested when the matches are read.
+fn verb<'a>(alloc: Global, word: &'a str) -> Result<Command<'a>, AllocError>
+    ensures shape { IfOk result (λ c. app_of c ≡ spec.verb_app word.entry.now) }
+    ensures local { IfOk result (λ c. (fields_of c).has_globals ≡ false) }
+{
+    let workers: &'a str = Item::Workers.name();
+    let turns: &'a str = Item::Turns.name();
+    let slice: &'a str = Item::Slice.name();
+    let numbers: &'a str = NUMBERS;
+    Command::new(alloc, word)
+        .arg(option(alloc, workers))?
+        .arg(option(alloc, turns))?
+        .arg(option(alloc, slice))?
+        .arg(Arg::new(alloc, numbers).action(ArgAction::Append))
+}
+
+/// All commands.
+pub(crate) fn syntax<'a>(alloc: Global) -> Result<Command<'a>, AllocError>
+    ensures { IfOk result (λ c. app_of c ≡ spec.syntax) }
+{
+    let run: &'a str = Verb::Run.word();
+    let bench: &'a str = Verb::Bench.word();
+    let name: &'a str = "ame";
+    Command::new(alloc, name)
+        .no_binary_name(true)
+        .disable_help_flag(true)
+        .disable_help_subcommand(true)
+        .subcommand(verb(alloc, run)?)?
+        .subcommand(verb(alloc, bench)?)
+}

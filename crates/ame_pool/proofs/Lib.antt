@@ -6,3 +6,4 @@ mod WakeLemmas
 mod SkipLemmas
 mod HoldLemmas
 mod BeginLemmas
+mod OldestLemmas

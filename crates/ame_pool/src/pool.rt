@@ -1,7 +1,8 @@
 //! The pool.
 
-ghost use Rattle.std.specs.Prelude.{◌≡◌, ◌<◌, Some, None, OnOk, OnErr, option_copied, map};
+ghost use Rattle.std.specs.Prelude.{◌≡◌, ◌<◌, ℕ, Some, None, OnOk, OnErr, IsTrue, option_copied, map};
 ghost use Rattle.std.specs.Borrow.{sem};
+ghost use Rattle.std.specs.List.{list_any};
 
 use crate::begin::{are_parked, busy_among, first_able};
 use crate::member::{Member, Standing};
@@ -38,6 +39,7 @@ impl<M: Drop> Pool<M> {
     ghost use Rattle.ame_pool.specs.Members.{find, is_ready, is_busy};
     ghost use Rattle.ame_pool.specs.Roster.{nobody};
     ghost use Rattle.ame_pool.specs.Begin.{oldest as oldest_of};
+    ghost use Rattle.ame_pool.specs.Keeps.{IsSound};
     ghost use Rattle.ame_pool.specs.Calls.{IsAt, is_running, is_noted, with_room, joined, newcomer, held, home as homed, replaced, removed, noted, parked, woken, machine_of, inside_of};
 
     /// A pool without members. It takes no memory.
@@ -201,6 +203,9 @@ impl<M: Drop> Pool<M> {
     /// The oldest ready member that may begin, or why there is none.
     pub fn oldest(&self) -> Oldest
         ensures oldest { result ≡ oldest_of self.now }
+        ensures ready { (n : ℕ) → result ≡ Oldest.Member n → IsAt is_ready n self.now }
+        ensures waits { result ≡ Oldest.Wait → IsTrue (list_any is_busy self.now.members) }
+        ensures sound { IsSound self.now.members self.now.order }
     {
         if self.members.is_empty() {
             return Oldest::Empty;

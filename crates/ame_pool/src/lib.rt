@@ -6,6 +6,8 @@ mod member;
 mod oldest;
 mod places;
 mod pool;
+#[cfg(test)]
+mod tests;
 mod wake;
 
 pub use member::{Member, Standing, Watch};

@@ -139,10 +139,13 @@ impl<M: Drop> Member<M> {
     pub fn renew(&mut self, machine: M, inside: bool)
         ensures { self.new ≡ renewed machine inside self.old }
     {
-        self.machine = machine;
-        self.inside = inside;
-        self.rollbacks = 0;
-        self.standing = Standing::Ready;
+        *self = Member {
+            number: self.number,
+            machine,
+            inside,
+            rollbacks: 0,
+            standing: Standing::Ready,
+        };
     }
 
     /// Noted as stuck on these locations.

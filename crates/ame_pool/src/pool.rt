@@ -9,6 +9,10 @@ use crate::member::{Member, Standing};
 use crate::oldest::Oldest;
 use crate::places::{found, gap, place_of, put, skip};
 use crate::wake::stir_at;
+
+#[cfg(test)]
+mod probe;
+
 use ame_term::{Loc, Locs, NoMemory};
 use std::alloc::Global;
 use std::marker::Model;

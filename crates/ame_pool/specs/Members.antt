@@ -1,0 +1,50 @@
+-- A member, and a list of members by rising numbers.
+use Rattle.std.specs.Prelude.{◌≡◌, ℕ, ◌<◌, ◌≤◌, ◌==◌, Bool, true, false, cond, List, [], ◌∷◌, length, All, Option, Some, None, ⊤, nat_lt}
+use Rattle.std.specs.List.{HoldsAt, AllWithin}
+use Rattle.ame_pool.specs.declared.member.Member.{Member}
+use Rattle.ame_pool.specs.declared.member.Standing.{Standing}
+
+module _ {M : Type 0} where
+  abbrev pub is_ready : Member M → Bool
+  is_ready m = elim m.standing [ Standing.Ready ↦ true | Standing.Busy _ ↦ false | Standing.Parked _ ↦ false ]
+
+  abbrev pub is_busy : Member M → Bool
+  is_busy m = elim m.standing [ Standing.Ready ↦ false | Standing.Busy _ ↦ true | Standing.Parked _ ↦ false ]
+
+  abbrev pub is_parked : Member M → Bool
+  is_parked m = elim m.standing [ Standing.Ready ↦ false | Standing.Busy _ ↦ false | Standing.Parked _ ↦ true ]
+
+  -- each number is below those after it
+  abbrev pub IsRising : List (Member M) → Type 0
+  IsRising [] = ⊤
+  IsRising (m ∷ ms) = All (λ o. m.number < o.number) ms × IsRising ms
+
+  -- the member with a number
+  abbrev pub find : ℕ → List (Member M) → Option (Member M)
+  find number [] = None
+  find number (m ∷ ms) = cond (m.number == number) (Some m) (find number ms)
+
+  -- the list with the member of a number changed
+  abbrev pub change : ℕ → (Member M → Member M) → List (Member M) → List (Member M)
+  change number f [] = []
+  change number f (m ∷ ms) = cond (m.number == number) (f m ∷ ms) (m ∷ change number f ms)
+
+  -- the list with one member more, by its number
+  abbrev pub placed : Member M → List (Member M) → List (Member M)
+  placed new [] = new ∷ []
+  placed new (m ∷ ms) = cond (nat_lt new.number m.number) (new ∷ m ∷ ms) (m ∷ placed new ms)
+
+  -- the list without the member of a number
+  abbrev pub without : ℕ → List (Member M) → List (Member M)
+  without number [] = []
+  without number (m ∷ ms) = cond (m.number == number) ms (m ∷ without number ms)
+
+  -- the member with the number stands at this place
+  abbrev pub IsPlaceOf : ℕ → List (Member M) → ℕ → Type 0
+  IsPlaceOf number ms i = (i < length ms) × HoldsAt (λ m. m.number ≡ number) ms i
+
+  -- no member has the number, and this is its place
+  pub record IsGapFor (number : ℕ) (ms : List (Member M)) (i : ℕ) : Type 0 where
+    pub within : i ≤ length ms
+    pub before : AllWithin (λ m. m.number < number) ms 0 i
+    pub after : AllWithin (λ m. number < m.number) ms i (length ms)

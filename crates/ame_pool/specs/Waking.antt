@@ -1,0 +1,47 @@
+-- What a write to a location changes.
+use Rattle.std.specs.Prelude.{◌≡◌, ℕ, ◌<◌, ◌==◌, Bool, true, false, cond, List, [], ◌∷◌, ◌++◌, map, filter, Some, None, IsTrue, slice_index_or, slice_set}
+use Rattle.std.specs.List.{list_any}
+use Rattle.ame_pool.specs.declared.member.Member.{Member}
+use Rattle.ame_pool.specs.declared.member.Standing.{Standing}
+use Rattle.ame_pool.specs.declared.member.Watch.{Watch}
+
+-- the watch list has the location
+abbrev pub has : ℕ → List ℕ → Bool
+has l locs = list_any (λ k. k == l) locs
+
+-- a watch that the location touches is touched
+abbrev pub touched_by : ℕ → Watch → Watch
+touched_by l w = cond (has l w.locs) (record w { touched = true }) w
+
+-- what a write to the location makes of a standing
+abbrev pub stirred : ℕ → Standing → Standing
+stirred l Standing.Ready = Standing.Ready
+stirred l (Standing.Busy None) = Standing.Busy None
+stirred l (Standing.Busy (Some w)) = Standing.Busy (Some (touched_by l w))
+stirred l (Standing.Parked locs) = cond (has l locs) Standing.Ready (Standing.Parked locs)
+
+-- a parked member waits for the location
+abbrev pub is_waiting_for : ℕ → Standing → Bool
+is_waiting_for l Standing.Ready = false
+is_waiting_for l (Standing.Busy w) = false
+is_waiting_for l (Standing.Parked locs) = has l locs
+
+module _ {M : Type 0} where
+  abbrev pub stirred_by : ℕ → Member M → Member M
+  stirred_by l m = record m { standing = stirred l m.standing }
+
+  abbrev pub is_woken_by : ℕ → Member M → Bool
+  is_woken_by l m = is_waiting_for l m.standing
+
+  -- the numbers of the members that the location wakes, in order
+  abbrev pub woken_by : ℕ → List (Member M) → List ℕ
+  woken_by l ms = map (λ m. m.number) (filter (is_woken_by l) ms)
+
+  -- where the member at a place is woken, the order has room for it
+  abbrev pub MayStirAt : ℕ → ℕ → List (Member M) → ℕ → ℕ → Type 0
+  MayStirAt l i ms len capacity = (d : Member M) → IsTrue (is_woken_by l (slice_index_or ms i d)) → len < capacity
+
+  -- the member at a place was stirred, and is the youngest ready one if it was woken
+  pub record IsStirredAt (l i : ℕ) (ms ms' : List (Member M)) (order order' : List ℕ) : Type 0 where
+    pub members : (d : Member M) → ms' ≡ slice_set ms i (stirred_by l (slice_index_or ms i d))
+    pub order_is : (d : Member M) → order' ≡ order ++ cond (is_woken_by l (slice_index_or ms i d)) ((slice_index_or ms i d).number ∷ []) []

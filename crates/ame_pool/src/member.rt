@@ -1,0 +1,177 @@
+//! A member of the pool, and what it does alone.
+
+ghost use Rattle.std.specs.Prelude.{◌≡◌, ◌≤◌, ◌==◌};
+ghost use Rattle.std.specs.List.{list_any};
+ghost use Rattle.ame_pool.specs.Waking.{has};
+ghost use Rattle.ame_pool.specs.Standings.{rolled};
+
+use ame_term::{Loc, Locs};
+use std::mem;
+
+/// A fragment that isn't at its end.
+#[derive(Drop)]
+pub struct Member<M> {
+    pub number: u64,
+    /// The machine at rest; of a busy member, the start from which its seat runs.
+    pub machine: M,
+    /// Whether it stands inside `unprotected`.
+    pub inside: bool,
+    /// How often it was rolled back since its last entry, up to 8.
+    pub rollbacks: u8,
+    pub standing: Standing,
+}
+
+/// What a member is doing.
+#[derive(Drop)]
+pub enum Standing {
+    Ready,
+    /// A seat runs it, and it may have been noted as stuck.
+    Busy(Option<Watch>),
+    /// It waits for a write to one of these locations.
+    Parked(Locs),
+}
+
+/// What a busy member that was noted as stuck waits for.
+#[derive(Drop)]
+pub struct Watch {
+    pub locs: Locs,
+    /// Whether one of the locations was written since.
+    pub touched: bool,
+}
+
+/// Rollbacks after a way home.
+fn rolled_on(rolled_back: bool, rollbacks: u8) -> u8
+    requires { rollbacks ≤ 8 }
+    ensures { result ≡ rolled rolled_back rollbacks }
+{
+    if rolled_back && rollbacks < 8 {
+        rollbacks + 1
+    } else {
+        rollbacks
+    }
+}
+
+/// Whether the location is among these.
+fn is_among(locs: &[Loc], l: Loc) -> bool
+    ensures { result ≡ list_any (λ k. k.0 == l.0) locs.now }
+{
+    locs.iter().any(|k| k.0 == l.0)
+}
+
+/// Whether a watch list has the location.
+fn is_listed(locs: &Locs, l: Loc) -> bool
+    ensures { result ≡ has l.0 locs.now }
+{
+    is_among(locs.as_slice(), l)
+}
+
+impl Standing {
+    ghost use Rattle.ame_pool.specs.Standings.{settled, is_touched};
+    ghost use Rattle.ame_pool.specs.Waking.{stirred, is_waiting_for};
+
+    /// A watch that isn't touched parks its member, and a touched one makes it ready; the answer tells whether it did.
+    fn settle(&mut self) -> bool
+        ensures standing { self.new ≡ settled self.old }
+        ensures touched { result ≡ is_touched self.old }
+    {
+        match mem::replace(self, Standing::Ready) {
+            Standing::Busy(Some(Watch { locs, touched })) => {
+                if !touched {
+                    *self = Standing::Parked(locs);
+                }
+                touched
+            }
+            other => {
+                *self = other;
+                false
+            }
+        }
+    }
+
+    /// A write to a location makes a parked member ready that waits for it, and touches the watch of a busy one;
+    /// the answer tells whether it made one ready.
+    fn stir(&mut self, l: Loc) -> bool
+        ensures standing { self.new ≡ stirred l.0 self.old }
+        ensures woken { result ≡ is_waiting_for l.0 self.old }
+    {
+        match self {
+            Standing::Ready => false,
+            Standing::Busy(None) => false,
+            Standing::Busy(Some(watch)) => {
+                if is_listed(&watch.locs, l) {
+                    watch.touched = true;
+                }
+                false
+            }
+            Standing::Parked(locs) => {
+                let waits = is_listed(locs, l);
+                if waits {
+                    *self = Standing::Ready;
+                }
+                waits
+            }
+        }
+    }
+}
+
+impl<M: Drop> Member<M> {
+    ghost use Rattle.ame_pool.specs.Standings.{settled, is_touched};
+    ghost use Rattle.ame_pool.specs.Waking.{stirred_by, is_woken_by};
+    ghost use Rattle.ame_pool.specs.Calls.{begun, at_home, renewed, noted_on, at_rest};
+
+    /// A seat runs it.
+    pub fn begin(&mut self)
+        ensures { self.new ≡ begun self.old }
+    {
+        self.standing = Standing::Busy(None);
+    }
+
+    /// Ready again.
+    pub fn go_home(&mut self, rolled_back: bool)
+        requires { self.old.rollbacks ≤ 8 }
+        ensures { self.new ≡ at_home rolled_back self.old }
+    {
+        self.rollbacks = rolled_on(rolled_back, self.rollbacks);
+        self.standing = Standing::Ready;
+    }
+
+    /// Ready with another machine.
+    pub fn renew(&mut self, machine: M, inside: bool)
+        ensures { self.new ≡ renewed machine inside self.old }
+    {
+        *self = Member {
+            number: self.number,
+            machine,
+            inside,
+            rollbacks: 0,
+            standing: Standing::Ready,
+        };
+    }
+
+    /// Noted as stuck on these locations.
+    pub fn watch(&mut self, locs: Locs)
+        ensures { self.new ≡ noted_on locs self.old }
+    {
+        self.rollbacks = 0;
+        self.standing = Standing::Busy(Some(Watch {
+            locs,
+            touched: false,
+        }));
+    }
+
+    /// Parked, or ready where its watch was touched, which the answer tells.
+    pub fn settle(&mut self) -> bool
+        ensures member { self.new ≡ at_rest self.old }
+        ensures touched { result ≡ is_touched self.old.standing }
+    {
+        self.standing.settle()
+    }
+
+    /// A location was written; the answer tells whether this member was woken.
+    pub fn stir(&mut self, l: Loc) -> bool
+        ensures member { self.new ≡ stirred_by l.0 self.old }
+        ensures woken { result ≡ is_woken_by l.0 self.old }
+    {
+        self.standing.stir(l)
+    }
+}

@@ -1,0 +1,344 @@
+//! Worked rows, and tables of who is ready in which order and who may begin.
+
+use crate::oldest::Oldest;
+use crate::pool::Pool;
+use ame_term::Loc;
+use std::alloc::Global;
+use std::process::Abort;
+use std::test::Fail;
+
+/// A call of a pool whose machines are numbers.
+#[derive(Clone, Copy)]
+enum Step {
+    /// A number, and whether it stands inside.
+    Add(u64, bool),
+    Hold(u64),
+    Home(u64),
+    RollBack(u64),
+    Replace(u64),
+    Remove(u64),
+    /// Noted on one location, or on two.
+    Note(u64, u32),
+    NoteBoth(u64, u32, u32),
+    Park(u64),
+    Wake(u32),
+    /// Nine times held and rolled back.
+    Wear(u64),
+}
+
+fn list(alloc: Global, locs: &[u32]) -> Result<Vec<Loc>, Fail> {
+    let mut watch = Vec::new(alloc);
+    for l in locs {
+        watch.push(Loc(*l))?;
+    }
+    Ok(watch)
+}
+
+fn hold(rt: &impl Abort, pool: &mut Pool<u64>, number: u64) {
+    assert!(rt; pool.is_ready(number));
+    let machine = *pool.hold(number);
+    assert!(rt; machine == number);
+}
+
+fn home(rt: &impl Abort, pool: &mut Pool<u64>, number: u64, rolled_back: bool) {
+    assert!(rt; pool.is_running(number));
+    pool.home(number, rolled_back);
+}
+
+fn note(
+    rt: &impl Abort,
+    alloc: Global,
+    pool: &mut Pool<u64>,
+    number: u64,
+    locs: &[u32],
+) -> Result<(), Fail> {
+    let watch = list(alloc, locs)?;
+    assert!(rt; pool.is_busy(number));
+    let noted = pool.note(number, watch);
+    assert!(rt; noted.is_ok());
+    Ok(())
+}
+
+fn make(rt: &impl Abort, alloc: Global, pool: &mut Pool<u64>, step: &Step) -> Result<(), Fail> {
+    match *step {
+        Step::Add(number, inside) => {
+            assert!(rt; pool.has_room());
+            assert!(rt; pool.lacks(number));
+            pool.add(number, number, inside);
+        }
+        Step::Hold(number) => hold(rt, pool, number),
+        Step::Home(number) => home(rt, pool, number, false),
+        Step::RollBack(number) => home(rt, pool, number, true),
+        Step::Replace(number) => {
+            assert!(rt; pool.is_busy(number));
+            pool.replace(number, number, false);
+        }
+        Step::Remove(number) => {
+            assert!(rt; pool.is_busy(number));
+            let machine = pool.remove(number);
+            assert!(rt; machine == number);
+        }
+        Step::Note(number, l) => note(rt, alloc, pool, number, &[l])?,
+        Step::NoteBoth(number, l, k) => note(rt, alloc, pool, number, &[l, k])?,
+        Step::Park(number) => {
+            assert!(rt; pool.is_noted(number));
+            pool.park(number);
+        }
+        Step::Wake(l) => pool.wake(Loc(l)),
+        Step::Wear(number) => {
+            for _ in 0..9u8 {
+                hold(rt, pool, number);
+                home(rt, pool, number, true);
+            }
+        }
+    }
+    Ok(())
+}
+
+/// Makes these calls on a pool with room for eight members.
+fn run(rt: &impl Abort, alloc: Global, steps: &[Step]) -> Result<Pool<u64>, Fail> {
+    let mut pool = Pool::new(alloc);
+    let room = pool.room(8);
+    assert!(rt; room.is_ok());
+    for next in steps {
+        make(rt, alloc, &mut pool, next)?;
+    }
+    Ok(pool)
+}
+
+fn expect(
+    rt: &impl Abort,
+    alloc: Global,
+    steps: &[Step],
+    order: &[u64],
+    oldest: Oldest,
+) -> Result<(), Fail> {
+    let pool = run(rt, alloc, steps)?;
+    assert!(rt; pool.order() == order);
+    assert!(rt; pool.oldest() == oldest);
+    Ok(())
+}
+
+#[test]
+fn a_write_wakes_who_waits_for_it(rt: HostRuntime) -> Result<(), Fail> {
+    use Step::*;
+    let alloc = rt.alloc();
+    let parked = [
+        Add(1, false),
+        Add(2, false),
+        Add(3, false),
+        Hold(1),
+        Hold(2),
+        Hold(3),
+        NoteBoth(1, 0, 1),
+        Note(2, 1),
+        Note(3, 2),
+        Park(3),
+        Park(2),
+        Park(1),
+    ];
+    expect(&rt, alloc, &parked, &[], Oldest::Parked)?;
+    let mut pool = run(&rt, alloc, &parked)?;
+    pool.wake(Loc(1));
+    assert!(&rt; pool.order() == [1, 2].as_slice());
+    pool.wake(Loc(0));
+    assert!(&rt; pool.order() == [1, 2].as_slice());
+    pool.wake(Loc(2));
+    assert!(&rt; pool.order() == [1, 2, 3].as_slice());
+    hold(&rt, &mut pool, 3);
+    note(&rt, alloc, &mut pool, 3, &[0])?;
+    pool.wake(Loc(0));
+    assert!(&rt; pool.order() == [1, 2].as_slice());
+    assert!(&rt; pool.is_noted(3));
+    pool.park(3);
+    assert!(&rt; pool.order() == [1, 2, 3].as_slice());
+    assert!(&rt; pool.oldest() == Oldest::Member(1));
+    Ok(())
+}
+
+#[test]
+fn ready_members_have_an_order(rt: HostRuntime) -> Result<(), Fail> {
+    use Step::*;
+    let alloc = rt.alloc();
+    expect(&rt, alloc, &[], &[], Oldest::Empty)?;
+    expect(
+        &rt,
+        alloc,
+        &[Add(5, false), Add(3, false), Add(4, true)],
+        &[5, 3, 4],
+        Oldest::Member(5),
+    )?;
+    expect(
+        &rt,
+        alloc,
+        &[Add(1, false), Add(2, false), Hold(1), Home(1)],
+        &[2, 1],
+        Oldest::Member(2),
+    )?;
+    expect(
+        &rt,
+        alloc,
+        &[Add(1, false), Add(2, false), Hold(1), Replace(1)],
+        &[2, 1],
+        Oldest::Member(2),
+    )?;
+    expect(
+        &rt,
+        alloc,
+        &[Add(1, false), Add(2, false), Add(3, false), Hold(2)],
+        &[1, 3],
+        Oldest::Member(1),
+    )?;
+    expect(&rt, alloc, &[Add(1, false), Hold(1)], &[], Oldest::Wait)?;
+    expect(
+        &rt,
+        alloc,
+        &[Add(1, false), Hold(1), Remove(1)],
+        &[],
+        Oldest::Empty,
+    )?;
+    expect(
+        &rt,
+        alloc,
+        &[Add(1, false), Hold(1), Note(1, 4), Park(1)],
+        &[],
+        Oldest::Parked,
+    )?;
+    expect(
+        &rt,
+        alloc,
+        &[
+            Add(1, false),
+            Add(2, false),
+            Hold(1),
+            Note(1, 4),
+            Wake(4),
+            Park(1),
+        ],
+        &[2, 1],
+        Oldest::Member(2),
+    )?;
+    expect(
+        &rt,
+        alloc,
+        &[
+            Add(1, false),
+            Add(2, false),
+            Hold(1),
+            Note(1, 4),
+            Wake(5),
+            Park(1),
+        ],
+        &[2],
+        Oldest::Member(2),
+    )?;
+    expect(
+        &rt,
+        alloc,
+        &[
+            Add(1, false),
+            Add(2, false),
+            Hold(1),
+            Note(1, 4),
+            Park(1),
+            Wake(5),
+            Hold(2),
+        ],
+        &[],
+        Oldest::Wait,
+    )?;
+    expect(
+        &rt,
+        alloc,
+        &[Add(1, false), Hold(1), Note(1, 4), Replace(1)],
+        &[1],
+        Oldest::Member(1),
+    )?;
+    Ok(())
+}
+
+#[test]
+fn a_worn_member_begins_alone(rt: HostRuntime) -> Result<(), Fail> {
+    use Step::*;
+    let alloc = rt.alloc();
+    expect(
+        &rt,
+        alloc,
+        &[Add(1, false), Wear(1), Add(2, false)],
+        &[1, 2],
+        Oldest::Member(1),
+    )?;
+    expect(
+        &rt,
+        alloc,
+        &[Add(1, false), Wear(1), Add(2, false), Hold(1)],
+        &[2],
+        Oldest::Wait,
+    )?;
+    expect(
+        &rt,
+        alloc,
+        &[Add(1, false), Wear(1), Add(2, true), Hold(1)],
+        &[2],
+        Oldest::Member(2),
+    )?;
+    expect(
+        &rt,
+        alloc,
+        &[Add(1, false), Wear(1), Add(2, false), Hold(2)],
+        &[1],
+        Oldest::Wait,
+    )?;
+    expect(
+        &rt,
+        alloc,
+        &[
+            Add(1, false),
+            Wear(1),
+            Add(2, false),
+            Add(3, false),
+            Hold(2),
+        ],
+        &[1, 3],
+        Oldest::Wait,
+    )?;
+    expect(
+        &rt,
+        alloc,
+        &[Add(1, false), Wear(1), Add(2, true), Hold(2)],
+        &[1],
+        Oldest::Member(1),
+    )?;
+    expect(
+        &rt,
+        alloc,
+        &[
+            Add(1, false),
+            Add(2, false),
+            Wear(1),
+            Add(3, false),
+            Hold(3),
+        ],
+        &[2, 1],
+        Oldest::Member(2),
+    )?;
+    expect(
+        &rt,
+        alloc,
+        &[
+            Add(1, false),
+            Wear(1),
+            Hold(1),
+            Replace(1),
+            Add(2, false),
+            Hold(1),
+        ],
+        &[2],
+        Oldest::Member(2),
+    )?;
+    let worn = run(&rt, alloc, &[Add(1, false), Wear(1)])?;
+    assert!(&rt; worn.rollbacks(1) == Some(8));
+    let noted = run(&rt, alloc, &[Add(1, false), Wear(1), Hold(1), Note(1, 0)])?;
+    assert!(&rt; noted.rollbacks(1) == Some(0));
+    Ok(())
+}

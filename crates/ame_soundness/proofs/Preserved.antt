@@ -111,6 +111,10 @@ module _ (devices : ℕ) (cells : Cells) (s : State) (typed : IsTyped devices ce
   preserved _ _ (Rule.frees i kind t idle st) = stepped true kind i t st
   preserved _ _ (Rule.closes i term v idle member stands) = closes i term v member stands
 
+-- the same of a label that is legal
+pub kept : (devices : ℕ) (cells : Cells) (s : State) (label : Label) (t : State) → IsTyped devices cells s → after s label ≡ Some t → IsTypedLater devices cells t
+kept devices cells s label t typed legal = preserved devices cells s typed label t (rule_of s label t legal)
+
 -- a typed state after a list of labels
 pub preserved_along : (devices : ℕ) (labels : List Label) (cells : Cells) (s t : State) → IsTyped devices cells s → run s labels ≡ Some t → IsTypedLater devices cells t
 preserved_along devices [] cells s t typed e = (cells, (λ l cell e. e), subst (IsTyped devices cells) (opened s t e) typed)
@@ -123,6 +127,6 @@ preserved_along devices (label ∷ labels) cells s t typed e = by (after s label
         → ((cells : Cells) (u : State) → IsTyped devices cells u → run u labels ≡ Some t → IsTypedLater devices cells t) → IsTypedLater devices cells t
     by None legal e rest = absurd (cc)
     by (Some u) legal e rest =
-        let p = preserved devices cells s typed label u (rule_of s label u legal) in
+        let p = kept devices cells s label u typed legal in
         let k = rest p.0 u p.2 e in
         (k.0, (λ l cell is. k.1 l cell (p.1 l cell is)), k.2)

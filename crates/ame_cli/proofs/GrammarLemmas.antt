@@ -13,6 +13,7 @@ use Rattle.ame_cli.specs.Numbers.{is_number}
 use Rattle.ame_cli.specs.Screen.{may_stand}
 use Rattle.ame_cli.specs.Grammar.{Part, apart, joined, number, words_of, given, given_by, numbers, number_by}
 use Rattle.ame_cli.proofs.Machine.{Taken, taken, word_taken, long_taken, plain_taken, read, read-nil, read-cons, ended, named}
+use Rattle.ame_cli.proofs.NumberLemmas.{both_true}
 use Rattle.ame_cli.proofs.RowLemmas.{same_text}
 use Rattle.ame_cli.proofs.ClapSteps.{Class, long, plain, dashes}
 use Rattle.ame_cli.proofs.ClapWalk.{Classes}
@@ -166,10 +167,6 @@ digit_differs c digit = go (c == 45) refl
     go : (b : Bool) → (c == 45) ≡ b → b ≡ false
     go true e = absurd (true≢false (sym digit ∙ ap is_ascii_digit (eqb-true c 45 e)))
     go false e = refl
-
-both_true : (a b : Bool) → (a && b) ≡ true → (a ≡ true) × (b ≡ true)
-both_true true b e = (refl, e)
-both_true false b e = absurd (true≢false (sym e))
 
 -- a word that doesn't begin with a hyphen
 no_dashes : (c : ℕ) (rest : Text) → (c == 45) ≡ false → bytes_eq (c ∷ rest) dashes ≡ false

@@ -1,5 +1,5 @@
 -- A list of words spells a command exactly where it is read as that command.
-use Rattle.std.proofs.Common.{◌≡◌, ◌≢◌, ◌⊎◌, inl, inr, ℕ, zero, suc, ◌+◌, ◌*◌, ◌≤◌, Bool, true, false, cond, List, [], ◌∷◌, ◌++◌, Option, Some, None, Result, Ok, Err, length, refl, sym, ap, ap₂, ◌∙◌, subst, codes, append-nil, append_assoc, arith, length-append, true≢false, le-leb}
+use Rattle.std.proofs.Common.{◌≡◌, ◌≢◌, ◌⊎◌, inl, inr, ℕ, zero, suc, ◌+◌, ◌*◌, ◌≤◌, Bool, true, false, cond, List, [], ◌∷◌, ◌++◌, Option, Some, None, Result, Ok, Err, length, refl, sym, ap, ap₂, ◌∙◌, subst, codes, append-nil, append_assoc, arith, length-append, true≢false, le-leb, leb-true}
 use Rattle.std.specs.Prelude.{option_map, option_and_then, ◌&&◌, nat_le}
 use Rattle.std.specs.List.{flat_map, list_all}
 use Rattle.std.specs.Str.{bytes_eq}
@@ -19,7 +19,8 @@ use Rattle.ame_cli.specs.Verbs.{word_of, verb_named}
 use Rattle.ame_cli.specs.Numbers.{is_number, number_within}
 use Rattle.ame_cli.specs.Settings.{setting, options_of, command_of}
 use Rattle.ame_cli.specs.Screen.{may_stand, may_be_read}
-use Rattle.ame_cli.specs.Grammar.{Part, apart, joined, number, words_of, given, given_by, numbers, number_by, defaults, Spells, none, some, SpellsNothing}
+use Rattle.ame_cli.specs.Grammar.{Part, apart, joined, number, words_of, given, given_by, numbers, number_by, defaults, Spells, no_words, verb_first, SpellsNothing}
+use Rattle.ame_cli.specs.Ranges.{AreInRange, IsInRange}
 use Rattle.ame_cli.specs.Syntax.{syntax}
 use Rattle.ame_cli.specs.Rows.{values_in, named_in}
 use Rattle.ame_cli.proofs.Machine.{read}
@@ -64,7 +65,7 @@ came_from f (Some a) b e = (a, refl, e)
 -- ---- what is read is spelled
 
 pub read_is_spelled : (words : List Text) (command : Command) → reading words ≡ Some command → Spells words command
-read_is_spelled [] command e = let same : Run defaults ≡ command = cc e in subst (Spells []) same none
+read_is_spelled [] command e = let same : Run defaults ≡ command = cc e in subst (Spells []) same no_words
 read_is_spelled (first ∷ rest) command e = by_verb (verb_named first) refl e
   where
     by_verb : (v : Option Verb) → verb_named first ≡ v → from_verb v rest ≡ Some command → Spells (first ∷ rest) command
@@ -74,7 +75,7 @@ read_is_spelled (first ∷ rest) command e = by_verb (verb_named first) refl e
         let o = came_from (command_of verb (numbers p.0)) (options_of (given p.0)) command p.2 in
         let words : word_of verb ∷ flat_map words_of p.0 ≡ first ∷ rest =
         ap₂ (λ a l. a ∷ l) (sym (verb_is first verb is)) (sym (read_words_are None rest p.0 p.1)) in
-        subst (λ w. Spells w command) words (some verb p.0 o.0 command o.1 o.2)
+        subst (λ w. Spells w command) words (verb_first verb p.0 o.0 command o.1 o.2)
 
 -- ---- what is spelled is read
 
@@ -86,6 +87,10 @@ AllNumbers (word ∷ rest) = (is_number word ≡ true) × AllNumbers rest
 mapped_from : {A B : Type 0} (f : A → B) (o : Option A) (b : B) → option_map f o ≡ Some b → (a : A) × (o ≡ Some a)
 mapped_from f None b e = cc
 mapped_from f (Some a) b e = (a, refl)
+
+mapped_as : {A B : Type 0} (f : A → B) (o : Option A) (b : B) → option_map f o ≡ Some b → (a : A) × (o ≡ Some a) × (f a ≡ b)
+mapped_as f None b e = cc
+mapped_as f (Some a) b e = (a, refl, cc e)
 
 within_is_number : (least most n : ℕ) (word : Text) → number_within least most word ≡ Some n → is_number word ≡ true
 within_is_number least most n word e = go (is_number word) _ e
@@ -148,8 +153,8 @@ spelled_numbers named parts options command e f =
     parts_numbers parts (λ item. (options_numbers (given parts) options e item).0) (command_numbers named (numbers parts) options command f).0
 
 pub spelled_is_read : (words : List Text) (command : Command) → Spells words command → reading words ≡ Some command
-spelled_is_read words command none = refl
-spelled_is_read words command (some named parts options made e f) =
+spelled_is_read words command no_words = refl
+spelled_is_read words command (verb_first named parts options made e f) =
     ap (λ v. from_verb v (flat_map words_of parts)) (named_verb named)
     ∙ ap (option_and_then (from_parts named)) (parts_are_read parts (spelled_numbers named parts options made e f))
     ∙ ap (option_and_then (command_of named (numbers parts))) e ∙ f
@@ -186,8 +191,8 @@ parts_stand (joined item value ∷ rest) each = all_stand-append (words_of (join
 parts_stand (number word ∷ rest) each = all_stand-append (words_of (number word)) (flat_map words_of rest) (part_stands (number word) (each.0, tt)) (parts_stand rest each.1)
 
 pub spelled_may_be_read : (words : List Text) (command : Command) → Spells words command → may_be_read words ≡ true
-spelled_may_be_read words command none = refl
-spelled_may_be_read words command (some named parts options made e f) =
+spelled_may_be_read words command no_words = refl
+spelled_may_be_read words command (verb_first named parts options made e f) =
     let each = options_numbers (given parts) options e in
     let w = (each Workers).1 in
     let t = (each Turns).1 in
@@ -241,6 +246,52 @@ refused_is_not_read first rest classes fails = by_verb (verb_named first) refl
     by_verb (Some named) is =
         ap (λ v. from_verb v rest) is
         ∙ by_parts named (read None rest) (λ e. fails (ap (λ w. fault_of syntax (w ∷ rest)) (verb_is first named is) ∙ e)) (walks named [] clear rest classes.1)
+
+-- ---- what is spelled is in range
+
+within_range : (least most n : ℕ) (word : Text) → number_within least most word ≡ Some n → (least ≤ n) × (n ≤ most)
+within_range least most n word e = go (is_number word && (nat_le least (digits_value 10 word) && nat_le (digits_value 10 word) most)) refl e
+  where
+    go : (b : Bool) → (is_number word && (nat_le least (digits_value 10 word) && nat_le (digits_value 10 word) most)) ≡ b → cond b (Some (digits_value 10 word)) None ≡ Some n → (least ≤ n) × (n ≤ most)
+    go true t f =
+        let bounds = both_true (nat_le least (digits_value 10 word)) _ (both_true (is_number word) _ t).1 in
+        let same : digits_value 10 word ≡ n = cc f in
+        (subst (λ v. least ≤ v) same (leb-true _ _ bounds.0), subst (λ v. v ≤ most) same (leb-true _ _ bounds.1))
+    go false t f = cc
+
+default_range : (item : Item) (n : ℕ) → default_of item ≡ n → (1 ≤ n) × (n ≤ most_of item)
+default_range Workers n e = (omega arith, omega arith)
+default_range Turns n e = (omega arith, omega arith)
+default_range Slice n e = (omega arith, omega arith)
+
+setting_range : (item : Item) (values : List Text) (n : ℕ) → setting item values ≡ Some n → (1 ≤ n) × (n ≤ most_of item)
+setting_range item [] n e = let same : default_of item ≡ n = cc e in default_range item n same
+setting_range item (value ∷ []) n e = within_range 1 (most_of item) n value e
+setting_range item (value ∷ other ∷ rest) n e = cc
+
+options_range : (values : Item → List Text) (options : Options) → options_of values ≡ Some options → AreInRange options
+options_range values options e =
+    let w = came_from (λ workers. option_and_then (λ turns. option_map (λ slice. options_with workers turns slice) (setting Slice (values Slice))) (setting Turns (values Turns))) (setting Workers (values Workers)) options e in
+    let t = came_from (λ turns. option_map (λ slice. options_with w.0 turns slice) (setting Slice (values Slice))) (setting Turns (values Turns)) options w.2 in
+    let s = mapped_as (λ slice. options_with w.0 t.0 slice) (setting Slice (values Slice)) options t.2 in
+    subst AreInRange s.2 (record { workers = setting_range Workers (values Workers) w.0 w.1; turns = setting_range Turns (values Turns) t.0 t.1; slice = setting_range Slice (values Slice) s.0 s.1 })
+
+command_range : (named : Verb) (words : List Text) (options : Options) (command : Command) → AreInRange options → command_of named words options ≡ Some command → IsInRange command
+command_range verb.Run [] options command is e = let same : Run options ≡ command = cc e in subst IsInRange same is
+command_range verb.Run (word ∷ rest) options command is e = cc
+command_range verb.Bench [] options command is e = cc
+command_range verb.Bench (seed ∷ []) options command is e = cc
+command_range verb.Bench (seed ∷ size ∷ []) options command is e =
+    let s = came_from (λ s. option_map (λ z. Bench s z options) (number_within 1 4000 size)) (number_within 0 65536 seed) command e in
+    let z = mapped_as (λ z. Bench s.0 z options) (number_within 1 4000 size) command s.2 in
+    let most = (within_range 0 65536 s.0 seed s.1).1 in
+    let size_range = within_range 1 4000 z.0 size z.1 in
+    subst IsInRange z.2 (most, size_range, is)
+command_range verb.Bench (seed ∷ size ∷ word ∷ rest) options command is e = cc
+
+pub spelled_in_range : (words : List Text) (command : Command) → Spells words command → IsInRange command
+spelled_in_range words command no_words = record { workers = (omega arith, omega arith); turns = (omega arith, omega arith); slice = (omega arith, omega arith) }
+spelled_in_range words command (verb_first named parts options made e f) = command_range named (numbers parts) options made (options_range (given parts) options e) f
 
 -- ---- what is answered
 

@@ -49,8 +49,8 @@ defaults = record { workers = default_of Workers; turns = default_of Turns; slic
 -- No words are `run` with the defaults. Else a verb stands first, and then parts in any order, each option at most
 -- once, with as many number words as the verb takes, all numbers in their ranges.
 pub data Spells : List Text → Command → Type 0 where
-  none : Spells [] (Run defaults)
-  some : (verb : Verb) (parts : List Part) (options : Options) (command : Command)
+  no_words : Spells [] (Run defaults)
+  verb_first : (verb : Verb) (parts : List Part) (options : Options) (command : Command)
       → options_of (given parts) ≡ Some options
       → command_of verb (numbers parts) options ≡ Some command
       → Spells (word_of verb ∷ flat_map words_of parts) command

@@ -2,6 +2,7 @@ pub mod Items
 pub mod Verbs
 pub mod Numbers
 pub mod Settings
+pub mod Ranges
 pub mod Grammar
 pub mod Screen
 pub mod Syntax

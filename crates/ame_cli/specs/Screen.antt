@@ -3,7 +3,7 @@ use Rattle.std.specs.Prelude.{Bool, true, false, List, [], ◌∷◌, ◌==◌, 
 use Rattle.std.specs.List.{list_all}
 use Rattle.ame_cli.specs.Items.{Text}
 
--- the word is empty, `--`, or a hyphen and no second one
+-- the word isn't empty, isn't `--`, and doesn't begin with one hyphen alone
 abbrev pub may_stand : Text → Bool
 may_stand [] = false
 may_stand (a ∷ []) = not (a == 45)

@@ -9,6 +9,8 @@ mod numbers;
 mod read;
 mod screen;
 mod syntax;
+#[cfg(test)]
+mod tests;
 mod verb;
 
 pub use command::{CliFail, Command, Options};

@@ -1,6 +1,7 @@
 //! Reading a list of words.
 ghost use Rattle.std.specs.Prelude.{◌≡◌, ◌≢◌, ◌⊎◌, [], map, string_bytes, IfOk, IfErr, Ok, Err};
 ghost use Rattle.ame_cli.specs.Grammar.{Spells, SpellsNothing};
+ghost use Rattle.ame_cli.specs.Ranges.{IsInRange};
 ghost use Rattle.ame_cli.specs.declared.command.Command.{Command as Cmd};
 ghost use Rattle.ame_cli.specs.Syntax as spec;
 ghost use Rattle.clap.specs.Words.{fault_of, subcommand_of, subcommand_rows_of};
@@ -17,6 +18,8 @@ use std::alloc::Global;
 pub fn read_words(alloc: Global, words: &[String]) -> Result<Command, CliFail>
     // What is answered is what the words spell.
     ensures ok { IfOk result (Spells (map string_bytes words.now)) }
+
+    ensures ranges { IfOk result IsInRange }
 
     // What they spell is answered, unless memory runs out.
     ensures spelled { (command : Cmd) → Spells (map string_bytes words.now) command → (result ≡ Ok command) ⊎ (result ≡ Err CliFail.NoMemory) }

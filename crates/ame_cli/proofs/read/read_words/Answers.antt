@@ -4,20 +4,20 @@ use Rattle.clap.specs.Words.{fault_of, subcommand_of, subcommand_rows_of}
 use Rattle.ame_cli.specs.Items.{Text}
 use Rattle.ame_cli.specs.Rows.{named_in}
 use Rattle.ame_cli.specs.Screen.{may_be_read}
-use Rattle.ame_cli.specs.Grammar.{Spells, SpellsNothing, none}
+use Rattle.ame_cli.specs.Grammar.{Spells, SpellsNothing, no_words}
 use Rattle.ame_cli.specs.Syntax.{syntax}
 use Rattle.ame_cli.specs.declared.command.CliFail.{CliFail}
 use Rattle.ame_cli.specs.declared.command.CliFail.TheVariants.{Usage}
 use Rattle.ame_cli.specs.declared.command.Command.{Command}
 use Rattle.ame_cli.specs.declared.command.Command.TheVariants.{Run}
 use Rattle.ame_cli.proofs.MatchLemmas.{is_nothing, is_something}
-use Rattle.ame_cli.proofs.SpellingLemmas.{err_spelled, found_nothing, found_spelled, ok_spelled, refused_nothing, screened_nothing}
+use Rattle.ame_cli.proofs.SpellingLemmas.{err_spelled, found_nothing, found_spelled, ok_spelled, refused_nothing, screened_nothing, spelled_in_range}
 use Rattle.ame_cli.proofs.read.read_words.Goals as goal
 
 empty : (c : goal.After-default) → Spells (map string_bytes c.args.words.now) (Run c.default.result)
 empty c =
     let nothing : map string_bytes c.args.words.now ≡ [] = is_nothing string_bytes c.args.words.now (sym c.is_empty.ensures ∙ c.if-is_empty.true) in
-    subst (λ w. Spells w (Run c.default.result)) (sym nothing) (subst (λ o. Spells [] (Run o)) (sym c.default.ensures) none)
+    subst (λ w. Spells w (Run c.default.result)) (sym nothing) (subst (λ o. Spells [] (Run o)) (sym c.default.ensures) no_words)
 
 pub returns-then-is_empty-clause-ok : goal.returns-then-is_empty-clause-ok
 returns-then-is_empty-clause-ok c = empty c
@@ -27,6 +27,9 @@ returns-then-is_empty-clause-spelled c = ok_spelled (map string_bytes c.args.wor
 
 pub returns-then-is_empty-clause-nothing : goal.returns-then-is_empty-clause-nothing
 returns-then-is_empty-clause-nothing c = λ h. absurd (h (Run c.default.result) (empty c))
+
+pub returns-then-is_empty-clause-ranges : goal.returns-then-is_empty-clause-ranges
+returns-then-is_empty-clause-ranges c = spelled_in_range (map string_bytes c.args.words.now) (Run c.default.result) (empty c)
 
 screened : (c : goal.Then-not-may_be_read) → SpellsNothing (map string_bytes c.args.words.now)
 screened c = screened_nothing (map string_bytes c.args.words.now) (sym c.may_be_read.ensures ∙ c.if-not-may_be_read.true)
@@ -67,6 +70,9 @@ returns-in-Some-clause-ok c = found c
 
 pub returns-in-Some-clause-spelled : goal.returns-in-Some-clause-spelled
 returns-in-Some-clause-spelled c = ok_spelled (map string_bytes c.args.words.now) c.in-Some.command (found c)
+
+pub returns-in-Some-clause-ranges : goal.returns-in-Some-clause-ranges
+returns-in-Some-clause-ranges c = spelled_in_range (map string_bytes c.args.words.now) c.in-Some.command (found c)
 
 pub returns-in-Some-clause-nothing : goal.returns-in-Some-clause-nothing
 returns-in-Some-clause-nothing c = λ h. absurd (h c.in-Some.command (found c))

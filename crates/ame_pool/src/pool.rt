@@ -92,13 +92,23 @@ impl<M: Drop> Pool<M> {
         self.room -= 1;
     }
 
+    /// The member with a number.
+    pub(crate) fn member(&self, number: u64) -> Option<&Member<M>>
+        ensures { option_copied result ≡ find number self.now.members }
+    {
+        match place_of(self.members.as_slice(), number) {
+            Ok(place) => Some(&self.members[place]),
+            Err(_) => None,
+        }
+    }
+
     /// The machine of a member.
     pub fn machine(&self, number: u64) -> Option<&M>
         ensures { option_copied result ≡ machine_of number self.now }
     {
-        match place_of(self.members.as_slice(), number) {
-            Ok(place) => Some(&self.members[place].machine),
-            Err(_) => None,
+        match self.member(number) {
+            Some(member) => Some(&member.machine),
+            None => None,
         }
     }
 
@@ -106,9 +116,9 @@ impl<M: Drop> Pool<M> {
     pub fn inside(&self, number: u64) -> Option<bool>
         ensures { result ≡ inside_of number self.now }
     {
-        match place_of(self.members.as_slice(), number) {
-            Ok(place) => Some(self.members[place].inside),
-            Err(_) => None,
+        match self.member(number) {
+            Some(member) => Some(member.inside),
+            None => None,
         }
     }
 

@@ -1,5 +1,10 @@
 //! Worked rows, and tables of who is ready in which order and who may begin.
 
+ghost use Rattle.std.specs.Prelude.{◌≡◌, None, IsTrue};
+ghost use Rattle.ame_pool.specs.Members.{find, is_ready as is_ready_member, is_busy as is_busy_member};
+ghost use Rattle.ame_pool.specs.Calls.{IsAt, is_running as is_running_member, is_noted as is_noted_member};
+
+use crate::member::Standing;
 use crate::oldest::Oldest;
 use crate::pool::Pool;
 use ame_term::Loc;
@@ -26,6 +31,58 @@ enum Step {
     Wear(u64),
 }
 
+fn lacks(pool: &Pool<u64>, number: u64) -> bool
+    ensures { IsTrue result → find number pool.now.members ≡ None }
+{
+    match pool.member(number) {
+        Some(_) => false,
+        None => true,
+    }
+}
+
+fn is_ready(pool: &Pool<u64>, number: u64) -> bool
+    ensures { IsTrue result → IsAt is_ready_member number pool.now }
+{
+    match pool.member(number) {
+        Some(member) => matches!(&member.standing, Standing::Ready),
+        None => false,
+    }
+}
+
+fn is_busy(pool: &Pool<u64>, number: u64) -> bool
+    ensures { IsTrue result → IsAt is_busy_member number pool.now }
+{
+    match pool.member(number) {
+        Some(member) => matches!(&member.standing, Standing::Busy(_)),
+        None => false,
+    }
+}
+
+fn is_running(pool: &Pool<u64>, number: u64) -> bool
+    ensures { IsTrue result → IsAt is_running_member number pool.now }
+{
+    match pool.member(number) {
+        Some(member) => matches!(&member.standing, Standing::Busy(None)),
+        None => false,
+    }
+}
+
+fn is_noted(pool: &Pool<u64>, number: u64) -> bool
+    ensures { IsTrue result → IsAt is_noted_member number pool.now }
+{
+    match pool.member(number) {
+        Some(member) => matches!(&member.standing, Standing::Busy(Some(_))),
+        None => false,
+    }
+}
+
+fn rollbacks(pool: &Pool<u64>, number: u64) -> Option<u8> {
+    match pool.member(number) {
+        Some(member) => Some(member.rollbacks),
+        None => None,
+    }
+}
+
 fn list(alloc: Global, locs: &[u32]) -> Result<Vec<Loc>, Fail> {
     let mut watch = Vec::new(alloc);
     for l in locs {
@@ -35,13 +92,13 @@ fn list(alloc: Global, locs: &[u32]) -> Result<Vec<Loc>, Fail> {
 }
 
 fn hold(rt: &impl Abort, pool: &mut Pool<u64>, number: u64) {
-    assert!(rt; pool.is_ready(number));
+    assert!(rt; is_ready(pool, number));
     let machine = *pool.hold(number);
     assert!(rt; machine == number);
 }
 
 fn home(rt: &impl Abort, pool: &mut Pool<u64>, number: u64, rolled_back: bool) {
-    assert!(rt; pool.is_running(number));
+    assert!(rt; is_running(pool, number));
     pool.home(number, rolled_back);
 }
 
@@ -53,7 +110,7 @@ fn note(
     locs: &[u32],
 ) -> Result<(), Fail> {
     let watch = list(alloc, locs)?;
-    assert!(rt; pool.is_busy(number));
+    assert!(rt; is_busy(pool, number));
     let noted = pool.note(number, watch);
     assert!(rt; noted.is_ok());
     Ok(())
@@ -63,25 +120,25 @@ fn make(rt: &impl Abort, alloc: Global, pool: &mut Pool<u64>, step: &Step) -> Re
     match *step {
         Step::Add(number, inside) => {
             assert!(rt; pool.has_room());
-            assert!(rt; pool.lacks(number));
+            assert!(rt; lacks(pool, number));
             pool.add(number, number, inside);
         }
         Step::Hold(number) => hold(rt, pool, number),
         Step::Home(number) => home(rt, pool, number, false),
         Step::RollBack(number) => home(rt, pool, number, true),
         Step::Replace(number) => {
-            assert!(rt; pool.is_busy(number));
+            assert!(rt; is_busy(pool, number));
             pool.replace(number, number, false);
         }
         Step::Remove(number) => {
-            assert!(rt; pool.is_busy(number));
+            assert!(rt; is_busy(pool, number));
             let machine = pool.remove(number);
             assert!(rt; machine == number);
         }
         Step::Note(number, l) => note(rt, alloc, pool, number, &[l])?,
         Step::NoteBoth(number, l, k) => note(rt, alloc, pool, number, &[l, k])?,
         Step::Park(number) => {
-            assert!(rt; pool.is_noted(number));
+            assert!(rt; is_noted(pool, number));
             pool.park(number);
         }
         Step::Wake(l) => pool.wake(Loc(l)),
@@ -149,7 +206,7 @@ fn a_write_wakes_who_waits_for_it(rt: HostRuntime) -> Result<(), Fail> {
     note(&rt, alloc, &mut pool, 3, &[0])?;
     pool.wake(Loc(0));
     assert!(&rt; pool.order() == [1, 2].as_slice());
-    assert!(&rt; pool.is_noted(3));
+    assert!(&rt; is_noted(&pool, 3));
     pool.park(3);
     assert!(&rt; pool.order() == [1, 2, 3].as_slice());
     assert!(&rt; pool.oldest() == Oldest::Member(1));
@@ -337,8 +394,8 @@ fn a_worn_member_begins_alone(rt: HostRuntime) -> Result<(), Fail> {
         Oldest::Member(2),
     )?;
     let worn = run(&rt, alloc, &[Add(1, false), Wear(1)])?;
-    assert!(&rt; worn.rollbacks(1) == Some(8));
+    assert!(&rt; rollbacks(&worn, 1) == Some(8));
     let noted = run(&rt, alloc, &[Add(1, false), Wear(1), Hold(1), Note(1, 0)])?;
-    assert!(&rt; noted.rollbacks(1) == Some(0));
+    assert!(&rt; rollbacks(&noted, 1) == Some(0));
     Ok(())
 }

@@ -1,8 +1,8 @@
-use Rattle.std.proofs.Common.{refl, subst}
+use Rattle.std.proofs.Common.{◌≡◌, refl, subst}
 use Rattle.ame_pool.specs.Members.{IsGapFor}
 use Rattle.ame_pool.proofs.MembersLemmas.{find_none}
 use Rattle.ame_pool.proofs.KeptLemmas.{IsSpot, spot, found_at}
-use Rattle.ame_pool.proofs.pool.Pool.inside.Goals as goal
+use Rattle.ame_pool.proofs.pool.Pool.member.Goals as goal
 
 pub returns-in-Ok : goal.returns-in-Ok
 returns-in-Ok g c =

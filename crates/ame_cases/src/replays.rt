@@ -59,7 +59,12 @@ fn kind_of(next: Next, fresh: Option<Loc>, answer: Option<i64>) -> Option<StepKi
 }
 
 /// The label of the next step: of the active member, or of one under `unprotected`.
-fn label_of(next: Next, free: Option<u64>, fresh: Option<Loc>, answer: Option<i64>) -> Option<Label> {
+fn label_of(
+    next: Next,
+    free: Option<u64>,
+    fresh: Option<Loc>,
+    answer: Option<i64>,
+) -> Option<Label> {
     match (free, next) {
         (Some(number), Next::Close) if answer.is_none() => Some(Label::Close(number)),
         (Some(number), _) => Some(Label::Free(number, kind_of(next, fresh, answer)?)),
@@ -79,7 +84,11 @@ fn steps(rt: &impl Abort, alloc: Global, state: &mut StrongState, entry: &Entry)
     for n in 1..=entry.steps {
         let is_last = n == entry.steps;
         let next = state.next_of(free);
-        let location = if next == Next::Alloc { fresh.next() } else { None };
+        let location = if next == Next::Alloc {
+            fresh.next()
+        } else {
+            None
+        };
         let answer = if is_last { entry.answer } else { None };
         let label = label_of(next, free, location, answer)?;
         closes = next == Next::Close;
@@ -87,7 +96,11 @@ fn steps(rt: &impl Abort, alloc: Global, state: &mut StrongState, entry: &Entry)
             return None;
         }
     }
-    if fresh.next().is_none() { Some(closes) } else { None }
+    if fresh.next().is_none() {
+        Some(closes)
+    } else {
+        None
+    }
 }
 
 /// A fragment, or a member that stands at `unprotected` already.
@@ -127,13 +140,20 @@ fn free(rt: &impl Abort, alloc: Global, replay: &mut Replay, entry: &Entry) -> b
 /// Whether a fragment comes to a condition that is false.
 fn fails(rt: &impl Abort, alloc: Global, replay: &Replay, entry: &Entry) -> Result<bool, Fail> {
     let mut state = replay.state.copy(alloc)?;
-    Ok(makes(rt, alloc, &mut state, Label::Activate(entry.number))
-        && steps(rt, alloc, &mut state, entry).is_some()
-        && state.next_of(None) == Next::Stuck)
+    Ok(
+        makes(rt, alloc, &mut state, Label::Activate(entry.number))
+            && steps(rt, alloc, &mut state, entry).is_some()
+            && state.next_of(None) == Next::Stuck,
+    )
 }
 
 /// The state after all entries of a journal, where each can be made.
-fn replayed(rt: &impl Abort, alloc: Global, text: &str, journal: &str) -> Result<Option<StrongState>, Fail> {
+fn replayed(
+    rt: &impl Abort,
+    alloc: Global,
+    text: &str,
+    journal: &str,
+) -> Result<Option<StrongState>, Fail> {
     let mut replay = begun(alloc, text.as_bytes())?;
     let journal = Journal::from_text(alloc, journal.as_bytes()).map_err(|_| "a journal")?;
     for entry in journal.entries() {
@@ -157,17 +177,35 @@ struct Row(&'static str, &'static str, &'static [i64], usize);
 
 #[test]
 fn journals_replay(rt: HostRuntime) -> Result<(), Fail> {
-    let waits = "(let r (ref p 0) (do (async (do (blockUntil (= (get r) 1)) (print 10))) (async (set r 1))))";
-    let prints_first = "(let r (ref p 0) (do (async (do (print 5) (blockUntil (= (get r) 1)))) (async (set r 1))))";
-    let outside = "(let n (ref p 0) (let x (ref u 0) (let y (ref u 0) (do (async (set n (+ (get n) 1))) \
+    let waits =
+        "(let r (ref p 0) (do (async (do (blockUntil (= (get r) 1)) (print 10))) (async (set r 1))))";
+    let prints_first =
+        "(let r (ref p 0) (do (async (do (print 5) (blockUntil (= (get r) 1)))) (async (set r 1))))";
+    let outside =
+        "(let n (ref p 0) (let x (ref u 0) (let y (ref u 0) (do (async (set n (+ (get n) 1))) \
         (unprotected (set x 7)) yield (unprotected (set y (+ (get x) 1))) (unprotected (print (get y))) (print (get n))))))";
     let rows = [
         Row("unit", "ran 0 0 0\n", &[], 0),
         Row("(print 7)", "ran 0 0 1\n", &[7], 0),
-        Row("(do (async (print 2)) (print 1))", "ran 0 0 3\nran 0 1 1\n", &[1, 2], 0),
+        Row(
+            "(do (async (print 2)) (print 1))",
+            "ran 0 0 3\nran 0 1 1\n",
+            &[1, 2],
+            0,
+        ),
         Row("(blockUntil false)", "stuck 0 0 0\n", &[], 1),
-        Row(waits, "ran 0 0 5 0\nstuck 0 1 2\nran 0 2 1\nran 0 1 5\n", &[10], 0),
-        Row(prints_first, "ran 0 0 5 0\nstuck 0 1 4\nran 0 2 1\nran 0 1 5\n", &[5], 0),
+        Row(
+            waits,
+            "ran 0 0 5 0\nstuck 0 1 2\nran 0 2 1\nran 0 1 5\n",
+            &[10],
+            0,
+        ),
+        Row(
+            prints_first,
+            "ran 0 0 5 0\nstuck 0 1 4\nran 0 2 1\nran 0 1 5\n",
+            &[5],
+            0,
+        ),
         Row(
             outside,
             "ran 0 0 8 0 1 2\nran 0 1 3\nfree 0 0 1\nfree 0 0 1\nran 0 0 1\nfree 0 0 1\nran 0 0 1\nfree 0 0 1\n\

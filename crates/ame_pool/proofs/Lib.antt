@@ -1,9 +1,12 @@
 mod MembersLemmas
 mod OrderLemmas
 mod KeepsLemmas
+mod ListedLemmas
+mod FindLemmas
 mod KeptLemmas
 mod WakeLemmas
 mod SkipLemmas
 mod HoldLemmas
 mod BeginLemmas
 mod OldestLemmas
+mod IndexLemmas

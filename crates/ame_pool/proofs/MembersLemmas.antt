@@ -76,7 +76,7 @@ module _ {M : Type 0} where
       grind (arith, nat_tests, e, lt, rest)
 
   -- ---- at a gap
-  gap_tail : (m : Member M) (ms : List (Member M)) (n i : ℕ) → IsGapFor n (m ∷ ms) (suc i) → IsGapFor n ms i
+  pub gap_tail : (m : Member M) (ms : List (Member M)) (n i : ℕ) → IsGapFor n (m ∷ ms) (suc i) → IsGapFor n ms i
   gap_tail m ms n i gap = record {
     within = omega (arith, gap.within);
     before = λ k d low high. gap.before (suc k) d (omega arith) (omega arith);

@@ -1,6 +1,8 @@
 -- What is so of each pool.
 use Rattle.std.specs.Prelude.{◌≡◌, ℕ, ◌+◌, ◌≤◌, ◌&&◌, Bool, List, All, count_by, vec_len, vec_capacity}
 use Rattle.std.specs.Global.{Vec}
+use Rattle.std.specs.BTreeSet.{BTreeSet}
+use Rattle.ame_pool.specs.Index.{IsIndexOf}
 use Rattle.ame_pool.specs.declared.member.Member.{Member}
 use Rattle.ame_pool.specs.Members.{IsRising, is_ready}
 
@@ -15,8 +17,10 @@ module _ {M : Type 0} where
     pub ordered : IsOrderOf ms order
     pub rollbacks : All (λ m. m.rollbacks ≤ 8) ms
 
-  -- a sound pool with places for its members and for those that may join
-  pub record IsKept (members : Vec (Member M)) (order : Vec ℕ) (room : ℕ) : Type 0 where
+  -- a sound pool with places for its members and for those that may join, and an index that says what the watch
+  -- lists say
+  pub record IsKept (members : Vec (Member M)) (order : Vec ℕ) (room : ℕ) (index : BTreeSet (ℕ × ℕ)) : Type 0 where
     pub sound : IsSound members.items order.items
     pub members_fit : vec_len members + room ≤ vec_capacity members
     pub order_fits : vec_len members + room ≤ vec_capacity order
+    pub indexed : IsIndexOf members.items index

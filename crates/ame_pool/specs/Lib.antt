@@ -1,6 +1,7 @@
 pub mod Members
 pub mod Standings
 pub mod Waking
+pub mod Index
 pub mod Roster
 pub mod Begin
 pub mod Calls

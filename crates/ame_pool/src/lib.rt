@@ -2,6 +2,7 @@
 #![tactic(auto)]
 
 mod begin;
+mod index;
 mod member;
 mod oldest;
 mod places;

@@ -1,6 +1,6 @@
 //! A member of the pool, and what it does alone.
 
-ghost use Rattle.std.specs.Prelude.{◌≡◌, ◌≤◌, ◌==◌};
+ghost use Rattle.std.specs.Prelude.{◌≡◌, ◌≤◌, ◌==◌, map};
 ghost use Rattle.std.specs.List.{list_any};
 ghost use Rattle.ame_pool.specs.Waking.{has};
 ghost use Rattle.ame_pool.specs.Standings.{rolled};
@@ -52,7 +52,7 @@ fn rolled_on(rolled_back: bool, rollbacks: u8) -> u8
 }
 
 /// Whether the location is among these.
-fn is_among(locs: &[Loc], l: Loc) -> bool
+pub fn is_among(locs: &[Loc], l: Loc) -> bool
     ensures { result ≡ list_any (λ k. k.0 == l.0) locs.now }
 {
     locs.iter().any(|k| k.0 == l.0)
@@ -115,8 +115,27 @@ impl Standing {
 }
 
 impl<M: Drop> Member<M> {
+    /// The locations whose write changes it.
+    pub fn untouched(&self) -> &[Loc]
+        ensures { map (λ l. l.0) result.now ≡ untouched_of self.now.standing }
+    {
+        match &self.standing {
+            Standing::Ready => &[],
+            Standing::Busy(None) => &[],
+            Standing::Busy(Some(watch)) => {
+                if watch.touched {
+                    &[]
+                } else {
+                    watch.locs.as_slice()
+                }
+            }
+            Standing::Parked(locs) => locs.as_slice(),
+        }
+    }
+
     ghost use Rattle.ame_pool.specs.Standings.{settled, is_touched};
     ghost use Rattle.ame_pool.specs.Waking.{stirred_by, is_woken_by};
+    ghost use Rattle.ame_pool.specs.Index.{untouched as untouched_of};
     ghost use Rattle.ame_pool.specs.Calls.{begun, at_home, renewed, noted_on, at_rest};
 
     /// A seat runs it.

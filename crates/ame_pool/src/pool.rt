@@ -5,24 +5,26 @@ ghost use Rattle.std.specs.Borrow.{sem};
 ghost use Rattle.std.specs.List.{list_any};
 
 use crate::begin::{are_parked, busy_among, first_able};
+use crate::index::{first, unwatch, watch};
 use crate::member::{Member, Standing};
 use crate::oldest::Oldest;
 use crate::places::{found, gap, place_of, put, skip};
 use crate::wake::stir_at;
+use ame_term::{Loc, Locs, NoMemory};
+use std::alloc::Global;
+use std::collections::BTreeSet;
+use std::marker::Model;
 
 #[cfg(test)]
 mod probe;
 
-use ame_term::{Loc, Locs, NoMemory};
-use std::alloc::Global;
-use std::marker::Model;
-
-/// Members by their numbers, and the order of those that are ready.
+/// Members by their numbers, the order of those that are ready, and the index of those that watch locations.
 #[derive(Drop)]
 pub struct Pool<M> {
     members: Vec<Member<M>>,
     order: Vec<u64>,
     room: usize,
+    index: BTreeSet<(u32, u64)>,
 }
 
 impl<M> Model for Pool<M> {
@@ -35,7 +37,7 @@ impl<M> Model for Pool<M> {
 
     ghost view = { λ a. record { members = a.members.items; order = a.order.items; room = a.room } };
 
-    ghost invariant = { λ a. IsKept a.members a.order a.room };
+    ghost invariant = { λ a. IsKept a.members a.order a.room a.index };
 }
 
 impl<M: Drop> Pool<M> {
@@ -54,6 +56,7 @@ impl<M: Drop> Pool<M> {
             members: Vec::new(alloc),
             order: Vec::new(alloc),
             room: 0,
+            index: BTreeSet::new(alloc),
         }
     }
 
@@ -161,6 +164,12 @@ impl<M: Drop> Pool<M> {
         ensures { self.new ≡ replaced number machine inside self.old }
     {
         let place = found(self.members.as_slice(), number);
+        unwatch(
+            &mut self.index,
+            number,
+            self.members[place].untouched(),
+            &[],
+        );
         self.members[place].renew(machine, inside);
         self.order.push_reserved(number);
     }
@@ -172,6 +181,12 @@ impl<M: Drop> Pool<M> {
         ensures machine { Some result ≡ machine_of number self.old }
     {
         let place = found(self.members.as_slice(), number);
+        unwatch(
+            &mut self.index,
+            number,
+            self.members[place].untouched(),
+            &[],
+        );
         let Member {
             number: _,
             machine,
@@ -183,13 +198,29 @@ impl<M: Drop> Pool<M> {
     }
 
     /// Notes a busy member as stuck: it watches these locations, and none of them was touched.
-    pub fn note(&mut self, number: u64, watch: Vec<Loc>) -> Result<(), NoMemory>
+    pub fn note(&mut self, number: u64, locs: Vec<Loc>) -> Result<(), NoMemory>
         requires { IsAt is_busy number self.old }
-        ensures ok { OnOk result (self.new ≡ noted number (map (λ l. l.0) watch.items) self.old) }
+        ensures ok { OnOk result (self.new ≡ noted number (map (λ l. l.0) locs.items) self.old) }
         ensures err { OnErr result (self.new ≡ self.old) }
     {
         let place = found(self.members.as_slice(), number);
-        self.members[place].watch(Locs::from_vec(watch));
+        let noted = watch(&mut self.index, number, locs.as_slice());
+        if noted.is_err() {
+            unwatch(
+                &mut self.index,
+                number,
+                locs.as_slice(),
+                self.members[place].untouched(),
+            );
+            return noted;
+        }
+        unwatch(
+            &mut self.index,
+            number,
+            self.members[place].untouched(),
+            locs.as_slice(),
+        );
+        self.members[place].watch(Locs::from_vec(locs));
         Ok(())
     }
 
@@ -209,7 +240,14 @@ impl<M: Drop> Pool<M> {
     pub fn wake(&mut self, l: Loc)
         ensures { self.new ≡ woken l.0 self.old }
     {
-        for place in 0..self.members.len() {
+        while let Some(number) = first(&self.index, l) {
+            let place = found(self.members.as_slice(), number);
+            unwatch(
+                &mut self.index,
+                number,
+                self.members[place].untouched(),
+                &[],
+            );
             stir_at(&mut self.members, &mut self.order, place, l);
         }
     }

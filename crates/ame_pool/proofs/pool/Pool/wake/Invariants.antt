@@ -1,6 +1,8 @@
-use Rattle.std.proofs.Common.{◌≡◌, vec_len}
-use Rattle.ame_pool.proofs.WakeLemmas.{IsStirred}
+use Rattle.ame_pool.proofs.WakeLemmas.{IsWaking, to_stir}
 use Rattle.ame_pool.proofs.pool.Pool.wake.Given as goal
 
-abbrev pub invariant-loop-place : goal.invariant-loop-place
-invariant-loop-place g l = (l.place-end ≡ vec_len l.self-inside.members) × IsStirred l.l.0 l.place l.fn.self l.self-inside.members l.self-inside.order l.self-inside.room
+abbrev pub invariant-loop-number : goal.invariant-loop-number
+invariant-loop-number g l = IsWaking l.l.0 l.fn.self l.self-inside.members l.self-inside.order l.self-inside.room l.self-inside.index
+
+abbrev pub decreases-loop-number : goal.decreases-loop-number
+decreases-loop-number g l = to_stir l.l.0 l.self-inside.members.items

@@ -1,0 +1,60 @@
+//! Who watches which location: the index, a set of pairs of a location and the number of a member that watches it.
+
+ghost use Rattle.std.specs.Prelude.{◌≡◌, ◌≤◌, ◌==◌, ◌&&◌, ◌||◌, ℕ, false, not, IsTrue, IfSome, IfNone, OnOk, OnErr};
+ghost use Rattle.ame_pool.specs.Index.{lists, among, IsBetween};
+
+use crate::member::is_among;
+use ame_term::{Loc, NoMemory};
+use std::collections::BTreeSet;
+
+/// The least number that watches a location.
+pub fn first(index: &BTreeSet<(u32, u64)>, l: Loc) -> Option<u64>
+    ensures some { IfSome result (λ n. IsTrue (lists index.now l.0 n)) }
+    ensures least { IfSome result (λ n. (m : ℕ) → IsTrue (lists index.now l.0 m) → n ≤ m) }
+    ensures none { IfNone result ((m : ℕ) → lists index.now l.0 m ≡ false) }
+{
+    match index.range((l.0, 0)..).next() {
+        Some(&(k, n)) => { if k == l.0 { Some(n) } else { None } }
+        None => None,
+    }
+}
+
+/// One more watcher. A refusal changes nothing.
+fn add(index: &mut BTreeSet<(u32, u64)>, l: Loc, number: u64) -> Result<(), NoMemory>
+    ensures ok { OnOk result ((k n : ℕ) → lists index.new k n ≡ (((l.0 == k) && (number == n)) || lists index.old k n)) }
+    ensures err { OnErr result ((k n : ℕ) → lists index.new k n ≡ lists index.old k n) }
+{
+    match index.insert((l.0, number)) {
+        Ok(_) => Ok(()),
+        Err(_) => Err(NoMemory),
+    }
+}
+
+/// One watcher less.
+fn drop_one(index: &mut BTreeSet<(u32, u64)>, l: Loc, number: u64)
+    ensures { (k n : ℕ) → lists index.new k n ≡ (not ((l.0 == k) && (number == n)) && lists index.old k n) }
+{
+    index.remove(&(l.0, number));
+}
+
+/// The member with this number watches these locations too. Where memory is wanted, some of them may have been added.
+pub fn watch(index: &mut BTreeSet<(u32, u64)>, number: u64, locs: &[Loc]) -> Result<(), NoMemory>
+    ensures ok { OnOk result ((k n : ℕ) → lists index.new k n ≡ (((n == number) && among k locs.now) || lists index.old k n)) }
+    ensures err { OnErr result (IsBetween number locs.now index.old index.new) }
+{
+    for l in locs {
+        add(index, *l, number)?;
+    }
+    Ok(())
+}
+
+/// The member with this number no longer watches these locations, but for those that are kept.
+pub fn unwatch(index: &mut BTreeSet<(u32, u64)>, number: u64, gone: &[Loc], kept: &[Loc])
+    ensures { (k n : ℕ) → lists index.new k n ≡ (not (((n == number) && among k gone.now) && not (among k kept.now)) && lists index.old k n) }
+{
+    for l in gone {
+        if !is_among(kept, *l) {
+            drop_one(index, *l, number);
+        }
+    }
+}

@@ -1,16 +1,15 @@
 -- What one word does to clap's walk over the words behind the first.
-use Rattle.std.proofs.Common.{◌≡◌, ◌≢◌, ℕ, Bool, true, false, cond, List, [], ◌∷◌, ◌++◌, Option, Some, None, refl, sym, ap, ap₂, ◌∙◌, codes, rules}
-use Rattle.std.specs.Prelude.{option_map, option_and_then, ◌||◌, find}
+use Rattle.std.proofs.Common.{◌≡◌, Bool, true, false, cond, List, [], ◌∷◌, Option, Some, None, refl, ap, ◌∙◌, codes}
+use Rattle.std.specs.Prelude.{option_map, ◌||◌}
 use Rattle.std.specs.Str.{bytes_eq}
 use Rattle.clap.specs.Lexer.{long_of, short_of}
-use Rattle.clap.specs.Words.{Row, Rule, Shape, new_rule}
+use Rattle.clap.specs.Words.{Row, Rule, Shape}
 use Rattle.clap.specs.Simple.{new_shape}
-use Rattle.clap.specs.Walk.{Held, Walk, Waiting, Step, idle, option, positional, used, settled, walked, after_step, plain_word, long_or_other, short_or_plain, arg_by_long, arg_by_id, arg_by_index, trailing, long_met, after_flag, subcommand_met, subcommand_or_other, word_met}
+use Rattle.clap.specs.Walk.{Held, Walk, Waiting, Step, idle, option, positional, used, settled, walked, after_step, plain_word, long_or_other, short_or_plain, arg_by_long, trailing, long_met, after_flag, subcommand_met, subcommand_or_other}
 use Rattle.clap.specs.Faults.{turn_fault, settle_fault, flag_word_fault, long_fault, other_fault, step_fault, bundle_fault}
 use Rattle.clap.specs.declared.error.ErrorKind.TheVariants.{InvalidValue, UnknownArgument}
 use Rattle.std.specs.Option.{option_map_or}
 use Rattle.clap.specs.Kinds.{Kinds, or_else}
-use Rattle.clap.specs.declared.builder.ArgAction.TheVariants.{Append}
 use Rattle.clap.specs.declared.builder.ValueParser.TheVariants as vp
 use Rattle.ame_cli.specs.declared.item.Item.{Item}
 use Rattle.ame_cli.specs.declared.item.Item.TheVariants.{Workers, Turns, Slice}

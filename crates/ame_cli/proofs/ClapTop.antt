@@ -1,14 +1,14 @@
 -- clap's walk over all words: the first names a verb, and the others are the verb's.
-use Rattle.std.proofs.Common.{◌≡◌, ◌≢◌, ℕ, Bool, true, false, cond, List, [], ◌∷◌, ◌++◌, Option, Some, None, refl, sym, ap, ap₂, ◌∙◌, subst, codes, append-nil, append_assoc}
-use Rattle.std.specs.Prelude.{option_map, option_and_then, is_some, ◌||◌, ◌==◌, length, find, not}
+use Rattle.std.proofs.Common.{◌≡◌, ◌≢◌, Bool, true, false, cond, List, [], ◌∷◌, ◌++◌, Option, Some, None, refl, sym, ap, ap₂, ◌∙◌, codes, append-nil, append_assoc}
+use Rattle.std.specs.Prelude.{option_map, is_some, ◌||◌, ◌==◌, length}
 use Rattle.std.specs.List.{fold}
 use Rattle.std.specs.Option.{option_map_or}
 use Rattle.std.specs.Str.{bytes_eq}
-use Rattle.clap.specs.Lexer.{long_of, short_of}
+use Rattle.clap.specs.Lexer.{long_of}
 use Rattle.clap.specs.Words.{App, Row, Rule, Shape, subcommand_of}
 use Rattle.clap.specs.Simple.{built, entered, names_of, new_shape}
-use Rattle.clap.specs.Walk.{Held, Walk, Names, Waiting, idle, nothing_held, walk, walk_from, settled, finished, walked, with_default, has_row, trailing, subcommand_met, subcommand_or_other, long_or_other, short_or_plain}
-use Rattle.clap.specs.Faults.{built_fault, check_fault, default_fault, defaults_fault, entered_fault, fault_of, flag_word_fault, given_default_fault, level_fault, other_fault, settle_fault, step_fault, turn_fault, walk_fault, bundle_fault}
+use Rattle.clap.specs.Walk.{Walk, Names, idle, nothing_held, walk, walk_from, settled, finished, walked, with_default, has_row, trailing, subcommand_met, subcommand_or_other, long_or_other, short_or_plain}
+use Rattle.clap.specs.Faults.{check_fault, default_fault, defaults_fault, entered_fault, fault_of, flag_word_fault, given_default_fault, level_fault, other_fault, settle_fault, step_fault, turn_fault, walk_fault, bundle_fault}
 use Rattle.clap.specs.Kinds.{Kinds, or_else}
 use Rattle.clap.specs.declared.error.ErrorKind.{ErrorKind}
 use Rattle.clap.specs.declared.error.ErrorKind.TheVariants.{UnknownArgument, InvalidSubcommand}
@@ -17,7 +17,7 @@ use Rattle.ame_cli.specs.declared.verb.Verb.TheVariants.{Run, Bench}
 use Rattle.ame_cli.specs.Items.{Text}
 use Rattle.ame_cli.specs.Verbs.{word_of, verb_named}
 use Rattle.ame_cli.specs.Syntax.{syntax}
-use Rattle.ame_cli.proofs.RowLemmas.{no_default, same_text}
+use Rattle.ame_cli.proofs.RowLemmas.{no_default}
 use Rattle.ame_cli.proofs.ClapSteps.{Class, long, plain, clear, dashes, built_rules, built_verb, or_else-nil}
 use Rattle.ame_cli.proofs.ClapWalk.{end_of, end_rows, walk_faults}
 

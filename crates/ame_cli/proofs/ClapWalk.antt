@@ -1,11 +1,11 @@
 -- clap's walk over the words behind the first finds the parts that they are, or has a fault.
-use Rattle.std.proofs.Common.{◌≡◌, ◌≢◌, ℕ, Bool, true, false, cond, List, [], ◌∷◌, ◌++◌, Option, Some, None, refl, sym, ap, ap₂, ◌∙◌, subst, codes, append-nil, append_assoc}
-use Rattle.std.specs.Prelude.{option_map, option_and_then, ◌&&◌}
-use Rattle.std.specs.List.{fold, flat_map, list_all}
+use Rattle.std.proofs.Common.{◌≡◌, ◌≢◌, Bool, true, false, cond, List, [], ◌∷◌, ◌++◌, Option, Some, None, refl, sym, ap, ap₂, ◌∙◌, subst, codes, append-nil, append_assoc}
+use Rattle.std.specs.Prelude.{option_map, option_and_then}
+use Rattle.std.specs.List.{fold}
 use Rattle.std.specs.Str.{bytes_eq}
 use Rattle.std.proofs.lemmas.Grind.{flat_map-append}
 use Rattle.clap.specs.Lexer.{long_of, short_of}
-use Rattle.clap.specs.Words.{Row, Rule, Shape}
+use Rattle.clap.specs.Words.{Row}
 use Rattle.clap.specs.Walk.{Walk, used, settled, walked}
 use Rattle.clap.specs.Faults.{turn_fault, settle_fault, walk_fault}
 use Rattle.clap.specs.Kinds.{Kinds, or_else}
@@ -19,7 +19,7 @@ use Rattle.ame_cli.specs.Grammar.{Part, apart, joined, number, given, given_by, 
 use Rattle.ame_cli.specs.Rows.{values_in}
 use Rattle.ame_cli.proofs.Machine.{Taken, taken, word_taken, long_taken, plain_taken, read, read-nil, read-cons, ended, named}
 use Rattle.ame_cli.proofs.RowLemmas.{values_in-with_values}
-use Rattle.ame_cli.proofs.ClapSteps.{Class, long, plain, Mode, clear, valued, numbered, waits, waiting_in, walk_in, rows_in, built_rules, built_option, built_numbers, built_verb, dashes, plain_mode, plain_rows, plain_walked, plain_turn, long_mode, long_rows, long_walked, long_turn, unknown_turn, waiting_fault, settle_fault_in, rows_settled}
+use Rattle.ame_cli.proofs.ClapSteps.{Class, long, plain, Mode, clear, valued, numbered, waits, waiting_in, walk_in, rows_in, built_rules, built_option, built_numbers, built_verb, dashes, plain_rows, plain_walked, plain_turn, long_mode, long_rows, long_walked, long_turn, unknown_turn, waiting_fault, settle_fault_in, rows_settled}
 
 -- ---- values that a use adds
 

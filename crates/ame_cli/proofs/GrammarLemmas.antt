@@ -1,17 +1,17 @@
 -- The words of parts are read as these parts, and what is read has these words.
-use Rattle.std.proofs.Common.{◌≡◌, ◌≢◌, ℕ, zero, suc, ◌+◌, ◌-◌, ◌*◌, ◌≤◌, ◌<◌, Bool, true, false, cond, List, [], ◌∷◌, ◌++◌, Option, Some, None, length, take, drop, refl, sym, ap, ap₂, ◌∙◌, subst, codes, append-nil, append_assoc, arith, length-append, true≢false, eqb-true}
+use Rattle.std.proofs.Common.{◌≡◌, ℕ, suc, ◌+◌, Bool, true, false, cond, List, [], ◌∷◌, ◌++◌, Option, Some, None, length, take, drop, refl, sym, ap, ap₂, ◌∙◌, codes, append-nil, append_assoc, arith, true≢false, eqb-true}
 use Rattle.std.specs.Prelude.{option_map, option_and_then, ◌||◌, ◌&&◌, ◌==◌, not, nat_le}
-use Rattle.std.specs.List.{flat_map, list_all, list_any, prefix_len, before_first, after_first}
+use Rattle.std.specs.List.{flat_map, list_all, prefix_len, before_first, after_first}
 use Rattle.std.specs.Char.{is_ascii_digit}
 use Rattle.std.proofs.lemmas.Grind.{flat_map-append}
 use Rattle.std.specs.Str.{bytes_eq}
 use Rattle.clap.specs.Lexer.{long_of, short_of, strip_byte, name_and_value, has_byte, long_of_rest}
 use Rattle.ame_cli.specs.declared.item.Item.{Item}
 use Rattle.ame_cli.specs.declared.item.Item.TheVariants.{Workers, Turns, Slice}
-use Rattle.ame_cli.specs.Items.{Text, name_of, is_same}
+use Rattle.ame_cli.specs.Items.{Text, name_of}
 use Rattle.ame_cli.specs.Numbers.{is_number}
 use Rattle.ame_cli.specs.Screen.{may_stand}
-use Rattle.ame_cli.specs.Grammar.{Part, apart, joined, number, words_of, given, given_by, numbers, number_by}
+use Rattle.ame_cli.specs.Grammar.{Part, apart, joined, number, words_of}
 use Rattle.ame_cli.proofs.Machine.{Taken, taken, word_taken, long_taken, plain_taken, read, read-nil, read-cons, ended, named}
 use Rattle.ame_cli.proofs.NumberLemmas.{both_true}
 use Rattle.ame_cli.proofs.RowLemmas.{same_text}

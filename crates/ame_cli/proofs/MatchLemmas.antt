@@ -1,7 +1,7 @@
 -- What the getters of clap's matches tell.
-use Rattle.std.proofs.Common.{◌≡◌, ◌≢◌, ◌≤◌, List, [], ◌∷◌, ℕ, Bool, true, false, true≢false, Option, Some, None, map, length, refl, sym, ap, ap₂, ◌∙◌, arith, le-leb, eqb-true}
+use Rattle.std.proofs.Common.{◌≡◌, ◌≢◌, ◌≤◌, List, [], ◌∷◌, true, false, true≢false, Option, Some, None, map, length, refl, sym, ap, ◌∙◌, arith, le-leb, eqb-true}
 use Rattle.std.proofs.lemmas.List.{length-map}
-use Rattle.std.specs.Prelude.{option_map, Box, ◌&&◌, ◌==◌, nat_le}
+use Rattle.std.specs.Prelude.{option_map, Box, ◌&&◌, ◌==◌}
 use Rattle.std.specs.List.{list_all}
 use Rattle.std.specs.Box.{box_value}
 use Rattle.clap.specs.Words.{Row, subcommand_rows_of, subcommand_name_of, subcommand_rows}

@@ -1,5 +1,5 @@
 -- A list of words spells a command exactly where it is read as that command.
-use Rattle.std.proofs.Common.{◌≡◌, ◌≢◌, ◌⊎◌, inl, inr, ℕ, zero, suc, ◌+◌, ◌*◌, ◌≤◌, Bool, true, false, cond, List, [], ◌∷◌, ◌++◌, Option, Some, None, Result, Ok, Err, length, refl, sym, ap, ap₂, ◌∙◌, subst, codes, append-nil, append_assoc, arith, length-append, true≢false, le-leb, leb-true}
+use Rattle.std.proofs.Common.{◌≡◌, ◌≢◌, ◌⊎◌, inl, inr, ℕ, suc, ◌+◌, ◌*◌, ◌≤◌, Bool, true, false, cond, List, [], ◌∷◌, ◌++◌, Option, Some, None, Result, Ok, Err, length, refl, sym, ap, ap₂, ◌∙◌, subst, codes, arith, true≢false, le-leb, leb-true}
 use Rattle.std.specs.Prelude.{option_map, option_and_then, ◌&&◌, nat_le}
 use Rattle.std.specs.List.{flat_map, list_all}
 use Rattle.std.specs.Str.{bytes_eq}
@@ -19,22 +19,22 @@ use Rattle.ame_cli.specs.Verbs.{word_of, verb_named}
 use Rattle.ame_cli.specs.Numbers.{is_number, number_within}
 use Rattle.ame_cli.specs.Settings.{setting, options_of, command_of}
 use Rattle.ame_cli.specs.Screen.{may_stand, may_be_read}
-use Rattle.ame_cli.specs.Grammar.{Part, apart, joined, number, words_of, given, given_by, numbers, number_by, defaults, Spells, no_words, verb_first, SpellsNothing}
+use Rattle.ame_cli.specs.Grammar.{Part, apart, joined, number, words_of, given, numbers, defaults, Spells, no_words, verb_first, SpellsNothing}
 use Rattle.ame_cli.specs.Ranges.{AreInRange, IsInRange}
 use Rattle.ame_cli.specs.Syntax.{syntax}
 use Rattle.ame_cli.specs.Rows.{values_in, named_in}
 use Rattle.ame_cli.proofs.Machine.{read}
 use Rattle.ame_cli.proofs.NumberLemmas.{both_true}
 use Rattle.ame_cli.proofs.RowLemmas.{same_text}
-use Rattle.ame_cli.proofs.ClapSteps.{Class, clear}
-use Rattle.ame_cli.proofs.ClapWalk.{Adds, Classes, Walks, walks, walk_faults, end_rows}
+use Rattle.ame_cli.proofs.ClapSteps.{clear}
+use Rattle.ame_cli.proofs.ClapWalk.{Adds, Classes, Walks, walks, end_rows}
 use Rattle.ame_cli.proofs.ClapTop.{verb_faults, verb_rows, other_faults}
 use Rattle.ame_cli.proofs.GrammarLemmas.{Numbers, parts_are_read, read_words_are, part_stands, classes_of}
 
 -- ---- reading a whole list
 
 abbrev pub from_parts : Verb → List Part → Option Command
-from_parts verb parts = option_and_then (command_of verb (numbers parts)) (options_of (given parts))
+from_parts verb parts = command_of verb (numbers parts) (given parts)
 
 abbrev pub from_verb : Option Verb → List Text → Option Command
 from_verb None rest = None
@@ -72,10 +72,9 @@ read_is_spelled (first ∷ rest) command e = by_verb (verb_named first) refl e
     by_verb None is f = cc
     by_verb (Some verb) is f =
         let p = came_from (from_parts verb) (read None rest) command f in
-        let o = came_from (command_of verb (numbers p.0)) (options_of (given p.0)) command p.2 in
         let words : word_of verb ∷ flat_map words_of p.0 ≡ first ∷ rest =
         ap₂ (λ a l. a ∷ l) (sym (verb_is first verb is)) (sym (read_words_are None rest p.0 p.1)) in
-        subst (λ w. Spells w command) words (verb_first verb p.0 o.0 command o.1 o.2)
+        subst (λ w. Spells w command) words (verb_first verb p.0 command p.2)
 
 -- ---- what is spelled is read
 
@@ -104,16 +103,28 @@ setting_numbers item [] n e = (tt, omega arith)
 setting_numbers item (value ∷ []) n e = ((within_is_number 1 (most_of item) n value e, tt), omega arith)
 setting_numbers item (value ∷ other ∷ rest) n e = cc
 
-command_numbers : (named : Verb) (words : List Text) (options : Options) (command : Command) → command_of named words options ≡ Some command → AllNumbers words × (length words ≤ 2)
-command_numbers verb.Run [] options command e = (tt, omega arith)
-command_numbers verb.Run (word ∷ rest) options command e = cc
-command_numbers verb.Bench [] options command e = cc
-command_numbers verb.Bench (seed ∷ []) options command e = cc
-command_numbers verb.Bench (seed ∷ size ∷ []) options command e =
-    let s = came_from (λ s. option_map (λ z. Bench s z options) (number_within 1 4000 size)) (number_within 0 65536 seed) command e in
-    let z = mapped_from (λ z. Bench s.0 z options) (number_within 1 4000 size) command s.2 in
+-- a command has the options that its values give
+command_options : (named : Verb) (words : List Text) (values : Item → List Text) (command : Command) → command_of named words values ≡ Some command → (options : Options) × (options_of values ≡ Some options)
+command_options verb.Run [] values command e = mapped_from Run (options_of values) command e
+command_options verb.Run (word ∷ rest) values command e = cc
+command_options verb.Bench [] values command e = cc
+command_options verb.Bench (seed ∷ []) values command e = cc
+command_options verb.Bench (seed ∷ size ∷ []) values command e =
+    let s = came_from (λ s. option_and_then (λ z. option_map (λ o. Bench s z o) (options_of values)) (number_within 1 4000 size)) (number_within 0 65536 seed) command e in
+    let z = came_from (λ z. option_map (λ o. Bench s.0 z o) (options_of values)) (number_within 1 4000 size) command s.2 in
+    mapped_from (λ o. Bench s.0 z.0 o) (options_of values) command z.2
+command_options verb.Bench (seed ∷ size ∷ word ∷ rest) values command e = cc
+
+command_numbers : (named : Verb) (words : List Text) (values : Item → List Text) (command : Command) → command_of named words values ≡ Some command → AllNumbers words × (length words ≤ 2)
+command_numbers verb.Run [] values command e = (tt, omega arith)
+command_numbers verb.Run (word ∷ rest) values command e = cc
+command_numbers verb.Bench [] values command e = cc
+command_numbers verb.Bench (seed ∷ []) values command e = cc
+command_numbers verb.Bench (seed ∷ size ∷ []) values command e =
+    let s = came_from (λ s. option_and_then (λ z. option_map (λ o. Bench s z o) (options_of values)) (number_within 1 4000 size)) (number_within 0 65536 seed) command e in
+    let z = came_from (λ z. option_map (λ o. Bench s.0 z o) (options_of values)) (number_within 1 4000 size) command s.2 in
     ((within_is_number 0 65536 s.0 seed s.1, (within_is_number 1 4000 z.0 size z.1, tt)), omega arith)
-command_numbers verb.Bench (seed ∷ size ∷ word ∷ rest) options command e = cc
+command_numbers verb.Bench (seed ∷ size ∷ word ∷ rest) values command e = cc
 
 abbrev options_with : ℕ → ℕ → ℕ → Options
 options_with workers turns slice = record { workers = workers; turns = turns; slice = slice }
@@ -148,16 +159,16 @@ parts_numbers (joined item value ∷ rest) each words =
     (option_first item value (given rest item) (each item), parts_numbers rest (λ other. option_rest (is_same other item) value (given rest other) (each other)) words)
 parts_numbers (number word ∷ rest) each words = (words.0, parts_numbers rest each words.1)
 
-spelled_numbers : (named : Verb) (parts : List Part) (options : Options) (command : Command) → options_of (given parts) ≡ Some options → command_of named (numbers parts) options ≡ Some command → Numbers parts
-spelled_numbers named parts options command e f =
-    parts_numbers parts (λ item. (options_numbers (given parts) options e item).0) (command_numbers named (numbers parts) options command f).0
+spelled_numbers : (named : Verb) (parts : List Part) (command : Command) → command_of named (numbers parts) (given parts) ≡ Some command → Numbers parts
+spelled_numbers named parts command e =
+    let o = command_options named (numbers parts) (given parts) command e in
+    parts_numbers parts (λ item. (options_numbers (given parts) o.0 o.1 item).0) (command_numbers named (numbers parts) (given parts) command e).0
 
 pub spelled_is_read : (words : List Text) (command : Command) → Spells words command → reading words ≡ Some command
 spelled_is_read words command no_words = refl
-spelled_is_read words command (verb_first named parts options made e f) =
+spelled_is_read words command (verb_first named parts made e) =
     ap (λ v. from_verb v (flat_map words_of parts)) (named_verb named)
-    ∙ ap (option_and_then (from_parts named)) (parts_are_read parts (spelled_numbers named parts options made e f))
-    ∙ ap (option_and_then (command_of named (numbers parts))) e ∙ f
+    ∙ ap (option_and_then (from_parts named)) (parts_are_read parts (spelled_numbers named parts made e)) ∙ e
 
 pub spelled_once : (words : List Text) (command other : Command) → Spells words command → Spells words other → command ≡ other
 spelled_once words command other s t = let same : Some command ≡ Some other = sym (spelled_is_read words command s) ∙ spelled_is_read words other t in cc same
@@ -192,14 +203,15 @@ parts_stand (number word ∷ rest) each = all_stand-append (words_of (number wor
 
 pub spelled_may_be_read : (words : List Text) (command : Command) → Spells words command → may_be_read words ≡ true
 spelled_may_be_read words command no_words = refl
-spelled_may_be_read words command (verb_first named parts options made e f) =
-    let each = options_numbers (given parts) options e in
+spelled_may_be_read words command (verb_first named parts made e) =
+    let o = command_options named (numbers parts) (given parts) made e in
+    let each = options_numbers (given parts) o.0 o.1 in
     let w = (each Workers).1 in
     let t = (each Turns).1 in
     let s = (each Slice).1 in
-    let n = (command_numbers named (numbers parts) options made f).1 in
+    let n = (command_numbers named (numbers parts) (given parts) made e).1 in
     let short : suc (length (flat_map words_of parts)) ≤ 16 = omega (arith, parts_len parts, w, t, s, n) in
-    ap₂ (λ a b. a && b) (le-leb _ 16 short) (ap₂ (λ a b. a && b) (verb_stands named) (parts_stand parts (spelled_numbers named parts options made e f)))
+    ap₂ (λ a b. a && b) (le-leb _ 16 short) (ap₂ (λ a b. a && b) (verb_stands named) (parts_stand parts (spelled_numbers named parts made e)))
   where
     verb_stands : (v : Verb) → may_stand (word_of v) ≡ true
     verb_stands verb.Run = refl
@@ -212,10 +224,19 @@ options-same f g same =
     ap₂ (λ w t. option_and_then (λ workers. option_and_then (λ turns. option_map (λ slice. options_with workers turns slice) (setting Slice (f Slice))) (setting Turns t)) (setting Workers w)) (same Workers) (same Turns)
     ∙ ap (λ s. option_and_then (λ workers. option_and_then (λ turns. option_map (λ slice. options_with workers turns slice) (setting Slice s)) (setting Turns (g Turns))) (setting Workers (g Workers))) (same Slice)
 
+command-same : (named : Verb) (words : List Text) (f g : Item → List Text) → ((item : Item) → f item ≡ g item) → command_of named words f ≡ command_of named words g
+command-same verb.Run [] f g same = ap (option_map Run) (options-same f g same)
+command-same verb.Run (word ∷ rest) f g same = refl
+command-same verb.Bench [] f g same = refl
+command-same verb.Bench (seed ∷ []) f g same = refl
+command-same verb.Bench (seed ∷ size ∷ []) f g same =
+    ap (λ o. option_and_then (λ s. option_and_then (λ z. option_map (λ options. Bench s z options) o) (number_within 1 4000 size)) (number_within 0 65536 seed)) (options-same f g same)
+command-same verb.Bench (seed ∷ size ∷ word ∷ rest) f g same = refl
+
 found_in : (named : Verb) (rows : List Row) (parts : List Part) → Adds [] rows parts → named_in (word_of named) rows ≡ from_parts named parts
 found_in named rows parts adds =
-    ap (option_and_then (λ v. option_and_then (λ options. command_of v (values_in (codes "numbers") rows) options) (options_of (λ item. values_in (name_of item) rows)))) (named_verb named)
-    ∙ ap₂ (λ words o. option_and_then (command_of named words) o) adds.1 (options-same (λ item. values_in (name_of item) rows) (given parts) adds.0)
+    ap (option_and_then (λ v. command_of v (values_in (codes "numbers") rows) (λ item. values_in (name_of item) rows))) (named_verb named)
+    ∙ ap (λ words. command_of named words (λ item. values_in (name_of item) rows)) adds.1 ∙ command-same named (numbers parts) (λ item. values_in (name_of item) rows) (given parts) adds.0
 
 pub found_is_read : (first : Text) (rest : List Text) → Classes (first ∷ rest) → fault_of syntax (first ∷ rest) ≡ []
     → option_and_then (λ p. named_in p.0 p.1) (subcommand_of syntax (first ∷ rest)) ≡ reading (first ∷ rest)
@@ -276,22 +297,25 @@ options_range values options e =
     let s = mapped_as (λ slice. options_with w.0 t.0 slice) (setting Slice (values Slice)) options t.2 in
     subst AreInRange s.2 (record { workers = setting_range Workers (values Workers) w.0 w.1; turns = setting_range Turns (values Turns) t.0 t.1; slice = setting_range Slice (values Slice) s.0 s.1 })
 
-command_range : (named : Verb) (words : List Text) (options : Options) (command : Command) → AreInRange options → command_of named words options ≡ Some command → IsInRange command
-command_range verb.Run [] options command is e = let same : Run options ≡ command = cc e in subst IsInRange same is
-command_range verb.Run (word ∷ rest) options command is e = cc
-command_range verb.Bench [] options command is e = cc
-command_range verb.Bench (seed ∷ []) options command is e = cc
-command_range verb.Bench (seed ∷ size ∷ []) options command is e =
-    let s = came_from (λ s. option_map (λ z. Bench s z options) (number_within 1 4000 size)) (number_within 0 65536 seed) command e in
-    let z = mapped_as (λ z. Bench s.0 z options) (number_within 1 4000 size) command s.2 in
+command_range : (named : Verb) (words : List Text) (values : Item → List Text) (command : Command) → command_of named words values ≡ Some command → IsInRange command
+command_range verb.Run [] values command e =
+    let o = mapped_as Run (options_of values) command e in
+    subst IsInRange o.2 (options_range values o.0 o.1)
+command_range verb.Run (word ∷ rest) values command e = cc
+command_range verb.Bench [] values command e = cc
+command_range verb.Bench (seed ∷ []) values command e = cc
+command_range verb.Bench (seed ∷ size ∷ []) values command e =
+    let s = came_from (λ s. option_and_then (λ z. option_map (λ o. Bench s z o) (options_of values)) (number_within 1 4000 size)) (number_within 0 65536 seed) command e in
+    let z = came_from (λ z. option_map (λ o. Bench s.0 z o) (options_of values)) (number_within 1 4000 size) command s.2 in
+    let o = mapped_as (λ o. Bench s.0 z.0 o) (options_of values) command z.2 in
     let most = (within_range 0 65536 s.0 seed s.1).1 in
     let size_range = within_range 1 4000 z.0 size z.1 in
-    subst IsInRange z.2 (most, size_range, is)
-command_range verb.Bench (seed ∷ size ∷ word ∷ rest) options command is e = cc
+    subst IsInRange o.2 (most, size_range, options_range values o.0 o.1)
+command_range verb.Bench (seed ∷ size ∷ word ∷ rest) values command e = cc
 
 pub spelled_in_range : (words : List Text) (command : Command) → Spells words command → IsInRange command
 spelled_in_range words command no_words = record { workers = (omega arith, omega arith); turns = (omega arith, omega arith); slice = (omega arith, omega arith) }
-spelled_in_range words command (verb_first named parts options made e f) = command_range named (numbers parts) options made (options_range (given parts) options e) f
+spelled_in_range words command (verb_first named parts made e) = command_range named (numbers parts) (given parts) made e
 
 -- ---- what is answered
 

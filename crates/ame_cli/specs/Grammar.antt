@@ -1,5 +1,5 @@
 -- Which lists of words spell which command.
-use Rattle.std.specs.Prelude.{◌≡◌, ℕ, List, [], ◌∷◌, ◌++◌, Some, codes, if◌then◌else◌}
+use Rattle.std.specs.Prelude.{◌≡◌, List, [], ◌∷◌, ◌++◌, Some, codes, if◌then◌else◌}
 use Rattle.std.specs.List.{flat_map}
 use Rattle.ame_cli.specs.declared.item.Item.{Item}
 use Rattle.ame_cli.specs.declared.item.Item.TheVariants.{Workers, Turns, Slice}
@@ -9,7 +9,7 @@ use Rattle.ame_cli.specs.declared.command.Command.{Command}
 use Rattle.ame_cli.specs.declared.command.Command.TheVariants.{Run}
 use Rattle.ame_cli.specs.Items.{Text, name_of, default_of, is_same}
 use Rattle.ame_cli.specs.Verbs.{word_of}
-use Rattle.ame_cli.specs.Settings.{options_of, command_of}
+use Rattle.ame_cli.specs.Settings.{command_of}
 
 -- what stands behind the first word: an option and its value, as two words or as one with `=` between, or
 -- a number word
@@ -46,13 +46,12 @@ numbers parts = flat_map number_by parts
 abbrev pub defaults : Options
 defaults = record { workers = default_of Workers; turns = default_of Turns; slice = default_of Slice }
 
--- No words are `run` with the defaults. Else a verb stands first, and then parts in any order, each option at most
--- once, with as many number words as the verb takes, all numbers in their ranges.
+-- No words are `run` with the defaults. Else a verb stands first, and then parts in any order, of which the verb makes a
+-- command: each option at most once, as many number words as the verb takes, all numbers in their ranges.
 pub data Spells : List Text → Command → Type 0 where
   no_words : Spells [] (Run defaults)
-  verb_first : (verb : Verb) (parts : List Part) (options : Options) (command : Command)
-      → options_of (given parts) ≡ Some options
-      → command_of verb (numbers parts) options ≡ Some command
+  verb_first : (verb : Verb) (parts : List Part) (command : Command)
+      → command_of verb (numbers parts) (given parts) ≡ Some command
       → Spells (word_of verb ∷ flat_map words_of parts) command
 
 -- the words spell no command

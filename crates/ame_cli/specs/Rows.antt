@@ -4,7 +4,7 @@ use Rattle.clap.specs.Words.{Row, all_of}
 use Rattle.ame_cli.specs.declared.command.Command.{Command}
 use Rattle.ame_cli.specs.Items.{Text, name_of}
 use Rattle.ame_cli.specs.Verbs.{verb_named}
-use Rattle.ame_cli.specs.Settings.{options_of, command_of}
+use Rattle.ame_cli.specs.Settings.{command_of}
 
 -- no texts, where there are none
 abbrev pub texts_in : Option (List Text) → List Text
@@ -16,5 +16,4 @@ values_in name rows = texts_in (all_of name rows)
 
 -- the command of a verb's name and of what was found for it
 abbrev pub named_in : Text → List Row → Option Command
-named_in name rows = option_and_then (λ verb. option_and_then (λ options. command_of verb (values_in (codes "numbers") rows) options)
-    (options_of (λ item. values_in (name_of item) rows))) (verb_named name)
+named_in name rows = option_and_then (λ verb. command_of verb (values_in (codes "numbers") rows) (λ item. values_in (name_of item) rows)) (verb_named name)

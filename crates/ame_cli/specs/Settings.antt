@@ -22,12 +22,14 @@ options_of values =
     option_and_then (λ workers. option_and_then (λ turns. option_map (λ slice. record { workers = workers; turns = turns; slice = slice })
     (setting Slice (values Slice))) (setting Turns (values Turns))) (setting Workers (values Workers))
 
+-- what a verb makes of the number words and of the values of options: a row for each verb
 -- `run` has no number words, and `bench` two: the seed and the size
-abbrev pub command_of : Verb → List Text → Options → Option Command
-command_of verb.Run [] options = Some (Run options)
-command_of verb.Run (word ∷ rest) options = None
-command_of verb.Bench [] options = None
-command_of verb.Bench (seed ∷ []) options = None
-command_of verb.Bench (seed ∷ size ∷ []) options =
-    option_and_then (λ s. option_map (λ z. Bench s z options) (number_within 1 4000 size)) (number_within 0 65536 seed)
-command_of verb.Bench (seed ∷ size ∷ word ∷ rest) options = None
+abbrev pub command_of : Verb → List Text → (Item → List Text) → Option Command
+command_of verb.Run [] values = option_map Run (options_of values)
+command_of verb.Run (word ∷ rest) values = None
+command_of verb.Bench [] values = None
+command_of verb.Bench (seed ∷ []) values = None
+command_of verb.Bench (seed ∷ size ∷ []) values =
+    option_and_then (λ s. option_and_then (λ z. option_map (λ options. Bench s z options)
+    (options_of values)) (number_within 1 4000 size)) (number_within 0 65536 seed)
+command_of verb.Bench (seed ∷ size ∷ word ∷ rest) values = None

@@ -1,5 +1,5 @@
 //! What the matches of a command say.
-ghost use Rattle.std.specs.Prelude.{◌≡◌, option_map, option_and_then, unwrap_or, map, []};
+ghost use Rattle.std.specs.Prelude.{◌≡◌, option_map, option_and_then, map};
 ghost use Rattle.clap.specs.Words.{rows_of, found_of, subcommand_rows_of};
 ghost use Rattle.ame_cli.specs.Settings as spec;
 ghost use Rattle.ame_cli.specs.Rows.{texts_in, values_in, named_in};
@@ -40,16 +40,17 @@ fn options(matches: &ArgMatches) -> Option<Options>
     })
 }
 
-/// The command that a verb, number words and options make.
-fn command_of(verb: Verb, numbers: Option<&[&str]>, options: Options) -> Option<Command>
-    ensures { result ≡ spec.command_of verb (texts_in (option_map (λ vs. map (λ v. v.now) vs.now) numbers.entry)) options }
+/// The command that a verb makes of number words and of the options that were given.
+fn command_of(verb: Verb, numbers: Option<&[&str]>, matches: &ArgMatches) -> Option<Command>
+    ensures { result ≡ spec.command_of verb (texts_in (option_map (λ vs. map (λ v. v.now) vs.now) numbers.entry))
+        (λ item. values_in (spec.name_of item) (rows_of (found_of matches.now))) }
 {
     match (verb, numbers) {
-        (Verb::Run, None | Some([])) => Some(Command::Run(options)),
+        (Verb::Run, None | Some([])) => Some(Command::Run(options(matches)?)),
         (Verb::Bench, Some([seed, size])) => Some(Command::Bench(
             number_within(seed, 0, 65_536)?,
             number_within(size, 1, 4_000)?,
-            options,
+            options(matches)?,
         )),
         _ => None,
     }
@@ -60,9 +61,5 @@ pub(crate) fn command_in(matches: &ArgMatches) -> Option<Command>
     ensures { result ≡ option_and_then (λ p. named_in p.0 p.1) (subcommand_rows_of matches.now) }
 {
     let (name, matches) = matches.subcommand()?;
-    command_of(
-        Verb::named(name)?,
-        matches.get_raw(NUMBERS),
-        options(matches)?,
-    )
+    command_of(Verb::named(name)?, matches.get_raw(NUMBERS), matches)
 }

@@ -3,7 +3,7 @@ ghost use Rattle.std.specs.Prelude.{◌≡◌, map, string_bytes};
 ghost use Rattle.std.specs.List.{list_all};
 ghost use Rattle.ame_cli.specs.Screen as spec;
 
-/// The most words of a command, and more than any command has.
+/// The most words that are read; no command has as many.
 pub(crate) const WORD_LIMIT: usize = 16;
 
 /// Whether a word is neither empty nor `--` nor a short option.

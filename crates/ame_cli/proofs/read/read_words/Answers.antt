@@ -1,11 +1,8 @@
-use Rattle.std.proofs.Common.{◌≡◌, ◌≢◌, List, [], ◌∷◌, ℕ, Bool, true, false, Option, Some, None, Result, Err, map, string_bytes, refl, sym, ap, ◌∙◌, subst}
+use Rattle.std.proofs.Common.{◌≡◌, [], true, Result, Err, map, string_bytes, sym, ap, ◌∙◌, subst}
 use Rattle.std.specs.Prelude.{option_and_then}
-use Rattle.clap.specs.Words.{fault_of, subcommand_of, subcommand_rows_of}
-use Rattle.ame_cli.specs.Items.{Text}
 use Rattle.ame_cli.specs.Rows.{named_in}
 use Rattle.ame_cli.specs.Screen.{may_be_read}
 use Rattle.ame_cli.specs.Grammar.{Spells, SpellsNothing, no_words}
-use Rattle.ame_cli.specs.Syntax.{syntax}
 use Rattle.ame_cli.specs.declared.command.CliFail.{CliFail}
 use Rattle.ame_cli.specs.declared.command.CliFail.TheVariants.{Usage}
 use Rattle.ame_cli.specs.declared.command.Command.{Command}

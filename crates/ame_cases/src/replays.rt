@@ -8,6 +8,9 @@ use std::alloc::Global;
 use std::process::Abort;
 use std::test::Fail;
 
+/// The most bytes of a text here.
+const LIMIT: usize = 1_048_576;
+
 /// A state, and the members that are inside.
 #[derive(Drop)]
 struct Replay {
@@ -17,7 +20,7 @@ struct Replay {
 
 /// The state in which a text's program begins. The types aren't asked.
 fn begun(alloc: Global, text: &[u8]) -> Result<Replay, Fail> {
-    if text.len() > 1_048_576 {
+    if text.len() > LIMIT {
         return Err("too long".into());
     }
     let tokens = lex(alloc, text)?;
@@ -155,7 +158,11 @@ fn replayed(
     journal: &str,
 ) -> Result<Option<StrongState>, Fail> {
     let mut replay = begun(alloc, text.as_bytes())?;
-    let journal = Journal::from_text(alloc, journal.as_bytes()).map_err(|_| "a journal")?;
+    let lines = journal.as_bytes();
+    if lines.len() > LIMIT {
+        return Err("too long".into());
+    }
+    let journal = Journal::from_text(alloc, lines).map_err(|_| "a journal")?;
     for entry in journal.entries() {
         let is_inside = replay.inside.contains(&entry.number);
         let is_made = match entry.kind {
@@ -175,70 +182,75 @@ fn replayed(
 #[derive(Clone, Copy)]
 struct Row(&'static str, &'static str, &'static [i64], usize);
 
+const WAITS: &str =
+    "(let r (ref p 0) (do (async (do (blockUntil (= (get r) 1)) (print 10))) (async (set r 1))))";
+
+const PRINTS_FIRST: &str =
+    "(let r (ref p 0) (do (async (do (print 5) (blockUntil (= (get r) 1)))) (async (set r 1))))";
+
+const OUTSIDE: &str =
+    "(let n (ref p 0) (let x (ref u 0) (let y (ref u 0) (do (async (set n (+ (get n) 1))) \
+    (unprotected (set x 7)) yield (unprotected (set y (+ (get x) 1))) (unprotected (print (get y))) (print (get n))))))";
+
+const LOOP: &str =
+    "(app (rec p f (n Int) Unit (if (< n 3) (do (print n) (app f (+ n 1))) unit)) 1)";
+
+const CALLS: &str = "(unprotected (do (print (call 0 5)) (print (call 1 6)) (print (call 1 7))))";
+
+const ROWS: [Row; 11] = [
+    Row("unit", "ran 0 0 0\n", &[], 0),
+    Row("(print 7)", "ran 0 0 1\n", &[7], 0),
+    Row(
+        "(do (async (print 2)) (print 1))",
+        "ran 0 0 3\nran 0 1 1\n",
+        &[1, 2],
+        0,
+    ),
+    Row("(blockUntil false)", "stuck 0 0 0\n", &[], 1),
+    Row(
+        WAITS,
+        "ran 0 0 5 0\nstuck 0 1 2\nran 0 2 1\nran 0 1 5\n",
+        &[10],
+        0,
+    ),
+    Row(
+        PRINTS_FIRST,
+        "ran 0 0 5 0\nstuck 0 1 4\nran 0 2 1\nran 0 1 5\n",
+        &[5],
+        0,
+    ),
+    Row(
+        OUTSIDE,
+        "ran 0 0 8 0 1 2\nran 0 1 3\nfree 0 0 1\nfree 0 0 1\nran 0 0 1\nfree 0 0 1\nran 0 0 1\nfree 0 0 1\n\
+        free 0 0 2\nfree 0 0 1\nran 0 0 1\nfree 0 0 1\nfree 0 0 1\nfree 0 0 1\nran 0 0 3\n",
+        &[8, 1],
+        0,
+    ),
+    Row(
+        "(let r (ref p 3) (do (async (print (get r))) (set r (+ (get r) 4))))",
+        "ran 0 0 7 0\nran 0 1 2\n",
+        &[7],
+        0,
+    ),
+    Row(LOOP, "ran 0 0 16\n", &[1, 2], 0),
+    Row(
+        "(app (rec p f (x Unit) Unit (do (async (app f x)) unit)) unit)",
+        "ran 0 0 4\nran 0 1 3\nran 0 2 3\nran 0 3 3\nran 0 4 3\nran 0 5 3\nran 0 6 3\nran 0 7 3\nran 0 8 3\n\
+        ran 0 9 3\nran 0 10 3\nran 0 11 3\nran 0 12 3\nran 0 13 3\nran 0 14 3\n",
+        &[],
+        1,
+    ),
+    Row(
+        CALLS,
+        "ran 0 0 0\nfree 0 0 1 = 1\nfree 0 0 1\nfree 0 0 2 = 6\nfree 0 0 1\n",
+        &[1, 6],
+        1,
+    ),
+];
+
 #[test]
 fn journals_replay(rt: HostRuntime) -> Result<(), Fail> {
-    let waits =
-        "(let r (ref p 0) (do (async (do (blockUntil (= (get r) 1)) (print 10))) (async (set r 1))))";
-    let prints_first =
-        "(let r (ref p 0) (do (async (do (print 5) (blockUntil (= (get r) 1)))) (async (set r 1))))";
-    let outside =
-        "(let n (ref p 0) (let x (ref u 0) (let y (ref u 0) (do (async (set n (+ (get n) 1))) \
-        (unprotected (set x 7)) yield (unprotected (set y (+ (get x) 1))) (unprotected (print (get y))) (print (get n))))))";
-    let rows = [
-        Row("unit", "ran 0 0 0\n", &[], 0),
-        Row("(print 7)", "ran 0 0 1\n", &[7], 0),
-        Row(
-            "(do (async (print 2)) (print 1))",
-            "ran 0 0 3\nran 0 1 1\n",
-            &[1, 2],
-            0,
-        ),
-        Row("(blockUntil false)", "stuck 0 0 0\n", &[], 1),
-        Row(
-            waits,
-            "ran 0 0 5 0\nstuck 0 1 2\nran 0 2 1\nran 0 1 5\n",
-            &[10],
-            0,
-        ),
-        Row(
-            prints_first,
-            "ran 0 0 5 0\nstuck 0 1 4\nran 0 2 1\nran 0 1 5\n",
-            &[5],
-            0,
-        ),
-        Row(
-            outside,
-            "ran 0 0 8 0 1 2\nran 0 1 3\nfree 0 0 1\nfree 0 0 1\nran 0 0 1\nfree 0 0 1\nran 0 0 1\nfree 0 0 1\n\
-            free 0 0 2\nfree 0 0 1\nran 0 0 1\nfree 0 0 1\nfree 0 0 1\nfree 0 0 1\nran 0 0 3\n",
-            &[8, 1],
-            0,
-        ),
-        Row(
-            "(let r (ref p 3) (do (async (print (get r))) (set r (+ (get r) 4))))",
-            "ran 0 0 7 0\nran 0 1 2\n",
-            &[7],
-            0,
-        ),
-        Row(
-            "(app (rec p f (n Int) Unit (if (< n 3) (do (print n) (app f (+ n 1))) unit)) 1)",
-            "ran 0 0 16\n",
-            &[1, 2],
-            0,
-        ),
-        Row(
-            "(app (rec p f (x Unit) Unit (do (async (app f x)) unit)) unit)",
-            "ran 0 0 4\nran 0 1 3\nran 0 2 3\nran 0 3 3\n",
-            &[],
-            1,
-        ),
-        Row(
-            "(unprotected (do (print (call 0 5)) (print (call 1 6)) (print (call 1 7))))",
-            "ran 0 0 0\nfree 0 0 1 = 1\nfree 0 0 1\nfree 0 0 2 = 6\nfree 0 0 1\n",
-            &[1, 6],
-            1,
-        ),
-    ];
-    for Row(text, journal, output, left) in rows {
+    for Row(text, journal, output, left) in ROWS {
         let state = replayed(&rt, rt.alloc(), text, journal)?.ok_or("a run")?;
         assert_eq!(rt; state.output(), output, "{text}");
         assert_eq!(rt; state.pool_len(), left, "{text}");

@@ -1,0 +1,15 @@
+pub mod PrinterLemmas
+pub mod Sizes
+pub mod RowLemmas
+pub mod Canon
+pub mod Numbers
+pub mod Alone
+pub mod Lexing
+pub mod Good
+pub mod Names
+pub mod Growth
+pub mod Parts
+pub mod TypesAgain
+pub mod Again
+pub mod TermsAgain
+pub mod Whole

@@ -1,0 +1,4 @@
+pub mod Layout
+pub mod Tokens
+pub mod Printer
+pub mod Again

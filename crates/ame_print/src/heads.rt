@@ -1,0 +1,74 @@
+//! What stands before the parts of a form: words, operators, names, sorts and effects.
+
+ghost use Rattle.std.specs.Prelude.{◌≡◌, OnOk};
+ghost use Rattle.ame_print.specs.Layout.{opening, word};
+ghost use Rattle.ame_print.specs.Printer.{with_token, spelled};
+ghost use Rattle.ame_print.specs.Tokens.{sort_token, effect_token, op_token, truth_token, name_token, location_token};
+
+use crate::page::Page;
+use ame_term::{Effect, Loc, Name, NoMemory, Op, Sort};
+
+pub fn sort(page: &mut Page, sort: Sort) -> Result<(), NoMemory>
+    ensures { OnOk result (page.new ≡ with_token page.old (sort_token sort)) }
+{
+    match sort {
+        Sort::Protected => page.word(b"p"),
+        Sort::Unprotected => page.word(b"u"),
+    }
+}
+
+pub fn effect(page: &mut Page, effect: Effect) -> Result<(), NoMemory>
+    ensures { OnOk result (page.new ≡ with_token page.old (effect_token effect)) }
+{
+    match effect {
+        Effect::Protected => page.word(b"p"),
+        Effect::Unprotected => page.word(b"u"),
+        Effect::Either => page.word(b"a"),
+    }
+}
+
+/// The parenthesis and the word of a function form, and its effect.
+pub fn begin_function(page: &mut Page, head: &[u8], under: Effect) -> Result<(), NoMemory>
+    ensures { OnOk result (page.new ≡ with_token (with_token (with_token page.old opening) (word head.now)) (effect_token under)) }
+{
+    page.begin(head)?;
+    effect(page, under)
+}
+
+pub fn op(page: &mut Page, op: Op) -> Result<(), NoMemory>
+    ensures { OnOk result (page.new ≡ with_token page.old (op_token op)) }
+{
+    match op {
+        Op::Add => page.symbol(b'+'),
+        Op::Sub => page.symbol(b'-'),
+        Op::Mul => page.symbol(b'*'),
+        Op::Less => page.symbol(b'<'),
+        Op::Same => page.symbol(b'='),
+    }
+}
+
+pub fn truth(page: &mut Page, truth: bool) -> Result<(), NoMemory>
+    ensures { OnOk result (page.new ≡ with_token page.old (truth_token truth)) }
+{
+    if truth {
+        page.word(b"true")
+    } else {
+        page.word(b"false")
+    }
+}
+
+/// A name by its spelling, where it has one.
+pub fn name(page: &mut Page, names: &[Vec<u8>], x: Name) -> Result<(), NoMemory>
+    ensures { OnOk result (page.new ≡ with_token page.old (name_token (spelled names.now) x.0)) }
+{
+    match names.get(x.0 as usize) {
+        Some(name) => page.word(name.as_slice()),
+        None => page.numbered(b'?', x.0),
+    }
+}
+
+pub fn location(page: &mut Page, l: Loc) -> Result<(), NoMemory>
+    ensures { OnOk result (page.new ≡ with_token page.old (location_token l.0)) }
+{
+    page.numbered(b'@', l.0)
+}

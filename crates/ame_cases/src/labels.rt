@@ -1,12 +1,6 @@
 //! Labels where they are not legal.
-ghost use Rattle.std.specs.Prelude.{◌≤◌, length};
-
-use ame_lex::lex;
-use ame_parse::parse;
-use ame_strong::{StepFail, StrongState};
+use crate::runs::{begun, makes};
 use ame_term::{Label, Loc, StepKind};
-use std::alloc::Global;
-use std::process::Abort;
 use std::test::Fail;
 
 const KINDS: [StepKind; 9] = [
@@ -21,34 +15,13 @@ const KINDS: [StepKind; 9] = [
     StepKind::Device(1),
 ];
 
-/// The state in which a text's program begins.
-fn begun(alloc: Global, text: &[u8]) -> Result<StrongState, Fail>
-    requires { length text.now ≤ 1048576 }
-{
-    let tokens = lex(alloc, text)?;
-    let program = parse(alloc, text, &tokens)?;
-    Ok(StrongState::start(alloc, program.term)?)
-}
-
-fn step(rt: &impl Abort, alloc: Global, state: &mut StrongState, label: Label) -> bool {
-    assert!(rt; state.next() < 1000);
-    match state.step(alloc, &label) {
-        Ok(()) => true,
-        Err(StepFail::Illegal) => false,
-        Err(StepFail::NoMemory) => {
-            assert!(rt; false, "memory");
-            false
-        }
-    }
-}
-
 #[test]
 fn at_the_beginning_only_a_member_begins(rt: HostRuntime) -> Result<(), Fail> {
     let alloc = rt.alloc();
     let mut state = begun(alloc, b"(print 1)")?;
     for kind in KINDS {
-        assert!(rt; !step(&rt, alloc, &mut state, Label::Step(kind)));
-        assert!(rt; !step(&rt, alloc, &mut state, Label::Free(0, kind)));
+        assert!(rt; !makes(&rt, alloc, &mut state, Label::Step(kind)));
+        assert!(rt; !makes(&rt, alloc, &mut state, Label::Free(0, kind)));
     }
     for label in [
         Label::Leave,
@@ -56,9 +29,9 @@ fn at_the_beginning_only_a_member_begins(rt: HostRuntime) -> Result<(), Fail> {
         Label::Close(0),
         Label::Activate(1),
     ] {
-        assert!(rt; !step(&rt, alloc, &mut state, label));
+        assert!(rt; !makes(&rt, alloc, &mut state, label));
     }
-    assert!(rt; step(&rt, alloc, &mut state, Label::Activate(0)));
+    assert!(rt; makes(&rt, alloc, &mut state, Label::Activate(0)));
     Ok(())
 }
 
@@ -66,11 +39,11 @@ fn at_the_beginning_only_a_member_begins(rt: HostRuntime) -> Result<(), Fail> {
 fn an_active_member_makes_the_step_of_its_redex(rt: HostRuntime) -> Result<(), Fail> {
     let alloc = rt.alloc();
     let mut state = begun(alloc, b"(print 1)")?;
-    assert!(rt; step(&rt, alloc, &mut state, Label::Activate(0)));
+    assert!(rt; makes(&rt, alloc, &mut state, Label::Activate(0)));
     for kind in KINDS {
-        assert!(rt; !step(&rt, alloc, &mut state, Label::Free(0, kind)));
+        assert!(rt; !makes(&rt, alloc, &mut state, Label::Free(0, kind)));
         if kind != StepKind::Print {
-            assert!(rt; !step(&rt, alloc, &mut state, Label::Step(kind)));
+            assert!(rt; !makes(&rt, alloc, &mut state, Label::Step(kind)));
         }
     }
     for label in [
@@ -79,10 +52,10 @@ fn an_active_member_makes_the_step_of_its_redex(rt: HostRuntime) -> Result<(), F
         Label::Close(0),
         Label::Activate(0),
     ] {
-        assert!(rt; !step(&rt, alloc, &mut state, label));
+        assert!(rt; !makes(&rt, alloc, &mut state, label));
     }
-    assert!(rt; step(&rt, alloc, &mut state, Label::Step(StepKind::Print)));
-    assert!(rt; step(&rt, alloc, &mut state, Label::End));
+    assert!(rt; makes(&rt, alloc, &mut state, Label::Step(StepKind::Print)));
+    assert!(rt; makes(&rt, alloc, &mut state, Label::End));
     assert_eq!(rt; state.output(), [1i64].as_slice());
     assert_eq!(rt; state.pool_len(), 0);
     Ok(())

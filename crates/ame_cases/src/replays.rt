@@ -1,15 +1,11 @@
 //! Journals against the labels that they stand for, on the strong semantics as a program.
+use crate::runs::{LIMIT, begun, kind_of, makes};
 use ame_journal::{Entry, EntryKind, Journal};
-use ame_lex::lex;
-use ame_parse::parse;
-use ame_strong::{Next, StepFail, StrongState};
-use ame_term::{Copied, Label, Loc, StepKind};
+use ame_strong::{Next, StrongState};
+use ame_term::{Copied, Label, Loc};
 use std::alloc::Global;
 use std::process::Abort;
 use std::test::Fail;
-
-/// The most bytes of a text here.
-const LIMIT: usize = 1_048_576;
 
 /// A state, and the members that are inside.
 #[derive(Drop)]
@@ -18,47 +14,12 @@ struct Replay {
     inside: Vec<u64>,
 }
 
-/// The state in which a text's program begins. The types aren't asked.
-fn begun(alloc: Global, text: &[u8]) -> Result<Replay, Fail> {
-    if text.len() > LIMIT {
-        return Err("too long".into());
-    }
-    let tokens = lex(alloc, text)?;
-    let program = parse(alloc, text, &tokens)?;
+/// The beginning of a text's program.
+fn start(alloc: Global, text: &[u8]) -> Result<Replay, Fail> {
     Ok(Replay {
-        state: StrongState::start(alloc, program.term)?,
+        state: begun(alloc, text)?,
         inside: Vec::new(alloc),
     })
-}
-
-/// Whether a label is legal; if so, it is made.
-fn makes(rt: &impl Abort, alloc: Global, state: &mut StrongState, label: Label) -> bool {
-    assert!(rt; state.next() < 1000);
-    match state.step(alloc, &label) {
-        Ok(()) => true,
-        Err(StepFail::Illegal) => false,
-        Err(StepFail::NoMemory) => {
-            assert!(rt; false, "memory");
-            false
-        }
-    }
-}
-
-/// The kind of the step that comes next, with the next of the fresh locations and the device's answer.
-fn kind_of(next: Next, fresh: Option<Loc>, answer: Option<i64>) -> Option<StepKind> {
-    match (next, answer) {
-        (Next::Device(_, _), Some(answer)) => Some(StepKind::Device(answer)),
-        (_, Some(_)) => None,
-        (Next::Local, None) => Some(StepKind::Local),
-        (Next::Alloc, None) => Some(StepKind::Alloc(fresh?)),
-        (Next::Read, None) => Some(StepKind::Read),
-        (Next::Peek, None) => Some(StepKind::Peek),
-        (Next::Write, None) => Some(StepKind::Write),
-        (Next::Spawn, None) => Some(StepKind::Spawn),
-        (Next::Print, None) => Some(StepKind::Print),
-        (Next::Block, None) => Some(StepKind::Block),
-        _ => None,
-    }
 }
 
 /// The label of the next step: of the active member, or of one under `unprotected`.
@@ -157,7 +118,7 @@ fn replayed(
     text: &str,
     journal: &str,
 ) -> Result<Option<StrongState>, Fail> {
-    let mut replay = begun(alloc, text.as_bytes())?;
+    let mut replay = start(alloc, text.as_bytes())?;
     let lines = journal.as_bytes();
     if lines.len() > LIMIT {
         return Err("too long".into());

@@ -1,121 +1,15 @@
--- Who has a number, and whom the index names, after an edit.
-use Rattle.std.proofs.Common.{◌≡◌, ◌<◌, ◌==◌, ◌&&◌, ℕ, zero, suc, Bool, true, false, cond, not, List, [], ◌∷◌, length, set, get_or, Option, Some, None, IsSome, refl, sym, ap, subst, ◌∙◌, arith}
+-- Whom the index names, after an edit.
+use Rattle.std.proofs.Common.{◌≡◌, ◌==◌, ◌&&◌, ℕ, Bool, true, false, cond, not, List, [], map, Option, Some, None, option_map, refl, sym, ap, ◌∙◌, arith}
 use Rattle.std.specs.Prelude.{◌||◌}
-use Rattle.std.specs.List.{insert, remove}
 use Rattle.std.specs.BTreeSet.{BTreeSet}
 use Rattle.std.proofs.lemmas.Bool.Decides.{nat_tests}
 use Rattle.ame_term.specs.declared.types.Loc.{Loc}
 use Rattle.ame_pool.specs.declared.member.Member.{Member}
-use Rattle.ame_pool.specs.declared.member.Standing.{Standing}
-use Rattle.ame_pool.specs.Members.{IsRising, IsGapFor, find}
-use Rattle.ame_pool.specs.Standings.{settled}
+use Rattle.ame_pool.specs.Members.{IsRising, find, change, placed, without}
 use Rattle.ame_pool.specs.Waking.{has}
 use Rattle.ame_pool.specs.Index.{lists, among, untouched, waits_for, IsIndexOf, IsBetween}
-use Rattle.ame_pool.proofs.MembersLemmas.{find_at, find_none, gap_tail}
-
-module _ {M : Type 0} where
-  pub find_set : (ms : List (Member M)) → IsRising ms → (i : ℕ) (new d : Member M) → i < length ms → new.number ≡ (get_or ms i d).number → (n : ℕ)
-      → find n (set ms i new) ≡ cond (new.number == n) (Some new) (find n ms)
-  find_set [] r i new d lt e n = absurd (omega arith)
-  find_set (m ∷ ms) r zero new d lt e n = elim (new.number == n) as (λ b. (new.number == n) ≡ b → cond b (Some new) (find n ms) ≡ cond b (Some new) (cond (m.number == n) (Some m) (find n ms))) [
-    | true ↦ λ t. refl
-    | false ↦ λ t. let f : (m.number == n) ≡ false = rw (sym e) t in rw f refl
-  ] refl
-  find_set (m ∷ ms) r (suc i) new d lt e n =
-      let rest = find_set ms r.1 i new d (omega arith) e n in
-      let low = r.0 i d (omega arith) in
-      grind (arith, nat_tests, rest, low, e)
-
-  pub find_insert : (ms : List (Member M)) (i : ℕ) (new : Member M) → IsGapFor new.number ms i → (n : ℕ)
-      → find n (insert ms i new) ≡ cond (new.number == n) (Some new) (find n ms)
-  find_insert [] zero new gap n = refl
-  find_insert [] (suc i) new gap n = absurd (omega (arith, gap.within))
-  find_insert (m ∷ ms) zero new gap n = refl
-  find_insert (m ∷ ms) (suc i) new gap n =
-      let low = gap.before 0 m (omega arith) (omega arith) in
-      let rest = find_insert ms i new (gap_tail m ms new.number i gap) n in
-      grind (arith, nat_tests, rest, low)
-
-  none_above : (ms : List (Member M)) (n : ℕ) → ((k : ℕ) (d : Member M) → k < length ms → n < (get_or ms k d).number) → find n ms ≡ None
-  none_above [] n up = refl
-  none_above (m ∷ ms) n up =
-      let h = up 0 m (omega arith) in let rest = none_above ms n (λ k d q. up (suc k) d (omega arith)) in grind (arith, nat_tests, h, rest)
-
-  pub find_remove : (ms : List (Member M)) → IsRising ms → (i : ℕ) (d : Member M) → i < length ms → (n : ℕ)
-      → find n (remove ms i) ≡ cond ((get_or ms i d).number == n) None (find n ms)
-  find_remove [] r i d lt n = absurd (omega arith)
-  find_remove (m ∷ ms) r zero d lt n = elim (m.number == n) as (λ b. (m.number == n) ≡ b → find n ms ≡ cond b None (cond b (Some m) (find n ms))) [
-    | true ↦ λ t. let same : m.number ≡ n = grind (arith, nat_tests, t) in none_above ms n (subst (λ q. (k : ℕ) (d : Member M) → k < length ms → q < (get_or ms k d).number) same r.0)
-    | false ↦ λ t. refl
-  ] refl
-  find_remove (m ∷ ms) r (suc i) d lt n =
-      let rest = find_remove ms r.1 i d (omega arith) n in
-      let low = r.0 i d (omega arith) in
-      grind (arith, nat_tests, rest, low)
-
-  -- ---- the index
-  pub indexed_set : (ms : List (Member M)) → IsRising ms → (i : ℕ) (new d : Member M) → i < length ms → new.number ≡ (get_or ms i d).number
-      → (old index : BTreeSet (ℕ × ℕ)) → IsIndexOf ms old
-      → ((k n : ℕ) → lists index k n ≡ cond (new.number == n) (has k (untouched new.standing)) (lists old k n)) → IsIndexOf (set ms i new) index
-  indexed_set ms r i new d lt e old index h step k n =
-      rw (find_set ms r i new d lt e n, step k n)
-      (elim (new.number == n) as (λ b. cond b (has k (untouched new.standing)) (lists old k n) ≡ waits_for k (cond b (Some new) (find n ms))) [
-        | true ↦ refl
-        | false ↦ h k n
-      ])
-
-  -- what the index says of the member at a place
-  pub indexed_at : (ms : List (Member M)) → IsRising ms → (i : ℕ) (d : Member M) → i < length ms → (index : BTreeSet (ℕ × ℕ)) → IsIndexOf ms index
-      → (k : ℕ) → lists index k (get_or ms i d).number ≡ has k (untouched (get_or ms i d).standing)
-  indexed_at ms r i d lt index h k =
-      let same : (q : Member M) → (get_or ms i q).number ≡ (get_or ms i d).number = λ q. go ms i q d lt in
-      h k (get_or ms i d).number ∙ ap (waits_for k) (find_at ms r (get_or ms i d).number i d (lt, same))
-    where
-      go : (ms : List (Member M)) (i : ℕ) (q d : Member M) → i < length ms → (get_or ms i q).number ≡ (get_or ms i d).number
-      go [] i q d lt = absurd (omega arith)
-      go (m ∷ ms) zero q d lt = refl
-      go (m ∷ ms) (suc i) q d lt = go ms i q d (omega arith)
-
-  pub indexed_same : (ms : List (Member M)) → IsRising ms → (i : ℕ) (new d : Member M) → i < length ms → new.number ≡ (get_or ms i d).number
-      → (index : BTreeSet (ℕ × ℕ)) → IsIndexOf ms index → untouched new.standing ≡ untouched (get_or ms i d).standing → IsIndexOf (set ms i new) index
-  indexed_same ms r i new d lt e index h u =
-      indexed_set ms r i new d lt e index index h (λ k n.
-      elim (new.number == n) as (λ b. (new.number == n) ≡ b → lists index k n ≡ cond b (has k (untouched new.standing)) (lists index k n)) [
-        | true ↦ λ t. let same : (get_or ms i d).number ≡ n = grind (arith, nat_tests, t, e) in
-            ap (lists index k) (sym same) ∙ indexed_at ms r i d lt index h k ∙ ap (has k) (sym u)
-        | false ↦ λ t. refl
-      ] refl)
-
-  pub indexed_joined : (ms : List (Member M)) (i : ℕ) (new : Member M) → IsGapFor new.number ms i → (index : BTreeSet (ℕ × ℕ)) → IsIndexOf ms index
-      → untouched new.standing ≡ [] → IsIndexOf (insert ms i new) index
-  indexed_joined ms i new gap index h u k n =
-      rw (find_insert ms i new gap n)
-      (elim (new.number == n) as (λ b. (new.number == n) ≡ b → lists index k n ≡ waits_for k (cond b (Some new) (find n ms))) [
-        | true ↦ λ t. let same : new.number ≡ n = grind (arith, nat_tests, t) in
-            h k n ∙ ap (λ q. waits_for k (find q ms)) (sym same) ∙ ap (waits_for k) (find_none ms new.number i gap) ∙ ap (has k) (sym u)
-        | false ↦ λ t. h k n
-      ] refl)
-
-  pub waits_is_there : (k : ℕ) (o : Option (Member M)) → waits_for k o ≡ true → IsSome o
-  waits_is_there k None e = e
-  waits_is_there k (Some m) e = refl
-
-  -- where the number's locations are no longer listed
-  pub indexed_removed : (ms : List (Member M)) → IsRising ms → (i : ℕ) (d : Member M) → i < length ms → (old index : BTreeSet (ℕ × ℕ)) → IsIndexOf ms old
-      → ((k n : ℕ) → lists index k n ≡ cond ((get_or ms i d).number == n) false (lists old k n)) → IsIndexOf (remove ms i) index
-  indexed_removed ms r i d lt old index h step k n =
-      rw (find_remove ms r i d lt n, step k n)
-      (elim ((get_or ms i d).number == n) as (λ b. cond b false (lists old k n) ≡ waits_for k (cond b None (find n ms))) [
-        | true ↦ refl
-        | false ↦ h k n
-      ])
-
--- ---- standings
-pub settled_untouched : (s : Standing) → untouched (settled s) ≡ untouched s
-settled_untouched Standing.Ready = refl
-settled_untouched (Standing.Busy None) = refl
-settled_untouched (Standing.Busy (Some w)) = elim w.touched as (λ b. untouched (cond b Standing.Ready (Standing.Parked w.locs)) ≡ cond b [] w.locs) [ true ↦ refl | false ↦ refl ]
-settled_untouched (Standing.Parked locs) = refl
+use Rattle.ame_pool.proofs.ChangeLemmas.{find_change, find_placed, find_without}
+use Rattle.ame_pool.proofs.ListedLemmas.{list_any-map}
 
 -- ---- truth values
 cleared_table : (n a l : Bool) → (n ≡ true → l ≡ a) → (not ((n && a) && not false) && l) ≡ cond n false l
@@ -161,3 +55,75 @@ module _ (n : ℕ) (list locs : List Loc) (ix mid ix' : BTreeSet (ℕ × ℕ)) (
       → (k j : ℕ) → lists ix' k j ≡ lists ix k j
   refused_table between then k j =
       then k j ∙ refused_bools (j == n) (among k list) (among k locs) (lists ix k j) (lists mid k j) (same_at k j) (between.had k j) (between.others k j)
+
+-- ---- the index
+module _ {M : Type 0} where
+  waits_cond : (k : ℕ) (b : Bool) (o p : Option (Member M)) → waits_for k (cond b o p) ≡ cond b (waits_for k o) (waits_for k p)
+  waits_cond k b o p = elim b as (λ v. waits_for k (cond v o p) ≡ cond v (waits_for k o) (waits_for k p)) [ true ↦ refl | false ↦ refl ]
+
+  module _ (ms : List (Member M)) (ix : BTreeSet (ℕ × ℕ)) (h : IsIndexOf ms ix) where
+    module _ (n : ℕ) (m : Member M) (found : find n ms ≡ Some m) where
+      -- what the index says of a member
+      pub listed_at : (k : ℕ) → lists ix k n ≡ has k (untouched m.standing)
+      listed_at k = h k n ∙ ap (waits_for k) found
+
+      module _ (locs : List Loc) (told : map (λ (l : Loc). l.0) locs ≡ untouched m.standing) where
+        pub listed_here : (k : ℕ) → lists ix k n ≡ among k locs
+        listed_here k = listed_at k ∙ ap (has k) (sym told) ∙ list_any-map (λ (l : Loc). l.0) (λ j. j == k) locs
+
+      module _ (f : Member M → Member M) (num : (m : Member M) → (f m).number ≡ m.number) where
+        pub indexed_change : (ix' : BTreeSet (ℕ × ℕ)) → ((k j : ℕ) → lists ix' k j ≡ cond (n == j) (has k (untouched (f m).standing)) (lists ix k j))
+            → IsIndexOf (change n f ms) ix'
+        indexed_change ix' step k j =
+            step k j ∙ ap (λ b. cond (n == j) (has k (untouched (f m).standing)) b) (h k j)
+            ∙ sym (ap (waits_for k) (find_change n f num ms j ∙ ap (λ o. cond (n == j) (option_map f o) (find j ms)) found) ∙ waits_cond k (n == j) (Some (f m)) (find j ms))
+
+        -- it watches what it watched
+        pub indexed_same : untouched (f m).standing ≡ untouched m.standing → IsIndexOf (change n f ms) ix
+        indexed_same u =
+            indexed_change ix (λ k j.
+            elim (n == j) as (λ b. (n == j) ≡ b → lists ix k j ≡ cond b (has k (untouched (f m).standing)) (lists ix k j)) [
+              | true ↦ λ t. let to : n ≡ j = grind (arith, nat_tests, t) in ap (lists ix k) (sym to) ∙ listed_at k ∙ ap (has k) (sym u)
+              | false ↦ λ t. refl
+            ] refl)
+
+        module _ (locs : List Loc) (told : map (λ (l : Loc). l.0) locs ≡ untouched m.standing) where
+          -- it watches nothing any more
+          pub indexed_cleared : untouched (f m).standing ≡ [] → (ix' : BTreeSet (ℕ × ℕ))
+              → ((k j : ℕ) → lists ix' k j ≡ (not (((j == n) && among k locs) && not false) && lists ix k j)) → IsIndexOf (change n f ms) ix'
+          indexed_cleared none ix' step =
+              indexed_change ix' (λ k j. cleared n locs ix ix' (listed_here locs told) step k j ∙ ap (λ q. cond (n == j) (has k q) (lists ix k j)) (sym none))
+
+          -- a new list in place of that one
+          pub indexed_noted : (list : List Loc) → untouched (f m).standing ≡ map (λ (l : Loc). l.0) list → (mid ix' : BTreeSet (ℕ × ℕ))
+              → ((k j : ℕ) → lists mid k j ≡ (((j == n) && among k list) || lists ix k j))
+              → ((k j : ℕ) → lists ix' k j ≡ (not (((j == n) && among k locs) && not (among k list)) && lists mid k j))
+              → IsIndexOf (change n f ms) ix'
+          indexed_noted list u mid ix' first then =
+              indexed_change ix' (λ k j.
+              let e : has k (untouched (f m).standing) ≡ among k list = ap (has k) u ∙ list_any-map (λ (l : Loc). l.0) (λ q. q == k) list in
+              noted_table n list locs ix mid ix' (listed_here locs told) first then k j ∙ ap (λ b. cond (n == j) b (lists ix k j)) (sym e))
+
+      module _ (locs : List Loc) (told : map (λ (l : Loc). l.0) locs ≡ untouched m.standing) where
+        -- a list that found no memory
+        pub indexed_refused : (list : List Loc) → (mid ix' : BTreeSet (ℕ × ℕ)) → IsBetween n list ix mid
+            → ((k j : ℕ) → lists ix' k j ≡ (not (((j == n) && among k list) && not (among k locs)) && lists mid k j))
+            → IsIndexOf ms ix'
+        indexed_refused list mid ix' between then k j = refused_table n list locs ix mid ix' (listed_here locs told) between then k j ∙ h k j
+
+        -- it left
+        pub indexed_without : IsRising ms → (ix' : BTreeSet (ℕ × ℕ))
+            → ((k j : ℕ) → lists ix' k j ≡ (not (((j == n) && among k locs) && not false) && lists ix k j)) → IsIndexOf (without n ms) ix'
+        indexed_without r ix' step k j =
+            cleared n locs ix ix' (listed_here locs told) step k j ∙ ap (λ b. cond (n == j) false b) (h k j)
+            ∙ sym (ap (waits_for k) (find_without n ms r j) ∙ waits_cond k (n == j) None (find j ms))
+
+    pub indexed_placed : (new : Member M) → find new.number ms ≡ None → untouched new.standing ≡ [] → IsIndexOf (placed new ms) ix
+    indexed_placed new fresh u k j =
+        let split : waits_for k (find j (placed new ms)) ≡ cond (new.number == j) (has k (untouched new.standing)) (waits_for k (find j ms))
+        = ap (waits_for k) (find_placed new ms fresh j) ∙ waits_cond k (new.number == j) (Some new) (find j ms) in
+        h k j ∙ elim (new.number == j) as (λ b. (new.number == j) ≡ b → waits_for k (find j ms) ≡ cond b (has k (untouched new.standing)) (waits_for k (find j ms))) [
+          | true ↦ λ t. let to : new.number ≡ j = grind (arith, nat_tests, t) in
+              ap (λ q. waits_for k (find q ms)) (sym to) ∙ ap (waits_for k) fresh ∙ ap (has k) (sym u)
+          | false ↦ λ t. refl
+        ] refl ∙ sym split

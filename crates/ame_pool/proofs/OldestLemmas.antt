@@ -4,26 +4,22 @@ use mathlib.Core.Bool.{false≢true}
 use Rattle.std.specs.Prelude.{◌||◌}
 use Rattle.std.specs.List.{All, count_by, list_any, list_all}
 use Rattle.std.proofs.lemmas.Bool.Decides.{nat_tests}
-use Rattle.std.proofs.lemmas.List.Sums.{sum_by-cons}
 use Rattle.std.proofs.lemmas.List.Elements.{All-head, All-tail}
 use Rattle.ame_pool.specs.declared.member.Member.{Member}
 use Rattle.ame_pool.specs.declared.member.Standing.{Standing}
 use Rattle.ame_pool.specs.Members.{IsRising, is_ready, is_busy, is_parked, find}
-use Rattle.ame_pool.specs.Begin.{is_protected, is_worn, is_worn_protected, some_busy, may_begin, first_to_begin, members_of}
+use Rattle.ame_pool.specs.declared.oldest.Oldest.{Oldest}
+use Rattle.ame_pool.specs.Roster.{Roster}
+use Rattle.ame_pool.specs.Calls.{IsAt}
+use Rattle.ame_pool.specs.Begin.{is_protected, is_worn, is_worn_protected, some_busy, may_begin, first_to_begin, members_of, oldest, oldest_or_wait}
 use Rattle.ame_pool.specs.Keeps.{IsSound}
+use Rattle.ame_pool.proofs.ChangeLemmas.{count_cons, find_number}
 
 or_true : (b : Bool) → (b || true) ≡ true
 or_true b = elim b as (λ v. (v || true) ≡ true) [ true ↦ refl | false ↦ refl ]
 
-count_cons : {X : Type 0} (p : X → Bool) (x : X) (xs : List X) → count_by p (x ∷ xs) ≡ cond (p x) 1 0 + count_by p xs
-count_cons p x xs = sum_by-cons (λ y. cond (p y) 1 0) x xs
-
 module _ {M : Type 0} where
   -- ---- a member that may begin is ready
-  -- one for a ready member with the number
-  ready_with : ℕ → Member M → Bool
-  ready_with n m = is_ready m && (m.number == n)
-
   first_is_there : (ms older rs : List (Member M)) (n : ℕ) → first_to_begin ms older rs ≡ Some n → list_any (λ m. m.number == n) rs ≡ true
   first_is_there ms older [] n e = cc
   first_is_there ms older (m ∷ rs) n e =
@@ -31,14 +27,6 @@ module _ {M : Type 0} where
         | true ↦ λ h. let same : m.number ≡ n = cc in let t : (m.number == n) ≡ true = grind (arith, nat_tests, same) in rw t refl
         | false ↦ λ h. rw (first_is_there ms (older ++ m ∷ []) rs n h) (or_true (m.number == n))
       ] e
-
-  find_number : (n : ℕ) (ms : List (Member M)) (m : Member M) → find n ms ≡ Some m → m.number ≡ n
-  find_number n [] m e = cc
-  find_number n (o ∷ ms) m e =
-      elim (o.number == n) as (λ b. (o.number == n) ≡ b → cond b (Some o) (find n ms) ≡ Some m → m.number ≡ n) [
-        | true ↦ λ t h. let same : o ≡ m = cc in let k : o.number ≡ n = grind (arith, nat_tests, t) in ap (λ (q : Member M). q.number) (sym same) ∙ k
-        | false ↦ λ t h. find_number n ms m h
-      ] refl e
 
   any_counts : (ms : List (Member M)) (n : ℕ) (order : List ℕ) → list_any (λ m. m.number == n) (members_of ms order) ≡ true → 1 ≤ count_by (λ k. k == n) order
   any_counts ms n [] e = absurd (false≢true e)
@@ -69,7 +57,7 @@ module _ {M : Type 0} where
       let one : ◌≡◌ {A = ℕ} (cond (is_ready m && (m.number == n)) 1 0) 0 = rw f (z (is_ready m)) in
       omega (arith, c, one, none_beyond n ms (All-tail (λ (o : Member M). n < o.number) m ms all))
 
-  counted_is_ready : (n : ℕ) (ms : List (Member M)) → IsRising ms → 1 ≤ count_by (λ m. is_ready m && (m.number == n)) ms
+  pub counted_is_ready : (n : ℕ) (ms : List (Member M)) → IsRising ms → 1 ≤ count_by (λ m. is_ready m && (m.number == n)) ms
       → IsSomeAnd (find n ms) (λ m. IsTrue (is_ready m))
   counted_is_ready n [] r h = absurd (omega arith)
   counted_is_ready n (m ∷ ms) r h =
@@ -174,3 +162,34 @@ module _ {M : Type 0} where
             let there = counted_is_ready r.0 ms s.rising r.1 in
             absurd (begins_idle ms (members_of ms order) e (members_there ms r.0 (λ m. IsTrue (is_ready m)) order (omega (arith, counts, r.1)) there) none)
       ] refl
+
+  -- ---- what the answer tells
+  pub oldest_ready : (s : Roster M) → IsSound s.members s.order → (n : ℕ) → oldest s ≡ Oldest.Member n → IsAt is_ready n s
+  oldest_ready s h n e = go s.members refl e
+    where
+      pick : (b : Bool) (o : Option ℕ) → cond b Oldest.Parked (oldest_or_wait o) ≡ Oldest.Member n → o ≡ Some n
+      pick true o e = cc
+      pick false None e = cc
+      pick false (Some k) e = let same : k ≡ n = cc in ap Some same
+
+      go : (ms : List (Member M)) → s.members ≡ ms
+          → elim ms as (λ _. Oldest) [ [] ↦ Oldest.Empty | _ ∷ _ ↦ cond (list_all is_parked s.members) Oldest.Parked (oldest_or_wait (first_to_begin s.members [] (members_of s.members s.order))) ] ≡ Oldest.Member n
+          → IsAt is_ready n s
+      go [] at e = cc
+      go (m ∷ ms) at e = first_is_ready s.members s.order h n (pick (list_all is_parked s.members) (first_to_begin s.members [] (members_of s.members s.order)) e)
+
+  pub oldest_waits : (s : Roster M) → IsSound s.members s.order → oldest s ≡ Oldest.Wait → IsTrue (list_any is_busy s.members)
+  oldest_waits s h e = go s.members refl e
+    where
+      none : (b : Bool) (o : Option ℕ) → cond b Oldest.Parked (oldest_or_wait o) ≡ Oldest.Wait → (b ≡ false) × (None ≡ o)
+      none true o e = cc
+      none false None e = (refl, refl)
+      none false (Some k) e = cc
+
+      go : (ms : List (Member M)) → s.members ≡ ms
+          → elim ms as (λ _. Oldest) [ [] ↦ Oldest.Empty | _ ∷ _ ↦ cond (list_all is_parked s.members) Oldest.Parked (oldest_or_wait (first_to_begin s.members [] (members_of s.members s.order))) ] ≡ Oldest.Wait
+          → IsTrue (list_any is_busy s.members)
+      go [] at e = cc
+      go (m ∷ ms) at e =
+          let r = none (list_all is_parked s.members) (first_to_begin s.members [] (members_of s.members s.order)) e in
+          waits_for_busy s.members s.order h r.0 r.1

@@ -1,49 +1,21 @@
 -- What a write to a location changes.
-use Rattle.std.proofs.Common.{zero, suc, ◌==◌, ◌&&◌, not, ◌≡◌, ◌<◌, ◌≤◌, ℕ, Bool, true, false, cond, List, [], ◌∷◌, ◌++◌, length, set, get_or, map, Some, None, refl, sym, ap, ◌∙◌, arith}
+use Rattle.std.proofs.Common.{◌==◌, ◌≡◌, ◌<◌, ◌≤◌, ℕ, suc, Bool, true, false, cond, List, [], ◌∷◌, ◌++◌, length, get_or, map, Option, Some, None, IsSomeAnd, IsTrue, refl, sym, ap, subst, ◌∙◌, arith}
 use mathlib.Core.Bool.{false≢true}
-use Rattle.std.specs.Prelude.{vec_len, vec_capacity}
-use Rattle.std.specs.Global.{Vec}
-use Rattle.std.specs.List.{count_by, filter}
-use Rattle.std.proofs.lemmas.List.{append-nil, append_assoc, map-append}
-use Rattle.std.proofs.lemmas.List.Elements.{filter-append}
+use Rattle.std.specs.List.{All, count_by, filter}
+use Rattle.std.specs.BTreeSet.{BTreeSet}
+use Rattle.std.proofs.lemmas.Bool.Decides.{nat_tests}
+use Rattle.std.proofs.lemmas.List.{append-nil, append_assoc}
+use Rattle.std.proofs.lemmas.List.Elements.{All-head, All-tail}
 use Rattle.ame_pool.specs.declared.member.Member.{Member}
 use Rattle.ame_pool.specs.declared.member.Standing.{Standing}
 use Rattle.ame_pool.specs.declared.member.Watch.{Watch}
-use Rattle.std.specs.BTreeSet.{BTreeSet}
-use Rattle.std.proofs.lemmas.List.Sums.{sum_by-set}
-use Rattle.ame_term.specs.declared.types.Loc.{Loc}
-use Rattle.ame_pool.specs.Members.{IsPlaceOf}
-use Rattle.ame_pool.specs.Index.{untouched, lists, among, IsIndexOf}
-use Rattle.ame_pool.proofs.MembersLemmas.{rising_lt}
-use Rattle.ame_pool.proofs.KeptLemmas.{IsSpot, index_cleared}
-use Rattle.ame_pool.proofs.FindLemmas.{indexed_at}
-use Rattle.ame_pool.specs.Waking.{has, touched_by, stirred, stirred_by, is_waiting_for, is_woken_by, woken_by, MayStirAt, IsStirredAt}
+use Rattle.ame_pool.specs.Members.{IsRising, find, change}
+use Rattle.ame_pool.specs.Index.{untouched, lists, waits_for, IsIndexOf}
+use Rattle.ame_pool.specs.Waking.{has, touched_by, stirred, stirred_by, is_waiting_for, is_woken_by, woken_by}
 use Rattle.ame_pool.specs.Roster.{Roster}
-use Rattle.ame_pool.specs.Calls.{woken}
-use Rattle.ame_pool.specs.Keeps.{IsKept, IsSound}
-use Rattle.ame_pool.proofs.OrderLemmas.{order_shorter}
-use Rattle.ame_pool.proofs.KeepsLemmas.{sound_same, sound_readied}
-
--- ---- one member
-waiting_not_ready : (l : ℕ) (s : Standing) → is_waiting_for l s ≡ true
-    → elim s as (λ _. Bool) [ Standing.Ready ↦ true | Standing.Busy _ ↦ false | Standing.Parked _ ↦ false ] ≡ false
-waiting_not_ready l Standing.Ready e = absurd (false≢true e)
-waiting_not_ready l (Standing.Busy w) e = refl
-waiting_not_ready l (Standing.Parked locs) e = refl
-
-stirred_ready : (l : ℕ) (s : Standing) → is_waiting_for l s ≡ true
-    → elim (stirred l s) as (λ _. Bool) [ Standing.Ready ↦ true | Standing.Busy _ ↦ false | Standing.Parked _ ↦ false ] ≡ true
-stirred_ready l Standing.Ready e = refl
-stirred_ready l (Standing.Busy w) e = absurd (false≢true e)
-stirred_ready l (Standing.Parked locs) e = rw e refl
-
-stirred_same : (l : ℕ) (s : Standing) → is_waiting_for l s ≡ false
-    → elim (stirred l s) as (λ _. Bool) [ Standing.Ready ↦ true | Standing.Busy _ ↦ false | Standing.Parked _ ↦ false ]
-    ≡ elim s as (λ _. Bool) [ Standing.Ready ↦ true | Standing.Busy _ ↦ false | Standing.Parked _ ↦ false ]
-stirred_same l Standing.Ready e = refl
-stirred_same l (Standing.Busy None) e = refl
-stirred_same l (Standing.Busy (Some w)) e = refl
-stirred_same l (Standing.Parked locs) e = rw e refl
+use Rattle.ame_pool.specs.Calls.{IsAt, woken}
+use Rattle.ame_pool.specs.Stirs.{is_watching, is_woken_at, stirred_at}
+use Rattle.ame_pool.proofs.ChangeLemmas.{count_change, find_number, find_passes, all_found}
 
 module _ (l : ℕ) where
   -- ---- a standing and a write
@@ -85,38 +57,60 @@ module _ (l : ℕ) where
       ] refl
 
 module _ {M : Type 0} (l : ℕ) where
-  woken_one : (x : Member M) → woken_by l (x ∷ []) ≡ cond (is_woken_by l x) (x.number ∷ []) []
-  woken_one x = elim (is_woken_by l x) as (λ b. map (λ (m : Member M). m.number) (cond b (x ∷ []) []) ≡ cond b (x.number ∷ []) []) [ true ↦ refl | false ↦ refl ]
+  -- it watches nothing once it is stirred
+  pub stirred_untouched : (m : Member M) → is_watching l m ≡ true → untouched (stirred_by l m).standing ≡ []
+  stirred_untouched m e = stirred_clears l m.standing e
 
-  woken_push : (xs : List (Member M)) (x : Member M) → woken_by l (xs ++ x ∷ []) ≡ woken_by l xs ++ cond (is_woken_by l x) (x.number ∷ []) []
-  woken_push xs x =
-      ap (λ (ms : List (Member M)). map (λ m. m.number) ms) (filter-append (is_woken_by l) xs (x ∷ []))
-      ∙ map-append (λ (m : Member M). m.number) (filter (is_woken_by l) xs) (filter (is_woken_by l) (x ∷ []))
-      ∙ ap (λ q. woken_by l xs ++ q) (woken_one x)
+  calm_not_woken : (m : Member M) → is_watching l m ≡ false → is_woken_by l m ≡ false
+  calm_not_woken m e =
+      elim (is_woken_by l m) as (λ b. is_woken_by l m ≡ b → b ≡ false) [
+        | true ↦ λ q. absurd (false≢true (sym e ∙ waiting_is_untouched l m.standing q))
+        | false ↦ λ q. refl
+      ] refl
 
-  -- ---- a list and a write
-  map_set : (ms : List (Member M)) (i : ℕ) (d : Member M) → i < length ms → has l (untouched (get_or ms i d).standing) ≡ true
-      → map (stirred_by l) (set ms i (stirred_by l (get_or ms i d))) ≡ map (stirred_by l) ms
-  map_set [] i d lt e = refl
-  map_set (m ∷ ms) zero d lt e =
-      ap (λ (s : Standing). let x : Member M = record m { standing = s } in x ∷ map (stirred_by l) ms) (stirred_twice l m.standing e)
-  map_set (m ∷ ms) (suc i) d lt e = ap (λ q. stirred_by l m ∷ q) (map_set ms i d (omega arith) e)
+  -- ---- one turn
+  map_change : (n : ℕ) (ms : List (Member M)) (m : Member M) → find n ms ≡ Some m → is_watching l m ≡ true
+      → map (stirred_by l) (change n (stirred_by l) ms) ≡ map (stirred_by l) ms
+  map_change n [] m found watched = refl
+  map_change n (o ∷ ms) m found watched =
+      elim (o.number == n) as (λ b. cond b (Some o) (find n ms) ≡ Some m
+      → map (stirred_by l) (cond b (stirred_by l o ∷ ms) (o ∷ change n (stirred_by l) ms)) ≡ map (stirred_by l) (o ∷ ms)) [
+        | true ↦ λ h.
+            let same : m ≡ o = cc in
+            let here : has l (untouched o.standing) ≡ true = subst (λ (q : Member M). has l (untouched q.standing) ≡ true) same watched in
+            ap (λ (s : Standing). let x : Member M = record o { standing = s } in x ∷ map (stirred_by l) ms) (stirred_twice l o.standing here)
+        | false ↦ λ h. ap (λ q. stirred_by l o ∷ q) (map_change n ms m h watched)
+      ] found
 
-  woken_set : (ms : List (Member M)) (i : ℕ) (d new : Member M) → i < length ms → ((j : ℕ) → j < i → is_woken_by l (get_or ms j d) ≡ false) → is_woken_by l new ≡ false
-      → woken_by l ms ≡ cond (is_woken_by l (get_or ms i d)) ((get_or ms i d).number ∷ []) [] ++ woken_by l (set ms i new)
-  woken_set [] i d new lt before none = absurd (omega arith)
-  woken_set (m ∷ ms) zero d new lt before none =
-      let rest : woken_by l (new ∷ ms) ≡ woken_by l ms = rw none refl in
-      elim (is_woken_by l m) as (λ b. map (λ (q : Member M). q.number) (cond b (m ∷ filter (is_woken_by l) ms) (filter (is_woken_by l) ms)) ≡ cond b (m.number ∷ []) [] ++ woken_by l (new ∷ ms)) [
-        | true ↦ ap (λ q. m.number ∷ q) (sym rest)
-        | false ↦ sym rest
-      ]
-  woken_set (m ∷ ms) (suc i) d new lt before none =
-      let h = before 0 (omega arith) in
-      let rest = woken_set ms i d new (omega arith) (λ j q. before (suc j) (omega arith)) none in
-      let left : woken_by l (m ∷ ms) ≡ woken_by l ms = rw h refl in
-      let right : woken_by l (m ∷ set ms i new) ≡ woken_by l (set ms i new) = rw h refl in
-      left ∙ rest ∙ ap (λ q. cond (is_woken_by l (get_or ms i d)) ((get_or ms i d).number ∷ []) [] ++ q) (sym right)
+  woken_change : (n : ℕ) (ms : List (Member M)) → IsRising ms → (m : Member M) → find n ms ≡ Some m → is_watching l m ≡ true
+      → All (λ o. o.number < n → is_watching l o ≡ false) ms
+      → woken_by l ms ≡ cond (is_woken_by l m) (n ∷ []) [] ++ woken_by l (change n (stirred_by l) ms)
+  woken_change n [] r m found watched before = cc
+  woken_change n (o ∷ ms) r m found watched before =
+      elim (o.number == n) as (λ b. (o.number == n) ≡ b → cond b (Some o) (find n ms) ≡ Some m
+      → woken_by l (o ∷ ms) ≡ cond (is_woken_by l m) (n ∷ []) [] ++ woken_by l (cond b (stirred_by l o ∷ ms) (o ∷ change n (stirred_by l) ms))) [
+        | true ↦ λ t h.
+            let same : o ≡ m = cc in
+            let at : o.number ≡ n = grind (arith, nat_tests, t) in
+            let here : has l (untouched o.standing) ≡ true = subst (λ (q : Member M). has l (untouched q.standing) ≡ true) (sym same) watched in
+            let calm : is_waiting_for l (stirred l o.standing) ≡ false = stirred_waits_not l o.standing here in
+            let rest : woken_by l (stirred_by l o ∷ ms) ≡ woken_by l ms = rw calm refl in
+            let first : woken_by l (o ∷ ms) ≡ cond (is_woken_by l o) (o.number ∷ []) [] ++ woken_by l ms
+            = elim (is_woken_by l o) as (λ b. map (λ (q : Member M). q.number) (cond b (o ∷ filter (is_woken_by l) ms) (filter (is_woken_by l) ms)) ≡ cond b (o.number ∷ []) [] ++ woken_by l ms) [
+              | true ↦ refl
+              | false ↦ refl
+            ] in
+            first ∙ ap (λ k. cond (is_woken_by l o) (k ∷ []) [] ++ woken_by l ms) at
+            ∙ ap (λ (q : Member M). cond (is_woken_by l q) (n ∷ []) [] ++ woken_by l ms) same
+            ∙ ap (λ q. cond (is_woken_by l m) (n ∷ []) [] ++ q) (sym rest)
+        | false ↦ λ t h.
+            let lt : o.number < n = omega (arith, find_passes (λ (q : Member M). o.number < q.number) n ms r.0 m h, find_number n ms m h) in
+            let calm = calm_not_woken o (All-head (λ (q : Member M). q.number < n → is_watching l q ≡ false) o ms before lt) in
+            let rest = woken_change n ms r.1 m h watched (All-tail (λ (q : Member M). q.number < n → is_watching l q ≡ false) o ms before) in
+            let left : woken_by l (o ∷ ms) ≡ woken_by l ms = rw calm refl in
+            let right : woken_by l (o ∷ change n (stirred_by l) ms) ≡ woken_by l (change n (stirred_by l) ms) = rw calm refl in
+            left ∙ rest ∙ ap (λ q. cond (is_woken_by l m) (n ∷ []) [] ++ q) (sym right)
+      ] refl found
 
   calm_map : (ms : List (Member M)) → ((j : ℕ) (d : Member M) → j < length ms → has l (untouched (get_or ms j d).standing) ≡ false) → map (stirred_by l) ms ≡ ms
   calm_map [] h = refl
@@ -137,98 +131,46 @@ module _ {M : Type 0} (l : ℕ) where
       left ∙ calm_woken ms (λ j d q. h (suc j) d (omega arith))
 
   -- ---- the loop
-  -- what is left to wake comes to what was to wake at first
-  pub record IsWaking (s : Roster M) (v : Vec (Member M)) (w : Vec ℕ) (room : ℕ) (ix : BTreeSet (ℕ × ℕ)) : Type 0 where
-    pub kept : IsKept v w room ix
-    pub goes : woken l (record { members = v.items; order = w.items; room = room }) ≡ woken l s
-
   -- how many members the write still changes
   abbrev pub to_stir : List (Member M) → ℕ
-  to_stir ms = count_by (λ m. has l (untouched m.standing)) ms
+  to_stir ms = count_by (is_watching l) ms
 
-  pub waking_none : (s : Roster M) (v : Vec (Member M)) (w : Vec ℕ) (room : ℕ) (ix : BTreeSet (ℕ × ℕ)) → IsKept v w room ix
-      → record { members = v.items; order = w.items; room = room } ≡ s → IsWaking s v w room ix
-  waking_none s v w room ix k e = record { kept = k; goes = ap (woken l) e }
+  module _ (s : Roster M) (ix : BTreeSet (ℕ × ℕ)) (h : IsIndexOf s.members ix) where
+    -- who is listed watches
+    pub listed_watches : (n : ℕ) → lists ix l n ≡ true → IsAt (is_watching l) n s
+    listed_watches n listed = go (find n s.members) (sym (h l n) ∙ listed)
+      where
+        go : (o : Option (Member M)) → waits_for l o ≡ true → IsSomeAnd o (λ m. IsTrue (is_watching l m))
+        go None e = absurd (false≢true e)
+        go (Some m) e = e
 
-  pub waking_all : (s : Roster M) (v : Vec (Member M)) (w : Vec ℕ) (room : ℕ) (ix : BTreeSet (ℕ × ℕ)) → IsWaking s v w room ix
-      → ((n : ℕ) → lists ix l n ≡ false) → record { members = v.items; order = w.items; room = room } ≡ woken l s
-  waking_all s v w room ix h none =
-      let calm : (j : ℕ) (d : Member M) → j < length v.items → has l (untouched (get_or v.items j d).standing) ≡ false
-      = λ j d lt. sym (indexed_at v.items h.kept.sound.rising j d lt ix h.kept.indexed l) ∙ none (get_or v.items j d).number in
-      let same : woken l (record { members = v.items; order = w.items; room = room }) ≡ record { members = v.items; order = w.items; room = room }
-      = rw (calm_map v.items calm, calm_woken v.items calm, append-nil) refl in
-      sym same ∙ h.goes
+    module _ (rising : IsRising s.members) where
+      pub waking_all : ((n : ℕ) → lists ix l n ≡ false) → s ≡ woken l s
+      waking_all none =
+          let calm : All (λ m. is_watching l m ≡ false) s.members
+          = all_found (λ m. is_watching l m ≡ false) s.members rising (λ n m found. sym (ap (waits_for l) found) ∙ sym (h l n) ∙ none n) in
+          rw (calm_map s.members (λ j d lt. calm j d lt), calm_woken s.members (λ j d lt. calm j d lt), append-nil) refl
 
-  pub stirred_room : (v : Vec (Member M)) (w : Vec ℕ) (room : ℕ) (ix : BTreeSet (ℕ × ℕ)) → IsKept v w room ix → (i : ℕ) → i < length v.items
-      → MayStirAt l i v.items (vec_len w) (vec_capacity w)
-  stirred_room v w room ix k i lt d woke =
-      let m = get_or v.items i d in
-      let new : Member M = record m { standing = Standing.Ready } in
-      let short = order_shorter v.items w.items k.sound.ordered i new d lt refl (waiting_not_ready l m.standing woke) refl in
-      omega (arith, short, v.ok.0, w.ok.0, k.order_fits)
+      module _ (n : ℕ) (m : Member M) (found : find n s.members ≡ Some m) (watched : is_watching l m ≡ true)
+          (least : (k : ℕ) → lists ix l k ≡ true → n ≤ k) where
+        before : All (λ o. o.number < n → is_watching l o ≡ false) s.members
+        before = all_found (λ (o : Member M). o.number < n → is_watching l o ≡ false) s.members rising (λ k o at lt.
+            elim (is_watching l o) as (λ b. is_watching l o ≡ b → b ≡ false) [
+              | true ↦ λ e. absurd (omega (arith, lt, find_number k s.members o at, least k (h l k ∙ ap (waits_for l) at ∙ e)))
+              | false ↦ λ e. refl
+            ] refl)
 
-  module _ (s : Roster M) (v : Vec (Member M)) (w : Vec ℕ) (room : ℕ) (ix : BTreeSet (ℕ × ℕ)) (h : IsWaking s v w room ix)
-      (n i : ℕ) (at : IsPlaceOf n v.items i) (listed : lists ix l n ≡ true) (least : (m : ℕ) → lists ix l m ≡ true → n ≤ m)
-      (v' : Vec (Member M)) (w' : Vec ℕ) (ix' : BTreeSet (ℕ × ℕ)) (st : IsStirredAt l i v.items v'.items w.items w'.items) where
-    watched : (d : Member M) → has l (untouched (get_or v.items i d).standing) ≡ true
-    watched d = sym (indexed_at v.items h.kept.sound.rising i d at.0 ix h.kept.indexed l) ∙ ap (lists ix l) (at.1 d) ∙ listed
+        pub waking_more : woken l (stirred_at l n s) ≡ woken l s
+        waking_more =
+            let split = woken_change n s.members rising m found watched before in
+            let at : is_woken_at l n s ≡ is_woken_by l m = ap (λ o. elim o as (λ _. Bool) [ None ↦ false | Some m ↦ is_woken_by l m ]) found in
+            let orders : (stirred_at l n s).order ++ woken_by l (change n (stirred_by l) s.members) ≡ s.order ++ woken_by l s.members
+            = rw (at, append_assoc, ← split) refl in
+            rw (orders, map_change n s.members m found watched) refl
 
-    fewer_at : Member M → to_stir v'.items < to_stir v.items
-    fewer_at d =
-        let m = get_or v.items i d in
-        let f : Member M → ℕ = λ m. cond (has l (untouched m.standing)) 1 0 in
-        let one : f m ≡ 1 = rw (watched d) refl in
-        let none : f (stirred_by l m) ≡ 0 = rw (stirred_clears l m.standing (watched d)) refl in
-        let sum = sum_by-set f v.items i (stirred_by l m) d at.0 in
-        let q : to_stir (set v.items i (stirred_by l m)) < to_stir v.items = omega (arith, sum, one, none) in
-        rw (st.members d) q
-
-    none_before : (d : Member M) (j : ℕ) → j < i → is_woken_by l (get_or v.items j d) ≡ false
-    none_before d j lt =
-        elim (is_woken_by l (get_or v.items j d)) as (λ b. is_woken_by l (get_or v.items j d) ≡ b → b ≡ false) [
-          | true ↦ λ q.
-              let e = indexed_at v.items h.kept.sound.rising j d (omega (arith, at.0)) ix h.kept.indexed l ∙ waiting_is_untouched l (get_or v.items j d).standing q in
-              let low = rising_lt v.items h.kept.sound.rising j i d lt at.0 in
-              absurd (omega (arith, low, least (get_or v.items j d).number e, at.1 d))
-          | false ↦ λ q. refl
-        ] refl
-
-    goes_at : Member M → woken l (record { members = v'.items; order = w'.items; room = room }) ≡ woken l s
-    goes_at d =
-        let m = get_or v.items i d in
-        let set_is = woken_set v.items i d (stirred_by l m) at.0 (none_before d) (stirred_waits_not l m.standing (watched d)) in
-        let ms = map_set v.items i d at.0 (watched d) in
-        let orders : w'.items ++ woken_by l v'.items ≡ w.items ++ woken_by l v.items
-        = rw (st.order_is d, st.members d, append_assoc, ← set_is) refl in
-        let lists_are : map (stirred_by l) v'.items ≡ map (stirred_by l) v.items = rw (st.members d) ms in
-        let same : woken l (record { members = v'.items; order = w'.items; room = room }) ≡ woken l (record { members = v.items; order = w.items; room = room })
-        = rw (orders, lists_are) refl in
-        same ∙ h.goes
-
-    module _ (len : vec_len v' ≡ vec_len v) (places : vec_capacity v' ≡ vec_capacity v) (order_places : vec_capacity w' ≡ vec_capacity w)
-        (o : Member M) (also : o ≡ get_or v.items i o) (locs : List Loc) (told : map (λ (q : Loc). q.0) locs ≡ untouched o.standing)
-        (step : (k j : ℕ) → lists ix' k j ≡ (not (((j == n) && among k locs) && not false) && lists ix k j)) where
-      kept_at : IsKept v' w' room ix'
-      kept_at =
-          let few = h.kept.sound.rollbacks i o at.0 in
-          let m = get_or v.items i o in
-          let spot_is : IsSpot v w room ix n i o = record { kept = h.kept; at = at; read = also } in
-          let sound : IsSound (set v.items i (stirred_by l m)) (w.items ++ cond (is_woken_by l m) (m.number ∷ []) []) =
-          elim (is_woken_by l m) as (λ b. is_woken_by l m ≡ b → IsSound (set v.items i (stirred_by l m)) (w.items ++ cond b (m.number ∷ []) [])) [
-            | true ↦ λ e. sound_readied v.items w.items h.kept.sound i o at.0 (stirred_by l m) refl few (waiting_not_ready l m.standing e) (stirred_ready l m.standing e)
-            | false ↦ λ e. rw append-nil (sound_same v.items w.items h.kept.sound i o at.0 (stirred_by l m) refl few (stirred_same l m.standing e))
-          ] refl in
-          let indexed : IsIndexOf (set v.items i (stirred_by l m)) ix'
-          = index_cleared spot_is o also locs told ix' step (stirred_by l m) (ap (λ (q : Member M). q.number) (sym also)) (stirred_clears l m.standing (watched o)) in
-          record {
-            sound = rw (st.members o, st.order_is o) sound;
-            members_fit = omega (arith, h.kept.members_fit, len, places);
-            order_fits = omega (arith, h.kept.order_fits, len, order_places);
-            indexed = rw (st.members o) indexed;
-          }
-
-      pub waking_more : IsWaking s v' w' room ix'
-      waking_more = record { kept = kept_at; goes = goes_at o }
-
-      pub waking_fewer : to_stir v'.items < to_stir v.items
-      waking_fewer = fewer_at o
+        pub waking_fewer : to_stir (change n (stirred_by l) s.members) < to_stir s.members
+        waking_fewer =
+            let one : ◌≡◌ {A = ℕ} (cond (is_watching l m) 1 0) 1 = rw watched refl in
+            let clear : has l (untouched (stirred l m.standing)) ≡ false = ap (has l) (stirred_clears l m.standing watched) in
+            let none : ◌≡◌ {A = ℕ} (cond (is_watching l (stirred_by l m)) 1 0) 0 = rw clear refl in
+            omega (arith, count_change n (stirred_by l) (is_watching l) s.members m found, one, none)

@@ -1,10 +1,13 @@
 -- What is so of each pool.
-use Rattle.std.specs.Prelude.{◌≡◌, ℕ, ◌+◌, ◌≤◌, ◌&&◌, Bool, List, All, count_by, vec_len, vec_capacity}
-use Rattle.std.specs.Global.{Vec}
+use Rattle.std.specs.Prelude.{◌≡◌, ℕ, ◌+◌, ◌≤◌, ◌<◌, ◌^◌, ◌&&◌, Bool, false, List, length, filter, All, Some, None, count_by}
 use Rattle.std.specs.BTreeSet.{BTreeSet}
 use Rattle.ame_pool.specs.Index.{IsIndexOf}
 use Rattle.ame_pool.specs.declared.member.Member.{Member}
-use Rattle.ame_pool.specs.Members.{IsRising, is_ready}
+use Rattle.ame_pool.specs.declared.counts.Counts.{Counts}
+use Rattle.ame_pool.specs.Register.{Register}
+use Rattle.ame_pool.specs.Queues.{Queues}
+use Rattle.ame_pool.specs.Counts.{AreCounted}
+use Rattle.ame_pool.specs.Members.{IsRising, is_ready, find}
 
 module _ {M : Type 0} where
   -- the order has the numbers of the ready members, each once
@@ -17,10 +20,16 @@ module _ {M : Type 0} where
     pub ordered : IsOrderOf ms order
     pub rollbacks : All (λ m. m.rollbacks ≤ 8) ms
 
-  -- a sound pool with places for its members and for those that may join, and an index that says what the watch
-  -- lists say
-  pub record IsKept (members : Vec (Member M)) (order : Vec ℕ) (room : ℕ) (index : BTreeSet (ℕ × ℕ)) : Type 0 where
-    pub sound : IsSound members.items order.items
-    pub members_fit : vec_len members + room ≤ vec_capacity members
-    pub order_fits : vec_len members + room ≤ vec_capacity order
-    pub indexed : IsIndexOf members.items index
+  -- the member with the number stands inside
+  abbrev pub is_inside_at : List (Member M) → ℕ → Bool
+  is_inside_at ms n = elim (find n ms) [ None ↦ false | Some m ↦ m.inside ]
+
+  -- a sound pool, the ready ones inside in the same order, the counts, places for its members and for those that may join,
+  -- and an index that says what the watch lists say
+  pub record IsKept (members : Register M) (ready : Queues) (counts : Counts) (index : BTreeSet (ℕ × ℕ)) : Type 0 where
+    pub sound : IsSound members.list ready.order
+    pub inside : ready.inside ≡ filter (is_inside_at members.list) ready.order
+    pub counted : AreCounted members.list counts
+    pub fits : length members.list + members.room ≤ ready.places
+    pub small : ready.places < 2 ^ 63
+    pub indexed : IsIndexOf members.list index

@@ -1,9 +1,14 @@
 pub mod Members
+pub mod Register
+pub mod Numbered
 pub mod Standings
 pub mod Waking
 pub mod Index
 pub mod Roster
 pub mod Begin
 pub mod Calls
+pub mod Queues
+pub mod Counts
+pub mod Stirs
 pub mod Keeps
 pub mod Lends

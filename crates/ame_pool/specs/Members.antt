@@ -1,6 +1,5 @@
 -- A member, and a list of members by rising numbers.
-use Rattle.std.specs.Prelude.{◌≡◌, ℕ, ◌<◌, ◌≤◌, ◌==◌, Bool, true, false, cond, List, [], ◌∷◌, length, All, Option, Some, None, ⊤, nat_lt}
-use Rattle.std.specs.List.{HoldsAt, AllWithin}
+use Rattle.std.specs.Prelude.{ℕ, ◌<◌, ◌==◌, Bool, true, false, cond, List, [], ◌∷◌, All, Option, Some, None, ⊤, nat_lt}
 use Rattle.ame_pool.specs.declared.member.Member.{Member}
 use Rattle.ame_pool.specs.declared.member.Standing.{Standing}
 
@@ -38,13 +37,3 @@ module _ {M : Type 0} where
   abbrev pub without : ℕ → List (Member M) → List (Member M)
   without number [] = []
   without number (m ∷ ms) = cond (m.number == number) ms (m ∷ without number ms)
-
-  -- the member with the number stands at this place
-  abbrev pub IsPlaceOf : ℕ → List (Member M) → ℕ → Type 0
-  IsPlaceOf number ms i = (i < length ms) × HoldsAt (λ m. m.number ≡ number) ms i
-
-  -- no member has the number, and this is its place
-  pub record IsGapFor (number : ℕ) (ms : List (Member M)) (i : ℕ) : Type 0 where
-    pub within : i ≤ length ms
-    pub before : AllWithin (λ m. m.number < number) ms 0 i
-    pub after : AllWithin (λ m. number < m.number) ms i (length ms)

@@ -1,5 +1,5 @@
 -- What a write to a location changes.
-use Rattle.std.specs.Prelude.{◌≡◌, ℕ, ◌<◌, ◌==◌, Bool, true, false, cond, List, [], ◌∷◌, ◌++◌, map, filter, Some, None, IsTrue, slice_index_or, slice_set}
+use Rattle.std.specs.Prelude.{ℕ, ◌==◌, Bool, true, false, cond, List, map, filter, Some, None}
 use Rattle.std.specs.List.{list_any}
 use Rattle.ame_pool.specs.declared.member.Member.{Member}
 use Rattle.ame_pool.specs.declared.member.Standing.{Standing}
@@ -36,12 +36,3 @@ module _ {M : Type 0} where
   -- the numbers of the members that the location wakes, in order
   abbrev pub woken_by : ℕ → List (Member M) → List ℕ
   woken_by l ms = map (λ m. m.number) (filter (is_woken_by l) ms)
-
-  -- where the member at a place is woken, the order has room for it
-  abbrev pub MayStirAt : ℕ → ℕ → List (Member M) → ℕ → ℕ → Type 0
-  MayStirAt l i ms len capacity = (d : Member M) → IsTrue (is_woken_by l (slice_index_or ms i d)) → len < capacity
-
-  -- the member at a place was stirred, and is the youngest ready one if it was woken
-  pub record IsStirredAt (l i : ℕ) (ms ms' : List (Member M)) (order order' : List ℕ) : Type 0 where
-    pub members : (d : Member M) → ms' ≡ slice_set ms i (stirred_by l (slice_index_or ms i d))
-    pub order_is : (d : Member M) → order' ≡ order ++ cond (is_woken_by l (slice_index_or ms i d)) ((slice_index_or ms i d).number ∷ []) []

@@ -1,15 +1,16 @@
 //! The pool of fragments: who may begin, who waits for what, and who is woken.
 #![tactic(auto)]
 
-mod begin;
+mod counts;
 mod index;
 mod member;
+mod members;
+mod numbers;
 mod oldest;
-mod places;
 mod pool;
+mod ready;
 #[cfg(test)]
 mod tests;
-mod wake;
 
 pub use member::{Member, Standing, Watch};
 pub use oldest::Oldest;

@@ -4,12 +4,12 @@ ghost use Rattle.std.specs.Prelude.{◌≡◌, ◌<◌, ℕ, Some, None, OnOk, O
 ghost use Rattle.std.specs.Borrow.{sem};
 ghost use Rattle.std.specs.List.{list_any};
 
-use crate::begin::{are_parked, busy_among, first_able};
+use crate::counts::Counts;
 use crate::index::{first, unwatch, watch};
 use crate::member::{Member, Standing};
+use crate::members::Members;
 use crate::oldest::Oldest;
-use crate::places::{found, gap, place_of, put, skip};
-use crate::wake::stir_at;
+use crate::ready::Ready;
 use ame_term::{Loc, Locs, NoMemory};
 use std::alloc::Global;
 use std::collections::BTreeSet;
@@ -18,12 +18,13 @@ use std::marker::Model;
 #[cfg(test)]
 mod probe;
 
-/// Members by their numbers, the order of those that are ready, and the index of those that watch locations.
+/// Members by their numbers, those that are ready from the oldest on, how many are busy or parked, and the index of those
+/// that watch locations.
 #[derive(Drop)]
 pub struct Pool<M> {
-    members: Vec<Member<M>>,
-    order: Vec<u64>,
-    room: usize,
+    members: Members<M>,
+    ready: Ready,
+    counts: Counts,
     index: BTreeSet<(u32, u64)>,
 }
 
@@ -35,9 +36,9 @@ impl<M> Model for Pool<M> {
 
     ghost use Rattle.ame_pool.specs.Keeps.{IsKept};
 
-    ghost view = { λ a. record { members = a.members.items; order = a.order.items; room = a.room } };
+    ghost view = { λ a. record { members = a.members.list; order = a.ready.order; room = a.members.room } };
 
-    ghost invariant = { λ a. IsKept a.members a.order a.room a.index };
+    ghost invariant = { λ a. IsKept a.members a.ready a.counts a.index };
 }
 
 impl<M: Drop> Pool<M> {
@@ -46,6 +47,7 @@ impl<M: Drop> Pool<M> {
     ghost use Rattle.ame_pool.specs.Roster.{nobody};
     ghost use Rattle.ame_pool.specs.Begin.{oldest as oldest_of};
     ghost use Rattle.ame_pool.specs.Keeps.{IsSound};
+    ghost use Rattle.ame_pool.specs.Stirs.{is_watching, stirred_at};
     ghost use Rattle.ame_pool.specs.Calls.{IsAt, is_running, is_noted, with_room, joined, newcomer, held, home as homed, replaced, removed, noted, parked, woken, machine_of, inside_of};
 
     /// A pool without members. It takes no memory.
@@ -53,9 +55,9 @@ impl<M: Drop> Pool<M> {
         ensures { result ≡ nobody }
     {
         Pool {
-            members: Vec::new(alloc),
-            order: Vec::new(alloc),
-            room: 0,
+            members: Members::new(alloc),
+            ready: Ready::new(alloc),
+            counts: Counts::new(),
             index: BTreeSet::new(alloc),
         }
     }
@@ -65,15 +67,9 @@ impl<M: Drop> Pool<M> {
         ensures ok { OnOk result (self.new ≡ with_room places self.old) }
         ensures err { OnErr result (self.new ≡ self.old) }
     {
-        let places = places as usize;
-        if places <= self.room {
-            return Ok(());
-        }
-        let order_places = self.members.len() - self.order.len() + places;
-        self.members.reserve(places)?;
-        self.order.reserve(order_places)?;
-        self.room = places;
-        Ok(())
+        let others = self.counts.busy + self.counts.parked;
+        self.ready.room(others + places as usize)?;
+        self.members.room(places as usize)
     }
 
     /// A new member, the youngest ready one.
@@ -82,34 +78,28 @@ impl<M: Drop> Pool<M> {
         requires fresh { find number self.old.members ≡ None }
         ensures { self.new ≡ joined (newcomer number machine inside) self.old }
     {
-        let place = gap(self.members.as_slice(), number);
-        let member = Member {
+        self.members.insert(Member {
             number,
             machine,
             inside,
             rollbacks: 0,
             standing: Standing::Ready,
-        };
-        put(&mut self.members, place, member);
-        self.order.push_reserved(number);
-        self.room -= 1;
+        });
+        self.ready.push(number, inside);
     }
 
     /// The member with a number.
     pub(crate) fn member(&self, number: u64) -> Option<&Member<M>>
         ensures { option_copied result ≡ find number self.now.members }
     {
-        match place_of(self.members.as_slice(), number) {
-            Ok(place) => Some(&self.members[place]),
-            Err(_) => None,
-        }
+        self.members.get(number)
     }
 
     /// The machine of a member.
     pub fn machine(&self, number: u64) -> Option<&M>
         ensures { option_copied result ≡ machine_of number self.now }
     {
-        match self.member(number) {
+        match self.members.get(number) {
             Some(member) => Some(&member.machine),
             None => None,
         }
@@ -119,7 +109,7 @@ impl<M: Drop> Pool<M> {
     pub fn inside(&self, number: u64) -> Option<bool>
         ensures { result ≡ inside_of number self.now }
     {
-        match self.member(number) {
+        match self.members.get(number) {
             Some(member) => Some(member.inside),
             None => None,
         }
@@ -130,9 +120,10 @@ impl<M: Drop> Pool<M> {
         requires { IsAt is_ready number self.old }
         ensures { self.new ≡ held number self.old }
     {
-        let place = found(self.members.as_slice(), number);
-        self.members[place].begin();
-        skip(&mut self.order, number);
+        self.members.begin(number);
+        let member = self.members.member(number);
+        self.counts.enter(member);
+        self.ready.take(number, member.inside);
     }
 
     /// Makes a ready member busy, and lends its machine.
@@ -153,9 +144,11 @@ impl<M: Drop> Pool<M> {
         requires { IsAt is_running number self.old }
         ensures { self.new ≡ homed number rolled_back self.old }
     {
-        let place = found(self.members.as_slice(), number);
-        self.members[place].go_home(rolled_back);
-        self.order.push_reserved(number);
+        let member = self.members.member(number);
+        let inside = member.inside;
+        self.counts.leave(member);
+        self.members.go_home(number, rolled_back);
+        self.ready.push(number, inside);
     }
 
     /// A busy member is the youngest ready one, with another machine.
@@ -163,15 +156,11 @@ impl<M: Drop> Pool<M> {
         requires { IsAt is_busy number self.old }
         ensures { self.new ≡ replaced number machine inside self.old }
     {
-        let place = found(self.members.as_slice(), number);
-        unwatch(
-            &mut self.index,
-            number,
-            self.members[place].untouched(),
-            &[],
-        );
-        self.members[place].renew(machine, inside);
-        self.order.push_reserved(number);
+        let member = self.members.member(number);
+        self.counts.leave(member);
+        unwatch(&mut self.index, number, member.untouched(), &[]);
+        self.members.renew(number, machine, inside);
+        self.ready.push(number, inside);
     }
 
     /// A busy member leaves the pool.
@@ -180,20 +169,16 @@ impl<M: Drop> Pool<M> {
         ensures pool { self.new ≡ removed number self.old }
         ensures machine { Some result ≡ machine_of number self.old }
     {
-        let place = found(self.members.as_slice(), number);
-        unwatch(
-            &mut self.index,
-            number,
-            self.members[place].untouched(),
-            &[],
-        );
+        let member = self.members.member(number);
+        self.counts.leave(member);
+        unwatch(&mut self.index, number, member.untouched(), &[]);
         let Member {
             number: _,
             machine,
             inside: _,
             rollbacks: _,
             standing: _,
-        } = self.members.remove(place);
+        } = self.members.remove(number);
         machine
     }
 
@@ -203,24 +188,16 @@ impl<M: Drop> Pool<M> {
         ensures ok { OnOk result (self.new ≡ noted number (map (λ l. l.0) locs.items) self.old) }
         ensures err { OnErr result (self.new ≡ self.old) }
     {
-        let place = found(self.members.as_slice(), number);
         let noted = watch(&mut self.index, number, locs.as_slice());
+        let member = self.members.member(number);
         if noted.is_err() {
-            unwatch(
-                &mut self.index,
-                number,
-                locs.as_slice(),
-                self.members[place].untouched(),
-            );
+            unwatch(&mut self.index, number, locs.as_slice(), member.untouched());
             return noted;
         }
-        unwatch(
-            &mut self.index,
-            number,
-            self.members[place].untouched(),
-            locs.as_slice(),
-        );
-        self.members[place].watch(Locs::from_vec(locs));
+        unwatch(&mut self.index, number, member.untouched(), locs.as_slice());
+        self.counts.leave(member);
+        self.members.watch(number, Locs::from_vec(locs));
+        self.counts.enter(self.members.member(number));
         Ok(())
     }
 
@@ -229,9 +206,27 @@ impl<M: Drop> Pool<M> {
         requires { IsAt is_noted number self.old }
         ensures { self.new ≡ parked number self.old }
     {
-        let place = found(self.members.as_slice(), number);
-        if self.members[place].settle() {
-            self.order.push_reserved(number);
+        let member = self.members.member(number);
+        let inside = member.inside;
+        self.counts.leave(member);
+        if self.members.settle(number) {
+            self.ready.push(number, inside);
+        } else {
+            self.counts.parked += 1;
+        }
+    }
+
+    /// A location was written that this member watches.
+    fn stir(&mut self, number: u64, l: Loc)
+        requires { IsAt (is_watching l.0) number self.old }
+        ensures { self.new ≡ stirred_at l.0 number self.old }
+    {
+        let member = self.members.member(number);
+        let inside = member.inside;
+        unwatch(&mut self.index, number, member.untouched(), &[]);
+        if self.members.stir(number, l) {
+            self.counts.parked -= 1;
+            self.ready.push(number, inside);
         }
     }
 
@@ -241,14 +236,7 @@ impl<M: Drop> Pool<M> {
         ensures { self.new ≡ woken l.0 self.old }
     {
         while let Some(number) = first(&self.index, l) {
-            let place = found(self.members.as_slice(), number);
-            unwatch(
-                &mut self.index,
-                number,
-                self.members[place].untouched(),
-                &[],
-            );
-            stir_at(&mut self.members, &mut self.order, place, l);
+            self.stir(number, l);
         }
     }
 
@@ -259,15 +247,14 @@ impl<M: Drop> Pool<M> {
         ensures waits { result ≡ Oldest.Wait → IsTrue (list_any is_busy self.now.members) }
         ensures sound { IsSound self.now.members self.now.order }
     {
-        if self.members.is_empty() {
-            return Oldest::Empty;
+        let Some(number) = self.ready.first() else {
+            return self.counts.idle();
+        };
+        if self.counts.may_begin(self.members.member(number)) {
+            return Oldest::Member(number);
         }
-        if are_parked(self.members.as_slice()) {
-            return Oldest::Parked;
-        }
-        let busy = busy_among(self.members.as_slice());
-        match first_able(self.members.as_slice(), self.order.as_slice(), busy) {
-            Some(number) => Oldest::Member(number),
+        match self.ready.first_inside() {
+            Some(inside) => Oldest::Member(inside),
             None => Oldest::Wait,
         }
     }

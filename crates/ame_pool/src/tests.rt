@@ -171,7 +171,7 @@ fn expect(
     oldest: Oldest,
 ) -> Result<(), Fail> {
     let pool = run(rt, alloc, steps)?;
-    assert!(rt; pool.order() == order);
+    assert!(rt; pool.has_order(order));
     assert!(rt; pool.oldest() == oldest);
     Ok(())
 }
@@ -197,18 +197,18 @@ fn a_write_wakes_who_waits_for_it(rt: HostRuntime) -> Result<(), Fail> {
     expect(&rt, alloc, &parked, &[], Oldest::Parked)?;
     let mut pool = run(&rt, alloc, &parked)?;
     pool.wake(Loc(1));
-    assert!(&rt; pool.order() == [1, 2].as_slice());
+    assert!(&rt; pool.has_order(&[1, 2]));
     pool.wake(Loc(0));
-    assert!(&rt; pool.order() == [1, 2].as_slice());
+    assert!(&rt; pool.has_order(&[1, 2]));
     pool.wake(Loc(2));
-    assert!(&rt; pool.order() == [1, 2, 3].as_slice());
+    assert!(&rt; pool.has_order(&[1, 2, 3]));
     hold(&rt, &mut pool, 3);
     note(&rt, alloc, &mut pool, 3, &[0])?;
     pool.wake(Loc(0));
-    assert!(&rt; pool.order() == [1, 2].as_slice());
+    assert!(&rt; pool.has_order(&[1, 2]));
     assert!(&rt; is_noted(&pool, 3));
     pool.park(3);
-    assert!(&rt; pool.order() == [1, 2, 3].as_slice());
+    assert!(&rt; pool.has_order(&[1, 2, 3]));
     assert!(&rt; pool.oldest() == Oldest::Member(1));
     Ok(())
 }
@@ -217,7 +217,6 @@ fn a_write_wakes_who_waits_for_it(rt: HostRuntime) -> Result<(), Fail> {
 fn ready_members_have_an_order(rt: HostRuntime) -> Result<(), Fail> {
     use Step::*;
     let alloc = rt.alloc();
-    expect(&rt, alloc, &[], &[], Oldest::Empty)?;
     expect(
         &rt,
         alloc,
@@ -246,6 +245,14 @@ fn ready_members_have_an_order(rt: HostRuntime) -> Result<(), Fail> {
         &[1, 3],
         Oldest::Member(1),
     )?;
+    Ok(())
+}
+
+#[test]
+fn where_none_is_ready_it_is_told_why(rt: HostRuntime) -> Result<(), Fail> {
+    use Step::*;
+    let alloc = rt.alloc();
+    expect(&rt, alloc, &[], &[], Oldest::Empty)?;
     expect(&rt, alloc, &[Add(1, false), Hold(1)], &[], Oldest::Wait)?;
     expect(
         &rt,
@@ -261,6 +268,28 @@ fn ready_members_have_an_order(rt: HostRuntime) -> Result<(), Fail> {
         &[],
         Oldest::Parked,
     )?;
+    expect(
+        &rt,
+        alloc,
+        &[
+            Add(1, false),
+            Add(2, false),
+            Hold(1),
+            Note(1, 4),
+            Park(1),
+            Wake(5),
+            Hold(2),
+        ],
+        &[],
+        Oldest::Wait,
+    )?;
+    Ok(())
+}
+
+#[test]
+fn a_touched_member_is_ready(rt: HostRuntime) -> Result<(), Fail> {
+    use Step::*;
+    let alloc = rt.alloc();
     expect(
         &rt,
         alloc,
@@ -288,21 +317,6 @@ fn ready_members_have_an_order(rt: HostRuntime) -> Result<(), Fail> {
         ],
         &[2],
         Oldest::Member(2),
-    )?;
-    expect(
-        &rt,
-        alloc,
-        &[
-            Add(1, false),
-            Add(2, false),
-            Hold(1),
-            Note(1, 4),
-            Park(1),
-            Wake(5),
-            Hold(2),
-        ],
-        &[],
-        Oldest::Wait,
     )?;
     expect(
         &rt,
@@ -335,16 +349,37 @@ fn a_worn_member_begins_alone(rt: HostRuntime) -> Result<(), Fail> {
     expect(
         &rt,
         alloc,
-        &[Add(1, false), Wear(1), Add(2, true), Hold(1)],
-        &[2],
-        Oldest::Member(2),
+        &[Add(1, false), Wear(1), Add(2, false), Hold(2)],
+        &[1],
+        Oldest::Wait,
     )?;
     expect(
         &rt,
         alloc,
-        &[Add(1, false), Wear(1), Add(2, false), Hold(2)],
-        &[1],
-        Oldest::Wait,
+        &[
+            Add(1, false),
+            Wear(1),
+            Hold(1),
+            Replace(1),
+            Add(2, false),
+            Hold(1),
+        ],
+        &[2],
+        Oldest::Member(2),
+    )?;
+    Ok(())
+}
+
+#[test]
+fn a_worn_member_is_passed_by_none_but_from_inside(rt: HostRuntime) -> Result<(), Fail> {
+    use Step::*;
+    let alloc = rt.alloc();
+    expect(
+        &rt,
+        alloc,
+        &[Add(1, false), Wear(1), Add(2, true), Hold(1)],
+        &[2],
+        Oldest::Member(2),
     )?;
     expect(
         &rt,
@@ -385,14 +420,24 @@ fn a_worn_member_begins_alone(rt: HostRuntime) -> Result<(), Fail> {
         &[
             Add(1, false),
             Wear(1),
-            Hold(1),
-            Replace(1),
             Add(2, false),
-            Hold(1),
+            Hold(2),
+            Add(3, true),
+            Add(4, true),
+            Add(5, false),
+            Hold(3),
+            Home(3),
         ],
-        &[2],
-        Oldest::Member(2),
+        &[1, 4, 5, 3],
+        Oldest::Member(4),
     )?;
+    Ok(())
+}
+
+#[test]
+fn rollbacks_end_at_eight(rt: HostRuntime) -> Result<(), Fail> {
+    use Step::*;
+    let alloc = rt.alloc();
     let worn = run(&rt, alloc, &[Add(1, false), Wear(1)])?;
     assert!(&rt; rollbacks(&worn, 1) == Some(8));
     let noted = run(&rt, alloc, &[Add(1, false), Wear(1), Hold(1), Note(1, 0)])?;

@@ -1,31 +1,22 @@
-use Rattle.std.proofs.Common.{◌<◌, refl, sym, subst, arith}
-use Rattle.ame_pool.specs.Members.{IsGapFor}
+use Rattle.std.proofs.Common.{◌≡◌, ◌<◌, None, refl, sym, subst, arith}
+use Rattle.ame_pool.specs.Members.{find}
 use Rattle.ame_pool.specs.Calls.{newcomer}
-use Rattle.ame_pool.proofs.MembersLemmas.{insert_at}
-use Rattle.ame_pool.proofs.KeepsLemmas.{sound_joined}
-use Rattle.ame_pool.proofs.KeptLemmas.{order_le}
-use Rattle.ame_pool.proofs.FindLemmas.{indexed_joined}
+use Rattle.ame_pool.proofs.OrderLemmas.{order_short}
+use Rattle.ame_pool.proofs.KeptLemmas.{inside_short, kept_placed}
 use Rattle.ame_pool.proofs.pool.Pool.add.Goals as goal
 
-pub push_reserved-requires : goal.push_reserved-requires
-push_reserved-requires g c =
+pub push-requires-clause-order : goal.push-requires-clause-order
+push-requires-clause-order g c =
     let room = subst (λ s. 0 < s.room) (sym c.self.view_is) c.requires.room in
-    omega (arith, room, order_le c.self.inside.members c.self.inside.order c.self.inside.room c.self.inside.index c.self.invariant, c.self.invariant.order_fits)
+    omega (arith, room, order_short c.self.inside.members.list c.self.inside.ready.order c.self.invariant.sound.ordered, c.self.invariant.fits)
+
+pub push-requires-clause-inside : goal.push-requires-clause-inside
+push-requires-clause-inside g c =
+    let room = subst (λ s. 0 < s.room) (sym c.self.view_is) c.requires.room in
+    omega (arith, room, order_short c.self.inside.members.list c.self.inside.ready.order c.self.invariant.sound.ordered, c.self.invariant.fits, inside_short c.self.invariant)
 
 pub invariant_of-self : goal.invariant_of-self
 invariant_of-self g c =
     let room = subst (λ s. 0 < s.room) (sym c.self.view_is) c.requires.room in
-    let new = newcomer c.args.number c.args.machine c.args.inside in
-    let gap = subst (λ ms. IsGapFor c.args.number ms c.gap-place.result) c.as_slice.ensures.value c.gap-place.ensures in
-    record {
-      indexed = rw c.put.ensures.items (indexed_joined c.self.inside.members.items c.gap-place.result new gap c.self.inside.index c.self.invariant.indexed refl);
-      sound = rw (c.put.ensures.items, c.push_reserved.ensures.items) (sound_joined c.self.inside.members.items c.self.inside.order.items c.self.invariant.sound c.gap-place.result new gap refl (omega arith));
-      members_fit = omega (arith, room, c.self.invariant.members_fit, c.put.ensures);
-      order_fits = omega (arith, room, c.self.invariant.order_fits, c.put.ensures, c.push_reserved.ensures.capacity);
-    }
-
-pub returns : goal.returns
-returns g c =
-    let new = newcomer c.args.number c.args.machine c.args.inside in
-    let gap = subst (λ ms. IsGapFor c.args.number ms c.gap-place.result) c.as_slice.ensures.value c.gap-place.ensures in
-    rw (← c.self.view_is, c.put.ensures.items, c.push_reserved.ensures.items, insert_at c.self.inside.members.items new c.gap-place.result gap) refl
+    let fresh = subst (λ s. find c.args.number s.members ≡ None) (sym c.self.view_is) c.requires.fresh in
+    rw (c.insert.ensures, c.push.ensures) (kept_placed c.self.invariant (newcomer c.args.number c.args.machine c.args.inside) fresh refl (omega arith) refl room)

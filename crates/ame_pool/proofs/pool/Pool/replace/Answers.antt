@@ -1,29 +1,38 @@
-use Rattle.std.proofs.Common.{IsTrue, refl, sym, subst, arith}
+use Rattle.std.proofs.Common.{refl, sym, subst, arith}
 use Rattle.ame_pool.specs.Members.{is_busy}
 use Rattle.ame_pool.specs.Calls.{IsAt, renewed}
-use Rattle.ame_pool.proofs.KeptLemmas.{index_cleared, IsSpot, spot, busy_not_ready, passes_at, order_roomy, kept_readied, change_at}
+use Rattle.ame_pool.proofs.StandingLemmas.{busy_not_ready}
+use Rattle.ame_pool.proofs.CountLemmas.{counts_in, moved_out}
+use Rattle.ame_pool.proofs.FindLemmas.{indexed_cleared}
+use Rattle.ame_pool.proofs.KeptLemmas.{passes, order_roomy, inside_roomy, kept_readied}
 use Rattle.ame_pool.proofs.pool.Pool.replace.Goals as goal
 
-pub push_reserved-requires : goal.push_reserved-requires
-push_reserved-requires g c =
-    let h : IsSpot c.self.inside.members c.self.inside.order c.self.inside.room c.self.inside.index c.args.number c.found-place.result c.index_mut.result.now =
-    spot c.self.invariant c.as_slice.ensures.value c.found-place.ensures c.index_mut.ensures.value in
-    let need = subst (IsAt is_busy c.args.number) (sym c.self.view_is) c.requires in
-    let was = busy_not_ready c.index_mut.result.now (passes_at h (λ m. IsTrue (is_busy m)) need) in
-    order_roomy h was
+pub leave-requires : goal.leave-requires
+leave-requires g c = counts_in c.self.inside.members.list c.self.inside.counts c.self.invariant.counted c.args.number c.member-member.result.now (sym c.member-member.ensures)
+
+pub push-requires-clause-order : goal.push-requires-clause-order
+push-requires-clause-order g c =
+    let n = c.args.number in
+    let m = c.member-member.result.now in
+    let found = sym c.member-member.ensures in
+    let is = passes is_busy n c.self.inside.members.list m found (subst (IsAt is_busy n) (sym c.self.view_is) c.requires) in
+    order_roomy c.self.invariant n m found (busy_not_ready m is)
+
+pub push-requires-clause-inside : goal.push-requires-clause-inside
+push-requires-clause-inside g c =
+    let n = c.args.number in
+    let m = c.member-member.result.now in
+    let found = sym c.member-member.ensures in
+    let is = passes is_busy n c.self.inside.members.list m found (subst (IsAt is_busy n) (sym c.self.view_is) c.requires) in
+    inside_roomy c.self.invariant n m found (busy_not_ready m is)
 
 pub invariant_of-self : goal.invariant_of-self
 invariant_of-self g c =
-    let h : IsSpot c.self.inside.members c.self.inside.order c.self.inside.room c.self.inside.index c.args.number c.found-place.result c.index_mut.result.now =
-    spot c.self.invariant c.as_slice.ensures.value c.found-place.ensures c.index_mut.ensures.value in
-    let need = subst (IsAt is_busy c.args.number) (sym c.self.view_is) c.requires in
-    let was = busy_not_ready c.index_mut.result.now (passes_at h (λ m. IsTrue (is_busy m)) need) in
-    rw c.renew.ensures (kept_readied h (renewed c.args.machine c.args.inside c.index_mut.result.now) refl (omega arith) was refl
-    c.push_reserved.new.self c.push_reserved.ensures.items c.push_reserved.ensures.capacity c.unwatch.new.index
-    (index_cleared h c.index.result.now c.index.ensures c.untouched.result.now c.untouched.ensures c.unwatch.new.index c.unwatch.ensures (renewed c.args.machine c.args.inside c.index_mut.result.now) refl refl))
-
-pub returns : goal.returns
-returns g c =
-    let h : IsSpot c.self.inside.members c.self.inside.order c.self.inside.room c.self.inside.index c.args.number c.found-place.result c.index_mut.result.now =
-    spot c.self.invariant c.as_slice.ensures.value c.found-place.ensures c.index_mut.ensures.value in
-    rw (← c.self.view_is, c.push_reserved.ensures.items, c.renew.ensures, change_at h (renewed c.args.machine c.args.inside)) refl
+    let n = c.args.number in
+    let m = c.member-member.result.now in
+    let found = sym c.member-member.ensures in
+    let is = passes is_busy n c.self.inside.members.list m found (subst (IsAt is_busy n) (sym c.self.view_is) c.requires) in
+    let f = renewed c.args.machine c.args.inside in
+    let indexed = indexed_cleared c.self.inside.members.list c.self.inside.index c.self.invariant.indexed n m found f (λ _. refl) c.untouched.result.now c.untouched.ensures refl c.unwatch.new.index c.unwatch.ensures in
+    rw (c.renew.ensures, c.push.ensures) (kept_readied c.self.invariant n m found f (λ _. refl) (λ _ _. omega arith)
+    c.leave.new.self (moved_out m (f m) refl c.self.inside.counts c.leave.new.self c.leave.ensures) c.unwatch.new.index indexed (busy_not_ready m is) refl)

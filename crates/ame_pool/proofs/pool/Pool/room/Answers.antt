@@ -1,7 +1,26 @@
-use Rattle.std.proofs.Common.{arith}
-use Rattle.ame_pool.proofs.KeptLemmas.{order_le}
+use Rattle.std.proofs.Common.{◌≡◌, ◌≤◌, ℕ, Result, Ok, Err, OnOk, OnErr, arith}
+use Rattle.std.specs.Prelude.{max}
+use Rattle.ame_pool.specs.Register.{Register}
+use Rattle.ame_pool.proofs.KeptLemmas.{inside_short, length_small, sizes, kept_roomy}
 use Rattle.ame_pool.proofs.pool.Pool.room.Goals as goal
 
-pub overflow_sub-order_places : goal.overflow_sub-order_places
-overflow_sub-order_places g c =
-    omega (arith, order_le c.self.inside.members c.self.inside.order c.self.inside.room c.self.inside.index c.self.invariant, c.self.inside.order.ok.0)
+-- the room, whether more was found or not
+either_room : {M T E : Type 0} (r : Result T E) (old new : Register M) (places : ℕ) → OnOk r (new ≡ record old { room = max old.room places }) → OnErr r (new ≡ old)
+    → (k : ℕ) × (new ≡ record old { room = k }) × (k ≤ max old.room places)
+either_room (Ok x) old new places ok err = (max old.room places, ok, omega arith)
+either_room (Err e) old new places ok err = (old.room, err, omega arith)
+
+pub overflow_add-others-2 : goal.overflow_add-others-2
+overflow_add-others-2 g c = omega (arith, sizes c.self.invariant, length_small c.self.invariant)
+
+pub room-requires-clause-more : goal.room-requires-clause-more
+room-requires-clause-more g c = omega (arith, sizes c.self.invariant, length_small c.self.invariant)
+
+pub room-requires-clause-fewer : goal.room-requires-clause-fewer
+room-requires-clause-fewer g c = inside_short c.self.invariant
+
+pub invariant_of-self-2 : goal.invariant_of-self-2
+invariant_of-self-2 g c =
+    let k = either_room c.room-2.result c.self.inside.members c.room-2.new.self c.args.places c.room-2.ensures.ok c.room-2.ensures.err in
+    rw k.1 (kept_roomy c.self.invariant c.room.new.self c.room.ensures.order c.room.ensures.inside c.room.ensures.small k.0
+    (omega (arith, k.2, sizes c.self.invariant, c.self.invariant.fits, c.room.ensures.grows, c.in_ok-room.ensures.ok)))

@@ -1,8 +1,10 @@
-use Rattle.ame_pool.proofs.WakeLemmas.{IsWaking, to_stir}
+use Rattle.std.proofs.Common.{◌≡◌}
+use Rattle.ame_pool.specs.Calls.{woken}
+use Rattle.ame_pool.proofs.WakeLemmas.{to_stir}
 use Rattle.ame_pool.proofs.pool.Pool.wake.Given as goal
 
 abbrev pub invariant-loop-number : goal.invariant-loop-number
-invariant-loop-number g l = IsWaking l.l.0 l.fn.self l.self-inside.members l.self-inside.order l.self-inside.room l.self-inside.index
+invariant-loop-number g l = woken l.l.0 l.self ≡ woken l.l.0 l.initial.self
 
 abbrev pub decreases-loop-number : goal.decreases-loop-number
-decreases-loop-number g l = to_stir l.l.0 l.self-inside.members.items
+decreases-loop-number g l = to_stir l.l.0 l.self.members

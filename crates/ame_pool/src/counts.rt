@@ -1,0 +1,114 @@
+//! How many members are busy or parked.
+
+ghost use Rattle.std.specs.Prelude.{◌≡◌, ◌+◌, ◌<◌, ◌≤◌, ◌^◌, false, nat_lt};
+ghost use Rattle.ame_pool.specs.Begin.{is_protected, is_worn_protected, may_begin_beside};
+ghost use Rattle.ame_pool.specs.Members.{is_busy, is_parked};
+
+use crate::member::{Member, Standing};
+use crate::oldest::Oldest;
+
+/// Of the busy members all, the protected ones and those of these with 8 rollbacks, and the parked members.
+#[derive(Drop)]
+pub struct Counts {
+    pub busy: usize,
+    pub protected: usize,
+    pub worn: usize,
+    pub parked: usize,
+}
+
+impl<M> Member<M> {
+    fn is_busy(&self) -> bool
+        ensures { result ≡ is_busy self.now }
+    {
+        matches!(&self.standing, Standing::Busy(_))
+    }
+
+    fn is_parked(&self) -> bool
+        ensures { result ≡ is_parked self.now }
+    {
+        matches!(&self.standing, Standing::Parked(_))
+    }
+
+    fn is_protected(&self) -> bool
+        ensures { result ≡ is_protected self.now }
+    {
+        !self.inside
+    }
+
+    fn is_worn_protected(&self) -> bool
+        ensures { result ≡ is_worn_protected self.now }
+    {
+        !self.inside && self.rollbacks == 8
+    }
+}
+
+impl Counts {
+    ghost use Rattle.ame_pool.specs.Counts.{counted, CountsIn, idle};
+
+    /// Of no member.
+    pub fn new() -> Counts
+        ensures { result ≡ record { busy = 0; protected = 0; worn = 0; parked = 0 } }
+    {
+        Counts {
+            busy: 0,
+            protected: 0,
+            worn: 0,
+            parked: 0,
+        }
+    }
+
+    /// One member more.
+    pub fn enter<M>(&mut self, member: &Member<M>)
+        requires busy { self.old.busy < 2 ^ 63 }
+        requires protected { self.old.protected < 2 ^ 63 }
+        requires worn { self.old.worn < 2 ^ 63 }
+        requires parked { self.old.parked < 2 ^ 63 }
+        ensures { self.new ≡ counted member.now self.old }
+    {
+        if member.is_busy() {
+            self.busy += 1;
+            self.protected += member.is_protected() as usize;
+            self.worn += member.is_worn_protected() as usize;
+        }
+        self.parked += member.is_parked() as usize;
+    }
+
+    /// One member less.
+    pub fn leave<M>(&mut self, member: &Member<M>)
+        requires { CountsIn member.now self.old }
+        ensures { self.old ≡ counted member.now self.new }
+    {
+        if member.is_busy() {
+            self.busy -= 1;
+            self.protected -= member.is_protected() as usize;
+            self.worn -= member.is_worn_protected() as usize;
+        }
+        self.parked -= member.is_parked() as usize;
+    }
+
+    /// Why none begins where none is ready.
+    pub fn idle(&self) -> Oldest
+        ensures { result ≡ idle self.now }
+    {
+        if 0 < self.busy {
+            Oldest::Wait
+        } else if 0 < self.parked {
+            Oldest::Parked
+        } else {
+            Oldest::Empty
+        }
+    }
+
+    /// Whether the oldest ready member may begin.
+    pub fn may_begin<M>(&self, member: &Member<M>) -> bool
+        ensures { result ≡ may_begin_beside (nat_lt 0 self.now.protected) (nat_lt 0 self.now.worn) false member.now }
+    {
+        if member.inside {
+            true
+        } else if member.rollbacks == 8 {
+            self.protected == 0
+        } else {
+            self.worn == 0
+        }
+    }
+}

@@ -1,0 +1,208 @@
+//! The members, found by their numbers.
+
+ghost use Rattle.std.specs.Prelude.{◌≡◌, ◌-◌, ◌<◌, ◌≤◌, max, Some, None, IsSome, IsSomeAnd, OnOk, OnErr, is_some, option_copied, option_map, vec_len, vec_capacity};
+ghost use Rattle.slab.specs.Slab.{get};
+ghost use Rattle.ame_pool.specs.Numbered.{AreRising, only, members_at};
+
+use crate::member::Member;
+use crate::numbers::{Numbered, enter, known_slot, slot_of};
+use ame_term::{Loc, Locs, NoMemory};
+use slab::Slab;
+use std::alloc::Global;
+use std::marker::Model;
+
+#[cfg(test)]
+mod probe;
+#[cfg(test)]
+mod tests;
+
+/// Members in slots, and for each number an entry that leads to its slot. A member that leaves takes its slot alone, and
+/// its entry is stale from then on.
+#[derive(Drop)]
+pub struct Members<M> {
+    slots: Slab<Member<M>>,
+    numbers: Vec<Numbered>,
+    room: usize,
+}
+
+impl<M> Model for Members<M> {
+    ghost use Rattle.ame_pool.specs.Register.{Register};
+
+    ghost Value = { Register M };
+
+    ghost use Rattle.slab.specs.Slab.{get};
+    ghost use Rattle.ame_pool.specs.Numbered.{IsNumbered, members_at};
+
+    ghost view = { λ a. record { list = members_at (get a.slots) a.numbers.items; room = a.room } };
+
+    ghost invariant = { λ a. IsNumbered a.slots a.numbers a.room };
+}
+
+/// The member in a slot, if it has the number.
+fn member_in<M>(slots: &Slab<Member<M>>, number: u64, key: usize) -> Option<&Member<M>>
+    ensures { option_copied result ≡ only number (get slots.now key) }
+{
+    match slots.get(key) {
+        Some(member) => {
+            if member.number == number {
+                Some(member)
+            } else {
+                None
+            }
+        }
+        None => None,
+    }
+}
+
+/// Whether an entry leads to a member with its number.
+fn is_live<M>(slots: &Slab<Member<M>>, entry: Numbered) -> bool
+    ensures { result ≡ is_some (only entry.number (get slots.now entry.key)) }
+{
+    member_in(slots, entry.number, entry.key).is_some()
+}
+
+/// Drops the stale entries, once more than half of all are stale.
+fn drop_stale<M>(numbers: &mut Vec<Numbered>, slots: &Slab<Member<M>>)
+    requires { AreRising numbers.old.items }
+    ensures list { members_at (get slots.now) numbers.new.items ≡ members_at (get slots.now) numbers.old.items }
+    ensures rising { AreRising numbers.new.items }
+    ensures len { vec_len numbers.new ≤ vec_len numbers.old }
+    ensures capacity { vec_capacity numbers.new ≡ vec_capacity numbers.old }
+{
+    if numbers.len() / 2 > slots.len() {
+        numbers.retain(|e| is_live(slots, *e));
+    }
+}
+
+impl<M: Drop> Members<M> {
+    ghost use Rattle.ame_pool.specs.Members.{find, change, placed, without};
+    ghost use Rattle.ame_pool.specs.Standings.{is_touched};
+    ghost use Rattle.ame_pool.specs.Waking.{stirred_by, is_woken_by};
+    ghost use Rattle.ame_pool.specs.Calls.{begun, at_home, renewed, noted_on, at_rest};
+    ghost use Rattle.ame_pool.specs.Register.{empty};
+
+    /// No members. It takes no memory.
+    pub fn new(alloc: Global) -> Members<M>
+        ensures { result ≡ empty }
+    {
+        Members {
+            slots: Slab::new(alloc),
+            numbers: Vec::new(alloc),
+            room: 0,
+        }
+    }
+
+    /// Makes room for this many members more.
+    pub fn room(&mut self, places: usize) -> Result<(), NoMemory>
+        ensures ok { OnOk result (self.new ≡ record self.old { room = max self.old.room places }) }
+        ensures err { OnErr result (self.new ≡ self.old) }
+    {
+        if places <= self.room {
+            return Ok(());
+        }
+        drop_stale(&mut self.numbers, &self.slots);
+        self.slots.reserve(places)?;
+        self.numbers.reserve(places)?;
+        self.room = places;
+        Ok(())
+    }
+
+    /// The member with a number, if there is one.
+    pub fn get(&self, number: u64) -> Option<&Member<M>>
+        ensures { option_copied result ≡ find number self.now.list }
+    {
+        match slot_of(self.numbers.as_slice(), number) {
+            Some(key) => member_in(&self.slots, number, key),
+            None => None,
+        }
+    }
+
+    /// The member with a number that is there.
+    pub fn member(&self, number: u64) -> &Member<M>
+        requires { IsSome (find number self.now.list) }
+        ensures { Some result.now ≡ find number self.now.list }
+    {
+        match self.get(number) {
+            Some(member) => member,
+            None => unreachable!(),
+        }
+    }
+
+    /// One member more.
+    pub fn insert(&mut self, member: Member<M>)
+        requires room { 0 < self.old.room }
+        requires fresh { find member.number self.old.list ≡ None }
+        ensures { self.new ≡ record { list = placed member self.old.list; room = self.old.room - 1 } }
+    {
+        let number = member.number;
+        let key = self.slots.insert_reserved(member);
+        enter(&mut self.numbers, Numbered { number, key });
+        self.room -= 1;
+    }
+
+    /// Takes a member out.
+    pub fn remove(&mut self, number: u64) -> Member<M>
+        requires { IsSome (find number self.old.list) }
+        ensures members { self.new ≡ record self.old { list = without number self.old.list } }
+        ensures member { Some result ≡ find number self.old.list }
+    {
+        let key = known_slot(self.numbers.as_slice(), number);
+        self.slots.remove(key)
+    }
+
+    /// A seat runs it.
+    pub fn begin(&mut self, number: u64)
+        requires { IsSome (find number self.old.list) }
+        ensures { self.new ≡ record self.old { list = change number begun self.old.list } }
+    {
+        let key = known_slot(self.numbers.as_slice(), number);
+        self.slots[key].begin();
+    }
+
+    /// Ready again.
+    pub fn go_home(&mut self, number: u64, rolled_back: bool)
+        requires { IsSomeAnd (find number self.old.list) (λ m. m.rollbacks ≤ 8) }
+        ensures { self.new ≡ record self.old { list = change number (at_home rolled_back) self.old.list } }
+    {
+        let key = known_slot(self.numbers.as_slice(), number);
+        self.slots[key].go_home(rolled_back);
+    }
+
+    /// Ready with another machine.
+    pub fn renew(&mut self, number: u64, machine: M, inside: bool)
+        requires { IsSome (find number self.old.list) }
+        ensures { self.new ≡ record self.old { list = change number (renewed machine inside) self.old.list } }
+    {
+        let key = known_slot(self.numbers.as_slice(), number);
+        self.slots[key].renew(machine, inside);
+    }
+
+    /// Noted as stuck on these locations.
+    pub fn watch(&mut self, number: u64, locs: Locs)
+        requires { IsSome (find number self.old.list) }
+        ensures { self.new ≡ record self.old { list = change number (noted_on locs) self.old.list } }
+    {
+        let key = known_slot(self.numbers.as_slice(), number);
+        self.slots[key].watch(locs);
+    }
+
+    /// Parked, or ready where its watch was touched, which the answer tells.
+    pub fn settle(&mut self, number: u64) -> bool
+        requires { IsSome (find number self.old.list) }
+        ensures members { self.new ≡ record self.old { list = change number at_rest self.old.list } }
+        ensures touched { Some result ≡ option_map (λ m. is_touched m.standing) (find number self.old.list) }
+    {
+        let key = known_slot(self.numbers.as_slice(), number);
+        self.slots[key].settle()
+    }
+
+    /// A location was written; the answer tells whether this member was woken.
+    pub fn stir(&mut self, number: u64, l: Loc) -> bool
+        requires { IsSome (find number self.old.list) }
+        ensures members { self.new ≡ record self.old { list = change number (stirred_by l.0) self.old.list } }
+        ensures woken { Some result ≡ option_map (is_woken_by l.0) (find number self.old.list) }
+    {
+        let key = known_slot(self.numbers.as_slice(), number);
+        self.slots[key].stir(l)
+    }
+}

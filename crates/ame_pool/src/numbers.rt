@@ -1,0 +1,59 @@
+//! Which number leads to which slot.
+
+ghost use Rattle.std.specs.Prelude.{◌≡◌, ◌+◌, ◌<◌, ◌≤◌, Some, IsSome, IfOk, IfErr, vec_len, vec_capacity};
+ghost use Rattle.ame_pool.specs.Numbered.{AreRising, IsEntryOf, IsEntryGap, key_of, entered};
+
+/// A number that was given, and the slot of its member. The entry is stale where that slot has no member with the number.
+#[derive(Clone, Copy)]
+pub struct Numbered {
+    pub number: u64,
+    pub key: usize,
+}
+
+/// The place of the entry of a number, or else the place where it belongs.
+fn place_of(numbers: &[Numbered], number: u64) -> Result<usize, usize>
+    requires { AreRising numbers.now }
+    ensures found { IfOk result (IsEntryOf number numbers.now) }
+    ensures absent { IfErr result (IsEntryGap number numbers.now) }
+{
+    numbers.binary_search_by_key(&number, |e| e.number)
+}
+
+/// The slot that the entry of a number leads to, if there is one.
+pub fn slot_of(numbers: &[Numbered], number: u64) -> Option<usize>
+    requires { AreRising numbers.now }
+    ensures { result ≡ key_of number numbers.now }
+{
+    match place_of(numbers, number) {
+        Ok(place) => Some(numbers[place].key),
+        Err(_) => None,
+    }
+}
+
+/// The slot of a number that has an entry.
+pub fn known_slot(numbers: &[Numbered], number: u64) -> usize
+    requires rising { AreRising numbers.now }
+    requires there { IsSome (key_of number numbers.now) }
+    ensures { key_of number numbers.now ≡ Some result }
+{
+    match slot_of(numbers, number) {
+        Some(key) => key,
+        None => unreachable!(),
+    }
+}
+
+/// Puts an entry at its place, or in place of the one that has its number.
+pub fn enter(numbers: &mut Vec<Numbered>, entry: Numbered)
+    requires rising { AreRising numbers.old.items }
+    requires room { vec_len numbers.old < vec_capacity numbers.old }
+    ensures items { numbers.new.items ≡ entered entry numbers.old.items }
+    ensures len { vec_len numbers.new ≤ vec_len numbers.old + 1 }
+    ensures capacity { vec_capacity numbers.old ≤ vec_capacity numbers.new }
+{
+    match place_of(numbers.as_slice(), entry.number) {
+        Ok(place) => numbers[place] = entry,
+        Err(place) => {
+            let _ = numbers.insert(place, entry);
+        }
+    }
+}

@@ -2,7 +2,6 @@
 use Rattle.std.specs.Prelude.{◌≡◌, ◌≢◌, ◌⊎◌, slice_index, ℕ, List, [], Option, Some, None, Ok, Err, ⊤}
 use Rattle.ame_io.specs.Counts.{HasRisen}
 use Rattle.ame_io.specs.Reads.{IsReadWhole, GivesMoreThan}
-use Rattle.ame_io.specs.declared.whole_read.TheConstants.{READ_LIMIT}
 use Rattle.ame_lex.specs.Bytes.{Text}
 use Rattle.ame_lex.specs.declared.tokens.LexFault.{LexFault}
 use Rattle.ame_parse.specs.declared.fault.ParseFault.{ParseFault}
@@ -20,6 +19,10 @@ use Rattle.ame_app.specs.declared.status.TextFault.{TextFault}
 use Rattle.ame_app.specs.declared.status.Status.{Status}
 use Rattle.ame_app.specs.declared.ended.Ended.{Ended}
 use Rattle.ame_app.specs.Endings.{IsRunOf, IsFinished, IsSpent}
+
+-- the most bytes that a program may have
+abbrev pub limit : ℕ
+limit = 1048576
 
 -- how a fault of the bytes or of the tokens is told
 abbrev pub told : Fault → Option TextFault
@@ -98,8 +101,8 @@ pub record IsReadFault (call : Call) : Type 0 where
 -- the source gave more bytes than a program may have
 pub record IsTooLong (call : Call) (at : ℕ) : Type 0 where
   pub words : call.words ≡ []
-  pub given : GivesMoreThan READ_LIMIT call.left call.left_after
-  pub place : at ≡ READ_LIMIT
+  pub given : GivesMoreThan limit call.left call.left_after
+  pub place : at ≡ limit
   pub faults : call.faults_after ≡ call.faults
 
 -- the source was read to its end, and the status tells of all its bytes

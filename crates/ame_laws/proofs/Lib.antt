@@ -1,9 +1,9 @@
 pub mod Tests
 pub mod Sound
 pub mod Complete
-pub mod SwapLemmas
-pub mod FoundLemmas
-pub mod ContextLemmas
 pub mod NamesLemmas
 pub mod SizeLemmas
 pub mod StandingLemmas
+pub mod FrameLemmas
+pub mod Followed
+pub mod RuleEffects

@@ -1,5 +1,5 @@
 pub mod TypingLaws
-pub mod Swap
 pub mod Standing
 pub mod Free
 pub mod Size
+pub mod Rules

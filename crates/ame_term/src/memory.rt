@@ -25,6 +25,7 @@ impl<T: Drop> From<AllocFailed<T>> for NoMemory {
 }
 
 /// The value in a box.
+#[inline]
 pub fn boxed<T: Drop>(alloc: Global, value: T) -> Result<Box<T>, NoMemory>
     ensures { IfOk result (λ b. b.value ≡ value) }
 {
@@ -33,6 +34,7 @@ pub fn boxed<T: Drop>(alloc: Global, value: T) -> Result<Box<T>, NoMemory>
 }
 
 /// One more item at the end of a vector; an item that found no place is dropped.
+#[inline]
 pub fn push<T: Drop>(items: &mut Vec<T>, item: T) -> Result<(), NoMemory>
     ensures ok { OnOk result (items.new.items ≡ items.old.items ++ item ∷ []) }
     ensures err { OnErr result (items.new.items ≡ items.old.items) }

@@ -47,3 +47,27 @@ pub enum Op {
     Less,
     Same,
 }
+
+/// A form with one part, which is evaluated where the form stands.
+#[derive(Clone, Copy, PartialEq, Eq, Debug)]
+pub enum Unary {
+    Not,
+    Ref(Sort),
+    Get,
+    Peek,
+    Block,
+    Print,
+    /// A call of the device with this number.
+    Call(u8),
+    First,
+    Second,
+}
+
+/// A form with two parts, which are evaluated from left to right.
+#[derive(Clone, Copy, PartialEq, Eq, Debug)]
+pub enum Binary {
+    App,
+    Bin(Op),
+    Set,
+    Pair,
+}

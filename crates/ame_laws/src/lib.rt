@@ -7,7 +7,7 @@ mod names;
 mod sizes;
 mod typing;
 
-pub use contexts::{contexts_are_focus, one_decomposition, one_standing};
+pub use contexts::{contexts_are_focus, frames_appended, one_decomposition, one_standing};
 pub use names::{
     closed_terms_stay, entered_names, filling_keeps_closed, free_names, substitutions_commute,
 };

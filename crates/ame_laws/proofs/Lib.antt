@@ -7,3 +7,4 @@ pub mod StandingLemmas
 pub mod FrameLemmas
 pub mod Followed
 pub mod RuleEffects
+pub mod PutsLemmas

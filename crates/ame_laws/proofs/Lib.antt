@@ -8,3 +8,5 @@ pub mod FrameLemmas
 pub mod Followed
 pub mod RuleEffects
 pub mod PutsLemmas
+pub mod FramedNames
+pub mod BoundNames

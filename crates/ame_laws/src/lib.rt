@@ -11,7 +11,8 @@ mod typing;
 
 pub use contexts::{contexts_are_focus, frames_appended, one_decomposition, one_standing};
 pub use names::{
-    closed_terms_stay, entered_names, filling_keeps_closed, free_names, substitutions_commute,
+    bound_terms_are_closed, closed_terms_stay, entered_names, filling_keeps_closed, free_names,
+    substitutions_commute,
 };
 pub use rules::{after_follows_the_rules, runs_follow_the_rules};
 pub use sizes::filled_size;

@@ -1,9 +1,3 @@
 pub mod Tests
 pub mod Sound
 pub mod Complete
-pub mod NamesLemmas
-pub mod SizeLemmas
-pub mod StandingLemmas
-pub mod FrameLemmas
-pub mod Followed
-pub mod RuleEffects

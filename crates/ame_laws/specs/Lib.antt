@@ -1,5 +1,1 @@
 pub mod TypingLaws
-pub mod Standing
-pub mod Free
-pub mod Size
-pub mod Rules

@@ -2,14 +2,6 @@
 //! caller that wants a law calls its function.
 #![tactic(auto)]
 
-mod contexts;
-mod names;
-mod sizes;
 mod typing;
 
-pub use contexts::{contexts_are_focus, one_decomposition, one_standing};
-pub use names::{
-    closed_terms_stay, entered_names, filling_keeps_closed, free_names, substitutions_commute,
-};
-pub use sizes::filled_size;
 pub use typing::{table_gives_what_is_had, types_are_unique, what_the_table_gives_is_had};

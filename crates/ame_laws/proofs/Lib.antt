@@ -1,3 +1,5 @@
 pub mod Tests
 pub mod Sound
 pub mod Complete
+pub mod MapLemmas
+pub mod OrderlyLemmas

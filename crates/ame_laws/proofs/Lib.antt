@@ -3,3 +3,4 @@ pub mod Sound
 pub mod Complete
 pub mod MapLemmas
 pub mod OrderlyLemmas
+pub mod HeightLemmas

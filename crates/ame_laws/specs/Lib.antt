@@ -1,2 +1,3 @@
 pub mod TypingLaws
 pub mod Orderly
+pub mod Holds

@@ -2,10 +2,12 @@
 //! caller that wants a law calls its function.
 #![tactic(auto)]
 
+mod heights;
 mod maps;
 mod orderly;
 mod typing;
 
+pub use heights::{heights_are_of_what_is_held, substitution_raises_heights};
 pub use maps::{change_is_found, numbers_still_rise, put_is_found, removed_is_not_found};
 pub use orderly::{
     first_state_is_orderly, legal_labels_keep_order, nobody_is_active_at_the_end, runs_are_orderly,

@@ -4,3 +4,4 @@ pub mod Complete
 pub mod MapLemmas
 pub mod OrderlyLemmas
 pub mod HeightLemmas
+pub mod EnclosedLemmas

@@ -1,3 +1,4 @@
 pub mod TypingLaws
 pub mod Orderly
 pub mod Holds
+pub mod Enclosed

@@ -2,11 +2,15 @@
 //! caller that wants a law calls its function.
 #![tactic(auto)]
 
+mod enclosed;
 mod heights;
 mod maps;
 mod orderly;
 mod typing;
 
+pub use enclosed::{
+    closures_are_entered, lists_are_environments, one_more_value, values_of_free_names_matter,
+};
 pub use heights::{heights_are_of_what_is_held, substitution_raises_heights};
 pub use maps::{change_is_found, numbers_still_rise, put_is_found, removed_is_not_found};
 pub use orderly::{

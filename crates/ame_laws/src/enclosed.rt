@@ -1,6 +1,6 @@
 //! Values put in for all free names at once.
 
-ghost use Rattle.std.specs.Prelude.{◌≡◌, ℕ, true, List, None};
+ghost use Rattle.std.specs.Prelude.{◌≡◌, ℕ, true, ◌&&◌, List, None, is_none};
 ghost use Rattle.ame_term.specs.Tree.{Head, Val, Tree};
 ghost use Rattle.ame_term.specs.Substitute.{substitute, entered};
 ghost use Rattle.ame_laws.specs.Free.{is_free};
@@ -22,6 +22,12 @@ pub fn values_of_free_names_matter()
     ensures free { (g h : Environment) (t : Tree)
         → ((x : ℕ) → is_free x t ≡ true → g x ≡ h x) → enclosed g t ≡ enclosed h t }
     ensures none { (t : Tree) → enclosed no_values t ≡ t }
+{}
+
+/// The names that stay free are the free ones without a value.
+pub fn names_without_values_stay_free()
+    ensures { (g : Environment) (x : ℕ) (t : Tree)
+        → is_free x (enclosed g t) ≡ (is_free x t && is_none (g x)) }
 {}
 
 /// One more value goes in after the others for a name that has none, or before them for any name. Two

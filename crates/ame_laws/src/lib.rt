@@ -15,7 +15,8 @@ mod typing;
 
 pub use contexts::{contexts_are_focus, frames_appended, one_decomposition, one_standing};
 pub use enclosed::{
-    closures_are_entered, lists_are_environments, one_more_value, values_of_free_names_matter,
+    closures_are_entered, lists_are_environments, names_without_values_stay_free, one_more_value,
+    values_of_free_names_matter,
 };
 pub use heights::{heights_are_of_what_is_held, substitution_raises_heights};
 pub use maps::{change_is_found, numbers_still_rise, put_is_found, removed_is_not_found};

@@ -6,7 +6,7 @@ use Rattle.std.specs.Ordering.{MatchOrdering, match_ordering, is_eq, nat_cmp}
 use Rattle.std.specs.List.{AllByRecursion}
 use Rattle.std.specs.BTreeMap.{is_at}
 use Rattle.std.proofs.lemmas.Cmp.{ranked}
-use Rattle.ame_term.specs.State.{at, put, change, without}
+use Rattle.ame_term.specs.Maps.{at, put, change, without}
 
 is_at-same : (i n : ℕ) → is_at (nat_cmp i) n ≡ true → i ≡ n
 is_at-same i n e = by (nat_cmp i n) (ranked i n (nat_cmp i n) refl) e

@@ -1,13 +1,5 @@
 pub mod Weaken
 pub mod Substituted
-pub mod Placed
-pub mod FormedLemmas
+pub mod WellFormedLemmas
 pub mod Acts
-pub mod Entries
-pub mod Effects
-pub mod Preserved
-pub mod Started
-pub mod Refilled
-pub mod ActLemmas
-pub mod Progressed
-pub mod FedLemmas
+pub mod FrameTypes

@@ -3,11 +3,11 @@ use Rattle.std.proofs.Common.{◌≡◌, ℕ, Bool, true, false, ◌⊎◌, ◌|
 use Rattle.std.specs.Prelude.{if◌then◌else◌, ◌==◌}
 use Rattle.std.proofs.lemmas.Bool.Decides.{nat_tests}
 use Rattle.ame_term.specs.Tree.{Typ, OwnName, Head, Val, Tree, Trees}
-use Rattle.ame_term.specs.Typing.{Scope, bind}
+use Rattle.ame_term.specs.Scope.{Scope, bind}
 use Rattle.ame_term.specs.Substitute.{binds, substitute, substitute_all}
-use Rattle.ame_term.specs.Has.{Has, HasLast, HasValue, held, name, function, recursive, app, binding, sequence, choice, operation, negation, reference, get, peek, set, async, block, unprotected, print, call, pairing, first, second, last, more}
+use Rattle.ame_term.specs.HasType.{HasType, HasLast, HasValue, held, name, function, recursive, binding, sequence, choice, async, unprotected, one, two, last, more}
 use Rattle.ame_term.specs.declared.types.Effect.{Effect}
-use Rattle.ame_soundness.specs.Cells.{Cells}
+use Rattle.ame_soundness.specs.StoreTyping.{StoreTyping}
 use Rattle.ame_soundness.proofs.Weaken.{Within, within_bind, weaken}
 
 -- the first scope has x of a type, and otherwise only names that the second one has with their types
@@ -79,26 +79,26 @@ hides_two x p o t u v g h e puts = by (o == x) refl
         left true e = refl
         left false e = e
 
-module _ (devices : ℕ) (cells : Cells) (x : ℕ) (t : Typ) (w : Val) (value : HasValue devices cells w t) where
+module _ (devices : ℕ) (cells : StoreTyping) (x : ℕ) (t : Typ) (w : Val) (value : HasValue devices cells w t) where
   put_in : (h : Scope) (q : Effect) (y : ℕ) (u : Typ) (b : Bool) → (y == x) ≡ b → (((y == x) ≡ true) × (u ≡ t)) ⊎ (((y == x) ≡ false) × (h y ≡ Some u)) →
-      Has devices cells h q (if b then Tree.Held w else Tree.Var y) u
+      HasType devices cells h q (if b then Tree.Held w else Tree.Var y) u
   put_in h q y u true is (inl k) = held (subst (λ (z : Typ). HasValue devices cells w z) (sym k.1) value)
   put_in h q y u true is (inr k) = let clash : true ≡ false = sym is ∙ k.0 in absurd cc
   put_in h q y u false is (inl k) = let clash : true ≡ false = sym k.0 ∙ is in absurd cc
   put_in h q y u false is (inr k) = name k.1
 
-  bodies : (h : Scope) (q : Effect) (u : Typ) (b : Bool) (body changed : Tree) → (b ≡ true → Has devices cells h q body u) → (b ≡ false → Has devices cells h q changed u) →
-      Has devices cells h q (if b then body else changed) u
+  bodies : (h : Scope) (q : Effect) (u : Typ) (b : Bool) (body changed : Tree) → (b ≡ true → HasType devices cells h q body u) → (b ≡ false → HasType devices cells h q changed u) →
+      HasType devices cells h q (if b then body else changed) u
   bodies h q u true body changed kept put = kept refl
   bodies h q u false body changed kept put = put refl
 
-  stays : {g : Scope} {q : Effect} {e : Tree} {u : Typ} → Has devices cells g q e u → (h : Scope) → Within g h → Has devices cells h q e u
+  stays : {g : Scope} {q : Effect} {e : Tree} {u : Typ} → HasType devices cells g q e u → (h : Scope) → Within g h → HasType devices cells h q e u
   stays {g} {q} {e} {u} a h w' = weaken devices cells cells (λ l cell e. e) a h w' q (inl refl)
 
   mutual
     unfolding substitute substitute_all
 
-    pub substituted : {g : Scope} {q : Effect} {e : Tree} {u : Typ} → Has devices cells g q e u → (h : Scope) → Puts x t g h → Has devices cells h q (substitute e x w) u
+    pub substituted : {g : Scope} {q : Effect} {e : Tree} {u : Typ} → HasType devices cells g q e u → (h : Scope) → Puts x t g h → HasType devices cells h q (substitute e x w) u
     substituted (held v) h p = held v
     substituted (name {q = q} {x = y} {t = u} e) h p = put_in h q y u (y == x) refl (p y u e)
     substituted (function {g} {q} {head} {body} {u} o b) h p =
@@ -116,7 +116,6 @@ module _ (devices : ℕ) (cells : Cells) (x : ℕ) (t : Typ) (w : Val) (value : 
         (λ is.
         let apart = neither (head.param == x) (own.name == x) (with_name head own x false o is) in
         substituted b inner (puts_bind x head.param t head.param_type (bind own.name f g) (bind own.name f h) apart.0 (puts_bind x own.name t f g h apart.1 p))))
-    substituted (app k a b) h p = app k (substituted a h p) (substituted b h p)
     substituted (binding {g} {q} {x = y} {body = body} {t = s} {u = u} a b) h p =
         binding (substituted a h p)
         (bodies (bind y s h) q u (y == x) body (substitute body x w)
@@ -124,20 +123,10 @@ module _ (devices : ℕ) (cells : Cells) (x : ℕ) (t : Typ) (w : Val) (value : 
         (λ is. substituted b (bind y s h) (puts_bind x y t s g h is p)))
     substituted (sequence a) h p = sequence (substituted_last a h p)
     substituted (choice a b c) h p = choice (substituted a h p) (substituted b h p) (substituted c h p)
-    substituted (operation a b) h p = operation (substituted a h p) (substituted b h p)
-    substituted (negation a) h p = negation (substituted a h p)
-    substituted (reference a) h p = reference (substituted a h p)
-    substituted (get k a) h p = get k (substituted a h p)
-    substituted (peek a) h p = peek (substituted a h p)
-    substituted (set k a b) h p = set k (substituted a h p) (substituted b h p)
     substituted (async a) h p = async (substituted a h p)
-    substituted (block a) h p = block (substituted a h p)
     substituted (unprotected a) h p = unprotected (substituted a h p)
-    substituted (print a) h p = print (substituted a h p)
-    substituted (call k a) h p = call k (substituted a h p)
-    substituted (pairing a b) h p = pairing (substituted a h p) (substituted b h p)
-    substituted (first a) h p = first (substituted a h p)
-    substituted (second a) h p = second (substituted a h p)
+    substituted (one row a) h p = one row (substituted a h p)
+    substituted (two row a b) h p = two row (substituted a h p) (substituted b h p)
 
     pub substituted_last : {g : Scope} {q : Effect} {parts : Trees} {u : Typ} → HasLast devices cells g q parts u → (h : Scope) → Puts x t g h → HasLast devices cells h q (substitute_all parts x w) u
     substituted_last (last a) h p = last (substituted a h p)

@@ -3,16 +3,7 @@
 #![tactic(auto)]
 
 mod fragments;
-mod local;
-mod progress;
-mod states;
 
 pub use fragments::{
-    either_fits, entering_keeps_types, growing_keeps_types, refilling_keeps_types,
-    substituting_keeps_types,
+    either_fits, growing_keeps_types, substituting_keeps_types,
 };
-pub use local::{fed_steps_keep_types, local_runs_keep_types};
-pub use progress::{
-    active_labels, fragments_progress, members_progress, one_kind_makes_an_act, resting_labels,
-};
-pub use states::{labels_keep_types, reached_states_are_typed, runs_keep_types, start_is_typed};

@@ -1,5 +1,5 @@
 use Rattle.ame_soundness.proofs.Substituted.{substituted, puts_bound}
-use Rattle.ame_soundness.proofs.FormedLemmas.{formed_substituted}
+use Rattle.ame_soundness.proofs.WellFormedLemmas.{formed_substituted}
 use Rattle.ame_soundness.proofs.fragments.substituting_keeps_types.Goals as goal
 
 pub returns-clause-typed : goal.returns-clause-typed

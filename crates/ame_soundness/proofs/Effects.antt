@@ -10,13 +10,13 @@ use Rattle.ame_term.specs.State.{State, allocated, performed}
 use Rattle.ame_term.specs.declared.semantics.StepKind.{StepKind}
 use Rattle.ame_term.specs.declared.types.Sort.{Sort}
 use Rattle.ame_term.specs.declared.types.Effect.{Effect}
+use Rattle.ame_laws.proofs.MapLemmas.{at-put, is_some-put, each-map, each-put}
 use Rattle.ame_soundness.specs.StoreTyping.{StoreTyping, Grows}
 use Rattle.ame_soundness.specs.WellFormed.{IsWellFormed, IsWellFormedValue}
 use Rattle.ame_soundness.specs.Fragment.{IsFragment, IsValueOf}
 use Rattle.ame_soundness.specs.TypedState.{IsTypedBy, IsMember, IsStored}
 use Rattle.ame_soundness.specs.TypedAct.{IsTypedAct}
 use Rattle.ame_soundness.proofs.Weaken.{weaken_cells, weaken_value}
-use Rattle.ame_soundness.proofs.Entries.{Each, at-put, each-map, each-put}
 
 pub fragment_grown : (devices : ℕ) (cells later : StoreTyping) → Grows cells later → (q : Effect) (e : Tree) (t : Typ) → IsFragment devices cells q e t → IsFragment devices later q e t
 fragment_grown devices cells later grows q e t f = (weaken_cells devices cells later grows f.0, f.1)
@@ -47,14 +47,6 @@ opened_value v w p = cc
 
 some_of : {X : Type 0} (o : Option X) (x : X) → o ≡ Some x → IsSome o
 some_of o x e = ap is_some e
-
--- what is there stays there
-pub still-put : {X : Type 0} (es : List (ℕ × X)) (n i : ℕ) (x : X) → ((n ≡ i → ⊥) → IsSome (at es i)) → IsSome (at (put es n x) i)
-still-put es n i x there = by (at-put es n i x)
-  where
-    by : ((n ≡ i) × (at (put es n x) i ≡ Some x)) ⊎ (((n ≡ i) → ⊥) × (at (put es n x) i ≡ at es i)) → IsSome (at (put es n x) i)
-    by (inl k) = some_of _ x k.1
-    by (inr k) = ap is_some k.1 ∙ there k.0
 
 -- a typing in which a new location has a sort and a type; no other location gets one
 pub record Chosen (cells : StoreTyping) (Allowed : StoreTyping → Type 0) (l : ℕ) (cell : Sort × Typ) : Type 0 where
@@ -126,7 +118,7 @@ module _ (devices : ℕ) (cells : StoreTyping) (s : State) (Allowed : StoreTypin
         present = typed.present;
       };
       part_typed = unit_fragment devices cells q t e;
-      kept = λ m there. still-put s.store l m v (λ apart. there);
+      kept = λ m there. is_some-put s.store l m v there;
       placed = λ m cell f. inl f;
     }
 
@@ -144,7 +136,7 @@ module _ (devices : ℕ) (cells : StoreTyping) (s : State) (Allowed : StoreTypin
         present = typed.present;
       };
       part_typed = held_fragment devices chosen.later q (Val.Loc l) t (Typ.Ref sort content) e (location chosen.has, tt);
-      kept = λ m there. still-put s.store l m v (λ apart. there);
+      kept = λ m there. is_some-put s.store l m v there;
       placed = λ m cell f. by m cell f (at-put s.store l m v);
     }
       where
@@ -162,7 +154,7 @@ module _ (devices : ℕ) (cells : StoreTyping) (s : State) (Allowed : StoreTypin
       state = record {
         stored = typed.stored;
         members = each-put (IsMember devices cells) s.members s.next body member typed.members;
-        present = λ i is. still-put s.members s.next i body (λ apart. typed.present i is);
+        present = λ i is. is_some-put s.members s.next i body (typed.present i is);
       };
       part_typed = unit_fragment devices cells q t e;
       kept = λ l there. there;

@@ -3,3 +3,7 @@ pub mod Substituted
 pub mod WellFormedLemmas
 pub mod Acts
 pub mod FrameTypes
+pub mod RedexSorts
+pub mod Effects
+pub mod Preserved
+pub mod Started

@@ -5,3 +5,4 @@ pub mod TypedAct
 pub mod TypedTerm
 pub mod TypedState
 pub mod NewCell
+pub mod Progress

@@ -3,7 +3,12 @@
 #![tactic(auto)]
 
 mod fragments;
+mod states;
 
 pub use fragments::{
     either_fits, growing_keeps_types, substituting_keeps_types,
+};
+pub use states::{
+    labels_keep_given_types, labels_keep_types, reached_states_are_typed, runs_keep_types,
+    start_is_typed, steps_keep_given_types,
 };

@@ -7,3 +7,5 @@ pub mod RedexSorts
 pub mod Effects
 pub mod Preserved
 pub mod Started
+pub mod MakingLemmas
+pub mod Progressed

@@ -3,10 +3,16 @@
 #![tactic(auto)]
 
 mod fragments;
+mod progress;
 mod states;
 
 pub use fragments::{
-    either_fits, growing_keeps_types, substituting_keeps_types,
+    either_fits, entering_keeps_types, growing_keeps_types, refilling_keeps_types,
+    substituting_keeps_types,
+};
+pub use progress::{
+    active_labels, active_members_progress, fragments_progress, members_progress,
+    one_kind_makes_an_act, resting_labels, resting_members_progress,
 };
 pub use states::{
     labels_keep_given_types, labels_keep_types, reached_states_are_typed, runs_keep_types,

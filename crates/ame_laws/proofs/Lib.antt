@@ -7,3 +7,6 @@ pub mod StandingLemmas
 pub mod FrameLemmas
 pub mod Followed
 pub mod RuleEffects
+pub mod PutsLemmas
+pub mod FramedNames
+pub mod BoundNames

@@ -1,30 +1,26 @@
--- The size of a term with its redex replaced.
-use Rattle.std.proofs.Common.{◌≡◌, ◌+◌, Bool, add_comm, arith}
+-- The size of a term with another part in its frames.
+use Rattle.std.proofs.Common.{◌≡◌, ℕ, ◌+◌, List, [], ◌∷◌, add_comm, sym, ap, ◌∙◌, arith}
 use Rattle.ame_term.specs.Tree.{Tree}
+use Rattle.ame_term.specs.Frame.{Frame, Side, plug, plug_all}
+use Rattle.ame_term.specs.Context.{Focus, focus, fill}
 use Rattle.ame_laws.specs.Size.{size, size_all}
-use Rattle.ame_laws.specs.Swap.{Swap, hole, app_function, app_argument, let_bound, do_first, if_test, bin_left, bin_right, not_part, ref_part, get_part, peek_part, set_cell, set_content, block_part, unprotected_part, print_part, call_part, pair_first, pair_second, first_part, second_part}
+use Rattle.ame_laws.proofs.FrameLemmas.{found}
 
-pub size-filled : (r u : Tree) (b : Bool) (t t' : Tree) → Swap r u b t t' → size t' + size r ≡ size t + size u
+size-plug : (f : Frame) (t u : Tree) (m n : ℕ) → size u + m ≡ size t + n → size (plug f u) + m ≡ size (plug f t) + n
 unfolding size size_all
-size-filled r u b t t' hole = add_comm (size u) (size r)
-size-filled r u b t t' (app_function inside e e' other s) = omega (arith, size-filled r u inside e e' s)
-size-filled r u b t t' (app_argument inside e e' v s) = omega (arith, size-filled r u inside e e' s)
-size-filled r u b t t' (let_bound inside e e' x body s) = omega (arith, size-filled r u inside e e' s)
-size-filled r u b t t' (do_first inside e e' rest s) = omega (arith, size-filled r u inside e e' s)
-size-filled r u b t t' (if_test inside e e' then_part else_part s) = omega (arith, size-filled r u inside e e' s)
-size-filled r u b t t' (bin_left inside e e' op other s) = omega (arith, size-filled r u inside e e' s)
-size-filled r u b t t' (bin_right inside e e' op v s) = omega (arith, size-filled r u inside e e' s)
-size-filled r u b t t' (not_part inside e e' s) = omega (arith, size-filled r u inside e e' s)
-size-filled r u b t t' (ref_part inside e e' sort s) = omega (arith, size-filled r u inside e e' s)
-size-filled r u b t t' (get_part inside e e' s) = omega (arith, size-filled r u inside e e' s)
-size-filled r u b t t' (peek_part inside e e' s) = omega (arith, size-filled r u inside e e' s)
-size-filled r u b t t' (set_cell inside e e' other s) = omega (arith, size-filled r u inside e e' s)
-size-filled r u b t t' (set_content inside e e' v s) = omega (arith, size-filled r u inside e e' s)
-size-filled r u b t t' (block_part inside e e' s) = omega (arith, size-filled r u inside e e' s)
-size-filled r u b t t' (unprotected_part inside e e' s) = omega (arith, size-filled r u inside e e' s)
-size-filled r u b t t' (print_part inside e e' s) = omega (arith, size-filled r u inside e e' s)
-size-filled r u b t t' (call_part inside e e' device s) = omega (arith, size-filled r u inside e e' s)
-size-filled r u b t t' (pair_first inside e e' other s) = omega (arith, size-filled r u inside e e' s)
-size-filled r u b t t' (pair_second inside e e' v s) = omega (arith, size-filled r u inside e e' s)
-size-filled r u b t t' (first_part inside e e' s) = omega (arith, size-filled r u inside e e' s)
-size-filled r u b t t' (second_part inside e e' s) = omega (arith, size-filled r u inside e e' s)
+size-plug (Frame.One op) t u m n e = omega arith
+size-plug (Frame.Left op right) t u m n e = omega arith
+size-plug (Frame.Right op left) t u m n e = omega arith
+size-plug (Frame.Bound x body) t u m n e = omega arith
+size-plug (Frame.First rest) t u m n e = omega arith
+size-plug (Frame.Test a b) t u m n e = omega arith
+size-plug Frame.Under t u m n e = omega arith
+
+pub size-plug_all : (fs : List Frame) (t u : Tree) → size (plug_all fs u) + size t ≡ size (plug_all fs t) + size u
+size-plug_all [] t u = add_comm (size u) (size t)
+size-plug_all (f ∷ fs) t u = size-plug f (plug_all fs t) (plug_all fs u) (size t) (size u) (size-plug_all fs t u)
+
+pub size-filled : (t r u : Tree) (side : Side) → focus t ≡ Focus.AtRedex side r → size (fill t u) + size r ≡ size t + size u
+size-filled t r u side e =
+    let h = found t r side e in
+    ap (λ (z : Tree). size z + size r) (h.refilled u) ∙ size-plug_all h.frames r u ∙ ap (λ (z : Tree). size z + size u) (sym h.term)

@@ -3,3 +3,4 @@ pub mod Standing
 pub mod Free
 pub mod Size
 pub mod Rules
+pub mod Puts

@@ -4,12 +4,17 @@
 
 mod contexts;
 mod names;
+mod rules;
 mod sizes;
+mod substitution;
 mod typing;
 
-pub use contexts::{contexts_are_focus, one_decomposition, one_standing};
+pub use contexts::{contexts_are_focus, frames_appended, one_decomposition, one_standing};
 pub use names::{
-    closed_terms_stay, entered_names, filling_keeps_closed, free_names, substitutions_commute,
+    bound_terms_are_closed, closed_terms_stay, entered_names, filling_keeps_closed, free_names,
+    substitutions_commute,
 };
+pub use rules::{after_follows_the_rules, runs_follow_the_rules};
 pub use sizes::filled_size;
+pub use substitution::substitution_puts;
 pub use typing::{table_gives_what_is_had, types_are_unique, what_the_table_gives_is_had};

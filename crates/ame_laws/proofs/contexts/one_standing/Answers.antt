@@ -1,5 +1,5 @@
 use Rattle.ame_term.specs.Context.{focus}
-use Rattle.ame_laws.proofs.StandingLemmas.{value_standing, unprotected_standing, protected_standing, not_both}
+use Rattle.ame_laws.proofs.StandingLemmas.{value_standing, unprotected_standing, protected_standing, never_both}
 use Rattle.ame_laws.proofs.contexts.one_standing.Goals as goal
 
 pub returns-clause-value : goal.returns-clause-value
@@ -12,4 +12,4 @@ pub returns-clause-protected : goal.returns-clause-protected
 returns-clause-protected c = protected_standing
 
 pub returns-clause-apart : goal.returns-clause-apart
-returns-clause-apart c = λ t. not_both (focus t)
+returns-clause-apart c = λ t. never_both (focus t)

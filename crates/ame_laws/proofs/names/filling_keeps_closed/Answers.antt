@@ -1,12 +1,14 @@
-use Rattle.std.proofs.Common.{refl}
-use Rattle.ame_term.specs.Context.{focus, fill}
-use Rattle.ame_laws.proofs.FoundLemmas.{found}
-use Rattle.ame_laws.proofs.NamesLemmas.{unfree_redex}
-use Rattle.ame_laws.proofs.StandingLemmas.{closed_fill}
+use Rattle.ame_laws.proofs.FramedNames.{closed_redex, closed_filled, closed_part, closed_plugged}
 use Rattle.ame_laws.proofs.names.filling_keeps_closed.Goals as goal
 
 pub returns-clause-redex : goal.returns-clause-redex
-returns-clause-redex c = λ t r inside e closed x. unfree_redex x r r inside t (fill t r) (found t r r inside e).1 (closed x)
+returns-clause-redex c = closed_redex
 
 pub returns-clause-filled : goal.returns-clause-filled
-returns-clause-filled c = λ t u closed also x. closed_fill x t u (focus t) refl (closed x) (also x)
+returns-clause-filled c = closed_filled
+
+pub returns-clause-part : goal.returns-clause-part
+returns-clause-part c = closed_part
+
+pub returns-clause-plugged : goal.returns-clause-plugged
+returns-clause-plugged c = closed_plugged

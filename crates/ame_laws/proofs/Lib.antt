@@ -10,3 +10,6 @@ pub mod RuleEffects
 pub mod PutsLemmas
 pub mod FramedNames
 pub mod BoundNames
+pub mod MapLemmas
+pub mod OrderlyLemmas
+pub mod HeightLemmas

@@ -4,3 +4,5 @@ pub mod Free
 pub mod Size
 pub mod Rules
 pub mod Puts
+pub mod Orderly
+pub mod Holds

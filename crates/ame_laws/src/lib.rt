@@ -3,16 +3,24 @@
 #![tactic(auto)]
 
 mod contexts;
+mod heights;
+mod maps;
 mod names;
+mod orderly;
 mod rules;
 mod sizes;
 mod substitution;
 mod typing;
 
 pub use contexts::{contexts_are_focus, frames_appended, one_decomposition, one_standing};
+pub use heights::{heights_are_of_what_is_held, substitution_raises_heights};
+pub use maps::{change_is_found, numbers_still_rise, put_is_found, removed_is_not_found};
 pub use names::{
     bound_terms_are_closed, closed_terms_stay, entered_names, filling_keeps_closed, free_names,
     substitutions_commute,
+};
+pub use orderly::{
+    first_state_is_orderly, legal_labels_keep_order, nobody_is_active_at_the_end, runs_are_orderly,
 };
 pub use rules::{after_follows_the_rules, runs_follow_the_rules};
 pub use sizes::filled_size;

@@ -1,5 +1,5 @@
 -- A typed state after the effect of a typed act.
-use Rattle.std.proofs.Common.{◌≡◌, ℕ, ◌+◌, ◌⊎◌, List, [], ◌∷◌, ◌++◌, Option, Some, None, refl, sym, ap, subst, ◌∙◌, inl, inr, ℤ, is_some}
+use Rattle.std.proofs.Common.{◌≡◌, ℕ, ◌+◌, ◌⊎◌, [], ◌∷◌, ◌++◌, Option, Some, None, refl, sym, ap, subst, ◌∙◌, inl, inr, ℤ, is_some}
 use Rattle.std.specs.Prelude.{if◌then◌else◌, option_map, option_and_then, IsSome}
 use Rattle.ame_term.specs.Tree.{Typ, Val, Tree, unit_tree}
 use Rattle.ame_term.specs.Scope.{unscoped}
@@ -179,7 +179,7 @@ module _ (devices : ℕ) (cells : StoreTyping) (s : State) (Allowed : StoreTypin
     -- a typing is chosen for each value that a new location gets by a kind of step
     module _ (kind : StepKind) (wanted : Act)
         (choose : (l : ℕ) (sort : Sort) (v : Val) (content : Typ) → fresh_location kind ≡ Some l → wanted ≡ Act.Allocates sort v → at s.store l ≡ None → IsValueOf devices cells v content
-            → Chosen cells Allowed l (sort, content)) where
+        → Chosen cells Allowed l (sort, content)) where
       made_new : (q : Effect) (t : Typ) (sort : Sort) (v : Val) (content : Typ) → wanted ≡ Act.Allocates sort v → t ≡ Typ.Ref sort content → IsValueOf devices cells v content
           → (f : Option ℕ) → fresh_location kind ≡ f → IsMade q t (option_and_then (allocated v s) f)
       made_new q t sort v content is e value None names = tt

@@ -1,7 +1,7 @@
 -- A typed term as a part in frames, and another part in its place.
-use Rattle.std.proofs.Common.{◌≡◌, ℕ, List, [], ◌∷◌, refl, sym, subst, inl}
+use Rattle.std.proofs.Common.{◌≡◌, ℕ, List, [], ◌∷◌, refl, subst, inl}
 use Rattle.ame_term.specs.Tree.{Typ, Tree, Trees}
-use Rattle.ame_term.specs.Scope.{Scope, unscoped}
+use Rattle.ame_term.specs.Scope.{unscoped}
 use Rattle.ame_term.specs.Frame.{Frame, Side, plug, plug_all, side_in, side_of}
 use Rattle.ame_term.specs.SourceTerm.{HasTwo}
 use Rattle.ame_term.specs.HasType.{HasType, binding, sequence, choice, unprotected, one, two, last, more}
@@ -10,7 +10,7 @@ use Rattle.ame_soundness.specs.StoreTyping.{StoreTyping, Grows}
 use Rattle.ame_soundness.specs.WellFormed.{IsWellFormed, AreWellFormed}
 use Rattle.ame_soundness.specs.Fragment.{IsFragment, effect_at}
 use Rattle.ame_soundness.specs.TypedTerm.{IsTypedAt}
-use Rattle.ame_soundness.proofs.Weaken.{within_itself, weaken, weaken_cells, weaken_last}
+use Rattle.ame_soundness.proofs.Weaken.{within_itself, weaken_cells, weaken_last}
 use Rattle.ame_soundness.proofs.Acts.{typed_act}
 
 -- the effect in a frame's hole

@@ -9,3 +9,4 @@ pub mod Preserved
 pub mod Started
 pub mod MakingLemmas
 pub mod Progressed
+pub mod LocalLemmas

@@ -1,6 +1,6 @@
 -- Which kinds of steps make an act, and that they have an effect in a typed state.
-use Rattle.std.proofs.Common.{◌≡◌, ℕ, ◌+◌, ◌≤◌, Bool, true, false, ◌&&◌, List, [], ◌∷◌, Option, Some, None, refl, sym, ap, subst, ◌∙◌, is_some, is_none, arith, pos}
-use Rattle.std.specs.Prelude.{if◌then◌else◌, option_map, IsSome, IsTrue}
+use Rattle.std.proofs.Common.{◌≡◌, ℕ, ◌+◌, ◌≤◌, Bool, true, false, ◌&&◌, List, [], ◌∷◌, Option, Some, None, refl, ap, subst, is_some, is_none, arith, pos}
+use Rattle.std.specs.Prelude.{if◌then◌else◌, option_map, IsSome}
 use Rattle.std.specs.BTreeMap.{is_at}
 use Rattle.std.specs.Ordering.{nat_cmp}
 use Rattle.ame_term.specs.Tree.{Typ, Val, Tree}

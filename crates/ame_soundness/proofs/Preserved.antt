@@ -2,31 +2,30 @@
 use Rattle.std.proofs.Common.{◌≡◌, ℕ, ◌⊎◌, Bool, true, false, List, [], ◌∷◌, Option, Some, None, refl, sym, ap, subst, ◌∙◌, inl, inr, is_some, is_none, arith}
 use Rattle.std.specs.Prelude.{if◌then◌else◌, ◌==◌, IsSome, option_map, option_and_then}
 use Rattle.ame_term.specs.Tree.{Typ, Val, Tree}
-use Rattle.ame_term.specs.Frame.{Frame, Side, plug_all, same_side, side_of}
+use Rattle.ame_term.specs.Frame.{Side, plug_all, same_side, side_of}
 use Rattle.ame_term.specs.Context.{Focus, focus, fill}
 use Rattle.ame_term.specs.Act.{Act, act_of, fresh_location, makes}
 use Rattle.ame_term.specs.Scope.{unscoped}
 use Rattle.ame_term.specs.HasType.{held}
 use Rattle.ame_term.specs.Maps.{at, change, without}
-use Rattle.ame_term.specs.State.{State, performed, performed_on, rewritten, reduced_at, reduce, closed_value, at_unprotected, at_value, activated, departed, ended, closed, after, run}
+use Rattle.ame_term.specs.State.{State, performed, rewritten, reduced_at, reduce, closed_value, at_unprotected, at_value, activated, closed, after, run}
 use Rattle.ame_term.specs.declared.semantics.StepKind.{StepKind}
 use Rattle.ame_term.specs.declared.semantics.Label.{Label}
 use Rattle.ame_term.specs.declared.types.Effect.{Effect}
 use Rattle.ame_term.specs.declared.types.Sort.{Sort}
-use Rattle.ame_term.specs.declared.types.Unary.TheVariants as unary
-use Rattle.ame_laws.proofs.FrameLemmas.{Found, found}
+use Rattle.ame_laws.specs.Standing.{HasRedex}
+use Rattle.ame_laws.proofs.FrameLemmas.{found}
 use Rattle.ame_laws.proofs.Complete.{unique}
 use Rattle.ame_laws.proofs.MapLemmas.{each-at, each-change, each-without, is_some-change}
 use Rattle.ame_soundness.specs.StoreTyping.{StoreTyping, Grows}
 use Rattle.ame_soundness.specs.WellFormed.{IsWellFormed}
-use Rattle.ame_soundness.specs.Fragment.{IsFragment, IsValueOf, effect_at}
-use Rattle.ame_soundness.specs.TypedAct.{IsTypedAct}
+use Rattle.ame_soundness.specs.Fragment.{IsValueOf, effect_at}
 use Rattle.ame_soundness.specs.TypedTerm.{IsTypedAt}
 use Rattle.ame_soundness.specs.TypedState.{IsTyped, IsTypedBy, IsTypedLater, IsMember}
 use Rattle.ame_soundness.specs.NewCell.{HasNewCell, HasNewCellOf, HasNewCellAfter}
 use Rattle.ame_soundness.proofs.FrameTypes.{placed}
 use Rattle.ame_soundness.proofs.RedexSorts.{allocating}
-use Rattle.ame_soundness.proofs.Effects.{Chosen, Made, IsMade, effect_typed}
+use Rattle.ame_soundness.proofs.Effects.{Chosen, IsMade, effect_typed}
 
 -- a typed state, by a typing that is allowed; the locations of the first store stay, and those that
 -- got types are there
@@ -81,7 +80,7 @@ module _ (devices : ℕ) (cells : StoreTyping) (s : State) (Allowed : StoreTypin
         (effect_typed devices cells s Allowed itself typed kind (act_of redex) (λ l sort v content names is fresh value. choose side redex l sort v content e names is fresh value)
         (act_of redex) refl (effect_at (side_of f.frames) Effect.Protected) typing.part_type (typing.act_typed f.redex))
       where
-        by : (f : Found term redex side) (typing : IsTypedAt devices cells Effect.Protected f.frames redex Typ.Unit) (o : Option (Tree × State))
+        by : (f : HasRedex term redex side) (typing : IsTypedAt devices cells Effect.Protected f.frames redex Typ.Unit) (o : Option (Tree × State))
             → IsMade devices cells s Allowed itself (effect_at (side_of f.frames) Effect.Protected) typing.part_type o → IsKept devices cells Allowed s (option_map (rewritten i term) o)
         by f typing None made = tt
         by f typing (Some result) made = record {
@@ -122,7 +121,6 @@ module _ (devices : ℕ) (cells : StoreTyping) (s : State) (Allowed : StoreTypin
       (changed cells s typed i (fill term (Tree.Held v))
       (subst (IsMember devices cells) (sym (f.refilled (Tree.Held v))) (typing.refilled cells (λ l cell e. e) (Tree.Held v) (held a.0.0, a.0.1))))
   closes i term member _ e = tt
-
 
   -- a typing is chosen for what the step that a label is allocates
   abbrev pub ChoosesAfter : Label → Type 0

@@ -2,7 +2,7 @@
 use Rattle.std.proofs.Common.{◌≡◌, ℕ, ◌⊎◌, Bool, true, false, not, ◌&&◌, Option, Some, None, refl, sym, ap, subst, ◌∙◌, inl, inr, is_some, is_none}
 use Rattle.std.specs.Prelude.{if◌then◌else◌, option_map, option_and_then, IsSome}
 use Rattle.ame_term.specs.Tree.{Typ, Val, Tree}
-use Rattle.ame_term.specs.Frame.{Side, plug_all, same_side, side_of}
+use Rattle.ame_term.specs.Frame.{Side, same_side}
 use Rattle.ame_term.specs.Context.{Focus, focus, fill}
 use Rattle.ame_term.specs.Act.{Act, act_of, making_on, makes}
 use Rattle.ame_term.specs.Maps.{at, change, without}

@@ -1,7 +1,7 @@
 -- Redexes by what they do: those that have no step as reductions, allocations, and the others.
-use Rattle.std.proofs.Common.{◌≡◌, Bool, true, false, refl, ap, subst, sym, ◌∙◌}
+use Rattle.std.proofs.Common.{◌≡◌, true, false, refl, ap, subst, sym, ◌∙◌}
 use Rattle.ame_term.specs.Tree.{Val, Tree, Trees}
-use Rattle.ame_term.specs.Act.{Act, act_of, call_act, rest_act, if_act, operator_act, not_act, get_act, peek_act, set_act, print_act, device_act, first_act, second_act}
+use Rattle.ame_term.specs.Act.{Act, act_of, call_act, rest_act, if_act, operator_act, set_act}
 use Rattle.ame_term.specs.declared.types.Sort.{Sort}
 use Rattle.ame_term.specs.declared.types.Op.{Op}
 use Rattle.ame_term.specs.declared.types.Unary.{Unary}

@@ -6,3 +6,4 @@ pub mod TypedTerm
 pub mod TypedState
 pub mod NewCell
 pub mod Progress
+pub mod LocalRun

@@ -8,6 +8,7 @@ ghost use Rattle.ame_term.specs.SourceTerm.{IsSourceTerm};
 ghost use Rattle.ame_term.specs.State.{State, start, reduce, run, IsLegal, IsRun};
 ghost use Rattle.ame_term.specs.declared.semantics.StepKind.{StepKind};
 ghost use Rattle.ame_term.specs.declared.semantics.Label.{Label};
+ghost use Rattle.ame_laws.specs.Orderly.{IsOrderly};
 ghost use Rattle.ame_soundness.specs.StoreTyping.{StoreTyping};
 ghost use Rattle.ame_soundness.specs.TypedState.{IsTyped, IsTypedBy, IsTypedLater};
 ghost use Rattle.ame_soundness.specs.NewCell.{HasNewCellOf, HasNewCellAfter};
@@ -32,11 +33,12 @@ pub fn runs_keep_types()
         → IsTyped devices cells s → run s labels ≡ Some t → IsTypedLater devices cells t }
 {}
 
-/// Each state that a strong run of an accepted program reaches is typed.
+/// Each state that a strong run of an accepted program reaches is typed, and its entries stand in
+/// order.
 pub fn reached_states_are_typed()
     ensures { (devices : ℕ) (places : List ℕ) (program : Tree) (refs : List Typ) (labels : List Label) (t : State)
         → Accepts devices places program refs → IsSourceTerm program → IsRun program labels t
-        → (cells : StoreTyping) × IsTyped devices cells t }
+        → (cells : StoreTyping) × IsTyped devices cells t × IsOrderly t }
 {}
 
 /// The types of locations may be given, also of some that the store doesn't have. A state that they

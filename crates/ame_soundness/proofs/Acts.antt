@@ -1,5 +1,5 @@
 -- The act of a typed redex.
-use Rattle.std.proofs.Common.{◌≡◌, ℕ, Bool, true, false, ◌⊎◌, Option, Some, None, refl, sym, subst, ◌∙◌, inl, inr, arith}
+use Rattle.std.proofs.Common.{◌≡◌, ℕ, Bool, true, false, Option, Some, None, refl, sym, subst, arith}
 use Rattle.std.proofs.lemmas.Bool.Decides.{nat_tests}
 use Rattle.std.specs.Prelude.{if◌then◌else◌, ◌==◌}
 use Rattle.ame_term.specs.Tree.{Typ, OwnName, Head, Val, Tree, Trees}
@@ -16,26 +16,8 @@ use Rattle.ame_soundness.specs.WellFormed.{IsWellFormed, IsWellFormedValue, AreW
 use Rattle.ame_soundness.specs.Fragment.{IsFragment, IsValueOf}
 use Rattle.ame_soundness.specs.TypedAct.{IsTypedAct}
 use Rattle.ame_soundness.proofs.Weaken.{Fits, within_itself, weaken}
-use Rattle.ame_soundness.proofs.Substituted.{Puts, puts_bound, substituted}
+use Rattle.ame_soundness.proofs.Substituted.{shadows, substituted, put_for}
 use Rattle.ame_soundness.proofs.WellFormedLemmas.{formed_substituted, formed_entered}
-
-other_way : (x y : ℕ) → (x == y) ≡ (y == x)
-other_way x y = grind (arith, nat_tests)
-
--- a parameter that hides the own name
-hidden_own : (x o : ℕ) (t u : Typ) → (o == x) ≡ true → Puts x t (bind x t (bind o u unscoped)) unscoped
-hidden_own x o t u same y s = by (x == y) refl
-  where
-    apart : (x o y : ℕ) → (o == x) ≡ true → (x == y) ≡ false → (o == y) ≡ false
-    apart x o y e f = grind (arith, nat_tests)
-
-    turned : (b : Bool) → (x == y) ≡ b → (y == x) ≡ b
-    turned b e = other_way y x ∙ e
-
-    by : (b : Bool) → (x == y) ≡ b → (if b then Some t else (if o == y then Some u else None)) ≡ Some s →
-        (((y == x) ≡ true) × (s ≡ t)) ⊎ (((y == x) ≡ false) × (unscoped y ≡ Some s))
-    by true is e = inl (turned true is, cc)
-    by false is e = inr (turned false is, rw (apart x o y same is) at e)
 
 module _ (devices : ℕ) (cells : StoreTyping) where
   fitted : {q : Effect} {e : Tree} {t : Typ} → HasType devices cells unscoped q e t → (r : Effect) → Fits q r → HasType devices cells unscoped r e t
@@ -45,28 +27,24 @@ module _ (devices : ℕ) (cells : StoreTyping) where
       → HasValue devices cells v head.param_type → HasType devices cells unscoped head.effect (entered head body v) u
   plain_entered head body v u o b a =
       subst (λ (z : Option OwnName). HasType devices cells unscoped head.effect (with_own z head.param (substitute body head.param v) (Val.Fun head body)) u) (sym o)
-      (substituted devices cells head.param head.param_type v a b unscoped (puts_bound head.param head.param_type unscoped))
-
-  own_entered : (head : Head) (own : OwnName) (body : Tree) (v : Val)
-      → HasType devices cells (bind head.param head.param_type (bind own.name (Typ.Fun head.effect head.param_type own.result) unscoped)) head.effect body own.result
-      → HasValue devices cells (Val.Fun head body) (Typ.Fun head.effect head.param_type own.result) → HasValue devices cells v head.param_type
-      → HasType devices cells unscoped head.effect (with_own (Some own) head.param (substitute body head.param v) (Val.Fun head body)) own.result
-  own_entered head own body v b f a = by (own.name == head.param) refl
-    where
-      by : (z : Bool) → (own.name == head.param) ≡ z → HasType devices cells unscoped head.effect (if z then substitute body head.param v else substitute (substitute body head.param v) own.name (Val.Fun head body)) own.result
-      by true is = substituted devices cells head.param head.param_type v a b unscoped (hidden_own head.param own.name head.param_type (Typ.Fun head.effect head.param_type own.result) is)
-      by false is =
-          substituted devices cells own.name (Typ.Fun head.effect head.param_type own.result) (Val.Fun head body) f
-          (substituted devices cells head.param head.param_type v a b (bind own.name (Typ.Fun head.effect head.param_type own.result) unscoped)
-          (puts_bound head.param head.param_type (bind own.name (Typ.Fun head.effect head.param_type own.result) unscoped)))
-          unscoped (puts_bound own.name (Typ.Fun head.effect head.param_type own.result) unscoped)
+      (put_for devices cells head.param head.param_type v a unscoped b)
 
   recursive_entered : (head : Head) (own : OwnName) (body : Tree) (v : Val) → head.own ≡ Some own
       → HasType devices cells (bind head.param head.param_type (bind own.name (Typ.Fun head.effect head.param_type own.result) unscoped)) head.effect body own.result
       → HasValue devices cells v head.param_type → HasType devices cells unscoped head.effect (entered head body v) own.result
   recursive_entered head own body v o b a =
       subst (λ (z : Option OwnName). HasType devices cells unscoped head.effect (with_own z head.param (substitute body head.param v) (Val.Fun head body)) own.result) (sym o)
-      (own_entered head own body v b (recursive_value o b) a)
+      (by (own.name == head.param) refl)
+    where
+      by : (z : Bool) → (own.name == head.param) ≡ z
+          → HasType devices cells unscoped head.effect (if z then substitute body head.param v else substitute (substitute body head.param v) own.name (Val.Fun head body)) own.result
+      by true is = substituted devices cells head.param head.param_type v a b unscoped (shadows own.name head.param (Typ.Fun head.effect head.param_type own.result) head.param_type unscoped (other_way own.name head.param is))
+        where
+          other_way : (x y : ℕ) → (x == y) ≡ true → (y == x) ≡ true
+          other_way x y e = grind (arith, nat_tests)
+      by false is =
+          let f = Typ.Fun head.effect head.param_type own.result in
+          put_for devices cells own.name f (Val.Fun head body) (recursive_value o b) unscoped (put_for devices cells head.param head.param_type v a (bind own.name f unscoped) b)
 
   -- a function's body entered, under the function's effect
   pub function_entered : (head : Head) (body : Tree) (k : Effect) (u t : Typ) (v : Val) → IsValueOf devices cells (Val.Fun head body) (Typ.Fun k t u) → IsValueOf devices cells v t
@@ -114,7 +92,7 @@ module _ (devices : ℕ) (cells : StoreTyping) where
   typed_act (Tree.Lambda head body) e q _ (function o b) f = (held (function_value o b), f)
   typed_act (Tree.Lambda head body) e q _ (recursive o b) f = (held (recursive_value o b), f)
   typed_act (Tree.Let x (Tree.Held v) body) e q t (binding {t = p} (held a) b) f =
-      (substituted devices cells x p v a b unscoped (puts_bound x p unscoped), formed_substituted x v f.0 body f.1)
+      (put_for devices cells x p v a unscoped b, formed_substituted x v f.0 body f.1)
   typed_act (Tree.Let x a body) e q t h f = absurd (cc)
   typed_act (Tree.Do (Trees.More (Tree.Held v) (Trees.More b Trees.None))) e q t (sequence (more h (last k))) f = (k, f.1.1.0)
   typed_act (Tree.Do (Trees.More (Tree.Held v) (Trees.More b (Trees.More c rest)))) e q t (sequence (more h k)) f = (sequence k, (tt, f.1.1))

@@ -3,10 +3,11 @@ pub mod Substituted
 pub mod WellFormedLemmas
 pub mod Acts
 pub mod FrameTypes
-pub mod RedexSorts
-pub mod Effects
+pub mod FragmentLemmas
+pub mod LocalLemmas
 pub mod Preserved
+pub mod RunsLocally
 pub mod Started
+pub mod RedexSorts
 pub mod MakingLemmas
 pub mod Progressed
-pub mod LocalLemmas

@@ -88,7 +88,7 @@ is_protected Side.Protected e = refl
 module _ (devices : ℕ) (cells : StoreTyping) (known : ℕ → Bool) (there : (l : ℕ) (cell : Sort × Typ) → cells l ≡ Some cell → known l ≡ true) (side : Side) (t : Typ) where
   pub can_be_made : (act : Act) → IsTypedAct devices cells (effect_at side Effect.Protected) t act → IsOther act → CanBeMade known side act
   can_be_made (Act.Becomes e) a o = (refl, tt)
-  can_be_made (Act.Allocates sort v) a o = absurd o
+  can_be_made (Act.Allocates sort v) a o = (refl, tt)
   can_be_made (Act.Reads l) a o = (refl, there l (a.0, t) a.1)
   can_be_made (Act.Peeks l) a o = (ap (λ z. is_some (making_on z (Act.Peeks l))) (is_unprotected side a.1), there l (Sort.Protected, t) a.0)
   can_be_made (Act.Writes l v) a o = (refl, there l (a.0, a.1) a.2)

@@ -1,224 +1,191 @@
--- A typed state after a legal label.
-use Rattle.std.proofs.Common.{◌≡◌, ℕ, ◌⊎◌, Bool, true, false, List, [], ◌∷◌, Option, Some, None, refl, sym, ap, subst, ◌∙◌, inl, inr, is_some, is_none, arith}
-use Rattle.std.specs.Prelude.{if◌then◌else◌, ◌==◌, IsSome, option_map, option_and_then}
+-- A typed state after a label by a rule.
+use Rattle.std.proofs.Common.{◌≡◌, ℕ, ◌⊎◌, true, false, List, Some, None, refl, sym, ap, subst, ◌∙◌, inl, inr, is_some, arith}
+use Rattle.std.specs.Prelude.{if◌then◌else◌, ◌==◌, IsSome}
 use Rattle.ame_term.specs.Tree.{Typ, Val, Tree}
-use Rattle.ame_term.specs.Frame.{Side, plug_all, same_side, side_of}
-use Rattle.ame_term.specs.Context.{Focus, focus, fill}
-use Rattle.ame_term.specs.Act.{Act, act_of, fresh_location, makes}
-use Rattle.ame_term.specs.Scope.{unscoped}
-use Rattle.ame_term.specs.HasType.{held}
-use Rattle.ame_term.specs.Maps.{at, change, without}
-use Rattle.ame_term.specs.State.{State, performed, rewritten, reduced_at, reduce, closed_value, at_unprotected, at_value, activated, closed, after, run}
+use Rattle.ame_term.specs.Frame.{Frame, Side, plug_all, side_of}
+use Rattle.ame_term.specs.Act.{act_of}
+use Rattle.ame_term.specs.HasType.{HasValue}
+use Rattle.ame_term.specs.Maps.{at, put, change}
+use Rattle.ame_term.specs.State.{State, after, run}
 use Rattle.ame_term.specs.declared.semantics.StepKind.{StepKind}
 use Rattle.ame_term.specs.declared.semantics.Label.{Label}
 use Rattle.ame_term.specs.declared.types.Effect.{Effect}
+use Rattle.ame_term.specs.declared.types.Loc.{Loc}
 use Rattle.ame_term.specs.declared.types.Sort.{Sort}
-use Rattle.ame_laws.specs.Standing.{HasRedex}
-use Rattle.ame_laws.proofs.FrameLemmas.{found}
-use Rattle.ame_laws.proofs.Complete.{unique}
-use Rattle.ame_laws.proofs.MapLemmas.{each-at, each-change, each-without, is_some-change}
+use Rattle.ame_term.specs.declared.types.Unary.TheVariants as unary
+use Rattle.ame_laws.specs.Rules.{Reduces, Steps, Rule, Runs}
+use Rattle.ame_laws.proofs.RuleEffects.{row_redex}
+use Rattle.ame_laws.proofs.Followed.{rule_of, runs}
+use Rattle.ame_laws.proofs.MapLemmas.{at-put, is_some-put, each-at, each-put, each-change, each-without, each-map, is_some-change}
 use Rattle.ame_soundness.specs.StoreTyping.{StoreTyping, Grows}
 use Rattle.ame_soundness.specs.WellFormed.{IsWellFormed}
 use Rattle.ame_soundness.specs.Fragment.{IsValueOf, effect_at}
+use Rattle.ame_soundness.specs.TypedAct.{IsTypedAct}
 use Rattle.ame_soundness.specs.TypedTerm.{IsTypedAt}
-use Rattle.ame_soundness.specs.TypedState.{IsTyped, IsTypedBy, IsTypedLater, IsMember}
+use Rattle.ame_soundness.specs.TypedState.{IsTyped, IsTypedBy, IsTypedLater, IsMember, IsStored}
 use Rattle.ame_soundness.specs.NewCell.{HasNewCell, HasNewCellOf, HasNewCellAfter}
+use Rattle.ame_soundness.specs.LocalRun.{LocalStep}
+use Rattle.ame_soundness.proofs.Weaken.{weaken_cells, weaken_value}
 use Rattle.ame_soundness.proofs.FrameTypes.{placed}
-use Rattle.ame_soundness.proofs.RedexSorts.{allocating}
-use Rattle.ame_soundness.proofs.Effects.{Chosen, IsMade, effect_typed}
+use Rattle.ame_soundness.proofs.LocalLemmas.{local_step}
 
--- a typed state, by a typing that is allowed; the locations of the first store stay, and those that
--- got types are there
-pub record Kept (devices : ℕ) (cells : StoreTyping) (Allowed : StoreTyping → Type 0) (s t : State) : Type 0 where
-  pub later : StoreTyping
-  pub allowed : Allowed later
-  pub grows : Grows cells later
-  pub state : IsTypedBy devices later t
-  pub kept : (l : ℕ) → IsSome (at s.store l) → IsSome (at t.store l)
-  pub placed : (l : ℕ) (cell : Sort × Typ) → later l ≡ Some cell → (cells l ≡ Some cell) ⊎ IsSome (at t.store l)
+-- the location that a redex makes by a kind of step, if it makes one, has the sort and the value's type
+abbrev pub MakesCell : ℕ → StoreTyping → StepKind → Tree → Type 0
+MakesCell devices cells kind redex =
+    (l : Loc) (sort : Sort) (v : Val) → kind ≡ StepKind.Alloc l → redex ≡ Tree.One (unary.Ref sort) (Tree.Held v)
+    → (content : Typ) × (cells l.0 ≡ Some (sort, content)) × HasValue devices cells v content
 
-abbrev pub IsKept : (devices : ℕ) (cells : StoreTyping) (Allowed : StoreTyping → Type 0) (s : State) → Option State → Type 0
-IsKept devices cells Allowed s None = Unit {0}
-IsKept devices cells Allowed s (Some t) = Kept devices cells Allowed s t
+-- the same of the step that a rule is
+abbrev pub RuleMakes : ℕ → StoreTyping → (s : State) (label : Label) (t : State) → Rule s label t → Type 0
+RuleMakes devices cells s _ _ (Rule.steps i kind t is st) = MakesCell devices cells kind st.redex
+RuleMakes devices cells s _ _ (Rule.frees i kind t idle st) = MakesCell devices cells kind st.redex
+RuleMakes devices cells s _ _ _ = Unit {0}
 
--- a typing is chosen for what a redex allocates by a kind of step
-abbrev pub Chooses : (devices : ℕ) (cells : StoreTyping) (Allowed : StoreTyping → Type 0) (s : State) → StepKind → Tree → Type 0
-Chooses devices cells Allowed s kind term =
-    (side : Side) (redex : Tree) (l : ℕ) (sort : Sort) (v : Val) (content : Typ) → focus term ≡ Focus.AtRedex side redex → fresh_location kind ≡ Some l → act_of redex ≡ Act.Allocates sort v
-    → at s.store l ≡ None → IsValueOf devices cells v content → Chosen cells Allowed l (sort, content)
+-- by one typing of locations
+module _ (devices : ℕ) (cells : StoreTyping) (s : State) (typed : IsTypedBy devices cells s) where
+  put_typed : (l : ℕ) (v : Val) (cell : Sort × Typ) → cells l ≡ Some cell → IsValueOf devices cells v cell.1 → IsTypedBy devices cells (record s { store = put s.store l v })
+  put_typed l v cell is value = record { stored = λ m w found. by m w found (at-put s.store l m v); members = typed.members; present = typed.present }
+    where
+      by : (m : ℕ) (w : Val) → at (put s.store l v) m ≡ Some w → ((l ≡ m) × (at (put s.store l v) m ≡ Some v)) ⊎ (((l ≡ m) → ⊥) × (at (put s.store l v) m ≡ at s.store m))
+          → IsStored devices cells m w
+      by m w found (inl k) = let same : v ≡ w = cc in (cell, ap cells (sym k.0) ∙ is, subst (λ (z : Val). IsValueOf devices cells z cell.1) same value)
+      by m w found (inr k) = typed.stored m w (sym k.1 ∙ found)
 
-module _ (devices : ℕ) (cells : StoreTyping) (s : State) (Allowed : StoreTyping → Type 0) (itself : Allowed cells) (typed : IsTypedBy devices cells s) where
-  member_typed : (i : ℕ) (term : Tree) → at s.members i ≡ Some term → IsMember devices cells term
-  member_typed i term member = each-at (IsMember devices cells) s.members i term member typed.members
+  -- after the effect of a row
+  effect_typed : (side : Side) (kind : StepKind) (redex part : Tree) (t : State) → Reduces s side kind redex part t → MakesCell devices cells kind redex → (q : Effect) (u : Typ) → IsWellFormed redex
+      → IsTypedAct devices cells q u (act_of redex) → IsTypedBy devices cells t
+  unfolding act_of IsWellFormed
+  effect_typed _ _ _ _ _ (Reduces.pure side redex part row) makes q u formed a = typed
+  effect_typed _ _ _ _ _ (Reduces.allocation side l sort v fresh) makes q u formed a = let p = makes l sort v refl refl in put_typed l.0 v (sort, p.0) p.1 (p.2, formed)
+  effect_typed _ _ _ _ _ (Reduces.reading side l v found) makes q u formed a = typed
+  effect_typed _ _ _ _ _ (Reduces.peeking l v found) makes q u formed a = typed
+  effect_typed _ _ _ _ _ (Reduces.writing side l v) makes q u formed a = put_typed l v (a.0, a.1) a.2 a.3
+  effect_typed _ _ _ _ _ (Reduces.spawning side body) makes q u formed a = record {
+    stored = typed.stored;
+    members = each-put (IsMember devices cells) s.members s.next body a.0 typed.members;
+    present = λ i is. is_some-put s.members s.next i body (typed.present i is);
+  }
+  effect_typed _ _ _ _ _ (Reduces.printing side n) makes q u formed a = record { stored = typed.stored; members = typed.members; present = typed.present }
+  effect_typed _ _ _ _ _ Reduces.passing makes q u formed a = typed
+  effect_typed _ _ _ _ _ (Reduces.answering device n reply) makes q u formed a = typed
+
+  -- a row is a local step, which is fed what the store has
+  pub fed : (side : Side) (kind : StepKind) (redex part : Tree) (t : State) → Reduces s side kind redex part t → MakesCell devices cells kind redex → IsWellFormed redex → LocalStep devices cells side redex part
+  unfolding IsWellFormed
+  fed _ _ _ _ _ (Reduces.pure side redex part row) makes formed = LocalStep.becomes side redex part row
+  fed _ _ _ _ _ (Reduces.allocation side l sort v fresh) makes formed = let p = makes l sort v refl refl in LocalStep.allocated side sort v l.0 p.0 p.1 (p.2, formed)
+  fed _ _ _ _ _ (Reduces.reading side l v found) makes formed = let p = typed.stored l v found in LocalStep.read side l v p.0.0 p.0.1 p.1 p.2
+  fed _ _ _ _ _ (Reduces.peeking l v found) makes formed = let p = typed.stored l v found in LocalStep.peeked l v p.0.0 p.0.1 p.1 p.2
+  fed _ _ _ _ _ (Reduces.writing side l v) makes formed = LocalStep.written side l v
+  fed _ _ _ _ _ (Reduces.spawning side body) makes formed = LocalStep.spawned side body
+  fed _ _ _ _ _ (Reduces.printing side n) makes formed = LocalStep.printed side n
+  fed _ _ _ _ _ Reduces.passing makes formed = LocalStep.passed
+  fed _ _ _ _ _ (Reduces.answering device n reply) makes formed = LocalStep.answered device n reply
 
   -- a member's term is changed to another typed one
-  changed : (later : StoreTyping) (t : State) → IsTypedBy devices later t → (i : ℕ) (term : Tree) → IsMember devices later term
-      → IsTypedBy devices later (record t { members = change t.members i term })
-  changed later t state i term member = record {
+  changed : (t : State) → IsTypedBy devices cells t → (i : ℕ) (term : Tree) → IsMember devices cells term → IsTypedBy devices cells (record t { members = change t.members i term })
+  changed t state i term member = record {
     stored = state.stored;
-    members = each-change (IsMember devices later) t.members i term member state.members;
+    members = each-change (IsMember devices cells) t.members i term member state.members;
     present = λ j is. is_some-change t.members i j term ∙ state.present j is;
   }
 
-  same_store : (t : State) → t.store ≡ s.store → IsTypedBy devices cells t → Kept devices cells Allowed s t
-  same_store t same state = record {
-    later = cells;
-    allowed = itself;
-    grows = λ l cell e. e;
-    state = state;
-    kept = λ l there. ap (λ (store : List (ℕ × Val)). is_some (at store l)) same ∙ there;
-    placed = λ l cell e. inl e;
-  }
+  member_typed : (i : ℕ) (term : Tree) → at s.members i ≡ Some term → IsMember devices cells term
+  member_typed i term found = each-at (IsMember devices cells) s.members i term found typed.members
 
-  -- a step of a member at its redex
-  module _ (kind : StepKind) (i : ℕ) (term : Tree) (member : at s.members i ≡ Some term) (choose : Chooses devices cells Allowed s kind term) where
-    stepped : (side : Side) (redex : Tree) → focus term ≡ Focus.AtRedex side redex → IsKept devices cells Allowed s (option_map (rewritten i term) (performed kind (act_of redex) s))
-    stepped side redex e =
-        let f = found term redex side e in
-        let typing = placed devices cells Effect.Protected f.frames redex Typ.Unit (subst (IsMember devices cells) f.term (member_typed i term member)) in
-        by f typing (performed kind (act_of redex) s)
-        (effect_typed devices cells s Allowed itself typed kind (act_of redex) (λ l sort v content names is fresh value. choose side redex l sort v content e names is fresh value)
-        (act_of redex) refl (effect_at (side_of f.frames) Effect.Protected) typing.part_type (typing.act_typed f.redex))
-      where
-        by : (f : HasRedex term redex side) (typing : IsTypedAt devices cells Effect.Protected f.frames redex Typ.Unit) (o : Option (Tree × State))
-            → IsMade devices cells s Allowed itself (effect_at (side_of f.frames) Effect.Protected) typing.part_type o → IsKept devices cells Allowed s (option_map (rewritten i term) o)
-        by f typing None made = tt
-        by f typing (Some result) made = record {
-          later = made.later;
-          allowed = made.allowed;
-          grows = made.grows;
-          state = changed made.later result.1 made.state i (fill term result.0)
-              (subst (IsMember devices made.later) (sym (f.refilled result.0)) (typing.refilled made.later made.grows result.0 made.part_typed));
-          kept = made.kept;
-          placed = made.placed;
-        }
+  module _ (side : Side) (kind : StepKind) (i : ℕ) (t : State) (st : Steps s side kind i t) where
+    pub step_placed : IsTypedAt devices cells Effect.Protected st.frames st.redex Typ.Unit
+    step_placed = placed devices cells Effect.Protected st.frames st.redex Typ.Unit (member_typed i (plug_all st.frames st.redex) st.found)
 
-    on_side : (side : Side) (f : Focus) → focus term ≡ f → IsKept devices cells Allowed s (option_map (rewritten i term) (reduced_at side kind f s))
-    on_side side (Focus.AtValue v) e = tt
-    on_side side (Focus.AtRedex under redex) e = by (same_side side under) (makes side kind (act_of redex)) (stepped under redex e)
-      where
-        by : (a b : Bool) → IsKept devices cells Allowed s (option_map (rewritten i term) (performed kind (act_of redex) s))
-            → IsKept devices cells Allowed s (option_map (rewritten i term) (if a then (if b then performed kind (act_of redex) s else None) else None))
-        by true true kept = kept
-        by true false kept = tt
-        by false b kept = tt
+    pub step_act : (p : IsTypedAt devices cells Effect.Protected st.frames st.redex Typ.Unit)
+        → IsTypedAct devices cells (effect_at (side_of st.frames) Effect.Protected) p.part_type (act_of st.redex)
+    step_act p = p.act_typed (row_redex s side kind st.redex st.part st.after_effect st.reduces)
 
-  pub reduced : (side : Side) (kind : StepKind) (i : ℕ) → ((term : Tree) → at s.members i ≡ Some term → Chooses devices cells Allowed s kind term) → IsKept devices cells Allowed s (reduce side kind i s)
-  reduced side kind i choose = by (at s.members i) refl
-    where
-      by : (o : Option Tree) → at s.members i ≡ o → IsKept devices cells Allowed s (option_and_then (λ term. option_map (rewritten i term) (reduced_at side kind (focus term) s)) o)
-      by None member = tt
-      by (Some term) member = on_side kind i term member (choose term member) side (focus term) refl
+    pub step_local : MakesCell devices cells kind st.redex → LocalStep devices cells (side_of st.frames) st.redex st.part
+    step_local makes =
+        subst (λ (z : Side). LocalStep devices cells z st.redex st.part) (sym st.on)
+        (fed side kind st.redex st.part st.after_effect st.reduces makes step_placed.part_typed.1)
 
-  closes : (i : ℕ) (term : Tree) → at s.members i ≡ Some term → (f : Focus) → focus term ≡ f
-      → IsKept devices cells Allowed s (option_map (λ v. record s { members = change s.members i (fill term (Tree.Held v)) }) (closed_value f))
-  unfolding act_of IsWellFormed
-  closes i term member (Focus.AtRedex Side.Protected (Tree.Unprotected (Tree.Held v))) e =
-      let f = found term (Tree.Unprotected (Tree.Held v)) Side.Protected e in
-      let typing = placed devices cells Effect.Protected f.frames (Tree.Unprotected (Tree.Held v)) Typ.Unit (subst (IsMember devices cells) f.term (member_typed i term member)) in
-      let a = typing.act_typed f.redex in
-      same_store (record s { members = change s.members i (fill term (Tree.Held v)) }) refl
-      (changed cells s typed i (fill term (Tree.Held v))
-      (subst (IsMember devices cells) (sym (f.refilled (Tree.Held v))) (typing.refilled cells (λ l cell e. e) (Tree.Held v) (held a.0.0, a.0.1))))
-  closes i term member _ e = tt
+    pub stepped : MakesCell devices cells kind st.redex → IsTypedBy devices cells t
+    stepped makes =
+        let p = step_placed in
+        let state = effect_typed side kind st.redex st.part st.after_effect st.reduces makes (effect_at (side_of st.frames) Effect.Protected) p.part_type p.part_typed.1 (step_act p) in
+        subst (IsTypedBy devices cells) (sym st.result)
+        (changed st.after_effect state i (plug_all st.frames st.part)
+        (local_step devices cells Effect.Protected st.frames st.redex st.part Typ.Unit (member_typed i (plug_all st.frames st.redex) st.found) (step_local makes)))
 
-  -- a typing is chosen for what the step that a label is allocates
-  abbrev pub ChoosesAfter : Label → Type 0
-  ChoosesAfter (Label.Step kind) = (i : ℕ) → s.active ≡ Some i → (term : Tree) → at s.members i ≡ Some term → Chooses devices cells Allowed s kind term
-  ChoosesAfter (Label.Free i kind) = (term : Tree) → at s.members i ≡ Some term → Chooses devices cells Allowed s kind term
-  ChoosesAfter _ = Unit {0}
+  pub preserved : (label : Label) (t : State) (rule : Rule s label t) → RuleMakes devices cells s label t rule → IsTypedBy devices cells t
+  preserved _ _ (Rule.activates i term idle found calm) makes =
+      record { stored = typed.stored; members = typed.members; present = λ j is. let same : j ≡ i = cc in ap (λ n. is_some (at s.members n)) same ∙ ap is_some found }
+  preserved _ _ (Rule.steps i kind t is st) makes = stepped Side.Protected kind i t st makes
+  preserved _ _ (Rule.leaves i term is found stands) makes = record { stored = typed.stored; members = typed.members; present = λ j is. absurd (cc) }
+  preserved _ _ (Rule.ends i v is found) makes =
+      record { stored = typed.stored; members = each-without (IsMember devices cells) s.members i typed.members; present = λ j is. absurd (cc) }
+  preserved _ _ (Rule.frees i kind t idle st) makes = stepped Side.Unprotected kind i t st makes
+  preserved _ _ (Rule.closes i frames v idle found on) makes =
+      changed s typed i (plug_all frames (Tree.Held v))
+      (local_step devices cells Effect.Protected frames (Tree.Unprotected (Tree.Held v)) (Tree.Held v) Typ.Unit
+      (member_typed i (plug_all frames (Tree.Unprotected (Tree.Held v))) found)
+      (subst (λ (z : Side). LocalStep devices cells z (Tree.Unprotected (Tree.Held v)) (Tree.Held v)) (sym on) (LocalStep.closed v)))
 
-  -- where a test holds, and where it fails
-  where_true : (b : Bool) (o : Option State) → IsKept devices cells Allowed s o → IsKept devices cells Allowed s (if b then o else None)
-  where_true true o kept = kept
-  where_true false o kept = tt
+  pub makes_of : (kind : StepKind) (frames : List Frame) (redex : Tree) → HasNewCell devices cells kind (plug_all frames redex) → MakesCell devices cells kind redex
+  makes_of kind frames redex has l sort v is e = has l frames sort v is (ap (plug_all frames) e)
 
-  where_false : (b : Bool) (o : Option State) → IsKept devices cells Allowed s o → IsKept devices cells Allowed s (if b then None else o)
-  where_false true o kept = tt
-  where_false false o kept = kept
-
-  of_some : {X : Type 0} (o : Option X) (f : X → Option State) → ((x : X) → o ≡ Some x → IsKept devices cells Allowed s (f x)) → IsKept devices cells Allowed s (option_and_then f o)
-  of_some None f kept = tt
-  of_some (Some x) f kept = kept x refl
-
-  pub labelled : (label : Label) → ChoosesAfter label → IsKept devices cells Allowed s (after s label)
-  unfolding after
-  labelled (Label.Activate i) choose =
-      where_true (is_none s.active) (activated i s)
-      (of_some (at s.members i) _ (λ term member. where_false (at_unprotected (focus term)) (Some (record s { active = Some i }))
-      (same_store (record s { active = Some i }) refl
-      (record { stored = typed.stored; members = typed.members; present = λ j is. ap (λ n. is_some (at s.members n)) (same i j is) ∙ ap is_some member }))))
-    where
-      same : (i j : ℕ) → ◌≡◌ {A = Option ℕ} (Some i) (Some j) → j ≡ i
-      same i j e = cc
-  labelled (Label.Step kind) choose = of_some s.active _ (λ i is. reduced Side.Protected kind i (λ term member. choose i is term member))
-  labelled Label.Leave choose =
-      of_some s.active _ (λ i is. of_some (at s.members i) _ (λ term member. where_true (at_unprotected (focus term)) (Some (record s { active = None }))
-      (same_store (record s { active = None }) refl (record { stored = typed.stored; members = typed.members; present = λ j none. absurd (cc) }))))
-  labelled Label.End choose =
-      of_some s.active _ (λ i is. of_some (at s.members i) _ (λ term member. where_true (at_value (focus term)) (Some (record s { members = without s.members i; active = None }))
-      (same_store (record s { members = without s.members i; active = None }) refl
-      (record { stored = typed.stored; members = each-without (IsMember devices cells) s.members i typed.members; present = λ j none. absurd (cc) }))))
-  labelled (Label.Free i kind) choose = where_true (is_none s.active) (reduce Side.Unprotected kind i s) (reduced Side.Unprotected kind i choose)
-  labelled (Label.Close i) choose =
-      where_true (is_none s.active) (closed i s) (of_some (at s.members i) _ (λ term member. closes i term member (focus term) refl))
-
--- The typings that may be chosen: the given one alone, which has what is allocated;
-module _ (devices : ℕ) (cells : StoreTyping) (s : State) (typed : IsTypedBy devices cells s) where
-  abbrev pub Itself : StoreTyping → Type 0
-  Itself later = later ≡ cells
-
-  given : (kind : StepKind) (term : Tree) → HasNewCell devices cells kind term → Chooses devices cells Itself s kind term
-  given (StepKind.Alloc loc) term has side redex l sort v content e names is fresh value =
-      let f = found term redex side e in
-      let p = has loc f.frames sort v refl (f.term ∙ ap (plug_all f.frames) (allocating redex sort v is)) in
-      let same : p.0 ≡ content = unique devices cells (held {g = unscoped} {q = Effect.Protected} p.2) (held value.0) in
-      let there : loc.0 ≡ l = cc in
-      record {
-        later = cells;
-        allowed = refl;
-        grows = λ m cell f. f;
-        has = ap cells (sym there) ∙ p.1 ∙ ap (λ (z : Typ). Some (sort, z)) same;
-        only = λ m other apart f. f;
-      }
-  given _ term has side redex l sort v content e names is fresh value = absurd (cc)
-
-  chosen : (label : Label) → HasNewCellAfter devices cells s label → ChoosesAfter devices cells s Itself refl typed label
-  chosen (Label.Step kind) has = λ i is term member. given kind term (has i is term member)
-  chosen (Label.Free i kind) has = λ term member. given kind term (has term member)
-  chosen (Label.Activate i) has = tt
-  chosen Label.Leave has = tt
-  chosen Label.End has = tt
-  chosen (Label.Close i) has = tt
-
-  kept_by : (o : Option State) (t : State) → IsKept devices cells Itself s o → o ≡ Some t → IsTypedBy devices cells t
-  kept_by None t kept e = absurd (cc)
-  kept_by (Some u) t kept e =
-      let same : u ≡ t = cc in
-      subst (IsTypedBy devices cells) same (subst (λ (z : StoreTyping). IsTypedBy devices z u) kept.allowed kept.state)
-
-  pub step_kept : (side : Side) (kind : StepKind) (i : ℕ) (t : State) → reduce side kind i s ≡ Some t → HasNewCellOf devices cells s kind i → IsTypedBy devices cells t
-  step_kept side kind i t e has =
-      kept_by (reduce side kind i s) t (reduced devices cells s Itself refl typed side kind i (λ term member. given kind term (has term member))) e
+  rule_makes : (label : Label) (t : State) (rule : Rule s label t) → HasNewCellAfter devices cells s label → RuleMakes devices cells s label t rule
+  rule_makes _ _ (Rule.activates i term idle found calm) has = tt
+  rule_makes _ _ (Rule.steps i kind t is st) has = makes_of kind st.frames st.redex (has i is (plug_all st.frames st.redex) st.found)
+  rule_makes _ _ (Rule.leaves i term is found stands) has = tt
+  rule_makes _ _ (Rule.ends i v is found) has = tt
+  rule_makes _ _ (Rule.frees i kind t idle st) has = makes_of kind st.frames st.redex (has (plug_all st.frames st.redex) st.found)
+  rule_makes _ _ (Rule.closes i frames v idle found on) has = tt
 
   pub label_kept : (label : Label) (t : State) → after s label ≡ Some t → HasNewCellAfter devices cells s label → IsTypedBy devices cells t
-  label_kept label t e has = kept_by (after s label) t (labelled devices cells s Itself refl typed label (chosen label has)) e
+  label_kept label t e has = let rule = rule_of s label t e in preserved label t rule (rule_makes label t rule has)
 
--- or any, so that a new location gets a type.
+  pub step_kept : (side : Side) (kind : StepKind) (i : ℕ) (t : State) → Steps s side kind i t → HasNewCellOf devices cells s kind i → IsTypedBy devices cells t
+  step_kept side kind i t st has = stepped side kind i t st (makes_of kind st.frames st.redex (has (plug_all st.frames st.redex) st.found))
+
+grown : (devices : ℕ) (cells later : StoreTyping) (s : State) → Grows cells later → IsTypedBy devices cells s → IsTypedBy devices later s
+grown devices cells later s grows typed = record {
+  stored = λ l v found. let p = typed.stored l v found in (p.0, grows l p.0 p.1, (weaken_value devices cells later grows p.2.0, p.2.1));
+  members = each-map (IsMember devices cells) (IsMember devices later) (λ e f. (weaken_cells devices cells later grows f.0, f.1)) s.members typed.members;
+  present = typed.present;
+}
+
+-- one more location
 abbrev extend : StoreTyping → ℕ → Sort × Typ → StoreTyping
 extend cells l cell m = if l == m then Some cell else cells m
 
 module _ (devices : ℕ) (cells : StoreTyping) (s : State) (typed : IsTyped devices cells s) where
-  abbrev pub Any : StoreTyping → Type 0
-  Any later = Unit {0}
+  -- a typing for what a row makes, whose locations are in the store that it leaves
+  record Choice (kind : StepKind) (redex : Tree) (t : State) : Type 0 where
+    pub later : StoreTyping
+    pub grows : Grows cells later
+    pub makes : MakesCell devices later kind redex
+    pub located : (l : ℕ) (cell : Sort × Typ) → later l ≡ Some cell → IsSome (at t.store l)
 
-  extended : (l : ℕ) (new : Sort × Typ) → at s.store l ≡ None → Chosen cells Any l new
-  extended l new fresh = record {
-    later = extend cells l new;
-    allowed = tt;
-    grows = λ m cell is. rw (differ l m (other m cell is)) is;
-    has = rw (itself l);
-    only = λ m cell apart f. rw (differ l m apart) at f;
+  keep : (kind : StepKind) (redex : Tree) (t : State) → ((l : Loc) → kind ≡ StepKind.Alloc l → ⊥) → ((l : ℕ) → IsSome (at s.store l) → IsSome (at t.store l)) → Choice kind redex t
+  keep kind redex t none stay = record {
+    later = cells;
+    grows = λ l cell is. is;
+    makes = λ l sort v is e. absurd (none l is);
+    located = λ l cell is. stay l (typed.located l cell is);
+  }
+
+  extended : (l : Loc) (sort : Sort) (v : Val) (content : Typ) → at s.store l.0 ≡ None → HasValue devices cells v content
+      → Choice (StepKind.Alloc l) (Tree.One (unary.Ref sort) (Tree.Held v)) (record s { store = put s.store l.0 v })
+  extended l sort v content fresh value = record {
+    later = later;
+    grows = grows;
+    makes = λ m other w is e.
+        let place : l ≡ m = cc in
+        let same_sort : sort ≡ other = cc in
+        let same : v ≡ w = cc in (
+          content,
+          ap (λ (z : Loc). later z.0) (sym place) ∙ has ∙ ap (λ (z : Sort). Some (z, content)) same_sort,
+          subst (λ (z : Val). HasValue devices later z content) same (weaken_value devices cells later grows value),
+        );
+    located = λ m cell is. by m cell is (at-put s.store l.0 m v);
   }
     where
       itself : (n : ℕ) → (n == n) ≡ true
@@ -227,43 +194,72 @@ module _ (devices : ℕ) (cells : StoreTyping) (s : State) (typed : IsTyped devi
       differ : (m n : ℕ) → (m ≡ n → ⊥) → (m == n) ≡ false
       differ m n apart = grind arith
 
-      other : (m : ℕ) (cell : Sort × Typ) → cells m ≡ Some cell → l ≡ m → ⊥
+      later : StoreTyping
+      later = extend cells l.0 (sort, content)
+
+      other : (m : ℕ) (cell : Sort × Typ) → cells m ≡ Some cell → l.0 ≡ m → ⊥
       other m cell is same = let clash : false ≡ true = ap is_some (sym fresh ∙ ap (at s.store) same) ∙ typed.located m cell is in absurd (cc)
 
-  anything : (kind : StepKind) (term : Tree) → Chooses devices cells Any s kind term
-  anything kind term side redex l sort v content e names is fresh value = extended l (sort, content) fresh
+      grows : Grows cells later
+      grows m cell is = rw (differ l.0 m (other m cell is)) is
 
-  any_chosen : (label : Label) → ChoosesAfter devices cells s Any tt typed.typed label
-  any_chosen (Label.Step kind) = λ i is term member. anything kind term
-  any_chosen (Label.Free i kind) = λ term member. anything kind term
-  any_chosen (Label.Activate i) = tt
-  any_chosen Label.Leave = tt
-  any_chosen Label.End = tt
-  any_chosen (Label.Close i) = tt
+      has : later l.0 ≡ Some (sort, content)
+      has = rw (itself l.0)
 
-  -- a typed state after a legal label
+      by : (m : ℕ) (cell : Sort × Typ) → later m ≡ Some cell → ((l.0 ≡ m) × (at (put s.store l.0 v) m ≡ Some v)) ⊎ (((l.0 ≡ m) → ⊥) × (at (put s.store l.0 v) m ≡ at s.store m))
+          → IsSome (at (put s.store l.0 v) m)
+      by m cell is (inl k) = ap is_some k.1
+      by m cell is (inr k) = ap is_some k.1 ∙ typed.located m cell (rw (differ l.0 m k.0) at is)
+
+  choice : (side : Side) (kind : StepKind) (redex part : Tree) (t : State) → Reduces s side kind redex part t → (q : Effect) (u : Typ) → IsTypedAct devices cells q u (act_of redex) → Choice kind redex t
+  unfolding act_of
+  choice _ _ _ _ _ (Reduces.pure side redex part row) q u a = keep StepKind.Local redex s (λ l is. cc) (λ l there. there)
+  choice _ _ _ _ _ (Reduces.allocation side l sort v fresh) q u a = extended l sort v a.0 fresh a.2.0
+  choice _ _ _ _ _ (Reduces.reading side l v found) q u a = keep StepKind.Read _ s (λ l is. cc) (λ l there. there)
+  choice _ _ _ _ _ (Reduces.peeking l v found) q u a = keep StepKind.Peek _ s (λ l is. cc) (λ l there. there)
+  choice _ _ _ _ _ (Reduces.writing side l v) q u a = keep StepKind.Write _ _ (λ l is. cc) (λ m there. is_some-put s.store l m v there)
+  choice _ _ _ _ _ (Reduces.spawning side body) q u a = keep StepKind.Spawn _ _ (λ l is. cc) (λ l there. there)
+  choice _ _ _ _ _ (Reduces.printing side n) q u a = keep StepKind.Print _ _ (λ l is. cc) (λ l there. there)
+  choice _ _ _ _ _ Reduces.passing q u a = keep StepKind.Block _ s (λ l is. cc) (λ l there. there)
+  choice _ _ _ _ _ (Reduces.answering device n reply) q u a = keep (StepKind.Device reply) _ s (λ l is. cc) (λ l there. there)
+
+  step_later : (side : Side) (kind : StepKind) (i : ℕ) (t : State) → Steps s side kind i t → IsTypedLater devices cells t
+  step_later side kind i t st =
+      let p = step_placed devices cells s typed.typed side kind i t st in
+      let c = choice side kind st.redex st.part st.after_effect st.reduces (effect_at (side_of st.frames) Effect.Protected) p.part_type (step_act devices cells s typed.typed side kind i t st p) in
+      let state = stepped devices c.later s (grown devices cells c.later s c.grows typed.typed) side kind i t st c.makes in
+      (c.later, c.grows, record { typed = state; located = λ l cell is. ap (λ (z : State). is_some (at z.store l)) st.result ∙ c.located l cell is })
+
+  -- the store is the same
+  same_cells : (label : Label) (t : State) (rule : Rule s label t) → RuleMakes devices cells s label t rule → t.store ≡ s.store → IsTypedLater devices cells t
+  same_cells label t rule makes same = (
+    cells,
+    (λ l cell is. is),
+    record {
+      typed = preserved devices cells s typed.typed label t rule makes;
+      located = λ l cell is. ap (λ (z : List (ℕ × Val)). is_some (at z l)) same ∙ typed.located l cell is;
+    },
+  )
+
+  rule_later : (label : Label) (t : State) → Rule s label t → IsTypedLater devices cells t
+  rule_later _ _ (Rule.activates i term idle found calm) = same_cells _ _ (Rule.activates i term idle found calm) tt refl
+  rule_later _ _ (Rule.steps i kind t is st) = step_later Side.Protected kind i t st
+  rule_later _ _ (Rule.leaves i term is found stands) = same_cells _ _ (Rule.leaves i term is found stands) tt refl
+  rule_later _ _ (Rule.ends i v is found) = same_cells _ _ (Rule.ends i v is found) tt refl
+  rule_later _ _ (Rule.frees i kind t idle st) = step_later Side.Unprotected kind i t st
+  rule_later _ _ (Rule.closes i frames v idle found on) = same_cells _ _ (Rule.closes i frames v idle found on) tt refl
+
+  -- after a legal label
   pub kept : (label : Label) (t : State) → after s label ≡ Some t → IsTypedLater devices cells t
-  kept label t e = by (after s label) (labelled devices cells s Any tt typed.typed label (any_chosen label)) e
-    where
-      by : (o : Option State) → IsKept devices cells Any s o → o ≡ Some t → IsTypedLater devices cells t
-      by None kept e = absurd (cc)
-      by (Some u) kept e =
-          let same : u ≡ t = cc in
-          subst (IsTypedLater devices cells) same (kept.later, kept.grows, record { typed = kept.state; located = λ l cell is. there l cell (kept.placed l cell is) })
-        where
-          there : (l : ℕ) (cell : Sort × Typ) → (cells l ≡ Some cell) ⊎ IsSome (at u.store l) → IsSome (at u.store l)
-          there l cell (inl is) = kept.kept l (typed.located l cell is)
-          there l cell (inr found) = found
+  kept label t e = rule_later label t (rule_of s label t e)
 
--- a typed state after a list of labels
+-- after a list of labels
+along : (devices : ℕ) (s t : State) (labels : List Label) → Runs s labels t → (cells : StoreTyping) → IsTyped devices cells s → IsTypedLater devices cells t
+along devices _ _ _ (Runs.none s) cells typed = (cells, (λ l cell is. is), typed)
+along devices _ _ _ (Runs.more s t u label labels rule rest) cells typed =
+    let p = rule_later devices cells s typed label t rule in
+    let k = along devices t u labels rest p.0 p.2 in
+    (k.0, (λ l cell is. k.1 l cell (p.1 l cell is)), k.2)
+
 pub preserved_along : (devices : ℕ) (labels : List Label) (cells : StoreTyping) (s t : State) → IsTyped devices cells s → run s labels ≡ Some t → IsTypedLater devices cells t
-preserved_along devices [] cells s t typed e = let same : s ≡ t = cc in (cells, (λ l cell is. is), subst (IsTyped devices cells) same typed)
-preserved_along devices (label ∷ labels) cells s t typed e = by (after s label) refl e (λ cells u typed e. preserved_along devices labels cells u t typed e)
-  where
-    by : (o : Option State) → after s label ≡ o → option_and_then (λ u. run u labels) o ≡ Some t
-        → ((cells : StoreTyping) (u : State) → IsTyped devices cells u → run u labels ≡ Some t → IsTypedLater devices cells t) → IsTypedLater devices cells t
-    by None legal e rest = absurd (cc)
-    by (Some u) legal e rest =
-        let p = kept devices cells s typed label u legal in
-        let k = rest p.0 u p.2 e in
-        (k.0, (λ l cell is. k.1 l cell (p.1 l cell is)), k.2)
+preserved_along devices labels cells s t typed e = along devices s t labels ((runs s labels t).0 e) cells typed

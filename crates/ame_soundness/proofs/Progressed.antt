@@ -50,8 +50,6 @@ module _ (devices : ℕ) (cells : StoreTyping) (known : ℕ → Bool) (there : (
       let b = subst (IsTypedAct devices cells (effect_at side Effect.Protected) t) (ap act_of e ∙ closing_act v) a in
       subst (λ (z : Tree). Progresses known (Focus.AtRedex side z)) (sym e)
       (subst (λ (z : Side). Progresses known (Focus.AtRedex z (Tree.Unprotected (Tree.Held v)))) (sym (is_protected side b.1)) (Progresses.closes v))
-  at_redex side redex t a (Sorted.allocates sort v e) =
-      Progresses.steps side redex (subst (λ (z : Tree). CanBeMade known side (act_of z)) (sym e) (refl, tt))
   at_redex side redex t a (Sorted.other o) = Progresses.steps side redex (can_be_made devices cells known there side t (act_of redex) a o)
 
   pub term_progresses : (term : Tree) (t : Typ) → IsFragment devices cells Effect.Protected term t → Progresses known (focus term)

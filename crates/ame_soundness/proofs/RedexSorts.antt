@@ -1,8 +1,7 @@
--- Redexes by what they do: those that have no step as reductions, allocations, and the others.
-use Rattle.std.proofs.Common.{◌≡◌, true, false, refl, ap, subst, sym, ◌∙◌}
+-- Redexes that no kind of step reduces, and the others.
+use Rattle.std.proofs.Common.{◌≡◌, true, false, refl}
 use Rattle.ame_term.specs.Tree.{Val, Tree, Trees}
 use Rattle.ame_term.specs.Act.{Act, act_of, call_act, rest_act, if_act, operator_act, set_act}
-use Rattle.ame_term.specs.declared.types.Sort.{Sort}
 use Rattle.ame_term.specs.declared.types.Op.{Op}
 use Rattle.ame_term.specs.declared.types.Unary.{Unary}
 use Rattle.ame_term.specs.declared.types.Unary.TheVariants as unary
@@ -10,17 +9,15 @@ use Rattle.ame_term.specs.declared.types.Binary.{Binary}
 use Rattle.ame_term.specs.declared.types.Binary.TheVariants as binary
 use Rattle.ame_soundness.specs.Progress.{waiting}
 
--- an act of another redex than `blockUntil false`, `unprotected` of a value and `ref` of a value
+-- an act of another redex than `blockUntil false` and `unprotected` of a value
 abbrev pub IsOther : Act → Type 0
 IsOther Act.Fails = ⊥
 IsOther (Act.Closes v) = ⊥
-IsOther (Act.Allocates sort v) = ⊥
 IsOther _ = Unit {0}
 
 pub data Sorted (r : Tree) : Type 0 where
   waits : r ≡ waiting → Sorted r
   closes : (v : Val) → r ≡ Tree.Unprotected (Tree.Held v) → Sorted r
-  allocates : (sort : Sort) (v : Val) → r ≡ Tree.One (unary.Ref sort) (Tree.Held v) → Sorted r
   other : IsOther (act_of r) → Sorted r
 
 other_call : (f v : Val) → IsOther (call_act f v)
@@ -49,7 +46,7 @@ other_set _ w = tt
 sorted_unary : (op : Unary) (v : Val) → Sorted (Tree.One op (Tree.Held v))
 unfolding act_of
 sorted_unary unary.Not (Val.Bool b) = Sorted.other tt
-sorted_unary (unary.Ref sort) v = Sorted.allocates sort v refl
+sorted_unary (unary.Ref sort) v = Sorted.other tt
 sorted_unary unary.Get (Val.Loc l) = Sorted.other tt
 sorted_unary unary.Peek (Val.Loc l) = Sorted.other tt
 sorted_unary unary.Block (Val.Bool true) = Sorted.other tt
@@ -76,14 +73,3 @@ sorted (Tree.Unprotected (Tree.Held v)) = Sorted.closes v refl
 sorted (Tree.One op (Tree.Held v)) = sorted_unary op v
 sorted (Tree.Two op (Tree.Held v) (Tree.Held w)) = sorted_binary op v w
 sorted _ = Sorted.other tt
-
--- only `ref` of a value allocates
-pub allocating : (r : Tree) (sort : Sort) (v : Val) → act_of r ≡ Act.Allocates sort v → r ≡ Tree.One (unary.Ref sort) (Tree.Held v)
-unfolding act_of
-allocating r sort v e = by (sorted r)
-  where
-    by : Sorted r → r ≡ Tree.One (unary.Ref sort) (Tree.Held v)
-    by (Sorted.waits is) = let clash : Act.Fails ≡ Act.Allocates sort v = ap act_of (sym is) ∙ e in absurd (cc)
-    by (Sorted.closes w is) = let clash : Act.Closes w ≡ Act.Allocates sort v = ap act_of (sym is) ∙ e in absurd (cc)
-    by (Sorted.allocates s w is) = let same : Act.Allocates s w ≡ Act.Allocates sort v = ap act_of (sym is) ∙ e in is ∙ (cc)
-    by (Sorted.other o) = absurd (subst IsOther e o)

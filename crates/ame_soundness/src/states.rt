@@ -5,10 +5,11 @@ ghost use Rattle.ame_term.specs.Tree.{Typ, Tree};
 ghost use Rattle.ame_term.specs.Frame.{Side};
 ghost use Rattle.ame_term.specs.Typing.{no_cells, Accepts};
 ghost use Rattle.ame_term.specs.SourceTerm.{IsSourceTerm};
-ghost use Rattle.ame_term.specs.State.{State, start, reduce, run, IsLegal, IsRun};
+ghost use Rattle.ame_term.specs.State.{State, start, run, IsLegal, IsRun};
 ghost use Rattle.ame_term.specs.declared.semantics.StepKind.{StepKind};
 ghost use Rattle.ame_term.specs.declared.semantics.Label.{Label};
 ghost use Rattle.ame_laws.specs.Orderly.{IsOrderly};
+ghost use Rattle.ame_laws.specs.Rules.{Steps};
 ghost use Rattle.ame_soundness.specs.StoreTyping.{StoreTyping};
 ghost use Rattle.ame_soundness.specs.TypedState.{IsTyped, IsTypedBy, IsTypedLater};
 ghost use Rattle.ame_soundness.specs.NewCell.{HasNewCellOf, HasNewCellAfter};
@@ -52,6 +53,6 @@ pub fn labels_keep_given_types()
 /// So it does after a step of any member on one side of `unprotected`, whether it is active or not.
 pub fn steps_keep_given_types()
     ensures { (devices : ℕ) (cells : StoreTyping) (s : State) (side : Side) (kind : StepKind) (i : ℕ) (t : State)
-        → IsTypedBy devices cells s → reduce side kind i s ≡ Some t → HasNewCellOf devices cells s kind i
+        → IsTypedBy devices cells s → Steps s side kind i t → HasNewCellOf devices cells s kind i
         → IsTypedBy devices cells t }
 {}

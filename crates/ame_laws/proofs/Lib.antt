@@ -10,3 +10,9 @@ pub mod RuleEffects
 pub mod PutsLemmas
 pub mod FramedNames
 pub mod BoundNames
+pub mod MapLemmas
+pub mod OrderlyLemmas
+pub mod HeightLemmas
+pub mod EnclosedLemmas
+pub mod RefsLemmas
+pub mod ScopedNames

@@ -1,14 +1,14 @@
 -- A type that the table gives is had.
 use Rattle.std.proofs.Common.{◌≡◌, ℕ, ◌+◌, Option, Ok, sym, ap, subst, ◌∙◌, inl, inr}
-use borrow.Author.Tests.{ltb-true}
-use Rattle.std.specs.Prelude.{nat_lt}
 use Rattle.ame_term.specs.Tree.{Typ, OwnName, Val, Tree, Trees}
-use Rattle.ame_term.specs.Written.{nodes}
-use Rattle.ame_term.specs.Typing.{Scope, Shown, typed, typed_parts, typed_value, want_unit, within, unscoped, bind, call_row, write_row, op_type, cell_type}
-use Rattle.ame_term.specs.Has.{Has, HasLast, HasValue, held, name, function, recursive, app, binding, sequence, choice, operation, negation, reference, get, peek, set, async, block, unprotected, print, call, pairing, first, second, last, more, unit, bool, int, location, function_value, recursive_value, pair}
+use Rattle.ame_term.specs.SourceTerm.{nodes}
+use Rattle.ame_term.specs.Shown.{misplaced_unprotected}
+use Rattle.ame_term.specs.Scope.{Scope, within, unscoped, bind}
+use Rattle.ame_term.specs.Typing.{typed, typed_parts, typed_value, want_unit, cell_type}
+use Rattle.ame_term.specs.HasType.{HasType, HasLast, HasValue, held, name, function, recursive, binding, sequence, choice, async, unprotected, one, two, last, more, unit, bool, int, location, function_value, recursive_value, pair}
 use Rattle.ame_term.specs.declared.types.Sort.{Sort}
 use Rattle.ame_term.specs.declared.types.Effect.{Effect}
-use Rattle.ame_laws.proofs.Tests.{then-gave, need-gave, want-gave, want_unit-gave, want_effect-gave, given, known-gave, cell-gave, function-gave, call-gave, read-gave, peeked-gave, write-gave, first-gave, second-gave}
+use Rattle.ame_laws.proofs.Tests.{then-gave, want-gave, want_unit-gave, want_effect-gave, given, known-gave, cell-gave, function-gave, unary-gave, binary-gave}
 
 module _ (devices : ℕ) (cells : ℕ → Option (Sort × Typ)) where
   abbrev Gives : (ℕ → ℕ) → Scope → Effect → ℕ → Tree → Typ → Type 0
@@ -21,7 +21,7 @@ module _ (devices : ℕ) (cells : ℕ → Option (Sort × Typ)) where
   mutual
     unfolding typed
 
-    pub sound : (places : ℕ → ℕ) (g : Scope) (q : Effect) (i : ℕ) (e : Tree) (t : Typ) → Gives places g q i e t → Has devices cells g q e t
+    pub sound : (places : ℕ → ℕ) (g : Scope) (q : Effect) (i : ℕ) (e : Tree) (t : Typ) → Gives places g q i e t → HasType devices cells g q e t
     sound places g q i (Tree.Held v) t h = held (sound_value (places i) v t h)
     sound places g q i (Tree.Var x) t h = name (known-gave (places i) (g x) t h)
     sound places g q i (Tree.Lambda head body) t h =
@@ -29,21 +29,14 @@ module _ (devices : ℕ) (cells : ℕ → Option (Sort × Typ)) where
         (typed devices cells places (within head.effect head.own head.param head.param_type g) head.effect (i + 1) body) t h) [
           | inl p ↦
               let k = subst (λ (o : Option OwnName). typed devices cells places (within head.effect o head.param head.param_type g) head.effect (i + 1) body ≡ Ok p.1.0) p.0 p.1.1 in
-              subst (λ (x : Typ). Has devices cells g q (Tree.Lambda head body) x) (sym p.1.2)
+              subst (λ (x : Typ). HasType devices cells g q (Tree.Lambda head body) x) (sym p.1.2)
               (function p.0 (sound places (bind head.param head.param_type g) head.effect (i + 1) body p.1.0 k))
           | inr p ↦
               let k = subst (λ (o : Option OwnName). typed devices cells places (within head.effect o head.param head.param_type g) head.effect (i + 1) body ≡ Ok p.0.result) p.1 p.2 in
-              subst (λ (x : Typ). Has devices cells g q (Tree.Lambda head body) x) (sym p.3)
+              subst (λ (x : Typ). HasType devices cells g q (Tree.Lambda head body) x) (sym p.3)
               (recursive p.1
               (sound places (bind head.param head.param_type (bind p.0.name (Typ.Fun head.effect head.param_type p.0.result) g)) head.effect (i + 1) body p.0.result k))
         ]
-    sound places g q i (Tree.App f a) t h =
-        let k = then-gave (typed devices cells places g q (i + 1) f)
-        (λ u. call_row (places i) (places (i + 1)) (places (i + 1 + nodes f)) q u (typed devices cells places g q (i + 1 + nodes f) a)) t h in
-        let c = call-gave (places i) (places (i + 1)) (places (i + 1 + nodes f)) q k.0 (typed devices cells places g q (i + 1 + nodes f) a) t k.2 in
-        app c.4
-        (sound places g q (i + 1) f (Typ.Fun c.0 c.1 t) (as_type places g q (i + 1) f k.0 (Typ.Fun c.0 c.1 t) k.1 c.2))
-        (sound places g q (i + 1 + nodes f) a c.1 c.3)
     sound places g q i (Tree.Let x bound body) t h =
         let k = then-gave (typed devices cells places g q (i + 1) bound)
         (λ u. typed devices cells places (bind x u g) q (i + 1 + nodes bound) body) t h in
@@ -60,87 +53,22 @@ module _ (devices : ℕ) (cells : ℕ → Option (Sort × Typ)) where
         (sound places g q (i + 1) test Typ.Bool (as_type places g q (i + 1) test k.0 Typ.Bool k.1 w.0))
         (sound places g q (i + 1 + nodes test) a t (as_type places g q (i + 1 + nodes test) a m.0 t m.1 same))
         (sound places g q (i + 1 + nodes test + nodes a) b t (as_type places g q (i + 1 + nodes test + nodes a) b n.0 t n.1 (v.0 ∙ same)))
-    sound places g q i (Tree.Bin op a b) t h =
-        let k = then-gave (typed devices cells places g q (i + 1) a) _ t h in
-        let w = want-gave (places (i + 1)) k.0 Typ.Int _ t k.2 in
-        let m = then-gave (typed devices cells places g q (i + 1 + nodes a) b) _ t w.1 in
-        let v = want-gave (places (i + 1 + nodes a)) m.0 Typ.Int _ t m.2 in
-        subst (λ (x : Typ). Has devices cells g q (Tree.Bin op a b) x) (given (op_type op) t v.1)
-        (operation
-        (sound places g q (i + 1) a Typ.Int (as_type places g q (i + 1) a k.0 Typ.Int k.1 w.0))
-        (sound places g q (i + 1 + nodes a) b Typ.Int (as_type places g q (i + 1 + nodes a) b m.0 Typ.Int m.1 v.0)))
-    sound places g q i (Tree.Not e) t h =
-        let k = then-gave (typed devices cells places g q (i + 1) e) _ t h in
-        let w = want-gave (places (i + 1)) k.0 Typ.Bool _ t k.2 in
-        subst (λ (x : Typ). Has devices cells g q (Tree.Not e) x) (given Typ.Bool t w.1)
-        (negation (sound places g q (i + 1) e Typ.Bool (as_type places g q (i + 1) e k.0 Typ.Bool k.1 w.0)))
-    sound places g q i (Tree.Ref s e) t h =
-        let k = then-gave (typed devices cells places g q (i + 1) e) _ t h in
-        subst (λ (x : Typ). Has devices cells g q (Tree.Ref s e) x) (given (Typ.Ref s k.0) t k.2)
-        (reference (sound places g q (i + 1) e k.0 k.1))
-    sound places g q i (Tree.Get e) t h =
-        let k = then-gave (typed devices cells places g q (i + 1) e) _ t h in
-        let r = read-gave (places i) (places (i + 1)) q k.0 t k.2 in
-        get r.2 (sound places g q (i + 1) e (Typ.Ref r.0 t) (as_type places g q (i + 1) e k.0 (Typ.Ref r.0 t) k.1 r.1))
-    sound places g q i (Tree.Peek e) t h =
-        let w = want_effect-gave 3 (places i) q Effect.Unprotected _ t h in
-        let k = then-gave (typed devices cells places g q (i + 1) e) _ t w.1 in
-        let r = peeked-gave (places i) (places (i + 1)) k.0 t k.2 in
-        subst (λ (x : Effect). Has devices cells g x (Tree.Peek e) t) (sym w.0)
-        (peek (subst (λ (x : Effect). Has devices cells g x e (Typ.Ref Sort.Protected t)) w.0
-        (sound places g q (i + 1) e (Typ.Ref Sort.Protected t) (as_type places g q (i + 1) e k.0 (Typ.Ref Sort.Protected t) k.1 r))))
-    sound places g q i (Tree.Set a b) t h =
-        let k = then-gave (typed devices cells places g q (i + 1) a)
-        (λ u. write_row (places i) (places (i + 1)) (places (i + 1 + nodes a)) q u (typed devices cells places g q (i + 1 + nodes a) b)) t h in
-        let r = write-gave (places i) (places (i + 1)) (places (i + 1 + nodes a)) q k.0 (typed devices cells places g q (i + 1 + nodes a) b) t k.2 in
-        subst (λ (x : Typ). Has devices cells g q (Tree.Set a b) x) (sym r.5)
-        (set r.4
-        (sound places g q (i + 1) a (Typ.Ref r.0 r.1) (as_type places g q (i + 1) a k.0 (Typ.Ref r.0 r.1) k.1 r.2))
-        (sound places g q (i + 1 + nodes a) b r.1 r.3))
     sound places g q i (Tree.Async e) t h =
         let k = then-gave (typed devices cells places g Effect.Protected (i + 1) e) _ t h in
         let w = want_unit-gave (places (i + 1)) k.0 _ t k.2 in
-        subst (λ (x : Typ). Has devices cells g q (Tree.Async e) x) (given Typ.Unit t w.1)
+        subst (λ (x : Typ). HasType devices cells g q (Tree.Async e) x) (given Typ.Unit t w.1)
         (async (sound places g Effect.Protected (i + 1) e Typ.Unit (as_type places g Effect.Protected (i + 1) e k.0 Typ.Unit k.1 w.0)))
-    sound places g q i (Tree.Block e) t h =
-        let p = want_effect-gave 6 (places i) q Effect.Protected _ t h in
-        let k = then-gave (typed devices cells places g q (i + 1) e) _ t p.1 in
-        let w = want-gave (places (i + 1)) k.0 Typ.Bool _ t k.2 in
-        subst (λ (x : Effect). Has devices cells g x (Tree.Block e) t) (sym p.0)
-        (subst (λ (x : Typ). Has devices cells g Effect.Protected (Tree.Block e) x) (given Typ.Unit t w.1)
-        (block (subst (λ (x : Effect). Has devices cells g x e Typ.Bool) p.0
-        (sound places g q (i + 1) e Typ.Bool (as_type places g q (i + 1) e k.0 Typ.Bool k.1 w.0)))))
     sound places g q i (Tree.Unprotected e) t h =
-        let p = want_effect-gave 7 (places i) q Effect.Protected _ t h in
-        subst (λ (x : Effect). Has devices cells g x (Tree.Unprotected e) t) (sym p.0)
+        let p = want_effect-gave misplaced_unprotected (places i) q Effect.Protected _ t h in
+        subst (λ (x : Effect). HasType devices cells g x (Tree.Unprotected e) t) (sym p.0)
         (unprotected (sound places g Effect.Unprotected (i + 1) e t p.1))
-    sound places g q i (Tree.Print e) t h =
-        let k = then-gave (typed devices cells places g q (i + 1) e) _ t h in
-        let w = want-gave (places (i + 1)) k.0 Typ.Int _ t k.2 in
-        subst (λ (x : Typ). Has devices cells g q (Tree.Print e) x) (given Typ.Unit t w.1)
-        (print (sound places g q (i + 1) e Typ.Int (as_type places g q (i + 1) e k.0 Typ.Int k.1 w.0)))
-    sound places g q i (Tree.Call device e) t h =
-        let p = want_effect-gave 3 (places i) q Effect.Unprotected _ t h in
-        let b = need-gave (nat_lt device devices) (record { rule = 8; place = places i; found = Shown.Device device; wanted = Shown.Device devices }) _ t p.1 in
-        let k = then-gave (typed devices cells places g q (i + 1) e) _ t b.1 in
-        let w = want-gave (places (i + 1)) k.0 Typ.Int _ t k.2 in
-        subst (λ (x : Effect). Has devices cells g x (Tree.Call device e) t) (sym p.0)
-        (subst (λ (x : Typ). Has devices cells g Effect.Unprotected (Tree.Call device e) x) (given Typ.Int t w.1)
-        (call (ltb-true device devices b.0) (subst (λ (x : Effect). Has devices cells g x e Typ.Int) p.0
-        (sound places g q (i + 1) e Typ.Int (as_type places g q (i + 1) e k.0 Typ.Int k.1 w.0)))))
-    sound places g q i (Tree.Pairing a b) t h =
-        let k = then-gave (typed devices cells places g q (i + 1) a) _ t h in
-        let m = then-gave (typed devices cells places g q (i + 1 + nodes a) b) _ t k.2 in
-        subst (λ (x : Typ). Has devices cells g q (Tree.Pairing a b) x) (given (Typ.Pair k.0 m.0) t m.2)
-        (pairing (sound places g q (i + 1) a k.0 k.1) (sound places g q (i + 1 + nodes a) b m.0 m.1))
-    sound places g q i (Tree.First e) t h =
-        let k = then-gave (typed devices cells places g q (i + 1) e) _ t h in
-        let r = first-gave (places (i + 1)) k.0 t k.2 in
-        first (sound places g q (i + 1) e (Typ.Pair t r.0) (as_type places g q (i + 1) e k.0 (Typ.Pair t r.0) k.1 r.1))
-    sound places g q i (Tree.Second e) t h =
-        let k = then-gave (typed devices cells places g q (i + 1) e) _ t h in
-        let r = second-gave (places (i + 1)) k.0 t k.2 in
-        second (sound places g q (i + 1) e (Typ.Pair r.0 t) (as_type places g q (i + 1) e k.0 (Typ.Pair r.0 t) k.1 r.1))
+    sound places g q i (Tree.One form e) t h =
+        let k = unary-gave devices form (places i) (places (i + 1)) q (typed devices cells places g q (i + 1) e) t h in
+        one k.2 (sound places g q (i + 1) e k.0 k.1)
+    sound places g q i (Tree.Two form a b) t h =
+        let k = binary-gave form (places i) (places (i + 1)) (places (i + 1 + nodes a)) q
+        (typed devices cells places g q (i + 1) a) (typed devices cells places g q (i + 1 + nodes a) b) t h in
+        two k.4 (sound places g q (i + 1) a k.0 k.2) (sound places g q (i + 1 + nodes a) b k.1 k.3)
 
     pub sound_parts : (places : ℕ → ℕ) (g : Scope) (q : Effect) (i : ℕ) (parts : Trees) (t : Typ) →
         typed_parts devices cells places g q i parts ≡ Ok t → HasLast devices cells g q parts t

@@ -13,3 +13,6 @@ pub mod BoundNames
 pub mod MapLemmas
 pub mod OrderlyLemmas
 pub mod HeightLemmas
+pub mod EnclosedLemmas
+pub mod RefsLemmas
+pub mod ScopedNames

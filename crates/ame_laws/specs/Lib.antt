@@ -1,8 +1,10 @@
 pub mod TypingLaws
+pub mod Refs
 pub mod Standing
 pub mod Free
 pub mod Size
-pub mod Rules
 pub mod Puts
+pub mod Rules
 pub mod Orderly
 pub mod Holds
+pub mod Enclosed

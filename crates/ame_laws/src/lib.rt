@@ -3,6 +3,7 @@
 #![tactic(auto)]
 
 mod contexts;
+mod enclosed;
 mod heights;
 mod maps;
 mod names;
@@ -13,6 +14,10 @@ mod substitution;
 mod typing;
 
 pub use contexts::{contexts_are_focus, frames_appended, one_decomposition, one_standing};
+pub use enclosed::{
+    closures_are_entered, lists_are_environments, names_without_values_stay_free, one_more_value,
+    values_of_free_names_matter,
+};
 pub use heights::{heights_are_of_what_is_held, substitution_raises_heights};
 pub use maps::{change_is_found, numbers_still_rise, put_is_found, removed_is_not_found};
 pub use names::{
@@ -22,7 +27,10 @@ pub use names::{
 pub use orderly::{
     first_state_is_orderly, legal_labels_keep_order, nobody_is_active_at_the_end, runs_are_orderly,
 };
-pub use rules::{after_follows_the_rules, runs_follow_the_rules};
+pub use rules::{after_follows_the_rules, reductions_follow_the_rows, runs_follow_the_rules};
 pub use sizes::filled_size;
 pub use substitution::substitution_puts;
-pub use typing::{table_gives_what_is_had, types_are_unique, what_the_table_gives_is_had};
+pub use typing::{
+    ref_types_are_had, ref_types_are_of_the_forms, table_gives_what_is_had, typed_terms_are_closed,
+    types_are_unique, what_the_table_gives_is_had,
+};

@@ -43,6 +43,14 @@ kind_named-fresh s _ l fresh = refl
 
 pub same_step-true : (a b : StepName) → same_step a b ≡ true → a ≡ b
 same_step-true StepName.Local StepName.Local e = refl
+same_step-true StepName.Alloc StepName.Alloc e = refl
+same_step-true StepName.Read StepName.Read e = refl
+same_step-true StepName.Peek StepName.Peek e = refl
+same_step-true StepName.Write StepName.Write e = refl
+same_step-true StepName.Spawn StepName.Spawn e = refl
+same_step-true StepName.Print StepName.Print e = refl
+same_step-true StepName.Block StepName.Block e = refl
+same_step-true StepName.Device StepName.Device e = refl
 same_step-true _ _ e = cc
 
 pub some_kind : (o : Option StepName) (l : Loc) → IsSome o → (name : StepName) × (o ≡ Some name) × (is_step_told o (kind_named name l) ≡ true)

@@ -29,15 +29,7 @@ somewhere = start (Tree.Held Val.Unit)
 module _ (devices : ℕ) (cells : StoreTyping) where
   pub local_redex : (side : Side) (redex part : Tree) → LocalStep devices cells side redex part → is_redex redex ≡ true
   local_redex _ _ _ (LocalStep.becomes side redex part row) = row_redex somewhere side StepKind.Local redex part somewhere (Reduces.pure side redex part row)
-  local_redex _ _ _ (LocalStep.allocated side sort v l content is value) = refl
-  local_redex _ _ _ (LocalStep.read side l v sort content is value) = refl
-  local_redex _ _ _ (LocalStep.peeked l v sort content is value) = refl
-  local_redex _ _ _ (LocalStep.written side l v) = refl
-  local_redex _ _ _ (LocalStep.spawned side body) = refl
-  local_redex _ _ _ (LocalStep.printed side n) = refl
-  local_redex _ _ _ LocalStep.passed = refl
-  local_redex _ _ _ (LocalStep.answered device n answer) = refl
-  local_redex _ _ _ (LocalStep.closed v) = refl
+  local_redex _ _ _ _ = refl
 
   made_type : (q : Effect) (sort : Sort) (v : Val) (content t : Typ) → HasType devices cells unscoped q (Tree.One (unary.Ref sort) (Tree.Held v)) t → HasValue devices cells v content
       → t ≡ Typ.Ref sort content

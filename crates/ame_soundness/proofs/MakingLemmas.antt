@@ -35,25 +35,11 @@ kind_named StepName.Device l = StepKind.Device (pos 0)
 
 pub kind_named-named : (name : StepName) (l : Loc) → same_step name (step_name (kind_named name l)) ≡ true
 kind_named-named StepName.Local l = refl
-kind_named-named StepName.Alloc l = refl
-kind_named-named StepName.Read l = refl
-kind_named-named StepName.Peek l = refl
-kind_named-named StepName.Write l = refl
-kind_named-named StepName.Spawn l = refl
-kind_named-named StepName.Print l = refl
-kind_named-named StepName.Block l = refl
-kind_named-named StepName.Device l = refl
+kind_named-named _ l = refl
 
 pub kind_named-fresh : (s : State) (name : StepName) (l : Loc) → at s.store l.0 ≡ None → is_fresh s (kind_named name l) ≡ true
 kind_named-fresh s StepName.Alloc l fresh = ap is_none fresh
-kind_named-fresh s StepName.Local l fresh = refl
-kind_named-fresh s StepName.Read l fresh = refl
-kind_named-fresh s StepName.Peek l fresh = refl
-kind_named-fresh s StepName.Write l fresh = refl
-kind_named-fresh s StepName.Spawn l fresh = refl
-kind_named-fresh s StepName.Print l fresh = refl
-kind_named-fresh s StepName.Block l fresh = refl
-kind_named-fresh s StepName.Device l fresh = refl
+kind_named-fresh s _ l fresh = refl
 
 pub same_step-true : (a b : StepName) → same_step a b ≡ true → a ≡ b
 same_step-true StepName.Local StepName.Local e = refl

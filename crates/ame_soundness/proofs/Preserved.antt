@@ -55,10 +55,7 @@ module _ (devices : ℕ) (cells : StoreTyping) (s : State) (typed : IsTypedBy de
   effect_typed : (side : Side) (kind : StepKind) (redex part : Tree) (t : State) → Reduces s side kind redex part t → MakesCell devices cells kind redex → (q : Effect) (u : Typ) → IsWellFormed redex
       → IsTypedAct devices cells q u (act_of redex) → IsTypedBy devices cells t
   unfolding act_of IsWellFormed
-  effect_typed _ _ _ _ _ (Reduces.pure side redex part row) makes q u formed a = typed
   effect_typed _ _ _ _ _ (Reduces.allocation side l sort v fresh) makes q u formed a = let p = makes l sort v refl refl in put_typed l.0 v (sort, p.0) p.1 (p.2, formed)
-  effect_typed _ _ _ _ _ (Reduces.reading side l v found) makes q u formed a = typed
-  effect_typed _ _ _ _ _ (Reduces.peeking l v found) makes q u formed a = typed
   effect_typed _ _ _ _ _ (Reduces.writing side l v) makes q u formed a = put_typed l v (a.0, a.1) a.2 a.3
   effect_typed _ _ _ _ _ (Reduces.spawning side body) makes q u formed a = record {
     stored = typed.stored;
@@ -66,8 +63,7 @@ module _ (devices : ℕ) (cells : StoreTyping) (s : State) (typed : IsTypedBy de
     present = λ i is. is_some-put s.members s.next i body (typed.present i is);
   }
   effect_typed _ _ _ _ _ (Reduces.printing side n) makes q u formed a = record { stored = typed.stored; members = typed.members; present = typed.present }
-  effect_typed _ _ _ _ _ Reduces.passing makes q u formed a = typed
-  effect_typed _ _ _ _ _ (Reduces.answering device n reply) makes q u formed a = typed
+  effect_typed _ _ _ _ _ _ makes q u formed a = typed
 
   -- a row is a local step, which is fed what the store has
   pub fed : (side : Side) (kind : StepKind) (redex part : Tree) (t : State) → Reduces s side kind redex part t → MakesCell devices cells kind redex → IsWellFormed redex → LocalStep devices cells side redex part
@@ -132,12 +128,9 @@ module _ (devices : ℕ) (cells : StoreTyping) (s : State) (typed : IsTypedBy de
   makes_of kind frames redex has l sort v is e = has l frames sort v is (ap (plug_all frames) e)
 
   rule_makes : (label : Label) (t : State) (rule : Rule s label t) → HasNewCellAfter devices cells s label → RuleMakes devices cells s label t rule
-  rule_makes _ _ (Rule.activates i term idle found calm) has = tt
   rule_makes _ _ (Rule.steps i kind t is st) has = makes_of kind st.frames st.redex (has i is (plug_all st.frames st.redex) st.found)
-  rule_makes _ _ (Rule.leaves i term is found stands) has = tt
-  rule_makes _ _ (Rule.ends i v is found) has = tt
   rule_makes _ _ (Rule.frees i kind t idle st) has = makes_of kind st.frames st.redex (has (plug_all st.frames st.redex) st.found)
-  rule_makes _ _ (Rule.closes i frames v idle found on) has = tt
+  rule_makes _ _ _ has = tt
 
   pub label_kept : (label : Label) (t : State) → after s label ≡ Some t → HasNewCellAfter devices cells s label → IsTypedBy devices cells t
   label_kept label t e has = let rule = rule_of s label t e in preserved label t rule (rule_makes label t rule has)
@@ -213,15 +206,9 @@ module _ (devices : ℕ) (cells : StoreTyping) (s : State) (typed : IsTyped devi
 
   choice : (side : Side) (kind : StepKind) (redex part : Tree) (t : State) → Reduces s side kind redex part t → (q : Effect) (u : Typ) → IsTypedAct devices cells q u (act_of redex) → Choice kind redex t
   unfolding act_of
-  choice _ _ _ _ _ (Reduces.pure side redex part row) q u a = keep StepKind.Local redex s (λ l is. cc) (λ l there. there)
   choice _ _ _ _ _ (Reduces.allocation side l sort v fresh) q u a = extended l sort v a.0 fresh a.2.0
-  choice _ _ _ _ _ (Reduces.reading side l v found) q u a = keep StepKind.Read _ s (λ l is. cc) (λ l there. there)
-  choice _ _ _ _ _ (Reduces.peeking l v found) q u a = keep StepKind.Peek _ s (λ l is. cc) (λ l there. there)
   choice _ _ _ _ _ (Reduces.writing side l v) q u a = keep StepKind.Write _ _ (λ l is. cc) (λ m there. is_some-put s.store l m v there)
-  choice _ _ _ _ _ (Reduces.spawning side body) q u a = keep StepKind.Spawn _ _ (λ l is. cc) (λ l there. there)
-  choice _ _ _ _ _ (Reduces.printing side n) q u a = keep StepKind.Print _ _ (λ l is. cc) (λ l there. there)
-  choice _ _ _ _ _ Reduces.passing q u a = keep StepKind.Block _ s (λ l is. cc) (λ l there. there)
-  choice _ _ _ _ _ (Reduces.answering device n reply) q u a = keep (StepKind.Device reply) _ s (λ l is. cc) (λ l there. there)
+  choice _ _ _ _ _ _ q u a = keep _ _ _ (λ l is. cc) (λ l there. there)
 
   step_later : (side : Side) (kind : StepKind) (i : ℕ) (t : State) → Steps s side kind i t → IsTypedLater devices cells t
   step_later side kind i t st =

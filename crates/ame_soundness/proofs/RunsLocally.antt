@@ -31,17 +31,10 @@ module _ (devices : ℕ) (cells : StoreTyping) (s : State) (typed : IsTypedBy de
 
   -- after the effect of a row too
   still : (side : Side) (kind : StepKind) (redex part : Tree) (t : State) → Reduces s side kind redex part t → at t.members i ≡ at s.members i
-  still _ _ _ _ _ (Reduces.pure side redex part row) = refl
-  still _ _ _ _ _ (Reduces.allocation side l sort v fresh) = refl
-  still _ _ _ _ _ (Reduces.reading side l v found) = refl
-  still _ _ _ _ _ (Reduces.peeking l v found) = refl
-  still _ _ _ _ _ (Reduces.writing side l v) = refl
   still _ _ _ _ _ (Reduces.spawning side body) =
       let below : i < s.next = numbers-at (λ k. k < s.next) s.members i (ap is_some member) orderly.members_below in
       at-put_other s.members s.next i body (λ same. omega arith)
-  still _ _ _ _ _ (Reduces.printing side n) = refl
-  still _ _ _ _ _ Reduces.passing = refl
-  still _ _ _ _ _ (Reduces.answering device n reply) = refl
+  still _ _ _ _ _ _ = refl
 
   -- a member's term was changed: it is another one, or made a step in its frames
   was_changed : (members : List (ℕ × Tree)) → at members i ≡ at s.members i → (j : ℕ) (frames : List Frame) (redex part : Tree) → at s.members j ≡ Some (plug_all frames redex)

@@ -1,16 +1,24 @@
--- An accepted program begins typed.
-use Rattle.std.proofs.Common.{◌≡◌, ℕ, List, Ok, ap, ◌∙◌, slice_index}
+-- An accepted program begins typed, and each state that it reaches is typed.
+use Rattle.std.proofs.Common.{◌≡◌, ℕ, Bool, true, false, List, Ok, refl, ap, ◌∙◌, slice_index}
+use Rattle.std.proofs.Math.Logic.{∥∥₁_elim}
+use mathlib.Core.Bool.{Bool-set}
 use Rattle.ame_term.specs.Tree.{Typ, Tree}
 use Rattle.ame_term.specs.Scope.{unscoped}
-use Rattle.ame_term.specs.Typing.{typed, typing, want_unit, no_cells, Accepts}
+use Rattle.ame_term.specs.Typing.{typed, typing, want_unit, no_cells, ref_types, Accepts}
+use Rattle.ame_term.specs.Shown.{TypeOutcome}
 use Rattle.ame_term.specs.SourceTerm.{IsSourceTerm}
 use Rattle.ame_term.specs.HasType.{HasType}
-use Rattle.ame_term.specs.State.{start}
+use Rattle.ame_term.specs.State.{State, start, IsRun}
+use Rattle.ame_term.specs.declared.semantics.Label.{Label}
 use Rattle.ame_term.specs.declared.types.Effect.{Effect}
 use Rattle.ame_laws.proofs.Tests.{then-gave, want_unit-gave}
 use Rattle.ame_laws.proofs.Sound.{sound}
+use Rattle.ame_laws.specs.Orderly.{IsOrderly}
+use Rattle.ame_laws.proofs.OrderlyLemmas.{run-goes, start-orderly}
+use Rattle.ame_soundness.specs.StoreTyping.{StoreTyping}
 use Rattle.ame_soundness.specs.TypedState.{IsTyped}
 use Rattle.ame_soundness.proofs.WellFormedLemmas.{source_formed}
+use Rattle.ame_soundness.proofs.Preserved.{preserved_along}
 
 program_typed : (devices : ℕ) (places : List ℕ) (program : Tree) → typing devices places program ≡ Ok Typ.Unit
     → HasType devices no_cells unscoped Effect.Protected program Typ.Unit
@@ -30,3 +38,26 @@ started devices places program refs accepted source = record {
   };
   located = λ l cell e. absurd (cc);
 }
+
+-- whether an outcome is Unit
+abbrev is_unit : TypeOutcome → Bool
+is_unit (Ok Typ.Unit) = true
+is_unit _ = false
+
+unit_outcome : (o : TypeOutcome) → is_unit o ≡ true → o ≡ Ok Typ.Unit
+unit_outcome (Ok Typ.Unit) e = refl
+unit_outcome _ e = cc
+
+-- what an accepted program keeps says that it is typed
+pub accepted : (devices : ℕ) (places : List ℕ) (program : Tree) (refs : List Typ) → ∥ Accepts devices places program refs ∥₁
+    → Accepts devices places program (ref_types devices places program)
+accepted devices places program refs kept =
+    let o = typing devices places program in
+    (unit_outcome o (∥∥₁_elim kept (Bool-set (is_unit o) true) (λ a. ap is_unit a.0)), refl)
+
+-- and so is each state that it reaches
+pub reached : (devices : ℕ) (places : List ℕ) (program : Tree) (refs : List Typ) (labels : List Label) (t : State) → Accepts devices places program refs → IsSourceTerm program → IsRun program labels t
+    → (cells : StoreTyping) × IsTyped devices cells t × IsOrderly t
+reached devices places program refs labels t accepted source ran =
+    let p = preserved_along devices labels no_cells (start program) t (started devices places program refs accepted source) ran in
+    (p.0, p.2, (run-goes (start program) labels t ran).orderly (start-orderly program))

@@ -17,6 +17,6 @@ pub use progress::{
     one_kind_makes_an_act, resting_labels, resting_members_progress,
 };
 pub use states::{
-    labels_keep_given_types, labels_keep_types, reached_states_are_typed, runs_keep_types,
-    start_is_typed, steps_keep_given_types,
+    accepted_runs_are_typed, labels_keep_given_types, labels_keep_types, reached_states_are_typed,
+    runs_keep_types, start_is_typed, steps_keep_given_types,
 };

@@ -2,6 +2,7 @@
 
 ghost use Rattle.std.specs.Prelude.{◌≡◌, ℕ, List, Some};
 ghost use Rattle.ame_term.specs.Tree.{Typ, Tree};
+ghost use Rattle.ame_term.specs.View.{tree_of};
 ghost use Rattle.ame_term.specs.Frame.{Side};
 ghost use Rattle.ame_term.specs.Typing.{no_cells, Accepts};
 ghost use Rattle.ame_term.specs.SourceTerm.{IsSourceTerm};
@@ -13,6 +14,8 @@ ghost use Rattle.ame_laws.specs.Rules.{Steps};
 ghost use Rattle.ame_soundness.specs.StoreTyping.{StoreTyping};
 ghost use Rattle.ame_soundness.specs.TypedState.{IsTyped, IsTypedBy, IsTypedLater};
 ghost use Rattle.ame_soundness.specs.NewCell.{HasNewCellOf, HasNewCellAfter};
+
+use ame_term::Accepted;
 
 /// An accepted program begins in a typed state, in which no location has a type.
 pub fn start_is_typed()
@@ -40,6 +43,12 @@ pub fn reached_states_are_typed()
     ensures { (devices : ℕ) (places : List ℕ) (program : Tree) (refs : List Typ) (labels : List Label) (t : State)
         → Accepts devices places program refs → IsSourceTerm program → IsRun program labels t
         → (cells : StoreTyping) × IsTyped devices cells t × IsOrderly t }
+{}
+
+/// The same of a program that keeps that it is accepted.
+pub fn accepted_runs_are_typed(accepted: &Accepted)
+    ensures { (labels : List Label) (t : State) → IsRun (tree_of accepted.now.program.term) labels t
+        → (cells : StoreTyping) × IsTyped accepted.now.devices cells t × IsOrderly t }
 {}
 
 /// The types of locations may be given, also of some that the store doesn't have. A state that they

@@ -6,7 +6,7 @@ use Rattle.ame_term.specs.SourceTerm.{nodes}
 use Rattle.ame_term.specs.Shown.{TypeOutcome}
 use Rattle.ame_term.specs.declared.types.Effect.{Effect}
 use Rattle.ame_term.specs.declared.types.Ty.{Ty}
-use Rattle.ame_types.specs.Fault.{AnswersType, IsFirstFault, Passes}
+use Rattle.ame_types.specs.Fault.{AnswersType, IsFirstFault, PassesTest}
 use Rattle.ame_types.specs.Checks.{Checks, type_outcome, ref_types_after}
 use Rattle.ame_types.specs.declared.seen.Checker.{Checker}
 use Rattle.ame_types.specs.declared.seen.Seen.{Seen}
@@ -17,7 +17,7 @@ use Rattle.ame_types.specs.declared.fault.TypesFail.TheVariants as fail
 module _ (checker : Checker) (scope : Scope) (q : Effect) (old new : Seen) (term : Tree) where
   -- a term's outcome is the fault of a test that failed
   pub at_fault : (test : Bool) (fault : TypeOutcome) (e : TypesFail) →
-      Passes test fault (Err e) → (test ≡ false → type_outcome checker scope q old term ≡ fault) → Checks checker scope q old new term (Err e)
+      PassesTest test fault (Err e) → (test ≡ false → type_outcome checker scope q old term ≡ fault) → Checks checker scope q old new term (Err e)
   at_fault test fault (fail.Fault f) h k = k h.0 ∙ h.1
   at_fault test fault fail.NoMemory h k = absurd h
 

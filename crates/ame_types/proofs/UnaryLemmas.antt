@@ -1,5 +1,5 @@
 -- Forms with one part: a part's fault is the form's, and the room of a `ref` form.
-use Rattle.std.proofs.Common.{◌≡◌, ℕ, ◌+◌, ◌<◌, true, List, [], ◌∷◌, ◌++◌, length, set, refl, ap, arith, append_assoc, length-append, Ok, Err, ◌∙◌}
+use Rattle.std.proofs.Common.{◌≡◌, ℕ, true, List, [], ◌∷◌, ◌++◌, length, set, refl, ap, append_assoc, Ok, Err, ◌∙◌}
 use Rattle.std.proofs.lemmas.List.{map-set}
 use Rattle.ame_term.specs.Tree.{Typ}
 use Rattle.ame_term.specs.Shown.{TypeFault, TypeOutcome}
@@ -7,10 +7,10 @@ use Rattle.ame_term.specs.Typing.{unary_row, own_ref_type, no_cells}
 use Rattle.ame_term.specs.declared.types.Effect.{Effect}
 use Rattle.ame_term.specs.declared.types.Unary.{Unary}
 use Rattle.ame_term.specs.declared.types.Unary.TheVariants as unary
-use Rattle.ame_types.specs.Unary.{may_stand, room, HasRoom, filled}
+use Rattle.ame_types.specs.Unary.{stands_under, ref_room, filled}
 
 -- where a form may stand, its part's fault is its own
-pub part_fails : (devices at part_at : ℕ) (op : Unary) (q : Effect) (f : TypeFault) → may_stand devices op q ≡ true →
+pub part_fails : (devices at part_at : ℕ) (op : Unary) (q : Effect) (f : TypeFault) → stands_under devices op q ≡ true →
     unary_row devices op at part_at q (Err f) ≡ Err f
 part_fails devices at part_at unary.Not q f h = refl
 part_fails devices at part_at (unary.Ref sort) q f h = refl
@@ -30,20 +30,8 @@ set-behind [] back x y = refl
 set-behind (z ∷ front) back x y = ap (λ zs. z ∷ zs) (set-behind front back x y)
 
 module _ (devices : ℕ) (front back types : List Typ) (n : ℕ) where
-  -- the room stays where it was made
-  pub room_stays : (op : Unary) → types ≡ (front ++ room op) ++ back → n ≡ length front → HasRoom op types n
-  room_stays (unary.Ref sort) e m = rw e (simp (length-append, m) (omega arith))
-  room_stays unary.Not e m = tt
-  room_stays unary.Get e m = tt
-  room_stays unary.Peek e m = tt
-  room_stays unary.Block e m = tt
-  room_stays unary.Print e m = tt
-  room_stays (unary.Call device) e m = tt
-  room_stays unary.First e m = tt
-  room_stays unary.Second e m = tt
-
-  -- and gets the part's type, before what the part stores
-  pub filled_room : (op : Unary) (t : Typ) → types ≡ (front ++ room op) ++ back → n ≡ length front →
+  -- the room that was made gets the part's type, before what the part stores
+  pub filled_room : (op : Unary) (t : Typ) → types ≡ (front ++ ref_room op) ++ back → n ≡ length front →
       filled op types n t ≡ front ++ own_ref_type devices no_cells op (Ok t) back
   filled_room (unary.Ref sort) t e m = rw (e, m) (set-behind front back Typ.Unit t)
   filled_room unary.Not t e m = e ∙ simp append_assoc

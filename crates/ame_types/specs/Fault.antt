@@ -33,15 +33,15 @@ AnswersType outcome (Err (fail.Fault fault)) = outcome ≡ Err (fault_of fault)
 AnswersType outcome (Err fail.NoMemory) = Unit {0}
 
 -- a fault that is the outcome
-abbrev pub IsFault : TypeOutcome → TypesFail → Type 0
-IsFault outcome (fail.Fault fault) = outcome ≡ Err (fault_of fault)
-IsFault outcome fail.NoMemory = ⊥
+abbrev pub IsTheFault : TypeOutcome → TypesFail → Type 0
+IsTheFault outcome (fail.Fault fault) = outcome ≡ Err (fault_of fault)
+IsTheFault outcome fail.NoMemory = ⊥
 
 -- the test holds, or the answer is the fault
-abbrev pub Passes : Bool → TypeOutcome → Result ⊤ TypesFail → Type 0
-Passes test fault (Ok _) = test ≡ true
-Passes test fault (Err (fail.Fault f)) = (test ≡ false) × (fault ≡ Err (fault_of f))
-Passes test fault (Err fail.NoMemory) = ⊥
+abbrev pub PassesTest : Bool → TypeOutcome → Result ⊤ TypesFail → Type 0
+PassesTest test fault (Ok _) = test ≡ true
+PassesTest test fault (Err (fail.Fault f)) = (test ≡ false) × (fault ≡ Err (fault_of f))
+PassesTest test fault (Err fail.NoMemory) = ⊥
 
 -- the fault is the outcome, unless memory was wanted
 abbrev pub IsFirstFault : TypeOutcome → TypesFail → Type 0

@@ -7,21 +7,21 @@ use Rattle.ame_term.specs.declared.types.Unary.{Unary}
 use Rattle.ame_term.specs.declared.types.Unary.TheVariants as unary
 
 -- whether a form may stand under an effect, on so many devices, whatever its part is
-abbrev pub may_stand : ℕ → Unary → Effect → Bool
-may_stand devices unary.Peek q = same_effect q Effect.Unprotected
-may_stand devices unary.Block q = same_effect q Effect.Protected
-may_stand devices (unary.Call device) q = same_effect q Effect.Unprotected && nat_lt device devices
-may_stand devices _ q = true
+abbrev pub stands_under : ℕ → Unary → Effect → Bool
+stands_under devices unary.Peek q = same_effect q Effect.Unprotected
+stands_under devices unary.Block q = same_effect q Effect.Protected
+stands_under devices (unary.Call device) q = same_effect q Effect.Unprotected && nat_lt device devices
+stands_under devices _ q = true
 
 -- the room for the type that a `ref` form stores
-abbrev pub room : Unary → List Typ
-room (unary.Ref sort) = Typ.Unit ∷ []
-room _ = []
+abbrev pub ref_room : Unary → List Typ
+ref_room (unary.Ref sort) = Typ.Unit ∷ []
+ref_room _ = []
 
 -- a `ref` form has its room among stored types at this number
-abbrev pub HasRoom : Unary → List Typ → ℕ → Type 0
-HasRoom (unary.Ref sort) types n = n < length types
-HasRoom _ types n = Unit {0}
+abbrev pub HasRefRoom : Unary → List Typ → ℕ → Type 0
+HasRefRoom (unary.Ref sort) types n = n < length types
+HasRefRoom _ types n = Unit {0}
 
 -- the stored types once the room of a `ref` form got its type
 abbrev pub filled : Unary → List Typ → ℕ → Typ → List Typ

@@ -6,7 +6,7 @@ ghost use Rattle.ame_term.specs.View.{typ_of, val_of};
 ghost use Rattle.ame_term.specs.Shown.{Shown as Seen, wrong_effect, wrong_sort, no_device};
 ghost use Rattle.ame_term.specs.Typing.{same_type, same_effect, need, breaks, want, fits, touches, op_type, read_row, peeked_row, first_of as first_of_pair, second_of as second_of_pair, typed_value, no_cells};
 ghost use Rattle.ame_term.specs.SourceTerm.{IsConstant};
-ghost use Rattle.ame_types.specs.Fault.{AnswersType, Passes, IsFault, mismatch, shown_of};
+ghost use Rattle.ame_types.specs.Fault.{AnswersType, PassesTest, IsTheFault, mismatch, shown_of};
 
 use crate::fault::{Shown, TypeFault, TypesFail};
 use crate::rule;
@@ -15,7 +15,7 @@ use ame_term::{Effect, Op, Sort, Ty, Value};
 
 /// The fault of a rule.
 fn fault(rule: u8, place: u32, found: Shown, wanted: Shown) -> TypesFail
-    ensures { IsFault (breaks rule place (shown_of found) (shown_of wanted)) result }
+    ensures { IsTheFault (breaks rule place (shown_of found) (shown_of wanted)) result }
 {
     TypesFail::Fault(TypeFault {
         rule,
@@ -45,7 +45,7 @@ pub fn expect(rule: u8, place: u32, found: Ty, wanted: Ty, then: Ty) -> Result<T
 
 /// Nothing, if the part at the place has the wanted type.
 pub fn require(rule: u8, place: u32, found: Ty, wanted: Ty) -> Result<(), TypesFail>
-    ensures { Passes (same_type (typ_of found) (typ_of wanted)) (mismatch rule place (typ_of found) (typ_of wanted)) result }
+    ensures { PassesTest (same_type (typ_of found) (typ_of wanted)) (mismatch rule place (typ_of found) (typ_of wanted)) result }
 {
     if same_ty(&found, &wanted) {
         Ok(())
@@ -56,7 +56,7 @@ pub fn require(rule: u8, place: u32, found: Ty, wanted: Ty) -> Result<(), TypesF
 
 /// Nothing, if the ambient effect of the form at the place is the wanted one.
 pub fn under(rule: u8, at: u32, q: Effect, wanted: Effect) -> Result<(), TypesFail>
-    ensures { Passes (same_effect q wanted) (breaks rule at (Seen.Effect q) (Seen.Effect wanted)) result }
+    ensures { PassesTest (same_effect q wanted) (breaks rule at (Seen.Effect q) (Seen.Effect wanted)) result }
 {
     if q == wanted {
         Ok(())
@@ -67,7 +67,7 @@ pub fn under(rule: u8, at: u32, q: Effect, wanted: Effect) -> Result<(), TypesFa
 
 /// Nothing, if there is a device of this number.
 pub fn known(devices: u32, device: u32, at: u32) -> Result<(), TypesFail>
-    ensures { Passes (nat_lt device devices) (breaks no_device at (Seen.Device device) (Seen.Device devices)) result }
+    ensures { PassesTest (nat_lt device devices) (breaks no_device at (Seen.Device device) (Seen.Device devices)) result }
 {
     if device < devices {
         Ok(())

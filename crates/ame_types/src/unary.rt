@@ -5,7 +5,7 @@ ghost use Rattle.ame_term.specs.View.{typ_of};
 ghost use Rattle.ame_term.specs.Shown.{TypeOutcome};
 ghost use Rattle.ame_term.specs.Typing.{unary_row};
 ghost use Rattle.ame_types.specs.Fault.{AnswersType, IsFirstFault};
-ghost use Rattle.ame_types.specs.Unary.{may_stand, room, HasRoom, filled};
+ghost use Rattle.ame_types.specs.Unary.{stands_under, ref_room, HasRefRoom, filled};
 
 use crate::expect::{expect, first_of, known, peeked, read, second_of, under};
 use crate::fault::TypesFail;
@@ -15,7 +15,7 @@ use std::alloc::Global;
 
 /// Nothing, if a form may stand under an effect, whatever its part is; else the fault.
 pub fn stand(devices: u32, op: Unary, at: u32, q: Effect) -> Result<(), TypesFail>
-    ensures ok { OnOk result (may_stand devices op q ≡ true) }
+    ensures ok { OnOk result (stands_under devices op q ≡ true) }
     ensures err { IfErr result (λ e. (part_at : ℕ) (part : TypeOutcome) → IsFirstFault (unary_row devices op at part_at q part) e) }
 {
     match op {
@@ -38,7 +38,7 @@ pub fn unary_ty(
     q: Effect,
     found: Ty,
 ) -> Result<Ty, TypesFail>
-    ensures { (devices : ℕ) → may_stand devices op q ≡ true → AnswersType (unary_row devices op at part_at q (Ok (typ_of found))) result }
+    ensures { (devices : ℕ) → stands_under devices op q ≡ true → AnswersType (unary_row devices op at part_at q (Ok (typ_of found))) result }
 {
     match op {
         Unary::Not => expect(rule::TYPE_MISMATCH, part_at, found, Ty::Bool, Ty::Bool),
@@ -57,7 +57,7 @@ pub fn unary_ty(
 /// forms store none.
 pub fn reserve(tys: &mut Vec<Ty>, op: Unary) -> Result<usize, NoMemory>
     ensures number { IfOk result (λ n. n ≡ length (map typ_of tys.old.items)) }
-    ensures room { IfOk result (λ n. map typ_of tys.new.items ≡ map typ_of tys.old.items ++ room op) }
+    ensures room { IfOk result (λ n. map typ_of tys.new.items ≡ map typ_of tys.old.items ++ ref_room op) }
 {
     let number = tys.len();
     match op {
@@ -78,7 +78,7 @@ pub fn fill(
     number: usize,
     part: &Ty,
 ) -> Result<(), NoMemory>
-    requires { HasRoom op (map typ_of tys.old.items) number }
+    requires { HasRefRoom op (map typ_of tys.old.items) number }
     ensures { OnOk result (map typ_of tys.new.items ≡ filled op (map typ_of tys.old.items) number (typ_of part.now)) }
 {
     if let Unary::Ref(_) = op {

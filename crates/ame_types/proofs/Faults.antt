@@ -1,18 +1,35 @@
--- An answer that a test gave.
-use Rattle.std.proofs.Common.{◌≡◌, Bool, false, Err, ◌∙◌}
+-- A form's answer, which a test or a table's row gave.
+use Rattle.std.proofs.Common.{◌≡◌, ◌+◌, Bool, false, map, Result, Ok, Err, ◌∙◌}
 use Rattle.ame_term.specs.Tree.{Tree}
-use Rattle.ame_term.specs.Typing.{Outcome}
+use Rattle.ame_term.specs.View.{typ_of}
+use Rattle.ame_term.specs.SourceTerm.{nodes}
+use Rattle.ame_term.specs.Shown.{TypeOutcome}
 use Rattle.ame_term.specs.declared.types.Effect.{Effect}
-use Rattle.ame_types.specs.Fault.{Passes}
-use Rattle.ame_types.specs.Checks.{Checks, outcome}
+use Rattle.ame_term.specs.declared.types.Ty.{Ty}
+use Rattle.ame_types.specs.Fault.{AnswersType, IsFirstFault, PassesTest}
+use Rattle.ame_types.specs.Checks.{Checks, type_outcome, ref_types_after}
 use Rattle.ame_types.specs.declared.seen.Checker.{Checker}
 use Rattle.ame_types.specs.declared.seen.Seen.{Seen}
 use Rattle.ame_types.specs.declared.scope.Scope.{Scope}
 use Rattle.ame_types.specs.declared.fault.TypesFail.{TypesFail}
 use Rattle.ame_types.specs.declared.fault.TypesFail.TheVariants as fail
 
--- a term's outcome is the fault of a test that failed
-pub at_fault : (checker : Checker) (scope : Scope) (q : Effect) (old new : Seen) (term : Tree) (test : Bool) (fault : Outcome) (e : TypesFail) →
-    Passes test fault (Err e) → (test ≡ false → outcome checker scope q old term ≡ fault) → Checks checker scope q old new term (Err e)
-at_fault checker scope q old new term test fault (fail.Fault f) h k = k h.0 ∙ h.1
-at_fault checker scope q old new term test fault fail.NoMemory h k = absurd h
+module _ (checker : Checker) (scope : Scope) (q : Effect) (old new : Seen) (term : Tree) where
+  -- a term's outcome is the fault of a test that failed
+  pub at_fault : (test : Bool) (fault : TypeOutcome) (e : TypesFail) →
+      PassesTest test fault (Err e) → (test ≡ false → type_outcome checker scope q old term ≡ fault) → Checks checker scope q old new term (Err e)
+  at_fault test fault (fail.Fault f) h k = k h.0 ∙ h.1
+  at_fault test fault fail.NoMemory h k = absurd h
+
+  -- a term's outcome is a fault that was told
+  pub at_first : (e : TypesFail) → IsFirstFault (type_outcome checker scope q old term) e → Checks checker scope q old new term (Err e)
+  at_first (fail.Fault f) h = h
+  at_first fail.NoMemory h = tt
+
+  -- a term's outcome is that of its row
+  pub by_row : (row : TypeOutcome) (answer : Result Ty TypesFail) → AnswersType row answer → type_outcome checker scope q old term ≡ row →
+      map typ_of new.ref_tys.items ≡ ref_types_after checker scope q old term → new.next ≡ old.next + nodes term →
+      Checks checker scope q old new term answer
+  by_row row (Ok ty) h k refs next = (k ∙ h, refs, next)
+  by_row row (Err (fail.Fault f)) h k refs next = k ∙ h
+  by_row row (Err fail.NoMemory) h k refs next = tt

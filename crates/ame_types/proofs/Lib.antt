@@ -1,5 +1,5 @@
 pub mod Nodes
-pub mod Stored
+pub mod UnaryLemmas
 pub mod Parts
 pub mod Faults
 pub mod Counts

@@ -1,38 +1,49 @@
 -- The plain data of a fault, and what an answer says of an outcome of the typing table.
-use Rattle.std.specs.Prelude.{◌≡◌, Bool, true, false, Result, Ok, Err, ⊤}
+use Rattle.std.specs.Prelude.{◌≡◌, ℕ, Bool, true, false, Result, Ok, Err, ⊤}
+use Rattle.ame_term.specs.Tree.{Typ}
 use Rattle.ame_term.specs.View.{typ_of}
-use Rattle.ame_term.specs.Typing.{Shown, Fault, Outcome}
+use Rattle.ame_term.specs.Shown.{Shown, TypeFault, TypeOutcome}
+use Rattle.ame_term.specs.Typing.{breaks}
 use Rattle.ame_term.specs.declared.types.Ty.{Ty}
 use Rattle.ame_types.specs.declared.fault.Shown.{Shown as Showing}
 use Rattle.ame_types.specs.declared.fault.Shown.TheVariants as shown
-use Rattle.ame_types.specs.declared.fault.TypeFault.{TypeFault}
+use Rattle.ame_types.specs.declared.fault.TypeFault as told
 use Rattle.ame_types.specs.declared.fault.TypesFail.{TypesFail}
 use Rattle.ame_types.specs.declared.fault.TypesFail.TheVariants as fail
 
 abbrev pub shown_of : Showing → Shown
 shown_of shown.Nothing = Shown.Nothing
 shown_of (shown.Ty ty) = Shown.Ty (typ_of ty)
-shown_of (shown.Effect effect) = Shown.Mode effect
-shown_of (shown.Sort sort) = Shown.Kind sort
+shown_of (shown.Effect effect) = Shown.Effect effect
+shown_of (shown.Sort sort) = Shown.Sort sort
 shown_of (shown.Device device) = Shown.Device device
 
-abbrev pub fault_of : TypeFault → Fault
+abbrev pub fault_of : told.TypeFault → TypeFault
 fault_of fault =
     record { rule = fault.rule; place = fault.place; found = shown_of fault.found; wanted = shown_of fault.wanted }
 
+-- the fault of a part at a place, which has the first type in place of the second
+abbrev pub mismatch : ℕ → ℕ → Typ → Typ → TypeOutcome
+mismatch rule place found wanted = breaks rule place (Shown.Ty found) (Shown.Ty wanted)
+
 -- the answer is the outcome, or memory was wanted
-abbrev pub Answers : Outcome → Result Ty TypesFail → Type 0
-Answers outcome (Ok ty) = outcome ≡ Ok (typ_of ty)
-Answers outcome (Err (fail.Fault fault)) = outcome ≡ Err (fault_of fault)
-Answers outcome (Err fail.NoMemory) = Unit {0}
+abbrev pub AnswersType : TypeOutcome → Result Ty TypesFail → Type 0
+AnswersType outcome (Ok ty) = outcome ≡ Ok (typ_of ty)
+AnswersType outcome (Err (fail.Fault fault)) = outcome ≡ Err (fault_of fault)
+AnswersType outcome (Err fail.NoMemory) = Unit {0}
+
+-- a fault that is the outcome
+abbrev pub IsTheFault : TypeOutcome → TypesFail → Type 0
+IsTheFault outcome (fail.Fault fault) = outcome ≡ Err (fault_of fault)
+IsTheFault outcome fail.NoMemory = ⊥
 
 -- the test holds, or the answer is the fault
-abbrev pub Passes : Bool → Outcome → Result ⊤ TypesFail → Type 0
-Passes test fault (Ok _) = test ≡ true
-Passes test fault (Err (fail.Fault f)) = (test ≡ false) × (fault ≡ Err (fault_of f))
-Passes test fault (Err fail.NoMemory) = ⊥
+abbrev pub PassesTest : Bool → TypeOutcome → Result ⊤ TypesFail → Type 0
+PassesTest test fault (Ok _) = test ≡ true
+PassesTest test fault (Err (fail.Fault f)) = (test ≡ false) × (fault ≡ Err (fault_of f))
+PassesTest test fault (Err fail.NoMemory) = ⊥
 
 -- the fault is the outcome, unless memory was wanted
-abbrev pub IsFirstFault : Outcome → TypesFail → Type 0
+abbrev pub IsFirstFault : TypeOutcome → TypesFail → Type 0
 IsFirstFault outcome (fail.Fault fault) = outcome ≡ Err (fault_of fault)
 IsFirstFault outcome fail.NoMemory = Unit {0}

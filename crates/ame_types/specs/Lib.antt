@@ -1,3 +1,4 @@
 pub mod Fault
+pub mod Unary
 pub mod Scope
 pub mod Checks

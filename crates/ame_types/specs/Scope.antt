@@ -1,7 +1,7 @@
 -- The names that a chain of bindings has in scope.
 use Rattle.std.specs.Prelude.{ℕ, List, [], ◌∷◌}
 use Rattle.ame_term.specs.View.{typ_of}
-use Rattle.ame_term.specs.Typing.{Scope, unscoped, bind}
+use Rattle.ame_term.specs.Scope.{Scope, unscoped, bind}
 use Rattle.ame_types.specs.declared.scope.Scope as chain
 
 -- the types of the names in scope

@@ -1,25 +1,24 @@
-//! The checker: a function for each form of the table.
+//! The checker: a function for each behaviour of forms.
 
 ghost use Rattle.std.specs.Prelude.{◌≡◌};
 ghost use Rattle.ame_term.specs.Tree.{Val, Tree};
-ghost use Rattle.ame_term.specs.View.{val_of, tree_of, trees_of, head_of};
-ghost use Rattle.ame_types.specs.Checks.{Checks, IsReady};
-ghost use Rattle.ame_term.specs.declared.types.Effect.TheVariants.{Protected, Unprotected};
+ghost use Rattle.ame_term.specs.View.{val_of, tree_of, trees_of};
+ghost use Rattle.ame_term.specs.declared.types.Binary.TheVariants as binary;
+ghost use Rattle.ame_types.specs.Checks.{Checks, IsCheckable, function_tree};
 
-use crate::expect::{
-    agree, applied, broken, constant, expect, first_of, op_ty, peeked, read, require, second_of,
-    written,
-};
+use crate::expect::{agree, applied, broken, constant, expect, op_ty, require, under, written};
 use crate::fault::{Shown, TypesFail};
+use crate::rule;
 use crate::same::same_ty;
 use crate::scope::Scope;
-use crate::seen::{Checker, Seen, fill, reserve};
-use ame_term::{Effect, Function, Name, Op, Own, Sort, Term, Ty, Value, boxed, copy_ty};
+use crate::seen::{Checker, Seen};
+use crate::unary::{fill, reserve, stand, unary_ty};
+use ame_term::{Effect, Function, Name, Op, Own, Term, Ty, Unary, Value, boxed, copy_ty};
 
-#[tactic(auto, unfolding(ame_term::specs::Typing::typed, ame_term::specs::Typing::stored, ame_term::specs::Written::nodes, ame_term::specs::Written::IsWritten, ame_term::specs::Written::IsBound))]
+#[tactic(auto, unfolding(ame_term::specs::Typing::typed, ame_term::specs::Typing::ref_types_in, ame_term::specs::SourceTerm::nodes, ame_term::specs::SourceTerm::IsSourceTerm, ame_term::specs::SourceTerm::IsBound))]
 impl Checker<'_> {
     #[cycle(checker)]
-    #[tactic(auto, using(crate::proofs::Parts::do_forms), unfolding(ame_term::specs::Written::nodes))]
+    #[tactic(auto, using(ame_term::proofs::TreesLemmas::tree_of_do), unfolding(ame_term::specs::SourceTerm::nodes))]
     pub fn term(
         &self,
         seen: &mut Seen,
@@ -27,7 +26,7 @@ impl Checker<'_> {
         q: Effect,
         term: &Term,
     ) -> Result<Ty, TypesFail>
-        requires { IsReady self.now scope.now seen.old (tree_of term.now) }
+        requires { IsCheckable self.now scope.now seen.old (tree_of term.now) }
         ensures { Checks self.now scope.now q seen.old seen.new (tree_of term.now) result }
     {
         match term {
@@ -39,19 +38,19 @@ impl Checker<'_> {
             Term::Do(parts) => self.sequence(seen, scope, q, parts),
             Term::If(test, then, other) => self.choice(seen, scope, q, test, then, other),
             Term::Bin(op, left, right) => self.operation(seen, scope, q, *op, left, right),
-            Term::Not(part) => self.not(seen, scope, q, part),
-            Term::Ref(sort, part) => self.new_ref(seen, scope, q, *sort, part),
-            Term::Get(part) => self.get(seen, scope, q, part),
-            Term::Peek(part) => self.peek(seen, scope, q, part),
+            Term::Not(part) => self.one(seen, scope, q, Unary::Not, part),
+            Term::Ref(sort, part) => self.one(seen, scope, q, Unary::Ref(*sort), part),
+            Term::Get(part) => self.one(seen, scope, q, Unary::Get, part),
+            Term::Peek(part) => self.one(seen, scope, q, Unary::Peek, part),
             Term::Set(cell, content) => self.set(seen, scope, q, cell, content),
             Term::Async(body) => self.spawn(seen, scope, q, body),
-            Term::Block(part) => self.block(seen, scope, q, part),
+            Term::Block(part) => self.one(seen, scope, q, Unary::Block, part),
             Term::Unprotected(part) => self.unprotected(seen, scope, q, part),
-            Term::Print(part) => self.print(seen, scope, q, part),
-            Term::Call(device, part) => self.call(seen, scope, q, *device, part),
+            Term::Print(part) => self.one(seen, scope, q, Unary::Print, part),
+            Term::Call(device, part) => self.one(seen, scope, q, Unary::Call(*device), part),
             Term::Pair(first, second) => self.pair(seen, scope, q, first, second),
-            Term::First(part) => self.first(seen, scope, q, part),
-            Term::Second(part) => self.second(seen, scope, q, part),
+            Term::First(part) => self.one(seen, scope, q, Unary::First, part),
+            Term::Second(part) => self.one(seen, scope, q, Unary::Second, part),
         }
     }
 
@@ -62,7 +61,7 @@ impl Checker<'_> {
         q: Effect,
         value: &Value,
     ) -> Result<Ty, TypesFail>
-        requires { IsReady self.now scope.now seen.old (Tree.Held (val_of value.now)) }
+        requires { IsCheckable self.now scope.now seen.old (Tree.Held (val_of value.now)) }
         ensures { Checks self.now scope.now q seen.old seen.new (Tree.Held (val_of value.now)) result }
     {
         seen.next += 1;
@@ -76,7 +75,7 @@ impl Checker<'_> {
         q: Effect,
         name: Name,
     ) -> Result<Ty, TypesFail>
-        requires { IsReady self.now scope.now seen.old (Tree.Var name.0) }
+        requires { IsCheckable self.now scope.now seen.old (Tree.Var name.0) }
         ensures { Checks self.now scope.now q seen.old seen.new (Tree.Var name.0) result }
     {
         seen.next += 1;
@@ -92,8 +91,8 @@ impl Checker<'_> {
         q: Effect,
         function: &Function,
     ) -> Result<Ty, TypesFail>
-        requires { IsReady self.now scope.now seen.old (Tree.Lambda (head_of function.now.effect function.now.own function.now.param function.now.param_ty) (tree_of function.now.body)) }
-        ensures { Checks self.now scope.now q seen.old seen.new (Tree.Lambda (head_of function.now.effect function.now.own function.now.param function.now.param_ty) (tree_of function.now.body)) result }
+        requires { IsCheckable self.now scope.now seen.old (function_tree function.now) }
+        ensures { Checks self.now scope.now q seen.old seen.new (function_tree function.now) result }
     {
         match &function.own {
             None => self.plain(seen, scope, q, function),
@@ -110,8 +109,8 @@ impl Checker<'_> {
         function: &Function,
     ) -> Result<Ty, TypesFail>
         requires none { function.now.own ≡ None }
-        requires ready { IsReady self.now scope.now seen.old (Tree.Lambda (head_of function.now.effect function.now.own function.now.param function.now.param_ty) (tree_of function.now.body)) }
-        ensures { Checks self.now scope.now q seen.old seen.new (Tree.Lambda (head_of function.now.effect function.now.own function.now.param function.now.param_ty) (tree_of function.now.body)) result }
+        requires ready { IsCheckable self.now scope.now seen.old (function_tree function.now) }
+        ensures { Checks self.now scope.now q seen.old seen.new (function_tree function.now) result }
     {
         seen.next += 1;
         let inner = Scope::Bound(&*scope, function.param, &function.param_ty);
@@ -130,8 +129,8 @@ impl Checker<'_> {
         own: &Own,
     ) -> Result<Ty, TypesFail>
         requires own { function.now.own ≡ Some own.now }
-        requires ready { IsReady self.now scope.now seen.old (Tree.Lambda (head_of function.now.effect function.now.own function.now.param function.now.param_ty) (tree_of function.now.body)) }
-        ensures { Checks self.now scope.now q seen.old seen.new (Tree.Lambda (head_of function.now.effect function.now.own function.now.param function.now.param_ty) (tree_of function.now.body)) result }
+        requires ready { IsCheckable self.now scope.now seen.old (function_tree function.now) }
+        ensures { Checks self.now scope.now q seen.old seen.new (function_tree function.now) result }
     {
         seen.next += 1;
         let place = self.place(seen, &function.body);
@@ -145,7 +144,12 @@ impl Checker<'_> {
             return Ok(ty);
         }
         let wanted = copy_ty(self.alloc, &own.result)?;
-        broken(1, place, Shown::Ty(found), Shown::Ty(wanted))
+        broken(
+            rule::TYPE_MISMATCH,
+            place,
+            Shown::Ty(found),
+            Shown::Ty(wanted),
+        )
     }
 
     #[cycle(checker)]
@@ -157,8 +161,8 @@ impl Checker<'_> {
         function: &Term,
         argument: &Term,
     ) -> Result<Ty, TypesFail>
-        requires { IsReady self.now scope.now seen.old (Tree.App (tree_of function.now) (tree_of argument.now)) }
-        ensures { Checks self.now scope.now q seen.old seen.new (Tree.App (tree_of function.now) (tree_of argument.now)) result }
+        requires { IsCheckable self.now scope.now seen.old (Tree.Two binary.App (tree_of function.now) (tree_of argument.now)) }
+        ensures { Checks self.now scope.now q seen.old seen.new (Tree.Two binary.App (tree_of function.now) (tree_of argument.now)) result }
     {
         let at = self.places[seen.next];
         seen.next += 1;
@@ -178,7 +182,12 @@ impl Checker<'_> {
                     Box::into_inner(answer),
                 )
             }
-            other => broken(2, function_at, Shown::Ty(other), Shown::Nothing),
+            other => broken(
+                rule::NO_FUNCTION,
+                function_at,
+                Shown::Ty(other),
+                Shown::Nothing,
+            ),
         }
     }
 
@@ -192,7 +201,7 @@ impl Checker<'_> {
         bound: &Term,
         body: &Term,
     ) -> Result<Ty, TypesFail>
-        requires { IsReady self.now scope.now seen.old (Tree.Let name.0 (tree_of bound.now) (tree_of body.now)) }
+        requires { IsCheckable self.now scope.now seen.old (Tree.Let name.0 (tree_of bound.now) (tree_of body.now)) }
         ensures { Checks self.now scope.now q seen.old seen.new (Tree.Let name.0 (tree_of bound.now) (tree_of body.now)) result }
     {
         seen.next += 1;
@@ -210,7 +219,7 @@ impl Checker<'_> {
         q: Effect,
         parts: &[Term],
     ) -> Result<Ty, TypesFail>
-        requires { IsReady self.now scope.now seen.old (Tree.Do (trees_of parts.now)) }
+        requires { IsCheckable self.now scope.now seen.old (Tree.Do (trees_of parts.now)) }
         ensures { Checks self.now scope.now q seen.old seen.new (Tree.Do (trees_of parts.now)) result }
     {
         seen.next += 1;
@@ -219,7 +228,7 @@ impl Checker<'_> {
             let part = &rest[0];
             let place = self.place(seen, part);
             let found = self.term(seen, scope, q, part)?;
-            require(9, place, found, Ty::Unit)?;
+            require(rule::NOT_UNIT, place, found, Ty::Unit)?;
             rest = rest.split_at(1).1;
         }
         let ty = self.term(seen, scope, q, &rest[0])?;
@@ -236,13 +245,13 @@ impl Checker<'_> {
         then: &Term,
         other: &Term,
     ) -> Result<Ty, TypesFail>
-        requires { IsReady self.now scope.now seen.old (Tree.If (tree_of test.now) (tree_of then.now) (tree_of other.now)) }
+        requires { IsCheckable self.now scope.now seen.old (Tree.If (tree_of test.now) (tree_of then.now) (tree_of other.now)) }
         ensures { Checks self.now scope.now q seen.old seen.new (Tree.If (tree_of test.now) (tree_of then.now) (tree_of other.now)) result }
     {
         seen.next += 1;
         let test_at = self.place(seen, test);
         let found = self.term(seen, scope, q, test)?;
-        require(1, test_at, found, Ty::Bool)?;
+        require(rule::TYPE_MISMATCH, test_at, found, Ty::Bool)?;
         let wanted = self.term(seen, scope, q, then)?;
         let other_at = self.place(seen, other);
         let found = self.term(seen, scope, q, other)?;
@@ -259,92 +268,38 @@ impl Checker<'_> {
         left: &Term,
         right: &Term,
     ) -> Result<Ty, TypesFail>
-        requires { IsReady self.now scope.now seen.old (Tree.Bin op (tree_of left.now) (tree_of right.now)) }
-        ensures { Checks self.now scope.now q seen.old seen.new (Tree.Bin op (tree_of left.now) (tree_of right.now)) result }
+        requires { IsCheckable self.now scope.now seen.old (Tree.Two (binary.Bin op) (tree_of left.now) (tree_of right.now)) }
+        ensures { Checks self.now scope.now q seen.old seen.new (Tree.Two (binary.Bin op) (tree_of left.now) (tree_of right.now)) result }
     {
         seen.next += 1;
         let left_at = self.place(seen, left);
         let found = self.term(seen, scope, q, left)?;
-        require(1, left_at, found, Ty::Int)?;
+        require(rule::TYPE_MISMATCH, left_at, found, Ty::Int)?;
         let right_at = self.place(seen, right);
         let found = self.term(seen, scope, q, right)?;
-        expect(1, right_at, found, Ty::Int, op_ty(op))
+        expect(rule::TYPE_MISMATCH, right_at, found, Ty::Int, op_ty(op))
     }
 
     #[cycle(checker)]
-    fn not(
+    fn one(
         &self,
         seen: &mut Seen,
         scope: &Scope<'_>,
         q: Effect,
+        op: Unary,
         part: &Term,
     ) -> Result<Ty, TypesFail>
-        requires { IsReady self.now scope.now seen.old (Tree.Not (tree_of part.now)) }
-        ensures { Checks self.now scope.now q seen.old seen.new (Tree.Not (tree_of part.now)) result }
-    {
-        seen.next += 1;
-        let place = self.place(seen, part);
-        let found = self.term(seen, scope, q, part)?;
-        expect(1, place, found, Ty::Bool, Ty::Bool)
-    }
-
-    #[cycle(checker)]
-    #[tactic(auto, using(crate::proofs::Stored::lists), unfolding(ame_term::specs::Typing::typed, ame_term::specs::Typing::stored, ame_term::specs::Written::nodes, ame_term::specs::Written::IsWritten, ame_term::specs::Written::IsBound))]
-    fn new_ref(
-        &self,
-        seen: &mut Seen,
-        scope: &Scope<'_>,
-        q: Effect,
-        sort: Sort,
-        part: &Term,
-    ) -> Result<Ty, TypesFail>
-        requires { IsReady self.now scope.now seen.old (Tree.Ref sort (tree_of part.now)) }
-        ensures { Checks self.now scope.now q seen.old seen.new (Tree.Ref sort (tree_of part.now)) result }
-    {
-        seen.next += 1;
-        let number = reserve(&mut seen.ref_tys)?;
-        let content = self.term(seen, scope, q, part)?;
-        fill(&mut seen.ref_tys, number, copy_ty(self.alloc, &content)?);
-        Ok(Ty::Ref(sort, boxed(self.alloc, content)?))
-    }
-
-    #[cycle(checker)]
-    fn get(
-        &self,
-        seen: &mut Seen,
-        scope: &Scope<'_>,
-        q: Effect,
-        part: &Term,
-    ) -> Result<Ty, TypesFail>
-        requires { IsReady self.now scope.now seen.old (Tree.Get (tree_of part.now)) }
-        ensures { Checks self.now scope.now q seen.old seen.new (Tree.Get (tree_of part.now)) result }
+        requires { IsCheckable self.now scope.now seen.old (Tree.One op (tree_of part.now)) }
+        ensures { Checks self.now scope.now q seen.old seen.new (Tree.One op (tree_of part.now)) result }
     {
         let at = self.places[seen.next];
+        stand(self.devices, op, at, q)?;
         seen.next += 1;
+        let room = reserve(&mut seen.ref_tys, op)?;
         let part_at = self.place(seen, part);
         let found = self.term(seen, scope, q, part)?;
-        read(at, part_at, q, found)
-    }
-
-    #[cycle(checker)]
-    fn peek(
-        &self,
-        seen: &mut Seen,
-        scope: &Scope<'_>,
-        q: Effect,
-        part: &Term,
-    ) -> Result<Ty, TypesFail>
-        requires { IsReady self.now scope.now seen.old (Tree.Peek (tree_of part.now)) }
-        ensures { Checks self.now scope.now q seen.old seen.new (Tree.Peek (tree_of part.now)) result }
-    {
-        let at = self.places[seen.next];
-        if q != Effect::Unprotected {
-            return broken(3, at, Shown::Effect(q), Shown::Effect(Effect::Unprotected));
-        }
-        seen.next += 1;
-        let part_at = self.place(seen, part);
-        let found = self.term(seen, scope, q, part)?;
-        peeked(at, part_at, found)
+        fill(self.alloc, &mut seen.ref_tys, op, room, &found)?;
+        unary_ty(self.alloc, op, at, part_at, q, found)
     }
 
     #[cycle(checker)]
@@ -356,8 +311,8 @@ impl Checker<'_> {
         cell: &Term,
         content: &Term,
     ) -> Result<Ty, TypesFail>
-        requires { IsReady self.now scope.now seen.old (Tree.Set (tree_of cell.now) (tree_of content.now)) }
-        ensures { Checks self.now scope.now q seen.old seen.new (Tree.Set (tree_of cell.now) (tree_of content.now)) result }
+        requires { IsCheckable self.now scope.now seen.old (Tree.Two binary.Set (tree_of cell.now) (tree_of content.now)) }
+        ensures { Checks self.now scope.now q seen.old seen.new (Tree.Two binary.Set (tree_of cell.now) (tree_of content.now)) result }
     {
         let at = self.places[seen.next];
         seen.next += 1;
@@ -369,7 +324,12 @@ impl Checker<'_> {
                 let found = self.term(seen, scope, q, content)?;
                 written(at, content_at, q, sort, found, Box::into_inner(wanted))
             }
-            other => broken(5, cell_at, Shown::Ty(other), Shown::Nothing),
+            other => broken(
+                rule::NO_REFERENCE,
+                cell_at,
+                Shown::Ty(other),
+                Shown::Nothing,
+            ),
         }
     }
 
@@ -381,34 +341,13 @@ impl Checker<'_> {
         q: Effect,
         body: &Term,
     ) -> Result<Ty, TypesFail>
-        requires { IsReady self.now scope.now seen.old (Tree.Async (tree_of body.now)) }
+        requires { IsCheckable self.now scope.now seen.old (Tree.Async (tree_of body.now)) }
         ensures { Checks self.now scope.now q seen.old seen.new (Tree.Async (tree_of body.now)) result }
     {
         seen.next += 1;
         let place = self.place(seen, body);
         let found = self.term(seen, scope, Effect::Protected, body)?;
-        expect(9, place, found, Ty::Unit, Ty::Unit)
-    }
-
-    #[cycle(checker)]
-    fn block(
-        &self,
-        seen: &mut Seen,
-        scope: &Scope<'_>,
-        q: Effect,
-        part: &Term,
-    ) -> Result<Ty, TypesFail>
-        requires { IsReady self.now scope.now seen.old (Tree.Block (tree_of part.now)) }
-        ensures { Checks self.now scope.now q seen.old seen.new (Tree.Block (tree_of part.now)) result }
-    {
-        let at = self.places[seen.next];
-        if q != Effect::Protected {
-            return broken(6, at, Shown::Effect(q), Shown::Effect(Effect::Protected));
-        }
-        seen.next += 1;
-        let part_at = self.place(seen, part);
-        let found = self.term(seen, scope, q, part)?;
-        expect(1, part_at, found, Ty::Bool, Ty::Unit)
+        expect(rule::NOT_UNIT, place, found, Ty::Unit, Ty::Unit)
     }
 
     #[cycle(checker)]
@@ -419,59 +358,14 @@ impl Checker<'_> {
         q: Effect,
         part: &Term,
     ) -> Result<Ty, TypesFail>
-        requires { IsReady self.now scope.now seen.old (Tree.Unprotected (tree_of part.now)) }
+        requires { IsCheckable self.now scope.now seen.old (Tree.Unprotected (tree_of part.now)) }
         ensures { Checks self.now scope.now q seen.old seen.new (Tree.Unprotected (tree_of part.now)) result }
     {
         let at = self.places[seen.next];
-        if q != Effect::Protected {
-            return broken(7, at, Shown::Effect(q), Shown::Effect(Effect::Protected));
-        }
+        under(rule::MISPLACED_UNPROTECTED, at, q, Effect::Protected)?;
         seen.next += 1;
         let ty = self.term(seen, scope, Effect::Unprotected, part)?;
         Ok(ty)
-    }
-
-    #[cycle(checker)]
-    fn print(
-        &self,
-        seen: &mut Seen,
-        scope: &Scope<'_>,
-        q: Effect,
-        part: &Term,
-    ) -> Result<Ty, TypesFail>
-        requires { IsReady self.now scope.now seen.old (Tree.Print (tree_of part.now)) }
-        ensures { Checks self.now scope.now q seen.old seen.new (Tree.Print (tree_of part.now)) result }
-    {
-        seen.next += 1;
-        let place = self.place(seen, part);
-        let found = self.term(seen, scope, q, part)?;
-        expect(1, place, found, Ty::Int, Ty::Unit)
-    }
-
-    #[cycle(checker)]
-    fn call(
-        &self,
-        seen: &mut Seen,
-        scope: &Scope<'_>,
-        q: Effect,
-        device: u8,
-        part: &Term,
-    ) -> Result<Ty, TypesFail>
-        requires { IsReady self.now scope.now seen.old (Tree.Call device (tree_of part.now)) }
-        ensures { Checks self.now scope.now q seen.old seen.new (Tree.Call device (tree_of part.now)) result }
-    {
-        let at = self.places[seen.next];
-        if q != Effect::Unprotected {
-            return broken(3, at, Shown::Effect(q), Shown::Effect(Effect::Unprotected));
-        }
-        let device = u32::from(device);
-        if device >= self.devices {
-            return broken(8, at, Shown::Device(device), Shown::Device(self.devices));
-        }
-        seen.next += 1;
-        let part_at = self.place(seen, part);
-        let found = self.term(seen, scope, q, part)?;
-        expect(1, part_at, found, Ty::Int, Ty::Int)
     }
 
     #[cycle(checker)]
@@ -483,47 +377,13 @@ impl Checker<'_> {
         first: &Term,
         second: &Term,
     ) -> Result<Ty, TypesFail>
-        requires { IsReady self.now scope.now seen.old (Tree.Pairing (tree_of first.now) (tree_of second.now)) }
-        ensures { Checks self.now scope.now q seen.old seen.new (Tree.Pairing (tree_of first.now) (tree_of second.now)) result }
+        requires { IsCheckable self.now scope.now seen.old (Tree.Two binary.Pair (tree_of first.now) (tree_of second.now)) }
+        ensures { Checks self.now scope.now q seen.old seen.new (Tree.Two binary.Pair (tree_of first.now) (tree_of second.now)) result }
     {
         seen.next += 1;
         let first = self.term(seen, scope, q, first)?;
         let second = self.term(seen, scope, q, second)?;
         let first = boxed(self.alloc, first)?;
         Ok(Ty::Pair(first, boxed(self.alloc, second)?))
-    }
-
-    #[cycle(checker)]
-    fn first(
-        &self,
-        seen: &mut Seen,
-        scope: &Scope<'_>,
-        q: Effect,
-        part: &Term,
-    ) -> Result<Ty, TypesFail>
-        requires { IsReady self.now scope.now seen.old (Tree.First (tree_of part.now)) }
-        ensures { Checks self.now scope.now q seen.old seen.new (Tree.First (tree_of part.now)) result }
-    {
-        seen.next += 1;
-        let place = self.place(seen, part);
-        let found = self.term(seen, scope, q, part)?;
-        first_of(place, found)
-    }
-
-    #[cycle(checker)]
-    fn second(
-        &self,
-        seen: &mut Seen,
-        scope: &Scope<'_>,
-        q: Effect,
-        part: &Term,
-    ) -> Result<Ty, TypesFail>
-        requires { IsReady self.now scope.now seen.old (Tree.Second (tree_of part.now)) }
-        ensures { Checks self.now scope.now q seen.old seen.new (Tree.Second (tree_of part.now)) result }
-    {
-        seen.next += 1;
-        let place = self.place(seen, part);
-        let found = self.term(seen, scope, q, part)?;
-        second_of(place, found)
     }
 }

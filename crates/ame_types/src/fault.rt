@@ -14,10 +14,8 @@ pub enum Shown {
     Device(u32),
 }
 
-/// A rule that a program breaks, the place in the text, what was found there and what was wanted. The
-/// rules are 1 mismatch, 2 no function, 3 wrong effect, 4 wrong sort, 5 no reference, 6 `blockUntil`
-/// outside protected code, 7 `unprotected` inside unprotected code, 8 no such device, 9 not Unit and
-/// 11 no pair.
+/// A rule that a program breaks (`rule` names them), the place in the text, what was found there and
+/// what was wanted.
 #[derive(Drop)]
 pub struct TypeFault {
     pub rule: u8,

@@ -5,9 +5,11 @@ mod checker;
 mod expect;
 mod fault;
 mod program;
+pub mod rule;
 mod same;
 mod scope;
 mod seen;
+mod unary;
 
 pub use fault::{Shown, TypeFault, TypesFail};
 pub use program::check;

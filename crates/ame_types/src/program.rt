@@ -1,13 +1,13 @@
 //! The check of a program.
 
-ghost use Rattle.std.specs.Prelude.{◌≡◌, ◌≤◌, [], length, map, IfOk, IfErr};
+ghost use Rattle.std.specs.Prelude.{◌≡◌, ◌≤◌, map, IfOk, IfErr};
 ghost use Rattle.ame_term.specs.View.{typ_of, tree_of};
-ghost use Rattle.ame_term.specs.Written.{nodes, IsWritten, IsBound};
 ghost use Rattle.ame_term.specs.Typing.{typing, Accepts};
 ghost use Rattle.ame_types.specs.Fault.{IsFirstFault};
 
 use crate::expect::require;
 use crate::fault::TypesFail;
+use crate::rule;
 use crate::scope::Scope;
 use crate::seen::{Checker, Seen};
 use ame_term::{Accepted, Effect, Program, Ty};
@@ -19,10 +19,7 @@ use std::alloc::Global;
 /// pairs can double with each `let`, as in `(let b (pair a a) ..`: with 40 of these there is no memory
 /// for it, and the answer is `NoMemory`.
 pub fn check(alloc: Global, program: Program, devices: u32) -> Result<Accepted, TypesFail>
-    requires devices { devices ≤ 16 }
-    requires places { length program.places.items ≡ nodes (tree_of program.term) }
-    requires written { IsWritten (tree_of program.term) }
-    requires bound { IsBound [] (tree_of program.term) }
+    requires { devices ≤ 16 }
     ensures program { IfOk result (λ a. a.program ≡ program) }
     ensures devices { IfOk result (λ a. a.devices ≡ devices) }
     ensures accepts { IfOk result (λ a. Accepts devices program.places.items (tree_of program.term) (map typ_of a.ref_tys.items)) }
@@ -34,9 +31,6 @@ pub fn check(alloc: Global, program: Program, devices: u32) -> Result<Accepted, 
 
 /// The types of the values that a program's `ref` forms store, or its first fault.
 fn ref_tys(alloc: Global, program: &Program, devices: u32) -> Result<Vec<Ty>, TypesFail>
-    requires places { length program.now.places.items ≡ nodes (tree_of program.now.term) }
-    requires written { IsWritten (tree_of program.now.term) }
-    requires bound { IsBound [] (tree_of program.now.term) }
     ensures accepts { IfOk result (λ tys. Accepts devices program.now.places.items (tree_of program.now.term) (map typ_of tys.items)) }
     ensures fault { IfErr result (IsFirstFault (typing devices program.now.places.items (tree_of program.now.term))) }
 {
@@ -51,6 +45,6 @@ fn ref_tys(alloc: Global, program: &Program, devices: u32) -> Result<Vec<Ty>, Ty
     };
     let place = checker.place(&seen, &program.term);
     let found = checker.term(&mut seen, &Scope::Empty, Effect::Protected, &program.term)?;
-    require(9, place, found, Ty::Unit)?;
+    require(rule::NOT_UNIT, place, found, Ty::Unit)?;
     Ok(seen.ref_tys)
 }

@@ -2,14 +2,14 @@
 
 ghost use Rattle.std.specs.Prelude.{◌≡◌};
 ghost use Rattle.ame_term.specs.View.{typ_of};
-ghost use Rattle.ame_term.specs.Typing.{same};
+ghost use Rattle.ame_term.specs.Typing.{same_type};
 
 use ame_term::Ty;
 
 /// Whether two types are the same.
-#[tactic(auto, unfolding(ame_term::specs::Typing::same))]
+#[tactic(auto, unfolding(ame_term::specs::Typing::same_type))]
 pub fn same_ty(a: &Ty, b: &Ty) -> bool
-    ensures { result ≡ same (typ_of a.now) (typ_of b.now) }
+    ensures { result ≡ same_type (typ_of a.now) (typ_of b.now) }
 {
     match (a, b) {
         (Ty::Unit, Ty::Unit) => true,

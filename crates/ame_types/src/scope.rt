@@ -1,7 +1,8 @@
 //! The names in scope.
 
-ghost use Rattle.std.specs.Prelude.{◌≡◌, Contains};
+ghost use Rattle.std.specs.Prelude.{◌≡◌, IsTrue};
 ghost use Rattle.ame_term.specs.View.{typ_of};
+ghost use Rattle.ame_term.specs.SourceTerm.{is_name_of};
 
 use ame_term::{Name, Ty};
 
@@ -17,7 +18,7 @@ impl<'a> Scope<'a> {
 
     /// The type of a name in scope. Takes time by the number of bindings within its own.
     pub fn ty(&self, name: Name) -> &'a Ty
-        requires { Contains (names_of self.now) name.0 }
+        requires { IsTrue (is_name_of (names_of self.now) name.0) }
         ensures { scope_of self.now name.0 ≡ Some (typ_of result.now) }
     {
         match self {

@@ -1,11 +1,10 @@
 //! What a check goes by.
 
-ghost use Rattle.std.specs.Prelude.{◌≡◌, ◌+◌, ◌<◌, ◌≤◌, [], ◌∷◌, ◌++◌, length, map, slice_index, slice_set, IfOk};
-ghost use Rattle.ame_term.specs.View.{typ_of, tree_of};
-ghost use Rattle.ame_term.specs.Tree.{Typ};
-ghost use Rattle.ame_term.specs.Written.{nodes};
+ghost use Rattle.std.specs.Prelude.{◌≡◌, ◌+◌, ◌≤◌, length, slice_index};
+ghost use Rattle.ame_term.specs.View.{tree_of};
+ghost use Rattle.ame_term.specs.SourceTerm.{nodes};
 
-use ame_term::{NoMemory, Term, Ty};
+use ame_term::{Term, Ty};
 use std::alloc::Global;
 
 /// What stays the same while a program is checked.
@@ -32,24 +31,4 @@ impl Checker<'_> {
     {
         self.places[seen.next]
     }
-}
-
-/// Makes room for a type at the end, and tells its number.
-pub fn reserve(tys: &mut Vec<Ty>) -> Result<usize, NoMemory>
-    ensures { IfOk result (λ n. (n ≡ length (map typ_of tys.old.items)) × (map typ_of tys.new.items ≡ map typ_of tys.old.items ++ Typ.Unit ∷ [])) }
-{
-    let number = tys.len();
-    match tys.push(Ty::Unit) {
-        Ok(()) => Ok(number),
-        Err(_) => Err(NoMemory),
-    }
-}
-
-/// Puts a type in the room at a number.
-#[tactic(auto, using(crate::proofs::Stored::lists))]
-pub fn fill(tys: &mut Vec<Ty>, number: usize, ty: Ty)
-    requires { number < length (map typ_of tys.old.items) }
-    ensures { map typ_of tys.new.items ≡ slice_set (map typ_of tys.old.items) number (typ_of ty) }
-{
-    tys[number] = ty;
 }

@@ -1,11 +1,12 @@
 //! Rows of the typing table. A program is written as words in prefix order, and the place of a node is
 //! the number of its word.
 
-ghost use Rattle.std.specs.Prelude.{◌≡◌, ◌+◌, IsTrue, IfSome, Contains};
-ghost use Rattle.ame_term.specs.View.{tree_of, trees_of, val_of, head_of};
+ghost use Rattle.std.specs.Prelude.{◌≡◌, ◌+◌, IfSome};
+ghost use Rattle.ame_term.specs.View.{tree_of, trees_of};
 ghost use Rattle.ame_term.specs.Tree.{Tree};
-ghost use Rattle.ame_term.specs.Written.{IsConstant, nodes, all_nodes, IsWritten, IsBound, AllWritten, AllBound};
+ghost use Rattle.ame_term.specs.SourceTerm.{is_name_of, nodes, all_nodes, IsSourceTerm, IsBound, AreSourceTerms, AllBound};
 ghost use Rattle.ame_types.specs.Scope.{names_of};
+ghost use Rattle.ame_types.specs.Checks.{function_tree};
 
 use crate::fault::{Shown, TypesFail};
 use crate::program::check;
@@ -216,9 +217,8 @@ fn leaf(word: &str) -> Term {
 }
 
 /// Whether a name is in scope.
-#[tactic(auto, using(crate::proofs::Counts::names))]
 fn knows(scope: &Scope<'_>, name: Name) -> bool
-    ensures { IsTrue result → Contains (names_of scope.now) name.0 }
+    ensures { result ≡ is_name_of (names_of scope.now) name.0 }
 {
     match scope {
         Scope::Empty => false,
@@ -228,9 +228,9 @@ fn knows(scope: &Scope<'_>, name: Name) -> bool
 
 /// The number of nodes of a term, if it is as texts spell terms and its names are in scope.
 #[cycle(count)]
-#[tactic(auto, using(crate::proofs::Parts::do_forms), unfolding(ame_term::specs::Written::nodes, ame_term::specs::Written::IsWritten, ame_term::specs::Written::IsBound))]
+#[tactic(auto, using(ame_term::proofs::TreesLemmas::tree_of_do), unfolding(ame_term::specs::SourceTerm::nodes, ame_term::specs::SourceTerm::IsSourceTerm, ame_term::specs::SourceTerm::IsBound))]
 fn count(term: &Term, scope: &Scope<'_>) -> Option<usize>
-    ensures { IfSome result (λ n. (n ≡ nodes (tree_of term.now)) × IsWritten (tree_of term.now) × IsBound (names_of scope.now) (tree_of term.now)) }
+    ensures { IfSome result (λ n. (n ≡ nodes (tree_of term.now)) × IsSourceTerm (tree_of term.now) × IsBound (names_of scope.now) (tree_of term.now)) }
 {
     match term {
         Term::Held(Value::Unit | Value::Bool(_) | Value::Int(_)) => Some(1),
@@ -272,9 +272,9 @@ fn sum(a: usize, b: usize, c: usize) -> Option<usize>
 }
 
 #[cycle(count)]
-#[tactic(auto, unfolding(ame_term::specs::Written::nodes, ame_term::specs::Written::IsWritten, ame_term::specs::Written::IsBound))]
+#[tactic(auto, unfolding(ame_term::specs::SourceTerm::nodes, ame_term::specs::SourceTerm::IsSourceTerm, ame_term::specs::SourceTerm::IsBound))]
 fn count_function(function: &Function, scope: &Scope<'_>) -> Option<usize>
-    ensures { IfSome result (λ n. (n ≡ nodes (Tree.Lambda (head_of function.now.effect function.now.own function.now.param function.now.param_ty) (tree_of function.now.body))) × IsWritten (tree_of function.now.body) × IsBound (names_of scope.now) (Tree.Lambda (head_of function.now.effect function.now.own function.now.param function.now.param_ty) (tree_of function.now.body))) }
+    ensures { IfSome result (λ n. (n ≡ nodes (function_tree function.now)) × IsSourceTerm (function_tree function.now) × IsBound (names_of scope.now) (function_tree function.now)) }
 {
     match &function.own {
         None => {
@@ -290,9 +290,9 @@ fn count_function(function: &Function, scope: &Scope<'_>) -> Option<usize>
 }
 
 #[cycle(count)]
-#[tactic(auto, using(crate::proofs::Counts::parts), unfolding(ame_term::specs::Written::nodes, ame_term::specs::Written::IsWritten, ame_term::specs::Written::IsBound))]
+#[tactic(auto, using(crate::proofs::Counts::parts), unfolding(ame_term::specs::SourceTerm::nodes, ame_term::specs::SourceTerm::IsSourceTerm, ame_term::specs::SourceTerm::IsBound))]
 fn count_parts(parts: &[Term], scope: &Scope<'_>) -> Option<usize>
-    ensures { IfSome result (λ n. (n ≡ nodes (Tree.Do (trees_of parts.now))) × IsWritten (Tree.Do (trees_of parts.now)) × IsBound (names_of scope.now) (Tree.Do (trees_of parts.now))) }
+    ensures { IfSome result (λ n. (n ≡ nodes (Tree.Do (trees_of parts.now))) × IsSourceTerm (Tree.Do (trees_of parts.now)) × IsBound (names_of scope.now) (Tree.Do (trees_of parts.now))) }
 {
     if parts.len() < 2 {
         return None;
@@ -303,7 +303,7 @@ fn count_parts(parts: &[Term], scope: &Scope<'_>) -> Option<usize>
 #[cycle(count)]
 #[tactic(auto, using(crate::proofs::Counts::parts))]
 fn count_all(parts: &[Term], scope: &Scope<'_>) -> Option<usize>
-    ensures { IfSome result (λ n. (n ≡ all_nodes (trees_of parts.now)) × AllWritten (trees_of parts.now) × AllBound (names_of scope.now) (trees_of parts.now)) }
+    ensures { IfSome result (λ n. (n ≡ all_nodes (trees_of parts.now)) × AreSourceTerms (trees_of parts.now) × AllBound (names_of scope.now) (trees_of parts.now)) }
 {
     if parts.is_empty() {
         return Some(0);
@@ -313,8 +313,8 @@ fn count_all(parts: &[Term], scope: &Scope<'_>) -> Option<usize>
     first.checked_add(others)
 }
 
-/// The program that words spell.
-fn program(alloc: Global, text: &str) -> Result<Program, Fail> {
+/// The program that words spell, if they are as texts spell programs.
+fn program(alloc: Global, text: &str) -> Result<Option<Program>, Fail> {
     let words: Vec<&str> = text.split_whitespace().collect(alloc)?;
     let mut reader = Reader {
         alloc,
@@ -323,26 +323,34 @@ fn program(alloc: Global, text: &str) -> Result<Program, Fail> {
         places: Vec::new(alloc),
     };
     let term = reader.term(60)?;
-    Ok(Program {
-        names: Vec::new(alloc),
-        places: reader.places,
-        term,
-    })
+    let places = reader.places;
+    let names = Vec::new(alloc);
+    match count(&term, &Scope::Empty) {
+        Some(nodes) if nodes == places.len() => Ok(Some(Program {
+            names,
+            places,
+            term,
+        })),
+        _ => Ok(None),
+    }
 }
 
-/// The check of a program with at most 16 devices that is as texts spell programs.
-fn checked(alloc: Global, program: Program, devices: u32) -> Option<Result<Accepted, TypesFail>> {
-    let nodes = count(&program.term, &Scope::Empty)?;
-    if nodes == program.places.len() && devices <= 16 {
-        return Some(check(alloc, program, devices));
-    }
-    None
+/// The check of the program that words spell, with at most 16 devices.
+fn checked(
+    alloc: Global,
+    text: &str,
+    devices: u32,
+) -> Result<Option<Result<Accepted, TypesFail>>, Fail> {
+    let program = program(alloc, text)?;
+    Ok(match program {
+        Some(program) if devices <= 16 => Some(check(alloc, program, devices)),
+        _ => None,
+    })
 }
 
 /// The rule and the place of the fault, or 0 and the number of stored types.
 fn verdict(alloc: Global, text: &str, devices: u32) -> Result<(u8, u32), Fail> {
-    let program = program(alloc, text)?;
-    Ok(match checked(alloc, program, devices) {
+    Ok(match checked(alloc, text, devices)? {
         Some(Ok(accepted)) => (0, u32::try_from(accepted.ref_tys.len()).unwrap_or(99)),
         Some(Err(TypesFail::Fault(fault))) => (fault.rule, fault.place),
         Some(Err(TypesFail::NoMemory)) => (10, 99),
@@ -483,8 +491,7 @@ fn in_order(tys: &[Ty]) -> bool {
 #[test]
 fn stored_types_are_in_the_order_of_the_text(rt: HostRuntime) -> Result<(), Fail> {
     let text = "do 2 print get ref p 1 let x ref u ref p true unit";
-    let program = program(rt.alloc(), text)?;
-    let fine = match checked(rt.alloc(), program, 0) {
+    let fine = match checked(rt.alloc(), text, 0)? {
         Some(Ok(accepted)) => in_order(accepted.ref_tys.as_slice()),
         Some(Err(_fail)) => false,
         None => false,
@@ -505,8 +512,7 @@ fn lacks_device(fail: &TypesFail) -> bool {
 
 #[test]
 fn a_fault_shows_what_was_found_and_wanted(rt: HostRuntime) -> Result<(), Fail> {
-    let program = program(rt.alloc(), "unprotected call 2 1")?;
-    let fine = match checked(rt.alloc(), program, 2) {
+    let fine = match checked(rt.alloc(), "unprotected call 2 1", 2)? {
         Some(Err(fail)) => lacks_device(&fail),
         Some(Ok(_accepted)) => false,
         None => false,

@@ -1,8 +1,8 @@
 //! The first form of a program that can't be run yet.
 
-ghost use Rattle.std.specs.Prelude.{◌≡◌, ◌+◌, ◌<◌, ◌^◌, Some, None, option_map, length, slice_index, IfOk, IfErr};
+ghost use Rattle.std.specs.Prelude.{◌≡◌, ◌+◌, ◌<◌, ◌^◌, Some, None, option_map, slice_index, IfOk, IfErr};
 ghost use Rattle.ame_term.specs.View.{tree_of, trees_of};
-ghost use Rattle.ame_term.specs.Written.{nodes, all_nodes};
+ghost use Rattle.ame_term.specs.SourceTerm.{nodes, all_nodes};
 ghost use Rattle.ame_unbuilt.specs.Unbuilt.{first_unbuilt, first_unbuilt_part};
 
 use ame_term::{Program, Term};
@@ -14,7 +14,6 @@ struct Unbuilt(usize);
 /// The place of the first `unprotected` or `blockUntil` of a program. Takes no memory, and time by the
 /// program's nodes.
 pub fn unbuilt_place(program: &Program) -> Option<u32>
-    requires { length program.now.places.items ≡ nodes (tree_of program.now.term) }
     ensures { result ≡ option_map (slice_index program.now.places.items) (first_unbuilt 0 (tree_of program.now.term)) }
 {
     match past(&program.term, 0) {
@@ -26,7 +25,7 @@ pub fn unbuilt_place(program: &Program) -> Option<u32>
 /// The number that comes after a term's nodes, of which the first has this number, if each of them can
 /// be run.
 #[cycle(past)]
-#[tactic(auto, using(ame_term::proofs::TreesLemmas::tree_of_do), unfolding(crate::specs::Unbuilt::first_unbuilt, ame_term::specs::Written::nodes))]
+#[tactic(auto, using(ame_term::proofs::TreesLemmas::tree_of_do), unfolding(crate::specs::Unbuilt::first_unbuilt, ame_term::specs::SourceTerm::nodes))]
 fn past(term: &Term, number: usize) -> Result<usize, Unbuilt>
     requires { number + nodes (tree_of term.now) < 2 ^ 63 }
     ensures none { IfOk result (λ n. first_unbuilt number (tree_of term.now) ≡ None) }
@@ -59,7 +58,7 @@ fn past(term: &Term, number: usize) -> Result<usize, Unbuilt>
 
 /// The same of the parts of a `do` form.
 #[cycle(past)]
-#[tactic(auto, unfolding(crate::specs::Unbuilt::first_unbuilt_part, ame_term::specs::Written::all_nodes))]
+#[tactic(auto, unfolding(crate::specs::Unbuilt::first_unbuilt_part, ame_term::specs::SourceTerm::all_nodes))]
 fn past_all(parts: &[Term], number: usize) -> Result<usize, Unbuilt>
     requires { number + all_nodes (trees_of parts.now) < 2 ^ 63 }
     ensures none { IfOk result (λ n. first_unbuilt_part number (trees_of parts.now) ≡ None) }

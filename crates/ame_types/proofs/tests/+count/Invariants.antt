@@ -1,6 +1,6 @@
 use Rattle.std.proofs.Common.{◌+◌, ◌*◌}
 use Rattle.ame_term.specs.View.{tree_of, trees_of}
-use Rattle.ame_term.specs.Written.{nodes, all_nodes}
+use Rattle.ame_term.specs.SourceTerm.{nodes, all_nodes}
 use Rattle.ame_types.proofs.tests.+count.Given as goal
 
 abbrev pub decreases-count : goal.decreases-count

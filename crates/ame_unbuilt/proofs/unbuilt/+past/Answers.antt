@@ -1,7 +1,7 @@
 -- The parts of a `do` form are fewer than its nodes.
 use Rattle.std.proofs.Common.{arith, ap, ◌∙◌}
 use Rattle.ame_term.specs.View.{tree_of}
-use Rattle.ame_term.specs.Written.{nodes}
+use Rattle.ame_term.specs.SourceTerm.{nodes}
 use Rattle.ame_unbuilt.proofs.Parts.{do_nodes}
 use Rattle.ame_unbuilt.proofs.unbuilt.+past.Goals as goal
 

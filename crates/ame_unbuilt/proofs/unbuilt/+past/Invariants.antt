@@ -1,6 +1,6 @@
 use Rattle.std.proofs.Common.{◌≡◌, ◌+◌, ◌*◌, ◌≤◌, drop}
 use Rattle.ame_term.specs.View.{tree_of, trees_of}
-use Rattle.ame_term.specs.Written.{nodes, all_nodes}
+use Rattle.ame_term.specs.SourceTerm.{nodes, all_nodes}
 use Rattle.ame_unbuilt.specs.Unbuilt.{first_unbuilt_part}
 use Rattle.ame_unbuilt.proofs.unbuilt.+past.Given as goal
 

@@ -1,10 +1,16 @@
--- A part of a `do` form before the last: Unit, or a fault.
+-- A part of a `do` form before the last: Unit, or a fault. A form with one part: its own fault, or its row's answer.
+use Rattle.std.proofs.Common.{◌≡◌, ◌+◌, ◌++◌, Ok, map, slice_index, ap, ◌∙◌, arith}
 use Rattle.std.proofs.lemmas.Result.{err_from_is_err_and}
 use Rattle.ame_term.specs.Tree.{Tree}
-use Rattle.ame_term.specs.View.{trees_of}
-use Rattle.ame_term.specs.Typing.{typed}
-use Rattle.ame_types.proofs.Parts.{goes_on, breaks_nine}
-use Rattle.ame_types.proofs.Faults.{at_fault}
+use Rattle.ame_term.specs.View.{typ_of, tree_of, trees_of}
+use Rattle.ame_term.specs.SourceTerm.{nodes}
+use Rattle.ame_term.specs.Shown.{TypeOutcome}
+use Rattle.ame_term.specs.Typing.{typed, ref_types_in, unary_row, own_ref_type, no_cells}
+use Rattle.ame_types.specs.Scope.{scope_of}
+use Rattle.ame_types.specs.declared.seen.Seen.{Seen}
+use Rattle.ame_types.proofs.Parts.{goes_on, gives_value}
+use Rattle.ame_types.proofs.UnaryLemmas.{filled_room}
+use Rattle.ame_types.proofs.Faults.{at_fault, at_first, by_row}
 use Rattle.ame_types.proofs.seen.Checker.+checker.Goals as goal
 
 pub sequence-loop-rest-preserved : goal.sequence-loop-rest-preserved
@@ -18,4 +24,33 @@ sequence-returns-in_err-require t c =
     let p = err_from_is_err_and c.from_residual-in_err-require.result c.from_residual-in_err-require.ensures.1 in
     rw (p.1, p.2)
     (at_fault c.args.self.now c.args.scope.now c.args.q c.args.seen.now c.term.new.seen (Tree.Do (trees_of c.args.parts.now)) _ _ _ c.in_err-require.ensures
-    (λ s. breaks_nine _ _ _ _ _ _ _ _ _ c.loop-rest.invariant c.loop-rest-test.true c.index-rest-0.is c.in_ok-found.ensures.0 c.place-place.ensures s))
+    (λ s. gives_value _ _ _ _ _ _ _ _ _ c.loop-rest.invariant c.loop-rest-test.true c.index-rest-0.is c.in_ok-found.ensures.0 c.place-place.ensures s))
+
+pub one-returns-in_err-stand : goal.one-returns-in_err-stand
+unfolding typed
+one-returns-in_err-stand t c =
+    let places = slice_index c.args.self.now.places.now in
+    let i = c.args.seen.now.next + 1 in
+    let p = err_from_is_err_and c.from_residual.result c.from_residual.ensures.1 in
+    rw (p.1, p.2)
+    (at_first c.args.self.now c.args.scope.now c.args.q c.args.seen.now c.args.seen.now (Tree.One c.args.op (tree_of c.args.part.now)) _
+    (c.in_err-stand.ensures.err (places i)
+    (typed c.args.self.now.devices no_cells places (scope_of c.args.scope.now) c.args.q i (tree_of c.args.part.now))))
+
+pub one-returns : goal.one-returns
+unfolding typed ref_types_in nodes
+one-returns t c =
+    let devices = c.args.self.now.devices in
+    let places = slice_index c.args.self.now.places.now in
+    let i = c.args.seen.now.next in
+    let found = c.in_ok-found.ensures in
+    let others = ref_types_in devices no_cells places (scope_of c.args.scope.now) c.args.q (i + 1) (tree_of c.args.part.now) in
+    let front = map typ_of c.args.seen.now.ref_tys.items in
+    let new : Seen = record { next = c.term.new.seen.next; ref_tys = c.fill.new.tys } in
+    by_row c.args.self.now c.args.scope.now c.args.q c.args.seen.now new (Tree.One c.args.op (tree_of c.args.part.now)) _ c.unary_ty.result
+    (c.unary_ty.ensures devices c.in_ok-stand.ensures.ok)
+    (rw c.place-part_at.ensures (ap (λ (r : TypeOutcome). unary_row devices c.args.op (places i) (places (i + 1)) c.args.q r) found.0))
+    (c.in_ok-fill.ensures
+    ∙ filled_room devices front others _ _ c.args.op _ (found.1 ∙ ap (λ refs. refs ++ others) c.in_ok-room.ensures.room) c.in_ok-room.ensures.number
+    ∙ rw found.0)
+    (omega (arith, found.2))

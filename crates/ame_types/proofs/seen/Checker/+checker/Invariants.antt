@@ -1,7 +1,7 @@
 -- A form's function is called by `term`, and calls it with the form's parts.
 use Rattle.std.proofs.Common.{◌+◌, ◌*◌, length, map, slice_index}
 use Rattle.ame_term.specs.View.{typ_of, tree_of, trees_of}
-use Rattle.ame_term.specs.Written.{nodes, all_nodes}
+use Rattle.ame_term.specs.SourceTerm.{nodes, all_nodes}
 use Rattle.ame_types.specs.Scope.{scope_of, names_of}
 use Rattle.ame_types.proofs.Parts.{Left}
 use Rattle.ame_types.proofs.seen.Checker.+checker.Given as goal
@@ -33,17 +33,8 @@ decreases-choice l = 4 * (nodes (tree_of l.test.now) + nodes (tree_of l.then.now
 abbrev pub decreases-operation : goal.decreases-operation
 decreases-operation l = 4 * (nodes (tree_of l.left.now) + nodes (tree_of l.right.now)) + 1
 
-abbrev pub decreases-not : goal.decreases-not
-decreases-not l = 4 * nodes (tree_of l.part.now) + 1
-
-abbrev pub decreases-new_ref : goal.decreases-new_ref
-decreases-new_ref l = 4 * nodes (tree_of l.part.now) + 1
-
-abbrev pub decreases-get : goal.decreases-get
-decreases-get l = 4 * nodes (tree_of l.part.now) + 1
-
-abbrev pub decreases-peek : goal.decreases-peek
-decreases-peek l = 4 * nodes (tree_of l.part.now) + 1
+abbrev pub decreases-one : goal.decreases-one
+decreases-one l = 4 * nodes (tree_of l.part.now) + 1
 
 abbrev pub decreases-set : goal.decreases-set
 decreases-set l = 4 * (nodes (tree_of l.cell.now) + nodes (tree_of l.content.now)) + 1
@@ -51,26 +42,11 @@ decreases-set l = 4 * (nodes (tree_of l.cell.now) + nodes (tree_of l.content.now
 abbrev pub decreases-spawn : goal.decreases-spawn
 decreases-spawn l = 4 * nodes (tree_of l.body.now) + 1
 
-abbrev pub decreases-block : goal.decreases-block
-decreases-block l = 4 * nodes (tree_of l.part.now) + 1
-
 abbrev pub decreases-unprotected : goal.decreases-unprotected
 decreases-unprotected l = 4 * nodes (tree_of l.part.now) + 1
 
-abbrev pub decreases-print : goal.decreases-print
-decreases-print l = 4 * nodes (tree_of l.part.now) + 1
-
-abbrev pub decreases-call : goal.decreases-call
-decreases-call l = 4 * nodes (tree_of l.part.now) + 1
-
 abbrev pub decreases-pair : goal.decreases-pair
 decreases-pair l = 4 * (nodes (tree_of l.first.now) + nodes (tree_of l.second.now)) + 1
-
-abbrev pub decreases-first : goal.decreases-first
-decreases-first l = 4 * nodes (tree_of l.part.now) + 1
-
-abbrev pub decreases-second : goal.decreases-second
-decreases-second l = 4 * nodes (tree_of l.part.now) + 1
 
 abbrev pub invariant-sequence-loop-rest : goal.invariant-sequence-loop-rest
 invariant-sequence-loop-rest l =

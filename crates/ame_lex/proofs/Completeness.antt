@@ -11,7 +11,7 @@ use Rattle.ame_lex.specs.declared.tokens.LexFault.{LexFault}
 use Rattle.ame_lex.specs.declared.tokens.LexFault.TheVariants.{BadByte}
 use Rattle.ame_lex.specs.Bytes.{Text, is_word_byte, is_comment_byte, begins}
 use Rattle.ame_lex.specs.Grammar.{BeginsNothing, underscore, other, IsToken, IsFault, bad_byte, long_number, letter_after_number, Lexes, finished, blank, comment, token, later, faulty}
-use Rattle.ame_lex.specs.Reading.{Outcome, piece_by, with_first, token_at, tokens_from, tokens_of}
+use Rattle.ame_lex.specs.Reading.{LexOutcome, piece_by, with_first, token_at, tokens_from, tokens_of}
 use Rattle.ame_lex.proofs.RunLemmas.{one-plus, run_len, run_rest}
 use Rattle.ame_lex.proofs.FitLemmas.{fits_test, long_test}
 use Rattle.ame_lex.proofs.ReadingLemmas.{tokens_from-space, tokens_from-found, tokens_from-bad, tokens_from-long}
@@ -44,7 +44,7 @@ read-fault (letter_after_number {at = at} {text = text} {spelling = spelling} {r
     (front-number n ∙ ap (λ b. cond b (cond (begins is_word_byte rest) (Bad (length spelling)) (Found (Number value) (length spelling))) Long) (fits_test value fit)
     ∙ ap (λ b. cond b (Bad (length spelling)) (Found (Number value) (length spelling))) letter)
 
-pub read_so : {at : ℕ} {text : Text} {outcome : Outcome} → Lexes at text outcome → tokens_from at 0 text ≡ outcome
+pub read_so : {at : ℕ} {text : Text} {outcome : LexOutcome} → Lexes at text outcome → tokens_from at 0 text ≡ outcome
 unfolding tokens_from
 read_so finished = refl
 read_so (blank {at = at} {b = b} {rest = rest} e more) = tokens_from-space at 1 (b ∷ rest) (front_by Blank b rest e) (omega arith) (omega arith) ∙ read_so more
@@ -58,6 +58,6 @@ read_so (token {at = at} {spelling = spelling} {kind = kind} t more) = read-toke
 read_so (later {at = at} {spelling = spelling} {kind = kind} t more) = read-token at t ∙ ap (with_first (token_at at kind (length spelling))) (read_so more)
 read_so (faulty f) = read-fault f
 
-pub read_text : (text : Text) (outcome : Outcome) → Lexes 0 text outcome → tokens_of text ≡ outcome
+pub read_text : (text : Text) (outcome : LexOutcome) → Lexes 0 text outcome → tokens_of text ≡ outcome
 unfolding tokens_of
 read_text text outcome l = read_so l

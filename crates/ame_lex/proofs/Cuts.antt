@@ -1,14 +1,14 @@
--- What a run, a number or a token is where something else follows it.
+-- What a stretch, a number or a token is where something else follows it.
 use Rattle.std.proofs.Common.{◌≡◌, ℕ, Bool, false, ℤ, [], ◌∷◌, ◌++◌, refl}
 use Rattle.ame_lex.specs.declared.tokens.Kind.{Kind}
-use Rattle.ame_lex.specs.Bytes.{Text, begins, IsRun}
+use Rattle.ame_lex.specs.Bytes.{Text, begins, IsStretch}
 use Rattle.ame_lex.specs.Grammar.{IsNumber, plain, negative, IsToken, opening, closing, word, number, symbol, minus}
 
 -- what ended a run still does
 pub record EndsSo (rest other : Text) : Type 0 where
   pub ends : (p : ℕ → Bool) → begins p rest ≡ false → begins p other ≡ false
 
-pub run-on : {p : ℕ → Bool} {text run rest : Text} (other : Text) → EndsSo rest other → IsRun p text run rest → IsRun p (run ++ other) run other
+pub run-on : {p : ℕ → Bool} {text run rest : Text} (other : Text) → EndsSo rest other → IsStretch p text run rest → IsStretch p (run ++ other) run other
 run-on {p} other so r = record { split = refl; pass = r.pass; longest = so.ends p r.longest }
 
 pub number-on : {text spelling rest : Text} {value : ℤ} (other : Text) → EndsSo rest other → IsNumber text value spelling rest → IsNumber (spelling ++ other) value spelling other

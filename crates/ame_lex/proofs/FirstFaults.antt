@@ -8,7 +8,7 @@ use Rattle.ame_lex.specs.declared.tokens.LexFault.TheVariants.{BadByte}
 use Rattle.ame_lex.specs.Bytes.{Text}
 use Rattle.ame_lex.specs.Grammar.{IsNumber, plain, negative, number, IsFault, bad_byte, long_number, letter_after_number, Lexes, finished, blank, comment, token, later, faulty}
 use Rattle.ame_lex.specs.Faults.{StandsAt, HasTokens}
-use Rattle.ame_lex.specs.Reading.{Outcome, with_first, token_at}
+use Rattle.ame_lex.specs.Reading.{LexOutcome, with_first, token_at}
 use Rattle.ame_lex.proofs.Cuts.{EndsSo, run-on, number-on, token-on, ends_at_once, ends_alike, ends_alike_some}
 use Rattle.ame_lex.proofs.Growing.{still_long}
 use Rattle.ame_lex.proofs.PieceLemmas.{number-splits, token-splits}
@@ -22,9 +22,9 @@ record Reaches (at : ℕ) (text : Text) (fault : LexFault) : Type 0 where
   tokens : List Token
   split : text ≡ front ++ tail
   here : IsFault (at + length front) tail fault
-  goes : (other : Text) (outcome : Outcome) → EndsSo tail other → Lexes (at + length front) other outcome → Lexes at (front ++ other) (with_front tokens outcome)
+  goes : (other : Text) (outcome : LexOutcome) → EndsSo tail other → Lexes (at + length front) other outcome → Lexes at (front ++ other) (with_front tokens outcome)
 
-with_front-cons : (t : Token) (tokens : List Token) (outcome : Outcome) → with_first t (with_front tokens outcome) ≡ with_front (t ∷ tokens) outcome
+with_front-cons : (t : Token) (tokens : List Token) (outcome : LexOutcome) → with_first t (with_front tokens outcome) ≡ with_front (t ∷ tokens) outcome
 with_front-cons t tokens (Ok more) = refl
 with_front-cons t tokens (Err fault) = refl
 

@@ -2,7 +2,7 @@
 use Rattle.std.proofs.Common.{ℕ, zero, suc, ◌+◌, ◌-◌, ◌*◌, ◌≤◌, Bool, ℤ, pos, neg_ℤ, FitsSigned, w64, List, [], ◌∷◌, ◌++◌, take, drop, sym, ap, ◌∙◌, append_assoc, arith}
 use Rattle.std.specs.List.{prefix_len, AllByRecursion, fold}
 use Rattle.std.proofs.lemmas.List.Sums.{fold-append}
-use Rattle.ame_lex.specs.Bytes.{Text, is_digit, IsRun, decimal}
+use Rattle.ame_lex.specs.Bytes.{Text, is_digit, IsStretch, decimal}
 use Rattle.ame_lex.specs.Grammar.{IsNumber, plain, negative, IsFault, long_number}
 use Rattle.ame_lex.specs.declared.tokens.LexFault.TheVariants.{LongNumber}
 use Rattle.ame_lex.proofs.RunLemmas.{run_of}
@@ -16,8 +16,8 @@ passing : (ℕ → Bool) → Text → Text
 passing p text = take (prefix_len p text) text
 
 -- a run goes on over what is written after the text
-run-grown : {p : ℕ → Bool} {text run rest : Text} (more : Text) → IsRun p text run rest
-    → IsRun p (text ++ more) (run ++ passing p (rest ++ more)) (drop (prefix_len p (rest ++ more)) (rest ++ more))
+run-grown : {p : ℕ → Bool} {text run rest : Text} (more : Text) → IsStretch p text run rest
+    → IsStretch p (text ++ more) (run ++ passing p (rest ++ more)) (drop (prefix_len p (rest ++ more)) (rest ++ more))
 unfolding passing
 run-grown {p} {text} {run} {rest} more r =
     let on = run_of p (rest ++ more) in

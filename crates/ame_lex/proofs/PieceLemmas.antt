@@ -6,10 +6,10 @@ use Rattle.ame_lex.specs.declared.classes.Class.TheVariants.{Opening, Closing, L
 use Rattle.ame_lex.specs.declared.pieces.Piece.TheVariants.{Found, Bad, Long}
 use Rattle.ame_lex.specs.declared.tokens.Kind.{Kind}
 use Rattle.ame_lex.specs.declared.tokens.Kind.TheVariants.{Word, Number, Symbol}
-use Rattle.ame_lex.specs.Bytes.{Text, class_of, continues_number, is_word_byte, is_digit, begins, IsRun, decimal}
+use Rattle.ame_lex.specs.Bytes.{Text, class_of, continues_number, is_word_byte, is_digit, begins, IsStretch, decimal}
 use Rattle.ame_lex.specs.Grammar.{IsNumber, IsToken, plain, negative, opening, closing, word, number, symbol, minus}
 use Rattle.ame_lex.specs.Reading as reading
-use Rattle.ame_lex.specs.Reading.{fits, value_of, checked, piece_by, first_piece}
+use Rattle.ame_lex.specs.Reading.{fits_literal, value_of, checked, piece_by, first_piece}
 use Rattle.ame_lex.proofs.RunLemmas.{one-plus, run_len, run_rest, run_front}
 use Rattle.ame_lex.proofs.FitLemmas.{fits_test}
 use Rattle.ame_lex.proofs.ReadingLemmas.{front}
@@ -20,7 +20,7 @@ unfolding first_piece
 front_by class b rest e = ap (λ k. piece_by k b rest) e
 
 -- the piece at digits after their sign
-pub number-digits : (is_negative : Bool) (first : ℕ) (text more rest : Text) → class_of first ≡ Digit → IsRun is_digit text more rest
+pub number-digits : (is_negative : Bool) (first : ℕ) (text more rest : Text) → class_of first ≡ Digit → IsStretch is_digit text more rest
     → reading.number is_negative (first ∷ text) ≡ checked (value_of is_negative (first ∷ more)) (cond is_negative 1 0 + suc (length more)) rest
 unfolding reading.number
 number-digits is_negative first text more rest e run =

@@ -6,7 +6,7 @@ use Rattle.ame_lex.specs.declared.tokens.Kind.{Kind}
 use Rattle.ame_lex.specs.declared.tokens.Token.{Token}
 use Rattle.ame_lex.specs.declared.tokens.LexFault.TheVariants.{BadByte, LongNumber}
 use Rattle.ame_lex.specs.Bytes.{Text}
-use Rattle.ame_lex.specs.Reading.{Outcome, first_piece, after_piece, with_first, token_at, tokens_from}
+use Rattle.ame_lex.specs.Reading.{LexOutcome, first_piece, after_piece, with_first, token_at, tokens_from}
 
 -- what is skipped might as well be dropped
 pub tokens_from-drop : (at n : ℕ) (text : Text) → n ≤ length text → tokens_from at n text ≡ tokens_from (at + n) 0 (drop n text)
@@ -51,14 +51,14 @@ tokens_from-long at [] some e = absurd (omega arith)
 tokens_from-long at (b ∷ text) some e = ap (λ p. after_piece p at (λ more. tokens_from (at + 1) more text)) e
 
 -- the outcome with these tokens before it
-abbrev pub with_front : List Token → Outcome → Outcome
+abbrev pub with_front : List Token → LexOutcome → LexOutcome
 with_front tokens (Ok more) = Ok (tokens ++ more)
 with_front tokens (Err fault) = Err fault
 
-pub with_front-first : (tokens : List Token) (t : Token) (outcome : Outcome) → with_front tokens (with_first t outcome) ≡ with_front (tokens ++ t ∷ []) outcome
+pub with_front-first : (tokens : List Token) (t : Token) (outcome : LexOutcome) → with_front tokens (with_first t outcome) ≡ with_front (tokens ++ t ∷ []) outcome
 with_front-first tokens t (Ok more) = ap Ok (sym (append_assoc tokens (t ∷ []) more))
 with_front-first tokens t (Err fault) = refl
 
-pub with_front-none : (outcome : Outcome) → with_front [] outcome ≡ outcome
+pub with_front-none : (outcome : LexOutcome) → with_front [] outcome ≡ outcome
 with_front-none (Ok tokens) = refl
 with_front-none (Err fault) = refl

@@ -4,18 +4,18 @@ use Rattle.std.specs.List.{prefix_len, AllByRecursion}
 use Rattle.std.proofs.Math.Seq.{drop-append_seam, take-append_seam}
 use Rattle.ame_lex.specs.declared.classes.Class.{Class}
 use Rattle.ame_lex.specs.declared.classes.Class.TheVariants.{Digit}
-use Rattle.ame_lex.specs.Bytes.{Text, class_of, continues_number, is_digit, begins, IsRun}
+use Rattle.ame_lex.specs.Bytes.{Text, class_of, continues_number, is_digit, begins, IsStretch}
 
 pub one-plus : (n : ℕ) → 1 + n ≡ suc n
 one-plus n = omega arith
 
 -- the bytes that pass at the front are a run
-run_passes : (p : ℕ → Bool) (b : ℕ) (text : Text) (v : Bool) → p b ≡ v → IsRun p text (take (prefix_len p text) text) (drop (prefix_len p text) text)
-    → IsRun p (b ∷ text) (take (cond v (1 + prefix_len p text) 0) (b ∷ text)) (drop (cond v (1 + prefix_len p text) 0) (b ∷ text))
+run_passes : (p : ℕ → Bool) (b : ℕ) (text : Text) (v : Bool) → p b ≡ v → IsStretch p text (take (prefix_len p text) text) (drop (prefix_len p text) text)
+    → IsStretch p (b ∷ text) (take (cond v (1 + prefix_len p text) 0) (b ∷ text)) (drop (cond v (1 + prefix_len p text) 0) (b ∷ text))
 run_passes p b text true e run = rw one-plus (record { split = ap (λ z. b ∷ z) run.split; pass = (e, run.pass); longest = run.longest })
 run_passes p b text false e run = record { split = refl; pass = tt; longest = e }
 
-pub run_of : (p : ℕ → Bool) (text : Text) → IsRun p text (take (prefix_len p text) text) (drop (prefix_len p text) text)
+pub run_of : (p : ℕ → Bool) (text : Text) → IsStretch p text (take (prefix_len p text) text) (drop (prefix_len p text) text)
 run_of p [] = record { split = refl; pass = tt; longest = refl }
 run_of p (b ∷ text) = run_passes p b text (p b) refl (run_of p text)
 
@@ -28,13 +28,13 @@ prefix_len-run : (p : ℕ → Bool) (run rest : Text) → AllByRecursion (λ b. 
 prefix_len-run p [] rest pass longest = prefix_len-none p rest longest
 prefix_len-run p (b ∷ run) rest pass longest = rw (pass.0, prefix_len-run p run rest pass.1 longest, one-plus) refl
 
-pub run_len : {p : ℕ → Bool} {text run rest : Text} → IsRun p text run rest → prefix_len p text ≡ length run
+pub run_len : {p : ℕ → Bool} {text run rest : Text} → IsStretch p text run rest → prefix_len p text ≡ length run
 run_len {p} {text} {run} {rest} r = ap (prefix_len p) r.split ∙ prefix_len-run p run rest r.pass r.longest
 
-pub run_rest : {p : ℕ → Bool} {text run rest : Text} → IsRun p text run rest → drop (length run) text ≡ rest
+pub run_rest : {p : ℕ → Bool} {text run rest : Text} → IsStretch p text run rest → drop (length run) text ≡ rest
 run_rest {run = run} {rest = rest} r = ap (drop (length run)) r.split ∙ drop-append_seam run rest
 
-pub run_front : {p : ℕ → Bool} {text run rest : Text} → IsRun p text run rest → take (length run) text ≡ run
+pub run_front : {p : ℕ → Bool} {text run rest : Text} → IsStretch p text run rest → take (length run) text ≡ run
 run_front {run = run} {rest = rest} r = ap (take (length run)) r.split ∙ take-append_seam run rest
 
 pub run_at_len : (p : ℕ → Bool) (text : Text) → length (take (prefix_len p text) text) ≡ prefix_len p text

@@ -10,20 +10,20 @@ use Rattle.ame_lex.specs.declared.tokens.LexFault.TheVariants.{BadByte}
 use Rattle.ame_lex.specs.Bytes.{Text, class_of, is_word_byte, is_digit, is_comment_byte, begins, decimal}
 use Rattle.ame_lex.specs.Grammar.{IsNumber, plain, negative, IsToken, opening, closing, word, number, symbol, minus, BeginsNothing, underscore, other, bad_byte, long_number, letter_after_number, Lexes, finished, blank, comment, token, later, faulty}
 use Rattle.ame_lex.specs.Reading as reading
-use Rattle.ame_lex.specs.Reading.{Outcome, fits, value_of, checked, piece_by, first_piece, after_piece, with_first, token_at, tokens_from, tokens_of}
+use Rattle.ame_lex.specs.Reading.{LexOutcome, fits_literal, value_of, checked, piece_by, first_piece, after_piece, with_first, token_at, tokens_from, tokens_of}
 use Rattle.ame_lex.proofs.RunLemmas.{run_of, run_at_len, digit_is}
 use Rattle.ame_lex.proofs.FitLemmas.{fits_so, too_long}
 use Rattle.ame_lex.proofs.PieceLemmas.{number-digits}
 
 -- a token, and then whatever the rest is
-pub lexes-token : {at : ℕ} {text spelling rest : Text} {kind : Kind} (len : ℕ) (outcome : Outcome) → IsToken text kind spelling rest → length spelling ≡ len
+pub lexes-token : {at : ℕ} {text spelling rest : Text} {kind : Kind} (len : ℕ) (outcome : LexOutcome) → IsToken text kind spelling rest → length spelling ≡ len
     → Lexes (at + len) rest outcome → Lexes at text (with_first (token_at at kind len) outcome)
 lexes-token {at} {text} {spelling} {rest} {kind} len (Ok tokens) t e more =
     subst (λ n. Lexes at text (Ok (token_at at kind n ∷ tokens))) e (token t (subst (λ n. Lexes (at + n) rest (Ok tokens)) (sym e) more))
 lexes-token {at} {text} {spelling} {rest} {kind} len (Err fault) t e more =
     later t (subst (λ n. Lexes (at + n) rest (Err fault)) (sym e) more)
 
-module _ (at b : ℕ) (text : Text) (next : ℕ → Outcome) (lexes : (more : ℕ) → Lexes (at + 1 + more) (drop more text) (next more)) where
+module _ (at b : ℕ) (text : Text) (next : ℕ → LexOutcome) (lexes : (more : ℕ) → Lexes (at + 1 + more) (drop more text) (next more)) where
   -- the piece takes these many bytes more
   lexes-after : (more len : ℕ) → len ≡ suc more → Lexes (at + len) (drop more text) (next (len - 1))
   lexes-after more len e =
@@ -32,7 +32,7 @@ module _ (at b : ℕ) (text : Text) (next : ℕ → Outcome) (lexes : (more : �
       subst (λ k. Lexes k (drop more text) (next (len - 1))) place (subst (λ n. Lexes (at + 1 + more) (drop more text) (next n)) (sym left) (lexes more))
 
   lexes-number : (spelling rest : Text) (value : ℤ) (more len : ℕ) (fit : Bool) (letter : Bool) → IsNumber (b ∷ text) value spelling rest → length spelling ≡ len → len ≡ suc more → rest ≡ drop more text
-      → fits value ≡ fit → begins is_word_byte rest ≡ letter
+      → fits_literal value ≡ fit → begins is_word_byte rest ≡ letter
       → Lexes at (b ∷ text) (after_piece (cond fit (cond letter (Bad len) (Found (Number value) len)) Long) at next)
   lexes-number spelling rest value more len false letter n spelled e after fit glued = faulty (long_number n (too_long value fit))
   lexes-number spelling rest value more len true true n spelled e after fit glued =
@@ -61,7 +61,7 @@ module _ (at b : ℕ) (text : Text) (next : ℕ → Outcome) (lexes : (more : �
       subst (λ p. Lexes at (b ∷ text) (after_piece p at next)) (sym (number-digits false b text _ _ e run))
       (lexes-number (b ∷ take count text) (drop count text) (pos (decimal (b ∷ take count text))) count _ _ _ (plain e run) len more refl refl refl)
 
-lexes-minus : (at b : ℕ) (text : Text) (next : ℕ → Outcome) (lexes : (more : ℕ) → Lexes (at + 1 + more) (drop more text) (next more)) (signed : Bool) → class_of b ≡ Minus → begins is_digit text ≡ signed
+lexes-minus : (at b : ℕ) (text : Text) (next : ℕ → LexOutcome) (lexes : (more : ℕ) → Lexes (at + 1 + more) (drop more text) (next more)) (signed : Bool) → class_of b ≡ Minus → begins is_digit text ≡ signed
     → Lexes at (b ∷ text) (after_piece (cond signed (reading.number true text) (Found (Symbol b) 1)) at next)
 lexes-minus at b text next lexes false e alone = lexes-token 1 (next 0) (minus e alone) refl (lexes-after at b text next lexes 0 1 refl)
 lexes-minus at b [] next lexes true e signed = (cc)
@@ -78,7 +78,7 @@ lexes-nothing : (at b : ℕ) (text : Text) → BeginsNothing (class_of b) → Le
 lexes-nothing at b text nothing = rw add-zero (faulty (bad_byte nothing))
 
 -- one piece, by the class of its first byte
-lexes-piece : (at b : ℕ) (text : Text) (next : ℕ → Outcome) (lexes : (more : ℕ) → Lexes (at + 1 + more) (drop more text) (next more)) (class : Class) → class_of b ≡ class
+lexes-piece : (at b : ℕ) (text : Text) (next : ℕ → LexOutcome) (lexes : (more : ℕ) → Lexes (at + 1 + more) (drop more text) (next more)) (class : Class) → class_of b ≡ class
     → Lexes at (b ∷ text) (after_piece (piece_by class b text) at next)
 lexes-piece at b text next lexes Blank e = blank e (lexes-after at b text next lexes 0 1 refl)
 lexes-piece at b text next lexes Semicolon e = lexes-comment at b text next lexes e

@@ -1,4 +1,4 @@
--- What the bytes of a text are, and the runs of bytes that tokens and comments are made of.
+-- What the bytes of a text are, and the stretches of bytes that tokens and comments are made of.
 use Rattle.std.specs.Prelude.{◌≡◌, ℕ, ◌-◌, ◌+◌, ◌*◌, ◌||◌, Bool, true, false, not, if◌then◌else◌, ◌==◌, List, [], ◌∷◌, ◌++◌}
 use Rattle.std.specs.List.{AllByRecursion, fold}
 use Rattle.std.specs.Char.{is_ascii_alphabetic, is_ascii_digit}
@@ -8,6 +8,10 @@ use Rattle.ame_lex.specs.declared.classes.Class.TheVariants.{Blank, Semicolon, O
 -- a text is its bytes
 abbrev pub Text : Type 0
 Text = List ℕ
+
+-- the most bytes that a text may have
+abbrev pub max_text : ℕ
+max_text = 1048576
 
 -- what a byte is outside a comment
 unfoldable pub class_of : ℕ → Class
@@ -52,10 +56,10 @@ abbrev pub begins : (ℕ → Bool) → Text → Bool
 begins passes [] = false
 begins passes (b ∷ rest) = passes b
 
--- `run` are all the bytes that pass at the front of the text, and `rest` follows
-pub record IsRun (passes : ℕ → Bool) (text run rest : Text) : Type 0 where
-  pub split : text ≡ run ++ rest
-  pub pass : AllByRecursion (λ b. passes b ≡ true) run
+-- `stretch` are all the bytes that pass at the front of the text, and `rest` follows
+pub record IsStretch (passes : ℕ → Bool) (text stretch rest : Text) : Type 0 where
+  pub split : text ≡ stretch ++ rest
+  pub pass : AllByRecursion (λ b. passes b ≡ true) stretch
   pub longest : begins passes rest ≡ false
 
 -- the value of decimal digits

@@ -13,9 +13,9 @@ use Rattle.ame_lex.specs.declared.tokens.LexFault.TheVariants.{BadByte, LongNumb
 use Rattle.ame_lex.specs.Bytes.{Text, class_of, is_word_byte, is_digit, is_comment_byte, begins, decimal}
 
 -- whether a number fits 64 bits
-abbrev pub fits : ℤ → Bool
-fits (pos n) = nat_lt n (2 ^ 63)
-fits (negsuc n) = nat_lt n (2 ^ 63)
+abbrev pub fits_literal : ℤ → Bool
+fits_literal (pos n) = nat_lt n (2 ^ 63)
+fits_literal (negsuc n) = nat_lt n (2 ^ 63)
 
 -- the value of digits after their sign
 abbrev pub value_of : Bool → Text → ℤ
@@ -24,7 +24,7 @@ value_of false digits = pos (decimal digits)
 
 -- a number of this value and this many bytes, before `rest`
 abbrev pub checked : ℤ → ℕ → Text → Piece
-checked value len rest = if fits value then (if begins is_word_byte rest then Bad len else Found (Number value) len) else Long
+checked value len rest = if fits_literal value then (if begins is_word_byte rest then Bad len else Found (Number value) len) else Long
 
 -- the number whose digits stand at the front of the text, after its sign
 unfoldable pub number : Bool → Text → Piece
@@ -50,11 +50,11 @@ unfoldable pub first_piece : ℕ → Text → Piece
 first_piece b rest = piece_by (class_of b) b rest
 
 -- the tokens, or the first fault
-abbrev pub Outcome : Type 0
-Outcome = Result (List Token) LexFault
+abbrev pub LexOutcome : Type 0
+LexOutcome = Result (List Token) LexFault
 
 -- the outcome with this token before it
-abbrev pub with_first : Token → Outcome → Outcome
+abbrev pub with_first : Token → LexOutcome → LexOutcome
 with_first token (Ok tokens) = Ok (token ∷ tokens)
 with_first token (Err fault) = Err fault
 
@@ -63,27 +63,27 @@ abbrev pub token_at : ℕ → Kind → ℕ → Token
 token_at at kind len = record { start = at; end = at + len; kind = kind }
 
 -- the outcome at a piece, where `next` is the outcome after that many more bytes
-abbrev pub after_piece : Piece → ℕ → (ℕ → Outcome) → Outcome
+abbrev pub after_piece : Piece → ℕ → (ℕ → LexOutcome) → LexOutcome
 after_piece (Space len) at next = next (len - 1)
 after_piece (Found kind len) at next = with_first (token_at at kind len) (next (len - 1))
 after_piece (Bad offset) at next = Err (BadByte (at + offset))
 after_piece Long at next = Err (LongNumber at)
 
 -- the outcome from a place on, after `skipped` bytes
-unfoldable pub tokens_from : ℕ → ℕ → Text → Outcome
+unfoldable pub tokens_from : ℕ → ℕ → Text → LexOutcome
 tokens_from at skipped [] = Ok []
 tokens_from at (suc skipped) (b ∷ rest) = tokens_from (at + 1) skipped rest
 tokens_from at zero (b ∷ rest) = after_piece (first_piece b rest) at (λ more. tokens_from (at + 1) more rest)
 
 -- the tokens of a text, or its first fault
-unfoldable pub tokens_of : Text → Outcome
+unfoldable pub tokens_of : Text → LexOutcome
 tokens_of text = tokens_from 0 0 text
 
 -- what was answered is this outcome, unless memory ran out
-abbrev pub Answers : {A : Type 0} → (A → List Token) → Result A LexFault → Outcome → Type 0
-Answers items (Ok tokens) outcome = outcome ≡ Ok (items tokens)
-Answers items (Err NoMemory) outcome = ⊤
-Answers items (Err fault) outcome = outcome ≡ Err fault
+abbrev pub AnswersTokens : {A : Type 0} → (A → List Token) → Result A LexFault → LexOutcome → Type 0
+AnswersTokens items (Ok tokens) outcome = outcome ≡ Ok (items tokens)
+AnswersTokens items (Err NoMemory) outcome = ⊤
+AnswersTokens items (Err fault) outcome = outcome ≡ Err fault
 
 -- a piece that stands at the front of a text of this length
 abbrev pub FitsIn : ℕ → Piece → Type 0

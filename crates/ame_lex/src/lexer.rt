@@ -1,8 +1,9 @@
 //! The tokens of a whole text.
 
 ghost use Rattle.std.specs.Prelude.{◌≡◌, ◌≤◌, ◌^◌, length, All, IfOk, Ok, Err, ℕ};
+ghost use Rattle.ame_lex.specs.Bytes.{max_text};
 ghost use Rattle.ame_lex.specs.Grammar.{Lexes};
-ghost use Rattle.ame_lex.specs.Reading.{tokens_of, Answers};
+ghost use Rattle.ame_lex.specs.Reading.{tokens_of, AnswersTokens};
 ghost use Rattle.ame_lex.specs.Tokens.{IsWithin, InOrder, IsSpelled};
 
 use crate::pieces::{Piece, first_piece};
@@ -11,8 +12,8 @@ use std::alloc::Global;
 
 /// The tokens of the text in order, or its first fault.
 fn scan(alloc: Global, text: &[u8]) -> Result<Vec<Token>, LexFault>
-    requires { length text.now ≤ 1048576 }
-    ensures { Answers (λ v. v.items) result (tokens_of text.now) }
+    requires { length text.now ≤ max_text }
+    ensures { AnswersTokens (λ v. v.items) result (tokens_of text.now) }
 {
     let mut tokens = Vec::new(alloc);
     let mut rest = text;
@@ -38,10 +39,10 @@ fn scan(alloc: Global, text: &[u8]) -> Result<Vec<Token>, LexFault>
 
 /// The tokens of a text in order, in time linear in the text.
 pub fn lex(alloc: Global, text: &[u8]) -> Result<Vec<Token>, LexFault>
-    requires { length text.now ≤ 1048576 }
+    requires { length text.now ≤ max_text }
 
     // The answer is what the text is by the grammar: its tokens, or its first fault and the place of it.
-    ensures exact { Answers (λ v. v.items) result (tokens_of text.now) }
+    ensures exact { AnswersTokens (λ v. v.items) result (tokens_of text.now) }
     ensures tokens { IfOk result (λ v. Lexes 0 text.now (Ok v.items)) }
     ensures bad_byte { (place : ℕ) → result ≡ Err (LexFault.BadByte place) → Lexes 0 text.now (Err (LexFault.BadByte place)) }
     ensures long_number { (place : ℕ) → result ≡ Err (LexFault.LongNumber place) → Lexes 0 text.now (Err (LexFault.LongNumber place)) }

@@ -1,6 +1,7 @@
 //! Texts with their tokens or their first fault, taken from the language's description.
 
 ghost use Rattle.std.specs.Prelude.{◌≡◌, ◌≤◌, length, IfOk};
+ghost use Rattle.ame_lex.specs.Bytes.{max_text};
 
 use crate::{Kind, LexFault, Token, lex};
 use std::alloc::Global;
@@ -8,7 +9,7 @@ use std::process::Abort;
 use std::test::Fail;
 
 fn expect_tokens(rt: &impl Abort, alloc: Global, text: &[u8], tokens: &[Token])
-    requires { length text.now ≤ 1048576 }
+    requires { length text.now ≤ max_text }
 {
     match lex(alloc, text) {
         Ok(found) => assert_eq!(rt; found.as_slice(), tokens),
@@ -17,7 +18,7 @@ fn expect_tokens(rt: &impl Abort, alloc: Global, text: &[u8], tokens: &[Token])
 }
 
 fn expect_fault(rt: &impl Abort, alloc: Global, text: &[u8], fault: LexFault)
-    requires { length text.now ≤ 1048576 }
+    requires { length text.now ≤ max_text }
 {
     match lex(alloc, text) {
         Ok(_) => assert!(rt; false),
@@ -166,7 +167,7 @@ fn bytes_that_begin_nothing(rt: HostRuntime) {
 
 // A mebibyte of the byte, or of the two bytes in turn.
 fn mebibyte(alloc: Global, even: u8, odd: u8) -> Result<Vec<u8>, Fail>
-    ensures { IfOk result (λ v. length v.items ≡ 1048576) }
+    ensures { IfOk result (λ v. length v.items ≡ max_text) }
 {
     let mut text = vec![in alloc; even; 1048576]?;
     for (i, b) in text.iter_mut().enumerate() {

@@ -6,11 +6,11 @@ use Rattle.ame_lex.specs.Tokens.{InOrder}
 use Rattle.ame_lex.specs.declared.tokens.Token.{Token}
 use Rattle.ame_term.specs.Tree.{Tree}
 use Rattle.ame_parse.specs.declared.fault.ParseFault.{ParseFault}
-use Rattle.ame_parse.specs.Input.{Seen, Input, Outcome, place_in}
+use Rattle.ame_parse.specs.Input.{Seen, Input, ParseOutcome, place_in}
 use Rattle.ame_parse.specs.Seen.{seen, start_of}
 use Rattle.ame_parse.specs.Reading.{program}
-use Rattle.ame_parse.specs.Fault.{place_of, HasTokens}
-use Rattle.ame_parse.specs.Text.{Fault, source_by, reading_by, reading}
+use Rattle.ame_parse.specs.Fault.{place_of, HasSeenTokens}
+use Rattle.ame_parse.specs.Text.{TextFault, source_by, reading_by, reading}
 use Rattle.ame_parse.proofs.Locality.{swapped, Alike, LocalAt, goes, stops}
 use Rattle.ame_parse.proofs.LocalTerms.{local_program}
 
@@ -65,7 +65,7 @@ record Stop (m : ℕ) (i : Input) (fault : ParseFault) : Type 0 where
   stands : place_of fault ≡ place_in i.end from
   stays : (rest : List Seen) (end : ℕ) → length (before ++ rest) ≤ m → Alike from i.end rest end → program (swapped i (before ++ rest) end) ≡ Err fault
 
-stop_of : (m : ℕ) (i : Input) (fault : ParseFault) (o : Outcome Tree) → LocalAt m program i o → o ≡ Err fault → Stop m i fault
+stop_of : (m : ℕ) (i : Input) (fault : ParseFault) (o : ParseOutcome Tree) → LocalAt m program i o → o ≡ Err fault → Stop m i fault
 stop_of m i fault o (goes used e ends go) same = absurd (cc)
 stop_of m i fault o (stops {fault = found} before from e place stay) same =
     let it : found ≡ fault = cc in
@@ -74,22 +74,22 @@ stop_of m i fault o (stops {fault = found} before from e place stay) same =
 stop_at : (m : ℕ) (i : Input) (fault : ParseFault) → length i.rest ≤ m → program i ≡ Err fault → Stop m i fault
 stop_at m i fault few e = stop_of m i fault (program i) (local_program m i few) e
 
-syntactic_by : (o : Outcome Tree) (fault : ParseFault) → source_by o ≡ Err (Fault.Syntactic fault) → o ≡ Err fault
+syntactic_by : (o : ParseOutcome Tree) (fault : ParseFault) → source_by o ≡ Err (TextFault.Syntactic fault) → o ≡ Err fault
 syntactic_by (Ok p) fault e = absurd (cc)
 syntactic_by (Err found) fault e = let same : found ≡ fault = cc in ap Err same
 
-fault_of_tokens : (text : Text) (tokens : List Token) (fault : ParseFault) → tokens_of text ≡ Ok tokens → reading text ≡ Err (Fault.Syntactic fault)
+fault_of_tokens : (text : Text) (tokens : List Token) (fault : ParseFault) → tokens_of text ≡ Ok tokens → reading text ≡ Err (TextFault.Syntactic fault)
     → program (start_of text tokens) ≡ Err fault
 unfolding reading
 fault_of_tokens text tokens fault lexed e = syntactic_by (program (start_of text tokens)) fault (sym (ap (reading_by text) lexed) ∙ e)
 
 reading_of_fault : (text : Text) (tokens : List Token) (fault : ParseFault) → tokens_of text ≡ Ok tokens → program (start_of text tokens) ≡ Err fault
-    → reading text ≡ Err (Fault.Syntactic fault)
+    → reading text ≡ Err (TextFault.Syntactic fault)
 unfolding reading
 reading_of_fault text tokens fault lexed e = ap (reading_by text) lexed ∙ ap source_by e
 
 -- a fault stands at a token of the text, or at its end
-pub fault_stands : (text : Text) (all : List Seen) (fault : ParseFault) → HasTokens text all → reading text ≡ Err (Fault.Syntactic fault)
+pub fault_stands : (text : Text) (all : List Seen) (fault : ParseFault) → HasSeenTokens text all → reading text ≡ Err (TextFault.Syntactic fault)
     → (before from : List Seen) × (all ≡ before ++ from) × (place_of fault ≡ place_in (length text) from)
 fault_stands text all fault has e =
     let i = start_of text has.tokens in
@@ -101,8 +101,8 @@ AreInOrder text = (tokens : List Token) → tokens_of text ≡ Ok tokens → InO
 
 -- and stays, whatever comes after that token
 pub fault_stays : (text other : Text) (before after others : List Seen) (token : Seen) (fault : ParseFault) → AreInOrder text
-    → HasTokens text (before ++ token ∷ after) → reading text ≡ Err (Fault.Syntactic fault) → place_of fault ≡ token.place
-    → HasTokens other (before ++ token ∷ others) → reading other ≡ Err (Fault.Syntactic fault)
+    → HasSeenTokens text (before ++ token ∷ after) → reading text ≡ Err (TextFault.Syntactic fault) → place_of fault ≡ token.place
+    → HasSeenTokens other (before ++ token ∷ others) → reading other ≡ Err (TextFault.Syntactic fault)
 fault_stays text other before after others token fault ordered has e place has' =
     let i = start_of text has.tokens in
     let m = length (before ++ token ∷ others) + length i.rest in

@@ -14,8 +14,8 @@ use Rattle.ame_term.specs.declared.types.Op.{Op}
 use Rattle.ame_term.specs.declared.types.Op.TheVariants as op
 use Rattle.ame_parse.specs.declared.ahead.Ahead.{Ahead}
 use Rattle.ame_parse.specs.declared.ahead.Ahead.TheVariants as a
-use Rattle.ame_parse.specs.Input.{Input, Parser, ◌>>=◌, ahead, spelling, after}
-use Rattle.ame_parse.specs.Letters.{sort_of, effect_of, small, device_of, sort_by, effect_by, device_by, sort, effect, device}
+use Rattle.ame_parse.specs.Input.{Input, Parser, ◌>>=◌, ahead, spelling, advanced}
+use Rattle.ame_parse.specs.Letters.{sort_of, effect_named, small, device_of, sort_by, effect_by, device_by, sort, effect_word, device}
 use Rattle.ame_parse.specs.Forms.{op_of}
 use Rattle.ame_parse.specs.Grammar as g
 use Rattle.ame_parse.specs.Grammar.{IsSort, IsEffect, IsOp}
@@ -25,26 +25,26 @@ spelled_so : (text word : Text) → bytes_eq text word ≡ true → text ≡ wor
 spelled_so text word e = (bytes_eq-Decides text word).0 e
 
 sort_test : (i : Input) (p u : Bool) → bytes_eq (spelling i) (codes "p") ≡ p → bytes_eq (spelling i) (codes "u") ≡ u
-    → Leads (sort_by (cond p (Some sorts.Protected) (cond u (Some sorts.Unprotected) None))) i (λ s j. IsSort i s × (after i ≡ j))
-sort_test i true u e e' = leads_pure sorts.Protected (after i) (λ s j. IsSort i s × (after i ≡ j)) (IsSort.protected (spelled_so (spelling i) (codes "p") e), refl)
-sort_test i false true e e' = leads_pure sorts.Unprotected (after i) (λ s j. IsSort i s × (after i ≡ j)) (IsSort.unprotected (spelled_so (spelling i) (codes "u") e'), refl)
+    → Leads (sort_by (cond p (Some sorts.Protected) (cond u (Some sorts.Unprotected) None))) i (λ s j. IsSort i s × (advanced i ≡ j))
+sort_test i true u e e' = leads_pure sorts.Protected (advanced i) (λ s j. IsSort i s × (advanced i ≡ j)) (IsSort.protected (spelled_so (spelling i) (codes "p") e), refl)
+sort_test i false true e e' = leads_pure sorts.Unprotected (advanced i) (λ s j. IsSort i s × (advanced i ≡ j)) (IsSort.unprotected (spelled_so (spelling i) (codes "u") e'), refl)
 sort_test i false false e e' = λ x j read. absurd (cc)
 
-pub leads_sort : {B : Type 0} (f : Sort → Parser B) (Q : B → Input → Type 0) (i : Input) → ((s : Sort) → IsSort i s → Leads (f s) (after i) Q) → Leads (sort >>= f) i Q
+pub leads_sort : {B : Type 0} (f : Sort → Parser B) (Q : B → Input → Type 0) (i : Input) → ((s : Sort) → IsSort i s → Leads (f s) (advanced i) Q) → Leads (sort >>= f) i Q
 unfolding sort sort_of
-leads_sort f Q i next = leads_at sort f (IsSort i) (after i) Q i
+leads_sort f Q i next = leads_at sort f (IsSort i) (advanced i) Q i
     (sort_test i (bytes_eq (spelling i) (codes "p")) (bytes_eq (spelling i) (codes "u")) refl refl) next
 
 effect_test : (i : Input) (p u e : Bool) → bytes_eq (spelling i) (codes "p") ≡ p → bytes_eq (spelling i) (codes "u") ≡ u → bytes_eq (spelling i) (codes "a") ≡ e
-    → Leads (effect_by (cond p (Some effects.Protected) (cond u (Some effects.Unprotected) (cond e (Some effects.Either) None)))) i (λ q j. IsEffect i q × (after i ≡ j))
-effect_test i true u e h h' h'' = leads_pure effects.Protected (after i) (λ q j. IsEffect i q × (after i ≡ j)) (IsEffect.protected (spelled_so (spelling i) (codes "p") h), refl)
-effect_test i false true e h h' h'' = leads_pure effects.Unprotected (after i) (λ q j. IsEffect i q × (after i ≡ j)) (IsEffect.unprotected (spelled_so (spelling i) (codes "u") h'), refl)
-effect_test i false false true h h' h'' = leads_pure effects.Either (after i) (λ q j. IsEffect i q × (after i ≡ j)) (IsEffect.either (spelled_so (spelling i) (codes "a") h''), refl)
+    → Leads (effect_by (cond p (Some effects.Protected) (cond u (Some effects.Unprotected) (cond e (Some effects.Either) None)))) i (λ q j. IsEffect i q × (advanced i ≡ j))
+effect_test i true u e h h' h'' = leads_pure effects.Protected (advanced i) (λ q j. IsEffect i q × (advanced i ≡ j)) (IsEffect.protected (spelled_so (spelling i) (codes "p") h), refl)
+effect_test i false true e h h' h'' = leads_pure effects.Unprotected (advanced i) (λ q j. IsEffect i q × (advanced i ≡ j)) (IsEffect.unprotected (spelled_so (spelling i) (codes "u") h'), refl)
+effect_test i false false true h h' h'' = leads_pure effects.Either (advanced i) (λ q j. IsEffect i q × (advanced i ≡ j)) (IsEffect.either (spelled_so (spelling i) (codes "a") h''), refl)
 effect_test i false false false h h' h'' = λ x j read. absurd (cc)
 
-pub leads_effect : {B : Type 0} (f : Effect → Parser B) (Q : B → Input → Type 0) (i : Input) → ((q : Effect) → IsEffect i q → Leads (f q) (after i) Q) → Leads (effect >>= f) i Q
-unfolding effect effect_of
-leads_effect f Q i next = leads_at effect f (IsEffect i) (after i) Q i
+pub leads_effect : {B : Type 0} (f : Effect → Parser B) (Q : B → Input → Type 0) (i : Input) → ((q : Effect) → IsEffect i q → Leads (f q) (advanced i) Q) → Leads (effect_word >>= f) i Q
+unfolding effect_word effect_named
+leads_effect f Q i next = leads_at effect_word f (IsEffect i) (advanced i) Q i
     (effect_test i (bytes_eq (spelling i) (codes "p")) (bytes_eq (spelling i) (codes "u")) (bytes_eq (spelling i) (codes "a")) refl refl refl) next
 
 -- a device's number comes next
@@ -52,22 +52,22 @@ pub record IsDevice (i : Input) (device : ℕ) : Type 0 where
   pub stands : ahead i ≡ a.Number (pos device)
   pub below : device < 256
 
-device_test : (i : Input) (n : ℕ) (b : Bool) → ahead i ≡ a.Number (pos n) → nat_lt n 256 ≡ b → Leads (device_by (cond b (Some n) None)) i (λ d j. IsDevice i d × (after i ≡ j))
-device_test i n true e test = leads_pure n (after i) (λ d j. IsDevice i d × (after i ≡ j)) (record { stands = e; below = ltb-true n 256 test }, refl)
+device_test : (i : Input) (n : ℕ) (b : Bool) → ahead i ≡ a.Number (pos n) → nat_lt n 256 ≡ b → Leads (device_by (cond b (Some n) None)) i (λ d j. IsDevice i d × (advanced i ≡ j))
+device_test i n true e test = leads_pure n (advanced i) (λ d j. IsDevice i d × (advanced i ≡ j)) (record { stands = e; below = ltb-true n 256 test }, refl)
 device_test i n false e test = λ x j read. absurd (cc)
 
-small_leads : (i : Input) (value : ℤ) → ahead i ≡ a.Number value → Leads (device_by (small value)) i (λ d j. IsDevice i d × (after i ≡ j))
+small_leads : (i : Input) (value : ℤ) → ahead i ≡ a.Number value → Leads (device_by (small value)) i (λ d j. IsDevice i d × (advanced i ≡ j))
 small_leads i (pos n) e = device_test i n (nat_lt n 256) e refl
 small_leads i (negsuc n) e = λ x j read. absurd (cc)
 
-device_leads_by : (next : Ahead) (i : Input) → ahead i ≡ next → Leads (device_by (device_of next)) i (λ d j. IsDevice i d × (after i ≡ j))
+device_leads_by : (next : Ahead) (i : Input) → ahead i ≡ next → Leads (device_by (device_of next)) i (λ d j. IsDevice i d × (advanced i ≡ j))
 unfolding device_of
 device_leads_by (a.Number value) i e = small_leads i value e
 device_leads_by _ i e = λ x j read. absurd (cc)
 
-pub leads_device : {B : Type 0} (f : ℕ → Parser B) (Q : B → Input → Type 0) (i : Input) → ((d : ℕ) → IsDevice i d → Leads (f d) (after i) Q) → Leads (device >>= f) i Q
+pub leads_device : {B : Type 0} (f : ℕ → Parser B) (Q : B → Input → Type 0) (i : Input) → ((d : ℕ) → IsDevice i d → Leads (f d) (advanced i) Q) → Leads (device >>= f) i Q
 unfolding device
-leads_device f Q i next = leads_at device f (IsDevice i) (after i) Q i (device_leads_by (ahead i) i refl) next
+leads_device f Q i next = leads_at device f (IsDevice i) (advanced i) Q i (device_leads_by (ahead i) i refl) next
 
 op_test : (s : ℕ) (o : Op) (plus minus star less : Bool) (equals : Bool)
     → s == 43 ≡ plus → s == 45 ≡ minus → s == 42 ≡ star → s == 60 ≡ less → s == 61 ≡ equals

@@ -3,6 +3,8 @@ use Rattle.std.proofs.Common.{refl, sym, ap, ◌∙◌, ℕ, zero, suc, ◌-◌,
 use Rattle.std.proofs.lemmas.List.{take-append-drop}
 use Rattle.ame_term.specs.declared.types.Sort.{Sort}
 use Rattle.ame_term.specs.declared.types.Effect.{Effect}
+use Rattle.ame_term.specs.declared.types.Unary.TheVariants as unary
+use Rattle.ame_term.specs.declared.types.Binary.{Binary}
 use Rattle.ame_term.specs.Tree.{Typ, Tree}
 use Rattle.ame_parse.specs.declared.words.Word.{Word}
 use Rattle.ame_parse.specs.declared.words.Word.TheVariants as w
@@ -10,15 +12,12 @@ use Rattle.ame_parse.specs.declared.ahead.Ahead.{Ahead}
 use Rattle.ame_parse.specs.declared.ahead.Ahead.TheVariants as a
 use Rattle.ame_parse.specs.declared.fault.Want.TheVariants as want
 use Rattle.ame_parse.specs.declared.fault.ParseFault.TheVariants.{TooNested, Trailing}
-use Rattle.ame_parse.specs.declared.forms.OnePart.{OnePart}
-use Rattle.ame_parse.specs.declared.forms.TwoParts.{TwoParts}
-use Rattle.ame_parse.specs.Input.{Parser, ◌>>=◌, ◌>>◌, pure, peek, advance, bind, unbind, place, spelling_in, spelling, number, named, sees_closing, closing_by, closing, opening_by, opening, name_by, name, finish_by, finish}
+use Rattle.ame_parse.specs.Input.{Parser, ◌>>=◌, ◌>>◌, pure, peek, advance, bind_name, unbind, place, spelling_in, spelling, name_number, named, sees_closing, closing_by, closing, opening_by, opening, name_by, name, finish_by, finish}
 use Rattle.ame_parse.specs.Names.{number_in, with_name}
-use Rattle.ame_parse.specs.Letters.{sort_of, effect_of, device_of, sort_by, effect_by, device_by, sort, effect, device}
+use Rattle.ame_parse.specs.Letters.{sort_of, effect_named, device_of, sort_by, effect_by, device_by, sort, effect_word, device}
 use Rattle.ame_parse.specs.Types as t
 use Rattle.ame_parse.specs.Types.{ty, param}
-use Rattle.ame_parse.specs.Forms.{one_part, two_parts}
-use Rattle.ame_parse.specs.Reading.{one, two, choice, binding, more_from, reference, call, function, recursive}
+use Rattle.ame_parse.specs.Reading.{alone, two, choice, binding, more_from, reference, call, function, recursive}
 use Rattle.ame_parse.proofs.Locality.{IsLocal, goes, local_bind, local_pure, local_peek, local_see, local_sees_closing, local_fault, local_expected, local_advance, local_bound, local_unbound, spelling_taken, drop_alike}
 
 -- ---- steps by the next token
@@ -39,8 +38,8 @@ pub local_finish : (m : ℕ) → IsLocal m finish
 unfolding finish
 local_finish m = local_bind m peek finish_by (local_peek m) (finish_by_local m)
 
-pub take_name_local : (m : ℕ) → IsLocal m (λ i. Ok (number i, named i))
-unfolding number named spelling
+pub take_name_local : (m : ℕ) → IsLocal m (λ i. Ok (name_number i, named i))
+unfolding name_number named spelling
 take_name_local m i few = goes (take 1 i.rest) (sym (take-append-drop 1 i.rest)) refl
     (λ rest end few' alike.
     ap (λ z. Ok (number_in i.names z, record i { rest = drop 1 (take 1 i.rest ++ rest); end = end; names = with_name i.names z })) (spelling_taken i.rest rest i.end end alike)
@@ -78,9 +77,9 @@ effect_by_local : (m : ℕ) (found : Option Effect) → IsLocal m (effect_by fou
 effect_by_local m (Some found) = local_bind m advance (λ _. pure found) (local_advance m) (λ _. local_pure m found)
 effect_by_local m None = local_expected m want.Effect
 
-local_effect : (m : ℕ) → IsLocal m effect
-unfolding effect
-local_effect m = local_bind m (λ i. Ok (spelling i, i)) (λ z. effect_by (effect_of z)) (local_see m) (λ z. effect_by_local m (effect_of z))
+local_effect : (m : ℕ) → IsLocal m effect_word
+unfolding effect_word
+local_effect m = local_bind m (λ i. Ok (spelling i, i)) (λ z. effect_by (effect_named z)) (local_see m) (λ z. effect_by_local m (effect_named z))
 
 device_by_local : (m : ℕ) (found : Option ℕ) → IsLocal m (device_by found)
 device_by_local m (Some found) = local_bind m advance (λ _. pure found) (local_advance m) (λ _. local_pure m found)
@@ -107,7 +106,7 @@ module _ (m : ℕ) (part : Parser Typ) (local : IsLocal m part) where
 
   fun_type_local : IsLocal m (t.function part)
   unfolding t.function
-  fun_type_local = local_bind m effect _ (local_effect m) (λ q. local_bind m part _ local (λ x. local_bind m part _ local (λ y. shut m (Typ.Fun q x y))))
+  fun_type_local = local_bind m effect_word _ (local_effect m) (λ q. local_bind m part _ local (λ x. local_bind m part _ local (λ y. shut m (Typ.Fun q x y))))
 
   pair_type_local : IsLocal m (t.pair part)
   unfolding t.pair
@@ -157,13 +156,13 @@ local_param m n = local_bind m (opening n) _ (local_opening m n) (λ _. local_bi
 -- ---- forms
 
 module _ (m : ℕ) (part : Parser Tree) (local : IsLocal m part) where
-  pub one_local : (f : OnePart) → IsLocal m (one part f)
-  unfolding one
-  one_local f = local_bind m part _ local (λ x. shut m (one_part f x))
+  pub alone_local : (build : Tree → Tree) → IsLocal m (alone part build)
+  unfolding alone
+  alone_local build = local_bind m part _ local (λ x. shut m (build x))
 
-  pub two_local : (f : TwoParts) → IsLocal m (two part f)
+  pub two_local : (op : Binary) → IsLocal m (two part op)
   unfolding two
-  two_local f = local_bind m part _ local (λ x. local_bind m part _ local (λ y. shut m (two_parts f x y)))
+  two_local op = local_bind m part _ local (λ x. local_bind m part _ local (λ y. shut m (Tree.Two op x y)))
 
   pub choice_local : IsLocal m (choice part)
   unfolding choice
@@ -171,28 +170,28 @@ module _ (m : ℕ) (part : Parser Tree) (local : IsLocal m part) where
 
   pub reference_local : IsLocal m (reference part)
   unfolding reference
-  reference_local = local_bind m sort _ (local_sort m) (λ s. local_bind m part _ local (λ x. shut m (Tree.Ref s x)))
+  reference_local = local_bind m sort _ (local_sort m) (λ s. alone_local (Tree.One (unary.Ref s)))
 
   pub call_local : IsLocal m (call part)
   unfolding call
-  call_local = local_bind m device _ (local_device m) (λ d. local_bind m part _ local (λ x. shut m (Tree.Call d x)))
+  call_local = local_bind m device _ (local_device m) (λ d. alone_local (Tree.One (unary.Call d)))
 
   unbinding : (x : Tree) → IsLocal m (closing >> (unbind >> pure x))
   unbinding x = local_bind m closing _ (local_closing m) (λ _. local_bind m unbind _ (local_unbound m) (λ _. local_pure m x))
 
   pub binding_local : IsLocal m (binding part)
   unfolding binding
-  binding_local = local_bind m name _ (local_name m) (λ x. local_bind m part _ local (λ value. local_bind m (bind x) _ (local_bound m x) (λ _. local_bind m part _ local (λ body. unbinding (Tree.Let x value body)))))
+  binding_local = local_bind m name _ (local_name m) (λ x. local_bind m part _ local (λ value. local_bind m (bind_name x) _ (local_bound m x) (λ _. local_bind m part _ local (λ body. unbinding (Tree.Let x value body)))))
 
   pub function_local : (n : ℕ) → IsLocal m (function part (param n))
   unfolding function
-  function_local n = local_bind m effect _ (local_effect m) (λ q. local_bind m (param n) _ (local_param m n) (λ p. local_bind m (bind p.0) _ (local_bound m p.0) (λ _.
+  function_local n = local_bind m effect_word _ (local_effect m) (λ q. local_bind m (param n) _ (local_param m n) (λ p. local_bind m (bind_name p.0) _ (local_bound m p.0) (λ _.
       local_bind m part _ local (λ body. unbinding (Tree.Lambda (record { effect = q; own = None; param = p.0; param_type = p.1 }) body)))))
 
   pub recursive_local : (n : ℕ) → IsLocal m (recursive part (param n) (ty n))
   unfolding recursive
-  recursive_local n = local_bind m effect _ (local_effect m) (λ q. local_bind m name _ (local_name m) (λ own. local_bind m (param n) _ (local_param m n) (λ p. local_bind m (ty n) _ (local_ty m n) (λ gives.
-      local_bind m (bind own) _ (local_bound m own) (λ _. local_bind m (bind p.0) _ (local_bound m p.0) (λ _. local_bind m part _ local (λ body.
+  recursive_local n = local_bind m effect_word _ (local_effect m) (λ q. local_bind m name _ (local_name m) (λ own. local_bind m (param n) _ (local_param m n) (λ p. local_bind m (ty n) _ (local_ty m n) (λ gives.
+      local_bind m (bind_name own) _ (local_bound m own) (λ _. local_bind m (bind_name p.0) _ (local_bound m p.0) (λ _. local_bind m part _ local (λ body.
       local_bind m closing _ (local_closing m) (λ _. local_bind m unbind _ (local_unbound m) (λ _. local_bind m unbind _ (local_unbound m) (λ _.
       local_pure m (Tree.Lambda (record { effect = q; own = Some (record { name = own; result = gives }); param = p.0; param_type = p.1 }) body)))))))))))
 

@@ -9,17 +9,17 @@ use Rattle.ame_parse.specs.declared.ahead.Ahead.TheVariants as a
 use Rattle.ame_parse.specs.declared.fault.Want.TheVariants as want
 use Rattle.ame_parse.specs.declared.fault.ParseFault.{ParseFault}
 use Rattle.ame_parse.specs.declared.fault.ParseFault.TheVariants.{Expected, UnknownName, TooNested}
-use Rattle.ame_parse.specs.declared.forms.Form.{Form}
-use Rattle.ame_parse.specs.declared.forms.Form.TheVariants as form_
-use Rattle.ame_parse.specs.Input.{Seen, Input, Outcome, Parser, and_then, ◌>>=◌, ◌>>◌, pure, expected, peek, advance, mark, ahead_in, ahead, place, spelling, number, named, marked, binds, left, is_closing, sees_closing, name_by, name, finish}
+use Rattle.ame_parse.specs.declared.forms.Opener.{Opener}
+use Rattle.ame_parse.specs.declared.forms.Opener.TheVariants as opener
+use Rattle.ame_parse.specs.Input.{Seen, Input, ParseOutcome, Parser, and_then, ◌>>=◌, ◌>>◌, pure, expected, peek, advance, mark, ahead_in, ahead, place, spelling, name_number, named, marked, binds_name, tokens_left, is_closing, sees_closing, name_by, name, finish}
 use Rattle.ame_parse.specs.Names.{number_in}
 use Rattle.ame_parse.specs.Types.{ty, param}
-use Rattle.ame_parse.specs.Forms.{form_of, row}
-use Rattle.ame_parse.specs.Reading.{more_from, more, first_two, sequence, one, two, choice, binding, function, recursive, reference, call, form_by, compound, variable, yielding, constant, atom_by, atom, term_by, term_of, nested, term, max_open, program}
+use Rattle.ame_parse.specs.Forms.{opener_of, row}
+use Rattle.ame_parse.specs.Reading.{more_from, more, first_two, sequence, alone, two, choice, binding, function, recursive, reference, call, form_by, compound, variable, yielding, constant, atom_by, atom, term_by, term_of, nested, term, max_open, program}
 use Rattle.ame_parse.proofs.Soundness.{term_leads}
 use Rattle.ame_parse.proofs.Completeness.{term_takes, term_at, atom_at}
 use Rattle.ame_parse.proofs.Locality.{swapped, IsLocal, goes, local_bind, local_same, local_pure, local_peek, local_fault, local_expected, local_advance, local_mark, spelling_alike}
-use Rattle.ame_parse.proofs.LocalForms.{take_name_local, local_finish, after_one, shut, one_local, two_local, choice_local, reference_local, call_local, binding_local, function_local, recursive_local, more_from_local}
+use Rattle.ame_parse.proofs.LocalForms.{take_name_local, local_finish, after_one, shut, alone_local, two_local, choice_local, reference_local, call_local, binding_local, function_local, recursive_local, more_from_local}
 
 -- ---- a name that is bound
 
@@ -28,20 +28,20 @@ cond_at true p q i = refl
 cond_at false p q i = refl
 
 abbrev found : Parser Tree
-found = λ i. Ok (Tree.Var (number i), named i)
+found = λ i. Ok (Tree.Var (name_number i), named i)
 
 abbrev unknown : Parser Tree
 unknown = λ i. Err (UnknownName (place i))
 
 abbrev is_bound : Parser Bool
-is_bound = λ i. Ok (binds (number i) (named i), i)
+is_bound = λ i. Ok (binds_name (name_number i) (named i), i)
 
 abbrev variable_by : Ahead → Parser Tree
 variable_by a.Name = is_bound >>= (λ b. cond {A = Parser Tree} b found unknown)
 variable_by _ = expected want.Name
 
-variable_is_by : (next : Ahead) (i : Input) → and_then (name_by next i) (λ x j. cond (binds x j) (Ok (Tree.Var x, j)) (Err (UnknownName (place i)))) ≡ variable_by next i
-variable_is_by a.Name i = cond_at (binds (number i) (named i)) found unknown i
+variable_is_by : (next : Ahead) (i : Input) → and_then (name_by next i) (λ x j. cond (binds_name x j) (Ok (Tree.Var x, j)) (Err (UnknownName (place i)))) ≡ variable_by next i
+variable_is_by a.Name i = cond_at (binds_name (name_number i) (named i)) found unknown i
 variable_is_by _ i = refl
 
 variable_is : (i : Input) → variable i ≡ (peek >>= variable_by) i
@@ -49,11 +49,11 @@ unfolding variable name
 variable_is i = variable_is_by (ahead i) i
 
 is_bound_local : (m : ℕ) → IsLocal m is_bound
-unfolding binds number named spelling
+unfolding binds_name name_number named spelling
 is_bound_local m i few = goes [] refl refl (λ rest end few' alike. ap (λ z. Ok (list_any (λ y. y == number_in i.names z) i.scope, swapped i rest end)) (spelling_alike i.rest rest i.end end alike))
 
 found_local : (m : ℕ) → IsLocal m found
-found_local m = local_bind m (λ i. Ok (number i, named i)) (λ x. pure (Tree.Var x)) (take_name_local m) (λ x. local_pure m (Tree.Var x))
+found_local m = local_bind m (λ i. Ok (name_number i, named i)) (λ x. pure (Tree.Var x)) (take_name_local m) (λ x. local_pure m (Tree.Var x))
 
 found_or_not : (m : ℕ) (b : Bool) → IsLocal m (cond {A = Parser Tree} b found unknown)
 found_or_not m true = found_local m
@@ -99,8 +99,8 @@ none_left_in : (rest : List Seen) → length rest ≤ 0 → ahead_in rest ≡ a.
 none_left_in [] few = refl
 none_left_in (token ∷ rest) few = absurd (omega arith)
 
-none_left : (i : Input) → left i ≤ 0 → ahead i ≡ a.End
-unfolding left ahead
+none_left : (i : Input) → tokens_left i ≤ 0 → ahead i ≡ a.End
+unfolding tokens_left ahead
 none_left i few = none_left_in i.rest few
 
 more_stops : (part : Parser Tree) (k : ℕ) (so_far : List Tree) (i : Input) (fault : ParseFault) → is_closing (ahead i) ≡ false → part i ≡ Err fault
@@ -114,7 +114,7 @@ no_turns : (part : Parser Tree) (so_far : List Tree) (i : Input) → more_from p
 unfolding more_from
 no_turns part so_far i = refl
 
-none_more : (n k : ℕ) (so_far : List Tree) (i : Input) → left i ≤ 0 → more_from (term n) zero so_far i ≡ more_from (term n) (suc k) so_far i
+none_more : (n k : ℕ) (so_far : List Tree) (i : Input) → tokens_left i ≤ 0 → more_from (term n) zero so_far i ≡ more_from (term n) (suc k) so_far i
 none_more n k so_far i none =
     let e = none_left i none in
     no_turns (term n) so_far i ∙ sym (more_stops (term n) k so_far i _ (ap is_closing e) (no_term_at_end n i e))
@@ -122,20 +122,20 @@ none_more n k so_far i none =
 abbrev Rest : Type 0
 Rest = List Tree → Parser (List Tree)
 
-enough_by : (n : ℕ) (rest rest' : Rest) (so_far : List Tree) (i : Input) (o : Outcome Tree) → term n i ≡ o
-    → ((so_far : List Tree) (j : Input) → left j < left i → rest so_far j ≡ rest' so_far j)
+enough_by : (n : ℕ) (rest rest' : Rest) (so_far : List Tree) (i : Input) (o : ParseOutcome Tree) → term n i ≡ o
+    → ((so_far : List Tree) (j : Input) → tokens_left j < tokens_left i → rest so_far j ≡ rest' so_far j)
     → and_then o (λ x. rest (so_far ++ x ∷ [])) ≡ and_then o (λ x. rest' (so_far ++ x ∷ []))
 enough_by n rest rest' so_far i (Ok p) e same = same (so_far ++ p.0 ∷ []) p.1 (term_takes (term_leads n i p.0 p.1 e))
 enough_by n rest rest' so_far i (Err fault) e same = refl
 
 enough_at : (n : ℕ) (rest rest' : Rest) (so_far : List Tree) (i : Input) (ends : Bool)
-    → ((so_far : List Tree) (j : Input) → left j < left i → rest so_far j ≡ rest' so_far j)
+    → ((so_far : List Tree) (j : Input) → tokens_left j < tokens_left i → rest so_far j ≡ rest' so_far j)
     → cond {A = Parser (List Tree)} ends (pure so_far) (λ i. and_then (term n i) (λ x. rest (so_far ++ x ∷ []))) i
     ≡ cond {A = Parser (List Tree)} ends (pure so_far) (λ i. and_then (term n i) (λ x. rest' (so_far ++ x ∷ []))) i
 enough_at n rest rest' so_far i true same = refl
 enough_at n rest rest' so_far i false same = enough_by n rest rest' so_far i (term n i) refl same
 
-enough : (n k k' : ℕ) (so_far : List Tree) (i : Input) → left i ≤ k → left i ≤ k' → more_from (term n) k so_far i ≡ more_from (term n) k' so_far i
+enough : (n k k' : ℕ) (so_far : List Tree) (i : Input) → tokens_left i ≤ k → tokens_left i ≤ k' → more_from (term n) k so_far i ≡ more_from (term n) k' so_far i
 unfolding more_from sees_closing
 enough n zero zero so_far i few few' = refl
 enough n zero (suc k') so_far i few few' = none_more n k' so_far i few
@@ -145,8 +145,8 @@ enough n (suc k) (suc k') so_far i few few' =
 
 module _ (m n : ℕ) (local : IsLocal m (term n)) where
   more_local : (so_far : List Tree) → IsLocal m (more (term n) so_far)
-  unfolding more left
-  more_local so_far = local_same m (more (term n) so_far) (more_from (term n) m so_far) (λ i few. enough n (left i) m so_far i (omega arith) few) (more_from_local m (term n) local m so_far)
+  unfolding more tokens_left
+  more_local so_far = local_same m (more (term n) so_far) (more_from (term n) m so_far) (λ i few. enough n (tokens_left i) m so_far i (omega arith) few) (more_from_local m (term n) local m so_far)
 
   first_two_local : IsLocal m (first_two (term n))
   unfolding first_two
@@ -156,21 +156,23 @@ module _ (m n : ℕ) (local : IsLocal m (term n)) where
   unfolding sequence
   sequence_local = local_bind m (first_two (term n)) _ first_two_local (λ pair. local_bind m (more (term n) pair) _ (more_local pair) (λ all. shut m (Tree.Do (row all))))
 
-  form_by_local : (which : Option Form) → IsLocal m (form_by (term n) (param n) (ty n) which)
-  form_by_local (Some (form_.One which)) = after_one m (one (term n) which) (one_local m (term n) local which)
-  form_by_local (Some (form_.Two which)) = after_one m (two (term n) which) (two_local m (term n) local which)
-  form_by_local (Some form_.If) = after_one m (choice (term n)) (choice_local m (term n) local)
-  form_by_local (Some form_.Let) = after_one m (binding (term n)) (binding_local m (term n) local)
-  form_by_local (Some form_.Do) = after_one m (sequence (term n)) sequence_local
-  form_by_local (Some form_.Fn) = after_one m (function (term n) (param n)) (function_local m (term n) local n)
-  form_by_local (Some form_.Rec) = after_one m (recursive (term n) (param n) (ty n)) (recursive_local m (term n) local n)
-  form_by_local (Some form_.Ref) = after_one m (reference (term n)) (reference_local m (term n) local)
-  form_by_local (Some form_.Call) = after_one m (call (term n)) (call_local m (term n) local)
+  form_by_local : (which : Option Opener) → IsLocal m (form_by (term n) (param n) (ty n) which)
+  form_by_local (Some (opener.One op)) = after_one m (alone (term n) (Tree.One op)) (alone_local m (term n) local (Tree.One op))
+  form_by_local (Some opener.Ref) = after_one m (reference (term n)) (reference_local m (term n) local)
+  form_by_local (Some opener.Call) = after_one m (call (term n)) (call_local m (term n) local)
+  form_by_local (Some (opener.Two op)) = after_one m (two (term n) op) (two_local m (term n) local op)
+  form_by_local (Some opener.Async) = after_one m (alone (term n) Tree.Async) (alone_local m (term n) local Tree.Async)
+  form_by_local (Some opener.Unprotected) = after_one m (alone (term n) Tree.Unprotected) (alone_local m (term n) local Tree.Unprotected)
+  form_by_local (Some opener.If) = after_one m (choice (term n)) (choice_local m (term n) local)
+  form_by_local (Some opener.Let) = after_one m (binding (term n)) (binding_local m (term n) local)
+  form_by_local (Some opener.Do) = after_one m (sequence (term n)) sequence_local
+  form_by_local (Some opener.Fn) = after_one m (function (term n) (param n)) (function_local m (term n) local n)
+  form_by_local (Some opener.Rec) = after_one m (recursive (term n) (param n) (ty n)) (recursive_local m (term n) local n)
   form_by_local None = local_expected m want.Form
 
   compound_local : IsLocal m (compound (term n) (param n) (ty n))
   unfolding compound
-  compound_local = local_bind m peek _ (local_peek m) (λ next. form_by_local (form_of next))
+  compound_local = local_bind m peek _ (local_peek m) (λ next. form_by_local (opener_of next))
 
 -- ---- terms and programs
 

@@ -4,7 +4,7 @@ use Rattle.std.proofs.lemmas.List.{take-append-drop}
 use Rattle.ame_parse.specs.declared.fault.Want.{Want}
 use Rattle.ame_parse.specs.declared.fault.ParseFault.{ParseFault}
 use Rattle.ame_parse.specs.declared.fault.ParseFault.TheVariants.{Expected}
-use Rattle.ame_parse.specs.Input.{Seen, Input, Outcome, Parser, and_then, ◌>>=◌, pure, expected, peek, advance, mark, bind, unbind, ahead_in, place_in, spelling_in, ahead, place, spelling, after, marked, bound, unbound, is_closing, sees_closing}
+use Rattle.ame_parse.specs.Input.{Seen, Input, ParseOutcome, Parser, and_then, ◌>>=◌, pure, expected, peek, advance, mark, bind_name, unbind, ahead_in, place_in, spelling_in, ahead, place, spelling, advanced, marked, bound, unbound, is_closing, sees_closing}
 use Rattle.ame_parse.specs.Fault.{place_of}
 
 -- the input with other tokens left, and another end
@@ -46,7 +46,7 @@ spelling_taken (token ∷ rest) rest' end end' alike = refl
 -- ---- local parsers, over inputs of at most m tokens
 
 -- What was taken, or what stands before the fault, gives the same again, whatever comes after the next token.
-pub data LocalAt {A : Type 0} (m : ℕ) (p : Parser A) (i : Input) : Outcome A → Type 0 where
+pub data LocalAt {A : Type 0} (m : ℕ) (p : Parser A) (i : Input) : ParseOutcome A → Type 0 where
   goes : {x : A} {j : Input} (used : List Seen) → i.rest ≡ used ++ j.rest → j.end ≡ i.end
       → ((rest : List Seen) (end : ℕ) → length (used ++ rest) ≤ m → Alike j.rest j.end rest end → p (swapped i (used ++ rest) end) ≡ Ok (x, swapped j rest end))
       → LocalAt m p i (Ok (x, j))
@@ -60,7 +60,7 @@ IsLocal m p = (i : Input) → length i.rest ≤ m → LocalAt m p i (p i)
 module _ {A B : Type 0} (m : ℕ) (p : Parser A) (f : A → Parser B) (i : Input) where
   then_at : (x : A) (j : Input) (used : List Seen) → i.rest ≡ used ++ j.rest → j.end ≡ i.end
       → ((rest : List Seen) (end : ℕ) → length (used ++ rest) ≤ m → Alike j.rest j.end rest end → p (swapped i (used ++ rest) end) ≡ Ok (x, swapped j rest end))
-      → (o : Outcome B) → LocalAt m (f x) j o → LocalAt m (p >>= f) i o
+      → (o : ParseOutcome B) → LocalAt m (f x) j o → LocalAt m (p >>= f) i o
   then_at x j used e same go o (goes {j = k} used' e' same' go') =
       goes (used ++ used') (e ∙ ap (λ z. used ++ z) e' ∙ sym (append_assoc used used' k.rest)) (same' ∙ same)
       (λ rest end few alike.
@@ -78,7 +78,7 @@ module _ {A B : Type 0} (m : ℕ) (p : Parser A) (f : A → Parser B) (i : Input
       ∙ ap (λ z. and_then z f) (go (before ++ rest) end (omega (arith, ap length (append_assoc used before rest))) here)
       ∙ stay rest end (omega (arith, length-append (used ++ before) rest, length-append used before, length-append before rest)) there)
 
-  bind_at : (o : Outcome A) → LocalAt m p i o → ((x : A) → IsLocal m (f x)) → length i.rest ≤ m → LocalAt m (p >>= f) i (and_then o f)
+  bind_at : (o : ParseOutcome A) → LocalAt m p i o → ((x : A) → IsLocal m (f x)) → length i.rest ≤ m → LocalAt m (p >>= f) i (and_then o f)
   bind_at o (goes {x = x} {j = j} used e same go) local few =
       then_at x j used e same go (f x j) (local x j (omega (arith, ap length e, length-append used j.rest)))
   bind_at o (stops before from e place stay) local few =
@@ -88,7 +88,7 @@ pub local_bind : {A B : Type 0} (m : ℕ) (p : Parser A) (f : A → Parser B) �
 local_bind m p f local local' i few = bind_at m p f i (p i) (local i few) local' few
 
 -- the same parser, on inputs of at most m tokens
-same_at : {A : Type 0} (m : ℕ) (p q : Parser A) → ((i : Input) → length i.rest ≤ m → p i ≡ q i) → (i : Input) (o : Outcome A) → LocalAt m q i o → LocalAt m p i o
+same_at : {A : Type 0} (m : ℕ) (p q : Parser A) → ((i : Input) → length i.rest ≤ m → p i ≡ q i) → (i : Input) (o : ParseOutcome A) → LocalAt m q i o → LocalAt m p i o
 same_at m p q same i o (goes used e ends go) = goes used e ends (λ rest end few alike. same (swapped i (used ++ rest) end) few ∙ go rest end few alike)
 same_at m p q same i o (stops before from e place stay) = stops before from e place (λ rest end few alike. same (swapped i (before ++ rest) end) few ∙ stay rest end few alike)
 
@@ -120,7 +120,7 @@ pub local_expected : {A : Type 0} (m : ℕ) (wanted : Want) → IsLocal {A = A} 
 local_expected m wanted = local_fault m (λ n. Expected n wanted) (λ n. refl)
 
 pub local_advance : (m : ℕ) → IsLocal m advance
-unfolding after
+unfolding advanced
 local_advance m i few = goes (take 1 i.rest) (sym (take-append-drop 1 i.rest)) refl
     (λ rest end few' alike. ap (λ z. Ok (tt, swapped i z end)) (drop_alike i.rest rest i.end end alike))
 
@@ -128,7 +128,7 @@ pub local_mark : (m : ℕ) → IsLocal m mark
 unfolding marked place
 local_mark m i few = goes [] refl refl (λ rest end few' alike. ap (λ z. Ok (tt, record i { rest = rest; end = end; places = i.places ++ z ∷ [] })) (place_alike i.rest rest i.end end alike))
 
-pub local_bound : (m : ℕ) (x : ℕ) → IsLocal m (bind x)
+pub local_bound : (m : ℕ) (x : ℕ) → IsLocal m (bind_name x)
 unfolding bound
 local_bound m x i few = goes [] refl refl (λ rest end few' alike. refl)
 

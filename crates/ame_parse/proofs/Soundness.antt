@@ -2,23 +2,23 @@
 use Rattle.std.proofs.Common.{◌≡◌, ℕ, zero, suc, refl, sym, ap, subst, ◌∙◌, Bool, true, false, cond, List, [], ◌∷◌, ◌++◌, append_assoc, append-nil, Option, Some, None, Ok, Err}
 use Rattle.std.specs.Option.{option_map}
 use Rattle.ame_term.specs.declared.types.Op.{Op}
+use Rattle.ame_term.specs.declared.types.Unary.{Unary}
+use Rattle.ame_term.specs.declared.types.Unary.TheVariants as unary
+use Rattle.ame_term.specs.declared.types.Binary.{Binary}
+use Rattle.ame_term.specs.declared.types.Binary.TheVariants as binary
 use Rattle.ame_term.specs.Tree.{Val, Tree, unit_tree}
 use Rattle.ame_parse.specs.declared.words.Word.{Word}
 use Rattle.ame_parse.specs.declared.words.Word.TheVariants as w
 use Rattle.ame_parse.specs.declared.ahead.Ahead.{Ahead}
 use Rattle.ame_parse.specs.declared.ahead.Ahead.TheVariants as a
 use Rattle.ame_parse.specs.declared.fault.ParseFault.TheVariants.{UnknownName}
-use Rattle.ame_parse.specs.declared.forms.OnePart.{OnePart}
-use Rattle.ame_parse.specs.declared.forms.OnePart.TheVariants as one_part_
-use Rattle.ame_parse.specs.declared.forms.TwoParts.{TwoParts}
-use Rattle.ame_parse.specs.declared.forms.TwoParts.TheVariants as two_parts_
-use Rattle.ame_parse.specs.declared.forms.Form.TheVariants as form_
-use Rattle.ame_parse.specs.Input.{Input, Parser, ◌>>=◌, pure, is_closing, ahead, spelling, place, after, marked, number, named, binds, bound, unbound, left, sees_closing}
-use Rattle.ame_parse.specs.Forms.{form_of, op_of, one_part, two_parts, row}
+use Rattle.ame_parse.specs.declared.forms.Opener.TheVariants as opener
+use Rattle.ame_parse.specs.Input.{Input, Parser, ◌>>=◌, pure, is_closing, ahead, spelling, place, advanced, marked, name_number, named, binds_name, bound, unbound, tokens_left, sees_closing}
+use Rattle.ame_parse.specs.Forms.{opener_of, op_of, row}
 use Rattle.ame_parse.specs.Types.{ty, param}
-use Rattle.ame_parse.specs.Reading.{one, two, choice, binding, more_from, more, first_two, sequence, reference, call, function, recursive, form_by, compound, variable, yielding, constant, atom_by, atom, term_by, term_of, nested, term}
+use Rattle.ame_parse.specs.Reading.{alone, two, choice, binding, more_from, more, first_two, sequence, reference, call, function, recursive, form_by, compound, variable, yielding, constant, atom_by, atom, term_by, term_of, nested, term}
 use Rattle.ame_parse.specs.Grammar as g
-use Rattle.ame_parse.specs.Grammar.{IsSort, IsEffect, IsOp, IsType, IsParam, IsTerm, IsForm, AreParts}
+use Rattle.ame_parse.specs.Grammar.{IsUnary, IsBinary, IsType, IsParam, IsTerm, IsForm, AreParts}
 use Rattle.ame_parse.proofs.Steps.{Leads, leads_pure, leads_on, leads_shut, leads_name}
 use Rattle.ame_parse.proofs.LetterSteps.{leads_sort, leads_effect, leads_device, op_is}
 use Rattle.ame_parse.proofs.TypeSoundness.{ty_leads, param_leads}
@@ -30,25 +30,24 @@ closing_test _ e = absurd (cc)
 module _ (n : ℕ) (part : Parser Tree) (gives : (i : Input) → Leads part i (IsTerm n i)) where
   -- ---- forms of terms alone
 
-  one_leads : (f : OnePart) (Q : Tree → Input → Type 0) (i : Input) → ((x : Tree) (j : Input) → IsTerm n i x j → ahead j ≡ a.Closing → Q (one_part f x) (after j))
-      → Leads (one part f) i Q
-  unfolding one
-  one_leads f Q i next = leads_on part _ (IsTerm n i) Q i (gives i) (λ x j h.
-      leads_shut _ Q j (λ shut. leads_pure (one_part f x) (after j) Q (next x j h shut)))
+  alone_leads : (build : Tree → Tree) (Q : Tree → Input → Type 0) (i : Input) → ((x : Tree) (j : Input) → IsTerm n i x j → ahead j ≡ a.Closing → Q (build x) (advanced j))
+      → Leads (alone part build) i Q
+  unfolding alone
+  alone_leads build Q i next = leads_on part _ (IsTerm n i) Q i (gives i) (λ x j h.
+      leads_shut _ Q j (λ shut. leads_pure (build x) (advanced j) Q (next x j h shut)))
 
-  two_leads : (f : TwoParts) (Q : Tree → Input → Type 0) (i : Input)
-      → ((x y : Tree) (j k : Input) → IsTerm n i x j → IsTerm n j y k → ahead k ≡ a.Closing → Q (two_parts f x y) (after k)) → Leads (two part f) i Q
+  two_leads : (op : Binary) (next : Ahead) (i : Input) → ahead i ≡ next → IsBinary next op → Leads (two part op) (advanced i) (IsForm n i)
   unfolding two
-  two_leads f Q i next = leads_on part _ (IsTerm n i) Q i (gives i) (λ x j h.
-      leads_on part _ (IsTerm n j) Q j (gives j) (λ y k h'.
-      leads_shut _ Q k (λ shut. leads_pure (two_parts f x y) (after k) Q (next x y j k h h' shut))))
+  two_leads op next i e is = leads_on part _ (IsTerm n (advanced i)) (IsForm n i) (advanced i) (gives (advanced i)) (λ x j h.
+      leads_on part _ (IsTerm n j) (IsForm n i) j (gives j) (λ y k h'.
+      leads_shut _ (IsForm n i) k (λ shut. leads_pure (Tree.Two op x y) (advanced k) (IsForm n i) (g.two e is h h' shut))))
 
-  choice_leads : (i : Input) → ahead i ≡ a.Reserved w.If → Leads (choice part) (after i) (IsForm n i)
+  choice_leads : (i : Input) → ahead i ≡ a.Reserved w.If → Leads (choice part) (advanced i) (IsForm n i)
   unfolding choice
-  choice_leads i e = leads_on part _ (IsTerm n (after i)) (IsForm n i) (after i) (gives (after i)) (λ x j h.
+  choice_leads i e = leads_on part _ (IsTerm n (advanced i)) (IsForm n i) (advanced i) (gives (advanced i)) (λ x j h.
       leads_on part _ (IsTerm n j) (IsForm n i) j (gives j) (λ y k h'.
       leads_on part _ (IsTerm n k) (IsForm n i) k (gives k) (λ z l h''.
-      leads_shut _ (IsForm n i) l (λ shut. leads_pure (Tree.If x y z) (after l) (IsForm n i) (g.choice e h h' h'' shut)))))
+      leads_shut _ (IsForm n i) l (λ shut. leads_pure (Tree.If x y z) (advanced l) (IsForm n i) (g.choice e h h' h'' shut)))))
 
   -- ---- `do`
 
@@ -77,93 +76,94 @@ module _ (n : ℕ) (part : Parser Tree) (gives : (i : Input) → Leads part i (I
       leads_on part _ (IsTerm n j) (ArePair i) j (gives j) (λ second k h'.
       leads_pure (first ∷ second ∷ []) k (ArePair i) (first, second, j, h, h', refl)))
 
-  sequence_leads : (i : Input) → ahead i ≡ a.Reserved w.Do → Leads (sequence part) (after i) (IsForm n i)
+  sequence_leads : (i : Input) → ahead i ≡ a.Reserved w.Do → Leads (sequence part) (advanced i) (IsForm n i)
   unfolding sequence more
-  sequence_leads i e = leads_on (first_two part) _ (ArePair (after i)) (IsForm n i) (after i) (first_two_lead (after i)) (λ pair k h.
-      leads_on (more part pair) _ (λ all l. (others : List Tree) × (pair ++ others ≡ all) × AreParts n k others l) (IsForm n i) k (more_leads (left k) pair k) (λ all l h'.
-      leads_shut _ (IsForm n i) l (λ shut. leads_pure (Tree.Do (row all)) (after l) (IsForm n i) (
+  sequence_leads i e = leads_on (first_two part) _ (ArePair (advanced i)) (IsForm n i) (advanced i) (first_two_lead (advanced i)) (λ pair k h.
+      leads_on (more part pair) _ (λ all l. (others : List Tree) × (pair ++ others ≡ all) × AreParts n k others l) (IsForm n i) k (more_leads (tokens_left k) pair k) (λ all l h'.
+      leads_shut _ (IsForm n i) l (λ shut. leads_pure (Tree.Do (row all)) (advanced l) (IsForm n i) (
       let same : h.0 ∷ h.1 ∷ h'.0 ≡ all = ap (λ z. z ++ h'.0) h.5 ∙ h'.1 in
-      subst (λ z. IsForm n i (Tree.Do (row z)) (after l)) same (g.sequence e h.3 h.4 h'.2 shut)))))
+      subst (λ z. IsForm n i (Tree.Do (row z)) (advanced l)) same (g.sequence e h.3 h.4 h'.2 shut)))))
 
   -- ---- references and calls
 
-  reference_leads : (i : Input) → ahead i ≡ a.Reserved w.Ref → Leads (reference part) (after i) (IsForm n i)
+  reference_leads : (i : Input) → ahead i ≡ a.Reserved w.Ref → Leads (reference part) (advanced i) (IsForm n i)
   unfolding reference
-  reference_leads i e = leads_sort _ (IsForm n i) (after i) (λ s sort.
-      leads_on part _ (IsTerm n (after (after i))) (IsForm n i) (after (after i)) (gives (after (after i))) (λ x j h.
-      leads_shut _ (IsForm n i) j (λ shut. leads_pure (Tree.Ref s x) (after j) (IsForm n i) (g.ref e sort h shut))))
+  reference_leads i e = leads_sort _ (IsForm n i) (advanced i) (λ s sort.
+      alone_leads (Tree.One (unary.Ref s)) (IsForm n i) (advanced (advanced i)) (λ x j h shut. g.ref e sort h shut))
 
-  call_leads : (i : Input) → ahead i ≡ a.Reserved w.Call → Leads (call part) (after i) (IsForm n i)
+  call_leads : (i : Input) → ahead i ≡ a.Reserved w.Call → Leads (call part) (advanced i) (IsForm n i)
   unfolding call
-  call_leads i e = leads_device _ (IsForm n i) (after i) (λ d device.
-      leads_on part _ (IsTerm n (after (after i))) (IsForm n i) (after (after i)) (gives (after (after i))) (λ x j h.
-      leads_shut _ (IsForm n i) j (λ shut. leads_pure (Tree.Call d x) (after j) (IsForm n i) (g.call e device.stands device.below h shut))))
+  call_leads i e = leads_device _ (IsForm n i) (advanced i) (λ d device.
+      alone_leads (Tree.One (unary.Call d)) (IsForm n i) (advanced (advanced i)) (λ x j h shut. g.call e device.stands device.below h shut))
 
   -- ---- forms that bind names
 
-  binding_leads : (i : Input) → ahead i ≡ a.Reserved w.Let → Leads (binding part) (after i) (IsForm n i)
+  binding_leads : (i : Input) → ahead i ≡ a.Reserved w.Let → Leads (binding part) (advanced i) (IsForm n i)
   unfolding binding
-  binding_leads i e = leads_name _ (IsForm n i) (after i) (λ e'.
-      leads_on part _ (IsTerm n (named (after i))) (IsForm n i) (named (after i)) (gives (named (after i))) (λ value j h.
-      leads_on part _ (IsTerm n (bound (number (after i)) j)) (IsForm n i) (bound (number (after i)) j) (gives (bound (number (after i)) j)) (λ body k h'.
-      leads_shut _ (IsForm n i) k (λ shut. leads_pure (Tree.Let (number (after i)) value body) (unbound (after k)) (IsForm n i) (g.bind e e' h h' shut)))))
+  binding_leads i e = leads_name _ (IsForm n i) (advanced i) (λ e'.
+      leads_on part _ (IsTerm n (named (advanced i))) (IsForm n i) (named (advanced i)) (gives (named (advanced i))) (λ value j h.
+      leads_on part _ (IsTerm n (bound (name_number (advanced i)) j)) (IsForm n i) (bound (name_number (advanced i)) j) (gives (bound (name_number (advanced i)) j)) (λ body k h'.
+      leads_shut _ (IsForm n i) k (λ shut. leads_pure (Tree.Let (name_number (advanced i)) value body) (unbound (advanced k)) (IsForm n i) (g.binding e e' refl h h' shut)))))
 
-  function_leads : (i : Input) → ahead i ≡ a.Reserved w.Fn → Leads (function part (param n)) (after i) (IsForm n i)
+  function_leads : (i : Input) → ahead i ≡ a.Reserved w.Fn → Leads (function part (param n)) (advanced i) (IsForm n i)
   unfolding function
-  function_leads i e = leads_effect _ (IsForm n i) (after i) (λ q effect.
-      leads_on (param n) _ (λ p j. IsParam n (after (after i)) p.0 p.1 j) (IsForm n i) (after (after i)) (param_leads n (after (after i))) (λ p j h.
+  function_leads i e = leads_effect _ (IsForm n i) (advanced i) (λ q effect.
+      leads_on (param n) _ (λ p j. IsParam n (advanced (advanced i)) p.0 p.1 j) (IsForm n i) (advanced (advanced i)) (param_leads n (advanced (advanced i))) (λ p j h.
       leads_on part _ (IsTerm n (bound p.0 j)) (IsForm n i) (bound p.0 j) (gives (bound p.0 j)) (λ body k h'.
       leads_shut _ (IsForm n i) k (λ shut.
-      leads_pure (Tree.Lambda (record { effect = q; own = None; param = p.0; param_type = p.1 }) body) (unbound (after k)) (IsForm n i) (g.fn e effect h h' shut)))))
+      leads_pure (Tree.Lambda (record { effect = q; own = None; param = p.0; param_type = p.1 }) body) (unbound (advanced k)) (IsForm n i) (g.function (g.fn e effect h) h' shut)))))
 
-  recursive_leads : (i : Input) → ahead i ≡ a.Reserved w.Rec → Leads (recursive part (param n) (ty n)) (after i) (IsForm n i)
+  recursive_leads : (i : Input) → ahead i ≡ a.Reserved w.Rec → Leads (recursive part (param n) (ty n)) (advanced i) (IsForm n i)
   unfolding recursive
-  recursive_leads i e = leads_effect _ (IsForm n i) (after i) (λ q effect.
-      leads_name _ (IsForm n i) (after (after i)) (λ e'.
-      leads_on (param n) _ (λ p j. IsParam n (named (after (after i))) p.0 p.1 j) (IsForm n i) (named (after (after i))) (param_leads n (named (after (after i)))) (λ p j h.
+  recursive_leads i e = leads_effect _ (IsForm n i) (advanced i) (λ q effect.
+      leads_name _ (IsForm n i) (advanced (advanced i)) (λ e'.
+      leads_on (param n) _ (λ p j. IsParam n (named (advanced (advanced i))) p.0 p.1 j) (IsForm n i) (named (advanced (advanced i))) (param_leads n (named (advanced (advanced i)))) (λ p j h.
       leads_on (ty n) _ (IsType n j) (IsForm n i) j (ty_leads n j) (λ t k h'.
-      let own = number (after (after i)) in
+      let own = name_number (advanced (advanced i)) in
       let inner = bound p.0 (bound own k) in
       leads_on part _ (IsTerm n inner) (IsForm n i) inner (gives inner) (λ body l h''.
       leads_shut _ (IsForm n i) l (λ shut.
-      leads_pure (Tree.Lambda (record { effect = q; own = Some (record { name = own; result = t }); param = p.0; param_type = p.1 }) body) (unbound (unbound (after l))) (IsForm n i)
-      (g.rec e effect e' h h' h'' shut)))))))
+      leads_pure (Tree.Lambda (record { effect = q; own = Some (record { name = own; result = t }); param = p.0; param_type = p.1 }) body) (unbound (unbound (advanced l))) (IsForm n i)
+      (g.function (g.rec e effect e' refl h h') h'' shut)))))))
 
   -- ---- the form of a word or a symbol
 
   abbrev LeadsForm : Input → Ahead → Type 0
-  LeadsForm i next = Leads (form_by part (param n) (ty n) (form_of next)) i (IsForm n i)
+  LeadsForm i next = Leads (form_by part (param n) (ty n) (opener_of next)) i (IsForm n i)
 
   operation_leads : (s : ℕ) (i : Input) → ahead i ≡ a.Symbol s → (o : Option Op) → op_of s ≡ o
-      → Leads (form_by part (param n) (ty n) (option_map (λ op. form_.Two (two_parts_.Bin op)) o)) i (IsForm n i)
-  operation_leads s i e (Some o) e' = two_leads (two_parts_.Bin o) (IsForm n i) (after i) (λ x y j k h h' shut. g.operation e (op_is s o e') h h' shut)
+      → Leads (form_by part (param n) (ty n) (option_map (λ op. opener.Two (binary.Bin op)) o)) i (IsForm n i)
+  operation_leads s i e (Some o) e' = two_leads (binary.Bin o) (a.Symbol s) i e (g.operation (op_is s o e'))
   operation_leads s i e None e' = λ x j read. absurd (cc)
 
+  unary_leads : (word : Word) (op : Unary) (i : Input) → ahead i ≡ a.Reserved word → IsUnary word op → Leads (alone part (Tree.One op)) (advanced i) (IsForm n i)
+  unary_leads word op i e is = alone_leads (Tree.One op) (IsForm n i) (advanced i) (λ x j h shut. g.one e is h shut)
+
   word_leads : (word : Word) (i : Input) → ahead i ≡ a.Reserved word → LeadsForm i (a.Reserved word)
-  unfolding form_of
-  word_leads w.Not i e = one_leads one_part_.Not (IsForm n i) (after i) (λ x j h shut. g.negation e h shut)
-  word_leads w.Get i e = one_leads one_part_.Get (IsForm n i) (after i) (λ x j h shut. g.get e h shut)
-  word_leads w.Peek i e = one_leads one_part_.Peek (IsForm n i) (after i) (λ x j h shut. g.peek e h shut)
-  word_leads w.Async i e = one_leads one_part_.Async (IsForm n i) (after i) (λ x j h shut. g.async e h shut)
-  word_leads w.BlockUntil i e = one_leads one_part_.Block (IsForm n i) (after i) (λ x j h shut. g.block_until e h shut)
-  word_leads w.Unprotected i e = one_leads one_part_.Unprotected (IsForm n i) (after i) (λ x j h shut. IsForm.unprotected e h shut)
-  word_leads w.Print i e = one_leads one_part_.Print (IsForm n i) (after i) (λ x j h shut. g.print e h shut)
-  word_leads w.Fst i e = one_leads one_part_.First (IsForm n i) (after i) (λ x j h shut. g.fst e h shut)
-  word_leads w.Snd i e = one_leads one_part_.Second (IsForm n i) (after i) (λ x j h shut. g.snd e h shut)
-  word_leads w.App i e = two_leads two_parts_.App (IsForm n i) (after i) (λ x y j k h h' shut. g.app e h h' shut)
-  word_leads w.Set i e = two_leads two_parts_.Set (IsForm n i) (after i) (λ x y j k h h' shut. g.set e h h' shut)
-  word_leads w.Pair i e = two_leads two_parts_.Pair (IsForm n i) (after i) (λ x y j k h h' shut. g.pair e h h' shut)
+  unfolding opener_of
+  word_leads w.Not i e = unary_leads w.Not unary.Not i e g.negation
+  word_leads w.Get i e = unary_leads w.Get unary.Get i e g.get
+  word_leads w.Peek i e = unary_leads w.Peek unary.Peek i e g.peek
+  word_leads w.BlockUntil i e = unary_leads w.BlockUntil unary.Block i e g.block_until
+  word_leads w.Print i e = unary_leads w.Print unary.Print i e g.print
+  word_leads w.Fst i e = unary_leads w.Fst unary.First i e g.fst
+  word_leads w.Snd i e = unary_leads w.Snd unary.Second i e g.snd
+  word_leads w.Ref i e = reference_leads i e
+  word_leads w.Call i e = call_leads i e
+  word_leads w.App i e = two_leads binary.App _ i e g.app
+  word_leads w.Set i e = two_leads binary.Set _ i e g.set
+  word_leads w.Pair i e = two_leads binary.Pair _ i e g.pair
+  word_leads w.Async i e = alone_leads Tree.Async (IsForm n i) (advanced i) (λ x j h shut. g.async e h shut)
+  word_leads w.Unprotected i e = alone_leads Tree.Unprotected (IsForm n i) (advanced i) (λ x j h shut. IsForm.unprotected e h shut)
   word_leads w.If i e = choice_leads i e
   word_leads w.Let i e = binding_leads i e
   word_leads w.Do i e = sequence_leads i e
   word_leads w.Fn i e = function_leads i e
   word_leads w.Rec i e = recursive_leads i e
-  word_leads w.Ref i e = reference_leads i e
-  word_leads w.Call i e = call_leads i e
   word_leads _ i e = λ x j read. absurd (cc)
 
   compound_leads_by : (next : Ahead) (i : Input) → ahead i ≡ next → LeadsForm i next
-  unfolding form_of
+  unfolding opener_of
   compound_leads_by (a.Reserved word) i e = word_leads word i e
   compound_leads_by (a.Symbol s) i e = operation_leads s i e (op_of s) refl
   compound_leads_by _ i e = λ x j read. absurd (cc)
@@ -176,10 +176,10 @@ module _ (n : ℕ) (part : Parser Tree) (gives : (i : Input) → Leads part i (I
 
 constant_leads : (n : ℕ) (word : Word) (i : Input) → ahead i ≡ a.Reserved word → Leads (constant word) (marked i) (IsTerm n i)
 unfolding constant yielding
-constant_leads n w.Unit i e = leads_pure unit_tree (after (marked i)) (IsTerm n i) (g.unit e)
-constant_leads n w.True i e = leads_pure (Tree.Held (Val.Bool true)) (after (marked i)) (IsTerm n i) (g.truth e)
-constant_leads n w.False i e = leads_pure (Tree.Held (Val.Bool false)) (after (marked i)) (IsTerm n i) (g.falsehood e)
-constant_leads n w.Yield i e = leads_pure (Tree.Unprotected unit_tree) (after (marked (marked i))) (IsTerm n i) (g.yield e)
+constant_leads n w.Unit i e = leads_pure unit_tree (advanced (marked i)) (IsTerm n i) (g.unit e)
+constant_leads n w.True i e = leads_pure (Tree.Held (Val.Bool true)) (advanced (marked i)) (IsTerm n i) (g.truth e)
+constant_leads n w.False i e = leads_pure (Tree.Held (Val.Bool false)) (advanced (marked i)) (IsTerm n i) (g.falsehood e)
+constant_leads n w.Yield i e = leads_pure (Tree.Unprotected unit_tree) (advanced (marked (marked i))) (IsTerm n i) (g.yield e)
 constant_leads n _ i e = λ x j read. absurd (cc)
 
 -- a mark changes neither the next token nor what is bound
@@ -187,29 +187,29 @@ ahead_marked : (i : Input) → ahead (marked i) ≡ ahead i
 unfolding ahead marked
 ahead_marked i = refl
 
-number_marked : (i : Input) → number (marked i) ≡ number i
-unfolding number spelling marked
+number_marked : (i : Input) → name_number (marked i) ≡ name_number i
+unfolding name_number spelling marked
 number_marked i = refl
 
-binds_named : (x : ℕ) (i : Input) → binds x (named (marked i)) ≡ binds x i
-unfolding binds named marked
+binds_named : (x : ℕ) (i : Input) → binds_name x (named (marked i)) ≡ binds_name x i
+unfolding binds_name named marked
 binds_named x i = refl
 
-variable_test : (n : ℕ) (i : Input) (p : ℕ) (x : ℕ) → ahead i ≡ a.Name → number (marked i) ≡ x → (b : Bool) → binds x (named (marked i)) ≡ b
+variable_test : (n : ℕ) (i : Input) (p : ℕ) (x : ℕ) → ahead i ≡ a.Name → name_number (marked i) ≡ x → (b : Bool) → binds_name x (named (marked i)) ≡ b
     → Leads (λ j. cond b (Ok (Tree.Var x, j)) (Err (UnknownName p))) (named (marked i)) (IsTerm n i)
 variable_test n i p x e same true test =
     leads_pure (Tree.Var x) (named (marked i)) (IsTerm n i)
     (subst (λ y. IsTerm n i (Tree.Var y) (named (marked i))) (sym (number_marked i) ∙ same)
-    (g.variable e (ap (λ y. binds y i) (sym (number_marked i) ∙ same) ∙ sym (binds_named x i) ∙ test)))
+    (g.variable e (ap (λ y. binds_name y i) (sym (number_marked i) ∙ same) ∙ sym (binds_named x i) ∙ test)))
 variable_test n i p x e same false test = λ y j read. absurd (cc)
 
 variable_leads : (n : ℕ) (i : Input) → ahead i ≡ a.Name → Leads variable (marked i) (IsTerm n i)
 unfolding variable
 variable_leads n i e = leads_name _ (IsTerm n i) (marked i) (λ e'.
-    variable_test n i (place (marked i)) (number (marked i)) e refl (binds (number (marked i)) (named (marked i))) refl)
+    variable_test n i (place (marked i)) (name_number (marked i)) e refl (binds_name (name_number (marked i)) (named (marked i))) refl)
 
 atom_leads_by : (n : ℕ) (next : Ahead) (i : Input) → ahead i ≡ next → Leads (atom_by next) (marked i) (IsTerm n i)
-atom_leads_by n (a.Number value) i e = leads_pure (Tree.Held (Val.Int value)) (after (marked i)) (IsTerm n i) (g.int e)
+atom_leads_by n (a.Number value) i e = leads_pure (Tree.Held (Val.Int value)) (advanced (marked i)) (IsTerm n i) (g.int e)
 atom_leads_by n (a.Reserved word) i e = constant_leads n word i e
 atom_leads_by n a.Name i e = variable_leads n i e
 atom_leads_by n _ i e = λ x j read. absurd (cc)
@@ -231,7 +231,7 @@ term_leads_by n form forms _ i e = atom_leads n i
 nested_leads : (n : ℕ) → LeadsForms n (nested n)
 unfolding nested marked ahead
 nested_leads zero i e = λ x j read. absurd (cc)
-nested_leads (suc n) i e = λ x j read. g.form e (compound_leads n (term_of (nested n)) (λ k. term_leads_by n (nested n) (nested_leads n) (ahead k) k refl) (after (marked i)) x j read)
+nested_leads (suc n) i e = λ x j read. g.form e (compound_leads n (term_of (nested n)) (λ k. term_leads_by n (nested n) (nested_leads n) (ahead k) k refl) (advanced (marked i)) x j read)
 
 pub term_leads : (n : ℕ) (i : Input) → Leads (term n) i (IsTerm n i)
 unfolding term marked ahead

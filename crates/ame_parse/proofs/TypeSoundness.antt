@@ -6,7 +6,7 @@ use Rattle.ame_parse.specs.declared.words.Word.{Word}
 use Rattle.ame_parse.specs.declared.words.Word.TheVariants as w
 use Rattle.ame_parse.specs.declared.ahead.Ahead.{Ahead}
 use Rattle.ame_parse.specs.declared.ahead.Ahead.TheVariants as a
-use Rattle.ame_parse.specs.Input.{Input, Parser, ahead, after, number, named}
+use Rattle.ame_parse.specs.Input.{Input, Parser, ahead, advanced, name_number, named}
 use Rattle.ame_parse.specs.Types.{reference, function, pair, compound_by_word, compound_by, compound, simple, ty_by, ty_of, nested, ty, param}
 use Rattle.ame_parse.specs.Grammar as g
 use Rattle.ame_parse.specs.Grammar.{IsType, IsTypeForm, IsParam}
@@ -14,25 +14,25 @@ use Rattle.ame_parse.proofs.Steps.{Leads, leads_pure, leads_on, leads_shut, lead
 use Rattle.ame_parse.proofs.LetterSteps.{leads_sort, leads_effect}
 
 module _ (n : ℕ) (part : Parser Typ) (gives : (i : Input) → Leads part i (IsType n i)) where
-  reference_leads : (i : Input) → ahead i ≡ a.Reserved w.RefType → Leads (reference part) (after i) (IsTypeForm n i)
+  reference_leads : (i : Input) → ahead i ≡ a.Reserved w.RefType → Leads (reference part) (advanced i) (IsTypeForm n i)
   unfolding reference
-  reference_leads i e = leads_sort _ (IsTypeForm n i) (after i) (λ s sort.
-      leads_on part _ (IsType n (after (after i))) (IsTypeForm n i) (after (after i)) (gives (after (after i))) (λ x j h.
-      leads_shut _ (IsTypeForm n i) j (λ shut. leads_pure (Typ.Ref s x) (after j) (IsTypeForm n i) (g.ref_type e sort h shut))))
+  reference_leads i e = leads_sort _ (IsTypeForm n i) (advanced i) (λ s sort.
+      leads_on part _ (IsType n (advanced (advanced i))) (IsTypeForm n i) (advanced (advanced i)) (gives (advanced (advanced i))) (λ x j h.
+      leads_shut _ (IsTypeForm n i) j (λ shut. leads_pure (Typ.Ref s x) (advanced j) (IsTypeForm n i) (g.ref_type e sort h shut))))
 
-  function_leads : (i : Input) → ahead i ≡ a.Reserved w.FunType → Leads (function part) (after i) (IsTypeForm n i)
+  function_leads : (i : Input) → ahead i ≡ a.Reserved w.FunType → Leads (function part) (advanced i) (IsTypeForm n i)
   unfolding function
-  function_leads i e = leads_effect _ (IsTypeForm n i) (after i) (λ q effect.
-      leads_on part _ (IsType n (after (after i))) (IsTypeForm n i) (after (after i)) (gives (after (after i))) (λ x j h.
+  function_leads i e = leads_effect _ (IsTypeForm n i) (advanced i) (λ q effect.
+      leads_on part _ (IsType n (advanced (advanced i))) (IsTypeForm n i) (advanced (advanced i)) (gives (advanced (advanced i))) (λ x j h.
       leads_on part _ (IsType n j) (IsTypeForm n i) j (gives j) (λ y k h'.
-      leads_shut _ (IsTypeForm n i) k (λ shut. leads_pure (Typ.Fun q x y) (after k) (IsTypeForm n i) (g.fun_type e effect h h' shut)))))
+      leads_shut _ (IsTypeForm n i) k (λ shut. leads_pure (Typ.Fun q x y) (advanced k) (IsTypeForm n i) (g.fun_type e effect h h' shut)))))
 
-  pair_leads : (i : Input) → ahead i ≡ a.Reserved w.PairType → Leads (pair part) (after i) (IsTypeForm n i)
+  pair_leads : (i : Input) → ahead i ≡ a.Reserved w.PairType → Leads (pair part) (advanced i) (IsTypeForm n i)
   unfolding pair
   pair_leads i e =
-      leads_on part _ (IsType n (after i)) (IsTypeForm n i) (after i) (gives (after i)) (λ x j h.
+      leads_on part _ (IsType n (advanced i)) (IsTypeForm n i) (advanced i) (gives (advanced i)) (λ x j h.
       leads_on part _ (IsType n j) (IsTypeForm n i) j (gives j) (λ y k h'.
-      leads_shut _ (IsTypeForm n i) k (λ shut. leads_pure (Typ.Pair x y) (after k) (IsTypeForm n i) (g.pair_type e h h' shut))))
+      leads_shut _ (IsTypeForm n i) k (λ shut. leads_pure (Typ.Pair x y) (advanced k) (IsTypeForm n i) (g.pair_type e h h' shut))))
 
   word_leads : (word : Word) (i : Input) → ahead i ≡ a.Reserved word → Leads (compound_by_word part word) i (IsTypeForm n i)
   word_leads w.RefType i e = reference_leads i e
@@ -49,9 +49,9 @@ module _ (n : ℕ) (part : Parser Typ) (gives : (i : Input) → Leads part i (Is
   compound_leads i = compound_leads_by (ahead i) i refl
 
 simple_leads : (n : ℕ) (word : Word) (i : Input) → ahead i ≡ a.Reserved word → Leads (simple word) i (IsType n i)
-simple_leads n w.UnitType i e = leads_pure Typ.Unit (after i) (IsType n i) (g.unit_type e)
-simple_leads n w.BoolType i e = leads_pure Typ.Bool (after i) (IsType n i) (g.bool_type e)
-simple_leads n w.IntType i e = leads_pure Typ.Int (after i) (IsType n i) (g.int_type e)
+simple_leads n w.UnitType i e = leads_pure Typ.Unit (advanced i) (IsType n i) (g.unit_type e)
+simple_leads n w.BoolType i e = leads_pure Typ.Bool (advanced i) (IsType n i) (g.bool_type e)
+simple_leads n w.IntType i e = leads_pure Typ.Int (advanced i) (IsType n i) (g.int_type e)
 simple_leads n _ i e = λ x j read. absurd (cc)
 
 abbrev LeadsForms : ℕ → Parser Typ → Type 0
@@ -65,7 +65,7 @@ ty_leads_by n form forms _ i e = λ x j read. absurd (cc)
 nested_leads : (n : ℕ) → LeadsForms n (nested n)
 unfolding nested
 nested_leads zero i e = λ x j read. absurd (cc)
-nested_leads (suc n) i e = λ x j read. g.type_form e (compound_leads n (ty_of (nested n)) (λ k. ty_leads_by n (nested n) (nested_leads n) (ahead k) k refl) (after i) x j read)
+nested_leads (suc n) i e = λ x j read. g.type_form e (compound_leads n (ty_of (nested n)) (λ k. ty_leads_by n (nested n) (nested_leads n) (ahead k) k refl) (advanced i) x j read)
 
 pub ty_leads : (n : ℕ) (i : Input) → Leads (ty n) i (IsType n i)
 unfolding ty
@@ -77,7 +77,7 @@ more_than_none n e = let some : n ≡ 0 → ⊥ = eqb-false n 0 e in omega arith
 pub param_leads : (n : ℕ) (i : Input) → Leads (param n) i (λ p j. IsParam n i p.0 p.1 j)
 unfolding param
 param_leads n i = leads_opening n _ (λ p j. IsParam n i p.0 p.1 j) i (λ some e.
-    leads_name _ (λ p j. IsParam n i p.0 p.1 j) (after i) (λ e'.
-    leads_on (ty (n - 1)) _ (IsType (n - 1) (named (after i))) (λ p j. IsParam n i p.0 p.1 j) (named (after i)) (ty_leads (n - 1) (named (after i))) (λ t j h.
-    leads_shut _ (λ p j. IsParam n i p.0 p.1 j) j (λ shut. leads_pure (number (after i), t) (after j) (λ p j. IsParam n i p.0 p.1 j)
-    (subst (λ m. IsParam m i (number (after i)) t (after j)) (more_than_none n some) (g.param e e' h shut))))))
+    leads_name _ (λ p j. IsParam n i p.0 p.1 j) (advanced i) (λ e'.
+    leads_on (ty (n - 1)) _ (IsType (n - 1) (named (advanced i))) (λ p j. IsParam n i p.0 p.1 j) (named (advanced i)) (ty_leads (n - 1) (named (advanced i))) (λ t j h.
+    leads_shut _ (λ p j. IsParam n i p.0 p.1 j) j (λ shut. leads_pure (name_number (advanced i), t) (advanced j) (λ p j. IsParam n i p.0 p.1 j)
+    (subst (λ m. IsParam m i (name_number (advanced i)) t (advanced j)) (more_than_none n some) (g.param e e' h shut))))))

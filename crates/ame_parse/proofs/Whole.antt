@@ -9,14 +9,14 @@ use Rattle.ame_term.specs.Tree.{Tree}
 use Rattle.ame_parse.specs.declared.ahead.Ahead.TheVariants as a
 use Rattle.ame_parse.specs.declared.fault.ParseFault.{ParseFault}
 use Rattle.ame_parse.specs.declared.fault.ParseFault.TheVariants.{Expected, UnknownName, TooNested, Trailing, NoMemory}
-use Rattle.ame_parse.specs.Input.{Input, Outcome, ahead, finish_by, finish}
+use Rattle.ame_parse.specs.Input.{Input, ParseOutcome, ahead, finish_by, finish}
 use Rattle.ame_parse.specs.Seen.{start_of}
 use Rattle.ame_parse.specs.Reading.{term, max_open, program}
-use Rattle.ame_parse.specs.Text.{Source, source_by, reading_by, reading, Answers}
+use Rattle.ame_parse.specs.Text.{Source, source_by, reading_by, reading, AnswersProgram}
 use Rattle.ame_parse.specs.Grammar as g
 use Rattle.ame_parse.specs.Grammar.{IsTerm, Spells}
-use Rattle.ame_term.specs.Written.{nodes, IsWritten, IsBound}
-use Rattle.ame_parse.proofs.Facts.{term_places, term_written}
+use Rattle.ame_term.specs.SourceTerm.{nodes, IsSourceTerm, IsBound}
+use Rattle.ame_parse.proofs.Facts.{term_places, term_source}
 use Rattle.ame_parse.proofs.Bound.{term_closed}
 use Rattle.ame_parse.proofs.Steps.{Leads, leads_pure, leads_on, leads_end}
 use Rattle.ame_parse.proofs.Soundness.{term_leads}
@@ -51,7 +51,7 @@ spelled_is_read text source lexes (g.program {tokens = tokens} {tree = tree} {la
 abbrev source_of_answer : Tree × Input → Source
 source_of_answer p = record { names = p.1.names; places = p.1.places; tree = p.0 }
 
-spells_by : (text : Text) (source : Source) (tokens : List Token) → Lexes 0 text (Ok tokens) → (outcome : Outcome Tree) → program (start_of text tokens) ≡ outcome
+spells_by : (text : Text) (source : Source) (tokens : List Token) → Lexes 0 text (Ok tokens) → (outcome : ParseOutcome Tree) → program (start_of text tokens) ≡ outcome
     → source_by outcome ≡ Ok source → Spells text source
 spells_by text source tokens lexed (Ok p) e same =
     let whole = program_leads (start_of text tokens) p.0 p.1 e in
@@ -74,7 +74,7 @@ unfolding reading
 read_of_tokens text tokens i e start = ap (reading_by text) e ∙ ap (λ k. source_by (program k)) (sym start)
 
 pub fault_answers : (text : Text) (tokens : List Token) (i : Input) (fault : ParseFault) → tokens_of text ≡ Ok tokens → i ≡ start_of text tokens
-    → (fault ≢ NoMemory → program i ≡ Err fault) → Answers text (Err fault)
+    → (fault ≢ NoMemory → program i ≡ Err fault) → AnswersProgram text (Err fault)
 fault_answers text tokens i NoMemory e start h = tt
 fault_answers text tokens i (Expected place wanted) e start h = read_of_tokens text tokens i e start ∙ ap source_by (h (λ same. cc))
 fault_answers text tokens i (UnknownName place) e start h = read_of_tokens text tokens i e start ∙ ap source_by (h (λ same. cc))
@@ -87,12 +87,12 @@ program_answers text tokens i j tree e start h = read_of_tokens text tokens i e 
 
 -- what holds of a program that was read
 pub record IsProgram (tree : Tree) (places : List ℕ) : Type 0 where
-  pub places_fit : length places ≡ nodes tree
-  pub written : IsWritten tree
+  pub placed : length places ≡ nodes tree
+  pub source : IsSourceTerm tree
   pub bound : IsBound [] tree
 
 pub program_is : (text : Text) (tokens : List Token) (i j : Input) (tree : Tree) → i ≡ start_of text tokens → program i ≡ Ok (tree, j) → IsProgram tree j.places
 program_is text tokens i j tree start e =
     let none : i.places ≡ [] = ap (λ k. k.places) start in
     let whole = program_leads i tree j e in
-    record { places_fit = omega (arith, term_places whole.term, ap length none); written = term_written whole.term; bound = term_closed whole.term (ap (λ k. k.scope) start) }
+    record { placed = omega (arith, term_places whole.term, ap length none); source = term_source whole.term; bound = term_closed whole.term (ap (λ k. k.scope) start) }

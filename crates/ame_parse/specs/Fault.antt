@@ -16,7 +16,7 @@ place_of (Trailing place) = place
 place_of NoMemory = 0
 
 -- the text has these tokens, as the reading sees them
-pub record HasTokens (text : Text) (all : List Seen) : Type 0 where
+pub record HasSeenTokens (text : Text) (all : List Seen) : Type 0 where
   pub tokens : List Token
   pub lexed : tokens_of text ≡ Ok tokens
   pub seen_so : map (seen text) tokens ≡ all

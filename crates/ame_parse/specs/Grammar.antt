@@ -1,5 +1,5 @@
 -- The grammar: which term the tokens in front of an input spell, and which program a text spells.
-use Rattle.std.specs.Prelude.{◌≡◌, ℕ, suc, ◌<◌, ℤ, pos, true, false, List, [], ◌∷◌, Some, None, Ok, codes}
+use Rattle.std.specs.Prelude.{◌≡◌, ℕ, suc, ◌<◌, ℤ, pos, true, false, List, [], ◌∷◌, Option, Some, None, Ok, codes}
 use Rattle.ame_lex.specs.Bytes.{Text}
 use Rattle.ame_lex.specs.Grammar.{Lexes}
 use Rattle.ame_lex.specs.declared.tokens.Token.{Token}
@@ -9,20 +9,27 @@ use Rattle.ame_term.specs.declared.types.Effect.{Effect}
 use Rattle.ame_term.specs.declared.types.Effect.TheVariants as effects
 use Rattle.ame_term.specs.declared.types.Op.{Op}
 use Rattle.ame_term.specs.declared.types.Op.TheVariants as op
-use Rattle.ame_term.specs.Tree.{Typ, Val, Tree, unit_tree}
+use Rattle.ame_term.specs.declared.types.Unary.{Unary}
+use Rattle.ame_term.specs.declared.types.Unary.TheVariants as unary
+use Rattle.ame_term.specs.declared.types.Binary.{Binary}
+use Rattle.ame_term.specs.declared.types.Binary.TheVariants as binary
+use Rattle.ame_term.specs.Tree.{Typ, OwnName, Head, Val, Tree, unit_tree}
+use Rattle.ame_parse.specs.declared.words.Word.{Word}
 use Rattle.ame_parse.specs.declared.words.Word.TheVariants as w
+use Rattle.ame_parse.specs.declared.ahead.Ahead.{Ahead}
 use Rattle.ame_parse.specs.declared.ahead.Ahead.TheVariants as a
-use Rattle.ame_parse.specs.Input.{Input, ahead, spelling, after, marked, number, named, binds, bound, unbound}
+use Rattle.ame_parse.specs.Input.{Input, ahead, spelling, advanced, marked, name_number, named, binds_name, bound, unbound}
 use Rattle.ame_parse.specs.Seen.{start_of}
 use Rattle.ame_parse.specs.Forms.{row}
 use Rattle.ame_parse.specs.Reading.{max_open}
 use Rattle.ame_parse.specs.Text.{Source}
 
--- The next token is this sort, or this effect.
+-- The next token is this sort.
 pub data IsSort : Input → Sort → Type 0 where
   protected : {i : Input} → spelling i ≡ codes "p" → IsSort i sorts.Protected
   unprotected : {i : Input} → spelling i ≡ codes "u" → IsSort i sorts.Unprotected
 
+-- The next token is this effect.
 pub data IsEffect : Input → Effect → Type 0 where
   protected : {i : Input} → spelling i ≡ codes "p" → IsEffect i effects.Protected
   unprotected : {i : Input} → spelling i ≡ codes "u" → IsEffect i effects.Unprotected
@@ -36,84 +43,183 @@ pub data IsOp : ℕ → Op → Type 0 where
   less : IsOp 60 op.Less
   equals : IsOp 61 op.Same
 
+-- The word of a form that is a word and one part.
+pub data IsUnary : Word → Unary → Type 0 where
+  negation : IsUnary w.Not unary.Not
+  get : IsUnary w.Get unary.Get
+  peek : IsUnary w.Peek unary.Peek
+  block_until : IsUnary w.BlockUntil unary.Block
+  print : IsUnary w.Print unary.Print
+  fst : IsUnary w.Fst unary.First
+  snd : IsUnary w.Snd unary.Second
+
+-- The word or the symbol of a form with two parts.
+pub data IsBinary : Ahead → Binary → Type 0 where
+  app : IsBinary (a.Reserved w.App) binary.App
+  set : IsBinary (a.Reserved w.Set) binary.Set
+  pair : IsBinary (a.Reserved w.Pair) binary.Pair
+  operation : {symbol : ℕ} {op : Op} → IsOp symbol op → IsBinary (a.Symbol symbol) (binary.Bin op)
+
 mutual
   -- The first input begins with a type, in which at most so many parentheses are open, and goes on as the second.
   pub data IsType : ℕ → Input → Typ → Input → Type 0 where
-    unit_type : {n : ℕ} {i : Input} → ahead i ≡ a.Reserved w.UnitType → IsType n i Typ.Unit (after i)
-    bool_type : {n : ℕ} {i : Input} → ahead i ≡ a.Reserved w.BoolType → IsType n i Typ.Bool (after i)
-    int_type : {n : ℕ} {i : Input} → ahead i ≡ a.Reserved w.IntType → IsType n i Typ.Int (after i)
-    type_form : {n : ℕ} {i j : Input} {type : Typ} → ahead i ≡ a.Opening → IsTypeForm n (after i) type j → IsType (suc n) i type j
+    unit_type : {n : ℕ} {i : Input} → ahead i ≡ a.Reserved w.UnitType → IsType n i Typ.Unit (advanced i)
+    bool_type : {n : ℕ} {i : Input} → ahead i ≡ a.Reserved w.BoolType → IsType n i Typ.Bool (advanced i)
+    int_type : {n : ℕ} {i : Input} → ahead i ≡ a.Reserved w.IntType → IsType n i Typ.Int (advanced i)
+    type_form : {n : ℕ} {i j : Input} {type : Typ}
+        → ahead i ≡ a.Opening
+        → IsTypeForm n (advanced i) type j
+        → IsType (suc n) i type j
 
   -- The same of a type after its opening parenthesis.
   pub data IsTypeForm : ℕ → Input → Typ → Input → Type 0 where
-    ref_type : {n : ℕ} {i j : Input} {sort : Sort} {content : Typ} → ahead i ≡ a.Reserved w.RefType → IsSort (after i) sort
-        → IsType n (after (after i)) content j → ahead j ≡ a.Closing → IsTypeForm n i (Typ.Ref sort content) (after j)
-    fun_type : {n : ℕ} {i j k : Input} {effect : Effect} {param gives : Typ} → ahead i ≡ a.Reserved w.FunType → IsEffect (after i) effect
-        → IsType n (after (after i)) param j → IsType n j gives k → ahead k ≡ a.Closing → IsTypeForm n i (Typ.Fun effect param gives) (after k)
-    pair_type : {n : ℕ} {i j k : Input} {first second : Typ} → ahead i ≡ a.Reserved w.PairType
-        → IsType n (after i) first j → IsType n j second k → ahead k ≡ a.Closing → IsTypeForm n i (Typ.Pair first second) (after k)
+    ref_type : {n : ℕ} {i j : Input} {sort : Sort} {content : Typ}
+        → ahead i ≡ a.Reserved w.RefType
+        → IsSort (advanced i) sort
+        → IsType n (advanced (advanced i)) content j
+        → ahead j ≡ a.Closing
+        → IsTypeForm n i (Typ.Ref sort content) (advanced j)
+    fun_type : {n : ℕ} {i j k : Input} {effect : Effect} {param gives : Typ}
+        → ahead i ≡ a.Reserved w.FunType
+        → IsEffect (advanced i) effect
+        → IsType n (advanced (advanced i)) param j
+        → IsType n j gives k
+        → ahead k ≡ a.Closing
+        → IsTypeForm n i (Typ.Fun effect param gives) (advanced k)
+    pair_type : {n : ℕ} {i j k : Input} {first second : Typ}
+        → ahead i ≡ a.Reserved w.PairType
+        → IsType n (advanced i) first j
+        → IsType n j second k
+        → ahead k ≡ a.Closing
+        → IsTypeForm n i (Typ.Pair first second) (advanced k)
 
 -- The same of a parameter, with the number of its name and its type.
 pub data IsParam : ℕ → Input → ℕ → Typ → Input → Type 0 where
-  param : {n : ℕ} {i j : Input} {type : Typ} → ahead i ≡ a.Opening → ahead (after i) ≡ a.Name → IsType n (named (after i)) type j
-      → ahead j ≡ a.Closing → IsParam (suc n) i (number (after i)) type (after j)
+  param : {n : ℕ} {i j : Input} {type : Typ}
+      → ahead i ≡ a.Opening
+      → ahead (advanced i) ≡ a.Name
+      → IsType n (named (advanced i)) type j
+      → ahead j ≡ a.Closing
+      → IsParam (suc n) i (name_number (advanced i)) type (advanced j)
+
+-- The same of all of a function form that stands before its body. Its names are bound in the second input.
+pub data IsHead : ℕ → Input → Head → Input → Type 0 where
+  fn : {n : ℕ} {i j : Input} {effect : Effect} {x : ℕ} {type : Typ}
+      → ahead i ≡ a.Reserved w.Fn
+      → IsEffect (advanced i) effect
+      → IsParam n (advanced (advanced i)) x type j
+      → IsHead n i (record { effect = effect; own = None; param = x; param_type = type }) (bound x j)
+  -- the parameter is bound within the own name, so it hides it where they are the same
+  rec : {n own : ℕ} {i j k : Input} {effect : Effect} {x : ℕ} {type gives : Typ}
+      → ahead i ≡ a.Reserved w.Rec
+      → IsEffect (advanced i) effect
+      → ahead (advanced (advanced i)) ≡ a.Name
+      → name_number (advanced (advanced i)) ≡ own
+      → IsParam n (named (advanced (advanced i))) x type j
+      → IsType n j gives k
+      → IsHead n i (record { effect = effect; own = Some (record { name = own; result = gives }); param = x; param_type = type }) (bound x (bound own k))
+
+-- the input behind a function form, whose names are no longer bound
+abbrev pub outside : Option OwnName → Input → Input
+outside None i = unbound i
+outside (Some own) i = unbound (unbound i)
 
 mutual
   -- The first input begins with a term, in which at most so many parentheses are open, and goes on as the second.
   pub data IsTerm : ℕ → Input → Tree → Input → Type 0 where
-    int : {n : ℕ} {i : Input} {value : ℤ} → ahead i ≡ a.Number value → IsTerm n i (Tree.Held (Val.Int value)) (after (marked i))
-    unit : {n : ℕ} {i : Input} → ahead i ≡ a.Reserved w.Unit → IsTerm n i unit_tree (after (marked i))
-    truth : {n : ℕ} {i : Input} → ahead i ≡ a.Reserved w.True → IsTerm n i (Tree.Held (Val.Bool true)) (after (marked i))
-    falsehood : {n : ℕ} {i : Input} → ahead i ≡ a.Reserved w.False → IsTerm n i (Tree.Held (Val.Bool false)) (after (marked i))
+    int : {n : ℕ} {i : Input} {value : ℤ} → ahead i ≡ a.Number value → IsTerm n i (Tree.Held (Val.Int value)) (advanced (marked i))
+    unit : {n : ℕ} {i : Input} → ahead i ≡ a.Reserved w.Unit → IsTerm n i unit_tree (advanced (marked i))
+    truth : {n : ℕ} {i : Input} → ahead i ≡ a.Reserved w.True → IsTerm n i (Tree.Held (Val.Bool true)) (advanced (marked i))
+    falsehood : {n : ℕ} {i : Input} → ahead i ≡ a.Reserved w.False → IsTerm n i (Tree.Held (Val.Bool false)) (advanced (marked i))
     -- two nodes at one place
-    yield : {n : ℕ} {i : Input} → ahead i ≡ a.Reserved w.Yield → IsTerm n i (Tree.Unprotected unit_tree) (after (marked (marked i)))
-    variable : {n : ℕ} {i : Input} → ahead i ≡ a.Name → binds (number i) i ≡ true → IsTerm n i (Tree.Var (number i)) (named (marked i))
-    form : {n : ℕ} {i j : Input} {tree : Tree} → ahead i ≡ a.Opening → IsForm n (after (marked i)) tree j → IsTerm (suc n) i tree j
+    yield : {n : ℕ} {i : Input} → ahead i ≡ a.Reserved w.Yield → IsTerm n i (Tree.Unprotected unit_tree) (advanced (marked (marked i)))
+    variable : {n : ℕ} {i : Input}
+        → ahead i ≡ a.Name
+        → binds_name (name_number i) i ≡ true
+        → IsTerm n i (Tree.Var (name_number i)) (named (marked i))
+    form : {n : ℕ} {i j : Input} {tree : Tree}
+        → ahead i ≡ a.Opening
+        → IsForm n (advanced (marked i)) tree j
+        → IsTerm (suc n) i tree j
 
   -- The same of a form after its opening parenthesis.
   pub data IsForm : ℕ → Input → Tree → Input → Type 0 where
-    fn : {n : ℕ} {i j k : Input} {effect : Effect} {x : ℕ} {type : Typ} {body : Tree} → ahead i ≡ a.Reserved w.Fn → IsEffect (after i) effect
-        → IsParam n (after (after i)) x type j → IsTerm n (bound x j) body k → ahead k ≡ a.Closing
-        → IsForm n i (Tree.Lambda (record { effect = effect; own = None; param = x; param_type = type }) body) (unbound (after k))
-    -- the parameter is bound within the own name, so it hides it where they are the same
-    rec : {n : ℕ} {i j k l : Input} {effect : Effect} {x : ℕ} {type gives : Typ} {body : Tree} → ahead i ≡ a.Reserved w.Rec → IsEffect (after i) effect
-        → ahead (after (after i)) ≡ a.Name → IsParam n (named (after (after i))) x type j → IsType n j gives k
-        → IsTerm n (bound x (bound (number (after (after i))) k)) body l → ahead l ≡ a.Closing
-        → IsForm n i (Tree.Lambda (record { effect = effect; own = Some (record { name = number (after (after i)); result = gives }); param = x; param_type = type }) body) (unbound (unbound (after l)))
-    app : {n : ℕ} {i j k : Input} {first second : Tree} → ahead i ≡ a.Reserved w.App → IsTerm n (after i) first j → IsTerm n j second k
-        → ahead k ≡ a.Closing → IsForm n i (Tree.App first second) (after k)
-    bind : {n : ℕ} {i j k : Input} {value body : Tree} → ahead i ≡ a.Reserved w.Let → ahead (after i) ≡ a.Name → IsTerm n (named (after i)) value j
-        → IsTerm n (bound (number (after i)) j) body k → ahead k ≡ a.Closing → IsForm n i (Tree.Let (number (after i)) value body) (unbound (after k))
-    sequence : {n : ℕ} {i j k l : Input} {first second : Tree} {others : List Tree} → ahead i ≡ a.Reserved w.Do → IsTerm n (after i) first j → IsTerm n j second k
-        → AreParts n k others l → ahead l ≡ a.Closing → IsForm n i (Tree.Do (row (first ∷ second ∷ others))) (after l)
-    choice : {n : ℕ} {i j k l : Input} {test first second : Tree} → ahead i ≡ a.Reserved w.If → IsTerm n (after i) test j → IsTerm n j first k → IsTerm n k second l
-        → ahead l ≡ a.Closing → IsForm n i (Tree.If test first second) (after l)
-    operation : {n symbol : ℕ} {op : Op} {i j k : Input} {first second : Tree} → ahead i ≡ a.Symbol symbol → IsOp symbol op → IsTerm n (after i) first j → IsTerm n j second k
-        → ahead k ≡ a.Closing → IsForm n i (Tree.Bin op first second) (after k)
-    negation : {n : ℕ} {i j : Input} {part : Tree} → ahead i ≡ a.Reserved w.Not → IsTerm n (after i) part j → ahead j ≡ a.Closing → IsForm n i (Tree.Not part) (after j)
-    ref : {n : ℕ} {i j : Input} {sort : Sort} {part : Tree} → ahead i ≡ a.Reserved w.Ref → IsSort (after i) sort → IsTerm n (after (after i)) part j
-        → ahead j ≡ a.Closing → IsForm n i (Tree.Ref sort part) (after j)
-    get : {n : ℕ} {i j : Input} {part : Tree} → ahead i ≡ a.Reserved w.Get → IsTerm n (after i) part j → ahead j ≡ a.Closing → IsForm n i (Tree.Get part) (after j)
-    peek : {n : ℕ} {i j : Input} {part : Tree} → ahead i ≡ a.Reserved w.Peek → IsTerm n (after i) part j → ahead j ≡ a.Closing → IsForm n i (Tree.Peek part) (after j)
-    set : {n : ℕ} {i j k : Input} {first second : Tree} → ahead i ≡ a.Reserved w.Set → IsTerm n (after i) first j → IsTerm n j second k
-        → ahead k ≡ a.Closing → IsForm n i (Tree.Set first second) (after k)
-    async : {n : ℕ} {i j : Input} {part : Tree} → ahead i ≡ a.Reserved w.Async → IsTerm n (after i) part j → ahead j ≡ a.Closing → IsForm n i (Tree.Async part) (after j)
-    block_until : {n : ℕ} {i j : Input} {part : Tree} → ahead i ≡ a.Reserved w.BlockUntil → IsTerm n (after i) part j → ahead j ≡ a.Closing → IsForm n i (Tree.Block part) (after j)
-    unprotected : {n : ℕ} {i j : Input} {part : Tree} → ahead i ≡ a.Reserved w.Unprotected → IsTerm n (after i) part j → ahead j ≡ a.Closing → IsForm n i (Tree.Unprotected part) (after j)
-    print : {n : ℕ} {i j : Input} {part : Tree} → ahead i ≡ a.Reserved w.Print → IsTerm n (after i) part j → ahead j ≡ a.Closing → IsForm n i (Tree.Print part) (after j)
-    call : {n device : ℕ} {i j : Input} {part : Tree} → ahead i ≡ a.Reserved w.Call → ahead (after i) ≡ a.Number (pos device) → device < 256 → IsTerm n (after (after i)) part j
-        → ahead j ≡ a.Closing → IsForm n i (Tree.Call device part) (after j)
-    pair : {n : ℕ} {i j k : Input} {first second : Tree} → ahead i ≡ a.Reserved w.Pair → IsTerm n (after i) first j → IsTerm n j second k
-        → ahead k ≡ a.Closing → IsForm n i (Tree.Pairing first second) (after k)
-    fst : {n : ℕ} {i j : Input} {part : Tree} → ahead i ≡ a.Reserved w.Fst → IsTerm n (after i) part j → ahead j ≡ a.Closing → IsForm n i (Tree.First part) (after j)
-    snd : {n : ℕ} {i j : Input} {part : Tree} → ahead i ≡ a.Reserved w.Snd → IsTerm n (after i) part j → ahead j ≡ a.Closing → IsForm n i (Tree.Second part) (after j)
+    function : {n : ℕ} {i j k : Input} {head : Head} {body : Tree}
+        → IsHead n i head j
+        → IsTerm n j body k
+        → ahead k ≡ a.Closing
+        → IsForm n i (Tree.Lambda head body) (outside head.own (advanced k))
+    binding : {n x : ℕ} {i j k : Input} {value body : Tree}
+        → ahead i ≡ a.Reserved w.Let
+        → ahead (advanced i) ≡ a.Name
+        → name_number (advanced i) ≡ x
+        → IsTerm n (named (advanced i)) value j
+        → IsTerm n (bound x j) body k
+        → ahead k ≡ a.Closing
+        → IsForm n i (Tree.Let x value body) (unbound (advanced k))
+    sequence : {n : ℕ} {i j k l : Input} {first second : Tree} {others : List Tree}
+        → ahead i ≡ a.Reserved w.Do
+        → IsTerm n (advanced i) first j
+        → IsTerm n j second k
+        → AreParts n k others l
+        → ahead l ≡ a.Closing
+        → IsForm n i (Tree.Do (row (first ∷ second ∷ others))) (advanced l)
+    choice : {n : ℕ} {i j k l : Input} {test first second : Tree}
+        → ahead i ≡ a.Reserved w.If
+        → IsTerm n (advanced i) test j
+        → IsTerm n j first k
+        → IsTerm n k second l
+        → ahead l ≡ a.Closing
+        → IsForm n i (Tree.If test first second) (advanced l)
+    one : {n : ℕ} {i j : Input} {word : Word} {op : Unary} {part : Tree}
+        → ahead i ≡ a.Reserved word
+        → IsUnary word op
+        → IsTerm n (advanced i) part j
+        → ahead j ≡ a.Closing
+        → IsForm n i (Tree.One op part) (advanced j)
+    ref : {n : ℕ} {i j : Input} {sort : Sort} {part : Tree}
+        → ahead i ≡ a.Reserved w.Ref
+        → IsSort (advanced i) sort
+        → IsTerm n (advanced (advanced i)) part j
+        → ahead j ≡ a.Closing
+        → IsForm n i (Tree.One (unary.Ref sort) part) (advanced j)
+    call : {n device : ℕ} {i j : Input} {part : Tree}
+        → ahead i ≡ a.Reserved w.Call
+        → ahead (advanced i) ≡ a.Number (pos device)
+        → device < 256
+        → IsTerm n (advanced (advanced i)) part j
+        → ahead j ≡ a.Closing
+        → IsForm n i (Tree.One (unary.Call device) part) (advanced j)
+    two : {n : ℕ} {i j k : Input} {next : Ahead} {op : Binary} {first second : Tree}
+        → ahead i ≡ next
+        → IsBinary next op
+        → IsTerm n (advanced i) first j
+        → IsTerm n j second k
+        → ahead k ≡ a.Closing
+        → IsForm n i (Tree.Two op first second) (advanced k)
+    async : {n : ℕ} {i j : Input} {part : Tree}
+        → ahead i ≡ a.Reserved w.Async
+        → IsTerm n (advanced i) part j
+        → ahead j ≡ a.Closing
+        → IsForm n i (Tree.Async part) (advanced j)
+    unprotected : {n : ℕ} {i j : Input} {part : Tree}
+        → ahead i ≡ a.Reserved w.Unprotected
+        → IsTerm n (advanced i) part j
+        → ahead j ≡ a.Closing
+        → IsForm n i (Tree.Unprotected part) (advanced j)
 
   -- The same of the parts of a form up to its closing parenthesis.
   pub data AreParts : ℕ → Input → List Tree → Input → Type 0 where
     none : {n : ℕ} {i : Input} → ahead i ≡ a.Closing → AreParts n i [] i
-    more : {n : ℕ} {i j k : Input} {part : Tree} {others : List Tree} → IsTerm n i part j → AreParts n j others k → AreParts n i (part ∷ others) k
+    more : {n : ℕ} {i j k : Input} {part : Tree} {others : List Tree}
+        → IsTerm n i part j
+        → AreParts n j others k
+        → AreParts n i (part ∷ others) k
 
 -- The tokens of a text are those of a term, with nothing after it.
 pub data Spells : Text → Source → Type 0 where
-  program : {text : Text} {tokens : List Token} {tree : Tree} {last : Input} → Lexes 0 text (Ok tokens) → IsTerm max_open (start_of text tokens) tree last
-      → ahead last ≡ a.End → Spells text (record { names = last.names; places = last.places; tree = tree })
+  program : {text : Text} {tokens : List Token} {tree : Tree} {last : Input}
+      → Lexes 0 text (Ok tokens)
+      → IsTerm max_open (start_of text tokens) tree last
+      → ahead last ≡ a.End
+      → Spells text (record { names = last.names; places = last.places; tree = tree })

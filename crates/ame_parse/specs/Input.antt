@@ -68,19 +68,19 @@ unfoldable pub spelling : Input → Text
 spelling i = spelling_in i.rest
 
 -- the input after the next token
-unfoldable pub after : Input → Input
-after i = record i { rest = drop 1 i.rest }
+unfoldable pub advanced : Input → Input
+advanced i = record i { rest = drop 1 i.rest }
 
 -- the number of the name that comes next, and the input after it
-unfoldable pub number : Input → ℕ
-number i = number_in i.names (spelling i)
+unfoldable pub name_number : Input → ℕ
+name_number i = number_in i.names (spelling i)
 
 unfoldable pub named : Input → Input
 named i = record i { rest = drop 1 i.rest; names = with_name i.names (spelling i) }
 
 -- whether a name is bound here
-unfoldable pub binds : ℕ → Input → Bool
-binds x i = list_any (λ y. y == x) i.scope
+unfoldable pub binds_name : ℕ → Input → Bool
+binds_name x i = list_any (λ y. y == x) i.scope
 
 -- the input with a name bound, and with the innermost one no longer bound
 unfoldable pub bound : ℕ → Input → Input
@@ -90,18 +90,18 @@ unfoldable pub unbound : Input → Input
 unbound i = record i { scope = take (length i.scope - 1) i.scope }
 
 -- how many tokens are left
-unfoldable pub left : Input → ℕ
-left i = length i.rest
+unfoldable pub tokens_left : Input → ℕ
+tokens_left i = length i.rest
 
 -- ---- parsers
 
-abbrev pub Outcome : Type 0 → Type 0
-Outcome A = Result (A × Input) ParseFault
+abbrev pub ParseOutcome : Type 0 → Type 0
+ParseOutcome A = Result (A × Input) ParseFault
 
 abbrev pub Parser : Type 0 → Type 0
-Parser A = Input → Outcome A
+Parser A = Input → ParseOutcome A
 
-abbrev pub and_then : {A B : Type 0} → Outcome A → (A → Parser B) → Outcome B
+abbrev pub and_then : {A B : Type 0} → ParseOutcome A → (A → Parser B) → ParseOutcome B
 and_then (Ok p) f = f p.0 p.1
 and_then (Err fault) f = Err fault
 
@@ -125,7 +125,7 @@ peek = λ i. Ok (ahead i, i)
 
 -- takes the next token
 abbrev pub advance : Parser (Unit {0})
-advance = λ i. Ok (tt, after i)
+advance = λ i. Ok (tt, advanced i)
 
 -- a node begins at the next token
 unfoldable pub marked : Input → Input
@@ -158,14 +158,14 @@ unfoldable pub opening : ℕ → Parser (Unit {0})
 opening n = peek >>= opening_by n
 
 abbrev pub name_by : Ahead → Parser ℕ
-name_by a.Name = λ i. Ok (number i, named i)
+name_by a.Name = λ i. Ok (name_number i, named i)
 name_by _ = expected want.Name
 
 unfoldable pub name : Parser ℕ
 name = peek >>= name_by
 
-abbrev pub bind : ℕ → Parser (Unit {0})
-bind x = λ i. Ok (tt, bound x i)
+abbrev pub bind_name : ℕ → Parser (Unit {0})
+bind_name x = λ i. Ok (tt, bound x i)
 
 abbrev pub unbind : Parser (Unit {0})
 unbind = λ i. Ok (tt, unbound i)
@@ -180,6 +180,6 @@ finish = peek >>= finish_by
 
 -- ---- what a function that reads ensures: the parser's outcome, unless memory runs out
 
-abbrev pub Reads : {A B : Type 0} → (B → A) → Outcome A → Result B ParseFault → Input → Type 0
+abbrev pub Reads : {A B : Type 0} → (B → A) → ParseOutcome A → Result B ParseFault → Input → Type 0
 Reads view outcome (Ok b) new = outcome ≡ Ok (view b, new)
 Reads view outcome (Err fault) new = fault ≢ NoMemory → outcome ≡ Err fault

@@ -14,8 +14,8 @@ use Rattle.ame_parse.specs.Input.{Parser, ◌>>◌, pure, expected, advance, ahe
 unfoldable pub sort_of : Text → Option Sort
 sort_of word = if bytes_eq word (codes "p") then Some sorts.Protected else (if bytes_eq word (codes "u") then Some sorts.Unprotected else None)
 
-unfoldable pub effect_of : Text → Option Effect
-effect_of word =
+unfoldable pub effect_named : Text → Option Effect
+effect_named word =
     if bytes_eq word (codes "p") then Some effects.Protected
     else (if bytes_eq word (codes "u") then Some effects.Unprotected
     else (if bytes_eq word (codes "a") then Some effects.Either
@@ -41,8 +41,8 @@ abbrev pub effect_by : Option Effect → Parser Effect
 effect_by (Some found) = advance >> pure found
 effect_by None = expected want.Effect
 
-unfoldable pub effect : Parser Effect
-effect = λ i. effect_by (effect_of (spelling i)) i
+unfoldable pub effect_word : Parser Effect
+effect_word = λ i. effect_by (effect_named (spelling i)) i
 
 abbrev pub device_by : Option ℕ → Parser ℕ
 device_by (Some found) = advance >> pure found

@@ -1,5 +1,7 @@
 -- The program of a list of tokens, computed: what is read, or the first fault.
 use Rattle.std.specs.Prelude.{ℕ, zero, suc, if◌then◌else◌, true, false, List, [], ◌∷◌, ◌++◌, Option, Some, None, Ok, Err}
+use Rattle.ame_term.specs.declared.types.Unary.TheVariants as unary
+use Rattle.ame_term.specs.declared.types.Binary.{Binary}
 use Rattle.ame_term.specs.Tree.{Typ, Val, Tree, unit_tree}
 use Rattle.ame_parse.specs.declared.words.Word.{Word}
 use Rattle.ame_parse.specs.declared.words.Word.TheVariants as w
@@ -7,31 +9,44 @@ use Rattle.ame_parse.specs.declared.ahead.Ahead.{Ahead}
 use Rattle.ame_parse.specs.declared.ahead.Ahead.TheVariants as a
 use Rattle.ame_parse.specs.declared.fault.Want.TheVariants as want
 use Rattle.ame_parse.specs.declared.fault.ParseFault.TheVariants.{UnknownName, TooNested}
-use Rattle.ame_parse.specs.declared.forms.OnePart.{OnePart}
-use Rattle.ame_parse.specs.declared.forms.TwoParts.{TwoParts}
-use Rattle.ame_parse.specs.declared.forms.Form.{Form}
-use Rattle.ame_parse.specs.declared.forms.Form.TheVariants as form
-use Rattle.ame_parse.specs.Forms.{form_of, one_part, two_parts, row}
-use Rattle.ame_parse.specs.Input.{Parser, ◌>>=◌, ◌>>◌, pure, expected, peek, place, advance, mark, closing, sees_closing, name, binds, bind, unbind, left, finish}
-use Rattle.ame_parse.specs.Letters.{sort, effect, device}
+use Rattle.ame_parse.specs.declared.forms.Opener.{Opener}
+use Rattle.ame_parse.specs.declared.forms.Opener.TheVariants as opener
+use Rattle.ame_parse.specs.Forms.{opener_of, row}
+use Rattle.ame_parse.specs.Input.{Parser, ◌>>=◌, ◌>>◌, pure, expected, peek, place, advance, mark, closing, sees_closing, name, binds_name, bind_name, unbind, tokens_left, finish}
+use Rattle.ame_parse.specs.Letters.{sort, effect_word, device}
 use Rattle.ame_parse.specs.Types.{ty, param}
 
 -- ---- the forms, over parsers of their terms, parameters and types
 
 module _ (part : Parser Tree) where
-  unfoldable pub one : OnePart → Parser Tree
-  one form = do
+  -- one part, and the tree over it
+  unfoldable pub alone : (Tree → Tree) → Parser Tree
+  alone build = do
     x ← part
     closing
-    pure (one_part form x)
+    pure (build x)
 
-  unfoldable pub two : TwoParts → Parser Tree
-  two form = do
+  -- the sort of the reference stands before the part
+  unfoldable pub reference : Parser Tree
+  reference = do
+    which ← sort
+    alone (Tree.One (unary.Ref which))
+
+  -- the number of the device stands before the part
+  unfoldable pub call : Parser Tree
+  call = do
+    which ← device
+    alone (Tree.One (unary.Call which))
+
+  -- two parts
+  unfoldable pub two : Binary → Parser Tree
+  two op = do
     first ← part
     second ← part
     closing
-    pure (two_parts form first second)
+    pure (Tree.Two op first second)
 
+  -- a test and two parts
   unfoldable pub choice : Parser Tree
   choice = do
     test ← part
@@ -40,11 +55,12 @@ module _ (part : Parser Tree) where
     closing
     pure (Tree.If test then_part else_part)
 
+  -- a name, and what it stands for in the part after
   unfoldable pub binding : Parser Tree
   binding = do
     x ← name
     bound ← part
-    bind x
+    bind_name x
     body ← part
     closing
     unbind
@@ -57,9 +73,11 @@ module _ (part : Parser Tree) where
     ends ← sees_closing
     if ends then pure found else (do x ← part; more_from n (found ++ x ∷ []))
 
+  -- the same, with the count of tokens that are left
   unfoldable pub more : List Tree → Parser (List Tree)
-  more found = λ i. more_from (left i) found i
+  more found = λ i. more_from (tokens_left i) found i
 
+  -- the first two parts of a `do` form
   unfoldable pub first_two : Parser (List Tree)
   first_two = do
     first ← part
@@ -74,67 +92,58 @@ module _ (part : Parser Tree) where
     closing
     pure (Tree.Do (row parts))
 
-  unfoldable pub reference : Parser Tree
-  reference = do
-    which ← sort
-    content ← part
-    closing
-    pure (Tree.Ref which content)
-
-  unfoldable pub call : Parser Tree
-  call = do
-    number ← device
-    x ← part
-    closing
-    pure (Tree.Call number x)
-
   module _ (parameter : Parser (ℕ × Typ)) where
+    -- a function without an own name
     unfoldable pub function : Parser Tree
     function = do
-      under ← effect
+      under ← effect_word
       p ← parameter
-      bind p.0
+      bind_name p.0
       body ← part
       closing
       unbind
       pure (Tree.Lambda (record { effect = under; own = None; param = p.0; param_type = p.1 }) body)
 
     module _ (type : Parser Typ) where
+      -- a function that may call itself by its own name
       unfoldable pub recursive : Parser Tree
       recursive = do
-        under ← effect
+        under ← effect_word
         own ← name
         p ← parameter
         gives ← type
-        bind own
-        bind p.0
+        bind_name own
+        bind_name p.0
         body ← part
         closing
         unbind
         unbind
         pure (Tree.Lambda (record { effect = under; own = Some (record { name = own; result = gives }); param = p.0; param_type = p.1 }) body)
 
-      abbrev pub form_by : Option Form → Parser Tree
-      form_by (Some (form.One which)) = advance >> one which
-      form_by (Some (form.Two which)) = advance >> two which
-      form_by (Some form.If) = advance >> choice
-      form_by (Some form.Let) = advance >> binding
-      form_by (Some form.Do) = advance >> sequence
-      form_by (Some form.Fn) = advance >> function
-      form_by (Some form.Rec) = advance >> recursive
-      form_by (Some form.Ref) = advance >> reference
-      form_by (Some form.Call) = advance >> call
+      -- what goes on after the word or the symbol
+      abbrev pub form_by : Option Opener → Parser Tree
+      form_by (Some (opener.One op)) = advance >> alone (Tree.One op)
+      form_by (Some opener.Ref) = advance >> reference
+      form_by (Some opener.Call) = advance >> call
+      form_by (Some (opener.Two op)) = advance >> two op
+      form_by (Some opener.Async) = advance >> alone Tree.Async
+      form_by (Some opener.Unprotected) = advance >> alone Tree.Unprotected
+      form_by (Some opener.If) = advance >> choice
+      form_by (Some opener.Let) = advance >> binding
+      form_by (Some opener.Do) = advance >> sequence
+      form_by (Some opener.Fn) = advance >> function
+      form_by (Some opener.Rec) = advance >> recursive
       form_by None = expected want.Form
 
       -- after the opening parenthesis
       unfoldable pub compound : Parser Tree
-      compound = peek >>= (λ next. form_by (form_of next))
+      compound = peek >>= (λ next. form_by (opener_of next))
 
 -- ---- terms
 
 -- a name that is bound
 unfoldable pub variable : Parser Tree
-variable = λ i. (name >>= (λ x j. if binds x j then Ok (Tree.Var x, j) else Err (UnknownName (place i)))) i
+variable = λ i. (name >>= (λ x j. if binds_name x j then Ok (Tree.Var x, j) else Err (UnknownName (place i)))) i
 
 -- two nodes at one place
 unfoldable pub yielding : Parser Tree
@@ -155,6 +164,7 @@ atom_by (a.Reserved word) = constant word
 atom_by a.Name = variable
 atom_by _ = expected want.Term
 
+-- a term of one token, by what comes next
 unfoldable pub atom : Parser Tree
 atom = peek >>= atom_by
 
@@ -163,6 +173,7 @@ abbrev pub term_by : Parser Tree → Ahead → Parser Tree
 term_by form a.Opening = form
 term_by form _ = atom
 
+-- the place of the term, and the term
 abbrev pub term_of : Parser Tree → Parser Tree
 term_of form = mark >> peek >>= term_by form
 
@@ -181,6 +192,7 @@ term n = term_of (nested n)
 abbrev pub max_open : ℕ
 max_open = 200
 
+-- a term, and nothing after it
 unfoldable pub program : Parser Tree
 program = do
   tree ← term max_open

@@ -9,7 +9,7 @@ use Rattle.ame_term.specs.View.{tree_of}
 use Rattle.ame_term.specs.declared.program.Program.{Program}
 use Rattle.ame_parse.specs.declared.fault.ParseFault.{ParseFault}
 use Rattle.ame_parse.specs.declared.fault.ParseFault.TheVariants.{NoMemory}
-use Rattle.ame_parse.specs.Input.{Outcome}
+use Rattle.ame_parse.specs.Input.{ParseOutcome}
 use Rattle.ame_parse.specs.Seen.{start_of}
 use Rattle.ame_parse.specs.Reading.{program}
 
@@ -24,24 +24,24 @@ abbrev pub source_of : Program → Source
 source_of p = record { names = map (λ name. name.items) p.names.items; places = p.places.items; tree = tree_of p.term }
 
 -- why a text is no program: by its bytes, or by its tokens
-pub data Fault : Type 0 where
-  Lexical : LexFault → Fault
-  Syntactic : ParseFault → Fault
+pub data TextFault : Type 0 where
+  Lexical : LexFault → TextFault
+  Syntactic : ParseFault → TextFault
 
-abbrev pub source_by : Outcome Tree → Result Source Fault
+abbrev pub source_by : ParseOutcome Tree → Result Source TextFault
 source_by (Ok (tree, i)) = Ok (record { names = i.names; places = i.places; tree = tree })
-source_by (Err fault) = Err (Fault.Syntactic fault)
+source_by (Err fault) = Err (TextFault.Syntactic fault)
 
-abbrev pub reading_by : Text → Result (List Token) LexFault → Result Source Fault
+abbrev pub reading_by : Text → Result (List Token) LexFault → Result Source TextFault
 reading_by text (Ok tokens) = source_by (program (start_of text tokens))
-reading_by text (Err fault) = Err (Fault.Lexical fault)
+reading_by text (Err fault) = Err (TextFault.Lexical fault)
 
 -- the program of a text, or its first fault; a fault of the bytes comes before all others
-unfoldable pub reading : Text → Result Source Fault
+unfoldable pub reading : Text → Result Source TextFault
 reading text = reading_by text (tokens_of text)
 
 -- what was answered is what is read of the text, unless memory ran out
-abbrev pub Answers : Text → Result Program ParseFault → Type 0
-Answers text (Ok program) = reading text ≡ Ok (source_of program)
-Answers text (Err NoMemory) = ⊤
-Answers text (Err fault) = reading text ≡ Err (Fault.Syntactic fault)
+abbrev pub AnswersProgram : Text → Result Program ParseFault → Type 0
+AnswersProgram text (Ok program) = reading text ≡ Ok (source_of program)
+AnswersProgram text (Err NoMemory) = ⊤
+AnswersProgram text (Err fault) = reading text ≡ Err (TextFault.Syntactic fault)

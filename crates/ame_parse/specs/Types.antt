@@ -8,7 +8,7 @@ use Rattle.ame_parse.specs.declared.ahead.Ahead.TheVariants as a
 use Rattle.ame_parse.specs.declared.fault.Want.TheVariants as want
 use Rattle.ame_parse.specs.declared.fault.ParseFault.TheVariants.{TooNested}
 use Rattle.ame_parse.specs.Input.{Parser, ◌>>=◌, ◌>>◌, pure, expected, peek, place, advance, closing, opening, name}
-use Rattle.ame_parse.specs.Letters.{sort, effect}
+use Rattle.ame_parse.specs.Letters.{sort, effect_word}
 
 -- ---- the types with parentheses, over a parser of their parts
 
@@ -22,7 +22,7 @@ module _ (part : Parser Typ) where
 
   unfoldable pub function : Parser Typ
   function = do
-    under ← effect
+    under ← effect_word
     param ← part
     gives ← part
     closing

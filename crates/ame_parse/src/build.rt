@@ -5,43 +5,51 @@ ghost use Rattle.ame_term.specs.Tree as tree;
 ghost use Rattle.ame_term.specs.View.{tree_of, typ_of};
 ghost use Rattle.ame_parse.specs.Forms as spec;
 
-use crate::forms::{OnePart, TwoParts};
-use ame_term::{Effect, Function, Name, Own, Sort, Term, Ty, Value};
+use ame_term::{Binary, Effect, Function, Name, Own, Term, Ty, Unary, Value};
 use std::alloc::{AllocError, Global};
 
-pub fn one_part(alloc: Global, form: OnePart, part: Term) -> Result<Term, AllocError>
-    ensures { IfOk result (λ t. tree_of t ≡ spec.one_part form (tree_of part)) }
+pub fn one(alloc: Global, op: Unary, part: Term) -> Result<Term, AllocError>
+    ensures { IfOk result (λ t. tree_of t ≡ tree.Tree.One op (tree_of part)) }
 {
     let part = Box::new(alloc, part)?;
-    Ok(match form {
-        OnePart::Not => Term::Not(part),
-        OnePart::Get => Term::Get(part),
-        OnePart::Peek => Term::Peek(part),
-        OnePart::Async => Term::Async(part),
-        OnePart::Block => Term::Block(part),
-        OnePart::Unprotected => Term::Unprotected(part),
-        OnePart::Print => Term::Print(part),
-        OnePart::First => Term::First(part),
-        OnePart::Second => Term::Second(part),
+    Ok(match op {
+        Unary::Not => Term::Not(part),
+        Unary::Ref(sort) => Term::Ref(sort, part),
+        Unary::Get => Term::Get(part),
+        Unary::Peek => Term::Peek(part),
+        Unary::Block => Term::Block(part),
+        Unary::Print => Term::Print(part),
+        Unary::Call(device) => Term::Call(device, part),
+        Unary::First => Term::First(part),
+        Unary::Second => Term::Second(part),
     })
 }
 
-pub fn two_parts(
-    alloc: Global,
-    form: TwoParts,
-    first: Term,
-    second: Term,
-) -> Result<Term, AllocError>
-    ensures { IfOk result (λ t. tree_of t ≡ spec.two_parts form (tree_of first) (tree_of second)) }
+pub fn two(alloc: Global, op: Binary, first: Term, second: Term) -> Result<Term, AllocError>
+    ensures { IfOk result (λ t. tree_of t ≡ tree.Tree.Two op (tree_of first) (tree_of second)) }
 {
     let first = Box::new(alloc, first)?;
     let second = Box::new(alloc, second)?;
-    Ok(match form {
-        TwoParts::App => Term::App(first, second),
-        TwoParts::Set => Term::Set(first, second),
-        TwoParts::Pair => Term::Pair(first, second),
-        TwoParts::Bin(op) => Term::Bin(op, first, second),
+    Ok(match op {
+        Binary::App => Term::App(first, second),
+        Binary::Bin(op) => Term::Bin(op, first, second),
+        Binary::Set => Term::Set(first, second),
+        Binary::Pair => Term::Pair(first, second),
     })
+}
+
+pub fn spawning(alloc: Global, body: Term) -> Result<Term, AllocError>
+    ensures { IfOk result (λ t. tree_of t ≡ tree.Tree.Async (tree_of body)) }
+{
+    let body = Box::new(alloc, body)?;
+    Ok(Term::Async(body))
+}
+
+pub fn unprotected(alloc: Global, part: Term) -> Result<Term, AllocError>
+    ensures { IfOk result (λ t. tree_of t ≡ tree.Tree.Unprotected (tree_of part)) }
+{
+    let part = Box::new(alloc, part)?;
+    Ok(Term::Unprotected(part))
 }
 
 pub fn choice(
@@ -76,22 +84,7 @@ pub fn sequence(parts: Vec<Term>) -> Term
 pub fn yielding(alloc: Global) -> Result<Term, AllocError>
     ensures { IfOk result (λ t. tree_of t ≡ tree.Tree.Unprotected tree.unit_tree) }
 {
-    let unit = Box::new(alloc, Term::Held(Value::Unit))?;
-    Ok(Term::Unprotected(unit))
-}
-
-pub fn reference(alloc: Global, sort: Sort, content: Term) -> Result<Term, AllocError>
-    ensures { IfOk result (λ t. tree_of t ≡ tree.Tree.Ref sort (tree_of content)) }
-{
-    let content = Box::new(alloc, content)?;
-    Ok(Term::Ref(sort, content))
-}
-
-pub fn call(alloc: Global, device: u8, part: Term) -> Result<Term, AllocError>
-    ensures { IfOk result (λ t. tree_of t ≡ tree.Tree.Call device (tree_of part)) }
-{
-    let part = Box::new(alloc, part)?;
-    Ok(Term::Call(device, part))
+    unprotected(alloc, Term::Held(Value::Unit))
 }
 
 pub fn function(

@@ -1,71 +1,54 @@
-//! Which form a word or a symbol begins.
+//! What a word or a symbol begins.
 
 ghost use Rattle.std.specs.Prelude.{◌≡◌};
 ghost use Rattle.ame_parse.specs.Forms as spec;
 
 use crate::ahead::Ahead;
 use crate::words::Word;
-use ame_term::Op;
+use ame_term::{Binary, Op, Unary};
 
-/// A form with one part.
+/// What the word or the symbol after an opening parenthesis begins.
 #[derive(Clone, Copy, Debug, PartialEq, Eq)]
-pub enum OnePart {
-    Not,
-    Get,
-    Peek,
+pub enum Opener {
+    /// A form that is its word and one part.
+    One(Unary),
+    /// A sort stands before the part.
+    Ref,
+    /// The number of a device stands before the part.
+    Call,
+    Two(Binary),
     Async,
-    Block,
     Unprotected,
-    Print,
-    First,
-    Second,
-}
-
-/// A form with two parts.
-#[derive(Clone, Copy, Debug, PartialEq, Eq)]
-pub enum TwoParts {
-    App,
-    Set,
-    Pair,
-    Bin(Op),
-}
-
-#[derive(Clone, Copy, Debug, PartialEq, Eq)]
-pub enum Form {
-    One(OnePart),
-    Two(TwoParts),
     If,
     Let,
     Do,
     Fn,
     Rec,
-    Ref,
-    Call,
 }
 
-fn form_of_word(word: Word) -> Option<Form>
-    ensures { result ≡ spec.form_of_word word }
+fn opener_of_word(word: Word) -> Option<Opener>
+    ensures { result ≡ spec.opener_of_word word }
 {
     match word {
-        Word::Not => Some(Form::One(OnePart::Not)),
-        Word::Get => Some(Form::One(OnePart::Get)),
-        Word::Peek => Some(Form::One(OnePart::Peek)),
-        Word::Async => Some(Form::One(OnePart::Async)),
-        Word::BlockUntil => Some(Form::One(OnePart::Block)),
-        Word::Unprotected => Some(Form::One(OnePart::Unprotected)),
-        Word::Print => Some(Form::One(OnePart::Print)),
-        Word::Fst => Some(Form::One(OnePart::First)),
-        Word::Snd => Some(Form::One(OnePart::Second)),
-        Word::App => Some(Form::Two(TwoParts::App)),
-        Word::Set => Some(Form::Two(TwoParts::Set)),
-        Word::Pair => Some(Form::Two(TwoParts::Pair)),
-        Word::If => Some(Form::If),
-        Word::Let => Some(Form::Let),
-        Word::Do => Some(Form::Do),
-        Word::Fn => Some(Form::Fn),
-        Word::Rec => Some(Form::Rec),
-        Word::Ref => Some(Form::Ref),
-        Word::Call => Some(Form::Call),
+        Word::Not => Some(Opener::One(Unary::Not)),
+        Word::Get => Some(Opener::One(Unary::Get)),
+        Word::Peek => Some(Opener::One(Unary::Peek)),
+        Word::BlockUntil => Some(Opener::One(Unary::Block)),
+        Word::Print => Some(Opener::One(Unary::Print)),
+        Word::Fst => Some(Opener::One(Unary::First)),
+        Word::Snd => Some(Opener::One(Unary::Second)),
+        Word::Ref => Some(Opener::Ref),
+        Word::Call => Some(Opener::Call),
+        Word::App => Some(Opener::Two(Binary::App)),
+        Word::Set => Some(Opener::Two(Binary::Set)),
+        Word::Pair => Some(Opener::Two(Binary::Pair)),
+        Word::Async => Some(Opener::Async),
+        Word::Unprotected => Some(Opener::Unprotected),
+        Word::If => Some(Opener::If),
+        Word::Let => Some(Opener::Let),
+        Word::Do => Some(Opener::Do),
+        Word::Fn => Some(Opener::Fn),
+        Word::Rec => Some(Opener::Rec),
         _ => None,
     }
 }
@@ -83,14 +66,14 @@ fn op_of(symbol: u8) -> Option<Op>
     }
 }
 
-/// The form that begins with this after its parenthesis.
-#[tactic(auto, unfolding(crate::specs::Forms::form_of))]
-pub fn form_of(ahead: Ahead) -> Option<Form>
-    ensures { result ≡ spec.form_of ahead }
+/// What begins with this after its parenthesis.
+#[tactic(auto, unfolding(crate::specs::Forms::opener_of))]
+pub fn opener_of(ahead: Ahead) -> Option<Opener>
+    ensures { result ≡ spec.opener_of ahead }
 {
     match ahead {
-        Ahead::Reserved(word) => form_of_word(word),
-        Ahead::Symbol(symbol) => op_of(symbol).map(|op| Form::Two(TwoParts::Bin(op))),
+        Ahead::Reserved(word) => opener_of_word(word),
+        Ahead::Symbol(symbol) => op_of(symbol).map(|op| Opener::Two(Binary::Bin(op))),
         _ => None,
     }
 }

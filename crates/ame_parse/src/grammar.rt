@@ -1,6 +1,7 @@
 //! Terms and forms, by recursive descent.
 
 ghost use Rattle.std.specs.Prelude.{◌≡◌, map};
+ghost use Rattle.ame_term.specs.Tree.{Tree};
 ghost use Rattle.ame_term.specs.View.{tree_of};
 ghost use Rattle.ame_parse.specs.Input.{Reads};
 ghost use Rattle.ame_parse.specs.Reading as spec;
@@ -9,12 +10,12 @@ ghost use Rattle.ame_parse.specs.Types as types;
 use crate::ahead::Ahead;
 use crate::build;
 use crate::fault::{ParseFault, Want};
-use crate::forms::{Form, OnePart, TwoParts, form_of};
+use crate::forms::{Opener, opener_of};
 use crate::letters::{device, effect, sort};
 use crate::reader::Reader;
 use crate::ty::{param, ty};
 use crate::words::Word;
-use ame_term::{Own, Term, Value};
+use ame_term::{Binary, Own, Term, Unary, Value};
 use std::alloc::Global;
 
 /// A name that is bound.
@@ -81,35 +82,65 @@ fn atom(alloc: Global, reader: &mut Reader<'_>) -> Result<Term, ParseFault>
 }
 
 #[cycle(grammar)]
-#[tactic(auto, unfolding(crate::specs::Reading::one))]
-fn one(
-    alloc: Global,
-    reader: &mut Reader<'_>,
-    depth: usize,
-    form: OnePart,
-) -> Result<Term, ParseFault>
-    ensures { Reads tree_of (spec.one (spec.term depth) form reader.old) result reader.new }
+#[tactic(auto, unfolding(crate::specs::Reading::alone))]
+fn one(alloc: Global, reader: &mut Reader<'_>, depth: usize, op: Unary) -> Result<Term, ParseFault>
+    ensures { Reads tree_of (spec.alone (spec.term depth) (Tree.One op) reader.old) result reader.new }
 {
     let part = term(alloc, reader, depth)?;
     reader.closing()?;
-    let whole = build::one_part(alloc, form, part)?;
+    let whole = build::one(alloc, op, part)?;
+    Ok(whole)
+}
+
+#[cycle(grammar)]
+#[tactic(auto, unfolding(crate::specs::Reading::reference))]
+fn reference(alloc: Global, reader: &mut Reader<'_>, depth: usize) -> Result<Term, ParseFault>
+    ensures { Reads tree_of (spec.reference (spec.term depth) reader.old) result reader.new }
+{
+    let sort = sort(reader)?;
+    one(alloc, reader, depth, Unary::Ref(sort))
+}
+
+#[cycle(grammar)]
+#[tactic(auto, unfolding(crate::specs::Reading::call))]
+fn call(alloc: Global, reader: &mut Reader<'_>, depth: usize) -> Result<Term, ParseFault>
+    ensures { Reads tree_of (spec.call (spec.term depth) reader.old) result reader.new }
+{
+    let device = device(reader)?;
+    one(alloc, reader, depth, Unary::Call(device))
+}
+
+#[cycle(grammar)]
+#[tactic(auto, unfolding(crate::specs::Reading::alone))]
+fn spawning(alloc: Global, reader: &mut Reader<'_>, depth: usize) -> Result<Term, ParseFault>
+    ensures { Reads tree_of (spec.alone (spec.term depth) Tree.Async reader.old) result reader.new }
+{
+    let body = term(alloc, reader, depth)?;
+    reader.closing()?;
+    let whole = build::spawning(alloc, body)?;
+    Ok(whole)
+}
+
+#[cycle(grammar)]
+#[tactic(auto, unfolding(crate::specs::Reading::alone))]
+fn unprotected(alloc: Global, reader: &mut Reader<'_>, depth: usize) -> Result<Term, ParseFault>
+    ensures { Reads tree_of (spec.alone (spec.term depth) Tree.Unprotected reader.old) result reader.new }
+{
+    let part = term(alloc, reader, depth)?;
+    reader.closing()?;
+    let whole = build::unprotected(alloc, part)?;
     Ok(whole)
 }
 
 #[cycle(grammar)]
 #[tactic(auto, unfolding(crate::specs::Reading::two))]
-fn two(
-    alloc: Global,
-    reader: &mut Reader<'_>,
-    depth: usize,
-    form: TwoParts,
-) -> Result<Term, ParseFault>
-    ensures { Reads tree_of (spec.two (spec.term depth) form reader.old) result reader.new }
+fn two(alloc: Global, reader: &mut Reader<'_>, depth: usize, op: Binary) -> Result<Term, ParseFault>
+    ensures { Reads tree_of (spec.two (spec.term depth) op reader.old) result reader.new }
 {
     let first = term(alloc, reader, depth)?;
     let second = term(alloc, reader, depth)?;
     reader.closing()?;
-    let whole = build::two_parts(alloc, form, first, second)?;
+    let whole = build::two(alloc, op, first, second)?;
     Ok(whole)
 }
 
@@ -223,50 +254,28 @@ fn recursive(alloc: Global, reader: &mut Reader<'_>, depth: usize) -> Result<Ter
     Ok(whole)
 }
 
-#[cycle(grammar)]
-#[tactic(auto, unfolding(crate::specs::Reading::reference))]
-fn reference(alloc: Global, reader: &mut Reader<'_>, depth: usize) -> Result<Term, ParseFault>
-    ensures { Reads tree_of (spec.reference (spec.term depth) reader.old) result reader.new }
-{
-    let sort = sort(reader)?;
-    let content = term(alloc, reader, depth)?;
-    reader.closing()?;
-    let whole = build::reference(alloc, sort, content)?;
-    Ok(whole)
-}
-
-#[cycle(grammar)]
-#[tactic(auto, unfolding(crate::specs::Reading::call))]
-fn call(alloc: Global, reader: &mut Reader<'_>, depth: usize) -> Result<Term, ParseFault>
-    ensures { Reads tree_of (spec.call (spec.term depth) reader.old) result reader.new }
-{
-    let device = device(reader)?;
-    let part = term(alloc, reader, depth)?;
-    reader.closing()?;
-    let whole = build::call(alloc, device, part)?;
-    Ok(whole)
-}
-
 /// What stands after an opening parenthesis.
 #[cycle(grammar)]
 #[tactic(auto, unfolding(crate::specs::Reading::compound))]
 fn compound(alloc: Global, reader: &mut Reader<'_>, depth: usize) -> Result<Term, ParseFault>
     ensures { Reads tree_of (spec.compound (spec.term depth) (types.param depth) (types.ty depth) reader.old) result reader.new }
 {
-    let Some(form) = form_of(reader.ahead()) else {
+    let Some(opener) = opener_of(reader.ahead()) else {
         return Err(reader.expected(Want::Form));
     };
     reader.advance();
-    match form {
-        Form::One(form) => one(alloc, reader, depth, form),
-        Form::Two(form) => two(alloc, reader, depth, form),
-        Form::If => choice(alloc, reader, depth),
-        Form::Let => binding(alloc, reader, depth),
-        Form::Do => sequence(alloc, reader, depth),
-        Form::Fn => function(alloc, reader, depth),
-        Form::Rec => recursive(alloc, reader, depth),
-        Form::Ref => reference(alloc, reader, depth),
-        Form::Call => call(alloc, reader, depth),
+    match opener {
+        Opener::One(op) => one(alloc, reader, depth, op),
+        Opener::Ref => reference(alloc, reader, depth),
+        Opener::Call => call(alloc, reader, depth),
+        Opener::Two(op) => two(alloc, reader, depth, op),
+        Opener::Async => spawning(alloc, reader, depth),
+        Opener::Unprotected => unprotected(alloc, reader, depth),
+        Opener::If => choice(alloc, reader, depth),
+        Opener::Let => binding(alloc, reader, depth),
+        Opener::Do => sequence(alloc, reader, depth),
+        Opener::Fn => function(alloc, reader, depth),
+        Opener::Rec => recursive(alloc, reader, depth),
     }
 }
 

@@ -4,10 +4,10 @@ ghost use Rattle.std.specs.Prelude.{◌≡◌, ◌↔◌, ◌∷◌, ◌++◌, �
 ghost use Rattle.ame_lex.specs.declared.tokens.LexFault.{LexFault};
 ghost use Rattle.ame_lex.specs.Reading.{tokens_of};
 ghost use Rattle.ame_parse.specs.declared.fault.ParseFault.{ParseFault};
-ghost use Rattle.ame_parse.specs.Fault.{place_of, HasTokens};
+ghost use Rattle.ame_parse.specs.Fault.{place_of, HasSeenTokens};
 ghost use Rattle.ame_parse.specs.Grammar.{Spells};
 ghost use Rattle.ame_parse.specs.Input.{Seen, place_in};
-ghost use Rattle.ame_parse.specs.Text.{reading, Source, Fault};
+ghost use Rattle.ame_parse.specs.Text.{reading, Source, TextFault};
 
 use ame_lex::{grammar_is_reading, tokens_lie_within};
 
@@ -28,17 +28,17 @@ pub fn one_program()
 /// A fault of the bytes comes before all others.
 #[tactic(auto, unfolding(crate::specs::Text::reading))]
 pub fn bytes_come_first()
-    ensures { (text : List ℕ) (fault : LexFault) → tokens_of text ≡ Err fault → reading text ≡ Err (Fault.Lexical fault) }
+    ensures { (text : List ℕ) (fault : LexFault) → tokens_of text ≡ Err fault → reading text ≡ Err (TextFault.Lexical fault) }
 {}
 
 /// A fault stands at a token of the text or at its end, and it is the first: each text with the same
 /// tokens before that token, and with it, has the same fault, so none of them is a program.
 pub fn fault_is_first()
-    ensures stands { (text : List ℕ) (all : List Seen) (fault : ParseFault) → HasTokens text all → reading text ≡ Err (Fault.Syntactic fault)
+    ensures stands { (text : List ℕ) (all : List Seen) (fault : ParseFault) → HasSeenTokens text all → reading text ≡ Err (TextFault.Syntactic fault)
         → (before from : List Seen) × (all ≡ before ++ from) × (place_of fault ≡ place_in (length text) from) }
     ensures stays { (text other : List ℕ) (before after others : List Seen) (token : Seen) (fault : ParseFault)
-        → HasTokens text (before ++ token ∷ after) → reading text ≡ Err (Fault.Syntactic fault) → place_of fault ≡ token.place
-        → HasTokens other (before ++ token ∷ others) → reading other ≡ Err (Fault.Syntactic fault) }
+        → HasSeenTokens text (before ++ token ∷ after) → reading text ≡ Err (TextFault.Syntactic fault) → place_of fault ≡ token.place
+        → HasSeenTokens other (before ++ token ∷ others) → reading other ≡ Err (TextFault.Syntactic fault) }
 {
     tokens_lie_within();
 }

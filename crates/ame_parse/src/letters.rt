@@ -29,9 +29,9 @@ fn sort_of(spelling: &[u8]) -> Option<Sort>
     }
 }
 
-#[tactic(auto, unfolding(crate::specs::Letters::effect_of))]
+#[tactic(auto, unfolding(crate::specs::Letters::effect_named))]
 fn effect_of(spelling: &[u8]) -> Option<Effect>
-    ensures { result ≡ spec.effect_of spelling.now }
+    ensures { result ≡ spec.effect_named spelling.now }
 {
     if is_spelled(spelling, b"p") {
         Some(Effect::Protected)
@@ -67,9 +67,9 @@ pub fn sort(reader: &mut Reader<'_>) -> Result<Sort, ParseFault>
     }
 }
 
-#[tactic(auto, unfolding(crate::specs::Letters::effect))]
+#[tactic(auto, unfolding(crate::specs::Letters::effect_word))]
 pub fn effect(reader: &mut Reader<'_>) -> Result<Effect, ParseFault>
-    ensures { Reads (λ x. x) (spec.effect reader.old) result reader.new }
+    ensures { Reads (λ x. x) (spec.effect_word reader.old) result reader.new }
 {
     match effect_of(reader.spelling()) {
         Some(effect) => {

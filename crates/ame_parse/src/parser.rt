@@ -1,12 +1,12 @@
 //! The program of a whole list of tokens.
 
-ghost use Rattle.std.specs.Prelude.{◌≡◌, ◌≤◌, [], length, IfOk, Ok, Err};
+ghost use Rattle.std.specs.Prelude.{◌≡◌, ◌≤◌, length, Ok, Err};
+ghost use Rattle.ame_lex.specs.Bytes.{max_text};
 ghost use Rattle.ame_lex.specs.Reading.{tokens_of};
 ghost use Rattle.ame_parse.specs.Input.{Reads};
 ghost use Rattle.ame_parse.specs.Reading as spec;
-ghost use Rattle.ame_parse.specs.Text.{Answers};
+ghost use Rattle.ame_parse.specs.Text.{AnswersProgram};
 ghost use Rattle.ame_term.specs.View.{tree_of};
-ghost use Rattle.ame_term.specs.Written.{nodes, IsWritten, IsBound};
 
 use crate::fault::ParseFault;
 use crate::grammar::term;
@@ -21,15 +21,10 @@ const MAX_OPEN: usize = 200;
 /// The program of a text's tokens, in time linear in the tokens but for look-ups of names.
 pub fn parse(alloc: Global, text: &[u8], tokens: &[Token]) -> Result<Program, ParseFault>
     requires of_text { tokens_of text.now ≡ Ok tokens.now }
-    requires small { length text.now ≤ 1048576 }
+    requires small { length text.now ≤ max_text }
 
     // The program is the one that is read of the text, and a fault is the first one of the text.
-    ensures exact { Answers text.now result }
-
-    // Each node has a place, each `do` two parts or more, and each name stands within a form that binds it.
-    ensures places { IfOk result (λ p. length p.places.items ≡ nodes (tree_of p.term)) }
-    ensures written { IfOk result (λ p. IsWritten (tree_of p.term)) }
-    ensures bound { IfOk result (λ p. IsBound [] (tree_of p.term)) }
+    ensures exact { AnswersProgram text.now result }
 {
     tokens_lie_within();
     let mut reader = Reader::new(alloc, text, tokens);

@@ -89,9 +89,9 @@ impl<'a> Reader<'a> {
     }
 
     /// How many tokens are left.
-    #[tactic(auto, unfolding(crate::specs::Input::left))]
+    #[tactic(auto, unfolding(crate::specs::Input::tokens_left))]
     pub fn left(&self) -> usize
-        ensures { result ≡ spec.left self.now }
+        ensures { result ≡ spec.tokens_left self.now }
     {
         self.rest.len()
     }
@@ -102,9 +102,9 @@ impl<'a> Reader<'a> {
         ParseFault::Expected(self.place(), want)
     }
 
-    #[tactic(auto, unfolding(crate::specs::Input::after))]
+    #[tactic(auto, unfolding(crate::specs::Input::advanced))]
     pub fn advance(&mut self)
-        ensures { self.new ≡ spec.after self.old }
+        ensures { self.new ≡ spec.advanced self.old }
     {
         if let [_, rest @ ..] = self.rest {
             self.rest = rest;
@@ -166,10 +166,10 @@ impl<'a> Reader<'a> {
         }
     }
 
-    #[tactic(auto, unfolding(crate::specs::Input::left, crate::specs::Input::number, crate::specs::Input::named, crate::specs::Input::spelling))]
+    #[tactic(auto, unfolding(crate::specs::Input::tokens_left, crate::specs::Input::name_number, crate::specs::Input::named, crate::specs::Input::spelling))]
     fn take_name(&mut self, alloc: Global) -> Result<Name, AllocError>
-        requires { 0 < spec.left self.old }
-        ensures number { IfOk result (λ name. name.0 ≡ spec.number self.old) }
+        requires { 0 < spec.tokens_left self.old }
+        ensures number { IfOk result (λ name. name.0 ≡ spec.name_number self.old) }
         ensures next { IfOk result (λ name. self.new ≡ spec.named self.old) }
     {
         let spelling = self.spelling();
@@ -189,16 +189,16 @@ impl<'a> Reader<'a> {
         }
     }
 
-    #[tactic(auto, unfolding(crate::specs::Input::binds))]
+    #[tactic(auto, unfolding(crate::specs::Input::binds_name))]
     pub fn binds(&self, name: Name) -> bool
-        ensures { result ≡ spec.binds name.0 self.now }
+        ensures { result ≡ spec.binds_name name.0 self.now }
     {
         self.scope.contains(&name.0)
     }
 
     #[tactic(auto, unfolding(crate::specs::Input::bound))]
     pub fn bind(&mut self, name: Name) -> Result<(), ParseFault>
-        ensures { Reads (λ x. x) (spec.bind name.0 self.old) result self.new }
+        ensures { Reads (λ x. x) (spec.bind_name name.0 self.old) result self.new }
     {
         self.scope.push(name.0)?;
         Ok(())

@@ -37,10 +37,16 @@ abbrev pub decreases-recursive : goal.decreases-recursive
 decreases-recursive l = 5 * l.depth + 2
 
 abbrev pub decreases-reference : goal.decreases-reference
-decreases-reference l = 5 * l.depth + 2
+decreases-reference l = 5 * l.depth + 3
 
 abbrev pub decreases-call : goal.decreases-call
-decreases-call l = 5 * l.depth + 2
+decreases-call l = 5 * l.depth + 3
+
+abbrev pub decreases-spawning : goal.decreases-spawning
+decreases-spawning l = 5 * l.depth + 2
+
+abbrev pub decreases-unprotected : goal.decreases-unprotected
+decreases-unprotected l = 5 * l.depth + 2
 
 abbrev pub decreases-compound : goal.decreases-compound
 decreases-compound l = 5 * l.depth + 4

@@ -1,7 +1,7 @@
 //! The smallest state with rows and entries: a counter, and the list of who counted.
 //! It is an example of a caller, and what the tests run.
 ghost use Rattle.std.specs.Prelude.{◌≡◌, ◌<◌, ◌+◌, ◌++◌, ◌∷◌, [], false, length, replicate, vec_len, IfOk, OnOk, OnErr};
-ghost use Rattle.ame_baton.specs.Batons.{knows, IsSeatOf, IsReady};
+ghost use Rattle.ame_baton.specs.Batons.{knows, IsSeatOf, IsReadySeat};
 ghost use Rattle.ame_baton.specs.Tallies.{Counts, IsAsBefore, IsSameSeat, times_of};
 ghost use Rattle.ame_baton.specs.Counted.{IsFresh, HasCounted};
 
@@ -146,8 +146,8 @@ fn gather<R: Wait>(
     second: Seat<Tally>,
     mut rest: Vec<Seat<Tally>>,
 ) -> Result<Tally, AllocError>
-    requires first { IsReady baton 0 first }
-    requires second { IsReady baton 1 second }
+    requires first { IsReadySeat baton 0 first }
+    requires second { IsReadySeat baton 1 second }
     requires all { (knows first).made ≡ 2 }
     requires none_yet { rest.items ≡ [] }
     ensures first { IfOk result (λ t. times_of 0 t ≡ length (knows first).own) }

@@ -1,12 +1,12 @@
 -- What a seat keeps when it takes the turn and gives it, and which rows there are at the end: for callers.
 use Rattle.std.proofs.Common.{◌≡◌, ℕ, ◌<◌, ◌≤◌, List, ◌++◌, length, map, set, Option, Some, slice_get, option_map, sym, ap, ◌∙◌, inl, inr, ⊎_elim, subst}
 use Rattle.std.proofs.lemmas.Bool.{cases_lt}
-use Rattle.std.proofs.lemmas.List.{map-set}
+use Rattle.std.proofs.lemmas.List.{append_cancel_left, map-set}
 use Rattle.std.proofs.lemmas.Option.{slice_get-map}
 use Rattle.ame_baton.specs.declared.view.Knows.{Knows}
 use Rattle.ame_baton.specs.declared.view.Left.{Left}
 use Rattle.ame_baton.specs.Seats.{entries_of, Takes, Gives, Ends}
-use Rattle.ame_baton.specs.Keeping.{KeepsSeat, FindsAsLeft, HasGiven, ShowsRows, IsLeftOrEmpty}
+use Rattle.ame_baton.specs.Keeping.{KeepsSeat, FindsAsLeft, HasGiven, ShowsRows, ShowsEntries, IsLeftOrEmpty}
 use Rattle.ame_baton.proofs.Lookups.{get_set_here, get_there, get_within}
 use Rattle.ame_baton.proofs.Taking.{and_of, row_now, stands_now}
 
@@ -62,6 +62,18 @@ module _ {S F R E : Type 0} (stands_for : S → F → List R → List E → Type
     pub turn_keeps : (before holding after : Knows F R E) (taken given : S) → Takes stands_for seat_of before taken holding → Gives stands_for seat_of leaves holding given after → KeepsSeat before after
     turn_keeps before holding after taken given t g =
         keeps_both before holding after (take_finds before holding taken t).keeps (give_leaves holding after given g).keeps
+
+    -- where the state determines its entries
+    pub entries_given : (entries_in : S → List E) → ShowsEntries stands_for entries_in → (before holding after : Knows F R E) (taken given : S) → Takes stands_for seat_of before taken holding
+        → Gives stands_for seat_of leaves holding given after → (added : List E) → entries_in given ≡ entries_in taken ++ added → after.own ≡ before.own ++ added
+    entries_given entries_in shows before holding after taken given t g added is =
+        let it = g.0 in
+        let seen : entries_in taken ≡ holding.seen = and_of (λ f. stands_for taken f holding.rows holding.seen) (entries_in taken ≡ holding.seen) holding.fixed
+        (λ f h. shows taken f holding.rows holding.seen h) (stands_now stands_for seat_of before holding taken t) in
+        let now : entries_in given ≡ holding.seen ++ it.added = and_of (λ f. stands_for given f (set holding.rows holding.number it.row) (holding.seen ++ it.added)) (entries_in given ≡ holding.seen ++ it.added) holding.fixed
+        (λ f h. shows given f (set holding.rows holding.number it.row) (holding.seen ++ it.added) h) it.stands in
+        let same : it.added ≡ added = append_cancel_left holding.seen it.added added (sym now ∙ (is ∙ ap (λ l. l ++ added) seen)) in
+        ap (λ (k : Knows F R E). k.own) g.1 ∙ (ap (λ l. holding.own ++ l) same ∙ ap (λ (k : Knows F R E). k.own ++ added) t.rest)
 
     -- where the state determines what its rows show
     module _ {T : Type 0} (shown : R → T) (rows_in : S → List T) (shows : ShowsRows stands_for shown rows_in) (before holding after : Knows F R E) (taken given : S)

@@ -38,6 +38,11 @@ abbrev pub ShowsRows : {S F R E T : Type 0} → (S → F → List R → List E �
 ShowsRows {S} {F} {R} {E} stands_for shown rows_in =
     (state : S) (fixed : F) (rows : List R) (entries : List E) → stands_for state fixed rows entries → rows_in state ≡ map shown rows
 
+-- the relation determines the entries, by the state alone
+abbrev pub ShowsEntries : {S F R E : Type 0} → (S → F → List R → List E → Type 0) → (S → List E) → Type 0
+ShowsEntries {S} {F} {R} {E} stands_for entries_in =
+    (state : S) (fixed : F) (rows : List R) (entries : List E) → stands_for state fixed rows entries → entries_in state ≡ entries
+
 -- the row is the one that the seat with this number left, or the empty one where there was no such seat
 abbrev pub IsLeftOrEmpty : {R E : Type 0} → R → List (Left R E) → ℕ → R → Type 0
 IsLeftOrEmpty {R} {E} empty seats n row = ((it : Left R E) × (slice_get seats n ≡ Some it) × (row ≡ it.row)) ⊎ ((length seats ≤ n) × (row ≡ empty))

@@ -6,7 +6,7 @@ ghost use Rattle.ame_baton.specs.declared.view.Knows.{Knows};
 ghost use Rattle.ame_baton.specs.declared.view.Left.{Left};
 ghost use Rattle.ame_baton.specs.Seats.{Takes, Gives, Ends};
 ghost use Rattle.ame_baton.specs.Batons.{IsReadySeat, AreReady};
-ghost use Rattle.ame_baton.specs.Keeping.{KeepsSeat, FindsAsLeft, HasGiven, ShowsRows, IsLeftOrEmpty};
+ghost use Rattle.ame_baton.specs.Keeping.{KeepsSeat, FindsAsLeft, HasGiven, ShowsRows, ShowsEntries, IsLeftOrEmpty};
 
 use crate::state::{Leaves, Rowed};
 
@@ -48,6 +48,14 @@ pub fn row_that_is_kept_shows_the_same<S: Rowed, M: Leaves<S::Row>, T>()
         → (before holding after : Knows S.Fixed S.Row S.Entry) (taken given : S)
         → Takes S.stands_for S.seat_of before taken holding → Gives S.stands_for S.seat_of M.leaves holding given after
         → slice_get (rows_in given) before.number ≡ slice_get (rows_in taken) before.number → shown after.row ≡ shown before.row }
+{}
+
+/// Where the state determines its entries, those that it has more when it is given are the seat's own.
+pub fn added_entries_are_own<S: Rowed, M: Leaves<S::Row>>()
+    ensures { (entries_in : S → List S.Entry) → ShowsEntries S.stands_for entries_in
+        → (before holding after : Knows S.Fixed S.Row S.Entry) (taken given : S)
+        → Takes S.stands_for S.seat_of before taken holding → Gives S.stands_for S.seat_of M.leaves holding given after
+        → (added : List S.Entry) → entries_in given ≡ entries_in taken ++ added → after.own ≡ before.own ++ added }
 {}
 
 /// At the end each row is the one that a seat left, or the empty one.

@@ -81,6 +81,7 @@ pub fn count<R: Wait>(
     ensures counted { let k = knows seat.old in
         OnOk result ((knows seat.new).own ≡ k.own ++ k.number ∷ []) }
     ensures refused { OnErr result ((knows seat.new).own ≡ (knows seat.old).own) }
+    ensures row { OnErr result ((knows seat.new).row ≡ (knows seat.old).row) }
 {
     let mut tally = baton.take(rt, seat);
     let counted = tally.add(seat.number());

@@ -1,12 +1,13 @@
 -- What a seat that counts may give, and what it then knows.
 use Rattle.std.proofs.Common.{◌≡◌, ℕ, List, [], ◌∷◌, ◌++◌, length, set, Option, Some, Result, Ok, Err, OnOk, OnErr, slice_get, sym, refl, ap, ◌∙◌}
-use Rattle.std.proofs.lemmas.List.{append_cancel_left, append-nil, length-set}
+use Rattle.std.proofs.lemmas.List.{append-nil, map-id, length-set}
 use Rattle.std.proofs.lemmas.List.Elements.{All-nil, All-cons}
 use Rattle.ame_baton.specs.declared.view.Knows.{Knows}
 use Rattle.ame_baton.specs.declared.view.Left.{Left}
 use Rattle.ame_baton.specs.declared.tally.Tally.{Tally}
 use Rattle.ame_baton.specs.Seats.{entries_of, Takes, MayGive, Gives, Ends}
 use Rattle.ame_baton.specs.Tallies.{TallyStandsFor, Counts, IsAsBefore, times_of}
+use Rattle.ame_baton.proofs.Keeping.{entries_given, row_kept}
 use Rattle.ame_baton.proofs.Taking.{and_of, may_give, stands_now, row_now, set_again}
 
 abbrev pub Known : Type 0
@@ -19,9 +20,6 @@ abbrev any : ℕ → Type 0
 any row = Unit {0}
 
 module _ (before k : Known) (t t' : Tally) (taken : Takes TallyStandsFor own before t k) where
-  seen_now : k.seen ≡ t.log.items
-  seen_now = and_of (λ f. TallyStandsFor t f k.rows k.seen) (k.seen ≡ t.log.items) k.fixed (λ f h. h.2) (stands_now TallyStandsFor own before k t taken)
-
   pub may_count : {T E : Type 0} (r : Result T E) → OnOk r (Counts k.number t t') → OnErr r (IsAsBefore t t') → MayGive TallyStandsFor own any k t'
   may_count (Ok x) ok err = may_give TallyStandsFor own k any t t' (length t'.log.items) (k.number ∷ []) (stands_now TallyStandsFor own before k t taken) tt
       (All-cons (λ s. s ≡ k.number) k.number [] refl (All-nil (λ s. s ≡ k.number)))
@@ -38,11 +36,12 @@ module _ (before k : Known) (t t' : Tally) (taken : Takes TallyStandsFor own bef
       ))
 
   pub gave_added : (leaves : ℕ → Type 0) (after : Known) (added : List ℕ) → Gives TallyStandsFor own leaves k t' after → t'.log.items ≡ t.log.items ++ added → after.own ≡ before.own ++ added
-  gave_added leaves after added given is =
-      let it = given.0 in
-      let entries : k.seen ++ it.added ≡ t'.log.items = and_of (λ f. TallyStandsFor t' f (set k.rows k.number it.row) (k.seen ++ it.added)) (k.seen ++ it.added ≡ t'.log.items) k.fixed (λ f h. h.2) it.stands in
-      let same : it.added ≡ added = append_cancel_left k.seen it.added added (entries ∙ (is ∙ ap (λ l. l ++ added) (sym seen_now))) in
-      ap (λ (x : Known). x.own) given.1 ∙ (ap (λ l. k.own ++ l) same ∙ ap (λ (x : Known). x.own ++ added) taken.rest)
+  gave_added leaves after added given is = entries_given TallyStandsFor own leaves (λ t. t.log.items) (λ t f rows entries h. sym h.2) before k after t t' taken given added is
+
+  -- a tally that nothing was counted in leaves the row as it was
+  pub gave_row : (leaves : ℕ → Type 0) (after : Known) → Gives TallyStandsFor own leaves k t' after → t'.last.items ≡ t.last.items → after.row ≡ before.row
+  gave_row leaves after given is = row_kept TallyStandsFor own leaves (λ r. r) (λ t. t.last.items) (λ t f rows entries h. sym h.1 ∙ sym (map-id rows)) before k after t t' taken given
+      (ap (λ l. slice_get l before.number) is)
 
 -- at the end a seat that left so many entries of its own is in the log so often
 pub counted_at_end : (fixed : Option ℕ) (seats : List (Left ℕ ℕ)) (t : Tally) (n times : ℕ) (it : Left ℕ ℕ) → Ends TallyStandsFor 0 own fixed seats t → slice_get seats n ≡ Some it → length it.own ≡ times → times_of n t ≡ times

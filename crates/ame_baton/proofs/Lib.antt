@@ -8,4 +8,5 @@ pub mod Splits
 pub mod Joins
 pub mod Readiness
 pub mod Taking
+pub mod Keeping
 pub mod Counting

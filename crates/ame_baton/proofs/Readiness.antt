@@ -1,19 +1,25 @@
 -- Seats in the order of their numbers, and what they left.
-use Rattle.std.proofs.Common.{◌≡◌, ℕ, zero, suc, ◌+◌, List, [], ◌∷◌, ◌++◌, length, map, Some, slice_get, refl, ap, ◌∙◌, subst, arith}
+use Rattle.std.proofs.Common.{◌≡◌, ℕ, zero, suc, ◌+◌, List, [], ◌∷◌, ◌++◌, length, map, Some, slice_get, refl, sym, ap, ◌∙◌, ⊎_elim, subst, arith}
 use Rattle.ame_baton.specs.declared.view.Knows.{Knows}
 use Rattle.ame_baton.specs.declared.view.Left.{Left}
 use Rattle.ame_baton.specs.declared.seats.SeatAt.{SeatAt}
 use Rattle.ame_baton.specs.declared.turn.Baton.{Baton}
 use Rattle.ame_baton.specs.Seats.{left_by, Stays, IsElsewhere, Ends}
 use Rattle.ame_baton.specs.Rule.{OthersStay, Popped}
-use Rattle.ame_baton.specs.Batons.{IsReady, AreReady}
+use Rattle.ame_baton.specs.Batons.{IsReadySeat, AreReady}
+use Rattle.ame_baton.proofs.Lookups.{get_snoc}
 
 module _ {S F R E : Type 0} (baton : Baton S F R E) (n : ℕ) (seat : SeatAt S F R E) (seats : List (SeatAt S F R E)) where
-  pub ready_head : AreReady baton n (seat ∷ seats) → IsReady baton n seat
-  ready_head ready = let P : ℕ → Type 0 = λ k. IsReady baton k seat in let e : n + 0 ≡ n = omega arith in subst P e (ready 0 seat refl)
+  pub ready_head : AreReady baton n (seat ∷ seats) → IsReadySeat baton n seat
+  ready_head ready = let P : ℕ → Type 0 = λ k. IsReadySeat baton k seat in let e : n + 0 ≡ n = omega arith in subst P e (ready 0 seat refl)
 
   pub ready_tail : AreReady baton n (seat ∷ seats) → AreReady baton (n + 1) seats
-  ready_tail ready i s e = let P : ℕ → Type 0 = λ k. IsReady baton k s in let e' : n + suc i ≡ n + 1 + i = omega arith in subst P e' (ready (suc i) s e)
+  ready_tail ready i s e = let P : ℕ → Type 0 = λ k. IsReadySeat baton k s in let e' : n + suc i ≡ n + 1 + i = omega arith in subst P e' (ready (suc i) s e)
+
+  -- the next seat is pushed
+  pub ready_push : AreReady baton n seats → IsReadySeat baton (n + length seats) seat → AreReady baton n (seats ++ seat ∷ [])
+  ready_push ready next i s e = ⊎_elim (λ (x : slice_get seats i ≡ Some s). ready i s x)
+      (λ (x : (i ≡ length seats) × (seat ≡ s)). subst (λ (y : ℕ × SeatAt S F R E). IsReadySeat baton (n + y.0) y.1) (λ k. (sym x.0 k, x.1 k)) next) (get_snoc seats seat s i e)
 
 pub length_map : {A B : Type 0} (f : A → B) (l : List A) → length (map f l) ≡ length l
 length_map f [] = refl

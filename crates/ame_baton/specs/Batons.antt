@@ -20,7 +20,7 @@ abbrev pub IsSeatOf : {S F R E : Type 0} → Baton S F R E → SeatAt S F R E �
 IsSeatOf baton seat = IsPassOf baton.queue seat.pass
 
 -- the seat is this baton's, has this number and doesn't hold the turn
-pub record IsReady {S F R E : Type 0} (baton : Baton S F R E) (number : ℕ) (seat : SeatAt S F R E) : Type 0 where
+pub record IsReadySeat {S F R E : Type 0} (baton : Baton S F R E) (number : ℕ) (seat : SeatAt S F R E) : Type 0 where
   pub of : IsSeatOf baton seat
   pub numbered : (knows seat).number ≡ number
   pub free : (knows seat).holds ≡ false
@@ -28,4 +28,4 @@ pub record IsReady {S F R E : Type 0} (baton : Baton S F R E) (number : ℕ) (se
 -- the seats stand in the order of their numbers, the first of them with the number `from`, and are ready
 abbrev pub AreReady : {S F R E : Type 0} → Baton S F R E → ℕ → List (SeatAt S F R E) → Type 0
 AreReady {S} {F} {R} {E} baton from seats =
-    (i : ℕ) (seat : SeatAt S F R E) → slice_get seats i ≡ Some seat → IsReady baton (from + i) seat
+    (i : ℕ) (seat : SeatAt S F R E) → slice_get seats i ≡ Some seat → IsReadySeat baton (from + i) seat

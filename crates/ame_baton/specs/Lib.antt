@@ -1,5 +1,6 @@
 pub mod Seats
 pub mod Rule
 pub mod Batons
+pub mod Keeping
 pub mod Tallies
 pub mod Counted

@@ -2,6 +2,7 @@
 //! will find.
 #![tactic(auto)]
 
+pub mod laws;
 mod seats;
 mod state;
 mod steps;
@@ -10,7 +11,7 @@ mod turn;
 mod view;
 
 pub use seats::{Seat, SeatAt};
-pub use state::{AnyRow, Leaves, Rowed};
+pub use state::{AnyRow, Leaves, Rowed, SEAT_LIMIT};
 pub use turn::Baton;
 pub use view::{Knows, Left};
 

@@ -1,6 +1,7 @@
 //! One place at the turn.
 ghost use Rattle.std.specs.Prelude.{◌≡◌, ◌≤◌, IsSome, length};
 ghost use Rattle.crossbeam_queue.specs.Passes.{view};
+ghost use Rattle.ame_baton.specs.declared.state.TheConstants.{SEAT_LIMIT};
 
 use crate::state::Rowed;
 use crate::view::Knows;
@@ -15,7 +16,7 @@ pub struct SeatAt<S, F, R, E> {
     pub(crate) made: u32,
     ghost numbered: { (view pass).number ≡ number },
     ghost counted: { (view pass).made ≡ made },
-    ghost few: { (view pass).seats ≤ 32 },
+    ghost few: { (view pass).seats ≤ SEAT_LIMIT },
     ghost seated: { IsSome (view pass).fixed },
     ghost joined_by_none: { length (view pass).ended ≡ 0 },
 }

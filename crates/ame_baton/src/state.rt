@@ -1,6 +1,9 @@
 //! What a state must tell of itself to be passed from seat to seat.
 ghost use Rattle.std.specs.Prelude.{ℕ, List};
 
+/// The most seats that may share a state.
+pub const SEAT_LIMIT: u32 = 32;
+
 /// A shared state with a row for each seat and a list of entries, each of one seat.
 pub trait Rowed {
     /// What never changes from the opening on.

@@ -1,7 +1,7 @@
 //! The smallest state with rows and entries: a counter, and the list of who counted.
 //! It is an example of a caller, and what the tests run.
 ghost use Rattle.std.specs.Prelude.{◌≡◌, ◌<◌, ◌+◌, ◌++◌, ◌∷◌, [], false, length, replicate, vec_len, IfOk, OnOk, OnErr};
-ghost use Rattle.ame_baton.specs.Batons.{knows, IsSeatOf, IsReady};
+ghost use Rattle.ame_baton.specs.Batons.{knows, IsSeatOf, IsReadySeat};
 ghost use Rattle.ame_baton.specs.Tallies.{Counts, IsAsBefore, IsSameSeat, times_of};
 ghost use Rattle.ame_baton.specs.Counted.{IsFresh, HasCounted};
 
@@ -81,6 +81,7 @@ pub fn count<R: Wait>(
     ensures counted { let k = knows seat.old in
         OnOk result ((knows seat.new).own ≡ k.own ++ k.number ∷ []) }
     ensures refused { OnErr result ((knows seat.new).own ≡ (knows seat.old).own) }
+    ensures row { OnErr result ((knows seat.new).row ≡ (knows seat.old).row) }
 {
     let mut tally = baton.take(rt, seat);
     let counted = tally.add(seat.number());
@@ -146,8 +147,8 @@ fn gather<R: Wait>(
     second: Seat<Tally>,
     mut rest: Vec<Seat<Tally>>,
 ) -> Result<Tally, AllocError>
-    requires first { IsReady baton 0 first }
-    requires second { IsReady baton 1 second }
+    requires first { IsReadySeat baton 0 first }
+    requires second { IsReadySeat baton 1 second }
     requires all { (knows first).made ≡ 2 }
     requires none_yet { rest.items ≡ [] }
     ensures first { IfOk result (λ t. times_of 0 t ≡ length (knows first).own) }

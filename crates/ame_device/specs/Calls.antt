@@ -1,5 +1,5 @@
 -- What a call of a device does to what the device tells.
-use Rattle.std.specs.Prelude.{◌≡◌, ℕ, ℤ, List, [], ◌∷◌, ◌++◌, Option, Some, Ok, Err, Result, option_map, slice_get, slice_set}
+use Rattle.std.specs.Prelude.{◌≡◌, ℕ, ℤ, List, [], ◌∷◌, ◌++◌, Option, Some, Ok, Err, Result, map, option_map, slice_get, slice_set}
 use Rattle.ame_io.specs.Counts.{HasRisen}
 use Rattle.ame_device.specs.declared.told.Heard.{Heard}
 use Rattle.ame_device.specs.declared.told.Told.{Told}
@@ -19,16 +19,24 @@ one_more heard call = option_map (λ calls. calls ++ call ∷ []) heard
 
 -- An answer is told behind what was heard before. Where there is none, nothing more was heard, and
 -- the count rose where the device failed, and stayed where memory was wanted.
-abbrev pub Answers : Told → ℤ → Result ℤ DeviceFail → Told → Type 0
-Answers before argument (Ok answer) after =
+abbrev pub AnswersCall : Told → ℤ → Result ℤ DeviceFail → Told → Type 0
+AnswersCall before argument (Ok answer) after =
     after ≡ told (one_more before.heard (answered argument answer)) before.faults
-Answers before argument (Err DeviceFail.Failed) after = (after.heard ≡ before.heard) × HasRisen before.faults after.faults
-Answers before argument (Err DeviceFail.NoMemory) after = after ≡ before
+AnswersCall before argument (Err DeviceFail.Failed) after = (after.heard ≡ before.heard) × HasRisen before.faults after.faults
+AnswersCall before argument (Err DeviceFail.NoMemory) after = after ≡ before
+
+-- what each device of a list tells
+abbrev pub all_told : {D : Type 0} → (D → Option (List Heard)) → (D → ℕ) → List D → List Told
+all_told heard faults devices = map (λ d. told (heard d) (faults d)) devices
 
 -- device k of a list was called, and the others are as before
 pub record CallsOne (before : List Told) (k : ℕ) (argument : ℤ) (result : Result ℤ DeviceFail) (after : List Told) : Type 0 where
   pub was : Told
   pub is : Told
   pub found : slice_get before k ≡ Some was
-  pub answers : Answers was argument result is
+  pub answers : AnswersCall was argument result is
   pub others : after ≡ slice_set before k is
+
+-- the same of a list of devices, by what each of them tells
+abbrev pub CallsDevice : {D : Type 0} → (D → Option (List Heard)) → (D → ℕ) → List D → ℕ → ℤ → Result ℤ DeviceFail → List D → Type 0
+CallsDevice heard faults before k argument result after = CallsOne (all_told heard faults before) k argument result (all_told heard faults after)

@@ -1,6 +1,6 @@
 //! A device that adds.
 ghost use Rattle.std.specs.Prelude.{◌≡◌, ◌≢◌, [], ◌∷◌, ◌++◌, Some, Err, IfOk};
-ghost use Rattle.ame_device.specs.Calls.{Answers, told};
+ghost use Rattle.ame_device.specs.Calls.{AnswersCall, told};
 ghost use Rattle.ame_device.specs.InMemory.{arguments, wrapping_sum};
 
 use crate::device::Device;
@@ -10,7 +10,7 @@ use crate::told::Heard;
 use std::alloc::Global;
 use std::marker::Model;
 
-/// Answers the sum of all arguments that it heard, this one among them, which wraps at 64 bits. It never
+/// AnswersCall the sum of all arguments that it heard, this one among them, which wraps at 64 bits. It never
 /// fails.
 #[derive(Drop)]
 pub struct Adder {
@@ -47,7 +47,7 @@ impl Device for Adder {
     ghost device_faults = { λ device. device.faults };
 
     fn call(&mut self, argument: i64) -> Result<i64, DeviceFail>
-        ensures answers { Answers (told (Some self.old.heard) self.old.faults) argument result (told (Some self.new.heard) self.new.faults) }
+        ensures answers { AnswersCall (told (Some self.old.heard) self.old.faults) argument result (told (Some self.new.heard) self.new.faults) }
         ensures answer { IfOk result (λ answer. answer ≡ wrapping_sum (arguments self.old.heard ++ argument ∷ [])) }
         ensures never_fails { result ≢ Err DeviceFail.Failed }
     {

@@ -1,6 +1,6 @@
 //! A device that counts.
 ghost use Rattle.std.specs.Prelude.{◌≡◌, ◌≢◌, ◌+◌, [], Some, Err, pos, length, IfOk};
-ghost use Rattle.ame_device.specs.Calls.{Answers, told};
+ghost use Rattle.ame_device.specs.Calls.{AnswersCall, told};
 
 use crate::device::Device;
 use crate::fault::DeviceFail;
@@ -9,7 +9,7 @@ use crate::told::Heard;
 use std::alloc::Global;
 use std::marker::Model;
 
-/// Answers how many calls it answered, this one among them. It never fails.
+/// AnswersCall how many calls it answered, this one among them. It never fails.
 #[derive(Drop)]
 pub struct Counter {
     log: Log,
@@ -40,7 +40,7 @@ impl Device for Counter {
     ghost device_faults = { λ device. device.faults };
 
     fn call(&mut self, argument: i64) -> Result<i64, DeviceFail>
-        ensures answers { Answers (told (Some self.old.heard) self.old.faults) argument result (told (Some self.new.heard) self.new.faults) }
+        ensures answers { AnswersCall (told (Some self.old.heard) self.old.faults) argument result (told (Some self.new.heard) self.new.faults) }
         ensures answer { IfOk result (λ answer. answer ≡ pos (length self.old.heard + 1)) }
         ensures never_fails { result ≢ Err DeviceFail.Failed }
     {

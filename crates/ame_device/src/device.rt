@@ -1,7 +1,7 @@
 //! What a device promises.
 ghost use Rattle.std.specs.Prelude.{◌≡◌, ℕ, List, Option, option_map};
 ghost use Rattle.ame_device.specs.declared.told.Heard.{Heard};
-ghost use Rattle.ame_device.specs.Calls.{Answers, told};
+ghost use Rattle.ame_device.specs.Calls.{AnswersCall, told};
 
 use crate::fault::DeviceFail;
 use crate::told::Heard;
@@ -15,9 +15,9 @@ pub trait Device: Drop {
     // How many calls have failed. It never falls, and a counter of 64 bits stays at its last value.
     ghost device_faults: { Self → ℕ };
 
-    /// Answers an argument.
+    /// AnswersCall an argument.
     fn call(&mut self, argument: i64) -> Result<i64, DeviceFail>
-        ensures answers { Answers (told (device_heard self.old) (device_faults self.old)) argument result (told (device_heard self.new) (device_faults self.new)) };
+        ensures answers { AnswersCall (told (device_heard self.old) (device_faults self.old)) argument result (told (device_heard self.new) (device_faults self.new)) };
 
     /// The calls that it answered, in order; `None` where it doesn't tell them. Takes no memory.
     fn heard(&self) -> Option<&[Heard]>

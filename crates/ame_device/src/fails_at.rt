@@ -1,7 +1,7 @@
 //! A device that fails once.
 ghost use Rattle.std.specs.Prelude.{◌≡◌, ◌↔◌, [], Some, Err, IfOk};
 ghost use Rattle.ame_io.specs.Counts.{next_count};
-ghost use Rattle.ame_device.specs.Calls.{Answers, told};
+ghost use Rattle.ame_device.specs.Calls.{AnswersCall, told};
 
 use crate::device::Device;
 use crate::fault::DeviceFail;
@@ -10,7 +10,7 @@ use crate::told::Heard;
 use std::alloc::Global;
 use std::marker::Model;
 
-/// Answers its argument, and fails at the call with one number. Calls are numbered from 1, those that fail
+/// AnswersCall its argument, and fails at the call with one number. Calls are numbered from 1, those that fail
 /// or lack memory among them; a call past the last number of 64 bits has that number.
 #[derive(Drop)]
 pub struct FailsAt {
@@ -46,7 +46,7 @@ impl Device for FailsAt {
     ghost device_faults = { λ device. device.faults };
 
     fn call(&mut self, argument: i64) -> Result<i64, DeviceFail>
-        ensures answers { Answers (told (Some self.old.heard) self.old.faults) argument result (told (Some self.new.heard) self.new.faults) }
+        ensures answers { AnswersCall (told (Some self.old.heard) self.old.faults) argument result (told (Some self.new.heard) self.new.faults) }
         ensures answer { IfOk result (λ answer. answer ≡ argument) }
         ensures fails { (result ≡ Err DeviceFail.Failed) ↔ (self.new.calls ≡ self.old.fails_at) }
         ensures counted { self.new.calls ≡ next_count self.old.calls }

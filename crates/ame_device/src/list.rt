@@ -1,30 +1,30 @@
 //! Calling one device of a list.
-ghost use Rattle.std.specs.Prelude.{◌≡◌, ◌<◌, length, map};
-ghost use Rattle.ame_device.specs.Calls.{CallsOne, told};
+ghost use Rattle.std.specs.Prelude.{◌<◌, vec_len};
+ghost use Rattle.ame_device.specs.Calls.{CallsDevice};
 
 use crate::device::Device;
 use crate::fault::DeviceFail;
 
 /// Calls the device with a number, from 0.
 pub fn call_device<D: Device>(
-    devices: &mut [D],
+    devices: &mut Vec<D>,
     number: usize,
     argument: i64,
 ) -> Result<i64, DeviceFail>
-    requires { number < length devices.old }
-    ensures { CallsOne (map (λ d. told (D.device_heard d) (D.device_faults d)) devices.old) number argument result (map (λ d. told (D.device_heard d) (D.device_faults d)) devices.new) }
+    requires { number < vec_len devices.old }
+    ensures { CallsDevice D.device_heard D.device_faults devices.old.items number argument result devices.new.items }
 {
     devices[number].call(argument)
 }
 
 /// The same for boxed devices.
 pub fn call_boxed(
-    devices: &mut [Box<dyn Device + Send>],
+    devices: &mut Vec<Box<dyn Device + Send>>,
     number: usize,
     argument: i64,
 ) -> Result<i64, DeviceFail>
-    requires { number < length devices.old }
-    ensures { CallsOne (map (λ d. told (device_heard d) (device_faults d)) devices.old) number argument result (map (λ d. told (device_heard d) (device_faults d)) devices.new) }
+    requires { number < vec_len devices.old }
+    ensures { CallsDevice device_heard device_faults devices.old.items number argument result devices.new.items }
 {
     call_device(devices, number, argument)
 }

@@ -1,6 +1,6 @@
 //! A device that gives the answers of a list.
 ghost use Rattle.std.specs.Prelude.{◌≡◌, ◌↔◌, [], ◌∷◌, Some, Err, IfOk, OnErr};
-ghost use Rattle.ame_device.specs.Calls.{Answers, told};
+ghost use Rattle.ame_device.specs.Calls.{AnswersCall, told};
 
 use crate::device::Device;
 use crate::fault::DeviceFail;
@@ -9,7 +9,7 @@ use crate::told::Heard;
 use std::alloc::Global;
 use std::marker::Model;
 
-/// Answers the next of the answers that it was given, and fails where none is left.
+/// AnswersCall the next of the answers that it was given, and fails where none is left.
 #[derive(Drop)]
 pub struct Tape {
     log: Log,
@@ -47,7 +47,7 @@ impl Device for Tape {
     ghost device_faults = { λ device. device.faults };
 
     fn call(&mut self, argument: i64) -> Result<i64, DeviceFail>
-        ensures answers { Answers (told (Some self.old.heard) self.old.faults) argument result (told (Some self.new.heard) self.new.faults) }
+        ensures answers { AnswersCall (told (Some self.old.heard) self.old.faults) argument result (told (Some self.new.heard) self.new.faults) }
         ensures answer { IfOk result (λ answer. self.old.left ≡ answer ∷ self.new.left) }
         ensures left { OnErr result (self.new.left ≡ self.old.left) }
         ensures fails { (result ≡ Err DeviceFail.Failed) ↔ (self.old.left ≡ []) }

@@ -48,13 +48,13 @@ fn each_answers_in_its_way(rt: HostRuntime) -> Result<(), Fail> {
 
 #[test]
 fn lines_are_written(rt: HostRuntime) -> Result<(), Fail> {
-    let fails = vec![in rt.alloc(); 4u64]?;
+    let fails = vec![in rt.alloc(); 2u64]?;
     let sink = MemSink::new(rt.alloc(), 100, 100, fails)?;
     let mut device = LineDevice::new(sink);
     assert_eq!(rt; device.call(-7), Ok(1));
     assert_eq!(rt; device.call(12), FAILED);
     assert_eq!(rt; device.call(3), Ok(2));
-    assert_eq!(rt; device.sink.written(), b"-7\n123\n".as_slice());
+    assert_eq!(rt; device.sink.written(), b"-7\n3\n".as_slice());
     assert!(rt; device.heard().is_none());
     Ok(())
 }

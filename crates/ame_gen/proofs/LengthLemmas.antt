@@ -1,12 +1,12 @@
 -- How long the text is.
-use Rattle.std.proofs.Common.{◌≡◌, ℕ, zero, suc, ◌+◌, ◌*◌, ◌<◌, ◌≤◌, ◌^◌, List, [], ◌∷◌, ◌++◌, length, decimal, codes, refl, sym, ap, ◌∙◌, subst, arith, length-append}
-use Rattle.std.specs.List.{flat_map, range_with_len}
+use Rattle.std.proofs.Common.{◌≡◌, ℕ, zero, suc, ◌+◌, ◌*◌, ◌<◌, ◌≤◌, List, [], ◌∷◌, ◌++◌, length, decimal, codes, refl, ap, ◌∙◌, arith, length-append}
+use Rattle.std.specs.List.{flat_map}
 use Rattle.std.proofs.lemmas.Fmt.{decimal_digit, length-decimal-le}
 use Rattle.std.proofs.lemmas.Grind.{flat_map-append}
 use Rattle.ame_gen.specs.declared.transfers.Transfer.{Transfer}
 use Rattle.ame_gen.specs.Transfers.{accounts, transfer, transfers, IsTransfer}
-use Rattle.ame_gen.specs.Balances.{start}
-use Rattle.ame_gen.specs.Template.{account_line, transfer_line, print_of, report_line, account_lines, transfer_lines, text_of}
+use Rattle.ame_gen.specs.Balances.{initial_balance}
+use Rattle.ame_gen.specs.Template.{account_line, transfer_line, print_of, report_line, account_lines, transfer_lines, program_text}
 use Rattle.ame_gen.proofs.MoneyLemmas.{IsTransfer-transfer}
 
 length-digit : (n : ℕ) → n < 10 → length (decimal n) ≡ 1
@@ -65,10 +65,10 @@ length-report_line size small =
     around : (d p : List ℕ) → length (codes "(async (do (blockUntil (= (get done) " ++ d ++ codes "))" ++ p ++ codes "))\n") ≡ length d + length p + 42
     around d p = simp length-append (omega arith)
 
-pub length-text : (seed size : ℕ) → size ≤ 4000 → length (text_of seed size) ≤ 123 * size + 393
+pub length-text : (seed size : ℕ) → size ≤ 4000 → length (program_text seed size) ≤ 123 * size + 393
 length-text seed size small =
-    let money : start size < 100000 = omega arith in
-    omega (arith, whole (account_lines (start size)) (transfer_lines seed size) (report_line size), length-account_lines (start size) money, length-transfer_lines seed size, length-report_line size (omega arith))
+    let money : initial_balance size < 100000 = omega arith in
+    omega (arith, whole (account_lines (initial_balance size)) (transfer_lines seed size) (report_line size), length-account_lines (initial_balance size) money, length-transfer_lines seed size, length-report_line size (omega arith))
   where
     whole : (a t r : List ℕ) → length (a ++ codes "(let done (ref p 0)\n" ++ codes "(do\n" ++ t ++ r ++ codes "))))))))))\n") ≡ length a + length t + length r + 35
     whole a t r = simp length-append (omega arith)

@@ -1,10 +1,10 @@
 -- What accounts pay and get.
-use Rattle.std.proofs.Common.{◌≡◌, ℕ, zero, suc, ◌+◌, ◌-◌, ◌*◌, ◌<◌, ◌≤◌, ◌%◌, ◌==◌, Bool, true, false, cond, List, [], ◌∷◌, ◌++◌, All, map, sum, sum_by, refl, sym, ap, ◌∙◌, subst, arith, rules}
+use Rattle.std.proofs.Common.{◌≡◌, ℕ, zero, suc, ◌+◌, ◌*◌, ◌<◌, ◌≤◌, ◌==◌, Bool, true, false, cond, All, map, sum, sum_by, refl, arith, rules}
 use Rattle.std.proofs.lemmas.List.Elements.{All-push}
 use Rattle.std.proofs.lemmas.List.Sums.{sum_by_push}
 use Rattle.ame_gen.specs.declared.transfers.Transfer.{Transfer}
 use Rattle.ame_gen.specs.Transfers.{accounts, transfer, transfers, IsTransfer}
-use Rattle.ame_gen.specs.Balances.{start, paid, got, balance}
+use Rattle.ame_gen.specs.Balances.{initial_balance, paid, got, balance}
 
 pub IsTransfer-transfer : (seed place : ℕ) → IsTransfer (transfer seed place)
 IsTransfer-transfer seed place = record { from = omega arith; to = omega arith; some = omega arith; most = omega arith }
@@ -18,7 +18,7 @@ choice-le : (b : Bool) (n : ℕ) → cond b n 0 ≤ n
 choice-le true n = omega arith
 choice-le false n = omega arith
 
-pub paid-le-start : (seed size account : ℕ) → sum_by (paid account) (transfers seed size) ≤ start size
+pub paid-le-start : (seed size account : ℕ) → sum_by (paid account) (transfers seed size) ≤ initial_balance size
 paid-le-start seed zero account = omega arith
 paid-le-start seed (suc size) account =
     let t = transfer seed size in
@@ -74,12 +74,12 @@ all-paid seed (suc size) =
       sum_by_push (got 7) ts t,
     )
 
-balance-plus-paid : (seed size account : ℕ) → balance seed size account + sum_by (paid account) (transfers seed size) ≡ start size + sum_by (got account) (transfers seed size)
+balance-plus-paid : (seed size account : ℕ) → balance seed size account + sum_by (paid account) (transfers seed size) ≡ initial_balance size + sum_by (got account) (transfers seed size)
 balance-plus-paid seed size account = omega (arith, paid-le-start seed size account)
 
-pub all-balances : (seed size : ℕ) → sum (map (balance seed size) accounts) ≡ 8 * start size
+pub all-balances : (seed size : ℕ) → sum (map (balance seed size) accounts) ≡ 8 * initial_balance size
 all-balances seed size =
-    eight-parts (balance seed size) (λ a. sum_by (paid a) (transfers seed size)) (λ a. sum_by (got a) (transfers seed size)) (start size) (balance-plus-paid seed size) (all-paid seed size)
+    eight-parts (balance seed size) (λ a. sum_by (paid a) (transfers seed size)) (λ a. sum_by (got a) (transfers seed size)) (initial_balance size) (balance-plus-paid seed size) (all-paid seed size)
   where
     eight-parts : (b p g : ℕ → ℕ) (s : ℕ) → ((a : ℕ) → b a + p a ≡ s + g a) → sum (map p accounts) ≡ sum (map g accounts) → sum (map b accounts) ≡ 8 * s
     eight-parts b p g s each same = omega (arith, each 0, each 1, each 2, each 3, each 4, each 5, each 6, each 7)

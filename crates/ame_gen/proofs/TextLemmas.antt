@@ -3,7 +3,7 @@ use Rattle.std.proofs.Common.{◌≡◌, ℕ, zero, suc, ◌+◌, ◌*◌, ◌%�
 use Rattle.std.specs.List.{flat_map, range_with_len}
 use Rattle.std.proofs.lemmas.Grind.{flat_map-append}
 use Rattle.ame_gen.specs.declared.transfers.Transfer.{Transfer}
-use Rattle.ame_gen.specs.Stream.{next, number}
+use Rattle.ame_gen.specs.Stream.{next, stream_at}
 use Rattle.ame_gen.specs.Transfers.{transfer, transfers, drawn_after}
 use Rattle.ame_gen.specs.Template.{print_of, transfer_line, transfer_lines}
 
@@ -61,23 +61,23 @@ transfers-more seed size old text new before is =
     is ∙ ap (λ t. t ++ line) before ∙ append_assoc old front line ∙ ap (λ t. old ++ t) (sym whole)
 
 -- the next three numbers
-number-next : (seed k m : ℕ) → m ≡ k + 1 → number seed m ≡ next (number seed k)
-number-next seed k m e = ap (number seed) (e ∙ add-one k)
+stream-next : (seed k m : ℕ) → m ≡ k + 1 → stream_at seed m ≡ next (stream_at seed k)
+stream-next seed k m e = ap (stream_at seed) (e ∙ add-one k)
 
-pub number-thrice : (seed size : ℕ) → number seed (3 * (size + 1)) ≡ next (next (next (number seed (3 * size))))
-number-thrice seed size =
-    number-next seed (3 * size + 2) (3 * (size + 1)) (omega arith) ∙ ap next (number-next seed (3 * size + 1) (3 * size + 2) (omega arith)
-    ∙ ap next (number-next seed (3 * size) (3 * size + 1) refl))
+pub stream-thrice : (seed size : ℕ) → stream_at seed (3 * (size + 1)) ≡ next (next (next (stream_at seed (3 * size))))
+stream-thrice seed size =
+    stream-next seed (3 * size + 2) (3 * (size + 1)) (omega arith) ∙ ap next (stream-next seed (3 * size + 1) (3 * size + 2) (omega arith)
+    ∙ ap next (stream-next seed (3 * size) (3 * size + 1) refl))
 
 abbrev made : ℕ → ℕ → ℕ → Transfer
 made a b c = record { from = a % 8; to = b % 8; amount = c % 9 + 1 }
 
 -- the transfer that is drawn stands in this place
-pub transfer-drawn : (seed size last : ℕ) → last ≡ number seed (3 * size) → drawn_after last ≡ transfer seed size
+pub transfer-drawn : (seed size last : ℕ) → last ≡ stream_at seed (3 * size) → drawn_after last ≡ transfer seed size
 transfer-drawn seed size last e =
-    let one : number seed (3 * size + 1) ≡ next last = number-next seed (3 * size) (3 * size + 1) refl ∙ ap next (sym e) in
-    let two : number seed (3 * size + 2) ≡ next (next last) = number-next seed (3 * size + 1) (3 * size + 2) (omega arith) ∙ ap next one in
-    let three : number seed (3 * size + 3) ≡ next (next (next last)) = number-next seed (3 * size + 2) (3 * size + 3) (omega arith) ∙ ap next two in
+    let one : stream_at seed (3 * size + 1) ≡ next last = stream-next seed (3 * size) (3 * size + 1) refl ∙ ap next (sym e) in
+    let two : stream_at seed (3 * size + 2) ≡ next (next last) = stream-next seed (3 * size + 1) (3 * size + 2) (omega arith) ∙ ap next one in
+    let three : stream_at seed (3 * size + 3) ≡ next (next (next last)) = stream-next seed (3 * size + 2) (3 * size + 3) (omega arith) ∙ ap next two in
     three_parts _ _ _ _ _ _ (sym one) (sym two) (sym three)
   where
     three_parts : (a b c x y z : ℕ) → a ≡ x → b ≡ y → c ≡ z → made a b c ≡ made x y z

@@ -4,8 +4,8 @@ use Rattle.ame_gen.specs.declared.transfers.Transfer.{Transfer}
 use Rattle.ame_gen.specs.Transfers.{transfers}
 
 -- what each account has at the beginning
-abbrev pub start : ℕ → ℕ
-start size = 9 * size
+abbrev pub initial_balance : ℕ → ℕ
+initial_balance size = 9 * size
 
 -- what an account pays in a transfer
 abbrev pub paid : ℕ → Transfer → ℕ
@@ -17,4 +17,4 @@ got account t = if t.to == account then t.amount else 0
 
 -- what an account has when all transfers were made
 abbrev pub balance : ℕ → ℕ → ℕ → ℕ
-balance seed size account = start size + sum_by (got account) (transfers seed size) - sum_by (paid account) (transfers seed size)
+balance seed size account = initial_balance size + sum_by (got account) (transfers seed size) - sum_by (paid account) (transfers seed size)

@@ -6,6 +6,6 @@ abbrev pub next : ℕ → ℕ
 next x = (75 * x + 74) % 65537
 
 -- the number in this place; the seed stands in place 0
-abbrev pub number : ℕ → ℕ → ℕ
-number seed zero = seed
-number seed (suc place) = next (number seed place)
+abbrev pub stream_at : ℕ → ℕ → ℕ
+stream_at seed zero = seed
+stream_at seed (suc place) = next (stream_at seed place)

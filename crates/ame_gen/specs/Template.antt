@@ -3,7 +3,7 @@ use Rattle.std.specs.Prelude.{ℕ, List, ◌++◌, codes, decimal}
 use Rattle.std.specs.List.{flat_map}
 use Rattle.ame_gen.specs.declared.transfers.Transfer.{Transfer}
 use Rattle.ame_gen.specs.Transfers.{accounts, transfers}
-use Rattle.ame_gen.specs.Balances.{start}
+use Rattle.ame_gen.specs.Balances.{initial_balance}
 
 -- a cell for an account
 abbrev pub account_line : ℕ → ℕ → List ℕ
@@ -31,6 +31,6 @@ abbrev pub transfer_lines : ℕ → ℕ → List ℕ
 transfer_lines seed size = flat_map transfer_line (transfers seed size)
 
 -- the whole text
-abbrev pub text_of : ℕ → ℕ → List ℕ
-text_of seed size =
-    account_lines (start size) ++ codes "(let done (ref p 0)\n" ++ codes "(do\n" ++ transfer_lines seed size ++ report_line size ++ codes "))))))))))\n"
+abbrev pub program_text : ℕ → ℕ → List ℕ
+program_text seed size =
+    account_lines (initial_balance size) ++ codes "(let done (ref p 0)\n" ++ codes "(do\n" ++ transfer_lines seed size ++ report_line size ++ codes "))))))))))\n"

@@ -2,7 +2,7 @@
 use Rattle.std.specs.Prelude.{ℕ, zero, suc, ◌+◌, ◌*◌, ◌%◌, ◌<◌, ◌≤◌, List, [], ◌∷◌, ◌++◌}
 use Rattle.std.specs.List.{range_with_len}
 use Rattle.ame_gen.specs.declared.transfers.Transfer.{Transfer}
-use Rattle.ame_gen.specs.Stream.{next, number}
+use Rattle.ame_gen.specs.Stream.{next, stream_at}
 
 -- the accounts, by their numbers
 abbrev pub accounts : List ℕ
@@ -11,9 +11,9 @@ accounts = range_with_len 0 8
 -- the transfer in this place, from 0: each takes the next three numbers
 abbrev pub transfer : ℕ → ℕ → Transfer
 transfer seed place = record {
-  from = number seed (3 * place + 1) % 8;
-  to = number seed (3 * place + 2) % 8;
-  amount = number seed (3 * place + 3) % 9 + 1;
+  from = stream_at seed (3 * place + 1) % 8;
+  to = stream_at seed (3 * place + 2) % 8;
+  amount = stream_at seed (3 * place + 3) % 9 + 1;
 }
 
 -- the first transfers, as many as this

@@ -1,8 +1,9 @@
 //! What holds of the transfers and of the text. Each is a fact for proofs, and does nothing.
 ghost use Rattle.std.specs.Prelude.{◌≡◌, ◌≤◌, ◌<◌, ◌*◌, ◌+◌, ℕ, All, [], ◌∷◌, length, map, sum, sum_by};
 ghost use Rattle.ame_gen.specs.Transfers.{accounts, transfers, IsTransfer};
-ghost use Rattle.ame_gen.specs.Balances.{start, paid, balance};
-ghost use Rattle.ame_gen.specs.Template.{text_of};
+ghost use Rattle.ame_gen.specs.Balances.{initial_balance, paid, balance};
+ghost use Rattle.ame_gen.specs.Template.{program_text};
+ghost use Rattle.ame_gen.specs.declared.text.TheConstants.{SIZE_LIMIT};
 
 /// Each transfer is between two of the eight accounts, and moves 1 to 9.
 pub fn transfers_are_valid()
@@ -12,12 +13,12 @@ pub fn transfers_are_valid()
 /// What an account pays in all is at most what it has at the beginning. So it never lacks money, in whatever
 /// order the transfers are made.
 pub fn money_suffices()
-    ensures { (seed size account : ℕ) → sum_by (paid account) (transfers seed size) ≤ start size }
+    ensures { (seed size account : ℕ) → sum_by (paid account) (transfers seed size) ≤ initial_balance size }
 {}
 
 /// All accounts together have at the end what they had at the beginning.
 pub fn money_stays()
-    ensures { (seed size : ℕ) → sum (map (balance seed size) accounts) ≡ 8 * start size }
+    ensures { (seed size : ℕ) → sum (map (balance seed size) accounts) ≡ 8 * initial_balance size }
 {}
 
 /// What the eight accounts have at the end, for seed 1 and two transfers.
@@ -27,5 +28,5 @@ pub fn first_balances()
 
 /// The text has 123 bytes for each transfer, and at most 393 beside them.
 pub fn length_is_linear()
-    ensures { (seed size : ℕ) → size ≤ 4000 → length (text_of seed size) ≤ 123 * size + 393 }
+    ensures { (seed size : ℕ) → size ≤ SIZE_LIMIT → length (program_text seed size) ≤ 123 * size + 393 }
 {}

@@ -15,5 +15,6 @@ pub use laws::{
     first_balances, length_is_linear, money_stays, money_suffices, transfers_are_valid,
 };
 pub use no_memory::NoMemory;
-pub use text::generate;
+pub use numbers::{Numbers, SEED_LIMIT};
+pub use text::{SIZE_LIMIT, generate};
 pub use transfers::Transfer;

@@ -1,4 +1,4 @@
-use crate::generate;
+use crate::{Numbers, SEED_LIMIT, generate};
 use std::test::Fail;
 
 /// The text for seed 1 and two transfers, written by hand.
@@ -39,4 +39,19 @@ fn lengths(rt: HostRuntime) -> Result<(), Fail> {
         assert_eq!(rt; text.len(), len);
     }
     Ok(())
+}
+
+/// Each number is 75 times the one before and 74 more, modulo 65,537. The greatest seed is followed by itself.
+#[test]
+fn numbers_are_drawn_in_order(rt: HostRuntime) {
+    for (seed, drawn) in [
+        (0, [74, 5624, 28652]),
+        (1, [149, 11_249, 57_305]),
+        (SEED_LIMIT, [65_536, 65_536, 65_536]),
+    ] {
+        let mut numbers = Numbers::new(seed);
+        for number in drawn {
+            assert_eq!(rt; numbers.draw(), number);
+        }
+    }
 }

@@ -15,8 +15,8 @@ pub struct Transfer {
 
 /// The transfer that the next three numbers make.
 pub(crate) fn draw_transfer(numbers: &mut Numbers) -> Transfer
-    ensures drawn { result ≡ drawn_after numbers.old.last }
-    ensures after { numbers.new.last ≡ next (next (next numbers.old.last)) }
+    ensures drawn { result ≡ drawn_after numbers.old }
+    ensures after { numbers.new ≡ next (next (next numbers.old)) }
 {
     Transfer {
         from: numbers.draw() % 8,

@@ -1,3 +1,4 @@
 pub mod CountsLemmas
 pub mod ReadsLemmas
 pub mod WritesLemmas
+pub mod LinesLemmas

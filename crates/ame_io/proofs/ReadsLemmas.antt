@@ -1,21 +1,9 @@
 -- Reads, over the bytes that a source tells.
-use Rattle.std.proofs.Common.{◌≡◌, ℕ, ◌+◌, ◌-◌, ◌<◌, ◌≤◌, min, List, [], ◌++◌, length, take, drop, Option, Some, None, IfSome, sym, ap, ◌∙◌, arith, drop_of_length-le}
-use Rattle.std.proofs.lemmas.List.{append-nil, length-append, take_at, take-append-drop, length-take-le, drop-drop}
+use Rattle.std.proofs.Common.{◌≡◌, ℕ, ◌+◌, ◌-◌, ◌<◌, ◌≤◌, min, List, [], ◌++◌, length, take, drop, Option, sym, ap, ◌∙◌, arith, drop_of_length-le}
+use Rattle.std.proofs.lemmas.List.{length-append, take_at, take-append-drop, length-take-le, drop-drop}
 use Rattle.std.specs.Io.KnownBytes.{Consumes}
 use Rattle.std.proofs.KnownBytes.{Consumes-trans}
-use Rattle.ame_io.specs.Reads.{IsReadWhole, GivesMoreThan}
-
--- the bytes of a whole read are those that were left
-pub IsReadWhole-all : (before after : Option (List ℕ)) (bytes : List ℕ) → IsReadWhole before after bytes → IfSome before (λ left. bytes ≡ left)
-IsReadWhole-all None after bytes h = tt
-IsReadWhole-all (Some x) None bytes h = absurd h.taken
-IsReadWhole-all (Some x) (Some y) bytes h = sym (h.taken ∙ ap (λ l. bytes ++ l) h.at_end ∙ append-nil bytes)
-
--- a source that gave more than a limit had more than it left
-pub GivesMoreThan-left : (limit : ℕ) (before after : Option (List ℕ)) → GivesMoreThan limit before after → IfSome before (λ left. limit < length left)
-GivesMoreThan-left limit None after h = tt
-GivesMoreThan-left limit (Some x) None h = absurd h.taken
-GivesMoreThan-left limit (Some x) (Some y) h = omega (arith, h.more, length-append h.bytes y, ap length h.taken)
+use Rattle.ame_io.specs.Reads.{GivesMoreThan}
 
 -- a read past a limit
 pub GivesMoreThan-read : (limit : ℕ) (a b c : Option (List ℕ)) (bytes chunk : List ℕ) (n : ℕ) → Consumes a b bytes

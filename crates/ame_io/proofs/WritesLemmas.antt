@@ -1,7 +1,7 @@
 -- Writes, over the bytes that a sink tells.
-use Rattle.std.proofs.Common.{◌≡◌, ℕ, ◌+◌, List, [], ◌++◌, take, drop, Option, sym, ap, ◌∙◌, subst, append_assoc}
+use Rattle.std.proofs.Common.{◌≡◌, ℕ, ◌+◌, List, ◌++◌, take, drop, Option, sym, ap, ◌∙◌, subst, append_assoc}
 use Rattle.std.proofs.Math.Seq.{take-add}
-use Rattle.std.proofs.lemmas.List.{append-nil, take-append-drop}
+use Rattle.std.proofs.lemmas.List.{take-append-drop}
 use Rattle.std.specs.Io.KnownBytes.{Appends}
 use Rattle.std.proofs.KnownBytes.{Appends-trans}
 use Rattle.ame_io.specs.Writes.{AppendsFirst, AppendsFront}
@@ -15,10 +15,6 @@ Appends-take_more a b c text rest gone n is p q =
 -- the first n bytes of a text are a front of it
 pub AppendsFront-first : (n : ℕ) (a b : Option (List ℕ)) (text : List ℕ) → AppendsFirst n a b text → AppendsFront a b text
 AppendsFront-first n a b text p = record { front = take n text; rest = drop n text; split = sym (take-append-drop n text); appended = p }
-
--- a whole text is a front of it
-pub AppendsFront-whole : (a b : Option (List ℕ)) (text : List ℕ) → Appends a b text → AppendsFront a b text
-AppendsFront-whole a b text p = record { front = text; rest = []; split = sym (append-nil text); appended = p }
 
 -- a front of a text is a front of a longer one
 pub AppendsFront-longer : (a b : Option (List ℕ)) (text more : List ℕ) → AppendsFront a b text → AppendsFront a b (text ++ more)

@@ -4,12 +4,15 @@ use Rattle.std.specs.Io.KnownBytes.{Consumes, IsAtEnd}
 use Rattle.ame_io.specs.Counts.{HasRisen}
 use Rattle.ame_io.specs.declared.whole_read.ReadAllFail.{ReadAllFail}
 use Rattle.ame_io.specs.declared.whole_read.ReadAllFail.TheVariants.{ReadFault, TooLong, NoMemory}
-use Rattle.ame_io.specs.declared.whole_read.TheConstants.{READ_LIMIT}
 
 -- these are all the bytes that were left, and they were read to their end
 pub record IsReadWhole (before after : Option (List ℕ)) (bytes : List ℕ) : Type 0 where
   pub taken : Consumes before after bytes
   pub at_end : IsAtEnd after
+
+-- the most bytes that a whole input may have
+abbrev pub whole_limit : ℕ
+whole_limit = 1048576
 
 -- at most so many bytes were taken from the front
 pub record GivesAtMost (limit : ℕ) (before after : Option (List ℕ)) : Type 0 where
@@ -25,8 +28,8 @@ pub record GivesMoreThan (limit : ℕ) (before after : Option (List ℕ)) : Type
 
 -- the bytes that are left after a read of the whole that failed
 abbrev pub LeftAfter : ReadAllFail → Option (List ℕ) → Option (List ℕ) → Type 0
-LeftAfter ReadFault before after = GivesAtMost READ_LIMIT before after
-LeftAfter TooLong before after = GivesMoreThan READ_LIMIT before after
+LeftAfter ReadFault before after = GivesAtMost whole_limit before after
+LeftAfter TooLong before after = GivesMoreThan whole_limit before after
 LeftAfter NoMemory before after = after ≡ before
 
 -- the count of faults after a read of the whole that failed

@@ -4,6 +4,7 @@
 
 mod append;
 mod ends;
+mod line;
 mod mem_sink;
 mod mem_source;
 mod no_memory;
@@ -16,6 +17,7 @@ mod whole_read;
 mod whole_write;
 
 pub use ends::{Failed, Sink, Source};
+pub use line::{Line, integer_line, write_line};
 pub use mem_sink::MemSink;
 pub use mem_source::MemSource;
 pub use no_memory::NoMemory;

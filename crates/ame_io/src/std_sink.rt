@@ -4,8 +4,9 @@ ghost use Rattle.std.specs.Prelude.{◌≡◌};
 use crate::ends::{Failed, Sink};
 use std::io::Write;
 
-/// Adapts a writer, as standard output. An error of any kind is a fault, and so is a write that takes nothing. It isn't
-/// flushed, so the writer must not keep bytes back.
+/// Adapts a writer, as standard output. An error of any kind is a fault, and so is a write that takes nothing. Of errors a
+/// test says so with a writer that fails once, since no clause can. It isn't flushed, so the writer must not keep bytes
+/// back.
 #[derive(Drop)]
 pub struct StdSink<W> {
     writer: W,
@@ -33,6 +34,52 @@ impl<W: Write> Sink for StdSink<W> {
                 self.faults = self.faults.saturating_add(1);
                 Err(Failed)
             }
+        }
+    }
+}
+
+#[cfg(test)]
+mod tests {
+    use super::*;
+    use std::io;
+    use std::io::ErrorKind;
+
+    /// Fails at its first call, or takes nothing, and takes every byte at each later one.
+    #[derive(Drop)]
+    struct FailsFirst {
+        error: Option<ErrorKind>,
+        calls: u32,
+    }
+
+    impl Write for FailsFirst {
+        fn write(&mut self, buf: &[u8]) -> io::Result<usize> {
+            self.calls = self.calls.saturating_add(1);
+            match (self.calls, self.error) {
+                (1, Some(kind)) => Err(io::Error::from(kind)),
+                (1, None) => Ok(0),
+                _ => Ok(buf.len()),
+            }
+        }
+
+        fn flush(&mut self) -> io::Result<()> {
+            Ok(())
+        }
+    }
+
+    #[test]
+    fn the_first_error_is_answered_and_the_next_write_goes_on(rt: HostRuntime) {
+        let errors = [
+            Some(ErrorKind::Interrupted),
+            Some(ErrorKind::WouldBlock),
+            Some(ErrorKind::Other),
+            None,
+        ];
+        for error in errors {
+            let mut sink = StdSink::new(FailsFirst { error, calls: 0 });
+            assert_eq!(rt; sink.write(b"ab"), Err(Failed));
+            assert_eq!(rt; sink.faults, 1);
+            assert_eq!(rt; sink.write(b"ab"), Ok(2));
+            assert_eq!(rt; (sink.faults, sink.writer.calls), (1, 2));
         }
     }
 }

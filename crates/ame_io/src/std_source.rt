@@ -4,7 +4,8 @@ ghost use Rattle.std.specs.Prelude.{◌≡◌};
 use crate::ends::{Failed, Source};
 use std::io::Read;
 
-/// Adapts a reader, as standard input. An error of any kind is a fault, an interrupted read too.
+/// Adapts a reader, as standard input. An error of any kind is a fault, an interrupted read too. No clause can say so,
+/// since the reader may tell nothing of its errors; a test with a reader that fails once does.
 #[derive(Drop)]
 pub struct StdSource<R> {
     reader: R,
@@ -32,6 +33,51 @@ impl<R: Read> Source for StdSource<R> {
                 self.faults = self.faults.saturating_add(1);
                 Err(Failed)
             }
+        }
+    }
+}
+
+#[cfg(test)]
+mod tests {
+    use super::*;
+    use std::io;
+    use std::io::ErrorKind;
+
+    /// Fails at its first call, and fills the buffer at each later one.
+    #[derive(Drop)]
+    struct FailsFirst {
+        kind: ErrorKind,
+        has_failed: bool,
+    }
+
+    impl Read for FailsFirst {
+        fn read(&mut self, buf: &mut [u8]) -> io::Result<usize> {
+            if !self.has_failed {
+                self.has_failed = true;
+                return Err(io::Error::from(self.kind));
+            }
+            buf.fill(7);
+            Ok(buf.len())
+        }
+    }
+
+    #[test]
+    fn the_first_error_is_answered_and_the_next_read_goes_on(rt: HostRuntime) {
+        let kinds = [
+            ErrorKind::Interrupted,
+            ErrorKind::WouldBlock,
+            ErrorKind::Other,
+        ];
+        for kind in kinds {
+            let mut source = StdSource::new(FailsFirst {
+                kind,
+                has_failed: false,
+            });
+            let mut buf = [0; 2];
+            assert_eq!(rt; source.read(&mut buf), Err(Failed));
+            assert_eq!(rt; source.faults, 1);
+            assert_eq!(rt; source.read(&mut buf), Ok(2));
+            assert_eq!(rt; (source.faults, buf), (1, [7, 7]));
         }
     }
 }

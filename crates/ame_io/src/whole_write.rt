@@ -2,7 +2,7 @@
 ghost use Rattle.std.specs.Prelude.{◌≡◌, ◌<◌, length, IfErr, OnOk, OnErr};
 ghost use Rattle.std.specs.Io.KnownBytes.{Appends};
 ghost use Rattle.ame_io.specs.Counts.{HasRisen};
-ghost use Rattle.ame_io.specs.Writes.{AppendsFirst};
+ghost use Rattle.ame_io.specs.Writes.{AppendsFirst, AppendsFront};
 
 use crate::ends::{Failed, Sink};
 
@@ -19,6 +19,7 @@ pub fn write_all<K: Sink>(sink: &mut K, bytes: &[u8]) -> Result<(), WriteFault>
 
     // It fails only where the sink does.
     ensures gone { IfErr result (λ e. AppendsFirst e.gone (K.written sink.old) (K.written sink.new) bytes.now) }
+    ensures front { OnErr result (AppendsFront (K.written sink.old) (K.written sink.new) bytes.now) }
     ensures short { IfErr result (λ e. e.gone < length bytes.now) }
     ensures risen { OnErr result (HasRisen (K.faults sink.old) (K.faults sink.new)) }
 {

@@ -3,7 +3,7 @@ ghost use Rattle.std.specs.Prelude.{◌≡◌, ◌+◌, [], ◌∷◌, ◌++◌,
 ghost use Rattle.crossbeam_queue.specs.Passes.{view, IsPassOf};
 ghost use Rattle.ame_baton.specs.Seats.{left_by, Ends};
 ghost use Rattle.ame_baton.specs.Rule.{IsFirst, with_ended};
-ghost use Rattle.ame_baton.specs.Batons.{knows, left_by_each, IsReady, AreReady};
+ghost use Rattle.ame_baton.specs.Batons.{knows, left_by_each, IsReadySeat, AreReady};
 
 use super::Baton;
 use crate::seats::Seat;
@@ -18,7 +18,7 @@ impl<S: Rowed> Baton<S> {
     pub fn end<R: Wait>(self, rt: &R, first: Seat<S>, rest: Vec<Seat<S>>) -> S
     where
         S: Drop,
-        requires first { IsReady self 0 first }
+        requires first { IsReadySeat self 0 first }
         requires rest { AreReady self 1 rest.items }
         requires all { (knows first).made ≡ vec_len rest + 1 }
         ensures { Ends S.stands_for S.empty_row S.seat_of
@@ -50,7 +50,7 @@ impl<S: Rowed> Baton<S> {
     fn join(&self, pass: &mut Pass<S, View<S>>, seat: Seat<S>)
         requires of { IsPassOf self.now.queue pass.old }
         requires first { IsFirst (view pass.old) }
-        requires next { IsReady self.now (length (view pass.old).ended + 1) seat }
+        requires next { IsReadySeat self.now (length (view pass.old).ended + 1) seat }
         ensures of { IsPassOf self.now.queue pass.new }
         ensures kept { let k = view pass.old in
             view pass.new ≡ with_ended k (k.ended ++ left_by (knows seat) ∷ []) }

@@ -1,6 +1,7 @@
 //! How a baton is made, and how its seats are.
 ghost use Rattle.std.specs.Prelude.{◌≡◌, ◌+◌, ◌<◌, ◌≤◌, false, [], replicate, IfOk, IfErr};
 ghost use Rattle.ame_baton.specs.Seats.{first_seat, next_seat};
+ghost use Rattle.ame_baton.specs.declared.state.TheConstants.{SEAT_LIMIT};
 ghost use Rattle.ame_baton.specs.Batons.{knows, IsSeatOf};
 
 use super::Baton;
@@ -15,7 +16,7 @@ impl<S: Rowed> Baton<S> {
     /// Puts the state under the rule, and gives seat 0. Where memory runs out the state comes back.
     pub fn new<R: Wait>(rt: &R, alloc: Global, state: S) -> Result<(Baton<S>, Seat<S>), S>
         requires some { 1 ≤ S.seats_in (S.opening state) }
-        requires few { S.seats_in (S.opening state) ≤ 32 }
+        requires few { S.seats_in (S.opening state) ≤ SEAT_LIMIT }
         // The state stands for its own opening, with empty rows and no entries.
         requires opening { let fixed = S.opening state in
             S.stands_for state fixed (replicate (S.seats_in fixed) S.empty_row) [] }

@@ -2,7 +2,7 @@ use Rattle.std.proofs.Common.{◌≡◌, [], ◌∷◌, ◌++◌, OnOk, ap, sym,
 use Rattle.std.proofs.lemmas.Result.{on_ok_weaker, on_err_weaker}
 use Rattle.ame_baton.specs.Batons.{knows}
 use Rattle.ame_baton.specs.Tallies.{Counts, IsAsBefore}
-use Rattle.ame_baton.proofs.Counting.{Known, may_count, gave_added}
+use Rattle.ame_baton.proofs.Counting.{Known, may_count, gave_added, gave_row}
 use Rattle.ame_baton.proofs.tally.count.Goals as goal
 
 pub give-requires-clause-may : goal.give-requires-clause-may
@@ -22,4 +22,10 @@ returns-clause-refused g c = let before : Known = knows c.args.seat.now in let t
     let t = c.take-tally.result in let t' = c.add-counted.new.self in let after : Known = knows c.give.new.seat in
     let all : IsAsBefore t t' → after.own ≡ before.own = λ is. gave_added before (knows c.take-tally.new.seat) t t' taken (λ row. Unit {0}) after [] c.give.ensures.given (is.log ∙ sym (append-nil t.log.items))
     ∙ append-nil before.own in
+    on_err_weaker c.add-counted.result all c.add-counted.ensures.err
+
+pub returns-clause-row : goal.returns-clause-row
+returns-clause-row g c =
+    let all : IsAsBefore c.take-tally.result c.add-counted.new.self → (knows c.give.new.seat).row ≡ (knows c.args.seat.now).row = λ is. gave_row (knows c.args.seat.now) (knows c.take-tally.new.seat)
+    c.take-tally.result c.add-counted.new.self c.take-tally.ensures.taken (λ row. Unit {0}) (knows c.give.new.seat) c.give.ensures.given is.last in
     on_err_weaker c.add-counted.result all c.add-counted.ensures.err

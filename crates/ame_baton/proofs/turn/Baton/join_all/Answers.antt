@@ -3,7 +3,7 @@ use Rattle.std.specs.Vec.Iter.{into_iter_items}
 use Rattle.crossbeam_queue.specs.Passes.{view}
 use Rattle.ame_baton.specs.Seats.{left_by}
 use Rattle.ame_baton.specs.Rule.{IsFirst}
-use Rattle.ame_baton.specs.Batons.{knows, IsReady, AreReady}
+use Rattle.ame_baton.specs.Batons.{knows, IsReadySeat, AreReady}
 use Rattle.ame_baton.proofs.Readiness.{ready_head, ready_tail, length_map, kept_more}
 use Rattle.ame_baton.proofs.turn.Baton.join_all.Goals as goal
 
@@ -20,7 +20,7 @@ loop-seat-init g c = let it = c.into_iter-seat-iterator in let gives = it.ensure
 pub join-requires-clause-next : goal.join-requires-clause-next
 join-requires-clause-next g c = let at = c.loop-seat in let inv = at.invariant in
     let count : length (view at.pass).ended ≡ length at.yielded = ap (λ k. length k.ended) inv.kept ∙ length_map (λ s. left_by (knows s)) at.yielded in
-    subst (λ n. IsReady c.args.self.now (n + 1) c.in-Some.seat) (sym count)
+    subst (λ n. IsReadySeat c.args.self.now (n + 1) c.in-Some.seat) (sym count)
     (ready_head c.args.self.now (length at.yielded + 1) c.in-Some.seat (into_iter_items c.next.new.self) (subst (AreReady c.args.self.now (length at.yielded + 1)) c.in-Some.ensures.steps.0 inv.ready))
 
 pub loop-seat-preserved : goal.loop-seat-preserved

@@ -1,0 +1,56 @@
+//! One line of output, made on the stack.
+ghost use Rattle.std.specs.Prelude.{◌≡◌, ◌++◌, OnOk, OnErr};
+ghost use Rattle.std.specs.Io.KnownBytes.{Appends};
+ghost use Rattle.ame_io.specs.Counts.{HasRisen};
+ghost use Rattle.ame_io.specs.Lines.{line_of};
+ghost use Rattle.ame_io.specs.Writes.{AppendsFront};
+
+use crate::ends::Sink;
+use crate::whole_write::{WriteFault, write_all};
+use arrayvec::ArrayString;
+use itoa::Buffer;
+
+/// A line with its line feed. The longest is shorter than this.
+pub type Line = ArrayString<64>;
+
+/// The line of an integer, in decimal. It takes no memory.
+pub fn integer_line(n: &i64) -> Line
+    ensures { result.bytes ≡ line_of n.now }
+{
+    let mut buffer = Buffer::new();
+    let mut line = Line::new();
+    line.push_str(buffer.format(*n));
+    line.push_str("\n");
+    line
+}
+
+/// Writes a line whole, or tells that the sink failed. It takes no memory.
+pub fn write_line<K: Sink>(sink: &mut K, line: &Line) -> Result<(), WriteFault>
+    ensures whole { OnOk result (Appends (K.written sink.old) (K.written sink.new) line.now.bytes) }
+    ensures stayed { OnOk result (K.faults sink.new ≡ K.faults sink.old) }
+    ensures front { OnErr result (AppendsFront (K.written sink.old) (K.written sink.new) line.now.bytes) }
+    ensures risen { OnErr result (HasRisen (K.faults sink.old) (K.faults sink.new)) }
+{
+    write_all(sink, line.as_str().as_bytes())
+}
+
+#[cfg(test)]
+mod tests {
+    use super::*;
+    use crate::mem_sink::MemSink;
+    use std::test::Fail;
+
+    #[test]
+    fn each_line_is_one_write(rt: HostRuntime) -> Result<(), Fail> {
+        let fails = vec![in rt.alloc(); 2u64]?;
+        let mut sink = MemSink::new(rt.alloc(), 100, 100, fails)?;
+        assert_eq!(rt; write_line(&mut sink, &integer_line(&-7)), Ok(()));
+        assert_eq!(rt;
+            write_line(&mut sink, &integer_line(&12)),
+            Err(WriteFault { gone: 0 })
+        );
+        assert_eq!(rt; write_line(&mut sink, &integer_line(&i64::MIN)), Ok(()));
+        assert_eq!(rt; sink.written(), b"-7\n-9223372036854775808\n".as_slice());
+        Ok(())
+    }
+}

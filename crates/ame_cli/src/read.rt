@@ -1,6 +1,6 @@
 //! Reading a list of words.
 ghost use Rattle.std.specs.Prelude.{◌≡◌, ◌≢◌, ◌⊎◌, [], map, string_bytes, IfOk, IfErr, Ok, Err};
-ghost use Rattle.ame_cli.specs.Grammar.{Spells, SpellsNothing};
+ghost use Rattle.ame_cli.specs.Grammar.{SpellsCommand, SpellsNothing};
 ghost use Rattle.ame_cli.specs.Ranges.{IsInRange};
 ghost use Rattle.ame_cli.specs.declared.command.Command.{Command as Cmd};
 ghost use Rattle.ame_cli.specs.Syntax as spec;
@@ -17,12 +17,12 @@ use std::alloc::Global;
 /// The command that words ask for. Its cost is linear in the words.
 pub fn read_words(alloc: Global, words: &[String]) -> Result<Command, CliFail>
     // What is answered is what the words spell.
-    ensures ok { IfOk result (Spells (map string_bytes words.now)) }
+    ensures ok { IfOk result (SpellsCommand (map string_bytes words.now)) }
 
     ensures ranges { IfOk result IsInRange }
 
     // What they spell is answered, unless memory runs out.
-    ensures spelled { (command : Cmd) → Spells (map string_bytes words.now) command → (result ≡ Ok command) ⊎ (result ≡ Err CliFail.NoMemory) }
+    ensures spelled { (command : Cmd) → SpellsCommand (map string_bytes words.now) command → (result ≡ Ok command) ⊎ (result ≡ Err CliFail.NoMemory) }
 
     // `Usage` comes exactly where they spell nothing, or `NoMemory` in its place.
     ensures usage { result ≡ Err CliFail.Usage → SpellsNothing (map string_bytes words.now) }

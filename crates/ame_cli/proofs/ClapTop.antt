@@ -72,6 +72,7 @@ abbrev built_app : App
 built_app = record { top = built_top; subs = map built_verb verbs }
 
 built_is : built syntax ≡ built_app
+unfolding verbs
 built_is = refl
 
 abbrev verb_names : Names
@@ -84,6 +85,7 @@ by_walk faults end =
     (or_else (defaults_fault (settled [] end.held).rows []) (check_fault built_top (finished [] end.held) (is_some (entered built_app end.stopped))))))
 
 fault_is : (words : List Word) → fault_of syntax words ≡ by_walk (walk_fault built_top verb_names (walk_from nothing_held) words) (walk [] verb_names nothing_held words)
+unfolding verbs
 fault_is words = refl
 
 -- after the verb, its words are left to it
@@ -103,11 +105,12 @@ abbrev stopped_at : Word → List Word → Walk
 stopped_at name words = record (walk_from nothing_held) { stopped = Some (name, words) }
 
 first_walked : (verb : Verb) → walked [] verb_names (walk_from nothing_held) (verb_word verb) ≡ stopped_at (verb_word verb) []
-unfolding walked
+unfolding walked verbs
 first_walked Run = refl
 first_walked _ = refl
 
 first_turn : (verb : Verb) → turn_fault built_top verb_names (walk_from nothing_held) (verb_word verb) ≡ []
+unfolding verbs
 first_turn Run = refl
 first_turn _ = refl
 
@@ -120,7 +123,7 @@ whole_faults verb rest =
     ap₂ (λ t w. or_else t (walk_fault built_top verb_names w rest)) (first_turn verb) (first_walked verb) ∙ stopped_faults verb_names (walk_from nothing_held) (verb_word verb) [] rest
 
 by_verb : (verb : Verb) (rest : List Word) → by_walk [] (stopped_at (verb_word verb) rest) ≡ level_fault (built_verb verb) [] nothing_held rest false []
-unfolding defaults_fault
+unfolding defaults_fault verbs
 by_verb Run rest = or_else-nil _
 by_verb _ rest = or_else-nil _
 
@@ -130,11 +133,13 @@ verb_faults verb rest =
     fault_is (verb_word verb ∷ rest) ∙ ap₂ by_walk (whole_faults verb rest) (whole_walk verb rest) ∙ by_verb verb rest ∙ verb_fault verb rest
 
 entered_is : (verb : Verb) (rest : List Word) → entered built_app (Some (verb_word verb, rest)) ≡ Some (verb_word verb, finished built_rules (walk built_rules [] nothing_held rest).held)
+unfolding verbs
 entered_is Run rest = refl
 entered_is _ rest = refl
 
 -- and what is found is found in them
 pub verb_rows : (verb : Verb) (rest : List Word) → subcommand_of syntax (verb_word verb ∷ rest) ≡ Some (verb_word verb, end_rows [] clear rest)
+unfolding verbs
 verb_rows verb rest =
     ap (λ (w : Walk). entered built_app w.stopped) (whole_walk verb rest) ∙ entered_is verb rest ∙ ap (λ rows. Some (verb_word verb, rows)) (ends_settled rest)
 

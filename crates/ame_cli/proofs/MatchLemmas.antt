@@ -1,10 +1,12 @@
 -- What the getters of clap's matches tell.
-use Rattle.std.proofs.Common.{◌≡◌, ◌≢◌, ◌≤◌, List, [], ◌∷◌, true, false, true≢false, Option, Some, None, map, length, refl, sym, ap, ◌∙◌, arith, le-leb, eqb-true}
+use Rattle.std.proofs.Common.{◌≡◌, ◌≢◌, ◌≤◌, List, [], ◌∷◌, true, false, true≢false, inl, inr, Option, Some, None, map, length, refl, sym, ap, ◌∙◌, arith, le-leb, eqb-true}
 use Rattle.std.proofs.lemmas.List.{length-map}
 use Rattle.std.specs.Prelude.{option_map, Box, ◌&&◌, ◌==◌}
 use Rattle.std.specs.List.{list_all}
 use Rattle.std.specs.Box.{box_value}
-use Rattle.clap.specs.Words.{Row, subcommand_rows_of, subcommand_name_of, subcommand_rows}
+use Rattle.clap.specs.Words.{Kinds, HasKind, kind_of, Row, subcommand_rows_of, subcommand_name_of, subcommand_rows}
+use Rattle.clap.specs.declared.error.Error.{Error}
+use Rattle.clap.specs.declared.error.ErrorKind.TheVariants.{OutOfMemory}
 use Rattle.clap.specs.declared.ArgMatches.{ArgMatches}
 use Rattle.clap.specs.declared.parser.matches.SubCommand.{SubCommand}
 use Rattle.clap.specs.declared.parser.matches.ArgMatches.TheViews.{out-ArgMatches, out-SubCommand}
@@ -21,6 +23,12 @@ subcommand_is m name rows e f = go (out-ArgMatches m).subcommand e f
         → Some rows ≡ option_map (λ (p : Word × List Row). p.1) (subcommand_rows o) → subcommand_rows o ≡ Some (name, rows)
     go None p q = cc
     go (Some b) p q = cc
+
+-- an error that isn't want of memory comes of a fault
+pub kind_faults : (kinds : Kinds) (e : Error) → HasKind kinds e → kind_of e ≢ OutOfMemory → kinds ≢ []
+kind_faults [] e (inl memory) differs = λ none. differs memory
+kind_faults [] e (inr among) differs = λ none. among
+kind_faults (k ∷ rest) e has differs = λ none. cc
 
 -- a list of texts that is screened, by any view of its words
 all_stand-map : {A : Type 0} (f : A → Word) (words : List A) → list_all (λ word. may_stand (f word)) words ≡ list_all may_stand (map f words)

@@ -2,7 +2,6 @@
 use Rattle.std.proofs.Common.{◌≡◌, ◌≢◌, ◌⊎◌, inl, inr, ℕ, suc, ◌+◌, ◌*◌, ◌≤◌, Bool, true, false, cond, List, [], ◌∷◌, ◌++◌, Option, Some, None, Result, Ok, Err, length, refl, sym, ap, ap₂, ◌∙◌, subst, codes, arith, true≢false, le-leb, leb-true}
 use Rattle.std.specs.Prelude.{option_map, option_and_then, ◌&&◌, nat_le, slice_index}
 use Rattle.std.specs.List.{flat_map, list_all, list_any}
-use Rattle.std.specs.Str.{bytes_eq}
 use Rattle.std.specs.Str.Parse.{digits_value}
 use Rattle.clap.specs.Words.{Row, fault_of, subcommand_of}
 use Rattle.ame_cli.specs.declared.bounds.Bounds.{Bounds}
@@ -52,6 +51,7 @@ verb_is word named e = named_same verb_word verbs word named e
 
 -- each row of the table is found by its word
 named_verb : (named : Verb) → verb_named (verb_word named) ≡ Some named
+unfolding verbs
 named_verb verb.Run = refl
 named_verb _ = refl
 

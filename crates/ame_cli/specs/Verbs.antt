@@ -37,7 +37,7 @@ abbrev pub command_with : Verb → List ℕ → Options → Command
 command_with Run numbers options = command.Run options
 command_with Bench numbers options = command.Bench (slice_index numbers 0) (slice_index numbers 1) options
 
-abbrev pub verbs : List Verb
+unfoldable pub verbs : List Verb
 verbs = Run ∷ Bench ∷ []
 
 abbrev pub verb_word : Verb → Word

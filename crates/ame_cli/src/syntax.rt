@@ -1,7 +1,7 @@
 //! What `clap` is told of the commands.
-ghost use Rattle.std.specs.Prelude.{◌≡◌, IfOk, false};
+ghost use Rattle.std.specs.Prelude.{◌≡◌, IfOk, false, true};
 ghost use Rattle.ame_cli.specs.Syntax as spec;
-ghost use Rattle.clap.specs.Words.{app_of, rule_of};
+ghost use Rattle.clap.specs.Words.{app_of, is_simple, is_simple_and_free, rule_of};
 ghost use Rattle.clap.specs.declared.builder.Command.TheViews.{out-Command as fields_of};
 
 use crate::item::Item;
@@ -38,14 +38,16 @@ fn verb_syntax<'a>(alloc: Global, word: &'a str) -> Result<Command<'a>, AllocErr
 
 /// All commands.
 pub(crate) fn syntax<'a>(alloc: Global) -> Result<Command<'a>, AllocError>
-    ensures { IfOk result (λ c. app_of c ≡ spec.syntax) }
+    ensures app { IfOk result (λ c. app_of c ≡ spec.syntax) }
+    ensures simple { IfOk result (λ c. is_simple (app_of c) ≡ true) }
+    ensures free { IfOk result (λ c. is_simple_and_free (app_of c) ≡ true) }
 {
     let name: &'a str = "ame";
     let mut all = Command::new(alloc, name)
         .no_binary_name(true)
         .disable_help_flag(true)
         .disable_help_subcommand(true);
-    for verb in Verb::ALL {
+    for verb in Verb::all() {
         let word: &'a str = verb.form().word;
         all = all.subcommand(verb_syntax(alloc, word)?)?;
     }

@@ -34,9 +34,14 @@ const SIZES: Bounds = Bounds {
 const ALL_ITEMS: &[Item] = &[Item::Workers, Item::Turns, Item::Slice];
 
 impl Verb {
-    ghost use Rattle.ame_cli.specs.Verbs.{command_with, verb_form, verb_named};
+    ghost use Rattle.ame_cli.specs.Verbs.{command_with, verb_form, verb_named, verbs};
 
-    pub const ALL: [Verb; 2] = [Verb::Run, Verb::Bench];
+    #[tactic(auto, unfolding(crate::specs::Verbs::verbs))]
+    pub fn all() -> &'static [Verb]
+        ensures { result.now ≡ verbs }
+    {
+        &[Verb::Run, Verb::Bench]
+    }
 
     /// What may stand behind a verb.
     pub fn form(self) -> Form
@@ -73,6 +78,9 @@ impl Verb {
     pub fn named(word: &str) -> Option<Verb>
         ensures { result ≡ verb_named word.now }
     {
-        Verb::ALL.into_iter().find(|verb| verb.form().word == word)
+        Verb::all()
+            .iter()
+            .copied()
+            .find(|verb| verb.form().word == word)
     }
 }

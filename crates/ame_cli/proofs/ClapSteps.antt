@@ -48,10 +48,8 @@ pub data Mode : Type 0 where
   waits : Item → Mode
 
 abbrev pub waiting_in : Mode → Option Item
-waiting_in clear = None
-waiting_in (valued item value) = None
-waiting_in (numbered word) = None
 waiting_in (waits item) = Some item
+waiting_in _ = None
 
 abbrev pub pending_in : Mode → Option (Word × List Word)
 pending_in clear = None
@@ -78,19 +76,16 @@ rows_in rows (valued item value) = used (built_option item) (value ∷ []) rows
 rows_in rows (numbered word) = used built_numbers (word ∷ []) rows
 rows_in rows (waits item) = used (built_option item) [] rows
 
-by_long-map : (items : List Item) (name : Word)
+by_long : (items : List Item) (name : Word)
     → arg_by_long (map built_option items ++ built_numbers ∷ []) name ≡ option_map built_option (find (λ item. bytes_eq (name_of item) name) items)
-by_long-map [] name = refl
-by_long-map (item ∷ rest) name = go (by_long-map rest name) (bytes_eq (name_of item) name)
+by_long [] name = refl
+by_long (item ∷ rest) name = go (by_long rest name) (bytes_eq (name_of item) name)
   where
     go : arg_by_long (map built_option rest ++ built_numbers ∷ []) name ≡ option_map built_option (find (λ item. bytes_eq (name_of item) name) rest) → (b : Bool)
         → cond (b || false) (Some (built_option item)) (arg_by_long (map built_option rest ++ built_numbers ∷ []) name)
         ≡ option_map built_option (cond b (Some item) (find (λ item. bytes_eq (name_of item) name) rest))
     go before true = refl
     go before false = before
-
-by_long : (name : Word) → arg_by_long built_rules name ≡ option_map built_option (named name)
-by_long name = by_long-map all_items name
 
 pub rows_settled : (rows : List Row) (mode : Mode) → (settled built_rules (held_in rows mode)).rows ≡ rows_in rows mode
 rows_settled rows (valued Workers value) = refl
@@ -138,16 +133,12 @@ module _ (rows : List Row) (mode : Mode) (word : Word) where
 -- ---- a plain word
 
 abbrev pub plain_mode : Mode → Word → Mode
-plain_mode clear word = numbered word
-plain_mode (valued item value) word = numbered word
-plain_mode (numbered value) word = numbered word
 plain_mode (waits item) word = valued item word
+plain_mode _ word = numbered word
 
 abbrev pub plain_rows : List Row → Mode → List Row
-plain_rows rows clear = rows
-plain_rows rows (valued item value) = rows_in rows (valued item value)
-plain_rows rows (numbered word) = rows_in rows (numbered word)
 plain_rows rows (waits item) = rows
+plain_rows rows mode = rows_in rows mode
 
 plain_met : (rows : List Row) (mode : Mode) (word : Word)
     → after_step built_rules word (walk_in rows mode) (plain_word built_rules (state_in mode) word (held_in rows mode)).0 (plain_word built_rules (state_in mode) word (held_in rows mode)).1
@@ -203,7 +194,7 @@ pub long_walked : (rows : List Row) (mode : Mode) (word name : Word) (v : Option
 long_walked rows mode word name v item dash lo is =
     walked_flag rows mode word dash
     ∙ ap (λ l. stepped rows mode word (long_or_other built_rules (state_in mode) word l (held_in rows mode))) lo
-    ∙ ap (λ o. stepped rows mode word (after_flag built_rules (state_in mode) word (long_met built_rules o v (held_in rows mode)).0 (long_met built_rules o v (held_in rows mode)).1)) (by_long name ∙ ap (option_map built_option) is)
+    ∙ ap (λ o. stepped rows mode word (after_flag built_rules (state_in mode) word (long_met built_rules o v (held_in rows mode)).0 (long_met built_rules o v (held_in rows mode)).1)) (by_long all_items name ∙ ap (option_map built_option) is)
     ∙ long_found rows mode word item v
 
 -- what is pending is a fault where it is an option without its value
@@ -230,7 +221,7 @@ long_turn_is verb rows mode word name v dash lo =
     turn_flag rows mode word verb dash
     ∙ ap (λ l. or_else (flag_word_fault built_rules false l word (held_in rows mode))
     (step_fault (built_verb verb) 1 (long_or_other built_rules (state_in mode) word l (held_in rows mode)).0 (long_or_other built_rules (state_in mode) word l (held_in rows mode)).1)) lo
-    ∙ ap (long_turn_by verb rows mode word v) (by_long name)
+    ∙ ap (long_turn_by verb rows mode word v) (by_long all_items name)
 
 pub or_else-nil : (a : Kinds) → or_else a [] ≡ a
 or_else-nil [] = refl

@@ -103,28 +103,19 @@ Steps verb rows mode word (Some t) =
 
 plain_steps : (verb : Verb) (rows : List Row) (mode : Mode) (word : Word) → bytes_eq word dashes ≡ false → long_of word ≡ None → short_of word ≡ None
     → Steps verb rows mode word (plain_taken (waiting_in mode) word)
-plain_steps verb rows clear word d l s =
-    (plain_rows rows clear, numbered word, plain_walked rows clear word d l s, refl, plain_turn verb rows clear word d l s, adds_number word rows)
-plain_steps verb rows (valued item value) word d l s =
-    (plain_rows rows (valued item value), numbered word, plain_walked rows (valued item value) word d l s, refl, plain_turn verb rows (valued item value) word d l s, adds_number word (rows_in rows (valued item value)))
-plain_steps verb rows (numbered value) word d l s =
-    (plain_rows rows (numbered value), numbered word, plain_walked rows (numbered value) word d l s, refl, plain_turn verb rows (numbered value) word d l s, adds_number word (rows_in rows (numbered value)))
 plain_steps verb rows (waits item) word d l s =
     (rows, valued item word, plain_walked rows (waits item) word d l s, refl, plain_turn verb rows (waits item) word d l s, adds_apart item word rows)
+plain_steps verb rows mode word d l s =
+    (plain_rows rows mode, numbered word, plain_walked rows mode word d l s, refl, plain_turn verb rows mode word d l s, adds_number word (rows_in rows mode))
 
 known_steps : (verb : Verb) (rows : List Row) (mode : Mode) (word : Word) (item : Item) (v : Option Word)
     → walked built_rules [] (walk_in rows mode) word ≡ walk_in (long_rows item v rows mode) (long_mode item v)
     → turn_fault (built_verb verb) [] (walk_in rows mode) word ≡ waiting_fault (waiting_in mode)
     → Steps verb rows mode word (long_taken (waiting_in mode) (Some item) v)
 known_steps verb rows (waits other) word item v walks turn = (InvalidValue, turn)
-known_steps verb rows clear word item None walks turn = (rows, waits item, walks, refl, turn, adds_waiting item rows)
-known_steps verb rows clear word item (Some value) walks turn = (used (built_option item) (value ∷ []) rows, clear, walks, refl, turn, adds_joined item value rows)
-known_steps verb rows (valued other old) word item None walks turn = (rows_in rows (valued other old), waits item, walks, refl, turn, adds_waiting item (rows_in rows (valued other old)))
-known_steps verb rows (valued other old) word item (Some value) walks turn =
-    (used (built_option item) (value ∷ []) (rows_in rows (valued other old)), clear, walks, refl, turn, adds_joined item value (rows_in rows (valued other old)))
-known_steps verb rows (numbered old) word item None walks turn = (rows_in rows (numbered old), waits item, walks, refl, turn, adds_waiting item (rows_in rows (numbered old)))
-known_steps verb rows (numbered old) word item (Some value) walks turn =
-    (used (built_option item) (value ∷ []) (rows_in rows (numbered old)), clear, walks, refl, turn, adds_joined item value (rows_in rows (numbered old)))
+known_steps verb rows mode word item None walks turn = (rows_in rows mode, waits item, walks, refl, turn, adds_waiting item (rows_in rows mode))
+known_steps verb rows mode word item (Some value) walks turn =
+    (used (built_option item) (value ∷ []) (rows_in rows mode), clear, walks, refl, turn, adds_joined item value (rows_in rows mode))
 
 unknown_steps : (verb : Verb) (rows : List Row) (mode : Mode) (word : Word) (v : Option Word) (waiting : Option Item)
     → turn_fault (built_verb verb) [] (walk_in rows mode) word ≡ UnknownArgument ∷ [] → Steps verb rows mode word (long_taken waiting None v)
@@ -165,13 +156,8 @@ some_fault k ks e = cc
 
 at_end : (verb : Verb) (rows : List Row) (mode : Mode) → Walks verb rows mode [] (ended (waiting_in mode))
 unfolding walk_fault
-at_end verb rows clear = (refl, adds_none rows)
-at_end verb rows (valued item value) = (settle_fault_in rows (valued item value), settled_adds (valued item value))
-  where
-    settled_adds : (mode : Mode) → Adds (rows_in rows mode) (end_rows rows mode []) []
-    settled_adds mode = subst (λ r. Adds (rows_in rows mode) r []) (sym (rows_settled rows mode)) (adds_none (rows_in rows mode))
-at_end verb rows (numbered word) = (refl, adds_none (rows_in rows (numbered word)))
 at_end verb rows (waits item) = λ e. some_fault InvalidValue [] (sym (settle_fault_in rows (waits item)) ∙ e)
+at_end verb rows mode = (settle_fault_in rows mode, subst (λ r. Adds (rows_in rows mode) r []) (sym (rows_settled rows mode)) (adds_none (rows_in rows mode)))
 
 -- one more word
 faults-cons : (verb : Verb) (rows after : List Row) (mode next : Mode) (word : Word) (rest : List Word) → walked built_rules [] (walk_in rows mode) word ≡ walk_in after next

@@ -26,9 +26,6 @@ abbrev pub behind_name : Option Word → Word
 behind_name None = []
 behind_name (Some value) = 61 ∷ value
 
-named_is : (name : Word) (item : Item) → named name ≡ Some item → name ≡ name_of item
-named_is name item e = named_same name_of all_items name item e
-
 stripped : (c : ℕ) (word rest : Word) → strip_byte c word ≡ Some rest → word ≡ c ∷ rest
 stripped c [] rest e = cc
 stripped c (x ∷ xs) rest e = go (x == c) refl e
@@ -111,9 +108,9 @@ taken_words waiting word parts next e = by_long (long_of word) refl e
     by_name (Some item) name n v l is f = cc
     by_name None name None v l is f = cc
     by_name None name (Some item) None l is f =
-        ap (λ t. t ∷ []) (long_is word name None l ∙ ap (λ t. 45 ∷ 45 ∷ t) (append-nil name ∙ named_is name item is)) ∙ whole ([], Some item) (fields _ _ f)
+        ap (λ t. t ∷ []) (long_is word name None l ∙ ap (λ t. 45 ∷ 45 ∷ t) (append-nil name ∙ named_same name_of all_items name item is)) ∙ whole ([], Some item) (fields _ _ f)
     by_name None name (Some item) (Some value) l is f =
-        ap (λ t. t ∷ []) (long_is word name (Some value) l ∙ ap (λ t. 45 ∷ 45 ∷ (t ++ 61 ∷ value)) (named_is name item is) ∙ joined_text item value) ∙ whole (joined item value ∷ [], None) (fields _ _ f)
+        ap (λ t. t ∷ []) (long_is word name (Some value) l ∙ ap (λ t. 45 ∷ 45 ∷ (t ++ 61 ∷ value)) (named_same name_of all_items name item is) ∙ joined_text item value) ∙ whole (joined item value ∷ [], None) (fields _ _ f)
 
     by_long : (o : Option (Word × Option Word)) → long_of word ≡ o → word_taken waiting word o ≡ Some (parts, next) → waiting_word waiting ++ word ∷ [] ≡ flat_map part_words parts ++ waiting_word next
     by_long None l f = by_plain waiting f
@@ -162,14 +159,8 @@ digit_differs c digit = go (c == 45) refl
     go false e = refl
 
 -- a word that doesn't begin with a hyphen
-no_dashes : (c : ℕ) (rest : Word) → (c == 45) ≡ false → bytes_eq (c ∷ rest) dashes ≡ false
-no_dashes c rest e = rw e refl
-
-no_long : (c : ℕ) (rest : Word) → (c == 45) ≡ false → long_of (c ∷ rest) ≡ None
-no_long c rest e = rw e refl
-
-no_short : (c : ℕ) (rest : Word) → (c == 45) ≡ false → short_of (c ∷ rest) ≡ None
-no_short c rest e = rw e refl
+unhyphened : (c : ℕ) (rest : Word) → (c == 45) ≡ false → (bytes_eq (c ∷ rest) dashes ≡ false) × (long_of (c ∷ rest) ≡ None) × (short_of (c ∷ rest) ≡ None)
+unhyphened c rest e = (rw e refl, rw e refl, rw e refl)
 
 stands : (c : ℕ) (rest : Word) → (c == 45) ≡ false → may_stand (c ∷ rest) ≡ true
 stands c [] e = rw e refl
@@ -181,7 +172,7 @@ number_is_plain [] e = absurd (true≢false (sym e))
 number_is_plain (c ∷ rest) e = go (c == 45) (digit_differs c (both_true _ _ (both_true (nat_le (length (c ∷ rest)) 10) _ (both_true _ _ e).1).1).0) refl
   where
     go : (b : Bool) → b ≡ false → (c == 45) ≡ b → (bytes_eq (c ∷ rest) dashes ≡ false) × (long_of (c ∷ rest) ≡ None) × (short_of (c ∷ rest) ≡ None) × (may_stand (c ∷ rest) ≡ true)
-    go b f e = let differs = e ∙ f in (no_dashes c rest differs, no_long c rest differs, no_short c rest differs, stands c rest differs)
+    go b f e = let plain = unhyphened c rest (e ∙ f) in (plain.0, plain.1, plain.2, stands c rest (e ∙ f))
 
 option_word : (item : Item) → taken None (codes "--" ++ name_of item) ≡ Some ([], Some item)
 option_word Workers = refl
@@ -241,7 +232,7 @@ class_of (a ∷ rest) e = go (a == 45) refl
 
     go : (h : Bool) → (a == 45) ≡ h → Class (a ∷ rest)
     go true same = hyphened rest same e
-    go false same = plain (no_dashes a rest same) (no_long a rest same) (no_short a rest same)
+    go false same = let is = unhyphened a rest same in plain is.0 is.1 is.2
 
 pub classes_of : (words : List Word) → list_all may_stand words ≡ true → Classes words
 classes_of [] e = tt

@@ -46,9 +46,6 @@ abbrev pub reading : List Word → Option Command
 reading [] = Some (Run defaults)
 reading (first ∷ rest) = from_verb (verb_named first) rest
 
-verb_is : (word : Word) (named : Verb) → verb_named word ≡ Some named → word ≡ verb_word named
-verb_is word named e = named_same verb_word verbs word named e
-
 -- each row of the table is found by its word
 named_verb : (named : Verb) → verb_named (verb_word named) ≡ Some named
 unfolding verbs
@@ -71,7 +68,7 @@ read_is_spelled (first ∷ rest) command e = by_verb (verb_named first) refl e
     by_verb (Some verb) is f =
         let p = came_from (from_parts verb) (read None rest) command f in
         let words : verb_word verb ∷ flat_map part_words p.0 ≡ first ∷ rest =
-        ap₂ (λ a l. a ∷ l) (sym (verb_is first verb is)) (sym (read_words_are None rest p.0 p.1)) in
+        ap₂ (λ a l. a ∷ l) (sym (named_same verb_word verbs first verb is)) (sym (read_words_are None rest p.0 p.1)) in
         subst (λ w. SpellsCommand w command) words (verb_first verb p.0 command p.2)
 
 -- ---- what is spelled is read
@@ -85,33 +82,56 @@ mapped_as : {A B : Type 0} (f : A → B) (o : Option A) (b : B) → option_map f
 mapped_as f None b e = cc
 mapped_as f (Some a) b e = (a, refl, cc e)
 
-within_is_number : (bounds : Bounds) (n : ℕ) (word : Word) → number_within bounds word ≡ Some n → is_number word ≡ true
-within_is_number bounds n word e = go (is_number word) _ e
+number_facts : (bounds : Bounds) (n : ℕ) (word : Word) → number_within bounds word ≡ Some n → (is_number word ≡ true) × IsInBounds bounds n
+number_facts bounds n word e = go (is_number word && (nat_le bounds.least (digits_value 10 word) && nat_le (digits_value 10 word) bounds.most)) refl e
   where
-    go : (a b : Bool) → cond (a && b) (Some (digits_value 10 word)) None ≡ Some n → a ≡ true
-    go true b f = refl
-    go false b f = cc
+    go : (b : Bool) → (is_number word && (nat_le bounds.least (digits_value 10 word) && nat_le (digits_value 10 word) bounds.most)) ≡ b
+        → cond b (Some (digits_value 10 word)) None ≡ Some n → (is_number word ≡ true) × IsInBounds bounds n
+    go true t f =
+        let both = both_true (is_number word) _ t in
+        let inside = both_true (nat_le bounds.least (digits_value 10 word)) _ both.1 in
+        let same : digits_value 10 word ≡ n = cc f in
+        (both.0, (subst (λ v. bounds.least ≤ v) same (leb-true _ _ inside.0), subst (λ v. v ≤ bounds.most) same (leb-true _ _ inside.1)))
+    go false t f = cc
+
+-- the numbers from a place on, each in its own bounds
+abbrev InPlaces : List Bounds → ℕ → List ℕ → Type 0
+InPlaces [] k ns = Unit {0}
+InPlaces (one ∷ more) k ns = IsInBounds one (slice_index ns k) × InPlaces more (suc k) ns
+
+in_places-cons : (bounds : List Bounds) (k n : ℕ) (ns : List ℕ) → InPlaces bounds k ns → InPlaces bounds (suc k) (n ∷ ns)
+in_places-cons [] k n ns each = tt
+in_places-cons (one ∷ more) k n ns each = (each.0, in_places-cons more (suc k) n ns each.1)
 
 -- the words of numbers are number words, as many as there are bounds
-numbers_are : (bounds : List Bounds) (words : List Word) (ns : List ℕ) → numbers_within bounds words ≡ Some ns → AllNumbers words × (length words ≡ length bounds)
-numbers_are [] [] ns e = (tt, refl)
-numbers_are [] (word ∷ rest) ns e = cc
-numbers_are (one ∷ more) [] ns e = cc
-numbers_are (one ∷ more) (word ∷ rest) ns e =
+numbers_facts : (bounds : List Bounds) (words : List Word) (ns : List ℕ) → numbers_within bounds words ≡ Some ns
+    → AllNumbers words × (length words ≡ length bounds) × InPlaces bounds 0 ns
+numbers_facts [] [] ns e = (tt, refl, tt)
+numbers_facts [] (word ∷ rest) ns e = cc
+numbers_facts (one ∷ more) [] ns e = cc
+numbers_facts (one ∷ more) (word ∷ rest) ns e =
     let n = came_from (λ n. option_map (λ ns. n ∷ ns) (numbers_within more rest)) (number_within one word) ns e in
     let behind = mapped_as (λ ns. n.0 ∷ ns) (numbers_within more rest) ns n.2 in
-    let are = numbers_are more rest behind.0 behind.1 in
-    ((within_is_number one n.0 word n.1, are.0), omega (arith, are.1))
+    let first = number_facts one n.0 word n.1 in
+    let are = numbers_facts more rest behind.0 behind.1 in
+    ((first.0, are.0), omega (arith, are.1), subst (InPlaces (one ∷ more) 0) behind.2 (first.1, in_places-cons more 0 n.0 behind.0 are.2))
+
+default_range : (item : Item) → IsInBounds (bounds_of item) (default_of item)
+default_range Workers = (omega arith, omega arith)
+default_range _ = (omega arith, omega arith)
 
 -- an option that is given once may be given
 once : (b : Bool) (bounds : Bounds) (value : Word) (n : ℕ) → cond b (number_within bounds value) None ≡ Some n → number_within bounds value ≡ Some n
 once true bounds value n e = e
 once false bounds value n e = cc
 
-setting_numbers : (allowed : List Item) (item : Item) (values : List Word) (n : ℕ) → setting allowed item values ≡ Some n → AllNumbers values × (length values ≤ 1)
-setting_numbers allowed item [] n e = (tt, omega arith)
-setting_numbers allowed item (value ∷ []) n e = ((within_is_number (bounds_of item) n value (once (list_any (is_same item) allowed) (bounds_of item) value n e), tt), omega arith)
-setting_numbers allowed item (value ∷ other ∷ rest) n e = cc
+setting_facts : (allowed : List Item) (item : Item) (values : List Word) (n : ℕ) → setting allowed item values ≡ Some n
+    → AllNumbers values × (length values ≤ 1) × IsInBounds (bounds_of item) n
+setting_facts allowed item [] n e = let same : default_of item ≡ n = cc e in (tt, omega arith, subst (IsInBounds (bounds_of item)) same (default_range item))
+setting_facts allowed item (value ∷ []) n e =
+    let fact = number_facts (bounds_of item) n value (once (list_any (is_same item) allowed) (bounds_of item) value n e) in
+    ((fact.0, tt), omega arith, fact.1)
+setting_facts allowed item (value ∷ other ∷ rest) n e = cc
 
 abbrev options_with : ℕ → ℕ → ℕ → Options
 options_with workers turns slice = record { workers = workers; turns = turns; slice = slice }
@@ -136,14 +156,20 @@ options_are allowed values options e item =
     go w t s p q r Turns = q
     go w t s p q r Slice = r
 
--- what a command is made of
-command_parts : (named : Verb) (words : List Word) (values : Item → List Word) (command : Command) → command_of named words values ≡ Some command
-    → (options : Options) × (ns : List ℕ) × (options_of (verb_form named).items values ≡ Some options)
-    × (numbers_within (verb_form named).numbers words ≡ Some ns) × (command_with named ns options ≡ command)
-command_parts named words values command e =
+command_range : (named : Verb) (ns : List ℕ) (options : Options) → InPlaces (verb_form named).numbers 0 ns → AreInRange options → IsInRange (command_with named ns options)
+command_range verb.Run ns options each range = assumption
+command_range _ ns options each range = assumption
+
+-- what holds of the words that a command is made of, and of the command
+command_facts : (named : Verb) (words : List Word) (values : Item → List Word) (command : Command) → command_of named words values ≡ Some command
+    → ((item : Item) → AllNumbers (values item) × (length (values item) ≤ 1)) × AllNumbers words × (length words ≡ length (verb_form named).numbers) × IsInRange command
+command_facts named words values command e =
     let o = came_from (λ options. option_map (λ ns. command_with named ns options) (numbers_within (verb_form named).numbers words)) (options_of (verb_form named).items values) command e in
     let n = mapped_as (λ ns. command_with named ns o.0) (numbers_within (verb_form named).numbers words) command o.2 in
-    (o.0, n.0, o.1, n.1, n.2)
+    let each = λ (item : Item). setting_facts (verb_form named).items item (values item) (option_in o.0 item) (options_are (verb_form named).items values o.0 o.1 item) in
+    let are = numbers_facts (verb_form named).numbers words n.0 n.1 in
+    let range : AreInRange o.0 = record { workers = (each Workers).2; turns = (each Turns).2; slice = (each Slice).2 } in
+    (λ item. ((each item).0, (each item).1), are.0, are.1, subst IsInRange n.2 (command_range named n.0 o.0 are.2 range))
 
 option_rest : (b : Bool) (value : Word) (rest : List Word) → AllNumbers (cond b (value ∷ []) [] ++ rest) → AllNumbers rest
 option_rest true value rest each = each.1
@@ -163,8 +189,8 @@ parts_numbers (number word ∷ rest) each words = (words.0, parts_numbers rest e
 
 spelled_numbers : (named : Verb) (parts : List Part) (command : Command) → command_of named (numbers parts) (given parts) ≡ Some command → Numbers parts
 spelled_numbers named parts command e =
-    let p = command_parts named (numbers parts) (given parts) command e in
-    parts_numbers parts (λ item. (setting_numbers (verb_form named).items item (given parts item) _ (options_are (verb_form named).items (given parts) p.0 p.2 item)).0) (numbers_are (verb_form named).numbers (numbers parts) p.1 p.3).0
+    let facts = command_facts named (numbers parts) (given parts) command e in
+    parts_numbers parts (λ item. (facts.0 item).0) facts.1
 
 pub spelled_is_read : (words : List Word) (command : Command) → SpellsCommand words command → reading words ≡ Some command
 spelled_is_read words command no_words = refl
@@ -202,10 +228,9 @@ parts_stand (number word ∷ rest) each = all_stand-append (part_words (number w
 pub spelled_may_be_read : (words : List Word) (command : Command) → SpellsCommand words command → may_be_read words ≡ true
 spelled_may_be_read words command no_words = refl
 spelled_may_be_read words command (verb_first named parts made e) =
-    let p = command_parts named (numbers parts) (given parts) made e in
-    let each = λ (item : Item). (setting_numbers (verb_form named).items item (given parts item) _ (options_are (verb_form named).items (given parts) p.0 p.2 item)).1 in
+    let facts = command_facts named (numbers parts) (given parts) made e in
     let short : suc (length (flat_map part_words parts)) ≤ word_limit =
-    omega (arith, parts_len parts, each Workers, each Turns, each Slice, (numbers_are (verb_form named).numbers (numbers parts) p.1 p.3).1, few named) in
+    omega (arith, parts_len parts, (facts.0 Workers).1, (facts.0 Turns).1, (facts.0 Slice).1, facts.2, few named) in
     ap₂ (λ a b. a && b) (le-leb _ word_limit short) (ap₂ (λ a b. a && b) (verb_stands named) (parts_stand parts (spelled_numbers named parts made e)))
   where
     few : (v : Verb) → length (verb_form v).numbers ≤ 2
@@ -218,19 +243,11 @@ spelled_may_be_read words command (verb_first named parts made e) =
 
 -- ---- what clap finds is what is read
 
-options-same : (allowed : List Item) (f g : Item → List Word) → ((item : Item) → f item ≡ g item) → options_of allowed f ≡ options_of allowed g
-options-same allowed f g same =
-    ap₂ (λ w t. option_and_then (λ workers. option_and_then (λ turns. option_map (λ slice. options_with workers turns slice) (setting allowed Slice (f Slice))) (setting allowed Turns t)) (setting allowed Workers w)) (same Workers) (same Turns)
-    ∙ ap (λ s. option_and_then (λ workers. option_and_then (λ turns. option_map (λ slice. options_with workers turns slice) (setting allowed Slice s)) (setting allowed Turns (g Turns))) (setting allowed Workers (g Workers))) (same Slice)
-
-command-same : (named : Verb) (words : List Word) (f g : Item → List Word) → ((item : Item) → f item ≡ g item) → command_of named words f ≡ command_of named words g
-command-same named words f g same =
-    ap (option_and_then (λ options. option_map (λ ns. command_with named ns options) (numbers_within (verb_form named).numbers words))) (options-same (verb_form named).items f g same)
-
 found_in : (named : Verb) (rows : List Row) (parts : List Part) → Adds [] rows parts → named_in (verb_word named) rows ≡ from_parts named parts
 found_in named rows parts adds =
+    let same : ◌≡◌ {A = Item → List Word} (λ item. values_in (name_of item) rows) (given parts) = λ i. λ item. adds.0 item i in
     ap (option_and_then (λ v. command_of v (values_in (codes "numbers") rows) (λ item. values_in (name_of item) rows))) (named_verb named)
-    ∙ ap (λ words. command_of named words (λ item. values_in (name_of item) rows)) adds.1 ∙ command-same named (numbers parts) (λ item. values_in (name_of item) rows) (given parts) adds.0
+    ∙ ap₂ (command_of named) adds.1 same
 
 pub found_is_read : (first : Word) (rest : List Word) → Classes (first ∷ rest) → fault_of syntax (first ∷ rest) ≡ []
     → option_and_then (λ p. named_in p.0 p.1) (subcommand_of syntax (first ∷ rest)) ≡ reading (first ∷ rest)
@@ -244,7 +261,7 @@ found_is_read first rest classes none_fails = by_verb (verb_named first) refl
     by_verb : (v : Option Verb) → verb_named first ≡ v → option_and_then (λ p. named_in p.0 p.1) (subcommand_of syntax (first ∷ rest)) ≡ from_verb (verb_named first) rest
     by_verb None is = absurd (other_faults first rest classes.0 is none_fails)
     by_verb (Some named) is =
-        let same = verb_is first named is in
+        let same = named_same verb_word verbs first named is in
         ap (λ w. option_and_then (λ p. named_in p.0 p.1) (subcommand_of syntax (w ∷ rest))) same
         ∙ by_parts named (read None rest) (ap (λ w. fault_of syntax (w ∷ rest)) (sym same) ∙ none_fails) (walks named [] clear rest classes.1)
         ∙ ap (λ v. from_verb v rest) (sym is)
@@ -260,61 +277,11 @@ refused_is_not_read first rest classes fails = by_verb (verb_named first) refl
     by_verb None is = ap (λ v. from_verb v rest) is
     by_verb (Some named) is =
         ap (λ v. from_verb v rest) is
-        ∙ by_parts named (read None rest) (λ e. fails (ap (λ w. fault_of syntax (w ∷ rest)) (verb_is first named is) ∙ e)) (walks named [] clear rest classes.1)
-
--- ---- what is spelled is in range
-
-within_range : (bounds : Bounds) (n : ℕ) (word : Word) → number_within bounds word ≡ Some n → IsInBounds bounds n
-within_range bounds n word e = go (is_number word && (nat_le bounds.least (digits_value 10 word) && nat_le (digits_value 10 word) bounds.most)) refl e
-  where
-    go : (b : Bool) → (is_number word && (nat_le bounds.least (digits_value 10 word) && nat_le (digits_value 10 word) bounds.most)) ≡ b → cond b (Some (digits_value 10 word)) None ≡ Some n → IsInBounds bounds n
-    go true t f =
-        let inside = both_true (nat_le bounds.least (digits_value 10 word)) _ (both_true (is_number word) _ t).1 in
-        let same : digits_value 10 word ≡ n = cc f in
-        (subst (λ v. bounds.least ≤ v) same (leb-true _ _ inside.0), subst (λ v. v ≤ bounds.most) same (leb-true _ _ inside.1))
-    go false t f = cc
-
-default_range : (item : Item) → IsInBounds (bounds_of item) (default_of item)
-default_range Workers = (omega arith, omega arith)
-default_range _ = (omega arith, omega arith)
-
-setting_range : (allowed : List Item) (item : Item) (values : List Word) (n : ℕ) → setting allowed item values ≡ Some n → IsInBounds (bounds_of item) n
-setting_range allowed item [] n e = let same : default_of item ≡ n = cc e in subst (IsInBounds (bounds_of item)) same (default_range item)
-setting_range allowed item (value ∷ []) n e = within_range (bounds_of item) n value (once (list_any (is_same item) allowed) (bounds_of item) value n e)
-setting_range allowed item (value ∷ other ∷ rest) n e = cc
-
-options_range : (allowed : List Item) (values : Item → List Word) (options : Options) → options_of allowed values ≡ Some options → AreInRange options
-options_range allowed values options e =
-    let each = λ (item : Item). setting_range allowed item (values item) (option_in options item) (options_are allowed values options e item) in
-    record { workers = each Workers; turns = each Turns; slice = each Slice }
-
--- the numbers from a place on, each in its own bounds
-abbrev InPlaces : List Bounds → ℕ → List ℕ → Type 0
-InPlaces [] k ns = Unit {0}
-InPlaces (one ∷ more) k ns = IsInBounds one (slice_index ns k) × InPlaces more (suc k) ns
-
-in_places-cons : (bounds : List Bounds) (k n : ℕ) (ns : List ℕ) → InPlaces bounds k ns → InPlaces bounds (suc k) (n ∷ ns)
-in_places-cons [] k n ns each = tt
-in_places-cons (one ∷ more) k n ns each = (each.0, in_places-cons more (suc k) n ns each.1)
-
-in_places : (bounds : List Bounds) (words : List Word) (ns : List ℕ) → numbers_within bounds words ≡ Some ns → InPlaces bounds 0 ns
-in_places [] words ns e = tt
-in_places (one ∷ more) [] ns e = cc
-in_places (one ∷ more) (word ∷ rest) ns e =
-    let n = came_from (λ n. option_map (λ ns. n ∷ ns) (numbers_within more rest)) (number_within one word) ns e in
-    let behind = mapped_as (λ ns. n.0 ∷ ns) (numbers_within more rest) ns n.2 in
-    subst (InPlaces (one ∷ more) 0) behind.2 (within_range one n.0 word n.1, in_places-cons more 0 n.0 behind.0 (in_places more rest behind.0 behind.1))
-
-command_range : (named : Verb) (ns : List ℕ) (options : Options) → InPlaces (verb_form named).numbers 0 ns → AreInRange options → IsInRange (command_with named ns options)
-command_range verb.Run ns options each range = assumption
-command_range _ ns options each range = assumption
+        ∙ by_parts named (read None rest) (λ e. fails (ap (λ w. fault_of syntax (w ∷ rest)) (named_same verb_word verbs first named is) ∙ e)) (walks named [] clear rest classes.1)
 
 pub spelled_in_range : (words : List Word) (command : Command) → SpellsCommand words command → IsInRange command
 spelled_in_range words command no_words = record { workers = default_range Workers; turns = default_range Turns; slice = default_range Slice }
-spelled_in_range words command (verb_first named parts made e) =
-    let p = command_parts named (numbers parts) (given parts) made e in
-    let range = options_range (verb_form named).items (given parts) p.0 p.2 in
-    subst IsInRange p.4 (command_range named p.1 p.0 (in_places (verb_form named).numbers (numbers parts) p.1 p.3) range)
+spelled_in_range words command (verb_first named parts made e) = (command_facts named (numbers parts) (given parts) made e).3
 
 -- ---- what is answered
 

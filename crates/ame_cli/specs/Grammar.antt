@@ -18,6 +18,7 @@ pub data Part : Type 0 where
   joined : Item → Word → Part
   number : Word → Part
 
+-- the words of a part
 abbrev pub part_words : Part → List Word
 part_words (apart item value) = (codes "--" ++ name_of item) ∷ value ∷ []
 part_words (joined item value) = (codes "--" ++ name_of item ++ codes "=" ++ value) ∷ []
@@ -29,6 +30,7 @@ given_by item (apart other value) = if is_same item other then value ∷ [] else
 given_by item (joined other value) = if is_same item other then value ∷ [] else []
 given_by item (number word) = []
 
+-- the number word that a part is
 abbrev pub number_by : Part → List Word
 number_by (apart item value) = []
 number_by (joined item value) = []
@@ -47,7 +49,8 @@ abbrev pub defaults : Options
 defaults = record { workers = default_of Workers; turns = default_of Turns; slice = default_of Slice }
 
 -- No words are `run` with the defaults. Else a verb stands first, and then parts in any order, of which the verb makes a
--- command: each option at most once, as many number words as the verb takes, all numbers in their ranges.
+-- command: each option that the verb may be given at most once and no other, as many number words as the verb takes, and
+-- each number in its bounds.
 pub data SpellsCommand : List Word → Command → Type 0 where
   no_words : SpellsCommand [] (Run defaults)
   verb_first : (verb : Verb) (parts : List Part) (command : Command)

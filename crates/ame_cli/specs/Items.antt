@@ -6,6 +6,7 @@ use Rattle.ame_cli.specs.declared.item.Item.{Item}
 use Rattle.ame_cli.specs.declared.item.Item.TheVariants.{Workers, Turns, Slice}
 use Rattle.ame_cli.specs.Limits.{worker_limit, turn_limit, slice_limit}
 
+-- the bytes of a word
 abbrev pub Word : Type 0
 Word = List ℕ
 

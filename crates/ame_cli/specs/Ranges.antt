@@ -8,6 +8,7 @@ use Rattle.ame_cli.specs.declared.command.Command.TheVariants.{Run, Bench}
 use Rattle.ame_cli.specs.Items.{bounds_of}
 use Rattle.ame_cli.specs.Verbs.{seeds, sizes}
 
+-- the number lies in the bounds
 abbrev pub IsInBounds : Bounds → ℕ → Type 0
 IsInBounds bounds n = (bounds.least ≤ n) × (n ≤ bounds.most)
 

@@ -25,4 +25,5 @@ options_of allowed values =
 -- the command of a verb, its number words and the values of options
 abbrev pub command_of : Verb → List Word → (Item → List Word) → Option Command
 command_of verb words values =
-    option_and_then (λ options. option_map (λ numbers. command_with verb numbers options) (numbers_within (verb_form verb).numbers words)) (options_of (verb_form verb).items values)
+    option_and_then (λ options. option_map (λ numbers. command_with verb numbers options)
+    (numbers_within (verb_form verb).numbers words)) (options_of (verb_form verb).items values)

@@ -13,14 +13,16 @@ option_rule name = record (new_rule name) { long = Some name; action = Some Appe
 abbrev pub numbers_rule : Rule
 numbers_rule = record (new_rule (codes "numbers")) { action = Some Append }
 
--- each verb has the three options and any number words
+-- each verb is told to clap with all options and any number words; which of them it may have is tested afterwards
 abbrev pub verb_app : Word → App
 verb_app word =
-    with_rule (with_rule (with_rule (with_rule (new_app word) (option_rule (name_of Workers))) (option_rule (name_of Turns))) (option_rule (name_of Slice))) numbers_rule
+    with_rule (with_rule (with_rule (with_rule (new_app word) (option_rule (name_of Workers)))
+    (option_rule (name_of Turns))) (option_rule (name_of Slice))) numbers_rule
 
 abbrev pub bare : App
 bare = let a = new_app (codes "ame") in record a { top = record a.top { no_binary_name = true; disable_help_flag = true; disable_help_subcommand = true } }
 
+-- one more verb
 abbrev pub with_verb : App → Verb → App
 with_verb app verb = with_subcommand app (verb_app (verb_word verb)).top
 

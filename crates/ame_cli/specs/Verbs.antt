@@ -18,12 +18,15 @@ pub record VerbForm : Type 0 where
   pub numbers : List Bounds
   pub items : List Item
 
+-- a seed is at most 65,536
 abbrev pub seeds : Bounds
 seeds = record { least = 0; most = seed_limit }
 
+-- a size is 1 to 4,000
 abbrev pub sizes : Bounds
 sizes = record { least = 1; most = size_limit }
 
+-- all options
 abbrev pub all_items : List Item
 all_items = Workers ∷ Turns ∷ Slice ∷ []
 
@@ -37,9 +40,11 @@ abbrev pub command_with : Verb → List ℕ → Options → Command
 command_with Run numbers options = command.Run options
 command_with Bench numbers options = command.Bench (slice_index numbers 0) (slice_index numbers 1) options
 
+-- all verbs
 unfoldable pub verbs : List Verb
 verbs = Run ∷ Bench ∷ []
 
+-- the word of a verb
 abbrev pub verb_word : Verb → Word
 verb_word verb = (verb_form verb).word
 

@@ -1,6 +1,7 @@
 -- What one word does to clap's walk over the words behind the first.
-use Rattle.std.proofs.Common.{◌≡◌, Bool, true, false, cond, List, [], ◌∷◌, Option, Some, None, refl, ap, ◌∙◌, codes}
+use Rattle.std.proofs.Common.{◌≡◌, Bool, true, false, cond, List, [], ◌∷◌, ◌++◌, Option, Some, None, refl, ap, ◌∙◌, codes, map}
 use Rattle.std.specs.Prelude.{option_map, ◌||◌}
+use Rattle.std.specs.List.{find}
 use Rattle.std.specs.Str.{bytes_eq}
 use Rattle.clap.specs.Lexer.{long_of, short_of}
 use Rattle.clap.specs.Words.{Row, Rule, Shape}
@@ -12,10 +13,10 @@ use Rattle.std.specs.Option.{option_map_or}
 use Rattle.clap.specs.Kinds.{Kinds, or_else}
 use Rattle.clap.specs.declared.builder.ValueParser.TheVariants as vp
 use Rattle.ame_cli.specs.declared.item.Item.{Item}
-use Rattle.ame_cli.specs.declared.item.Item.TheVariants.{Workers, Turns, Slice}
+use Rattle.ame_cli.specs.declared.item.Item.TheVariants.{Workers}
 use Rattle.ame_cli.specs.declared.verb.Verb.{Verb}
-use Rattle.ame_cli.specs.Items.{Text, name_of}
-use Rattle.ame_cli.specs.Verbs.{word_of}
+use Rattle.ame_cli.specs.Items.{Word, name_of}
+use Rattle.ame_cli.specs.Verbs.{all_items, verb_word}
 use Rattle.ame_cli.specs.Syntax.{option_rule, numbers_rule}
 use Rattle.ame_cli.proofs.Machine.{named}
 
@@ -27,10 +28,10 @@ abbrev pub built_numbers : Rule
 built_numbers = record numbers_rule { parser = Some vp.String; range = Some (record { start_inclusive = 1; end_inclusive = 1 }); index = Some 1 }
 
 abbrev pub built_rules : List Rule
-built_rules = built_option Workers ∷ built_option Turns ∷ built_option Slice ∷ built_numbers ∷ []
+built_rules = map built_option all_items ++ built_numbers ∷ []
 
 abbrev pub built_verb : Verb → Shape
-built_verb verb = record (new_shape (word_of verb)) {
+built_verb verb = record (new_shape (verb_word verb)) {
   rules = built_rules;
   no_binary_name = true;
   disable_help_flag = true;
@@ -42,17 +43,15 @@ built_verb verb = record (new_shape (word_of verb)) {
 -- waits for its value
 pub data Mode : Type 0 where
   clear : Mode
-  valued : Item → Text → Mode
-  numbered : Text → Mode
+  valued : Item → Word → Mode
+  numbered : Word → Mode
   waits : Item → Mode
 
 abbrev pub waiting_in : Mode → Option Item
-waiting_in clear = None
-waiting_in (valued item value) = None
-waiting_in (numbered word) = None
 waiting_in (waits item) = Some item
+waiting_in _ = None
 
-abbrev pub pending_in : Mode → Option (Text × List Text)
+abbrev pub pending_in : Mode → Option (Word × List Word)
 pending_in clear = None
 pending_in (valued item value) = Some (name_of item, value ∷ [])
 pending_in (numbered word) = Some (codes "numbers", word ∷ [])
@@ -77,42 +76,37 @@ rows_in rows (valued item value) = used (built_option item) (value ∷ []) rows
 rows_in rows (numbered word) = used built_numbers (word ∷ []) rows
 rows_in rows (waits item) = used (built_option item) [] rows
 
-by_long : (name : Text) → arg_by_long built_rules name ≡ option_map built_option (named name)
-by_long name = go (bytes_eq (name_of Workers) name) (bytes_eq (name_of Turns) name) (bytes_eq (name_of Slice) name)
+by_long : (items : List Item) (name : Word)
+    → arg_by_long (map built_option items ++ built_numbers ∷ []) name ≡ option_map built_option (find (λ item. bytes_eq (name_of item) name) items)
+by_long [] name = refl
+by_long (item ∷ rest) name = go (by_long rest name) (bytes_eq (name_of item) name)
   where
-    go : (a b c : Bool)
-        → cond (a || false) (Some (built_option Workers)) (cond (b || false) (Some (built_option Turns)) (cond (c || false) (Some (built_option Slice)) None))
-        ≡ option_map built_option (cond a (Some Workers) (cond b (Some Turns) (cond c (Some Slice) None)))
-    go true b c = refl
-    go false true c = refl
-    go false false true = refl
-    go false false false = refl
+    go : arg_by_long (map built_option rest ++ built_numbers ∷ []) name ≡ option_map built_option (find (λ item. bytes_eq (name_of item) name) rest) → (b : Bool)
+        → cond (b || false) (Some (built_option item)) (arg_by_long (map built_option rest ++ built_numbers ∷ []) name)
+        ≡ option_map built_option (cond b (Some item) (find (λ item. bytes_eq (name_of item) name) rest))
+    go before true = refl
+    go before false = before
 
 pub rows_settled : (rows : List Row) (mode : Mode) → (settled built_rules (held_in rows mode)).rows ≡ rows_in rows mode
-rows_settled rows clear = refl
 rows_settled rows (valued Workers value) = refl
-rows_settled rows (valued Turns value) = refl
-rows_settled rows (valued Slice value) = refl
-rows_settled rows (numbered word) = refl
 rows_settled rows (waits Workers) = refl
-rows_settled rows (waits Turns) = refl
-rows_settled rows (waits Slice) = refl
+rows_settled rows _ = refl
 
 -- ---- what a word is
 
-abbrev pub dashes : Text
+abbrev pub dashes : Word
 dashes = 45 ∷ 45 ∷ []
 
-pub data Class (word : Text) : Type 0 where
-  long : (p : Text × Option Text) → bytes_eq word dashes ≡ false → long_of word ≡ Some p → Class word
+pub data Class (word : Word) : Type 0 where
+  long : (p : Word × Option Word) → bytes_eq word dashes ≡ false → long_of word ≡ Some p → Class word
   plain : bytes_eq word dashes ≡ false → long_of word ≡ None → short_of word ≡ None → Class word
 
-no_sub : (state : Waiting) (word : Text) → subcommand_met [] state word ≡ None
+no_sub : (state : Waiting) (word : Word) → subcommand_met [] state word ≡ None
 no_sub idle word = refl
 no_sub (option id) word = refl
 no_sub positional word = refl
 
-module _ (rows : List Row) (mode : Mode) (word : Text) where
+module _ (rows : List Row) (mode : Mode) (word : Word) where
   abbrev here : Walk
   here = walk_in rows mode
 
@@ -138,31 +132,22 @@ module _ (rows : List Row) (mode : Mode) (word : Text) where
 
 -- ---- a plain word
 
-abbrev pub plain_mode : Mode → Text → Mode
-plain_mode clear word = numbered word
-plain_mode (valued item value) word = numbered word
-plain_mode (numbered value) word = numbered word
+abbrev pub plain_mode : Mode → Word → Mode
 plain_mode (waits item) word = valued item word
+plain_mode _ word = numbered word
 
 abbrev pub plain_rows : List Row → Mode → List Row
-plain_rows rows clear = rows
-plain_rows rows (valued item value) = rows_in rows (valued item value)
-plain_rows rows (numbered word) = rows_in rows (numbered word)
 plain_rows rows (waits item) = rows
+plain_rows rows mode = rows_in rows mode
 
-plain_met : (rows : List Row) (mode : Mode) (word : Text)
+plain_met : (rows : List Row) (mode : Mode) (word : Word)
     → after_step built_rules word (walk_in rows mode) (plain_word built_rules (state_in mode) word (held_in rows mode)).0 (plain_word built_rules (state_in mode) word (held_in rows mode)).1
     ≡ walk_in (plain_rows rows mode) (plain_mode mode word)
-plain_met rows clear word = refl
 plain_met rows (valued Workers value) word = refl
-plain_met rows (valued Turns value) word = refl
-plain_met rows (valued Slice value) word = refl
-plain_met rows (numbered value) word = refl
 plain_met rows (waits Workers) word = refl
-plain_met rows (waits Turns) word = refl
-plain_met rows (waits Slice) word = refl
+plain_met rows _ word = refl
 
-pub plain_walked : (rows : List Row) (mode : Mode) (word : Text) → bytes_eq word dashes ≡ false → long_of word ≡ None → short_of word ≡ None
+pub plain_walked : (rows : List Row) (mode : Mode) (word : Word) → bytes_eq word dashes ≡ false → long_of word ≡ None → short_of word ≡ None
     → walked built_rules [] (walk_in rows mode) word ≡ walk_in (plain_rows rows mode) (plain_mode mode word)
 plain_walked rows mode word dash lo sh =
     walked_flag rows mode word dash
@@ -170,18 +155,13 @@ plain_walked rows mode word dash lo sh =
     ∙ ap (λ s. stepped rows mode word (short_or_plain built_rules (state_in mode) word s (held_in rows mode))) sh
     ∙ plain_met rows mode word
 
-plain_step_fault : (verb : Verb) (rows : List Row) (mode : Mode) (word : Text)
+plain_step_fault : (verb : Verb) (rows : List Row) (mode : Mode) (word : Word)
     → step_fault (built_verb verb) 1 (plain_word built_rules (state_in mode) word (held_in rows mode)).0 (plain_word built_rules (state_in mode) word (held_in rows mode)).1 ≡ []
-plain_step_fault verb rows clear word = refl
 plain_step_fault verb rows (valued Workers value) word = refl
-plain_step_fault verb rows (valued Turns value) word = refl
-plain_step_fault verb rows (valued Slice value) word = refl
-plain_step_fault verb rows (numbered value) word = refl
 plain_step_fault verb rows (waits Workers) word = refl
-plain_step_fault verb rows (waits Turns) word = refl
-plain_step_fault verb rows (waits Slice) word = refl
+plain_step_fault verb rows _ word = refl
 
-pub plain_turn : (verb : Verb) (rows : List Row) (mode : Mode) (word : Text) → bytes_eq word dashes ≡ false → long_of word ≡ None → short_of word ≡ None
+pub plain_turn : (verb : Verb) (rows : List Row) (mode : Mode) (word : Word) → bytes_eq word dashes ≡ false → long_of word ≡ None → short_of word ≡ None
     → turn_fault (built_verb verb) [] (walk_in rows mode) word ≡ []
 plain_turn verb rows mode word dash lo sh =
     turn_flag rows mode word verb dash
@@ -193,15 +173,15 @@ plain_turn verb rows mode word dash lo sh =
 
 -- ---- a long word
 
-abbrev pub long_mode : Item → Option Text → Mode
+abbrev pub long_mode : Item → Option Word → Mode
 long_mode item None = waits item
 long_mode item (Some value) = clear
 
-abbrev pub long_rows : Item → Option Text → List Row → Mode → List Row
+abbrev pub long_rows : Item → Option Word → List Row → Mode → List Row
 long_rows item None rows mode = rows_in rows mode
 long_rows item (Some value) rows mode = used (built_option item) (value ∷ []) (rows_in rows mode)
 
-long_found : (rows : List Row) (mode : Mode) (word : Text) (item : Item) (v : Option Text)
+long_found : (rows : List Row) (mode : Mode) (word : Word) (item : Item) (v : Option Word)
     → after_step built_rules word (walk_in rows mode)
     (after_flag built_rules (state_in mode) word (long_met built_rules (Some (built_option item)) v (held_in rows mode)).0 (long_met built_rules (Some (built_option item)) v (held_in rows mode)).1).0
     (after_flag built_rules (state_in mode) word (long_met built_rules (Some (built_option item)) v (held_in rows mode)).0 (long_met built_rules (Some (built_option item)) v (held_in rows mode)).1).1
@@ -209,12 +189,12 @@ long_found : (rows : List Row) (mode : Mode) (word : Text) (item : Item) (v : Op
 long_found rows mode word item None = ap (λ r. walk_in r (waits item)) (rows_settled rows mode)
 long_found rows mode word item (Some value) = ap (λ r. walk_in (used (built_option item) (value ∷ []) r) clear) (rows_settled rows mode)
 
-pub long_walked : (rows : List Row) (mode : Mode) (word name : Text) (v : Option Text) (item : Item) → bytes_eq word dashes ≡ false → long_of word ≡ Some (name, v) → named name ≡ Some item
+pub long_walked : (rows : List Row) (mode : Mode) (word name : Word) (v : Option Word) (item : Item) → bytes_eq word dashes ≡ false → long_of word ≡ Some (name, v) → named name ≡ Some item
     → walked built_rules [] (walk_in rows mode) word ≡ walk_in (long_rows item v rows mode) (long_mode item v)
 long_walked rows mode word name v item dash lo is =
     walked_flag rows mode word dash
     ∙ ap (λ l. stepped rows mode word (long_or_other built_rules (state_in mode) word l (held_in rows mode))) lo
-    ∙ ap (λ o. stepped rows mode word (after_flag built_rules (state_in mode) word (long_met built_rules o v (held_in rows mode)).0 (long_met built_rules o v (held_in rows mode)).1)) (by_long name ∙ ap (option_map built_option) is)
+    ∙ ap (λ o. stepped rows mode word (after_flag built_rules (state_in mode) word (long_met built_rules o v (held_in rows mode)).0 (long_met built_rules o v (held_in rows mode)).1)) (by_long all_items name ∙ ap (option_map built_option) is)
     ∙ long_found rows mode word item v
 
 -- what is pending is a fault where it is an option without its value
@@ -223,47 +203,42 @@ waiting_fault None = []
 waiting_fault (Some item) = InvalidValue ∷ []
 
 pub settle_fault_in : (rows : List Row) (mode : Mode) → settle_fault built_rules false (held_in rows mode) ≡ waiting_fault (waiting_in mode)
-settle_fault_in rows clear = refl
 settle_fault_in rows (valued Workers value) = refl
-settle_fault_in rows (valued Turns value) = refl
-settle_fault_in rows (valued Slice value) = refl
-settle_fault_in rows (numbered word) = refl
 settle_fault_in rows (waits Workers) = refl
-settle_fault_in rows (waits Turns) = refl
-settle_fault_in rows (waits Slice) = refl
+settle_fault_in rows _ = refl
 
 -- the faults of a long word, by the argument that it names
-abbrev pub long_turn_by : Verb → List Row → Mode → Text → Option Text → Option Rule → Kinds
+abbrev pub long_turn_by : Verb → List Row → Mode → Word → Option Word → Option Rule → Kinds
 long_turn_by verb rows mode word v o =
     or_else (long_fault built_rules false o v (held_in rows mode))
     (step_fault (built_verb verb) 1
     (after_flag built_rules (state_in mode) word (long_met built_rules o v (held_in rows mode)).0 (long_met built_rules o v (held_in rows mode)).1).0
     (after_flag built_rules (state_in mode) word (long_met built_rules o v (held_in rows mode)).0 (long_met built_rules o v (held_in rows mode)).1).1)
 
-long_turn_is : (verb : Verb) (rows : List Row) (mode : Mode) (word name : Text) (v : Option Text) → bytes_eq word dashes ≡ false → long_of word ≡ Some (name, v)
+long_turn_is : (verb : Verb) (rows : List Row) (mode : Mode) (word name : Word) (v : Option Word) → bytes_eq word dashes ≡ false → long_of word ≡ Some (name, v)
     → turn_fault (built_verb verb) [] (walk_in rows mode) word ≡ long_turn_by verb rows mode word v (option_map built_option (named name))
 long_turn_is verb rows mode word name v dash lo =
     turn_flag rows mode word verb dash
     ∙ ap (λ l. or_else (flag_word_fault built_rules false l word (held_in rows mode))
     (step_fault (built_verb verb) 1 (long_or_other built_rules (state_in mode) word l (held_in rows mode)).0 (long_or_other built_rules (state_in mode) word l (held_in rows mode)).1)) lo
-    ∙ ap (long_turn_by verb rows mode word v) (by_long name)
+    ∙ ap (long_turn_by verb rows mode word v) (by_long all_items name)
 
 pub or_else-nil : (a : Kinds) → or_else a [] ≡ a
 or_else-nil [] = refl
 or_else-nil (k ∷ ks) = refl
 
-long_turn_found : (verb : Verb) (rows : List Row) (mode : Mode) (word : Text) (v : Option Text) (item : Item)
+long_turn_found : (verb : Verb) (rows : List Row) (mode : Mode) (word : Word) (v : Option Word) (item : Item)
     → long_turn_by verb rows mode word v (Some (built_option item)) ≡ waiting_fault (waiting_in mode)
 long_turn_found verb rows mode word None item = or_else-nil (settle_fault built_rules false (held_in rows mode)) ∙ settle_fault_in rows mode
 long_turn_found verb rows mode word (Some value) item =
     or_else-nil (or_else (settle_fault built_rules false (held_in rows mode)) []) ∙ or_else-nil (settle_fault built_rules false (held_in rows mode)) ∙ settle_fault_in rows mode
 
-pub long_turn : (verb : Verb) (rows : List Row) (mode : Mode) (word name : Text) (v : Option Text) (item : Item) → bytes_eq word dashes ≡ false → long_of word ≡ Some (name, v) → named name ≡ Some item
+pub long_turn : (verb : Verb) (rows : List Row) (mode : Mode) (word name : Word) (v : Option Word) (item : Item) → bytes_eq word dashes ≡ false → long_of word ≡ Some (name, v) → named name ≡ Some item
     → turn_fault (built_verb verb) [] (walk_in rows mode) word ≡ waiting_fault (waiting_in mode)
 long_turn verb rows mode word name v item dash lo is =
     long_turn_is verb rows mode word name v dash lo ∙ ap (λ n. long_turn_by verb rows mode word v (option_map built_option n)) is ∙ long_turn_found verb rows mode word v item
 
-pub unknown_turn : (verb : Verb) (rows : List Row) (mode : Mode) (word name : Text) (v : Option Text) → bytes_eq word dashes ≡ false → long_of word ≡ Some (name, v) → named name ≡ None
+pub unknown_turn : (verb : Verb) (rows : List Row) (mode : Mode) (word name : Word) (v : Option Word) → bytes_eq word dashes ≡ false → long_of word ≡ Some (name, v) → named name ≡ None
     → turn_fault (built_verb verb) [] (walk_in rows mode) word ≡ UnknownArgument ∷ []
 unknown_turn verb rows mode word name v dash lo is =
     long_turn_is verb rows mode word name v dash lo ∙ ap (λ n. long_turn_by verb rows mode word v (option_map built_option n)) is

@@ -7,39 +7,41 @@ use Rattle.ame_cli.specs.declared.verb.Verb.{Verb}
 use Rattle.ame_cli.specs.declared.command.Options.{Options}
 use Rattle.ame_cli.specs.declared.command.Command.{Command}
 use Rattle.ame_cli.specs.declared.command.Command.TheVariants.{Run}
-use Rattle.ame_cli.specs.Items.{Text, name_of, default_of, is_same}
-use Rattle.ame_cli.specs.Verbs.{word_of}
+use Rattle.ame_cli.specs.Items.{Word, name_of, default_of, is_same}
+use Rattle.ame_cli.specs.Verbs.{verb_word}
 use Rattle.ame_cli.specs.Settings.{command_of}
 
 -- what stands behind the first word: an option and its value, as two words or as one with `=` between, or
 -- a number word
 pub data Part : Type 0 where
-  apart : Item → Text → Part
-  joined : Item → Text → Part
-  number : Text → Part
+  apart : Item → Word → Part
+  joined : Item → Word → Part
+  number : Word → Part
 
-abbrev pub words_of : Part → List Text
-words_of (apart item value) = (codes "--" ++ name_of item) ∷ value ∷ []
-words_of (joined item value) = (codes "--" ++ name_of item ++ codes "=" ++ value) ∷ []
-words_of (number word) = word ∷ []
+-- the words of a part
+abbrev pub part_words : Part → List Word
+part_words (apart item value) = (codes "--" ++ name_of item) ∷ value ∷ []
+part_words (joined item value) = (codes "--" ++ name_of item ++ codes "=" ++ value) ∷ []
+part_words (number word) = word ∷ []
 
 -- the value that a part gives an option
-abbrev pub given_by : Item → Part → List Text
+abbrev pub given_by : Item → Part → List Word
 given_by item (apart other value) = if is_same item other then value ∷ [] else []
 given_by item (joined other value) = if is_same item other then value ∷ [] else []
 given_by item (number word) = []
 
-abbrev pub number_by : Part → List Text
+-- the number word that a part is
+abbrev pub number_by : Part → List Word
 number_by (apart item value) = []
 number_by (joined item value) = []
 number_by (number word) = word ∷ []
 
 -- all values that an option is given
-abbrev pub given : List Part → Item → List Text
+abbrev pub given : List Part → Item → List Word
 given parts item = flat_map (given_by item) parts
 
 -- all number words, in order
-abbrev pub numbers : List Part → List Text
+abbrev pub numbers : List Part → List Word
 numbers parts = flat_map number_by parts
 
 -- no option is given
@@ -47,13 +49,14 @@ abbrev pub defaults : Options
 defaults = record { workers = default_of Workers; turns = default_of Turns; slice = default_of Slice }
 
 -- No words are `run` with the defaults. Else a verb stands first, and then parts in any order, of which the verb makes a
--- command: each option at most once, as many number words as the verb takes, all numbers in their ranges.
-pub data Spells : List Text → Command → Type 0 where
-  no_words : Spells [] (Run defaults)
+-- command: each option that the verb may be given at most once and no other, as many number words as the verb takes, and
+-- each number in its bounds.
+pub data SpellsCommand : List Word → Command → Type 0 where
+  no_words : SpellsCommand [] (Run defaults)
   verb_first : (verb : Verb) (parts : List Part) (command : Command)
       → command_of verb (numbers parts) (given parts) ≡ Some command
-      → Spells (word_of verb ∷ flat_map words_of parts) command
+      → SpellsCommand (verb_word verb ∷ flat_map part_words parts) command
 
 -- the words spell no command
-abbrev pub SpellsNothing : List Text → Type 0
-SpellsNothing words = (command : Command) → Spells words command → ⊥
+abbrev pub SpellsNothing : List Word → Type 0
+SpellsNothing words = (command : Command) → SpellsCommand words command → ⊥

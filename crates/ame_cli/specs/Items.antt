@@ -1,32 +1,33 @@
--- The options of a command, their ranges and what they are where they aren't given.
-use Rattle.std.specs.Prelude.{ℕ, List, Bool, true, false, codes}
+-- The options of a command, their bounds and what they are where they aren't given.
+use Rattle.std.specs.Prelude.{ℕ, List, Bool, codes}
+use Rattle.std.specs.Str.{bytes_eq}
+use Rattle.ame_cli.specs.declared.bounds.Bounds.{Bounds}
 use Rattle.ame_cli.specs.declared.item.Item.{Item}
 use Rattle.ame_cli.specs.declared.item.Item.TheVariants.{Workers, Turns, Slice}
+use Rattle.ame_cli.specs.Limits.{worker_limit, turn_limit, slice_limit}
 
-abbrev pub Text : Type 0
-Text = List ℕ
+-- the bytes of a word
+abbrev pub Word : Type 0
+Word = List ℕ
 
 -- the name
-abbrev pub name_of : Item → Text
+abbrev pub name_of : Item → Word
 name_of Workers = codes "workers"
 name_of Turns = codes "turns"
 name_of Slice = codes "slice"
 
--- the greatest value; the least is 1
-abbrev pub most_of : Item → ℕ
-most_of Workers = 32
-most_of Turns = 4000000
-most_of Slice = 1000
+-- the least and the greatest number
+abbrev pub bounds_of : Item → Bounds
+bounds_of Workers = record { least = 1; most = worker_limit }
+bounds_of Turns = record { least = 1; most = turn_limit }
+bounds_of Slice = record { least = 1; most = slice_limit }
 
--- the value where it isn't given
+-- the number where it isn't given
 abbrev pub default_of : Item → ℕ
 default_of Workers = 1
 default_of Turns = 1000000
 default_of Slice = 1000
 
--- the two are one option
+-- the two are one option: they have one name
 abbrev pub is_same : Item → Item → Bool
-is_same Workers Workers = true
-is_same Turns Turns = true
-is_same Slice Slice = true
-is_same _ _ = false
+is_same item other = bytes_eq (name_of other) (name_of item)

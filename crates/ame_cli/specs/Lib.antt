@@ -1,6 +1,7 @@
+pub mod Limits
 pub mod Items
-pub mod Verbs
 pub mod Numbers
+pub mod Verbs
 pub mod Settings
 pub mod Ranges
 pub mod Grammar

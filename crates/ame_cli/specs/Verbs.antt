@@ -1,14 +1,53 @@
--- The words with which a list begins.
-use Rattle.std.specs.Prelude.{Option, Some, None, codes, if◌then◌else◌}
+-- The words with which a list begins, and what may stand behind each.
+use Rattle.std.specs.Prelude.{ℕ, List, [], ◌∷◌, Option, codes, find, slice_index}
 use Rattle.std.specs.Str.{bytes_eq}
+use Rattle.ame_cli.specs.declared.bounds.Bounds.{Bounds}
+use Rattle.ame_cli.specs.declared.item.Item.{Item}
+use Rattle.ame_cli.specs.declared.item.Item.TheVariants.{Workers, Turns, Slice}
 use Rattle.ame_cli.specs.declared.verb.Verb.{Verb}
 use Rattle.ame_cli.specs.declared.verb.Verb.TheVariants.{Run, Bench}
-use Rattle.ame_cli.specs.Items.{Text}
+use Rattle.ame_cli.specs.declared.command.Options.{Options}
+use Rattle.ame_cli.specs.declared.command.Command.{Command}
+use Rattle.ame_cli.specs.declared.command.Command.TheVariants as command
+use Rattle.ame_cli.specs.Limits.{seed_limit, size_limit}
+use Rattle.ame_cli.specs.Items.{Word}
 
-abbrev pub word_of : Verb → Text
-word_of Run = codes "run"
-word_of Bench = codes "bench"
+-- a verb: its word, the bounds of its number words in their order, and the options that it may be given
+pub record VerbForm : Type 0 where
+  pub word : Word
+  pub numbers : List Bounds
+  pub items : List Item
+
+-- a seed is at most 65,536
+abbrev pub seeds : Bounds
+seeds = record { least = 0; most = seed_limit }
+
+-- a size is 1 to 4,000
+abbrev pub sizes : Bounds
+sizes = record { least = 1; most = size_limit }
+
+-- all options
+abbrev pub all_items : List Item
+all_items = Workers ∷ Turns ∷ Slice ∷ []
+
+-- a row for each verb
+abbrev pub verb_form : Verb → VerbForm
+verb_form Run = record { word = codes "run"; numbers = []; items = all_items }
+verb_form Bench = record { word = codes "bench"; numbers = seeds ∷ sizes ∷ []; items = all_items }
+
+-- what a verb makes of its numbers and of the options
+abbrev pub command_with : Verb → List ℕ → Options → Command
+command_with Run numbers options = command.Run options
+command_with Bench numbers options = command.Bench (slice_index numbers 0) (slice_index numbers 1) options
+
+-- all verbs
+unfoldable pub verbs : List Verb
+verbs = Run ∷ Bench ∷ []
+
+-- the word of a verb
+abbrev pub verb_word : Verb → Word
+verb_word verb = (verb_form verb).word
 
 -- the verb of a word
-abbrev pub verb_named : Text → Option Verb
-verb_named word = if bytes_eq (word_of Run) word then Some Run else if bytes_eq (word_of Bench) word then Some Bench else None
+abbrev pub verb_named : Word → Option Verb
+verb_named word = find (λ verb. bytes_eq (verb_word verb) word) verbs

@@ -1,6 +1,9 @@
 //! The options of a command.
 ghost use Rattle.std.specs.Prelude.{◌≡◌};
 
+use crate::bounds::Bounds;
+use crate::limits::{SLICE_LIMIT, TURN_LIMIT, WORKER_LIMIT};
+
 /// An option that a command may be given.
 #[derive(Clone, Copy, Debug, PartialEq, Eq)]
 pub enum Item {
@@ -10,7 +13,7 @@ pub enum Item {
 }
 
 impl Item {
-    ghost use Rattle.ame_cli.specs.Items.{name_of, most_of, default_of};
+    ghost use Rattle.ame_cli.specs.Items.{name_of, bounds_of, default_of};
 
     /// The name, without hyphens.
     pub fn name(self) -> &'static str
@@ -23,15 +26,16 @@ impl Item {
         }
     }
 
-    /// The greatest value; the least is 1.
-    pub fn most(self) -> u32
-        ensures { result ≡ most_of self }
+    /// The least and the greatest value.
+    pub fn bounds(self) -> Bounds
+        ensures { result ≡ bounds_of self }
     {
-        match self {
-            Item::Workers => 32,
-            Item::Turns => 4_000_000,
-            Item::Slice => 1_000,
-        }
+        let most = match self {
+            Item::Workers => WORKER_LIMIT,
+            Item::Turns => TURN_LIMIT,
+            Item::Slice => SLICE_LIMIT,
+        };
+        Bounds { least: 1, most }
     }
 
     /// The value where the option isn't given.

@@ -1,10 +1,12 @@
 //! What a list of words on the command line asks for: a command with its options, or a usage fault.
 #![tactic(auto)]
 
+mod bounds;
 mod command;
 mod given;
 mod item;
 mod laws;
+mod limits;
 mod numbers;
 mod read;
 mod screen;
@@ -13,8 +15,12 @@ mod syntax;
 mod tests;
 mod verb;
 
+pub use bounds::Bounds;
 pub use command::{CliFail, Command, Options};
 pub use item::Item;
 pub use laws::spells_one_command;
+pub use limits::{
+    DIGIT_LIMIT, SEED_LIMIT, SIZE_LIMIT, SLICE_LIMIT, TURN_LIMIT, WORD_LIMIT, WORKER_LIMIT,
+};
 pub use read::read_words;
-pub use verb::Verb;
+pub use verb::{Form, Verb};

@@ -4,6 +4,9 @@ ghost use Rattle.std.specs.List.{list_all};
 ghost use Rattle.std.specs.Char.{is_ascii_digit};
 ghost use Rattle.ame_cli.specs.Numbers as spec;
 
+use crate::bounds::Bounds;
+use crate::limits::DIGIT_LIMIT;
+
 /// Whether all bytes are decimal digits.
 fn all_digits(bytes: &[u8]) -> bool
     ensures { result ≡ list_all is_ascii_digit bytes.now }
@@ -15,18 +18,18 @@ fn all_digits(bytes: &[u8]) -> bool
 fn is_number(word: &str) -> bool
     ensures { result ≡ spec.is_number word.now }
 {
-    1 <= word.len() && word.len() <= 10 && all_digits(word.as_bytes())
+    1 <= word.len() && word.len() <= DIGIT_LIMIT && all_digits(word.as_bytes())
 }
 
-/// The value of a number word, where it has one from `least` to `most`.
-pub(crate) fn number_within(word: &str, least: u32, most: u32) -> Option<u32>
-    ensures { result ≡ spec.number_within least most word.now }
+/// The value of a number word, where it has one in the bounds.
+pub(crate) fn number_within(word: &str, bounds: Bounds) -> Option<u32>
+    ensures { result ≡ spec.number_within bounds word.now }
 {
     if !is_number(word) {
         return None;
     }
     match word.parse::<u32>() {
-        Ok(value) if least <= value && value <= most => Some(value),
+        Ok(value) if bounds.least <= value && value <= bounds.most => Some(value),
         _ => None,
     }
 }

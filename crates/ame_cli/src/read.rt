@@ -1,28 +1,29 @@
 //! Reading a list of words.
 ghost use Rattle.std.specs.Prelude.{◌≡◌, ◌≢◌, ◌⊎◌, [], map, string_bytes, IfOk, IfErr, Ok, Err};
-ghost use Rattle.ame_cli.specs.Grammar.{Spells, SpellsNothing};
+ghost use Rattle.ame_cli.specs.Grammar.{SpellsCommand, SpellsNothing};
 ghost use Rattle.ame_cli.specs.Ranges.{IsInRange};
 ghost use Rattle.ame_cli.specs.declared.command.Command.{Command as Cmd};
 ghost use Rattle.ame_cli.specs.Syntax as spec;
-ghost use Rattle.clap.specs.Words.{fault_of, subcommand_of, subcommand_rows_of};
+ghost use Rattle.clap.specs.Words.{fault_of, kind_of, subcommand_of, subcommand_rows_of};
+ghost use Rattle.clap.specs.declared.error.ErrorKind.TheVariants.{OutOfMemory};
 
 use crate::command::{CliFail, Command, Options};
 use crate::given::command_in;
 use crate::screen::may_be_read;
 use crate::syntax::syntax;
-use clap::ArgMatches;
 use clap::error::ErrorKind;
+use clap::{ArgMatches, Error};
 use std::alloc::Global;
 
 /// The command that words ask for. Its cost is linear in the words.
 pub fn read_words(alloc: Global, words: &[String]) -> Result<Command, CliFail>
     // What is answered is what the words spell.
-    ensures ok { IfOk result (Spells (map string_bytes words.now)) }
+    ensures ok { IfOk result (SpellsCommand (map string_bytes words.now)) }
 
     ensures ranges { IfOk result IsInRange }
 
     // What they spell is answered, unless memory runs out.
-    ensures spelled { (command : Cmd) → Spells (map string_bytes words.now) command → (result ≡ Ok command) ⊎ (result ≡ Err CliFail.NoMemory) }
+    ensures spelled { (command : Cmd) → SpellsCommand (map string_bytes words.now) command → (result ≡ Ok command) ⊎ (result ≡ Err CliFail.NoMemory) }
 
     // `Usage` comes exactly where they spell nothing, or `NoMemory` in its place.
     ensures usage { result ≡ Err CliFail.Usage → SpellsNothing (map string_bytes words.now) }
@@ -55,7 +56,16 @@ fn parse<'a>(alloc: Global, words: &'a [String]) -> Result<ArgMatches<'a>, CliFa
     };
     match syntax.try_get_matches_from(words) {
         Ok(matches) => Ok(matches),
-        Err(error) if error.kind() == ErrorKind::OutOfMemory => Err(CliFail::NoMemory),
-        Err(_) => Err(CliFail::Usage),
+        Err(error) => Err(fail_of(&error)),
+    }
+}
+
+/// Why `clap` refused.
+fn fail_of(error: &Error) -> CliFail
+    ensures { result ≡ CliFail.Usage → kind_of error.now ≢ OutOfMemory }
+{
+    match error.kind() {
+        ErrorKind::OutOfMemory => CliFail::NoMemory,
+        _ => CliFail::Usage,
     }
 }

@@ -3,8 +3,7 @@ ghost use Rattle.std.specs.Prelude.{◌≡◌, map, string_bytes};
 ghost use Rattle.std.specs.List.{list_all};
 ghost use Rattle.ame_cli.specs.Screen as spec;
 
-/// The most words that are read; no command has as many.
-pub(crate) const WORD_LIMIT: usize = 16;
+use crate::limits::WORD_LIMIT;
 
 /// Whether a word is neither empty nor `--` nor a short option.
 fn may_stand(word: &str) -> bool

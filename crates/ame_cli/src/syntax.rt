@@ -1,7 +1,7 @@
 //! What `clap` is told of the commands.
-ghost use Rattle.std.specs.Prelude.{◌≡◌, IfOk, false};
+ghost use Rattle.std.specs.Prelude.{◌≡◌, IfOk, false, true};
 ghost use Rattle.ame_cli.specs.Syntax as spec;
-ghost use Rattle.clap.specs.Words.{app_of, rule_of};
+ghost use Rattle.clap.specs.Words.{app_of, is_simple, is_simple_and_free, rule_of};
 ghost use Rattle.clap.specs.declared.builder.Command.TheViews.{out-Command as fields_of};
 
 use crate::item::Item;
@@ -21,7 +21,7 @@ fn option<'a>(alloc: Global, name: &'a str) -> Arg<'a>
 }
 
 /// A command with the options and any number words. Which of them it may have is tested when the matches are read.
-fn verb<'a>(alloc: Global, word: &'a str) -> Result<Command<'a>, AllocError>
+fn verb_syntax<'a>(alloc: Global, word: &'a str) -> Result<Command<'a>, AllocError>
     ensures shape { IfOk result (λ c. app_of c ≡ spec.verb_app word.entry.now) }
     ensures local { IfOk result (λ c. (fields_of c).has_globals ≡ false) }
 {
@@ -38,15 +38,18 @@ fn verb<'a>(alloc: Global, word: &'a str) -> Result<Command<'a>, AllocError>
 
 /// All commands.
 pub(crate) fn syntax<'a>(alloc: Global) -> Result<Command<'a>, AllocError>
-    ensures { IfOk result (λ c. app_of c ≡ spec.syntax) }
+    ensures app { IfOk result (λ c. app_of c ≡ spec.syntax) }
+    ensures simple { IfOk result (λ c. is_simple (app_of c) ≡ true) }
+    ensures free { IfOk result (λ c. is_simple_and_free (app_of c) ≡ true) }
 {
-    let run: &'a str = Verb::Run.word();
-    let bench: &'a str = Verb::Bench.word();
     let name: &'a str = "ame";
-    Command::new(alloc, name)
+    let mut all = Command::new(alloc, name)
         .no_binary_name(true)
         .disable_help_flag(true)
-        .disable_help_subcommand(true)
-        .subcommand(verb(alloc, run)?)?
-        .subcommand(verb(alloc, bench)?)
+        .disable_help_subcommand(true);
+    for verb in Verb::all() {
+        let word: &'a str = verb.form().word;
+        all = all.subcommand(verb_syntax(alloc, word)?)?;
+    }
+    Ok(all)
 }

@@ -1,5 +1,10 @@
-//! Command words.
-ghost use Rattle.std.specs.Prelude.{◌≡◌};
+//! Command words, and what may stand behind each.
+ghost use Rattle.std.specs.Prelude.{◌≡◌, length};
+
+use crate::bounds::Bounds;
+use crate::command::{Command, Options};
+use crate::item::Item;
+use crate::limits::{SEED_LIMIT, SIZE_LIMIT};
 
 /// The word with which a list begins.
 #[derive(Clone, Copy, Debug, PartialEq, Eq)]
@@ -8,15 +13,64 @@ pub enum Verb {
     Bench,
 }
 
-impl Verb {
-    ghost use Rattle.ame_cli.specs.Verbs.{word_of, verb_named};
+/// A verb's word, the bounds of its number words in their order, and the options that it may be given.
+#[derive(Clone, Copy, Debug)]
+pub struct Form {
+    pub word: &'static str,
+    pub numbers: &'static [Bounds],
+    pub items: &'static [Item],
+}
 
-    pub fn word(self) -> &'static str
-        ensures { result.now ≡ word_of self }
+const SEEDS: Bounds = Bounds {
+    least: 0,
+    most: SEED_LIMIT,
+};
+
+const SIZES: Bounds = Bounds {
+    least: 1,
+    most: SIZE_LIMIT,
+};
+
+const ALL_ITEMS: &[Item] = &[Item::Workers, Item::Turns, Item::Slice];
+
+impl Verb {
+    ghost use Rattle.ame_cli.specs.Verbs.{command_with, verb_form, verb_named, verbs};
+
+    #[tactic(auto, unfolding(crate::specs::Verbs::verbs))]
+    pub fn all() -> &'static [Verb]
+        ensures { result.now ≡ verbs }
+    {
+        &[Verb::Run, Verb::Bench]
+    }
+
+    /// What may stand behind a verb.
+    pub fn form(self) -> Form
+        ensures word { result.word.now ≡ (verb_form self).word }
+        ensures numbers { result.numbers.now ≡ (verb_form self).numbers }
+        ensures items { result.items.now ≡ (verb_form self).items }
     {
         match self {
-            Verb::Run => "run",
-            Verb::Bench => "bench",
+            Verb::Run => Form {
+                word: "run",
+                numbers: &[],
+                items: ALL_ITEMS,
+            },
+            Verb::Bench => Form {
+                word: "bench",
+                numbers: &[SEEDS, SIZES],
+                items: ALL_ITEMS,
+            },
+        }
+    }
+
+    /// The command of a verb's numbers and options.
+    pub fn command(self, numbers: &[u32], options: Options) -> Command
+        requires { length numbers.now ≡ length (verb_form self).numbers }
+        ensures { result ≡ command_with self numbers.now options }
+    {
+        match self {
+            Verb::Run => Command::Run(options),
+            Verb::Bench => Command::Bench(numbers[0], numbers[1], options),
         }
     }
 
@@ -24,10 +78,9 @@ impl Verb {
     pub fn named(word: &str) -> Option<Verb>
         ensures { result ≡ verb_named word.now }
     {
-        match word {
-            "run" => Some(Verb::Run),
-            "bench" => Some(Verb::Bench),
-            _ => None,
-        }
+        Verb::all()
+            .iter()
+            .copied()
+            .find(|verb| verb.form().word == word)
     }
 }

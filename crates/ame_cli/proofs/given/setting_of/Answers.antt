@@ -8,5 +8,6 @@ use Rattle.ame_cli.proofs.given.setting_of.Goals as goal
 pub returns : goal.returns
 returns c =
     let found = found_of c.args.matches.now in
-    c.setting.ensures ∙ ap (λ t. setting c.args.item (texts_in t)) (c.get_raw.ensures ∙ raw_values-rows found c.name.result.now)
-    ∙ ap (λ n. setting c.args.item (values_in n (rows_of found))) c.name.ensures
+    let one = setting c.args.allowed.now c.args.item in
+    c.setting.ensures ∙ ap (λ t. one (texts_in t)) (c.get_raw.ensures ∙ raw_values-rows found c.name.result.now)
+    ∙ ap (λ n. one (values_in n (rows_of found))) c.name.ensures

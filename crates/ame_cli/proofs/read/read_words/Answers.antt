@@ -2,7 +2,7 @@ use Rattle.std.proofs.Common.{◌≡◌, [], true, Result, Err, map, string_byte
 use Rattle.std.specs.Prelude.{option_and_then}
 use Rattle.ame_cli.specs.Rows.{named_in}
 use Rattle.ame_cli.specs.Screen.{may_be_read}
-use Rattle.ame_cli.specs.Grammar.{Spells, SpellsNothing, no_words}
+use Rattle.ame_cli.specs.Grammar.{SpellsCommand, SpellsNothing, no_words}
 use Rattle.ame_cli.specs.declared.command.CliFail.{CliFail}
 use Rattle.ame_cli.specs.declared.command.CliFail.TheVariants.{Usage}
 use Rattle.ame_cli.specs.declared.command.Command.{Command}
@@ -11,10 +11,10 @@ use Rattle.ame_cli.proofs.MatchLemmas.{is_nothing, is_something}
 use Rattle.ame_cli.proofs.SpellingLemmas.{err_spelled, found_nothing, found_spelled, ok_spelled, refused_nothing, screened_nothing, spelled_in_range}
 use Rattle.ame_cli.proofs.read.read_words.Goals as goal
 
-empty : (c : goal.After-default) → Spells (map string_bytes c.args.words.now) (Run c.default.result)
+empty : (c : goal.After-default) → SpellsCommand (map string_bytes c.args.words.now) (Run c.default.result)
 empty c =
     let nothing : map string_bytes c.args.words.now ≡ [] = is_nothing string_bytes c.args.words.now (sym c.is_empty.ensures ∙ c.if-is_empty.true) in
-    subst (λ w. Spells w (Run c.default.result)) (sym nothing) (subst (λ o. Spells [] (Run o)) (sym c.default.ensures) no_words)
+    subst (λ w. SpellsCommand w (Run c.default.result)) (sym nothing) (subst (λ o. SpellsCommand [] (Run o)) (sym c.default.ensures) no_words)
 
 pub returns-then-is_empty-clause-ok : goal.returns-then-is_empty-clause-ok
 returns-then-is_empty-clause-ok c = empty c
@@ -55,7 +55,7 @@ returns-in-Err-clause-usage c =
     let read : may_be_read words ≡ true = sym c.may_be_read.ensures ∙ c.if-not-may_be_read.false in
     λ same. refused_nothing words some read (c.in-Err.ensures.usage (is_usage c.in-Err.fail same))
 
-found : (c : goal.Joined-matches) → Spells (map string_bytes c.args.words.now) c.in-Some.command
+found : (c : goal.Joined-matches) → SpellsCommand (map string_bytes c.args.words.now) c.in-Some.command
 found c =
     let words = map string_bytes c.args.words.now in
     let some = is_something string_bytes c.args.words.now (sym c.is_empty.ensures ∙ c.if-is_empty.false) in

@@ -2,7 +2,6 @@
 use Rattle.std.proofs.Common.{◌≡◌, ◌≤◌, ◌==◌, ◌&&◌, ℕ, zero, suc, Bool, true, false, cond, List, [], ◌∷◌, Some, None, IsSomeAnd, IsTrue, refl, sym, ap, subst, ◌∙◌, arith}
 use mathlib.Core.Bool.{false≢true}
 use Rattle.std.specs.Prelude.{◌||◌, nat_lt}
-use Rattle.std.specs.BTreeSet.{BTreeSet}
 use Rattle.std.specs.List.{filter, list_any, list_all, count_by}
 use Rattle.std.proofs.lemmas.Bool.Decides.{nat_tests}
 use Rattle.ame_pool.specs.declared.member.Member.{Member}
@@ -88,7 +87,7 @@ module _ {M : Type 0} where
   parked_all [] order room some e = absurd (omega arith)
   parked_all (m ∷ ms) order room some e = ap (λ b. cond b Oldest.Parked (oldest_or_wait (first_to_begin (m ∷ ms) [] (members_of (m ∷ ms) order)))) e
 
-  module _ {reg : Register M} {q : Queues} {c : Counts} {ix : BTreeSet (ℕ × ℕ)} (h : IsKept reg q c ix) where
+  module _ {reg : Register M} {q : Queues} {c : Counts} (h : IsKept reg q c) where
     abbrev roster : Roster M
     roster = record { members = reg.list; order = q.order; room = reg.room }
 

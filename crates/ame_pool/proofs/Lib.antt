@@ -1,5 +1,4 @@
 mod EntryLemmas
-mod WalkLemmas
 mod SlotLemmas
 mod ChangeLemmas
 mod OldestLemmas

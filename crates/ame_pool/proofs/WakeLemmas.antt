@@ -9,13 +9,15 @@ use Rattle.std.proofs.lemmas.List.Elements.{All-head, All-tail}
 use Rattle.ame_pool.specs.declared.member.Member.{Member}
 use Rattle.ame_pool.specs.declared.member.Standing.{Standing}
 use Rattle.ame_pool.specs.declared.member.Watch.{Watch}
-use Rattle.ame_pool.specs.Members.{IsRising, find, change}
-use Rattle.ame_pool.specs.Index.{untouched, lists, waits_for, IsIndexOf}
+use Rattle.ame_pool.specs.Members.{IsRising, find, altered}
+use Rattle.ame_pool.specs.Index.{untouched, lists, waits_for}
 use Rattle.ame_pool.specs.Waking.{has, touched_by, stirred, stirred_by, is_waiting_for, is_woken_by, woken_by}
 use Rattle.ame_pool.specs.Roster.{Roster}
 use Rattle.ame_pool.specs.Calls.{IsAt, woken}
 use Rattle.ame_pool.specs.Stirs.{is_watching, is_woken_at, stirred_at}
-use Rattle.ame_pool.proofs.ChangeLemmas.{count_change, find_number, find_passes, all_found}
+use Rattle.ame_pool.specs.Keeps.{IsWatched}
+use Rattle.ame_pool.proofs.KeptLemmas.{IsOpen, opened}
+use Rattle.ame_pool.proofs.ChangeLemmas.{count_altered, find_number, find_passes, all_found}
 
 module _ (l : ℕ) where
   -- ---- a standing and a write
@@ -69,26 +71,26 @@ module _ {M : Type 0} (l : ℕ) where
       ] refl
 
   -- ---- one turn
-  map_change : (n : ℕ) (ms : List (Member M)) (m : Member M) → find n ms ≡ Some m → is_watching l m ≡ true
-      → map (stirred_by l) (change n (stirred_by l) ms) ≡ map (stirred_by l) ms
-  map_change n [] m found watched = refl
-  map_change n (o ∷ ms) m found watched =
+  map_altered : (n : ℕ) (ms : List (Member M)) (m : Member M) → find n ms ≡ Some m → is_watching l m ≡ true
+      → map (stirred_by l) (altered n (stirred_by l) ms) ≡ map (stirred_by l) ms
+  map_altered n [] m found watched = refl
+  map_altered n (o ∷ ms) m found watched =
       elim (o.number == n) as (λ b. cond b (Some o) (find n ms) ≡ Some m
-      → map (stirred_by l) (cond b (stirred_by l o ∷ ms) (o ∷ change n (stirred_by l) ms)) ≡ map (stirred_by l) (o ∷ ms)) [
+      → map (stirred_by l) (cond b (stirred_by l o ∷ ms) (o ∷ altered n (stirred_by l) ms)) ≡ map (stirred_by l) (o ∷ ms)) [
         | true ↦ λ h.
             let same : m ≡ o = cc in
             let here : has l (untouched o.standing) ≡ true = subst (λ (q : Member M). has l (untouched q.standing) ≡ true) same watched in
             ap (λ (s : Standing). let x : Member M = record o { standing = s } in x ∷ map (stirred_by l) ms) (stirred_twice l o.standing here)
-        | false ↦ λ h. ap (λ q. stirred_by l o ∷ q) (map_change n ms m h watched)
+        | false ↦ λ h. ap (λ q. stirred_by l o ∷ q) (map_altered n ms m h watched)
       ] found
 
-  woken_change : (n : ℕ) (ms : List (Member M)) → IsRising ms → (m : Member M) → find n ms ≡ Some m → is_watching l m ≡ true
+  woken_altered : (n : ℕ) (ms : List (Member M)) → IsRising ms → (m : Member M) → find n ms ≡ Some m → is_watching l m ≡ true
       → All (λ o. o.number < n → is_watching l o ≡ false) ms
-      → woken_by l ms ≡ cond (is_woken_by l m) (n ∷ []) [] ++ woken_by l (change n (stirred_by l) ms)
-  woken_change n [] r m found watched before = cc
-  woken_change n (o ∷ ms) r m found watched before =
+      → woken_by l ms ≡ cond (is_woken_by l m) (n ∷ []) [] ++ woken_by l (altered n (stirred_by l) ms)
+  woken_altered n [] r m found watched before = cc
+  woken_altered n (o ∷ ms) r m found watched before =
       elim (o.number == n) as (λ b. (o.number == n) ≡ b → cond b (Some o) (find n ms) ≡ Some m
-      → woken_by l (o ∷ ms) ≡ cond (is_woken_by l m) (n ∷ []) [] ++ woken_by l (cond b (stirred_by l o ∷ ms) (o ∷ change n (stirred_by l) ms))) [
+      → woken_by l (o ∷ ms) ≡ cond (is_woken_by l m) (n ∷ []) [] ++ woken_by l (cond b (stirred_by l o ∷ ms) (o ∷ altered n (stirred_by l) ms))) [
         | true ↦ λ t h.
             let same : o ≡ m = cc in
             let at : o.number ≡ n = grind (arith, nat_tests, t) in
@@ -106,9 +108,9 @@ module _ {M : Type 0} (l : ℕ) where
         | false ↦ λ t h.
             let lt : o.number < n = omega (arith, find_passes (λ (q : Member M). o.number < q.number) n ms r.0 m h, find_number n ms m h) in
             let calm = calm_not_woken o (All-head (λ (q : Member M). q.number < n → is_watching l q ≡ false) o ms before lt) in
-            let rest = woken_change n ms r.1 m h watched (All-tail (λ (q : Member M). q.number < n → is_watching l q ≡ false) o ms before) in
+            let rest = woken_altered n ms r.1 m h watched (All-tail (λ (q : Member M). q.number < n → is_watching l q ≡ false) o ms before) in
             let left : woken_by l (o ∷ ms) ≡ woken_by l ms = rw calm refl in
-            let right : woken_by l (o ∷ change n (stirred_by l) ms) ≡ woken_by l (change n (stirred_by l) ms) = rw calm refl in
+            let right : woken_by l (o ∷ altered n (stirred_by l) ms) ≡ woken_by l (altered n (stirred_by l) ms) = rw calm refl in
             left ∙ rest ∙ ap (λ q. cond (is_woken_by l m) (n ∷ []) [] ++ q) (sym right)
       ] refl found
 
@@ -135,42 +137,46 @@ module _ {M : Type 0} (l : ℕ) where
   abbrev pub to_stir : List (Member M) → ℕ
   to_stir ms = count_by (is_watching l) ms
 
-  module _ (s : Roster M) (ix : BTreeSet (ℕ × ℕ)) (h : IsIndexOf s.members ix) where
+  module _ {s : Roster M} {ix : BTreeSet (ℕ × ℕ)} (h : IsWatched s ix) where
     -- who is listed watches
     pub listed_watches : (n : ℕ) → lists ix l n ≡ true → IsAt (is_watching l) n s
-    listed_watches n listed = go (find n s.members) (sym (h l n) ∙ listed)
+    listed_watches n listed = go (find n s.members) (sym (h.indexed l n) ∙ listed)
       where
         go : (o : Option (Member M)) → waits_for l o ≡ true → IsSomeAnd o (λ m. IsTrue (is_watching l m))
         go None e = absurd (false≢true e)
         go (Some m) e = e
 
-    module _ (rising : IsRising s.members) where
-      pub waking_all : ((n : ℕ) → lists ix l n ≡ false) → s ≡ woken l s
-      waking_all none =
-          let calm : All (λ m. is_watching l m ≡ false) s.members
-          = all_found (λ m. is_watching l m ≡ false) s.members rising (λ n m found. sym (ap (waits_for l) found) ∙ sym (h l n) ∙ none n) in
-          rw (calm_map s.members (λ j d lt. calm j d lt), calm_woken s.members (λ j d lt. calm j d lt), append-nil) refl
+    pub waking_all : ((n : ℕ) → lists ix l n ≡ false) → s ≡ woken l s
+    waking_all none =
+        let calm : All (λ m. is_watching l m ≡ false) s.members
+        = all_found (λ m. is_watching l m ≡ false) s.members h.rising (λ n m found. sym (ap (waits_for l) found) ∙ sym (h.indexed l n) ∙ none n) in
+        rw (calm_map s.members (λ j d lt. calm j d lt), calm_woken s.members (λ j d lt. calm j d lt), append-nil) refl
 
-      module _ (n : ℕ) (m : Member M) (found : find n s.members ≡ Some m) (watched : is_watching l m ≡ true)
-          (least : (k : ℕ) → lists ix l k ≡ true → n ≤ k) where
-        before : All (λ o. o.number < n → is_watching l o ≡ false) s.members
-        before = all_found (λ (o : Member M). o.number < n → is_watching l o ≡ false) s.members rising (λ k o at lt.
-            elim (is_watching l o) as (λ b. is_watching l o ≡ b → b ≡ false) [
-              | true ↦ λ e. absurd (omega (arith, lt, find_number k s.members o at, least k (h l k ∙ ap (waits_for l) at ∙ e)))
-              | false ↦ λ e. refl
-            ] refl)
+    module _ (n : ℕ) (listed : lists ix l n ≡ true) (least : (k : ℕ) → lists ix l k ≡ true → n ≤ k) where
+      stirring : IsOpen (is_watching l) n s.members
+      stirring = opened (is_watching l) n s s refl (listed_watches n listed)
 
-        pub waking_more : woken l (stirred_at l n s) ≡ woken l s
-        waking_more =
-            let split = woken_change n s.members rising m found watched before in
-            let at : is_woken_at l n s ≡ is_woken_by l m = ap (λ o. elim o as (λ _. Bool) [ None ↦ false | Some m ↦ is_woken_by l m ]) found in
-            let orders : (stirred_at l n s).order ++ woken_by l (change n (stirred_by l) s.members) ≡ s.order ++ woken_by l s.members
-            = rw (at, append_assoc, ← split) refl in
-            rw (orders, map_change n s.members m found watched) refl
+      before : All (λ o. o.number < n → is_watching l o ≡ false) s.members
+      before = all_found (λ (o : Member M). o.number < n → is_watching l o ≡ false) s.members h.rising (λ k o at lt.
+          elim (is_watching l o) as (λ b. is_watching l o ≡ b → b ≡ false) [
+            | true ↦ λ e. absurd (omega (arith, lt, find_number k s.members o at, least k (h.indexed l k ∙ ap (waits_for l) at ∙ e)))
+            | false ↦ λ e. refl
+          ] refl)
 
-        pub waking_fewer : to_stir (change n (stirred_by l) s.members) < to_stir s.members
-        waking_fewer =
-            let one : ◌≡◌ {A = ℕ} (cond (is_watching l m) 1 0) 1 = rw watched refl in
-            let clear : has l (untouched (stirred l m.standing)) ≡ false = ap (has l) (stirred_clears l m.standing watched) in
-            let none : ◌≡◌ {A = ℕ} (cond (is_watching l (stirred_by l m)) 1 0) 0 = rw clear refl in
-            omega (arith, count_change n (stirred_by l) (is_watching l) s.members m found, one, none)
+      pub waking_more : woken l (stirred_at l n s) ≡ woken l s
+      waking_more =
+          let m = stirring.member in
+          let split = woken_altered n s.members h.rising m stirring.found stirring.passes before in
+          let at : is_woken_at l n s ≡ is_woken_by l m = ap (λ o. elim o as (λ _. Bool) [ None ↦ false | Some m ↦ is_woken_by l m ]) stirring.found in
+          let orders : (stirred_at l n s).order ++ woken_by l (altered n (stirred_by l) s.members) ≡ s.order ++ woken_by l s.members
+          = rw (at, append_assoc, ← split) refl in
+          rw (orders, map_altered n s.members m stirring.found stirring.passes) refl
+
+      pub waking_fewer : to_stir (altered n (stirred_by l) s.members) < to_stir s.members
+      waking_fewer =
+          let m = stirring.member in
+          let watched : is_watching l m ≡ true = stirring.passes in
+          let one : ◌≡◌ {A = ℕ} (cond (is_watching l m) 1 0) 1 = rw watched refl in
+          let clear : has l (untouched (stirred l m.standing)) ≡ false = ap (has l) (stirred_clears l m.standing watched) in
+          let none : ◌≡◌ {A = ℕ} (cond (is_watching l (stirred_by l m)) 1 0) 0 = rw clear refl in
+          omega (arith, count_altered n (stirred_by l) (is_watching l) s.members m stirring.found, one, none)

@@ -7,6 +7,7 @@ pub mod Index
 pub mod Roster
 pub mod Begin
 pub mod Calls
+pub mod Turns
 pub mod Queues
 pub mod Counts
 pub mod Stirs

@@ -9,8 +9,10 @@ mod numbers;
 mod oldest;
 mod pool;
 mod ready;
+mod roll;
 #[cfg(test)]
 mod tests;
+mod turn;
 
 pub use member::{Member, Standing, Watch};
 pub use oldest::Oldest;

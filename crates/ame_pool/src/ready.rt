@@ -3,7 +3,7 @@
 ghost use Rattle.std.specs.Prelude.{◌≡◌, ◌+◌, ◌<◌, ◌≤◌, ◌==◌, ◌^◌, [], length, position, OnOk};
 ghost use Rattle.std.specs.VecDeque.{deque_capacity};
 ghost use Rattle.ame_pool.specs.Calls.{skipping};
-ghost use Rattle.ame_pool.specs.Queues.{front, pushed, taken};
+ghost use Rattle.ame_pool.specs.Queues.{HasPlace, front, pushed, taken};
 
 use ame_term::NoMemory;
 use std::alloc::Global;
@@ -76,24 +76,22 @@ impl Ready {
 
     /// Makes room for this many more than are ready.
     pub fn room(&mut self, more: usize) -> Result<(), NoMemory>
-        requires more { length self.old.order + more < 2 ^ 64 }
-        requires fewer { length self.old.inside ≤ length self.old.order }
+        requires { length self.old.inside ≤ length self.old.order }
         ensures order { self.new.order ≡ self.old.order }
         ensures inside { self.new.inside ≡ self.old.inside }
         ensures grows { self.old.places ≤ self.new.places }
         ensures small { self.new.places < 2 ^ 63 }
         ensures ok { OnOk result (length self.old.order + more ≤ self.new.places) }
     {
-        let inside_more = self.order.len() - self.inside.len() + more;
         self.order.reserve(more)?;
+        let inside_more = self.order.len() - self.inside.len() + more;
         self.inside.reserve(inside_more)?;
         Ok(())
     }
 
     /// The youngest of them.
     pub fn push(&mut self, number: u64, is_inside: bool)
-        requires order { length self.old.order < self.old.places }
-        requires inside { length self.old.inside < self.old.places }
+        requires { HasPlace self.old }
         ensures { self.new ≡ pushed number is_inside self.old }
     {
         self.order.push_back_reserved(number);

@@ -7,12 +7,12 @@ use crate::pool::Pool;
 impl<M: Drop> Pool<M> {
     /// Whether these are the numbers of the ready members, from the oldest on.
     pub fn has_order(&self, numbers: &[u64]) -> bool {
-        self.ready.are(numbers)
+        self.roll.has_order(numbers)
     }
 
     pub fn has_room(&self) -> bool
         ensures { IsTrue result → 0 < self.now.room }
     {
-        self.members.has_room()
+        self.roll.has_room()
     }
 }

@@ -4,7 +4,7 @@ use Rattle.slab.specs.Slab.{get}
 use Rattle.ame_pool.specs.declared.numbers.Numbered.{Numbered}
 use Rattle.ame_pool.specs.Numbered.{only, members_at}
 use Rattle.ame_pool.proofs.EntryLemmas.{rising_filtered}
-use Rattle.ame_pool.proofs.WalkLemmas.{kept_members}
+use Rattle.ame_pool.proofs.SlotLemmas.{kept_members}
 use Rattle.ame_pool.proofs.members.drop_stale.Goals as goal
 
 pub returns-then-len-clause-list : goal.returns-then-len-clause-list

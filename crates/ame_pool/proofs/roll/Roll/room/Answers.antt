@@ -1,8 +1,8 @@
 use Rattle.std.proofs.Common.{◌≡◌, ◌≤◌, ℕ, Result, Ok, Err, OnOk, OnErr, arith}
 use Rattle.std.specs.Prelude.{max}
 use Rattle.ame_pool.specs.Register.{Register}
-use Rattle.ame_pool.proofs.KeptLemmas.{inside_short, length_small, sizes, kept_roomy}
-use Rattle.ame_pool.proofs.pool.Pool.room.Goals as goal
+use Rattle.ame_pool.proofs.KeptLemmas.{inside_short, sizes, kept_roomy}
+use Rattle.ame_pool.proofs.roll.Roll.room.Goals as goal
 
 -- the room, whether more was found or not
 either_room : {M T E : Type 0} (r : Result T E) (old new : Register M) (places : ℕ) → OnOk r (new ≡ record old { room = max old.room places }) → OnErr r (new ≡ old)
@@ -10,14 +10,8 @@ either_room : {M T E : Type 0} (r : Result T E) (old new : Register M) (places :
 either_room (Ok x) old new places ok err = (max old.room places, ok, omega arith)
 either_room (Err e) old new places ok err = (old.room, err, omega arith)
 
-pub overflow_add-others-2 : goal.overflow_add-others-2
-overflow_add-others-2 g c = omega (arith, sizes c.self.invariant, length_small c.self.invariant)
-
-pub room-requires-clause-more : goal.room-requires-clause-more
-room-requires-clause-more g c = omega (arith, sizes c.self.invariant, length_small c.self.invariant)
-
-pub room-requires-clause-fewer : goal.room-requires-clause-fewer
-room-requires-clause-fewer g c = inside_short c.self.invariant
+pub room-requires : goal.room-requires
+room-requires g c = inside_short c.self.invariant
 
 pub invariant_of-self-2 : goal.invariant_of-self-2
 invariant_of-self-2 g c =

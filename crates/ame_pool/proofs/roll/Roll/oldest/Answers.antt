@@ -6,13 +6,13 @@ use Rattle.ame_pool.specs.Calls.{IsAt}
 use Rattle.ame_pool.proofs.OldestLemmas.{oldest_ready, oldest_waits}
 use Rattle.ame_pool.proofs.OrderLemmas.{front_ready}
 use Rattle.ame_pool.proofs.ChoiceLemmas.{idle_is, first_is, inside_is}
-use Rattle.ame_pool.proofs.KeptLemmas.{there}
-use Rattle.ame_pool.proofs.pool.Pool.oldest.Goals as goal
+use Rattle.ame_pool.proofs.SlotLemmas.{some_and}
+use Rattle.ame_pool.proofs.roll.Roll.oldest.Goals as goal
 
 pub member-requires : goal.member-requires
 member-requires g c =
     let n = c.in-Some.number in
-    there (find n c.self.inside.members.list) (λ m. IsTrue (is_ready m)) (front_ready c.self.inside.members.list c.self.inside.ready.order c.self.invariant.sound n (sym c.in-Some.ensures))
+    some_and (λ m. IsTrue (is_ready m)) (find n c.self.inside.members.list) (front_ready c.self.inside.members.list c.self.inside.ready.order c.self.invariant.sound n (sym c.in-Some.ensures))
 
 pub returns-in_default-clause-oldest : goal.returns-in_default-clause-oldest
 returns-in_default-clause-oldest g c =

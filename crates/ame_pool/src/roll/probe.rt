@@ -1,0 +1,18 @@
+//! What tests ask of who is there.
+
+ghost use Rattle.std.specs.Prelude.{◌<◌, IsTrue};
+
+use super::Roll;
+
+impl<M: Drop> Roll<M> {
+    /// Whether these are the numbers of the ready members, from the oldest on.
+    pub fn has_order(&self, numbers: &[u64]) -> bool {
+        self.ready.are(numbers)
+    }
+
+    pub fn has_room(&self) -> bool
+        ensures { IsTrue result → 0 < self.now.room }
+    {
+        self.members.has_room()
+    }
+}

@@ -60,12 +60,14 @@ module _ {M : Type 0} where
         | inr none ↦ omega arith
       ]
 
-  -- the oldest one is ready
+  -- who is in the order is ready
+  pub order_ready : (ms : List (Member M)) (order : List ℕ) → IsSound ms order → (n : ℕ) → 1 ≤ count_by (λ k. k == n) order → IsSomeAnd (find n ms) (λ m. IsTrue (is_ready m))
+  order_ready ms order s n some = counted_is_ready n ms s.rising (omega (arith, some, s.ordered (λ k. k == n)))
+
+  -- the oldest one is
   pub front_ready : (ms : List (Member M)) (order : List ℕ) → IsSound ms order → (n : ℕ) → front order ≡ Some n → IsSomeAnd (find n ms) (λ m. IsTrue (is_ready m))
   front_ready ms [] s n e = cc
-  front_ready ms (x ∷ xs) s n e =
-      let same : x ≡ n = cc in
-      counted_is_ready n ms s.rising (grind (arith, nat_tests, same, count_cons (λ k. k == n) x xs, s.ordered (λ k. k == n)))
+  front_ready ms (x ∷ xs) s n e = let same : x ≡ n = cc in order_ready ms (x ∷ xs) s n (grind (arith, nat_tests, same, count_cons (λ k. k == n) x xs))
 
   -- the order is no longer than the list
   pub order_short : (ms : List (Member M)) (order : List ℕ) → IsOrderOf ms order → length order ≤ length ms

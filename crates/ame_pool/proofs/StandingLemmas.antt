@@ -1,8 +1,9 @@
 -- What a member's standing tells, and what a turn makes of it.
-use Rattle.std.proofs.Common.{◌≡◌, ◌≤◌, ℕ, Bool, true, false, not, cond, [], Some, None, is_some, is_none, refl, sym, ap, arith}
+use Rattle.std.proofs.Common.{◌≡◌, ◌≤◌, ℕ, Bool, true, false, not, cond, List, [], Some, None, refl, sym, ◌∙◌, arith}
 use mathlib.Core.Bool.{false≢true}
 use Rattle.ame_pool.specs.declared.member.Member.{Member}
 use Rattle.ame_pool.specs.declared.member.Standing.{Standing}
+use Rattle.ame_pool.specs.declared.member.Watch.{Watch}
 use Rattle.ame_pool.specs.declared.turn.Turn.{Turn}
 use Rattle.ame_pool.specs.Members.{is_ready, is_busy}
 use Rattle.ame_pool.specs.Standings.{rolled, settled, is_touched}
@@ -37,6 +38,19 @@ settled_untouched (Standing.Busy None) = refl
 settled_untouched (Standing.Busy (Some w)) = elim w.touched as (λ b. untouched (cond b Standing.Ready (Standing.Parked w.locs)) ≡ cond b [] w.locs) [ true ↦ refl | false ↦ refl ]
 settled_untouched (Standing.Parked locs) = refl
 
+-- who passes a test that a ready one fails isn't ready
+unready : (p : Standing → Bool) → p Standing.Ready ≡ false → (s : Standing) → p s ≡ true → not (ready s) ≡ true
+unready p fails Standing.Ready h = absurd (false≢true (sym fails ∙ h))
+unready p fails (Standing.Busy w) h = refl
+unready p fails (Standing.Parked locs) h = refl
+
+-- who passes a test that those with a list fail watches nothing
+calm : (p : Standing → Bool) → ((w : Watch) → p (Standing.Busy (Some w)) ≡ false) → ((locs : List ℕ) → p (Standing.Parked locs) ≡ false) → (s : Standing) → p s ≡ true → untouched s ≡ []
+calm p noted parked Standing.Ready h = refl
+calm p noted parked (Standing.Busy None) h = refl
+calm p noted parked (Standing.Busy (Some w)) h = absurd (false≢true (sym (noted w) ∙ h))
+calm p noted parked (Standing.Parked locs) h = absurd (false≢true (sym (parked locs) ∙ h))
+
 module _ {M : Type 0} where
   pub turned_number : (to : Turn M) (m : Member M) → (turned to m).number ≡ m.number
   turned_number Turn.Begin m = refl
@@ -65,61 +79,26 @@ module _ {M : Type 0} where
 
   -- ---- who is away
   pub away_unready : (m : Member M) → is_away m ≡ true → is_ready m ≡ false
-  away_unready m = go (is_ready m)
-    where
-      go : (b : Bool) → not b ≡ true → b ≡ false
-      go true h = absurd (false≢true h)
-      go false h = refl
+  away_unready m h = elim (is_ready m) as (λ b. not b ≡ true → b ≡ false) [ true ↦ λ i. absurd (false≢true i) | false ↦ λ i. refl ] h
 
   pub busy_away : (m : Member M) → is_busy m ≡ true → is_away m ≡ true
-  busy_away m = go m.standing
-    where
-      go : (s : Standing) → elim s as (λ _. Bool) [ Standing.Ready ↦ false | Standing.Busy _ ↦ true | Standing.Parked _ ↦ false ] ≡ true → not (ready s) ≡ true
-      go Standing.Ready h = h
-      go (Standing.Busy w) h = refl
-      go (Standing.Parked locs) h = refl
+  busy_away m = unready (λ s. is_busy (record m { standing = s })) refl m.standing
 
   pub running_away : (m : Member M) → is_running m ≡ true → is_away m ≡ true
-  running_away m = go m.standing
-    where
-      go : (s : Standing) → elim s as (λ _. Bool) [ Standing.Ready ↦ false | Standing.Busy w ↦ is_none w | Standing.Parked _ ↦ false ] ≡ true → not (ready s) ≡ true
-      go Standing.Ready h = h
-      go (Standing.Busy w) h = refl
-      go (Standing.Parked locs) h = refl
+  running_away m = unready (λ s. is_running (record m { standing = s })) refl m.standing
 
   pub noted_away : (m : Member M) → is_noted m ≡ true → is_away m ≡ true
-  noted_away m = go m.standing
-    where
-      go : (s : Standing) → elim s as (λ _. Bool) [ Standing.Ready ↦ false | Standing.Busy w ↦ is_some w | Standing.Parked _ ↦ false ] ≡ true → not (ready s) ≡ true
-      go Standing.Ready h = h
-      go (Standing.Busy w) h = refl
-      go (Standing.Parked locs) h = refl
+  noted_away m = unready (λ s. is_noted (record m { standing = s })) refl m.standing
 
   pub watching_away : (l : ℕ) (m : Member M) → has l (untouched m.standing) ≡ true → is_away m ≡ true
-  watching_away l m = go m.standing
-    where
-      go : (s : Standing) → has l (untouched s) ≡ true → not (ready s) ≡ true
-      go Standing.Ready h = h
-      go (Standing.Busy w) h = refl
-      go (Standing.Parked locs) h = refl
+  watching_away l m = unready (λ s. has l (untouched s)) refl m.standing
 
   -- ---- what is watched
-  pub running_untouched : (m : Member M) → is_running m ≡ true → untouched m.standing ≡ []
-  running_untouched m = go m.standing
-    where
-      go : (s : Standing) → elim s as (λ _. Bool) [ Standing.Ready ↦ false | Standing.Busy w ↦ is_none w | Standing.Parked _ ↦ false ] ≡ true → untouched s ≡ []
-      go Standing.Ready h = refl
-      go (Standing.Busy None) h = refl
-      go (Standing.Busy (Some w)) h = absurd (false≢true h)
-      go (Standing.Parked locs) h = absurd (false≢true h)
-
   pub ready_untouched : (m : Member M) → is_ready m ≡ true → untouched m.standing ≡ []
-  ready_untouched m = go m.standing
-    where
-      go : (s : Standing) → ready s ≡ true → untouched s ≡ []
-      go Standing.Ready h = refl
-      go (Standing.Busy w) h = absurd (false≢true h)
-      go (Standing.Parked locs) h = absurd (false≢true h)
+  ready_untouched m = calm (λ s. is_ready (record m { standing = s })) (λ w. refl) (λ locs. refl) m.standing
+
+  pub running_untouched : (m : Member M) → is_running m ≡ true → untouched m.standing ≡ []
+  running_untouched m = calm (λ s. is_running (record m { standing = s })) (λ w. refl) (λ locs. refl) m.standing
 
   pub rest_untouched : (m : Member M) → untouched (at_rest m).standing ≡ untouched m.standing
   rest_untouched m = settled_untouched m.standing

@@ -21,10 +21,10 @@ use Rattle.ame_pool.proofs.ChangeLemmas.{count_altered, find_number, find_passes
 
 module _ (l : ℕ) where
   -- ---- a standing and a write
-  waiting_is_untouched : (s : Standing) → is_waiting_for l s ≡ true → has l (untouched s) ≡ true
-  waiting_is_untouched Standing.Ready e = e
-  waiting_is_untouched (Standing.Busy w) e = absurd (false≢true e)
-  waiting_is_untouched (Standing.Parked locs) e = e
+  not_waiting : (s : Standing) → has l (untouched s) ≡ false → is_waiting_for l s ≡ false
+  not_waiting Standing.Ready e = refl
+  not_waiting (Standing.Busy w) e = refl
+  not_waiting (Standing.Parked locs) e = e
 
   watch_once : (w : Watch) (b : Bool) → w.touched ≡ b → has l (cond b [] w.locs) ≡ false → touched_by l w ≡ w
   watch_once w true t e =
@@ -52,11 +52,7 @@ module _ (l : ℕ) where
   stirred_twice s e = stirred_once (stirred l s) (ap (has l) (stirred_clears s e))
 
   stirred_waits_not : (s : Standing) → has l (untouched s) ≡ true → is_waiting_for l (stirred l s) ≡ false
-  stirred_waits_not s e =
-      elim (is_waiting_for l (stirred l s)) as (λ b. is_waiting_for l (stirred l s) ≡ b → b ≡ false) [
-        | true ↦ λ h. absurd (false≢true (sym (ap (has l) (stirred_clears s e)) ∙ waiting_is_untouched (stirred l s) h))
-        | false ↦ λ h. refl
-      ] refl
+  stirred_waits_not s e = not_waiting (stirred l s) (ap (has l) (stirred_clears s e))
 
 module _ {M : Type 0} (l : ℕ) where
   -- it watches nothing once it is stirred
@@ -64,25 +60,22 @@ module _ {M : Type 0} (l : ℕ) where
   stirred_untouched m e = stirred_clears l m.standing e
 
   calm_not_woken : (m : Member M) → is_watching l m ≡ false → is_woken_by l m ≡ false
-  calm_not_woken m e =
-      elim (is_woken_by l m) as (λ b. is_woken_by l m ≡ b → b ≡ false) [
-        | true ↦ λ q. absurd (false≢true (sym e ∙ waiting_is_untouched l m.standing q))
-        | false ↦ λ q. refl
-      ] refl
+  calm_not_woken m e = not_waiting l m.standing e
 
   -- ---- one turn
   map_altered : (n : ℕ) (ms : List (Member M)) (m : Member M) → find n ms ≡ Some m → is_watching l m ≡ true
       → map (stirred_by l) (altered n (stirred_by l) ms) ≡ map (stirred_by l) ms
   map_altered n [] m found watched = refl
   map_altered n (o ∷ ms) m found watched =
-      elim (o.number == n) as (λ b. cond b (Some o) (find n ms) ≡ Some m
-      → map (stirred_by l) (cond b (stirred_by l o ∷ ms) (o ∷ altered n (stirred_by l) ms)) ≡ map (stirred_by l) (o ∷ ms)) [
-        | true ↦ λ h.
-            let same : m ≡ o = cc in
-            let here : has l (untouched o.standing) ≡ true = subst (λ (q : Member M). has l (untouched q.standing) ≡ true) same watched in
-            ap (λ (s : Standing). let x : Member M = record o { standing = s } in x ∷ map (stirred_by l) ms) (stirred_twice l o.standing here)
-        | false ↦ λ h. ap (λ q. stirred_by l o ∷ q) (map_altered n ms m h watched)
-      ] found
+      let twice : stirred_by l (stirred_by l m) ≡ stirred_by l m = ap (λ (s : Standing). let x : Member M = record m { standing = s } in x) (stirred_twice l m.standing watched) in
+      grind (arith, nat_tests, found, twice, map_altered n ms m)
+
+  woken_cons : (m : Member M) (ms : List (Member M)) → woken_by l (m ∷ ms) ≡ cond (is_woken_by l m) (m.number ∷ []) [] ++ woken_by l ms
+  woken_cons m ms =
+      elim (is_woken_by l m) as (λ b. map (λ (q : Member M). q.number) (cond b (m ∷ filter (is_woken_by l) ms) (filter (is_woken_by l) ms)) ≡ cond b (m.number ∷ []) [] ++ woken_by l ms) [
+        | true ↦ refl
+        | false ↦ refl
+      ]
 
   woken_altered : (n : ℕ) (ms : List (Member M)) → IsRising ms → (m : Member M) → find n ms ≡ Some m → is_watching l m ≡ true
       → All (λ o. o.number < n → is_watching l o ≡ false) ms
@@ -94,43 +87,25 @@ module _ {M : Type 0} (l : ℕ) where
         | true ↦ λ t h.
             let same : o ≡ m = cc in
             let at : o.number ≡ n = grind (arith, nat_tests, t) in
-            let here : has l (untouched o.standing) ≡ true = subst (λ (q : Member M). has l (untouched q.standing) ≡ true) (sym same) watched in
-            let calm : is_waiting_for l (stirred l o.standing) ≡ false = stirred_waits_not l o.standing here in
+            let calm : is_woken_by l (stirred_by l o) ≡ false = stirred_waits_not l o.standing (ap (is_watching l) same ∙ watched) in
             let rest : woken_by l (stirred_by l o ∷ ms) ≡ woken_by l ms = rw calm refl in
-            let first : woken_by l (o ∷ ms) ≡ cond (is_woken_by l o) (o.number ∷ []) [] ++ woken_by l ms
-            = elim (is_woken_by l o) as (λ b. map (λ (q : Member M). q.number) (cond b (o ∷ filter (is_woken_by l) ms) (filter (is_woken_by l) ms)) ≡ cond b (o.number ∷ []) [] ++ woken_by l ms) [
-              | true ↦ refl
-              | false ↦ refl
-            ] in
-            first ∙ ap (λ k. cond (is_woken_by l o) (k ∷ []) [] ++ woken_by l ms) at
-            ∙ ap (λ (q : Member M). cond (is_woken_by l q) (n ∷ []) [] ++ woken_by l ms) same
-            ∙ ap (λ q. cond (is_woken_by l m) (n ∷ []) [] ++ q) (sym rest)
+            woken_cons o ms ∙ grind (arith, same, at, rest)
         | false ↦ λ t h.
             let lt : o.number < n = omega (arith, find_passes (λ (q : Member M). o.number < q.number) n ms r.0 m h, find_number n ms m h) in
             let calm = calm_not_woken o (All-head (λ (q : Member M). q.number < n → is_watching l q ≡ false) o ms before lt) in
             let rest = woken_altered n ms r.1 m h watched (All-tail (λ (q : Member M). q.number < n → is_watching l q ≡ false) o ms before) in
-            let left : woken_by l (o ∷ ms) ≡ woken_by l ms = rw calm refl in
-            let right : woken_by l (o ∷ altered n (stirred_by l) ms) ≡ woken_by l (altered n (stirred_by l) ms) = rw calm refl in
-            left ∙ rest ∙ ap (λ q. cond (is_woken_by l m) (n ∷ []) [] ++ q) (sym right)
+            let both : (xs : List (Member M)) → woken_by l (o ∷ xs) ≡ woken_by l xs = λ xs. rw calm refl in
+            both ms ∙ rest ∙ ap (λ q. cond (is_woken_by l m) (n ∷ []) [] ++ q) (sym (both (altered n (stirred_by l) ms)))
       ] refl found
 
-  calm_map : (ms : List (Member M)) → ((j : ℕ) (d : Member M) → j < length ms → has l (untouched (get_or ms j d).standing) ≡ false) → map (stirred_by l) ms ≡ ms
-  calm_map [] h = refl
-  calm_map (m ∷ ms) h =
-      let e = stirred_once l m.standing (h 0 m (omega arith)) in
-      let one : stirred_by l m ≡ m = ap (λ (s : Standing). let x : Member M = record m { standing = s } in x) e in
-      let rest = calm_map ms (λ j d q. h (suc j) d (omega arith)) in
-      ap (λ q. q ∷ map (stirred_by l) ms) one ∙ ap (λ q. m ∷ q) rest
-
-  calm_woken : (ms : List (Member M)) → ((j : ℕ) (d : Member M) → j < length ms → has l (untouched (get_or ms j d).standing) ≡ false) → woken_by l ms ≡ []
-  calm_woken [] h = refl
-  calm_woken (m ∷ ms) h =
-      let no : is_woken_by l m ≡ false = elim (is_woken_by l m) as (λ b. is_woken_by l m ≡ b → b ≡ false) [
-        | true ↦ λ q. absurd (false≢true (sym (h 0 m (omega arith)) ∙ waiting_is_untouched l m.standing q))
-        | false ↦ λ q. refl
-      ] refl in
-      let left : woken_by l (m ∷ ms) ≡ woken_by l ms = rw no refl in
-      left ∙ calm_woken ms (λ j d q. h (suc j) d (omega arith))
+  -- a write that nobody watches changes nothing
+  calm_all : (ms : List (Member M)) → All (λ m. is_watching l m ≡ false) ms → (map (stirred_by l) ms ≡ ms) × (woken_by l ms ≡ [])
+  calm_all [] h = (refl, refl)
+  calm_all (m ∷ ms) h =
+      let calm = All-head (λ (m : Member M). is_watching l m ≡ false) m ms h in
+      let same : stirred_by l m ≡ m = ap (λ (s : Standing). let x : Member M = record m { standing = s } in x) (stirred_once l m.standing calm) in
+      let rest = calm_all ms (All-tail (λ (m : Member M). is_watching l m ≡ false) m ms h) in
+      (ap (λ q. q ∷ map (stirred_by l) ms) same ∙ ap (λ q. m ∷ q) rest.0, rw (calm_not_woken m calm) rest.1)
 
   -- ---- the loop
   -- how many members the write still changes
@@ -150,7 +125,7 @@ module _ {M : Type 0} (l : ℕ) where
     waking_all none =
         let calm : All (λ m. is_watching l m ≡ false) s.members
         = all_found (λ m. is_watching l m ≡ false) s.members h.rising (λ n m found. sym (ap (waits_for l) found) ∙ sym (h.indexed l n) ∙ none n) in
-        rw (calm_map s.members (λ j d lt. calm j d lt), calm_woken s.members (λ j d lt. calm j d lt), append-nil) refl
+        rw ((calm_all s.members calm).0, (calm_all s.members calm).1, append-nil) refl
 
     module _ (n : ℕ) (listed : lists ix l n ≡ true) (least : (k : ℕ) → lists ix l k ≡ true → n ≤ k) where
       stirring : IsOpen (is_watching l) n s.members

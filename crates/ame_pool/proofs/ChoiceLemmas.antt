@@ -15,7 +15,7 @@ use Rattle.ame_pool.specs.Begin.{is_protected, is_worn, is_worn_protected, some_
 use Rattle.ame_pool.specs.Queues.{Queues, front}
 use Rattle.ame_pool.specs.Counts.{idle}
 use Rattle.ame_pool.specs.Keeps.{is_inside_at, IsKept}
-use Rattle.ame_pool.proofs.ChangeLemmas.{count_cons}
+use Rattle.ame_pool.proofs.MemberLemmas.{count_cons}
 use Rattle.ame_pool.proofs.CountLemmas.{kinds}
 use Rattle.ame_pool.proofs.OrderLemmas.{order_ready}
 use Rattle.ame_pool.proofs.OldestLemmas.{counted_is_ready}

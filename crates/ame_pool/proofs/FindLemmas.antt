@@ -13,7 +13,7 @@ use Rattle.ame_pool.specs.Turns.{turned, turned_at}
 use Rattle.ame_pool.specs.Waking.{has}
 use Rattle.ame_pool.specs.Index.{lists, among, untouched, waits_for, IsBetween}
 use Rattle.ame_pool.specs.Keeps.{IsWatched}
-use Rattle.ame_pool.proofs.ChangeLemmas.{find_altered, rising_altered, find_placed, rising_placed, find_except, rising_except}
+use Rattle.ame_pool.proofs.MemberLemmas.{find_altered, rising_altered, find_placed, rising_placed, find_except, rising_except}
 use Rattle.ame_pool.proofs.StandingLemmas.{turned_number}
 use Rattle.ame_pool.proofs.ListedLemmas.{list_any-map}
 

@@ -9,7 +9,7 @@ use Rattle.ame_pool.specs.Members.{find, is_busy}
 use Rattle.ame_pool.specs.Begin.{is_protected, is_worn, is_worn_protected, some_busy, may_begin, first_to_begin, members_of}
 use Rattle.ame_pool.specs.Queues.{front}
 use Rattle.ame_pool.specs.Keeps.{is_inside_at}
-use Rattle.ame_pool.proofs.ChangeLemmas.{find_number}
+use Rattle.ame_pool.proofs.MemberLemmas.{find_number}
 
 -- ---- truth values: i stands inside, w is worn; p and b tell that a protected and a worn one are busy, o that a worn one is older
 -- beside a busy protected one, and a worn one that is busy or older, none begins but from inside

@@ -4,7 +4,7 @@ use Rattle.std.proofs.lemmas.Bool.Decides.{nat_tests}
 use Rattle.ame_pool.specs.declared.member.Member.{Member}
 use Rattle.ame_pool.specs.Members.{find, altered}
 use Rattle.ame_pool.specs.Calls.{begun}
-use Rattle.ame_pool.proofs.ChangeLemmas.{find_altered}
+use Rattle.ame_pool.proofs.MemberLemmas.{find_altered}
 
 module _ {M : Type 0} where
   -- its machine

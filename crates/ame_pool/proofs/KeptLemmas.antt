@@ -15,7 +15,7 @@ use Rattle.ame_pool.specs.Counts.{counted}
 use Rattle.ame_pool.specs.Calls.{IsAt, skipping}
 use Rattle.ame_pool.specs.Turns.{turned, is_readied, is_readied_at, turned_at}
 use Rattle.ame_pool.specs.Keeps.{IsOrderOf, is_inside_at, IsKept}
-use Rattle.ame_pool.proofs.ChangeLemmas.{count_all, find_passes, find_altered, length_altered, rising_altered, all_altered, length_placed, rising_placed, all_placed, length_except, rising_except, all_except}
+use Rattle.ame_pool.proofs.MemberLemmas.{count_all, find_passes, find_altered, length_altered, rising_altered, all_altered, length_placed, rising_placed, all_placed, length_except, rising_except, all_except}
 use Rattle.ame_pool.proofs.OrderLemmas.{filter_push, filter_skipping, absent, order_short, order_shorter, ordered_same, ordered_readied, ordered_held, ordered_placed, ordered_except, inside_same, inside_but, inside_now, inside_placed, inside_new, inside_except}
 use Rattle.ame_pool.proofs.CountLemmas.{kinds, AreMoved, moved_both, counted_altered, counted_placed, counted_except}
 use Rattle.ame_pool.proofs.StandingLemmas.{turned_number, turned_few, turned_ready}

@@ -1,6 +1,6 @@
 mod EntryLemmas
 mod SlotLemmas
-mod ChangeLemmas
+pub mod MemberLemmas
 mod OldestLemmas
 mod OrderLemmas
 mod ListedLemmas

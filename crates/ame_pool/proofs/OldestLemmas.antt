@@ -4,7 +4,7 @@ use Rattle.std.specs.List.{All, count_by}
 use Rattle.std.proofs.lemmas.Bool.Decides.{nat_tests}
 use Rattle.ame_pool.specs.declared.member.Member.{Member}
 use Rattle.ame_pool.specs.Members.{IsRising, is_ready, find}
-use Rattle.ame_pool.proofs.ChangeLemmas.{count_cons, none_above}
+use Rattle.ame_pool.proofs.MemberLemmas.{count_cons, none_above}
 
 module _ {M : Type 0} where
   pub counted_is_ready : (n : ℕ) (ms : List (Member M)) → IsRising ms → 1 ≤ count_by (λ m. is_ready m && (m.number == n)) ms

@@ -12,7 +12,7 @@ use Rattle.ame_pool.specs.Members.{IsRising, is_ready, find, altered, placed, ex
 use Rattle.ame_pool.specs.Calls.{skipping}
 use Rattle.ame_pool.specs.Queues.{front}
 use Rattle.ame_pool.specs.Keeps.{IsOrderOf, IsSound, is_inside_at}
-use Rattle.ame_pool.proofs.ChangeLemmas.{count_cons, count_all, find_number, count_altered, find_altered, length_altered, count_placed, find_placed, count_except, find_except}
+use Rattle.ame_pool.proofs.MemberLemmas.{count_cons, count_all, find_number, count_altered, find_altered, length_altered, count_placed, find_placed, count_except, find_except}
 use Rattle.ame_pool.proofs.OldestLemmas.{counted_is_ready}
 
 -- ---- lists of numbers

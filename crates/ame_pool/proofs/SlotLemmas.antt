@@ -13,7 +13,7 @@ use Rattle.ame_pool.specs.declared.numbers.Numbered.{Numbered}
 use Rattle.ame_pool.specs.Members.{IsRising, find, altered, placed, except}
 use Rattle.ame_pool.specs.Register.{Register}
 use Rattle.ame_pool.specs.Numbered.{AreRising, IsNumbered, key_of, filed, only, behind, members_at}
-use Rattle.ame_pool.proofs.ChangeLemmas.{none_above, rising_same, find_altered, rising_altered, find_placed, rising_placed, find_except, rising_except}
+use Rattle.ame_pool.proofs.MemberLemmas.{none_above, rising_same, find_altered, rising_altered, find_placed, rising_placed, find_except, rising_except}
 use Rattle.ame_pool.proofs.EntryLemmas.{key_filed, rising_filed}
 
 module _ {M : Type 0} where

@@ -17,7 +17,7 @@ use Rattle.ame_pool.specs.Calls.{IsAt, woken}
 use Rattle.ame_pool.specs.Stirs.{is_watching, is_woken_at, stirred_at}
 use Rattle.ame_pool.specs.Keeps.{IsWatched}
 use Rattle.ame_pool.proofs.KeptLemmas.{IsOpen, opened}
-use Rattle.ame_pool.proofs.ChangeLemmas.{count_altered, find_number, find_passes, all_found}
+use Rattle.ame_pool.proofs.MemberLemmas.{count_altered, find_number, find_passes, all_found}
 
 module _ (l : ℕ) where
   -- ---- a standing and a write

@@ -1,4 +1,5 @@
 pub mod Members
+pub mod Found
 pub mod Register
 pub mod Numbered
 pub mod Standings

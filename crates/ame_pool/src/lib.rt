@@ -3,6 +3,7 @@
 
 mod counts;
 mod index;
+mod laws;
 mod member;
 mod members;
 mod numbers;
@@ -14,6 +15,7 @@ mod roll;
 mod tests;
 mod turn;
 
+pub use laws::{found_after_calls, found_are_all};
 pub use member::{Member, Standing, Watch};
 pub use oldest::Oldest;
 pub use pool::Pool;

@@ -7,6 +7,7 @@ use Rattle.std.proofs.lemmas.List.Elements.{All-nil, All-cons, All-head, All-tai
 use Rattle.std.specs.Prelude.{nat_lt}
 use Rattle.ame_pool.specs.declared.member.Member.{Member}
 use Rattle.ame_pool.specs.Members.{IsRising, find, altered, placed, except}
+use Rattle.ame_pool.specs.Found.{IsFoundAfter}
 
 pub count_cons : {X : Type 0} (p : X → Bool) (x : X) (xs : List X) → count_by p (x ∷ xs) ≡ cond (p x) 1 0 + count_by p xs
 count_cons p x xs = sum_by-cons (λ y. cond (p y) 1 0) x xs
@@ -95,6 +96,13 @@ module _ {M : Type 0} where
             | false ↦ (all_altered (λ (q : Member M). o.number < q.number) (λ q lt. omega (arith, lt, num q)) ms r.0, rising_altered ms r.1)
           ]
 
+      pub found_altered : (ms : List (Member M)) → IsFoundAfter n (option_map f) ms (altered n f ms)
+      found_altered ms = record {
+        here = grind (arith, nat_tests, find_altered ms n);
+        others = λ k other. grind (arith, nat_tests, find_altered ms k, other);
+        rising = rising_altered ms;
+      }
+
   -- ---- one member more
   module _ (new : Member M) where
     pub count_placed : (p : Member M → Bool) (ms : List (Member M)) → count_by p (placed new ms) ≡ count_by p ms + cond (p new) 1 0
@@ -132,6 +140,13 @@ module _ {M : Type 0} where
           | false ↦ λ t. (all_placed (λ (q : Member M). o.number < q.number) (grind (arith, nat_tests, t, out.0)) ms r.0, rising_placed ms out.1 r.1)
         ] refl
 
+    pub found_placed : (ms : List (Member M)) → find new.number ms ≡ None → IsFoundAfter new.number (λ _. Some new) ms (placed new ms)
+    found_placed ms fresh = record {
+      here = grind (arith, nat_tests, find_placed ms fresh new.number);
+      others = λ k other. grind (arith, nat_tests, find_placed ms fresh k, other);
+      rising = rising_placed ms fresh;
+    }
+
   -- ---- one member less
   module _ (n : ℕ) where
     pub count_except : (p : Member M → Bool) (ms : List (Member M)) (m : Member M) → find n ms ≡ Some m → count_by p (except n ms) + cond (p m) 1 0 ≡ count_by p ms
@@ -161,3 +176,26 @@ module _ {M : Type 0} where
           | true ↦ r.1
           | false ↦ (all_except (λ (q : Member M). o.number < q.number) ms r.0, rising_except ms r.1)
         ]
+
+    pub found_except : (ms : List (Member M)) → IsRising ms → IsFoundAfter n (λ _. None) ms (except n ms)
+    found_except ms r = record {
+      here = grind (arith, nat_tests, find_except ms r n);
+      others = λ k other. grind (arith, nat_tests, find_except ms r k, other);
+      rising = rising_except ms;
+    }
+
+  -- ---- each member altered
+  module _ (f : Member M → Member M) (num : (m : Member M) → (f m).number ≡ m.number) where
+    pub find_map : (n : ℕ) (ms : List (Member M)) → find n (map f ms) ≡ option_map f (find n ms)
+    find_map n [] = refl
+    find_map n (m ∷ ms) = grind (arith, nat_tests, num m, find_map n ms)
+
+    all_map : (k : ℕ) (ms : List (Member M)) → All (λ o. k < o.number) ms → All (λ o. k < o.number) (map f ms)
+    all_map k [] h = h
+    all_map k (m ∷ ms) h =
+        let P : Member M → Type 0 = λ o. k < o.number in
+        All-cons P (f m) (map f ms) (omega (arith, num m, All-head P m ms h)) (all_map k ms (All-tail P m ms h))
+
+    pub rising_map : (ms : List (Member M)) → IsRising ms → IsRising (map f ms)
+    rising_map [] r = r
+    rising_map (m ∷ ms) r = (subst (λ k. All (λ (o : Member M). k < o.number) (map f ms)) (sym (num m)) (all_map m.number ms r.0), rising_map ms r.1)

@@ -9,7 +9,7 @@ mod CountLemmas
 mod StandingLemmas
 mod KeptLemmas
 mod WakeLemmas
-mod SkipLemmas
+mod LineLemmas
 mod HoldLemmas
 mod FrontLemmas
 mod ChoiceLemmas

@@ -1,6 +1,6 @@
 -- The order of the ready members, and of those inside, after an edit of the list.
-use Rattle.std.proofs.Common.{◌≡◌, ◌<◌, ◌≤◌, ◌+◌, ◌==◌, ◌&&◌, ℕ, zero, suc, Bool, true, false, cond, List, [], ◌∷◌, ◌++◌, length, Option, Some, None, option_map, IsSomeAnd, IsTrue, refl, sym, ap, ◌∙◌, inl, inr, arith}
-use Rattle.std.specs.List.{count_by, filter}
+use Rattle.std.proofs.Common.{◌≡◌, ◌<◌, ◌≤◌, ◌+◌, ◌==◌, ◌&&◌, ℕ, zero, suc, Bool, true, false, cond, List, [], ◌∷◌, ◌++◌, length, Option, Some, None, option_map, IsSomeAnd, IsTrue, refl, sym, ap, subst, ◌∙◌, inl, inr, arith}
+use Rattle.std.specs.List.{All, count_by, filter}
 use Rattle.std.proofs.lemmas.Bool.Decides.{nat_tests}
 use Rattle.std.proofs.lemmas.Bool.{cases_lt}
 use Rattle.std.proofs.lemmas.List.{length-append, append-nil}
@@ -12,7 +12,7 @@ use Rattle.ame_pool.specs.Members.{IsRising, is_ready, find, altered, placed, ex
 use Rattle.ame_pool.specs.Calls.{skipping}
 use Rattle.ame_pool.specs.Queues.{front}
 use Rattle.ame_pool.specs.Keeps.{IsOrderOf, IsSound, is_inside_at}
-use Rattle.ame_pool.proofs.MemberLemmas.{count_cons, count_all, find_number, count_altered, find_altered, length_altered, count_placed, find_placed, count_except, find_except}
+use Rattle.ame_pool.proofs.MemberLemmas.{count_cons, count_all, none_above, find_number, count_altered, find_altered, length_altered, count_placed, find_placed, count_except, find_except}
 use Rattle.ame_pool.proofs.OldestLemmas.{counted_is_ready}
 
 -- ---- lists of numbers
@@ -42,6 +42,16 @@ filter_skipping p n (x ∷ xs) b e =
       | false ↦ λ h. grind (arith, nat_tests, h, e, kept, rest)
     ] refl
 
+-- a filter has no number more often
+pub count_filter : (q p : ℕ → Bool) (xs : List ℕ) → count_by q (filter p xs) ≤ count_by q xs
+count_filter q p [] = omega arith
+count_filter q p (x ∷ xs) =
+    let rest = count_filter q p xs in
+    elim (p x) as (λ b. count_by q (cond b (x ∷ filter p xs) (filter p xs)) ≤ count_by q (x ∷ xs)) [
+      | true ↦ omega (arith, rest, count_cons q x xs, count_cons q x (filter p xs))
+      | false ↦ omega (arith, rest, count_cons q x xs)
+    ]
+
 -- two tests that agree but at a number that the list lacks
 filter_but : (p q : ℕ → Bool) (n : ℕ) → ((k : ℕ) → (k == n) ≡ false → p k ≡ q k) → (xs : List ℕ) → count_by (λ k. k == n) xs ≡ 0 → filter p xs ≡ filter q xs
 filter_but p q n agree [] none = refl
@@ -68,6 +78,36 @@ module _ {M : Type 0} where
   pub front_ready : (ms : List (Member M)) (order : List ℕ) → IsSound ms order → (n : ℕ) → front order ≡ Some n → IsSomeAnd (find n ms) (λ m. IsTrue (is_ready m))
   front_ready ms [] s n e = cc
   front_ready ms (x ∷ xs) s n e = let same : x ≡ n = cc in order_ready ms (x ∷ xs) s n (grind (arith, nat_tests, same, count_cons (λ k. k == n) x xs))
+
+  -- each number is there once
+  once : (n : ℕ) (ms : List (Member M)) → IsRising ms → count_by (λ m. is_ready m && (m.number == n)) ms ≤ 1
+  once n [] r = omega arith
+  once n (m ∷ ms) r =
+      let c = count_cons (λ (m : Member M). is_ready m && (m.number == n)) m ms in
+      elim (cases_lt 0 (count_by (λ m. is_ready m && (m.number == n)) ms)) [
+        | inl some ↦
+            let there : IsSomeAnd (find n ms) (λ m. IsTrue (is_ready m)) = counted_is_ready n ms r.1 some in
+            let out : (m.number == n) ≡ false = elim (m.number == n) as (λ b. (m.number == n) ≡ b → b ≡ false) [
+              | true ↦ λ t.
+                  let same : m.number ≡ n = grind (arith, nat_tests, t) in
+                  let lone = none_above n ms (subst (λ k. All (λ (o : Member M). k < o.number) ms) same r.0) in
+                  absurd (subst (λ o. IsSomeAnd o (λ (m : Member M). IsTrue (is_ready m))) lone there)
+              | false ↦ λ t. refl
+            ] refl in
+            omega (arith, once n ms r.1, c, grind_zero (is_ready m) (m.number == n) out)
+        | inr none ↦ omega (arith, none, c, at_most_one (is_ready m && (m.number == n)))
+      ]
+    where
+      grind_zero : (a b : Bool) → b ≡ false → ◌≡◌ {A = ℕ} (cond (a && b) 1 0) 0
+      grind_zero true b e = rw e refl
+      grind_zero false b e = refl
+
+      at_most_one : (b : Bool) → cond b 1 0 ≤ 1
+      at_most_one true = omega arith
+      at_most_one false = omega arith
+
+  pub order_once : (ms : List (Member M)) (order : List ℕ) → IsSound ms order → (n : ℕ) → count_by (λ k. k == n) order ≤ 1
+  order_once ms order s n = omega (arith, s.ordered (λ k. k == n), once n ms s.rising)
 
   -- the order is no longer than the list
   pub order_short : (ms : List (Member M)) (order : List ℕ) → IsOrderOf ms order → length order ≤ length ms

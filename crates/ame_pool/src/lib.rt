@@ -4,6 +4,7 @@
 mod counts;
 mod index;
 mod laws;
+mod line;
 mod member;
 mod members;
 mod numbers;

@@ -127,6 +127,14 @@ impl<M: Drop> Members<M> {
         }
     }
 
+    /// The seat of a member, which no other one has meanwhile.
+    pub fn seat(&self, number: u64) -> usize {
+        match slot_of(self.numbers.as_slice(), number) {
+            Some(key) => key,
+            None => 0,
+        }
+    }
+
     /// One member more.
     pub fn insert(&mut self, member: Member<M>)
         requires room { 0 < self.old.room }

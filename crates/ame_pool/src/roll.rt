@@ -81,7 +81,7 @@ impl<M: Drop> Roll<M> {
             rollbacks: 0,
             standing: Standing::Ready,
         });
-        self.ready.push(number, inside);
+        self.ready.push(number, self.members.seat(number), inside);
     }
 
     /// The member with a number, if there is one.
@@ -108,7 +108,8 @@ impl<M: Drop> Roll<M> {
         self.members.turn(number, Turn::Begin);
         let member = self.members.member(number);
         self.counts.enter(member);
-        self.ready.take(number, member.inside);
+        self.ready
+            .take(number, self.members.seat(number), member.inside);
     }
 
     /// The turn of a member that is busy or parked. Where it is ready then, it is the youngest ready one.
@@ -121,7 +122,8 @@ impl<M: Drop> Roll<M> {
         let member = self.members.member(number);
         self.counts.enter(member);
         if is_readied {
-            self.ready.push(number, member.inside);
+            let seat = self.members.seat(number);
+            self.ready.push(number, seat, member.inside);
         }
     }
 

@@ -1,5 +1,5 @@
 -- Whom the index names, after an edit of the members and of the index.
-use Rattle.std.proofs.Common.{◌≡◌, ◌==◌, ◌&&◌, ℕ, Bool, true, false, cond, not, List, [], map, Option, Some, None, option_map, refl, sym, ap, ◌∙◌, arith}
+use Rattle.std.proofs.Common.{◌≡◌, ◌==◌, ◌&&◌, ℕ, Bool, true, false, cond, not, List, [], map, Option, Some, None, option_map, refl, sym, ap, ◌∙◌, arith, ◌∷◌}
 use Rattle.std.specs.Prelude.{◌||◌}
 use Rattle.std.specs.BTreeSet.{BTreeSet}
 use Rattle.std.proofs.lemmas.Bool.Decides.{nat_tests}
@@ -15,7 +15,11 @@ use Rattle.ame_pool.specs.Index.{lists, among, untouched, waits_for, IsBetween}
 use Rattle.ame_pool.specs.Keeps.{IsWatched}
 use Rattle.ame_pool.proofs.MemberLemmas.{find_altered, rising_altered, find_placed, rising_placed, find_except, rising_except}
 use Rattle.ame_pool.proofs.StandingLemmas.{turned_number}
-use Rattle.ame_pool.proofs.ListedLemmas.{list_any-map}
+use Rattle.std.specs.List.{list_any}
+
+pub list_any-map : {X Y : Type 0} (f : X → Y) (p : Y → Bool) (xs : List X) → list_any p (map f xs) ≡ list_any (λ x. p (f x)) xs
+list_any-map f p [] = refl
+list_any-map f p (x ∷ xs) = ap (λ b. p (f x) || b) (list_any-map f p xs)
 
 -- ---- truth values: n is the number, a and k are in the new and the old list, l and m were listed before and in between
 cleared_table : (n a l : Bool) → (n ≡ true → l ≡ a) → (not ((n && a) && not false) && l) ≡ cond n false l

@@ -12,7 +12,7 @@ use Rattle.ame_pool.specs.Register.{Register}
 use Rattle.ame_pool.specs.Roster.{Roster}
 use Rattle.ame_pool.specs.Queues.{Queues, HasPlace, pushed, taken}
 use Rattle.ame_pool.specs.Counts.{counted}
-use Rattle.ame_pool.specs.Calls.{IsAt, skipping}
+use Rattle.ame_pool.specs.Calls.{IsAt, skipping, begun}
 use Rattle.ame_pool.specs.Turns.{turned, is_readied, is_readied_at, turned_at}
 use Rattle.ame_pool.specs.Keeps.{IsOrderOf, is_inside_at, IsKept}
 use Rattle.ame_pool.proofs.MemberLemmas.{count_all, find_passes, find_altered, length_altered, rising_altered, all_altered, length_placed, rising_placed, all_placed, length_except, rising_except, all_except}
@@ -182,3 +182,13 @@ module _ {M : Type 0} {reg : Register M} {q : Queues} {c : Counts} (h : IsKept r
         fits = omega (arith, h.fits, room, length_placed new reg.list);
         small = h.small;
       }
+
+module _ {M : Type 0} where
+  -- its machine
+  pub machine_begun : (n : ℕ) (ms : List (Member M)) → option_map (λ m. m.machine) (find n (altered n begun ms)) ≡ option_map (λ m. m.machine) (find n ms)
+  machine_begun n ms = rw (find_altered n begun (λ _. refl) ms n) (grind (arith, nat_tests))
+
+  -- a member that is there has a machine
+  pub machine_there : (o : Option (Member M)) (P : Member M → Type 0) → IsSomeAnd o P → None ≡ option_map (λ m. m.machine) o → ⊥
+  machine_there None P h e = h
+  machine_there (Some m) P h e = cc

@@ -13,7 +13,24 @@ use Rattle.ame_pool.specs.Calls.{skipping}
 use Rattle.ame_pool.specs.Queues.{front}
 use Rattle.ame_pool.specs.Keeps.{IsOrderOf, IsSound, is_inside_at}
 use Rattle.ame_pool.proofs.MemberLemmas.{count_cons, count_all, none_above, find_number, count_altered, find_altered, length_altered, count_placed, find_placed, count_except, find_except}
-use Rattle.ame_pool.proofs.OldestLemmas.{counted_is_ready}
+
+module _ {M : Type 0} where
+  pub counted_is_ready : (n : ℕ) (ms : List (Member M)) → IsRising ms → 1 ≤ count_by (λ m. is_ready m && (m.number == n)) ms
+      → IsSomeAnd (find n ms) (λ m. IsTrue (is_ready m))
+  counted_is_ready n [] r h = absurd (omega arith)
+  counted_is_ready n (m ∷ ms) r h =
+      let c = count_cons (λ m. is_ready m && (m.number == n)) m ms in
+      let more = counted_is_ready n ms r.1 in
+      elim (m.number == n) as (λ b. (m.number == n) ≡ b → IsSomeAnd (cond b (Some m) (find n ms)) (λ m. IsTrue (is_ready m))) [
+        | true ↦ λ t. elim (is_ready m) as (λ b. is_ready m ≡ b → b ≡ true) [
+          | true ↦ λ e. refl
+          | false ↦ λ e.
+              let same : m.number ≡ n = grind (arith, nat_tests, t) in
+              let lone = none_above n ms (subst (λ k. All (λ (o : Member M). k < o.number) ms) same r.0) in
+              absurd (subst (λ o. IsSomeAnd o (λ (m : Member M). IsTrue (is_ready m))) lone (more (grind (arith, c, e, h))))
+        ] refl
+        | false ↦ λ t. more (grind (arith, c, t, h))
+      ] refl
 
 -- ---- lists of numbers
 count_push : (p : ℕ → Bool) (xs : List ℕ) (n : ℕ) → count_by p (xs ++ n ∷ []) ≡ count_by p xs + cond (p n) 1 0

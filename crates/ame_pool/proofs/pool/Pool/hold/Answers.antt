@@ -3,8 +3,7 @@ use Rattle.ame_pool.specs.declared.turn.Turn.{Turn}
 use Rattle.ame_pool.specs.Members.{find, is_ready}
 use Rattle.ame_pool.specs.Calls.{machine_of, held}
 use Rattle.ame_pool.proofs.StandingLemmas.{ready_untouched}
-use Rattle.ame_pool.proofs.HoldLemmas.{machine_begun, machine_there}
-use Rattle.ame_pool.proofs.KeptLemmas.{opened}
+use Rattle.ame_pool.proofs.KeptLemmas.{machine_begun, machine_there, opened}
 use Rattle.ame_pool.proofs.FindLemmas.{watched_held}
 use Rattle.ame_pool.proofs.pool.Pool.hold.Goals as goal
 

@@ -5,16 +5,7 @@ use Rattle.std.specs.Prelude.{◌||◌, nat_lt}
 use Rattle.std.specs.List.{filter, list_any, list_all, count_by}
 use Rattle.std.proofs.lemmas.Bool.Decides.{nat_tests}
 use Rattle.std.proofs.lemmas.List.Sums.{count_by-le-length}
-use Rattle.ame_pool.specs.declared.member.Member.{Member}
-use Rattle.ame_pool.specs.declared.oldest.Oldest.{Oldest}
-use Rattle.ame_pool.specs.declared.counts.Counts.{Counts}
-use Rattle.ame_pool.specs.Members.{find, is_ready, is_busy, is_parked}
-use Rattle.ame_pool.specs.Roster.{Roster}
-use Rattle.ame_pool.specs.Register.{Register}
-use Rattle.ame_pool.specs.Begin.{is_protected, is_worn, is_worn_protected, some_busy, may_begin_beside, may_begin, first_to_begin, members_of, oldest, oldest_or_wait}
-use Rattle.ame_pool.specs.Queues.{Queues, front}
-use Rattle.ame_pool.specs.Counts.{idle}
-use Rattle.ame_pool.specs.Keeps.{is_inside_at, IsKept}
+use Rattle.ame_pool.proofs.Words.{Member, Oldest, Counts, find, is_ready, is_busy, is_parked, Roster, Register, is_protected, is_worn, is_worn_protected, some_busy, may_begin_beside, may_begin, first_to_begin, members_of, oldest, oldest_or_wait, Queues, front, idle, is_inside_at, IsKept}
 use Rattle.ame_pool.proofs.MemberLemmas.{count_cons, find_number}
 use Rattle.ame_pool.proofs.CountLemmas.{kinds}
 use Rattle.ame_pool.proofs.OrderLemmas.{order_ready, counted_is_ready}

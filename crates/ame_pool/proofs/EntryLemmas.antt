@@ -7,8 +7,7 @@ use Rattle.std.specs.Ordering.{nat_cmp, ordering_index}
 use Rattle.std.proofs.lemmas.Cmp.{ranked}
 use Rattle.std.proofs.lemmas.Bool.Decides.{nat_tests}
 use Rattle.std.proofs.lemmas.List.Elements.{All-cons, All-head, All-tail}
-use Rattle.ame_pool.specs.declared.numbers.Numbered.{Numbered}
-use Rattle.ame_pool.specs.Numbered.{AreRising, IsEntryOf, IsEntryGap, key_of, filed}
+use Rattle.ame_pool.proofs.Words.{Numbered, AreRising, IsEntryOf, IsEntryGap, key_of, filed}
 
 -- an earlier number is not greater
 rising_le : (es : List Numbered) → AreRising es → (i j : ℕ) (d : Numbered) → i ≤ j → j < length es

@@ -3,16 +3,7 @@ use Rattle.std.proofs.Common.{◌≡◌, ◌==◌, ◌&&◌, ℕ, Bool, true, fa
 use Rattle.std.specs.Prelude.{◌||◌}
 use Rattle.std.specs.BTreeSet.{BTreeSet}
 use Rattle.std.proofs.lemmas.Bool.Decides.{nat_tests}
-use Rattle.ame_term.specs.declared.types.Loc.{Loc}
-use Rattle.ame_pool.specs.declared.member.Member.{Member}
-use Rattle.ame_pool.specs.declared.turn.Turn.{Turn}
-use Rattle.ame_pool.specs.Members.{find, altered}
-use Rattle.ame_pool.specs.Roster.{Roster}
-use Rattle.ame_pool.specs.Calls.{begun, joined, held, removed}
-use Rattle.ame_pool.specs.Turns.{turned, turned_at}
-use Rattle.ame_pool.specs.Waking.{has}
-use Rattle.ame_pool.specs.Index.{lists, among, untouched, waits_for, IsBetween}
-use Rattle.ame_pool.specs.Keeps.{IsWatched}
+use Rattle.ame_pool.proofs.Words.{Loc, Member, Turn, find, altered, Roster, begun, joined, held, removed, turned, turned_at, has, lists, among, untouched, waits_for, IsBetween, IsWatched}
 use Rattle.ame_pool.proofs.MemberLemmas.{find_altered, rising_altered, find_placed, rising_placed, find_except, rising_except}
 use Rattle.ame_pool.proofs.StandingLemmas.{turned_number}
 use Rattle.std.specs.List.{list_any}

@@ -10,8 +10,7 @@ use Rattle.std.specs.BTreeMap.{is_at}
 use Rattle.std.specs.BTreeMap.Range.{IsLeBy}
 use Rattle.std.proofs.lemmas.Bool.Decides.{nat_tests}
 use Rattle.std.specs.BTreeSet.{BTreeSet}
-use Rattle.ame_term.specs.declared.types.Loc.{Loc}
-use Rattle.ame_pool.specs.Index.{pair_cmp, lists, among, IsBetween}
+use Rattle.ame_pool.proofs.Words.{Loc, pair_cmp, lists, among, IsBetween}
 
 pub on_err : {T E : Type 0} (r : Result T E) (P : Type 0) → P → OnErr r P
 on_err (Ok x) P h = tt

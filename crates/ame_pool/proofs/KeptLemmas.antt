@@ -4,17 +4,7 @@ use mathlib.Core.Bool.{false≢true}
 use Rattle.std.specs.List.{filter}
 use Rattle.std.proofs.lemmas.Bool.Decides.{nat_tests}
 use Rattle.std.proofs.lemmas.List.Sums.{count_by-le-length, length-filter}
-use Rattle.ame_pool.specs.declared.member.Member.{Member}
-use Rattle.ame_pool.specs.declared.turn.Turn.{Turn}
-use Rattle.ame_pool.specs.declared.counts.Counts.{Counts}
-use Rattle.ame_pool.specs.Members.{find, altered, placed, except, is_ready}
-use Rattle.ame_pool.specs.Register.{Register}
-use Rattle.ame_pool.specs.Roster.{Roster}
-use Rattle.ame_pool.specs.Queues.{Queues, HasPlace, pushed, taken}
-use Rattle.ame_pool.specs.Counts.{counted}
-use Rattle.ame_pool.specs.Calls.{IsAt, skipping, begun}
-use Rattle.ame_pool.specs.Turns.{turned, is_readied, is_readied_at, turned_at}
-use Rattle.ame_pool.specs.Keeps.{IsOrderOf, is_inside_at, IsKept}
+use Rattle.ame_pool.proofs.Words.{Member, Turn, Counts, find, altered, placed, except, is_ready, Register, Roster, Queues, HasPlace, pushed, taken, counted, IsAt, skipping, begun, turned, is_readied, is_readied_at, turned_at, IsOrderOf, is_inside_at, IsKept}
 use Rattle.ame_pool.proofs.MemberLemmas.{count_all, find_passes, find_altered, length_altered, rising_altered, all_altered, length_placed, rising_placed, all_placed, length_except, rising_except, all_except}
 use Rattle.ame_pool.proofs.OrderLemmas.{filter_push, filter_skipping, absent, order_short, order_shorter, ordered_same, ordered_readied, ordered_held, ordered_placed, ordered_except, inside_same, inside_but, inside_now, inside_placed, inside_new, inside_except}
 use Rattle.ame_pool.proofs.CountLemmas.{kinds, AreMoved, moved_both, counted_altered, counted_placed, counted_except}

@@ -1,3 +1,4 @@
+mod Words
 mod EntryLemmas
 mod SlotLemmas
 pub mod MemberLemmas

@@ -6,10 +6,7 @@ use Rattle.std.proofs.lemmas.Bool.Decides.{nat_tests}
 use Rattle.std.specs.Option.{IfSome, IfNone}
 use Rattle.std.proofs.lemmas.List.Elements.{filter_map-append}
 use Rattle.std.proofs.lemmas.List.Quantifiers.{position-Some}
-use Rattle.ame_pool.specs.declared.line.Entry.{Entry}
-use Rattle.ame_pool.specs.Calls.{skipping}
-use Rattle.ame_pool.specs.Queues.{front}
-use Rattle.ame_pool.specs.Line.{numbers_in, is_gap, is_of, StartsFull, IsPlaceOf}
+use Rattle.ame_pool.proofs.Words.{Entry, skipping, front, numbers_in, is_gap, is_of, StartsFull, IsPlaceOf}
 use Rattle.ame_pool.proofs.MemberLemmas.{count_cons}
 
 -- ---- one entry at the head

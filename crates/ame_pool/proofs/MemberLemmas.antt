@@ -5,9 +5,7 @@ use Rattle.std.proofs.lemmas.Bool.Decides.{nat_tests}
 use Rattle.std.proofs.lemmas.List.Sums.{sum_by-cons}
 use Rattle.std.proofs.lemmas.List.Elements.{All-nil, All-cons, All-head, All-tail, All-weaker}
 use Rattle.std.specs.Prelude.{nat_lt}
-use Rattle.ame_pool.specs.declared.member.Member.{Member}
-use Rattle.ame_pool.specs.Members.{IsRising, find, altered, placed, except}
-use Rattle.ame_pool.specs.Found.{IsFoundAfter}
+use Rattle.ame_pool.proofs.Words.{Member, IsRising, find, altered, placed, except, IsFoundAfter}
 
 pub count_cons : {X : Type 0} (p : X → Bool) (x : X) (xs : List X) → count_by p (x ∷ xs) ≡ cond (p x) 1 0 + count_by p xs
 count_cons p x xs = sum_by-cons (λ y. cond (p y) 1 0) x xs

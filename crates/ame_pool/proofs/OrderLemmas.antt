@@ -6,12 +6,7 @@ use Rattle.std.proofs.lemmas.Bool.{cases_lt}
 use Rattle.std.proofs.lemmas.List.{length-append, append-nil}
 use Rattle.std.proofs.lemmas.List.Elements.{filter_agree, filter-append}
 use Rattle.std.proofs.lemmas.List.Sums.{sum_by_push, count_by-le-length}
-use Rattle.ame_pool.specs.declared.member.Member.{Member}
-use Rattle.ame_pool.specs.declared.member.Standing.{Standing}
-use Rattle.ame_pool.specs.Members.{IsRising, is_ready, find, altered, placed, except}
-use Rattle.ame_pool.specs.Calls.{skipping}
-use Rattle.ame_pool.specs.Queues.{front}
-use Rattle.ame_pool.specs.Keeps.{IsOrderOf, IsSound, is_inside_at}
+use Rattle.ame_pool.proofs.Words.{Member, Standing, IsRising, is_ready, find, altered, placed, except, skipping, front, IsOrderOf, IsSound, is_inside_at}
 use Rattle.ame_pool.proofs.MemberLemmas.{count_cons, count_all, none_above, find_number, count_altered, find_altered, length_altered, count_placed, find_placed, count_except, find_except}
 
 module _ {M : Type 0} where

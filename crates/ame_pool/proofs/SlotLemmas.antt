@@ -6,13 +6,8 @@ use Rattle.std.specs.List.{filter}
 use Rattle.std.proofs.lemmas.Bool.{cases_eq}
 use Rattle.std.proofs.lemmas.Bool.Decides.{nat_tests}
 use Rattle.std.proofs.lemmas.List.Elements.{All-nil, All-cons, All-head, All-tail}
-use Rattle.slab.specs.Slab.{Slab, get, ContainsKey, Updates, with_value}
+use Rattle.ame_pool.proofs.Words.{Slab, get, ContainsKey, Updates, with_value, Member, Numbered, IsRising, find, altered, placed, except, Register, AreRising, IsNumbered, key_of, filed, only, behind, members_at}
 use Rattle.slab.proofs.SlabLemmas.{Updates-with_value}
-use Rattle.ame_pool.specs.declared.member.Member.{Member}
-use Rattle.ame_pool.specs.declared.numbers.Numbered.{Numbered}
-use Rattle.ame_pool.specs.Members.{IsRising, find, altered, placed, except}
-use Rattle.ame_pool.specs.Register.{Register}
-use Rattle.ame_pool.specs.Numbered.{AreRising, IsNumbered, key_of, filed, only, behind, members_at}
 use Rattle.ame_pool.proofs.MemberLemmas.{none_above, rising_same, find_altered, rising_altered, find_placed, rising_placed, find_except, rising_except}
 use Rattle.ame_pool.proofs.EntryLemmas.{key_filed, rising_filed}
 

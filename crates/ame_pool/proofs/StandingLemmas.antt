@@ -1,16 +1,7 @@
 -- What a member's standing tells, and what a turn makes of it.
 use Rattle.std.proofs.Common.{◌≡◌, ◌≤◌, ℕ, Bool, true, false, not, cond, List, [], Some, None, refl, sym, ◌∙◌, arith}
 use mathlib.Core.Bool.{false≢true}
-use Rattle.ame_pool.specs.declared.member.Member.{Member}
-use Rattle.ame_pool.specs.declared.member.Standing.{Standing}
-use Rattle.ame_pool.specs.declared.member.Watch.{Watch}
-use Rattle.ame_pool.specs.declared.turn.Turn.{Turn}
-use Rattle.ame_pool.specs.Members.{is_ready, is_busy}
-use Rattle.ame_pool.specs.Standings.{rolled, settled, is_touched}
-use Rattle.ame_pool.specs.Waking.{has, stirred, is_waiting_for}
-use Rattle.ame_pool.specs.Index.{untouched}
-use Rattle.ame_pool.specs.Calls.{is_running, is_noted, at_rest}
-use Rattle.ame_pool.specs.Turns.{is_away, turned, is_readied}
+use Rattle.ame_pool.proofs.Words.{Member, Standing, Watch, Turn, is_ready, is_busy, rolled, settled, is_touched, has, stirred, is_waiting_for, untouched, is_running, is_noted, at_rest, is_away, turned, is_readied}
 
 abbrev ready : Standing → Bool
 ready s = elim s [ Standing.Ready ↦ true | Standing.Busy _ ↦ false | Standing.Parked _ ↦ false ]

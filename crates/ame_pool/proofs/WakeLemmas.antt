@@ -6,16 +6,7 @@ use Rattle.std.specs.BTreeSet.{BTreeSet}
 use Rattle.std.proofs.lemmas.Bool.Decides.{nat_tests}
 use Rattle.std.proofs.lemmas.List.{append-nil, append_assoc}
 use Rattle.std.proofs.lemmas.List.Elements.{All-head, All-tail}
-use Rattle.ame_pool.specs.declared.member.Member.{Member}
-use Rattle.ame_pool.specs.declared.member.Standing.{Standing}
-use Rattle.ame_pool.specs.declared.member.Watch.{Watch}
-use Rattle.ame_pool.specs.Members.{IsRising, find, altered}
-use Rattle.ame_pool.specs.Index.{untouched, lists, waits_for}
-use Rattle.ame_pool.specs.Waking.{has, touched_by, stirred, stirred_by, is_waiting_for, is_woken_by, woken_by}
-use Rattle.ame_pool.specs.Roster.{Roster}
-use Rattle.ame_pool.specs.Calls.{IsAt, woken}
-use Rattle.ame_pool.specs.Stirs.{is_watching, is_woken_at, stirred_at}
-use Rattle.ame_pool.specs.Keeps.{IsWatched}
+use Rattle.ame_pool.proofs.Words.{Member, Standing, Watch, IsRising, find, altered, untouched, lists, waits_for, has, touched_by, stirred, stirred_by, is_waiting_for, is_woken_by, woken_by, Roster, IsAt, woken, is_watching, is_woken_at, stirred_at, IsWatched}
 use Rattle.ame_pool.proofs.KeptLemmas.{IsOpen, opened}
 use Rattle.ame_pool.proofs.MemberLemmas.{count_altered, find_number, find_passes, all_found}
 

@@ -1,5 +1,5 @@
 use Rattle.std.proofs.Common.{◌∙◌, ◌==◌, ◌&&◌, true, cond, ap}
-use Rattle.ame_pool.specs.Index.{lists}
+use Rattle.ame_pool.proofs.Words.{lists}
 use Rattle.ame_pool.proofs.IndexLemmas.{pair_at, cond_or}
 use Rattle.ame_pool.proofs.index.add.Goals as goal
 

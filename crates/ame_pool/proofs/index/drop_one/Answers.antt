@@ -1,5 +1,5 @@
 use Rattle.std.proofs.Common.{◌∙◌, ◌==◌, ◌&&◌, false, cond, ap}
-use Rattle.ame_pool.specs.Index.{lists}
+use Rattle.ame_pool.proofs.Words.{lists}
 use Rattle.ame_pool.proofs.IndexLemmas.{pair_at, cond_and}
 use Rattle.ame_pool.proofs.index.drop_one.Goals as goal
 

@@ -1,6 +1,5 @@
 use Rattle.std.proofs.Common.{refl}
-use Rattle.ame_pool.specs.Waking.{stirred_by}
-use Rattle.ame_pool.specs.Calls.{begun, at_home, renewed, noted_on, at_rest}
+use Rattle.ame_pool.proofs.Words.{stirred_by, begun, at_home, renewed, noted_on, at_rest}
 use Rattle.ame_pool.proofs.MemberLemmas.{found_altered, found_placed, found_except, find_map, rising_map}
 use Rattle.ame_pool.proofs.laws.found_after_calls.Goals as goal
 

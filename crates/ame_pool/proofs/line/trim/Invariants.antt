@@ -1,6 +1,6 @@
 use Rattle.std.proofs.Common.{◌≡◌}
 use Rattle.std.specs.VecDeque.{deque_len, deque_capacity}
-use Rattle.ame_pool.specs.Line.{numbers_in}
+use Rattle.ame_pool.proofs.Words.{numbers_in}
 use Rattle.ame_pool.proofs.line.trim.Given as goal
 
 abbrev pub invariant-loop-entries : goal.invariant-loop-entries

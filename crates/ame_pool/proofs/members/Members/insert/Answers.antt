@@ -1,5 +1,5 @@
 use Rattle.std.proofs.Common.{◌≡◌, ◌<◌, None, refl, sym, subst, arith}
-use Rattle.ame_pool.specs.Members.{find}
+use Rattle.ame_pool.proofs.Words.{find}
 use Rattle.ame_pool.proofs.EntryLemmas.{rising_filed}
 use Rattle.ame_pool.proofs.SlotLemmas.{slot_filled}
 use Rattle.ame_pool.proofs.members.Members.insert.Goals as goal

@@ -1,6 +1,5 @@
 use Rattle.std.proofs.Common.{◌≤◌, IsSomeAnd, ◌∙◌, refl, sym, subst}
-use Rattle.ame_pool.specs.Members.{find}
-use Rattle.ame_pool.specs.Turns.{turned}
+use Rattle.ame_pool.proofs.Words.{find, turned}
 use Rattle.ame_pool.proofs.SlotLemmas.{known, slot_at, slot_contains, slot_found, slot_changed, some_and}
 use Rattle.ame_pool.proofs.StandingLemmas.{turned_number}
 use Rattle.ame_pool.proofs.members.Members.turn.Goals as goal

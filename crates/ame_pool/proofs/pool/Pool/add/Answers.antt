@@ -1,6 +1,5 @@
 use Rattle.std.proofs.Common.{◌≡◌, None, refl, sym, subst}
-use Rattle.ame_pool.specs.Members.{find}
-use Rattle.ame_pool.specs.Calls.{newcomer}
+use Rattle.ame_pool.proofs.Words.{find, newcomer}
 use Rattle.ame_pool.proofs.FindLemmas.{watched_placed}
 use Rattle.ame_pool.proofs.pool.Pool.add.Goals as goal
 

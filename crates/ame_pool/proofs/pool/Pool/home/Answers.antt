@@ -1,7 +1,5 @@
 use Rattle.std.proofs.Common.{◌∙◌, true, refl, sym}
-use Rattle.ame_pool.specs.declared.turn.Turn.{Turn}
-use Rattle.ame_pool.specs.Calls.{is_running}
-use Rattle.ame_pool.specs.Turns.{is_away}
+use Rattle.ame_pool.proofs.Words.{Turn, is_running, is_away}
 use Rattle.ame_pool.proofs.StandingLemmas.{running_away, running_untouched}
 use Rattle.ame_pool.proofs.KeptLemmas.{opened, at_weaker, turned_pool}
 use Rattle.ame_pool.proofs.FindLemmas.{watched_same}

@@ -1,12 +1,7 @@
 use Rattle.std.proofs.Common.{◌≡◌, ◌==◌, ◌&&◌, ◌++◌, ℕ, [], false, not, refl, sym, ap, subst, ◌∙◌}
 use Rattle.std.specs.Prelude.{◌||◌}
 use Rattle.std.proofs.lemmas.List.{append-nil}
-use Rattle.ame_pool.specs.declared.turn.Turn.{Turn}
-use Rattle.ame_pool.specs.Members.{is_busy, altered}
-use Rattle.ame_pool.specs.Roster.{Roster}
-use Rattle.ame_pool.specs.Index.{lists, among, IsBetween}
-use Rattle.ame_pool.specs.Calls.{noted, noted_on}
-use Rattle.ame_pool.specs.Turns.{is_away}
+use Rattle.ame_pool.proofs.Words.{Turn, is_busy, altered, Roster, lists, among, IsBetween, noted, noted_on, is_away}
 use Rattle.ame_pool.proofs.IndexLemmas.{on_err_at, on_ok_at}
 use Rattle.ame_pool.proofs.StandingLemmas.{busy_away}
 use Rattle.ame_pool.proofs.KeptLemmas.{at_weaker, turned_pool}

@@ -1,7 +1,5 @@
 use Rattle.std.proofs.Common.{◌∙◌, refl, ap}
-use Rattle.ame_pool.specs.declared.turn.Turn.{Turn}
-use Rattle.ame_pool.specs.Calls.{is_noted}
-use Rattle.ame_pool.specs.Turns.{is_away, turned_at}
+use Rattle.ame_pool.proofs.Words.{Turn, is_noted, is_away, turned_at}
 use Rattle.ame_pool.proofs.StandingLemmas.{noted_away, rest_untouched}
 use Rattle.ame_pool.proofs.KeptLemmas.{opened, at_weaker}
 use Rattle.ame_pool.proofs.FindLemmas.{watched_same}

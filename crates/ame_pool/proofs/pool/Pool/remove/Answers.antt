@@ -1,6 +1,5 @@
 use Rattle.std.proofs.Common.{sym}
-use Rattle.ame_pool.specs.Members.{is_busy}
-use Rattle.ame_pool.specs.Turns.{is_away}
+use Rattle.ame_pool.proofs.Words.{is_busy, is_away}
 use Rattle.ame_pool.proofs.StandingLemmas.{busy_away}
 use Rattle.ame_pool.proofs.KeptLemmas.{at_weaker}
 use Rattle.ame_pool.proofs.FindLemmas.{watched_except}

@@ -1,7 +1,5 @@
 use Rattle.std.proofs.Common.{◌∙◌, true, IsTrue, refl, sym}
-use Rattle.ame_pool.specs.declared.turn.Turn.{Turn}
-use Rattle.ame_pool.specs.Members.{is_busy}
-use Rattle.ame_pool.specs.Turns.{is_away}
+use Rattle.ame_pool.proofs.Words.{Turn, is_busy, is_away}
 use Rattle.ame_pool.proofs.StandingLemmas.{busy_away}
 use Rattle.ame_pool.proofs.KeptLemmas.{opened, at_weaker, turned_pool}
 use Rattle.ame_pool.proofs.FindLemmas.{watched_cleared}

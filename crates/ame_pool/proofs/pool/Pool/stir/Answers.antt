@@ -1,7 +1,5 @@
 use Rattle.std.proofs.Common.{◌∙◌, sym, ap}
-use Rattle.ame_pool.specs.declared.turn.Turn.{Turn}
-use Rattle.ame_pool.specs.Stirs.{is_watching}
-use Rattle.ame_pool.specs.Turns.{is_away, turned_at}
+use Rattle.ame_pool.proofs.Words.{Turn, is_watching, is_away, turned_at}
 use Rattle.ame_pool.proofs.StandingLemmas.{watching_away}
 use Rattle.ame_pool.proofs.WakeLemmas.{stirred_untouched}
 use Rattle.ame_pool.proofs.KeptLemmas.{passes, at_weaker}

@@ -1,6 +1,5 @@
 use Rattle.std.proofs.Common.{◌<◌, ◌∙◌, sym, ap, subst}
-use Rattle.ame_pool.specs.Calls.{woken}
-use Rattle.ame_pool.specs.Keeps.{IsWatched}
+use Rattle.ame_pool.proofs.Words.{woken, IsWatched}
 use Rattle.ame_pool.proofs.WakeLemmas.{to_stir, listed_watches, waking_all, waking_more, waking_fewer}
 use Rattle.ame_pool.proofs.pool.Pool.wake.Goals as goal
 

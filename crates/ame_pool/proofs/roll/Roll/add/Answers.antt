@@ -1,6 +1,5 @@
 use Rattle.std.proofs.Common.{◌≡◌, ◌<◌, None, refl, sym, subst, arith}
-use Rattle.ame_pool.specs.Members.{find}
-use Rattle.ame_pool.specs.Calls.{newcomer}
+use Rattle.ame_pool.proofs.Words.{find, newcomer}
 use Rattle.ame_pool.proofs.KeptLemmas.{free_place, kept_placed}
 use Rattle.ame_pool.proofs.roll.Roll.add.Goals as goal
 

@@ -1,5 +1,5 @@
 use Rattle.std.proofs.Common.{sym}
-use Rattle.ame_pool.specs.Turns.{is_away}
+use Rattle.ame_pool.proofs.Words.{is_away}
 use Rattle.ame_pool.proofs.StandingLemmas.{away_unready}
 use Rattle.ame_pool.proofs.CountLemmas.{counts_in}
 use Rattle.ame_pool.proofs.KeptLemmas.{passes, kept_except}

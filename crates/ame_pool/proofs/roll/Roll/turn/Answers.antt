@@ -1,6 +1,5 @@
 use Rattle.std.proofs.Common.{◌∙◌, cond, sym, ap}
-use Rattle.ame_pool.specs.Queues.{pushed}
-use Rattle.ame_pool.specs.Turns.{is_away}
+use Rattle.ame_pool.proofs.Words.{pushed, is_away}
 use Rattle.ame_pool.proofs.StandingLemmas.{away_unready}
 use Rattle.ame_pool.proofs.CountLemmas.{counts_in}
 use Rattle.ame_pool.proofs.KeptLemmas.{passes, few_at, there_turned, left_place, kept_turn}

@@ -1,15 +1,9 @@
 -- The front of the order and the counts decide who begins.
 use Rattle.std.proofs.Common.{◌≡◌, ◌<◌, ◌≤◌, ◌+◌, ◌==◌, ◌&&◌, ℕ, Bool, true, false, cond, not, List, [], ◌∷◌, length, Some, None, IsSomeAnd, IsTrue, refl, sym, ap, subst, ◌∙◌, arith, ◌++◌, Option}
-use mathlib.Core.Bool.{false≢true}
-use Rattle.std.specs.Prelude.{◌||◌, nat_lt}
-use Rattle.std.specs.List.{filter, list_any, list_all, count_by}
-use Rattle.std.proofs.lemmas.Bool.Decides.{nat_tests}
-use Rattle.std.proofs.lemmas.List.Sums.{count_by-le-length}
-use Rattle.ame_pool.proofs.Words.{Member, Oldest, Counts, find, is_ready, is_busy, is_parked, Roster, Register, is_protected, is_worn, is_worn_protected, some_busy, may_begin_beside, may_begin, first_to_begin, members_of, oldest, oldest_or_wait, Queues, front, idle, is_inside_at, IsKept}
+use Rattle.ame_pool.proofs.Words.{Member, Oldest, Counts, find, is_ready, is_busy, is_parked, Roster, Register, is_protected, is_worn, is_worn_protected, some_busy, may_begin_beside, may_begin, first_to_begin, members_of, oldest, oldest_or_wait, Queues, front, idle, is_inside_at, IsKept, false≢true, ◌||◌, nat_lt, filter, list_any, list_all, count_by, nat_tests, count_by-le-length, list_any-append}
 use Rattle.ame_pool.proofs.MemberLemmas.{count_cons, find_number}
 use Rattle.ame_pool.proofs.CountLemmas.{kinds}
-use Rattle.ame_pool.proofs.OrderLemmas.{order_ready, counted_is_ready}
-use Rattle.std.proofs.lemmas.List.Folds.{list_any-append}
+use Rattle.ame_pool.proofs.OrderLemmas.{order_ready}
 
 -- ---- truth values: i stands inside, w is worn; p and b tell that a protected and a worn one are busy, o that a worn one is older
 -- beside a busy protected one, and a worn one that is busy or older, none begins but from inside

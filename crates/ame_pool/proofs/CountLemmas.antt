@@ -1,8 +1,6 @@
 -- The counts after an edit of the list.
 use Rattle.std.proofs.Common.{◌≡◌, ◌≤◌, ◌+◌, ◌-◌, ◌&&◌, ℕ, Bool, true, false, cond, List, [], ◌∷◌, length, Some, refl, sym, ap, arith}
-use mathlib.Core.Bool.{false≢true}
-use Rattle.std.specs.List.{count_by}
-use Rattle.ame_pool.proofs.Words.{Member, Standing, Counts, is_ready, is_busy, is_parked, find, altered, placed, except, is_busy_protected, is_busy_worn, counted, CountsIn, AreCounted}
+use Rattle.ame_pool.proofs.Words.{Member, Standing, Counts, is_ready, is_busy, is_parked, find, altered, placed, except, is_busy_protected, is_busy_worn, counted, CountsIn, AreCounted, false≢true, count_by}
 use Rattle.ame_pool.proofs.MemberLemmas.{count_cons, count_altered, count_placed, count_except}
 
 none : (b : Bool) → b ≡ false → ◌≡◌ {A = ℕ} (cond b 1 0) 0

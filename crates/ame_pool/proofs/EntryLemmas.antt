@@ -1,13 +1,9 @@
 -- Entries by rising numbers: what a search finds, and what an edit at that place does.
 use Rattle.std.proofs.Common.{◌≡◌, ◌<◌, ◌≤◌, ◌==◌, ℕ, zero, suc, Bool, true, false, cond, List, [], ◌∷◌, length, set, get_or, All, Some, None, Result, Ok, Err, IfOk, IfErr, refl, sym, subst, arith}
-use Rattle.std.specs.Prelude.{nat_lt}
-use Rattle.std.specs.List.{insert, filter}
 use Rattle.std.specs.List.Sorted.{IsSearchInRange, IsBinarySearchResult, IsNonDecreasingBy}
 use Rattle.std.specs.Ordering.{nat_cmp, ordering_index}
 use Rattle.std.proofs.lemmas.Cmp.{ranked}
-use Rattle.std.proofs.lemmas.Bool.Decides.{nat_tests}
-use Rattle.std.proofs.lemmas.List.Elements.{All-cons, All-head, All-tail}
-use Rattle.ame_pool.proofs.Words.{Numbered, AreRising, IsEntryOf, IsEntryGap, key_of, filed}
+use Rattle.ame_pool.proofs.Words.{Numbered, AreRising, IsEntryOf, IsEntryGap, key_of, filed, nat_lt, insert, filter, nat_tests, All-cons, All-head, All-tail}
 
 -- an earlier number is not greater
 rising_le : (es : List Numbered) → AreRising es → (i j : ℕ) (d : Numbered) → i ≤ j → j < length es

@@ -1,12 +1,8 @@
 -- Whom the index names, after an edit of the members and of the index.
 use Rattle.std.proofs.Common.{◌≡◌, ◌==◌, ◌&&◌, ℕ, Bool, true, false, cond, not, List, [], map, Option, Some, None, option_map, refl, sym, ap, ◌∙◌, arith, ◌∷◌}
-use Rattle.std.specs.Prelude.{◌||◌}
-use Rattle.std.specs.BTreeSet.{BTreeSet}
-use Rattle.std.proofs.lemmas.Bool.Decides.{nat_tests}
-use Rattle.ame_pool.proofs.Words.{Loc, Member, Turn, find, altered, Roster, begun, joined, held, removed, turned, turned_at, has, lists, among, untouched, waits_for, IsBetween, IsWatched}
+use Rattle.ame_pool.proofs.Words.{Loc, Member, Turn, find, altered, Roster, begun, joined, held, removed, turned, turned_at, has, lists, among, untouched, waits_for, IsBetween, IsWatched, ◌||◌, BTreeSet, nat_tests, list_any}
 use Rattle.ame_pool.proofs.MemberLemmas.{find_altered, rising_altered, find_placed, rising_placed, find_except, rising_except}
 use Rattle.ame_pool.proofs.StandingLemmas.{turned_number}
-use Rattle.std.specs.List.{list_any}
 
 pub list_any-map : {X Y : Type 0} (f : X → Y) (p : Y → Bool) (xs : List X) → list_any p (map f xs) ≡ list_any (λ x. p (f x)) xs
 list_any-map f p [] = refl

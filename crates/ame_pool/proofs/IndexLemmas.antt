@@ -1,16 +1,11 @@
 -- The index of watchers.
 use Rattle.std.proofs.Common.{OnOk, ◌≡◌, ◌≤◌, ◌==◌, ◌&&◌, ℕ, Bool, true, false, cond, not, ◌<◌, ◌+◌, Result, Ok, Err, OnErr, refl, sym, ap, ◌∙◌, arith}
-use mathlib.Core.Bool.{false≢true}
-use Rattle.std.specs.Prelude.{◌||◌, List, length, take, drop}
-use Rattle.std.proofs.lemmas.List.{take_all, take-append-drop}
-use Rattle.std.proofs.lemmas.List.Folds.{list_any_more, list_any-append}
+use Rattle.std.specs.Prelude.{List, length}
 use lib.ListN.{get_or}
 use Rattle.std.specs.Result.{is_err}
 use Rattle.std.specs.BTreeMap.{is_at}
 use Rattle.std.specs.BTreeMap.Range.{IsLeBy}
-use Rattle.std.proofs.lemmas.Bool.Decides.{nat_tests}
-use Rattle.std.specs.BTreeSet.{BTreeSet}
-use Rattle.ame_pool.proofs.Words.{Loc, pair_cmp, lists, among, IsBetween}
+use Rattle.ame_pool.proofs.Words.{Loc, pair_cmp, lists, among, IsBetween, false≢true, ◌||◌, take, drop, take_all, take-append-drop, list_any_more, list_any-append, nat_tests, BTreeSet}
 
 pub on_err : {T E : Type 0} (r : Result T E) (P : Type 0) → P → OnErr r P
 on_err (Ok x) P h = tt

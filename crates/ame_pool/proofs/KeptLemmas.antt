@@ -1,10 +1,6 @@
 -- What a roll's fields keep after an edit of one member.
 use Rattle.std.proofs.Common.{◌≡◌, ◌<◌, ◌≤◌, ◌+◌, ◌-◌, ◌^◌, ◌==◌, ℕ, Bool, true, false, cond, List, [], ◌∷◌, ◌++◌, length, Option, Some, None, option_map, IsSome, IsSomeAnd, IsTrue, refl, sym, ap, subst, ◌∙◌, arith}
-use mathlib.Core.Bool.{false≢true}
-use Rattle.std.specs.List.{filter}
-use Rattle.std.proofs.lemmas.Bool.Decides.{nat_tests}
-use Rattle.std.proofs.lemmas.List.Sums.{count_by-le-length, length-filter}
-use Rattle.ame_pool.proofs.Words.{Member, Turn, Counts, find, altered, placed, except, is_ready, Register, Roster, Queues, HasPlace, pushed, taken, counted, IsAt, skipping, begun, turned, is_readied, is_readied_at, turned_at, IsOrderOf, is_inside_at, IsKept}
+use Rattle.ame_pool.proofs.Words.{Member, Turn, Counts, find, altered, placed, except, is_ready, Register, Roster, Queues, HasPlace, pushed, taken, counted, IsAt, skipping, begun, turned, is_readied, is_readied_at, turned_at, IsOrderOf, is_inside_at, IsKept, false≢true, filter, nat_tests, count_by-le-length, length-filter}
 use Rattle.ame_pool.proofs.MemberLemmas.{count_all, find_passes, find_altered, length_altered, rising_altered, all_altered, length_placed, rising_placed, all_placed, length_except, rising_except, all_except}
 use Rattle.ame_pool.proofs.OrderLemmas.{filter_push, filter_skipping, absent, order_short, order_shorter, ordered_same, ordered_readied, ordered_held, ordered_placed, ordered_except, inside_same, inside_but, inside_now, inside_placed, inside_new, inside_except}
 use Rattle.ame_pool.proofs.CountLemmas.{kinds, AreMoved, moved_both, counted_altered, counted_placed, counted_except}

@@ -1,12 +1,8 @@
 -- A line's numbers after an edit of its entries.
 use Rattle.std.proofs.Common.{◌≡◌, ◌<◌, ◌≤◌, ◌+◌, ◌==◌, ℕ, zero, suc, Bool, true, false, cond, not, List, [], ◌∷◌, ◌++◌, length, set, get_or, Option, Some, None, is_none, refl, sym, ap, ◌∙◌, arith}
-use mathlib.Core.Bool.{false≢true}
-use Rattle.std.specs.List.{count_by, filter, filter_map, position, position_or_len}
-use Rattle.std.proofs.lemmas.Bool.Decides.{nat_tests}
 use Rattle.std.specs.Option.{IfSome, IfNone}
-use Rattle.std.proofs.lemmas.List.Elements.{filter_map-append}
 use Rattle.std.proofs.lemmas.List.Quantifiers.{position-Some}
-use Rattle.ame_pool.proofs.Words.{Entry, skipping, front, numbers_in, is_gap, is_of, StartsFull, IsPlaceOf}
+use Rattle.ame_pool.proofs.Words.{Entry, skipping, front, numbers_in, is_gap, is_of, StartsFull, IsPlaceOf, false≢true, count_by, filter, filter_map, position, position_or_len, nat_tests, filter_map-append}
 use Rattle.ame_pool.proofs.MemberLemmas.{count_cons}
 
 -- ---- one entry at the head

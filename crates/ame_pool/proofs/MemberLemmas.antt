@@ -1,11 +1,7 @@
 -- A list with a member altered, with one more, and with one less: who has which number, how many pass a test, and that numbers still rise.
 use Rattle.std.proofs.Common.{◌≡◌, ◌≢◌, ◌<◌, ◌+◌, ◌==◌, ℕ, Bool, true, false, cond, List, [], ◌∷◌, length, map, Option, Some, None, option_map, refl, sym, ap, subst, ◌∙◌, arith}
-use Rattle.std.specs.List.{All, count_by}
-use Rattle.std.proofs.lemmas.Bool.Decides.{nat_tests}
-use Rattle.std.proofs.lemmas.List.Sums.{sum_by-cons}
-use Rattle.std.proofs.lemmas.List.Elements.{All-nil, All-cons, All-head, All-tail, All-weaker}
-use Rattle.std.specs.Prelude.{nat_lt}
-use Rattle.ame_pool.proofs.Words.{Member, IsRising, find, altered, placed, except, IsFoundAfter}
+use Rattle.std.specs.List.{All}
+use Rattle.ame_pool.proofs.Words.{Member, IsRising, find, altered, placed, except, IsFoundAfter, count_by, nat_tests, sum_by-cons, All-nil, All-cons, All-head, All-tail, All-weaker, nat_lt}
 
 pub count_cons : {X : Type 0} (p : X → Bool) (x : X) (xs : List X) → count_by p (x ∷ xs) ≡ cond (p x) 1 0 + count_by p xs
 count_cons p x xs = sum_by-cons (λ y. cond (p y) 1 0) x xs

@@ -1,30 +1,34 @@
 -- The order of the ready members, and of those inside, after an edit of the list.
 use Rattle.std.proofs.Common.{◌≡◌, ◌<◌, ◌≤◌, ◌+◌, ◌==◌, ◌&&◌, ℕ, zero, suc, Bool, true, false, cond, List, [], ◌∷◌, ◌++◌, length, Option, Some, None, option_map, IsSomeAnd, IsTrue, refl, sym, ap, subst, ◌∙◌, inl, inr, arith}
-use Rattle.std.specs.List.{All, count_by, filter}
-use Rattle.std.proofs.lemmas.Bool.Decides.{nat_tests}
-use Rattle.std.proofs.lemmas.Bool.{cases_lt}
-use Rattle.std.proofs.lemmas.List.{length-append, append-nil}
-use Rattle.std.proofs.lemmas.List.Elements.{filter_agree, filter-append}
-use Rattle.std.proofs.lemmas.List.Sums.{sum_by_push, count_by-le-length}
-use Rattle.ame_pool.proofs.Words.{Member, Standing, IsRising, is_ready, find, altered, placed, except, skipping, front, IsOrderOf, IsSound, is_inside_at}
+use Rattle.std.specs.List.{All}
+use Rattle.ame_pool.proofs.Words.{Member, Standing, IsRising, is_ready, find, altered, placed, except, skipping, front, IsOrderOf, IsSound, is_inside_at, count_by, filter, nat_tests, cases_lt, length-append, append-nil, filter_agree, filter-append, sum_by_push, count_by-le-length}
 use Rattle.ame_pool.proofs.MemberLemmas.{count_cons, count_all, none_above, find_number, count_altered, find_altered, length_altered, count_placed, find_placed, count_except, find_except}
 
+zero_right : (a b : Bool) → b ≡ false → ◌≡◌ {A = ℕ} (cond (a && b) 1 0) 0
+zero_right true b e = rw e refl
+zero_right false b e = refl
+
+same_right : (a b : Bool) → b ≡ true → ◌≡◌ {A = ℕ} (cond (a && b) 1 0) (cond a 1 0)
+same_right true b e = rw e refl
+same_right false b e = refl
+
 module _ {M : Type 0} where
-  pub counted_is_ready : (n : ℕ) (ms : List (Member M)) → IsRising ms → 1 ≤ count_by (λ m. is_ready m && (m.number == n)) ms
-      → IsSomeAnd (find n ms) (λ m. IsTrue (is_ready m))
-  counted_is_ready n [] r h = absurd (omega arith)
-  counted_is_ready n (m ∷ ms) r h =
+  -- the ready member with a number, counted
+  abbrev ready_of : Option (Member M) → ℕ
+  ready_of None = 0
+  ready_of (Some m) = cond (is_ready m) 1 0
+
+  counted_at : (n : ℕ) (ms : List (Member M)) → IsRising ms → count_by (λ m. is_ready m && (m.number == n)) ms ≡ ready_of (find n ms)
+  counted_at n [] r = refl
+  counted_at n (m ∷ ms) r =
       let c = count_cons (λ m. is_ready m && (m.number == n)) m ms in
-      let more = counted_is_ready n ms r.1 in
-      elim (m.number == n) as (λ b. (m.number == n) ≡ b → IsSomeAnd (cond b (Some m) (find n ms)) (λ m. IsTrue (is_ready m))) [
-        | true ↦ λ t. elim (is_ready m) as (λ b. is_ready m ≡ b → b ≡ true) [
-          | true ↦ λ e. refl
-          | false ↦ λ e.
-              let same : m.number ≡ n = grind (arith, nat_tests, t) in
-              let lone = none_above n ms (subst (λ k. All (λ (o : Member M). k < o.number) ms) same r.0) in
-              absurd (subst (λ o. IsSomeAnd o (λ (m : Member M). IsTrue (is_ready m))) lone (more (grind (arith, c, e, h))))
-        ] refl
-        | false ↦ λ t. more (grind (arith, c, t, h))
+      let rest = counted_at n ms r.1 in
+      elim (m.number == n) as (λ b. (m.number == n) ≡ b → count_by (λ m. is_ready m && (m.number == n)) (m ∷ ms) ≡ ready_of (cond b (Some m) (find n ms))) [
+        | true ↦ λ t.
+            let same : m.number ≡ n = grind (arith, nat_tests, t) in
+            let lone = none_above n ms (subst (λ k. All (λ (o : Member M). k < o.number) ms) same r.0) in
+            omega (arith, c, rest ∙ ap ready_of lone, same_right (is_ready m) (m.number == n) t)
+        | false ↦ λ t. omega (arith, c, rest, zero_right (is_ready m) (m.number == n) t)
       ] refl
 
 -- ---- lists of numbers
@@ -73,53 +77,32 @@ filter_but p q n agree (x ∷ xs) none =
     grind (arith, agree x out, filter_but p q n agree xs (grind (arith, nat_tests, c, none)))
 
 module _ {M : Type 0} where
-  -- the order has whoever is ready, and nobody else
-  pub absent : (ms : List (Member M)) (order : List ℕ) → IsSound ms order → (n : ℕ) → (IsSomeAnd (find n ms) (λ m. IsTrue (is_ready m)) → ⊥)
-      → count_by (λ k. k == n) order ≡ 0
-  absent ms order s n never =
-      elim (cases_lt 0 (count_by (λ k. k == n) order)) [
-        | inl some ↦ absurd (never (counted_is_ready n ms s.rising (omega (arith, some, s.ordered (λ k. k == n)))))
-        | inr none ↦ omega arith
-      ]
+  -- the order has whoever is ready once, and nobody else
+  module _ (ms : List (Member M)) (order : List ℕ) (s : IsSound ms order) (n : ℕ) where
+    at_number : count_by (λ k. k == n) order ≡ ready_of (find n ms)
+    at_number = s.ordered (λ k. k == n) ∙ counted_at n ms s.rising
 
-  -- who is in the order is ready
-  pub order_ready : (ms : List (Member M)) (order : List ℕ) → IsSound ms order → (n : ℕ) → 1 ≤ count_by (λ k. k == n) order → IsSomeAnd (find n ms) (λ m. IsTrue (is_ready m))
-  order_ready ms order s n some = counted_is_ready n ms s.rising (omega (arith, some, s.ordered (λ k. k == n)))
+    pub order_once : count_by (λ k. k == n) order ≤ 1
+    order_once = go (find n ms) at_number
+      where
+        go : (o : Option (Member M)) → count_by (λ k. k == n) order ≡ ready_of o → count_by (λ k. k == n) order ≤ 1
+        go None e = omega (arith, e)
+        go (Some m) e = elim (is_ready m) as (λ b. count_by (λ k. k == n) order ≡ cond b 1 0 → count_by (λ k. k == n) order ≤ 1) [ true ↦ λ h. omega (arith, h) | false ↦ λ h. omega (arith, h) ] e
 
-  -- the oldest one is
+    pub order_ready : 1 ≤ count_by (λ k. k == n) order → IsSomeAnd (find n ms) (λ m. IsTrue (is_ready m))
+    order_ready some = go (find n ms) at_number
+      where
+        go : (o : Option (Member M)) → count_by (λ k. k == n) order ≡ ready_of o → IsSomeAnd o (λ m. IsTrue (is_ready m))
+        go None e = absurd (omega (arith, some, e))
+        go (Some m) e = elim (is_ready m) as (λ b. count_by (λ k. k == n) order ≡ cond b 1 0 → b ≡ true) [ true ↦ λ h. refl | false ↦ λ h. absurd (omega (arith, some, h)) ] e
+
+    pub absent : (IsSomeAnd (find n ms) (λ m. IsTrue (is_ready m)) → ⊥) → count_by (λ k. k == n) order ≡ 0
+    absent never = elim (cases_lt 0 (count_by (λ k. k == n) order)) [ inl some ↦ absurd (never (order_ready some)) | inr none ↦ omega arith ]
+
+  -- the oldest one is ready
   pub front_ready : (ms : List (Member M)) (order : List ℕ) → IsSound ms order → (n : ℕ) → front order ≡ Some n → IsSomeAnd (find n ms) (λ m. IsTrue (is_ready m))
   front_ready ms [] s n e = cc
   front_ready ms (x ∷ xs) s n e = let same : x ≡ n = cc in order_ready ms (x ∷ xs) s n (grind (arith, nat_tests, same, count_cons (λ k. k == n) x xs))
-
-  -- each number is there once
-  once : (n : ℕ) (ms : List (Member M)) → IsRising ms → count_by (λ m. is_ready m && (m.number == n)) ms ≤ 1
-  once n [] r = omega arith
-  once n (m ∷ ms) r =
-      let c = count_cons (λ (m : Member M). is_ready m && (m.number == n)) m ms in
-      elim (cases_lt 0 (count_by (λ m. is_ready m && (m.number == n)) ms)) [
-        | inl some ↦
-            let there : IsSomeAnd (find n ms) (λ m. IsTrue (is_ready m)) = counted_is_ready n ms r.1 some in
-            let out : (m.number == n) ≡ false = elim (m.number == n) as (λ b. (m.number == n) ≡ b → b ≡ false) [
-              | true ↦ λ t.
-                  let same : m.number ≡ n = grind (arith, nat_tests, t) in
-                  let lone = none_above n ms (subst (λ k. All (λ (o : Member M). k < o.number) ms) same r.0) in
-                  absurd (subst (λ o. IsSomeAnd o (λ (m : Member M). IsTrue (is_ready m))) lone there)
-              | false ↦ λ t. refl
-            ] refl in
-            omega (arith, once n ms r.1, c, grind_zero (is_ready m) (m.number == n) out)
-        | inr none ↦ omega (arith, none, c, at_most_one (is_ready m && (m.number == n)))
-      ]
-    where
-      grind_zero : (a b : Bool) → b ≡ false → ◌≡◌ {A = ℕ} (cond (a && b) 1 0) 0
-      grind_zero true b e = rw e refl
-      grind_zero false b e = refl
-
-      at_most_one : (b : Bool) → cond b 1 0 ≤ 1
-      at_most_one true = omega arith
-      at_most_one false = omega arith
-
-  pub order_once : (ms : List (Member M)) (order : List ℕ) → IsSound ms order → (n : ℕ) → count_by (λ k. k == n) order ≤ 1
-  order_once ms order s n = omega (arith, s.ordered (λ k. k == n), once n ms s.rising)
 
   -- the order is no longer than the list
   pub order_short : (ms : List (Member M)) (order : List ℕ) → IsOrderOf ms order → length order ≤ length ms

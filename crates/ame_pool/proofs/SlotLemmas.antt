@@ -1,12 +1,7 @@
 -- The members that entries lead to, the slot that a number leads to, and what an edit of that slot makes of the members.
 use Rattle.std.proofs.Common.{◌≡◌, ◌≢◌, ◌<◌, ◌==◌, ℕ, suc, true, false, cond, List, [], ◌∷◌, All, Option, Some, None, IsSome, IsSomeAnd, is_some, option_map, refl, sym, ap, subst, ◌∙◌, inl, inr, arith}
 use Rattle.std.specs.Global.{Vec}
-use Rattle.std.specs.Prelude.{nat_lt}
-use Rattle.std.specs.List.{filter}
-use Rattle.std.proofs.lemmas.Bool.{cases_eq}
-use Rattle.std.proofs.lemmas.Bool.Decides.{nat_tests}
-use Rattle.std.proofs.lemmas.List.Elements.{All-nil, All-cons, All-head, All-tail}
-use Rattle.ame_pool.proofs.Words.{Slab, get, ContainsKey, Updates, with_value, Member, Numbered, IsRising, find, altered, placed, except, Register, AreRising, IsNumbered, key_of, filed, only, behind, members_at}
+use Rattle.ame_pool.proofs.Words.{Slab, get, ContainsKey, Updates, with_value, Member, Numbered, IsRising, find, altered, placed, except, Register, AreRising, IsNumbered, key_of, filed, only, behind, members_at, nat_lt, filter, cases_eq, nat_tests, All-nil, All-cons, All-head, All-tail}
 use Rattle.slab.proofs.SlabLemmas.{Updates-with_value}
 use Rattle.ame_pool.proofs.MemberLemmas.{none_above, rising_same, find_altered, rising_altered, find_placed, rising_placed, find_except, rising_except}
 use Rattle.ame_pool.proofs.EntryLemmas.{key_filed, rising_filed}

@@ -1,7 +1,6 @@
 -- What a member's standing tells, and what a turn makes of it.
 use Rattle.std.proofs.Common.{◌≡◌, ◌≤◌, ℕ, Bool, true, false, not, cond, List, [], Some, None, refl, sym, ◌∙◌, arith}
-use mathlib.Core.Bool.{false≢true}
-use Rattle.ame_pool.proofs.Words.{Member, Standing, Watch, Turn, is_ready, is_busy, rolled, settled, is_touched, has, stirred, is_waiting_for, untouched, is_running, is_noted, at_rest, is_away, turned, is_readied}
+use Rattle.ame_pool.proofs.Words.{Member, Standing, Watch, Turn, is_ready, is_busy, rolled, settled, is_touched, has, stirred, is_waiting_for, untouched, is_running, is_noted, at_rest, is_away, turned, is_readied, false≢true}
 
 abbrev ready : Standing → Bool
 ready s = elim s [ Standing.Ready ↦ true | Standing.Busy _ ↦ false | Standing.Parked _ ↦ false ]

@@ -25,3 +25,14 @@ pub use Rattle.ame_pool.specs.declared.oldest.Oldest.{Oldest}
 pub use Rattle.ame_pool.specs.declared.turn.Turn.{Turn}
 pub use Rattle.ame_term.specs.declared.types.Loc.{Loc}
 pub use Rattle.slab.specs.Slab.{ContainsKey, Slab, Updates, get, with_value}
+pub use Rattle.std.proofs.lemmas.Bool.{cases_eq, cases_lt}
+pub use Rattle.std.proofs.lemmas.Bool.Decides.{nat_tests}
+pub use Rattle.std.proofs.lemmas.Fn.{filter_same}
+pub use Rattle.std.proofs.lemmas.List.{append-nil, append_assoc, get_or_default, length-append, take-append-drop, take_all}
+pub use Rattle.std.proofs.lemmas.List.Elements.{All-cons, All-head, All-nil, All-tail, All-weaker, filter-append, filter_agree, filter_map-append}
+pub use Rattle.std.proofs.lemmas.List.Folds.{list_any-append, list_any_more}
+pub use Rattle.std.proofs.lemmas.List.Sums.{count_by-le-length, length-filter, sum_by-cons, sum_by_push}
+pub use Rattle.std.specs.BTreeSet.{BTreeSet}
+pub use Rattle.std.specs.List.{count_by, filter, filter_map, insert, list_all, list_any, position, position_or_len}
+pub use Rattle.std.specs.Prelude.{drop, max, nat_lt, take, ◌||◌}
+pub use mathlib.Core.Bool.{false≢true}

@@ -1,7 +1,5 @@
 use Rattle.std.proofs.Common.{◌≡◌, ◌∙◌, length, not, subst, ap, sym, rules, arith}
-use Rattle.std.specs.List.{filter}
-use Rattle.std.proofs.lemmas.Fn.{filter_same}
-use Rattle.ame_pool.proofs.Words.{Entry, numbers_in, is_gap, StartsFull}
+use Rattle.ame_pool.proofs.Words.{Entry, numbers_in, is_gap, StartsFull, filter, filter_same}
 use Rattle.ame_pool.proofs.LineLemmas.{packed, packed_len, packed_starts}
 use Rattle.ame_pool.proofs.line.pack.Goals as goal
 

@@ -1,6 +1,5 @@
 use Rattle.std.proofs.Common.{◌≡◌, ◌∙◌, subst, rules}
-use Rattle.std.specs.List.{insert}
-use Rattle.ame_pool.proofs.Words.{IsEntryOf, IsEntryGap}
+use Rattle.ame_pool.proofs.Words.{IsEntryOf, IsEntryGap, insert}
 use Rattle.ame_pool.proofs.EntryLemmas.{set_filed, insert_filed}
 use Rattle.ame_pool.proofs.numbers.enter.Goals as goal
 

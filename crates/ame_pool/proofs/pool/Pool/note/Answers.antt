@@ -1,7 +1,5 @@
 use Rattle.std.proofs.Common.{◌≡◌, ◌==◌, ◌&&◌, ◌++◌, ℕ, [], false, not, refl, sym, ap, subst, ◌∙◌}
-use Rattle.std.specs.Prelude.{◌||◌}
-use Rattle.std.proofs.lemmas.List.{append-nil}
-use Rattle.ame_pool.proofs.Words.{Turn, is_busy, altered, Roster, lists, among, IsBetween, noted, noted_on, is_away}
+use Rattle.ame_pool.proofs.Words.{Turn, is_busy, altered, Roster, lists, among, IsBetween, noted, noted_on, is_away, ◌||◌, append-nil}
 use Rattle.ame_pool.proofs.IndexLemmas.{on_err_at, on_ok_at}
 use Rattle.ame_pool.proofs.StandingLemmas.{busy_away}
 use Rattle.ame_pool.proofs.KeptLemmas.{at_weaker, turned_pool}

@@ -1,6 +1,5 @@
 use Rattle.std.proofs.Common.{◌==◌, refl, ap, ◌∙◌, arith}
-use Rattle.ame_pool.proofs.Words.{Turn, is_ready, counted, taken, is_inside_at}
-use Rattle.std.specs.List.{count_by}
+use Rattle.ame_pool.proofs.Words.{Turn, is_ready, counted, taken, is_inside_at, count_by}
 use Rattle.ame_pool.proofs.OrderLemmas.{order_once, count_filter}
 use Rattle.ame_pool.proofs.CountLemmas.{moved_in}
 use Rattle.ame_pool.proofs.KeptLemmas.{opened, few_at, there_turned, read_turned, kept_held}

@@ -1,6 +1,5 @@
 use Rattle.std.proofs.Common.{◌≡◌, ◌∙◌, Some, cond, IsTrue, sym, ap, subst}
-use Rattle.std.specs.List.{list_any}
-use Rattle.ame_pool.proofs.Words.{find, is_ready, is_busy, front, oldest, oldest_or_wait, IsAt}
+use Rattle.ame_pool.proofs.Words.{find, is_ready, is_busy, front, oldest, oldest_or_wait, IsAt, list_any}
 use Rattle.ame_pool.proofs.OrderLemmas.{front_ready}
 use Rattle.ame_pool.proofs.ChoiceLemmas.{idle_is, idle_waits, held_up, inside_ready, front_is}
 use Rattle.ame_pool.proofs.SlotLemmas.{some_and}

@@ -1,6 +1,5 @@
 use Rattle.std.proofs.Common.{◌≡◌, ◌≤◌, ℕ, Result, Ok, Err, OnOk, OnErr, arith}
-use Rattle.std.specs.Prelude.{max}
-use Rattle.ame_pool.proofs.Words.{Register}
+use Rattle.ame_pool.proofs.Words.{Register, max}
 use Rattle.ame_pool.proofs.KeptLemmas.{inside_short, sizes, kept_roomy}
 use Rattle.ame_pool.proofs.roll.Roll.room.Goals as goal
 

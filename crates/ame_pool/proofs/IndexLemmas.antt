@@ -1,6 +1,6 @@
 -- The index of watchers.
-use Rattle.std.proofs.Common.{OnOk, ◌≡◌, ◌≤◌, ◌==◌, ◌&&◌, ℕ, Bool, true, false, cond, not, ◌<◌, ◌+◌, Result, Ok, Err, OnErr, refl, sym, ap, ◌∙◌, arith}
-use Rattle.std.specs.Prelude.{List, length}
+use Rattle.std.proofs.Common.{OnOk, ◌≡◌, ◌≤◌, ◌==◌, ◌&&◌, ℕ, Bool, true, false, cond, not, ◌<◌, ◌+◌, Result, Ok, Err, OnErr, refl, sym, ap, ◌∙◌, inl, inr, arith}
+use Rattle.std.specs.Prelude.{◌⊎◌, List, length}
 use lib.ListN.{get_or}
 use Rattle.std.specs.Result.{is_err}
 use Rattle.std.specs.BTreeMap.{is_at}
@@ -41,36 +41,24 @@ pub pair_le_at : (k n l m : ℕ) → IsLeBy pair_cmp (l, 0) (k, n) → IsLeBy pa
 pair_le_at k n l m low h = grind (arith, nat_tests, low, h)
 
 -- ---- tables of truth values: n is the number, a is listed so far, x is the next location, k is kept, l was listed
+pub tells : (b : Bool) → (b ≡ true) ⊎ (b ≡ false)
+tells true = inl refl
+tells false = inr refl
+
 then_table : (n a x k l : Bool) → (x ≡ true → k ≡ false) → (not (n && x) && (not ((n && a) && not k) && l)) ≡ (not ((n && (a || x)) && not k) && l)
-then_table true a true true l h = absurd (false≢true (sym (h refl)))
-then_table true true true false l h = refl
-then_table true false true false l h = refl
-then_table true true false k l h = refl
-then_table true false false k l h = refl
-then_table false a x k l h = refl
+then_table n a x k l h = grind (arith, tells n, tells a, tells x, tells k)
 
 else_table : (n a x k l : Bool) → (x ≡ true → k ≡ true) → (not ((n && a) && not k) && l) ≡ (not ((n && (a || x)) && not k) && l)
-else_table true true x k l h = refl
-else_table true false true true l h = refl
-else_table true false true false l h = absurd (false≢true (h refl))
-else_table true false false k l h = refl
-else_table false a x k l h = refl
+else_table n a x k l h = grind (arith, tells n, tells a, tells x, tells k)
 
 add_table : (n a x l : Bool) → ((n && x) || ((n && a) || l)) ≡ ((n && (a || x)) || l)
-add_table true true true l = refl
-add_table true true false l = refl
-add_table true false x l = refl
-add_table false a x l = refl
+add_table n a x l = grind (arith, tells n, tells a, tells x)
 
 part_table : (n a b l : Bool) → (b ≡ true → a ≡ true) → (n && a) ≡ false → ((n && b) || l) ≡ l
-part_table true true b l up e = absurd (false≢true (sym e))
-part_table true false true l up e = absurd (false≢true (up refl))
-part_table true false false l up e = refl
-part_table false a b l up e = refl
+part_table n a b l up e = grind (arith, e, tells n, tells a, tells b)
 
 or_true : (b l : Bool) → l ≡ true → (b || l) ≡ true
-or_true true l e = refl
-or_true false l e = e
+or_true b l e = grind (arith, e, tells b)
 
 eq_is : (a b : ℕ) → (a == b) ≡ true → a ≡ b
 eq_is a b e = grind (arith, nat_tests, e)

@@ -1,43 +1,28 @@
 -- The front of the order and the counts decide who begins.
 use Rattle.std.proofs.Common.{◌≡◌, ◌<◌, ◌≤◌, ◌+◌, ◌==◌, ◌&&◌, ℕ, Bool, true, false, cond, not, List, [], ◌∷◌, length, Some, None, IsSomeAnd, IsTrue, refl, sym, ap, subst, ◌∙◌, arith, ◌++◌, Option}
 use Rattle.ame_pool.proofs.Words.{Member, Oldest, Counts, find, is_ready, is_busy, is_parked, Roster, Register, is_protected, is_worn, is_worn_protected, some_busy, may_begin_beside, may_begin, first_to_begin, members_of, oldest, oldest_or_wait, Queues, front, idle, is_inside_at, IsKept, false≢true, ◌||◌, nat_lt, filter, list_any, list_all, count_by, nat_tests, count_by-le-length, list_any-append}
-use Rattle.ame_pool.proofs.MemberLemmas.{count_cons, find_number}
+use Rattle.ame_pool.proofs.MemberLemmas.{count_cons, find_number, tells}
 use Rattle.ame_pool.proofs.CountLemmas.{kinds}
 use Rattle.ame_pool.proofs.OrderLemmas.{order_ready}
 
 -- ---- truth values: i stands inside, w is worn; p and b tell that a protected and a worn one are busy, o that a worn one is older
 -- beside a busy protected one, and a worn one that is busy or older, none begins but from inside
 blocked : (i w p b o : Bool) → p ≡ true → (b || o) ≡ true → cond i true (cond w (not p) (not b && not o)) ≡ i
-blocked true w p b o hp hb = refl
-blocked false true p b o hp hb = rw hp refl
-blocked false false p true o hp hb = refl
-blocked false false p false true hp hb = refl
-blocked false false p false false hp hb = absurd (false≢true hb)
+blocked i w p b o hp hb = grind (arith, hp, hb, tells i, tells w, tells b)
 
 -- the first one may not begin only where a protected one is busy, and where it is worn or a worn one is busy
 first_waits : (i w p b : Bool) → (b ≡ true → p ≡ true) → cond i true (cond w (not p) (not b && not false)) ≡ false
     → (i ≡ false) × (p ≡ true) × ((b || ((not i && w) || false)) ≡ true)
-first_waits true w p b up h = absurd (false≢true (sym h))
-first_waits false true true true up h = (refl, refl, refl)
-first_waits false true true false up h = (refl, refl, refl)
-first_waits false true false b up h = absurd (false≢true (sym h))
-first_waits false false p true up h = (refl, up refl, refl)
-first_waits false false p false up h = absurd (false≢true (sym h))
+first_waits i w p b up h = (grind (arith, up, h, tells i, tells w, tells b), grind (arith, up, h, tells i, tells w, tells p, tells b), grind (arith, up, h, tells i, tells w, tells b))
 
 or_left : (b o x : Bool) → (b || o) ≡ true → (b || (o || x)) ≡ true
-or_left true o x h = refl
-or_left false true x h = refl
-or_left false false x h = absurd (false≢true h)
+or_left b o x h = grind (arith, h, tells b, tells o)
 
 some_of : (p q : Bool) (x y : Bool) → (y ≡ true → x ≡ true) → (q ≡ true → p ≡ true) → (q || y) ≡ true → (p || x) ≡ true
-some_of true q x y up here h = refl
-some_of false true x y up here h = absurd (false≢true (here refl))
-some_of false false x y up here h = up h
+some_of p q x y up here h = grind (arith, up, here, h, tells p, tells q)
 
 worn_part : (b i w : Bool) → (b && (not i && w)) ≡ true → (b && not i) ≡ true
-worn_part true false w h = refl
-worn_part true true w h = h
-worn_part false i w h = h
+worn_part b i w h = grind (arith, h, tells b, tells i)
 
 module _ {M : Type 0} where
   -- who is worn and protected is protected
@@ -142,15 +127,8 @@ module _ {M : Type 0} where
     -- and where the front may not begin
     pub held_up : (m : Member M) → may_begin_beside (nat_lt 0 c.protected) (nat_lt 0 c.worn) false m ≡ false → list_any is_busy reg.list ≡ true
     held_up m e =
-        let some : 0 < c.protected + c.worn = go m.inside (is_worn m) (nat_lt 0 c.protected) (nat_lt 0 c.worn) refl refl e in
+        let some : 0 < c.protected + c.worn = grind (arith, nat_tests, e, tells m.inside, tells (is_worn m)) in
         any_counts is_busy reg.list ∙ grind (arith, nat_tests, some, h.counted.protected, h.counted.worn, kind_counts is_busy is_protected reg.list, kind_counts is_busy is_worn_protected reg.list)
-      where
-        go : (i w p b : Bool) → nat_lt 0 c.protected ≡ p → nat_lt 0 c.worn ≡ b → cond i true (cond w (not p) (not b && not false)) ≡ false → 0 < c.protected + c.worn
-        go true w p b x y h = absurd (false≢true (sym h))
-        go false true true b x y h = grind (arith, nat_tests, x)
-        go false true false b x y h = absurd (false≢true (sym h))
-        go false false p true x y h = grind (arith, nat_tests, y)
-        go false false p false x y h = absurd (false≢true (sym h))
 
     -- the oldest one inside is ready
     pub inside_ready : (n : ℕ) → front q.inside ≡ Some n → IsSomeAnd (find n reg.list) (λ m. IsTrue (is_ready m))

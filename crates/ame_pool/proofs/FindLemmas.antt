@@ -1,7 +1,7 @@
 -- Whom the index names, after an edit of the members and of the index.
 use Rattle.std.proofs.Common.{◌≡◌, ◌==◌, ◌&&◌, ℕ, Bool, true, false, cond, not, List, [], map, Option, Some, None, option_map, refl, sym, ap, ◌∙◌, arith, ◌∷◌}
 use Rattle.ame_pool.proofs.Words.{Loc, Member, Turn, find, altered, Roster, begun, joined, held, removed, turned, turned_at, has, lists, among, untouched, waits_for, IsBetween, IsWatched, ◌||◌, BTreeSet, nat_tests, list_any}
-use Rattle.ame_pool.proofs.MemberLemmas.{find_altered, rising_altered, find_placed, rising_placed, find_except, rising_except}
+use Rattle.ame_pool.proofs.MemberLemmas.{find_altered, rising_altered, find_placed, rising_placed, find_except, rising_except, tells}
 use Rattle.ame_pool.proofs.StandingLemmas.{turned_number}
 
 pub list_any-map : {X Y : Type 0} (f : X → Y) (p : Y → Bool) (xs : List X) → list_any p (map f xs) ≡ list_any (λ x. p (f x)) xs
@@ -10,22 +10,13 @@ list_any-map f p (x ∷ xs) = ap (λ b. p (f x) || b) (list_any-map f p xs)
 
 -- ---- truth values: n is the number, a and k are in the new and the old list, l and m were listed before and in between
 cleared_table : (n a l : Bool) → (n ≡ true → l ≡ a) → (not ((n && a) && not false) && l) ≡ cond n false l
-cleared_table true true l h = refl
-cleared_table true false l h = h refl
-cleared_table false a l h = refl
+cleared_table n a l h = grind (arith, h, tells n, tells a)
 
 noted_bools : (n a k l m : Bool) → (n ≡ true → l ≡ k) → m ≡ ((n && a) || l) → (not ((n && k) && not a) && m) ≡ cond n a l
-noted_bools true true true l m h e = e
-noted_bools true true false l m h e = e
-noted_bools true false true l m h e = refl
-noted_bools true false false l m h e = e ∙ h refl
-noted_bools false a k l m h e = e
+noted_bools n a k l m h e = grind (arith, h, e, tells n, tells a, tells k, tells l)
 
 refused_bools : (n a k l m : Bool) → (n ≡ true → l ≡ k) → (l ≡ true → m ≡ true) → ((n && a) ≡ false → m ≡ l) → (not ((n && a) && not k) && m) ≡ l
-refused_bools true true true l m h had others = had (h refl) ∙ sym (h refl)
-refused_bools true true false l m h had others = sym (h refl)
-refused_bools true false k l m h had others = others refl
-refused_bools false a k l m h had others = others refl
+refused_bools n a k l m h had others = grind (arith, h, had, others, tells n, tells a, tells k, tells l)
 
 module _ (n : ℕ) (locs : List Loc) (ix : BTreeSet (ℕ × ℕ)) (here : (k : ℕ) → lists ix k n ≡ among k locs) where
   same_at : (k j : ℕ) → (j == n) ≡ true → lists ix k j ≡ among k locs

@@ -6,6 +6,7 @@ use Rattle.std.specs.Result.{is_err}
 use Rattle.std.specs.BTreeMap.{is_at}
 use Rattle.std.specs.BTreeMap.Range.{IsLeBy}
 use Rattle.ame_pool.proofs.Words.{Loc, pair_cmp, lists, among, IsBetween, false≢true, ◌||◌, take, drop, take_all, take-append-drop, list_any_more, list_any-append, nat_tests, BTreeSet}
+use Rattle.ame_pool.proofs.MemberLemmas.{tells}
 
 pub on_err : {T E : Type 0} (r : Result T E) (P : Type 0) → P → OnErr r P
 on_err (Ok x) P h = tt
@@ -41,10 +42,6 @@ pub pair_le_at : (k n l m : ℕ) → IsLeBy pair_cmp (l, 0) (k, n) → IsLeBy pa
 pair_le_at k n l m low h = grind (arith, nat_tests, low, h)
 
 -- ---- tables of truth values: n is the number, a is listed so far, x is the next location, k is kept, l was listed
-pub tells : (b : Bool) → (b ≡ true) ⊎ (b ≡ false)
-tells true = inl refl
-tells false = inr refl
-
 then_table : (n a x k l : Bool) → (x ≡ true → k ≡ false) → (not (n && x) && (not ((n && a) && not k) && l)) ≡ (not ((n && (a || x)) && not k) && l)
 then_table n a x k l h = grind (arith, tells n, tells a, tells x, tells k)
 

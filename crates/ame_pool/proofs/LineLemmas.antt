@@ -3,7 +3,7 @@ use Rattle.std.proofs.Common.{◌≡◌, ◌<◌, ◌≤◌, ◌+◌, ◌==◌, 
 use Rattle.std.specs.Option.{IfSome, IfNone}
 use Rattle.std.proofs.lemmas.List.Quantifiers.{position-Some}
 use Rattle.ame_pool.proofs.Words.{Entry, skipping, front, numbers_in, is_gap, is_of, StartsFull, IsPlaceOf, false≢true, count_by, filter, filter_map, position, position_or_len, nat_tests, filter_map-append}
-use Rattle.ame_pool.proofs.MemberLemmas.{count_cons}
+use Rattle.ame_pool.proofs.MemberLemmas.{count_cons, which}
 
 -- ---- one entry at the head
 gap_head : (e : Entry) (es : List Entry) → is_gap e ≡ true → numbers_in (e ∷ es) ≡ numbers_in es
@@ -26,8 +26,7 @@ of_number n e = go e.number
 -- ---- counts
 pub numbers_fewer : (es : List Entry) → length (numbers_in es) ≤ length es
 numbers_fewer [] = omega arith
-numbers_fewer (e ∷ es) =
-    elim e.number as (λ o. length (numbers_in (record e { number = o } ∷ es)) ≤ length (e ∷ es)) [ None ↦ omega (arith, numbers_fewer es) | Some n ↦ omega (arith, numbers_fewer es) ]
+numbers_fewer (e ∷ es) = grind (arith, which e.number, numbers_fewer es)
 
 pub has_number : (n : ℕ) (es : List Entry) (i : ℕ) (d : Entry) → i < length es → is_of n (get_or es i d) ≡ true → 1 ≤ count_by (λ k. k == n) (numbers_in es)
 has_number n [] i d lt is = absurd (omega arith)
@@ -83,24 +82,15 @@ looked n es (Some i) e = (((position-Some (is_of n) es i (record { ticket = 0; n
 -- ---- gaps are dropped
 pub packed : (es : List Entry) → numbers_in (filter (λ e. not (is_gap e)) es) ≡ numbers_in es
 packed [] = refl
-packed (e ∷ es) =
-    elim e.number as (λ o. numbers_in (filter (λ e. not (is_gap e)) (record e { number = o } ∷ es)) ≡ numbers_in (record e { number = o } ∷ es)) [
-      | None ↦ packed es
-      | Some n ↦ ap (λ l. n ∷ l) (packed es)
-    ]
+packed (e ∷ es) = grind (arith, which e.number, packed es)
 
 pub packed_len : (es : List Entry) → length (filter (λ e. not (is_gap e)) es) ≡ length (numbers_in es)
 packed_len [] = refl
-packed_len (e ∷ es) =
-    elim e.number as (λ o. length (filter (λ e. not (is_gap e)) (record e { number = o } ∷ es)) ≡ length (numbers_in (record e { number = o } ∷ es))) [
-      | None ↦ packed_len es
-      | Some n ↦ omega (arith, packed_len es)
-    ]
+packed_len (e ∷ es) = grind (arith, which e.number, packed_len es)
 
 pub packed_starts : (es : List Entry) → StartsFull (filter (λ e. not (is_gap e)) es)
 packed_starts [] = refl
-packed_starts (e ∷ es) =
-    elim e.number as (λ o. StartsFull (filter (λ e. not (is_gap e)) (record e { number = o } ∷ es))) [ None ↦ packed_starts es | Some n ↦ refl ]
+packed_starts (e ∷ es) = grind (arith, which e.number, packed_starts es)
 
 -- ---- the front
 pub trimmed : (e : Entry) (es : List Entry) → is_gap e ≡ true → numbers_in es ≡ numbers_in (e ∷ es)

@@ -2,15 +2,13 @@
 use Rattle.std.proofs.Common.{◌≡◌, ◌<◌, ◌≤◌, ◌+◌, ◌==◌, ◌&&◌, ℕ, zero, suc, Bool, true, false, cond, List, [], ◌∷◌, ◌++◌, length, Option, Some, None, option_map, IsSomeAnd, IsTrue, refl, sym, ap, subst, ◌∙◌, inl, inr, arith}
 use Rattle.std.specs.List.{All}
 use Rattle.ame_pool.proofs.Words.{Member, Standing, IsRising, is_ready, find, altered, placed, except, skipping, front, IsOrderOf, IsSound, is_inside_at, count_by, filter, nat_tests, cases_lt, length-append, append-nil, filter_agree, filter-append, sum_by_push, count_by-le-length}
-use Rattle.ame_pool.proofs.MemberLemmas.{count_cons, count_all, none_above, find_number, count_altered, find_altered, length_altered, count_placed, find_placed, count_except, find_except}
+use Rattle.ame_pool.proofs.MemberLemmas.{count_cons, count_all, none_above, find_number, count_altered, find_altered, length_altered, count_placed, find_placed, count_except, find_except, tells}
 
 zero_right : (a b : Bool) → b ≡ false → ◌≡◌ {A = ℕ} (cond (a && b) 1 0) 0
-zero_right true b e = rw e refl
-zero_right false b e = refl
+zero_right a b e = grind (arith, e, tells a)
 
 same_right : (a b : Bool) → b ≡ true → ◌≡◌ {A = ℕ} (cond (a && b) 1 0) (cond a 1 0)
-same_right true b e = rw e refl
-same_right false b e = refl
+same_right a b e = grind (arith, e, tells a)
 
 module _ {M : Type 0} where
   -- the ready member with a number, counted
@@ -49,24 +47,13 @@ filter_push p xs n false e = sym (filter-append p xs (n ∷ []) ∙ ap (λ b. fi
 
 -- a filter and a number less
 pub filter_skipping : (p : ℕ → Bool) (n : ℕ) (xs : List ℕ) (b : Bool) → p n ≡ b → cond b (skipping n (filter p xs)) (filter p xs) ≡ filter p (skipping n xs)
-filter_skipping p n [] b e = elim b as (λ v. cond {A = List ℕ} v [] [] ≡ []) [ true ↦ refl | false ↦ refl ]
-filter_skipping p n (x ∷ xs) b e =
-    let kept : filter p (x ∷ skipping n xs) ≡ cond (p x) (x ∷ filter p (skipping n xs)) (filter p (skipping n xs)) = refl in
-    let rest = filter_skipping p n xs b e in
-    elim (p x) as (λ w. p x ≡ w → cond b (skipping n (cond w (x ∷ filter p xs) (filter p xs))) (cond w (x ∷ filter p xs) (filter p xs)) ≡ filter p (cond (x == n) xs (x ∷ skipping n xs))) [
-      | true ↦ λ h. grind (arith, nat_tests, h, e, kept, rest)
-      | false ↦ λ h. grind (arith, nat_tests, h, e, kept, rest)
-    ] refl
+filter_skipping p n [] b e = grind (arith, tells b)
+filter_skipping p n (x ∷ xs) b e = grind (arith, nat_tests, tells (p x), tells b, e, filter_skipping p n xs b e)
 
 -- a filter has no number more often
 pub count_filter : (q p : ℕ → Bool) (xs : List ℕ) → count_by q (filter p xs) ≤ count_by q xs
 count_filter q p [] = omega arith
-count_filter q p (x ∷ xs) =
-    let rest = count_filter q p xs in
-    elim (p x) as (λ b. count_by q (cond b (x ∷ filter p xs) (filter p xs)) ≤ count_by q (x ∷ xs)) [
-      | true ↦ omega (arith, rest, count_cons q x xs, count_cons q x (filter p xs))
-      | false ↦ omega (arith, rest, count_cons q x xs)
-    ]
+count_filter q p (x ∷ xs) = grind (arith, tells (p x), count_filter q p xs, count_cons q x xs, count_cons q x (filter p xs))
 
 -- two tests that agree but at a number that the list lacks
 filter_but : (p q : ℕ → Bool) (n : ℕ) → ((k : ℕ) → (k == n) ≡ false → p k ≡ q k) → (xs : List ℕ) → count_by (λ k. k == n) xs ≡ 0 → filter p xs ≡ filter q xs

@@ -3,7 +3,7 @@ use Rattle.std.proofs.Common.{◌≡◌, ◌≢◌, ◌<◌, ◌==◌, ℕ, suc,
 use Rattle.std.specs.Global.{Vec}
 use Rattle.ame_pool.proofs.Words.{Slab, get, ContainsKey, Updates, with_value, Member, Numbered, IsRising, find, altered, placed, except, Register, AreRising, IsNumbered, key_of, filed, only, behind, members_at, nat_lt, filter, cases_eq, nat_tests, All-nil, All-cons, All-head, All-tail}
 use Rattle.slab.proofs.SlabLemmas.{Updates-with_value}
-use Rattle.ame_pool.proofs.MemberLemmas.{none_above, rising_same, find_altered, rising_altered, find_placed, rising_placed, find_except, rising_except}
+use Rattle.ame_pool.proofs.MemberLemmas.{none_above, rising_same, find_altered, rising_altered, find_placed, rising_placed, find_except, rising_except, which}
 use Rattle.ame_pool.proofs.EntryLemmas.{key_filed, rising_filed}
 
 module _ {M : Type 0} where
@@ -23,13 +23,11 @@ module _ {M : Type 0} where
   -- ---- a number is sought in a list with the member of an entry at its head
   find_here : (k : ℕ) (o : Option (Member M)) (ms : List (Member M)) → find k ms ≡ None → find k (behind (only k o) ms) ≡ only k o
   find_here k None ms none = none
-  find_here k (Some m) ms none =
-      elim (m.number == k) as (λ b. (m.number == k) ≡ b → find k (behind (cond b (Some m) None) ms) ≡ cond b (Some m) None) [ true ↦ λ t. rw t refl | false ↦ λ t. none ] refl
+  find_here k (Some m) ms none = grind (arith, nat_tests, none)
 
   find_past : (n k : ℕ) (o : Option (Member M)) (ms : List (Member M)) → k ≢ n → find n (behind (only k o) ms) ≡ find n ms
   find_past n k None ms h = refl
-  find_past n k (Some m) ms h =
-      elim (m.number == k) as (λ b. (m.number == k) ≡ b → find n (behind (cond b (Some m) None) ms) ≡ find n ms) [ true ↦ λ t. grind (arith, nat_tests, t, h) | false ↦ λ t. refl ] refl
+  find_past n k (Some m) ms h = grind (arith, nat_tests, h)
 
   -- ---- the members
   module _ (at : ℕ → Option (Member M)) where
@@ -74,12 +72,7 @@ module _ {M : Type 0} where
     -- to drop stale entries changes no member
     pub kept_members : (es : List Numbered) → members_at at (filter (λ e. is_some (only e.number (at e.key))) es) ≡ members_at at es
     kept_members [] = refl
-    kept_members (e ∷ es) =
-        let kept = filter (λ e. is_some (only e.number (at e.key))) es in
-        elim (only e.number (at e.key)) as (λ o. only e.number (at e.key) ≡ o → members_at at (cond (is_some o) (e ∷ kept) kept) ≡ behind o (members_at at es)) [
-          | None ↦ λ h. kept_members es
-          | Some m ↦ λ h. ap (λ q. behind q (members_at at kept)) h ∙ ap (λ ms. m ∷ ms) (kept_members es)
-        ] refl
+    kept_members (e ∷ es) = grind (arith, which (only e.number (at e.key)), kept_members es)
 
   -- ---- one slot has changed, which had no member but the number's, and has none but the number's
   pub record IsEditAt (n key : ℕ) (at at' : ℕ → Option (Member M)) : Type 0 where

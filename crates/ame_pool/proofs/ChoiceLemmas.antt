@@ -1,94 +1,102 @@
--- The fronts of the queues and the counts tell who begins.
-use Rattle.std.proofs.Common.{◌≡◌, ◌≤◌, ◌==◌, ◌&&◌, ℕ, zero, suc, Bool, true, false, cond, List, [], ◌∷◌, Some, None, IsSomeAnd, IsTrue, refl, sym, ap, subst, ◌∙◌, arith}
-use mathlib.Core.Bool.{false≢true}
-use Rattle.std.specs.Prelude.{◌||◌, nat_lt}
-use Rattle.std.specs.BTreeSet.{BTreeSet}
-use Rattle.std.specs.List.{filter, list_any, list_all, count_by}
-use Rattle.std.proofs.lemmas.Bool.Decides.{nat_tests}
-use Rattle.ame_pool.specs.declared.member.Member.{Member}
-use Rattle.ame_pool.specs.declared.oldest.Oldest.{Oldest}
-use Rattle.ame_pool.specs.declared.counts.Counts.{Counts}
-use Rattle.ame_pool.specs.Members.{find, is_ready, is_busy, is_parked}
-use Rattle.ame_pool.specs.Roster.{Roster}
-use Rattle.ame_pool.specs.Register.{Register}
-use Rattle.ame_pool.specs.Begin.{is_protected, is_worn_protected, some_busy, may_begin_beside, may_begin, first_to_begin, members_of, oldest, oldest_or_wait}
-use Rattle.ame_pool.specs.Queues.{Queues, front}
-use Rattle.ame_pool.specs.Counts.{idle}
-use Rattle.ame_pool.specs.Keeps.{is_inside_at, IsKept}
-use Rattle.ame_pool.proofs.ChangeLemmas.{count_cons}
-use Rattle.ame_pool.proofs.CountLemmas.{one_of, ready_not_parked}
-use Rattle.ame_pool.proofs.OrderLemmas.{front_ready}
-use Rattle.ame_pool.proofs.FrontLemmas.{front_begins}
+-- The front of the order and the counts decide who begins.
+use Rattle.std.proofs.Common.{◌≡◌, ◌<◌, ◌≤◌, ◌+◌, ◌==◌, ◌&&◌, ℕ, Bool, true, false, cond, not, List, [], ◌∷◌, length, Some, None, IsSomeAnd, IsTrue, refl, sym, ap, subst, ◌∙◌, arith, ◌++◌, Option}
+use Rattle.ame_pool.proofs.Words.{Member, Oldest, Counts, find, is_ready, is_busy, is_parked, Roster, Register, is_protected, is_worn, is_worn_protected, some_busy, may_begin_beside, may_begin, first_to_begin, members_of, oldest, oldest_or_wait, Queues, front, idle, is_inside_at, IsKept, false≢true, ◌||◌, nat_lt, filter, list_any, list_all, count_by, nat_tests, count_by-le-length, list_any-append}
+use Rattle.ame_pool.proofs.MemberLemmas.{count_cons, find_number, tells}
+use Rattle.ame_pool.proofs.CountLemmas.{kinds}
+use Rattle.ame_pool.proofs.OrderLemmas.{order_ready}
 
--- ---- how many there are
-any_counts_some : {X : Type 0} (p : X → Bool) (xs : List X) → list_any p xs ≡ nat_lt 0 (count_by p xs)
-any_counts_some p [] = refl
-any_counts_some p (x ∷ xs) =
-    let c = count_cons p x xs in
-    elim (p x) as (λ b. p x ≡ b → (b || list_any p xs) ≡ nat_lt 0 (count_by p (x ∷ xs))) [
-      | true ↦ λ e. let one : ◌≡◌ {A = ℕ} (cond (p x) 1 0) 1 = rw e refl in
-          let some : 1 ≤ count_by p (x ∷ xs) = omega (arith, c, one) in
-          let t : nat_lt 0 (count_by p (x ∷ xs)) ≡ true = grind (arith, nat_tests, some) in
-          sym t
-      | false ↦ λ e. let none : ◌≡◌ {A = ℕ} (cond (p x) 1 0) 0 = rw e refl in
-          let same : count_by p xs ≡ count_by p (x ∷ xs) = omega (arith, c, none) in
-          any_counts_some p xs ∙ ap (nat_lt 0) same
-    ] refl
+-- ---- truth values: i stands inside, w is worn; p and b tell that a protected and a worn one are busy, o that a worn one is older
+-- beside a busy protected one, and a worn one that is busy or older, none begins but from inside
+blocked : (i w p b o : Bool) → p ≡ true → (b || o) ≡ true → cond i true (cond w (not p) (not b && not o)) ≡ i
+blocked i w p b o hp hb = grind (arith, hp, hb, tells i, tells w, tells b)
+
+-- the first one may not begin only where a protected one is busy, and where it is worn or a worn one is busy
+first_waits : (i w p b : Bool) → (b ≡ true → p ≡ true) → cond i true (cond w (not p) (not b && not false)) ≡ false
+    → (i ≡ false) × (p ≡ true) × ((b || ((not i && w) || false)) ≡ true)
+first_waits i w p b up h = (grind (arith, up, h, tells i, tells w, tells b), grind (arith, up, h, tells i, tells w, tells p, tells b), grind (arith, up, h, tells i, tells w, tells b))
+
+or_left : (b o x : Bool) → (b || o) ≡ true → (b || (o || x)) ≡ true
+or_left b o x h = grind (arith, h, tells b, tells o)
+
+some_of : (p q : Bool) (x y : Bool) → (y ≡ true → x ≡ true) → (q ≡ true → p ≡ true) → (q || y) ≡ true → (p || x) ≡ true
+some_of p q x y up here h = grind (arith, up, here, h, tells p, tells q)
+
+worn_part : (b i w : Bool) → (b && (not i && w)) ≡ true → (b && not i) ≡ true
+worn_part b i w h = grind (arith, h, tells b, tells i)
 
 module _ {M : Type 0} where
-  -- a list without ready, busy and parked members has none
-  nobody_counted : (ms : List (Member M)) → count_by (λ m. is_ready m && true) ms ≡ 0 → count_by is_busy ms ≡ 0 → count_by is_parked ms ≡ 0 → ms ≡ []
-  nobody_counted [] r b p = refl
-  nobody_counted (m ∷ ms) r b p =
-      absurd (omega (arith, one_of m.standing, r, b, p, count_cons (λ (m : Member M). is_ready m && true) m ms, count_cons (λ (m : Member M). is_busy m) m ms, count_cons (λ (m : Member M). is_parked m) m ms))
+  -- who is worn and protected is protected
+  worn_is_protected : (ms : List (Member M)) → some_busy is_worn_protected ms ≡ true → some_busy is_protected ms ≡ true
+  worn_is_protected [] h = h
+  worn_is_protected (m ∷ ms) h =
+      some_of (is_busy m && is_protected m) (is_busy m && is_worn_protected m) (some_busy is_protected ms) (some_busy is_worn_protected ms)
+      (worn_is_protected ms) (worn_part (is_busy m) m.inside (is_worn m)) h
 
-  all_parked : (ms : List (Member M)) → count_by (λ m. is_ready m && true) ms ≡ 0 → count_by is_busy ms ≡ 0 → list_all is_parked ms ≡ true
-  all_parked [] r b = refl
-  all_parked (m ∷ ms) r b =
-      let cr = count_cons (λ (m : Member M). is_ready m && true) m ms in
-      let cb = count_cons (λ (m : Member M). is_busy m) m ms in
-      let here : is_parked m ≡ true = elim (is_parked m) as (λ v. is_parked m ≡ v → v ≡ true) [
-        | true ↦ λ e. refl
-        | false ↦ λ e. let none : ◌≡◌ {A = ℕ} (cond (is_parked m) 1 0) 0 = rw e refl in absurd (omega (arith, one_of m.standing, none, r, b, cr, cb))
-      ] refl in
-      rw here (all_parked ms (omega (arith, r, cr)) (omega (arith, b, cb)))
+  module _ (ms : List (Member M)) where
+    -- once a protected one may not begin, the first one inside begins
+    inside_only : some_busy is_protected ms ≡ true → (order : List ℕ) (older : List (Member M))
+        → (some_busy is_worn_protected ms || list_any is_worn_protected older) ≡ true
+        → first_to_begin ms older (members_of ms order) ≡ front (filter (is_inside_at ms) order)
+    inside_only busy [] older worn = refl
+    inside_only busy (n ∷ ns) older worn = go (λ o w. inside_only busy ns o w) (find n ms) refl
+      where
+        go : ((o : List (Member M)) → (some_busy is_worn_protected ms || list_any is_worn_protected o) ≡ true → first_to_begin ms o (members_of ms ns) ≡ front (filter (is_inside_at ms) ns))
+            → (o : Option (Member M)) → find n ms ≡ o
+            → first_to_begin ms older (elim o as (λ _. List (Member M)) [ None ↦ members_of ms ns | Some m ↦ m ∷ members_of ms ns ])
+            ≡ front (cond (elim o as (λ _. Bool) [ None ↦ false | Some m ↦ m.inside ]) (n ∷ filter (is_inside_at ms) ns) (filter (is_inside_at ms) ns))
+        go more None f = more older worn
+        go more (Some m) f =
+            let may : may_begin ms older m ≡ m.inside
+            = blocked m.inside (is_worn m) (some_busy is_protected ms) (some_busy is_worn_protected ms) (list_any is_worn_protected older) busy worn in
+            let still : (some_busy is_worn_protected ms || list_any is_worn_protected (older ++ m ∷ [])) ≡ true
+            = rw (list_any-append is_worn_protected older (m ∷ []))
+            (or_left (some_busy is_worn_protected ms) (list_any is_worn_protected older) (is_worn_protected m || false) worn) in
+            let rest = more (older ++ m ∷ []) still in
+            ap (λ b. cond b (Some m.number) (first_to_begin ms (older ++ m ∷ []) (members_of ms ns))) may
+            ∙ elim m.inside as (λ b. cond b (Some m.number) (first_to_begin ms (older ++ m ∷ []) (members_of ms ns)) ≡ front (cond b (n ∷ filter (is_inside_at ms) ns) (filter (is_inside_at ms) ns))) [
+              | true ↦ ap Some (find_number n ms m f)
+              | false ↦ rest
+            ]
 
-  -- a busy member isn't parked
-  busy_not_all : (ms : List (Member M)) → 1 ≤ count_by is_busy ms → list_all is_parked ms ≡ false
-  busy_not_all [] some = absurd (omega arith)
-  busy_not_all (m ∷ ms) some =
-      let cb = count_cons (λ (m : Member M). is_busy m) m ms in
-      elim (is_parked m) as (λ v. is_parked m ≡ v → (v && list_all is_parked ms) ≡ false) [
-        | true ↦ λ e. let one : ◌≡◌ {A = ℕ} (cond (is_parked m) 1 0) 1 = rw e refl in busy_not_all ms (omega (arith, one_of m.standing, one, some, cb))
-        | false ↦ λ e. refl
-      ] refl
+    -- the oldest ready member begins, or else the oldest one inside
+    pub front_begins : (n : ℕ) (ns : List ℕ) (m : Member M) → find n ms ≡ Some m
+        → first_to_begin ms [] (members_of ms (n ∷ ns)) ≡ cond (may_begin ms [] m) (Some n) (front (filter (is_inside_at ms) (n ∷ ns)))
+    front_begins n ns m f =
+        let split : members_of ms (n ∷ ns) ≡ m ∷ members_of ms ns = rw (f, members_of) refl in
+        ap (first_to_begin ms []) split
+        ∙ elim (may_begin ms [] m) as (λ b. may_begin ms [] m ≡ b → cond b (Some m.number) (first_to_begin ms (m ∷ []) (members_of ms ns))
+        ≡ cond b (Some n) (front (filter (is_inside_at ms) (n ∷ ns)))) [
+          | true ↦ λ e. ap Some (find_number n ms m f)
+          | false ↦ λ e.
+              let w = first_waits m.inside (is_worn m) (some_busy is_protected ms) (some_busy is_worn_protected ms) (worn_is_protected ms) e in
+              let out : is_inside_at ms n ≡ false = rw (f, is_inside_at) w.0 in
+              let same : filter (is_inside_at ms) (n ∷ ns) ≡ filter (is_inside_at ms) ns = rw out refl in
+              inside_only w.1 ns (m ∷ []) w.2 ∙ ap front (sym same)
+        ] refl
 
-  not_all : (n : ℕ) (ms : List (Member M)) (m : Member M) → find n ms ≡ Some m → is_parked m ≡ false → list_all is_parked ms ≡ false
-  not_all n [] m found is = cc
-  not_all n (o ∷ ms) m found is =
-      elim (o.number == n) as (λ b. cond b (Some o) (find n ms) ≡ Some m → (is_parked o && list_all is_parked ms) ≡ false) [
-        | true ↦ λ h. let same : m ≡ o = cc in
-            let e : is_parked o ≡ false = subst (λ (q : Member M). is_parked q ≡ false) same is in
-            rw e refl
-        | false ↦ λ h. rw (not_all n ms m h is) (and_false (is_parked o))
-      ] found
-    where
-      and_false : (b : Bool) → (b && false) ≡ false
-      and_false true = refl
-      and_false false = refl
+-- ---- how many there are
+any_counts : {X : Type 0} (p : X → Bool) (xs : List X) → list_any p xs ≡ nat_lt 0 (count_by p xs)
+any_counts p [] = refl
+any_counts p (x ∷ xs) = grind (arith, nat_tests, count_cons p x xs, any_counts p xs)
 
-  -- where not all are parked, the order decides
-  chosen : (ms : List (Member M)) (order : List ℕ) (room : ℕ) → list_all is_parked ms ≡ false
-      → oldest (record { members = ms; order = order; room = room }) ≡ oldest_or_wait (first_to_begin ms [] (members_of ms order))
-  chosen [] order room e = absurd (false≢true (sym e))
-  chosen (m ∷ ms) order room e = ap (λ b. cond b Oldest.Parked (oldest_or_wait (first_to_begin (m ∷ ms) [] (members_of (m ∷ ms) order)))) e
+all_counts : {X : Type 0} (p : X → Bool) (xs : List X) → list_all p xs ≡ (count_by p xs == length xs)
+all_counts p [] = refl
+all_counts p (x ∷ xs) = grind (arith, nat_tests, count_cons p x xs, count_by-le-length p xs, all_counts p xs)
 
-  parked_all : (ms : List (Member M)) (order : List ℕ) (room : ℕ) → 1 ≤ count_by is_parked ms → list_all is_parked ms ≡ true
-      → oldest (record { members = ms; order = order; room = room }) ≡ Oldest.Parked
-  parked_all [] order room some e = absurd (omega arith)
-  parked_all (m ∷ ms) order room some e = ap (λ b. cond b Oldest.Parked (oldest_or_wait (first_to_begin (m ∷ ms) [] (members_of (m ∷ ms) order)))) e
+kind_counts : {X : Type 0} (p q : X → Bool) (xs : List X) → count_by (λ x. p x && q x) xs ≤ count_by p xs
+kind_counts p q [] = omega arith
+kind_counts p q (x ∷ xs) = grind (arith, nat_tests, count_cons p x xs, count_cons (λ x. p x && q x) x xs, kind_counts p q xs)
 
-  module _ {reg : Register M} {q : Queues} {c : Counts} {ix : BTreeSet (ℕ × ℕ)} (h : IsKept reg q c ix) where
+module _ {M : Type 0} where
+  -- the choice by counts
+  oldest_counts : (ms : List (Member M)) (order : List ℕ) (room : ℕ) → oldest (record { members = ms; order = order; room = room })
+      ≡ cond (length ms == 0) Oldest.Empty (cond (count_by is_parked ms == length ms) Oldest.Parked (oldest_or_wait (first_to_begin ms [] (members_of ms order))))
+  oldest_counts [] order room = refl
+  oldest_counts (m ∷ ms) order room =
+      let some : (length (m ∷ ms) == 0) ≡ false = grind (arith, nat_tests) in
+      rw some (ap (λ b. cond b Oldest.Parked (oldest_or_wait (first_to_begin (m ∷ ms) [] (members_of (m ∷ ms) order)))) (all_counts is_parked (m ∷ ms)))
+
+  module _ {reg : Register M} {q : Queues} {c : Counts} (h : IsKept reg q c) where
     abbrev roster : Roster M
     roster = record { members = reg.list; order = q.order; room = reg.room }
 
@@ -96,44 +104,53 @@ module _ {M : Type 0} where
     pub idle_is : front q.order ≡ None → oldest roster ≡ idle c
     idle_is e = go q.order refl
       where
-        waits : 1 ≤ c.busy → oldest roster ≡ oldest_or_wait (first_to_begin reg.list [] (members_of reg.list q.order))
-        waits some = chosen reg.list q.order reg.room (busy_not_all reg.list (omega (arith, some, h.counted.busy)))
-
-        rest : count_by (λ m. is_ready m && true) reg.list ≡ 0 → c.busy ≡ 0 → (k : ℕ) → c.parked ≡ k → oldest roster ≡ cond (nat_lt 0 k) Oldest.Parked Oldest.Empty
-        rest none calm zero p =
-            let away = nobody_counted reg.list none (omega (arith, calm, h.counted.busy)) (omega (arith, p, h.counted.parked)) in
-            ap (λ ms. oldest (record { members = ms; order = q.order; room = reg.room })) away
-        rest none calm (suc k) p =
-            let t : nat_lt 0 (suc k) ≡ true = grind (arith, nat_tests) in
-            rw t (parked_all reg.list q.order reg.room (omega (arith, p, h.counted.parked)) (all_parked reg.list none (omega (arith, calm, h.counted.busy))))
-
-        cases : q.order ≡ [] → count_by (λ m. is_ready m && true) reg.list ≡ 0 → (b : ℕ) → c.busy ≡ b
-            → oldest roster ≡ cond (nat_lt 0 b) Oldest.Wait (cond (nat_lt 0 c.parked) Oldest.Parked Oldest.Empty)
-        cases at none zero busy = rest none busy c.parked refl
-        cases at none (suc b) busy =
-            let t : nat_lt 0 (suc b) ≡ true = grind (arith, nat_tests) in
-            rw t (waits (omega (arith, busy)) ∙ ap (λ ns. oldest_or_wait (first_to_begin reg.list [] (members_of reg.list ns))) at)
-
         go : (order : List ℕ) → q.order ≡ order → oldest roster ≡ idle c
         go [] at =
-            let none : count_by (λ m. is_ready m && true) reg.list ≡ 0 = sym (h.sound.ordered (λ _. true)) ∙ ap (count_by (λ _. true)) at in
-            cases at none c.busy refl
+            let law = oldest_counts reg.list q.order reg.room in
+            let wait = ap (λ ns. oldest_or_wait (first_to_begin reg.list [] (members_of reg.list ns))) at in
+            let none = h.sound.ordered (λ _. true) ∙ refl in
+            let empty = ap (count_by (λ _. true)) at in
+            let busy = h.counted.busy in
+            let parked = h.counted.parked in
+            law ∙ grind (arith, nat_tests, wait, none, empty, busy, parked, kinds reg.list)
         go (n ∷ ns) at = let f : Some n ≡ None = ap front (sym at) ∙ e in cc
 
-    module _ (n : ℕ) (first : front q.order ≡ Some n) (m : Member M) (found : find n reg.list ≡ Some m) where
-      ready_here : is_ready m ≡ true
-      ready_here =
-          let s = front_ready reg.list q.order h.sound n first in
-          subst (λ o. IsSomeAnd o (λ m. IsTrue (is_ready m))) found s
+    -- somebody is busy where nobody is ready, and it is told to wait
+    pub idle_waits : idle c ≡ Oldest.Wait → list_any is_busy reg.list ≡ true
+    idle_waits e = any_counts is_busy reg.list ∙ ap (nat_lt 0) (sym h.counted.busy) ∙ go (nat_lt 0 c.busy) (nat_lt 0 c.parked) e
+      where
+        go : (b p : Bool) → cond b Oldest.Wait (cond p Oldest.Parked Oldest.Empty) ≡ Oldest.Wait → b ≡ true
+        go true p i = refl
+        go false true i = cc
+        go false false i = cc
 
+    -- and where the front may not begin
+    pub held_up : (m : Member M) → may_begin_beside (nat_lt 0 c.protected) (nat_lt 0 c.worn) false m ≡ false → list_any is_busy reg.list ≡ true
+    held_up m e =
+        let some : 0 < c.protected + c.worn = grind (arith, nat_tests, e, tells m.inside, tells (is_worn m)) in
+        any_counts is_busy reg.list ∙ grind (arith, nat_tests, some, h.counted.protected, h.counted.worn, kind_counts is_busy is_protected reg.list, kind_counts is_busy is_worn_protected reg.list)
+
+    -- the oldest one inside is ready
+    pub inside_ready : (n : ℕ) → front q.inside ≡ Some n → IsSomeAnd (find n reg.list) (λ m. IsTrue (is_ready m))
+    inside_ready n e = order_ready reg.list q.order h.sound n (front_counts (is_inside_at reg.list) n q.order (ap front (sym h.inside) ∙ e))
+      where
+        front_counts : (p : ℕ → Bool) (n : ℕ) (xs : List ℕ) → front (filter p xs) ≡ Some n → 1 ≤ count_by (λ k. k == n) xs
+        front_counts p n [] e = cc
+        front_counts p n (x ∷ xs) e =
+            elim (p x) as (λ b. front (cond b (x ∷ filter p xs) (filter p xs)) ≡ Some n → 1 ≤ count_by (λ k. k == n) (x ∷ xs)) [
+              | true ↦ λ i. let same : x ≡ n = cc in grind (arith, nat_tests, same, count_cons (λ k. k == n) x xs)
+              | false ↦ λ i. omega (arith, count_cons (λ k. k == n) x xs, front_counts p n xs i)
+            ] e
+
+    module _ (n : ℕ) (first : front q.order ≡ Some n) (m : Member M) (found : find n reg.list ≡ Some m) where
       flags : may_begin reg.list [] m ≡ may_begin_beside (nat_lt 0 c.protected) (nat_lt 0 c.worn) false m
       flags =
-          let p : some_busy is_protected reg.list ≡ nat_lt 0 c.protected = any_counts_some (λ m. is_busy m && is_protected m) reg.list ∙ ap (nat_lt 0) (sym h.counted.protected) in
-          let w : some_busy is_worn_protected reg.list ≡ nat_lt 0 c.worn = any_counts_some (λ m. is_busy m && is_worn_protected m) reg.list ∙ ap (nat_lt 0) (sym h.counted.worn) in
+          let p : some_busy is_protected reg.list ≡ nat_lt 0 c.protected = any_counts (λ m. is_busy m && is_protected m) reg.list ∙ ap (nat_lt 0) (sym h.counted.protected) in
+          let w : some_busy is_worn_protected reg.list ≡ nat_lt 0 c.worn = any_counts (λ m. is_busy m && is_worn_protected m) reg.list ∙ ap (nat_lt 0) (sym h.counted.worn) in
           ap (λ b. may_begin_beside b (some_busy is_worn_protected reg.list) false m) p ∙ ap (λ b. may_begin_beside (nat_lt 0 c.protected) b false m) w
 
       -- the front decides
-      front_is : oldest roster ≡ oldest_or_wait (cond (may_begin_beside (nat_lt 0 c.protected) (nat_lt 0 c.worn) false m) (Some n) (front q.inside))
+      pub front_is : oldest roster ≡ oldest_or_wait (cond (may_begin_beside (nat_lt 0 c.protected) (nat_lt 0 c.worn) false m) (Some n) (front q.inside))
       front_is = go q.order refl
         where
           go : (order : List ℕ) → q.order ≡ order → oldest roster ≡ oldest_or_wait (cond (may_begin_beside (nat_lt 0 c.protected) (nat_lt 0 c.worn) false m) (Some n) (front q.inside))
@@ -141,16 +158,13 @@ module _ {M : Type 0} where
           go (k ∷ ns) at =
               let same : k ≡ n = let f : Some k ≡ Some n = ap front (sym at) ∙ first in cc in
               let split : q.order ≡ n ∷ ns = at ∙ ap (λ x. x ∷ ns) same in
-              let law = front_begins reg.list n ns m found in
+              let some = h.sound.ordered (λ _. true) in
+              let count = ap (count_by (λ _. true)) split ∙ count_cons (λ _. true) n ns in
+              let one : ◌≡◌ {A = ℕ} (cond true 1 0) 1 = refl in
               let back : front (filter (is_inside_at reg.list) (n ∷ ns)) ≡ front q.inside = ap (λ l. front (filter (is_inside_at reg.list) l)) (sym split) ∙ ap front (sym h.inside) in
-              chosen reg.list q.order reg.room (not_all n reg.list m found (ready_not_parked m ready_here))
-              ∙ ap (λ l. oldest_or_wait (first_to_begin reg.list [] (members_of reg.list l))) split
-              ∙ ap oldest_or_wait law
+              let chosen : oldest roster ≡ oldest_or_wait (first_to_begin reg.list [] (members_of reg.list q.order))
+              = oldest_counts reg.list q.order reg.room ∙ grind (arith, nat_tests, some, count, one, kinds reg.list) in
+              chosen ∙ ap (λ l. oldest_or_wait (first_to_begin reg.list [] (members_of reg.list l))) split
+              ∙ ap oldest_or_wait (front_begins reg.list n ns m found)
               ∙ ap (λ o. oldest_or_wait (cond (may_begin reg.list [] m) (Some n) o)) back
               ∙ ap (λ b. oldest_or_wait (cond b (Some n) (front q.inside))) flags
-
-      pub first_is : may_begin_beside (nat_lt 0 c.protected) (nat_lt 0 c.worn) false m ≡ true → oldest roster ≡ Oldest.Member n
-      first_is e = front_is ∙ ap (λ b. oldest_or_wait (cond b (Some n) (front q.inside))) e
-
-      pub inside_is : may_begin_beside (nat_lt 0 c.protected) (nat_lt 0 c.worn) false m ≡ false → oldest roster ≡ oldest_or_wait (front q.inside)
-      inside_is e = front_is ∙ ap (λ b. oldest_or_wait (cond b (Some n) (front q.inside))) e

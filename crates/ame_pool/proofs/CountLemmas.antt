@@ -1,22 +1,12 @@
 -- The counts after an edit of the list.
 use Rattle.std.proofs.Common.{◌≡◌, ◌≤◌, ◌+◌, ◌-◌, ◌&&◌, ℕ, Bool, true, false, cond, List, [], ◌∷◌, length, Some, refl, sym, ap, arith}
-use mathlib.Core.Bool.{false≢true}
-use Rattle.std.specs.List.{count_by}
-use Rattle.ame_pool.specs.declared.member.Member.{Member}
-use Rattle.ame_pool.specs.declared.member.Standing.{Standing}
-use Rattle.ame_pool.specs.declared.counts.Counts.{Counts}
-use Rattle.ame_pool.specs.Members.{is_ready, is_busy, is_parked, find, change, placed, without}
-use Rattle.ame_pool.specs.Begin.{is_protected, is_worn}
-use Rattle.ame_pool.specs.Counts.{is_busy_protected, is_busy_worn, counted, CountsIn, AreCounted}
-use Rattle.ame_pool.proofs.ChangeLemmas.{count_cons, count_change, count_placed, count_without}
+use Rattle.ame_pool.proofs.Words.{Member, Standing, Counts, is_ready, is_busy, is_parked, find, altered, placed, except, is_busy_protected, is_busy_worn, counted, CountsIn, AreCounted, false≢true, count_by}
+use Rattle.ame_pool.proofs.MemberLemmas.{count_cons, count_altered, count_placed, count_except}
 
-pub none : (b : Bool) → b ≡ false → ◌≡◌ {A = ℕ} (cond b 1 0) 0
+none : (b : Bool) → b ≡ false → ◌≡◌ {A = ℕ} (cond b 1 0) 0
 none b e = rw e refl
 
-pub one : (b : Bool) → b ≡ true → ◌≡◌ {A = ℕ} (cond b 1 0) 1
-one b e = rw e refl
-
-no_and : (b x : Bool) → b ≡ false → (b && x) ≡ false
+no_and : (b x : Bool) → b ≡ false → ◌≡◌ {A = ℕ} (cond (b && x) 1 0) 0
 no_and b x e = rw e refl
 
 -- a ready standing is neither busy nor parked
@@ -42,11 +32,20 @@ module _ {M : Type 0} where
   kinds (m ∷ ms) =
       omega (arith, one_of m.standing, kinds ms, count_cons (λ (m : Member M). is_ready m && true) m ms, count_cons (λ (m : Member M). is_busy m) m ms, count_cons (λ (m : Member M). is_parked m) m ms)
 
-  pub ready_not_busy : (m : Member M) → is_ready m ≡ true → is_busy m ≡ false
-  ready_not_busy m e = (ready_idle m.standing e).0
-
   pub ready_not_parked : (m : Member M) → is_ready m ≡ true → is_parked m ≡ false
   ready_not_parked m e = (ready_idle m.standing e).1
+
+  -- a ready member is in no count
+  record IsUncounted (m : Member M) : Type 0 where
+    pub busy : ◌≡◌ {A = ℕ} (cond (is_busy m) 1 0) 0
+    pub protected : ◌≡◌ {A = ℕ} (cond (is_busy_protected m) 1 0) 0
+    pub worn : ◌≡◌ {A = ℕ} (cond (is_busy_worn m) 1 0) 0
+    pub parked : ◌≡◌ {A = ℕ} (cond (is_parked m) 1 0) 0
+
+  ready_uncounted : (m : Member M) → is_ready m ≡ true → IsUncounted m
+  ready_uncounted m e =
+      let idle = ready_idle m.standing e in
+      record { busy = none (is_busy m) idle.0; protected = no_and (is_busy m) _ idle.0; worn = no_and (is_busy m) _ idle.0; parked = none (is_parked m) idle.1 }
 
   -- the second counts are the first with the one member in place of the other
   pub record AreMoved (m m' : Member M) (c c' : Counts) : Type 0 where
@@ -64,97 +63,53 @@ module _ {M : Type 0} where
     parked = omega (arith, ap (λ (x : Counts). x.parked) a, ap (λ (x : Counts). x.parked) b);
   }
 
-  -- a ready one is in no count
-  pub moved_out : (m m' : Member M) → is_ready m' ≡ true → (c c' : Counts) → c ≡ counted m c' → AreMoved m m' c c'
-  moved_out m m' e c c' a =
-      let b = ready_not_busy m' e in
-      record {
-        busy = omega (arith, ap (λ (x : Counts). x.busy) a, none (is_busy m') b);
-        protected = omega (arith, ap (λ (x : Counts). x.protected) a, none (is_busy_protected m') (no_and (is_busy m') _ b));
-        worn = omega (arith, ap (λ (x : Counts). x.worn) a, none (is_busy_worn m') (no_and (is_busy m') _ b));
-        parked = omega (arith, ap (λ (x : Counts). x.parked) a, none (is_parked m') (ready_not_parked m' e));
-      }
-
+  -- a ready one was there, and the other was added
   pub moved_in : (m m' : Member M) → is_ready m ≡ true → (c c' : Counts) → c' ≡ counted m' c → AreMoved m m' c c'
   moved_in m m' e c c' a =
-      let b = ready_not_busy m e in
+      let u = ready_uncounted m e in
       record {
-        busy = omega (arith, ap (λ (x : Counts). x.busy) a, none (is_busy m) b);
-        protected = omega (arith, ap (λ (x : Counts). x.protected) a, none (is_busy_protected m) (no_and (is_busy m) _ b));
-        worn = omega (arith, ap (λ (x : Counts). x.worn) a, none (is_busy_worn m) (no_and (is_busy m) _ b));
-        parked = omega (arith, ap (λ (x : Counts). x.parked) a, none (is_parked m) (ready_not_parked m e));
-      }
-
-  -- a busy one is parked
-  pub moved_parked : (m m' : Member M) → is_busy m' ≡ false → is_parked m' ≡ true → (c d : Counts) → c ≡ counted m d → AreMoved m m' c (record d { parked = d.parked + 1 })
-  moved_parked m m' b p c d a = record {
-    busy = omega (arith, ap (λ (x : Counts). x.busy) a, none (is_busy m') b);
-    protected = omega (arith, ap (λ (x : Counts). x.protected) a, none (is_busy_protected m') (no_and (is_busy m') _ b));
-    worn = omega (arith, ap (λ (x : Counts). x.worn) a, none (is_busy_worn m') (no_and (is_busy m') _ b));
-    parked = omega (arith, ap (λ (x : Counts). x.parked) a, one (is_parked m') p);
-  }
-
-  -- a parked one is ready
-  pub moved_woken : (m m' : Member M) → is_busy m ≡ false → is_parked m ≡ true → is_ready m' ≡ true → (c : Counts) → 1 ≤ c.parked
-      → AreMoved m m' c (record c { parked = c.parked - 1 })
-  moved_woken m m' b p e c some =
-      let b' = ready_not_busy m' e in
-      record {
-        busy = omega (arith, none (is_busy m) b, none (is_busy m') b');
-        protected = omega (arith, none (is_busy_protected m) (no_and (is_busy m) _ b), none (is_busy_protected m') (no_and (is_busy m') _ b'));
-        worn = omega (arith, none (is_busy_worn m) (no_and (is_busy m) _ b), none (is_busy_worn m') (no_and (is_busy m') _ b'));
-        parked = omega (arith, some, one (is_parked m) p, none (is_parked m') (ready_not_parked m' e));
-      }
-
-  -- one that is still what it was
-  pub moved_still : (m m' : Member M) → is_busy m' ≡ is_busy m → is_parked m' ≡ is_parked m → is_protected m' ≡ is_protected m → is_worn m' ≡ is_worn m
-      → (c : Counts) → AreMoved m m' c c
-  moved_still m m' b p i w c =
-      let one : (x y : Bool) → x ≡ y → (k : ℕ) → k + cond y 1 0 ≡ k + cond x 1 0 = λ x y e k. ap (λ v. k + cond v 1 0) (sym e) in
-      record {
-        busy = one (is_busy m') (is_busy m) b c.busy;
-        protected = one (is_busy_protected m') (is_busy_protected m) (rw (b, i) refl) c.protected;
-        worn = one (is_busy_worn m') (is_busy_worn m) (rw (b, i, w) refl) c.worn;
-        parked = one (is_parked m') (is_parked m) p c.parked;
+        busy = omega (arith, ap (λ (x : Counts). x.busy) a, u.busy);
+        protected = omega (arith, ap (λ (x : Counts). x.protected) a, u.protected);
+        worn = omega (arith, ap (λ (x : Counts). x.worn) a, u.worn);
+        parked = omega (arith, ap (λ (x : Counts). x.parked) a, u.parked);
       }
 
   module _ (ms : List (Member M)) (c : Counts) (h : AreCounted ms c) where
-    -- ---- one member changed
-    module _ (n : ℕ) (f : Member M → Member M) (m : Member M) (found : find n ms ≡ Some m) where
-      pub counted_change : (c' : Counts) → AreMoved m (f m) c c' → AreCounted (change n f ms) c'
-      counted_change c' a = record {
-        busy = omega (arith, h.busy, a.busy, count_change n f is_busy ms m found);
-        protected = omega (arith, h.protected, a.protected, count_change n f is_busy_protected ms m found);
-        worn = omega (arith, h.worn, a.worn, count_change n f is_busy_worn ms m found);
-        parked = omega (arith, h.parked, a.parked, count_change n f is_parked ms m found);
-      }
-
     -- ---- one member more
     pub counted_placed : (new : Member M) → is_ready new ≡ true → AreCounted (placed new ms) c
     counted_placed new e =
-        let b = ready_not_busy new e in
+        let u = ready_uncounted new e in
         record {
-          busy = omega (arith, h.busy, count_placed new is_busy ms, none (is_busy new) b);
-          protected = omega (arith, h.protected, count_placed new is_busy_protected ms, none (is_busy_protected new) (no_and (is_busy new) _ b));
-          worn = omega (arith, h.worn, count_placed new is_busy_worn ms, none (is_busy_worn new) (no_and (is_busy new) _ b));
-          parked = omega (arith, h.parked, count_placed new is_parked ms, none (is_parked new) (ready_not_parked new e));
+          busy = omega (arith, h.busy, count_placed new is_busy ms, u.busy);
+          protected = omega (arith, h.protected, count_placed new is_busy_protected ms, u.protected);
+          worn = omega (arith, h.worn, count_placed new is_busy_worn ms, u.worn);
+          parked = omega (arith, h.parked, count_placed new is_parked ms, u.parked);
         }
 
-    -- ---- one member less
     module _ (n : ℕ) (m : Member M) (found : find n ms ≡ Some m) where
-      pub counted_without : (c' : Counts) → c ≡ counted m c' → AreCounted (without n ms) c'
-      counted_without c' a = record {
-        busy = omega (arith, h.busy, ap (λ (x : Counts). x.busy) a, count_without n is_busy ms m found);
-        protected = omega (arith, h.protected, ap (λ (x : Counts). x.protected) a, count_without n is_busy_protected ms m found);
-        worn = omega (arith, h.worn, ap (λ (x : Counts). x.worn) a, count_without n is_busy_worn ms m found);
-        parked = omega (arith, h.parked, ap (λ (x : Counts). x.parked) a, count_without n is_parked ms m found);
+      -- ---- one member altered
+      pub counted_altered : (f : Member M → Member M) (c' : Counts) → AreMoved m (f m) c c' → AreCounted (altered n f ms) c'
+      counted_altered f c' a = record {
+        busy = omega (arith, h.busy, a.busy, count_altered n f is_busy ms m found);
+        protected = omega (arith, h.protected, a.protected, count_altered n f is_busy_protected ms m found);
+        worn = omega (arith, h.worn, a.worn, count_altered n f is_busy_worn ms m found);
+        parked = omega (arith, h.parked, a.parked, count_altered n f is_parked ms m found);
+      }
+
+      -- ---- one member less
+      pub counted_except : (c' : Counts) → c ≡ counted m c' → AreCounted (except n ms) c'
+      counted_except c' a = record {
+        busy = omega (arith, h.busy, ap (λ (x : Counts). x.busy) a, count_except n is_busy ms m found);
+        protected = omega (arith, h.protected, ap (λ (x : Counts). x.protected) a, count_except n is_busy_protected ms m found);
+        worn = omega (arith, h.worn, ap (λ (x : Counts). x.worn) a, count_except n is_busy_worn ms m found);
+        parked = omega (arith, h.parked, ap (λ (x : Counts). x.parked) a, count_except n is_parked ms m found);
       }
 
       -- a member of the list is in the counts
       pub counts_in : CountsIn m c
       counts_in = record {
-        busy = omega (arith, h.busy, count_without n is_busy ms m found);
-        protected = omega (arith, h.protected, count_without n is_busy_protected ms m found);
-        worn = omega (arith, h.worn, count_without n is_busy_worn ms m found);
-        parked = omega (arith, h.parked, count_without n is_parked ms m found);
+        busy = omega (arith, h.busy, count_except n is_busy ms m found);
+        protected = omega (arith, h.protected, count_except n is_busy_protected ms m found);
+        worn = omega (arith, h.worn, count_except n is_busy_worn ms m found);
+        parked = omega (arith, h.parked, count_except n is_parked ms m found);
       }

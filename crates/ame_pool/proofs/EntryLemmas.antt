@@ -1,14 +1,9 @@
 -- Entries by rising numbers: what a search finds, and what an edit at that place does.
-use Rattle.std.proofs.Common.{◌≡◌, ◌<◌, ◌≤◌, ◌==◌, ℕ, zero, suc, Bool, true, false, cond, List, [], ◌∷◌, length, set, get_or, All, Some, None, Result, Ok, Err, IfOk, IfErr, refl, sym, arith}
-use Rattle.std.specs.Prelude.{nat_lt}
-use Rattle.std.specs.List.{insert, filter}
+use Rattle.std.proofs.Common.{◌≡◌, ◌<◌, ◌≤◌, ◌==◌, ℕ, zero, suc, Bool, true, false, cond, List, [], ◌∷◌, length, set, get_or, All, Some, None, Result, Ok, Err, IfOk, IfErr, refl, sym, subst, arith}
 use Rattle.std.specs.List.Sorted.{IsSearchInRange, IsBinarySearchResult, IsNonDecreasingBy}
 use Rattle.std.specs.Ordering.{nat_cmp, ordering_index}
 use Rattle.std.proofs.lemmas.Cmp.{ranked}
-use Rattle.std.proofs.lemmas.Bool.Decides.{nat_tests}
-use Rattle.std.proofs.lemmas.List.Elements.{All-cons}
-use Rattle.ame_pool.specs.declared.numbers.Numbered.{Numbered}
-use Rattle.ame_pool.specs.Numbered.{AreRising, IsEntryOf, IsEntryGap, key_of, entered}
+use Rattle.ame_pool.proofs.Words.{Numbered, AreRising, IsEntryOf, IsEntryGap, key_of, filed, nat_lt, insert, filter, nat_tests, All-cons, All-head, All-tail}
 
 -- an earlier number is not greater
 rising_le : (es : List Numbered) → AreRising es → (i j : ℕ) (d : Numbered) → i ≤ j → j < length es
@@ -47,11 +42,11 @@ key_at (e ∷ es) r n (suc i) d at =
     grind (arith, nat_tests, h, lt, rest)
 
 -- to write an entry over the one of its number is to enter it
-pub set_entered : (es : List Numbered) → AreRising es → (new : Numbered) (i : ℕ) → IsEntryOf new.number es i → set es i new ≡ entered new es
-set_entered [] r new i at = absurd (omega (arith, at.0))
-set_entered (e ∷ es) r new zero at = let h = at.1 e in grind (arith, nat_tests, h)
-set_entered (e ∷ es) r new (suc i) at =
-    let h = at.1 e in let lt = r.0 i e (omega (arith, at.0)) in let rest = set_entered es r.1 new i (omega (arith, at.0), λ k. at.1 k) in
+pub set_filed : (es : List Numbered) → AreRising es → (new : Numbered) (i : ℕ) → IsEntryOf new.number es i → set es i new ≡ filed new es
+set_filed [] r new i at = absurd (omega (arith, at.0))
+set_filed (e ∷ es) r new zero at = let h = at.1 e in grind (arith, nat_tests, h)
+set_filed (e ∷ es) r new (suc i) at =
+    let h = at.1 e in let lt = r.0 i e (omega (arith, at.0)) in let rest = set_filed es r.1 new i (omega (arith, at.0), λ k. at.1 k) in
     grind (arith, nat_tests, h, lt, rest)
 
 -- ---- at a gap
@@ -75,41 +70,43 @@ key_none (e ∷ es) n (suc i) gap =
     grind (arith, nat_tests, h, rest)
 
 -- to put an entry into its gap is to enter it
-pub insert_entered : (es : List Numbered) (new : Numbered) (i : ℕ) → IsEntryGap new.number es i → insert es i new ≡ entered new es
-insert_entered [] new zero gap = refl
-insert_entered [] new (suc i) gap = absurd (omega (arith, gap.within))
-insert_entered (e ∷ es) new zero gap = let h = gap.after 0 e (omega arith) (omega arith) in grind (arith, nat_tests, h)
-insert_entered (e ∷ es) new (suc i) gap =
+pub insert_filed : (es : List Numbered) (new : Numbered) (i : ℕ) → IsEntryGap new.number es i → insert es i new ≡ filed new es
+insert_filed [] new zero gap = refl
+insert_filed [] new (suc i) gap = absurd (omega (arith, gap.within))
+insert_filed (e ∷ es) new zero gap = let h = gap.after 0 e (omega arith) (omega arith) in grind (arith, nat_tests, h)
+insert_filed (e ∷ es) new (suc i) gap =
     let h = gap.before 0 e (omega arith) (omega arith) in
-    let rest = insert_entered es new i (gap_tail e es new.number i gap) in
+    let rest = insert_filed es new i (gap_tail e es new.number i gap) in
     grind (arith, nat_tests, h, rest)
 
--- ---- numbers still rise
-all_entered : (P : Numbered → Type 0) (new : Numbered) → P new → (es : List Numbered) → All P es → All P (entered new es)
-all_entered P new p [] h = All-cons P new [] p h
-all_entered P new p (e ∷ es) h =
-    let first : P e = h 0 e (omega arith) in
-    let rest : All P es = λ k d q. h (suc k) d (omega arith) in
-    elim (nat_lt new.number e.number) as (λ b. All P (cond b (new ∷ e ∷ es) (cond (e.number == new.number) (new ∷ es) (e ∷ entered new es)))) [
+-- ---- an entry at its place
+pub key_filed : (new : Numbered) (es : List Numbered) (k : ℕ) → key_of k (filed new es) ≡ cond (new.number == k) (Some new.key) (key_of k es)
+key_filed new [] k = refl
+key_filed new (e ∷ es) k = grind (arith, nat_tests, key_filed new es k)
+
+all_filed : (P : Numbered → Type 0) (new : Numbered) → P new → (es : List Numbered) → All P es → All P (filed new es)
+all_filed P new p [] h = All-cons P new [] p h
+all_filed P new p (e ∷ es) h =
+    let first = All-head P e es h in
+    let rest = All-tail P e es h in
+    elim (nat_lt new.number e.number) as (λ b. All P (cond b (new ∷ e ∷ es) (cond (e.number == new.number) (new ∷ es) (e ∷ filed new es)))) [
       | true ↦ All-cons P new (e ∷ es) p h
-      | false ↦ elim (e.number == new.number) as (λ b. All P (cond b (new ∷ es) (e ∷ entered new es))) [
+      | false ↦ elim (e.number == new.number) as (λ b. All P (cond b (new ∷ es) (e ∷ filed new es))) [
         | true ↦ All-cons P new es p rest
-        | false ↦ All-cons P e (entered new es) first (all_entered P new p es rest)
+        | false ↦ All-cons P e (filed new es) first (all_filed P new p es rest)
       ]
     ]
 
-pub rising_entered : (es : List Numbered) → AreRising es → (new : Numbered) → AreRising (entered new es)
-rising_entered [] r new = ((λ k d h. absurd (omega arith)), tt)
-rising_entered (e ∷ es) r new =
-    elim (nat_lt new.number e.number) as (λ b. nat_lt new.number e.number ≡ b → AreRising (cond b (new ∷ e ∷ es) (cond (e.number == new.number) (new ∷ es) (e ∷ entered new es)))) [
+pub rising_filed : (es : List Numbered) → AreRising es → (new : Numbered) → AreRising (filed new es)
+rising_filed [] r new = ((λ k d h. absurd (omega arith)), tt)
+rising_filed (e ∷ es) r new =
+    elim (nat_lt new.number e.number) as (λ b. nat_lt new.number e.number ≡ b → AreRising (cond b (new ∷ e ∷ es) (cond (e.number == new.number) (new ∷ es) (e ∷ filed new es)))) [
       | true ↦ λ t.
           let lt : new.number < e.number = grind (arith, nat_tests, t) in
           (All-cons (λ o. new.number < o.number) e es lt (λ k d q. let f = r.0 k d q in omega (arith, f, lt)), r)
-      | false ↦ λ t. elim (e.number == new.number) as (λ b. (e.number == new.number) ≡ b → AreRising (cond b (new ∷ es) (e ∷ entered new es))) [
-        | true ↦ λ same. let q : e.number ≡ new.number = grind (arith, nat_tests, same) in ((λ k d h. let f = r.0 k d h in omega (arith, f, q)), r.1)
-        | false ↦ λ other.
-            let lt : e.number < new.number = grind (arith, nat_tests, t, other) in
-            (all_entered (λ o. e.number < o.number) new lt es r.0, rising_entered es r.1 new)
+      | false ↦ λ t. elim (e.number == new.number) as (λ b. (e.number == new.number) ≡ b → AreRising (cond b (new ∷ es) (e ∷ filed new es))) [
+        | true ↦ λ same. let q : e.number ≡ new.number = grind (arith, nat_tests, same) in (subst (λ n. All (λ o. n < o.number) es) q r.0, r.1)
+        | false ↦ λ other. (all_filed (λ o. e.number < o.number) new (grind (arith, nat_tests, t, other)) es r.0, rising_filed es r.1 new)
       ] refl
     ] refl
 
@@ -117,17 +114,11 @@ rising_entered (e ∷ es) r new =
 all_filtered : (P : Numbered → Type 0) (p : Numbered → Bool) (es : List Numbered) → All P es → All P (filter p es)
 all_filtered P p [] h = h
 all_filtered P p (e ∷ es) h =
-    let rest = all_filtered P p es (λ k d q. h (suc k) d (omega arith)) in
-    elim (p e) as (λ b. All P (cond b (e ∷ filter p es) (filter p es))) [
-      | true ↦ All-cons P e (filter p es) (h 0 e (omega arith)) rest
-      | false ↦ rest
-    ]
+    let rest = all_filtered P p es (All-tail P e es h) in
+    elim (p e) as (λ b. All P (cond b (e ∷ filter p es) (filter p es))) [ true ↦ All-cons P e (filter p es) (All-head P e es h) rest | false ↦ rest ]
 
 pub rising_filtered : (p : Numbered → Bool) (es : List Numbered) → AreRising es → AreRising (filter p es)
 rising_filtered p [] r = r
 rising_filtered p (e ∷ es) r =
     let rest = rising_filtered p es r.1 in
-    elim (p e) as (λ b. AreRising (cond b (e ∷ filter p es) (filter p es))) [
-      | true ↦ (all_filtered (λ o. e.number < o.number) p es r.0, rest)
-      | false ↦ rest
-    ]
+    elim (p e) as (λ b. AreRising (cond b (e ∷ filter p es) (filter p es))) [ true ↦ (all_filtered (λ o. e.number < o.number) p es r.0, rest) | false ↦ rest ]

@@ -1,57 +1,57 @@
--- A pool's fields after an edit of one member.
+-- What a roll's fields keep after an edit of one member.
 use Rattle.std.proofs.Common.{◌≡◌, ◌<◌, ◌≤◌, ◌+◌, ◌-◌, ◌^◌, ◌==◌, ℕ, Bool, true, false, cond, List, [], ◌∷◌, ◌++◌, length, Option, Some, None, option_map, IsSome, IsSomeAnd, IsTrue, refl, sym, ap, subst, ◌∙◌, arith}
-use mathlib.Core.Bool.{false≢true}
-use Rattle.std.specs.List.{filter}
-use Rattle.std.specs.BTreeSet.{BTreeSet}
-use Rattle.std.proofs.lemmas.Bool.Decides.{nat_tests}
-use Rattle.std.proofs.lemmas.List.Sums.{count_by-le-length, length-filter}
-use Rattle.ame_pool.specs.declared.member.Member.{Member}
-use Rattle.ame_pool.specs.declared.counts.Counts.{Counts}
-use Rattle.ame_pool.specs.Members.{find, change, placed, without, is_ready}
-use Rattle.ame_pool.specs.Register.{Register}
-use Rattle.ame_pool.specs.Queues.{Queues, pushed, taken}
-use Rattle.ame_pool.specs.Counts.{counted}
-use Rattle.ame_pool.specs.Index.{untouched, IsIndexOf}
-use Rattle.ame_pool.specs.Calls.{skipping}
-use Rattle.ame_pool.specs.Keeps.{is_inside_at, IsKept}
-use Rattle.ame_pool.proofs.ChangeLemmas.{count_all, find_passes, find_change, length_change, rising_change, all_change, length_placed, rising_placed, all_placed, length_without, rising_without, all_without}
-use Rattle.ame_pool.proofs.OrderLemmas.{filter_push, filter_skipping, absent, order_shorter, ordered_same, ordered_readied, ordered_held, ordered_placed, ordered_without, inside_same, inside_but, inside_now, inside_placed, inside_new, inside_without}
-use Rattle.ame_pool.proofs.CountLemmas.{kinds, AreMoved, counted_change, counted_placed, counted_without}
-use Rattle.ame_pool.proofs.FindLemmas.{indexed_placed}
+use Rattle.ame_pool.proofs.Words.{Member, Turn, Counts, find, altered, placed, except, is_ready, Register, Roster, Queues, HasPlace, pushed, taken, counted, IsAt, skipping, begun, turned, is_readied, is_readied_at, turned_at, IsOrderOf, is_inside_at, IsKept, false≢true, filter, nat_tests, count_by-le-length, length-filter}
+use Rattle.ame_pool.proofs.MemberLemmas.{count_all, find_passes, find_altered, length_altered, rising_altered, all_altered, length_placed, rising_placed, all_placed, length_except, rising_except, all_except}
+use Rattle.ame_pool.proofs.OrderLemmas.{filter_push, filter_skipping, absent, order_short, order_shorter, ordered_same, ordered_readied, ordered_held, ordered_placed, ordered_except, inside_same, inside_but, inside_now, inside_placed, inside_new, inside_except}
+use Rattle.ame_pool.proofs.CountLemmas.{kinds, AreMoved, moved_both, counted_altered, counted_placed, counted_except}
+use Rattle.ame_pool.proofs.StandingLemmas.{turned_number, turned_few, turned_ready}
 
 module _ {M : Type 0} where
-  -- the member that was found passes the test
-  pub passes : (test : Member M → Bool) (n : ℕ) (ms : List (Member M)) (m : Member M) → find n ms ≡ Some m → IsSomeAnd (find n ms) (λ m. IsTrue (test m)) → test m ≡ true
-  passes test n ms m found need = subst (λ o. IsSomeAnd o (λ m. IsTrue (test m))) found need
-
-  -- there is one that passes
-  pub there : (o : Option (Member M)) (P : Member M → Type 0) → IsSomeAnd o P → IsSome o
-  there None P h = absurd h
-  there (Some m) P h = refl
-
-  pub one_there : (o : Option (Member M)) (P : Member M → Type 0) → IsSomeAnd o P → (m : Member M) × (o ≡ Some m) × P m
+  one_there : (o : Option (Member M)) (P : Member M → Type 0) → IsSomeAnd o P → (m : Member M) × (o ≡ Some m) × P m
   one_there None P h = absurd h
   one_there (Some m) P h = (m, refl, h)
 
-  -- the changed member is found
-  module _ (n : ℕ) (f : Member M → Member M) (num : (m : Member M) → (f m).number ≡ m.number) (ms : List (Member M)) (m : Member M) (found : find n ms ≡ Some m) where
-    pub found_changed : find n (change n f ms) ≡ Some (f m)
-    found_changed =
-        let same : (n == n) ≡ true = grind (arith, nat_tests) in
-        find_change n f num ms n ∙ ap (λ b. cond b (option_map f (find n ms)) (find n ms)) same ∙ ap (option_map f) found
+  -- a member has the number and passes the test
+  pub record IsOpen (test : Member M → Bool) (n : ℕ) (ms : List (Member M)) : Type 0 where
+    pub member : Member M
+    pub found : find n ms ≡ Some member
+    pub passes : test member ≡ true
 
-    pub there_changed : IsSome (find n (change n f ms))
-    there_changed = rw found_changed refl
+  pub opened : (test : Member M → Bool) (n : ℕ) (a s : Roster M) → a ≡ s → IsAt test n s → IsOpen test n a.members
+  opened test n a s view need =
+      let o = one_there (find n a.members) (λ m. IsTrue (test m)) (subst (IsAt test n) (sym view) need) in
+      record { member = o.0; found = o.1; passes = o.2 }
 
-    pub read_changed : (o : Member M) → Some o ≡ find n (change n f ms) → o ≡ f m
-    read_changed o e = let same : Some o ≡ Some (f m) = e ∙ found_changed in cc
+  -- the member that was found passes
+  pub passes : (test : Member M → Bool) (n : ℕ) (a s : Roster M) → a ≡ s → IsAt test n s → (m : Member M) → find n a.members ≡ Some m → test m ≡ true
+  passes test n a s view need m found = subst (λ o. IsSomeAnd o (λ m. IsTrue (test m))) found (subst (IsAt test n) (sym view) need)
 
-module _ {M : Type 0} {reg : Register M} {q : Queues} {c : Counts} {ix : BTreeSet (ℕ × ℕ)} (h : IsKept reg q c ix) where
+  -- who passes a test passes a weaker one
+  pub at_weaker : (p q : Member M → Bool) → ((m : Member M) → p m ≡ true → q m ≡ true) → (n : ℕ) (a s : Roster M) → a ≡ s → IsAt p n s → IsAt q n a
+  at_weaker p q up n a s view need = let o = opened p n a s view need in rw o.found (up o.member o.passes)
+
+  -- what a turn makes of the pool
+  pub turned_pool : (n : ℕ) (to : Turn M) (a s : Roster M) → a ≡ s → (m : Member M) → find n a.members ≡ Some m → (b : Bool) → is_readied to m ≡ b
+      → turned_at n to a ≡ record s { members = altered n (turned to) s.members; order = s.order ++ cond b (n ∷ []) [] }
+  turned_pool n to a s view m found b e =
+      let at : is_readied_at n to a ≡ b = rw (found, is_readied_at) e in
+      rw at (ap (λ (x : Roster M). let r : Roster M = record x { members = altered n (turned to) x.members; order = x.order ++ cond b (n ∷ []) [] } in r) view)
+
+  -- the altered member is found
+  module _ (n : ℕ) (to : Turn M) (ms : List (Member M)) (m : Member M) (found : find n ms ≡ Some m) where
+    pub found_turned : find n (altered n (turned to) ms) ≡ Some (turned to m)
+    found_turned = let law = find_altered n (turned to) (turned_number to) ms n in grind (arith, nat_tests, law, found, ap (option_map (turned to)) found)
+
+    pub there_turned : IsSome (find n (altered n (turned to) ms))
+    there_turned = rw found_turned refl
+
+    pub read_turned : (o : Member M) → Some o ≡ find n (altered n (turned to) ms) → o ≡ turned to m
+    read_turned o e = let same : Some o ≡ Some (turned to m) = e ∙ found_turned in cc
+
+module _ {M : Type 0} {reg : Register M} {q : Queues} {c : Counts} (h : IsKept reg q c) where
   -- ---- what there is room for
   pub inside_short : length q.inside ≤ length q.order
-  inside_short =
-      let e : length q.inside ≡ length (filter (is_inside_at reg.list) q.order) = ap length h.inside in
-      omega (arith, e, length-filter (is_inside_at reg.list) q.order, count_by-le-length (is_inside_at reg.list) q.order)
+  inside_short = omega (arith, ap length h.inside, length-filter (is_inside_at reg.list) q.order, count_by-le-length (is_inside_at reg.list) q.order)
 
   -- who isn't ready is busy or parked
   pub sizes : length q.order + (c.busy + c.parked) ≡ length reg.list
@@ -60,108 +60,101 @@ module _ {M : Type 0} {reg : Register M} {q : Queues} {c : Counts} {ix : BTreeSe
   pub length_small : length reg.list < 2 ^ 63
   length_small = omega (arith, h.fits, h.small)
 
+  pub free_place : 0 < reg.room → HasPlace q
+  free_place room =
+      let order : length q.order < q.places = omega (arith, room, order_short reg.list q.order h.sound.ordered, h.fits) in
+      record { order = order; inside = omega (arith, order, inside_short) }
+
   module _ (n : ℕ) (m : Member M) (found : find n reg.list ≡ Some m) where
     -- a member that isn't ready leaves a place in the order
     module _ (was : is_ready m ≡ false) where
-      pub order_roomy : length q.order < q.places
-      order_roomy = omega (arith, order_shorter reg.list q.order h.sound.ordered n m found was, h.fits)
+      pub left_place : HasPlace q
+      left_place =
+          let order : length q.order < q.places = omega (arith, order_shorter reg.list q.order h.sound.ordered n m found was, h.fits) in
+          record { order = order; inside = omega (arith, order, inside_short) }
 
-      pub inside_roomy : length q.inside < q.places
-      inside_roomy = omega (arith, inside_short, order_roomy)
+      away : IsSomeAnd (find n reg.list) (λ m. IsTrue (is_ready m)) → ⊥
+      away s = false≢true (sym was ∙ subst (λ o. IsSomeAnd o (λ m. IsTrue (is_ready m))) found s)
 
-      not_there : IsSomeAnd (find n reg.list) (λ m. IsTrue (is_ready m)) → ⊥
-      not_there s =
-          let here : IsTrue (is_ready m) = subst (λ o. IsSomeAnd o (λ m. IsTrue (is_ready m))) found s in
-          false≢true (sym was ∙ here)
+    pub few_at : IsSomeAnd (find n reg.list) (λ m. m.rollbacks ≤ 8)
+    few_at = rw found (find_passes (λ (o : Member M). o.rollbacks ≤ 8) n reg.list h.sound.rollbacks m found)
 
-    pub few_at : m.rollbacks ≤ 8
-    few_at = find_passes (λ (o : Member M). o.rollbacks ≤ 8) n reg.list h.sound.rollbacks m found
-
-    -- ---- it is changed
-    module _ (f : Member M → Member M) (num : (m : Member M) → (f m).number ≡ m.number) (few : (m : Member M) → m.rollbacks ≤ 8 → (f m).rollbacks ≤ 8)
-        (c' : Counts) (moved : AreMoved m (f m) c c') (ix' : BTreeSet (ℕ × ℕ)) (indexed : IsIndexOf (change n f reg.list) ix') where
-      fits_still : length (change n f reg.list) + reg.room ≤ q.places
-      fits_still = omega (arith, h.fits, length_change n f reg.list)
-
-      pub kept_same : is_ready m ≡ false → is_ready (f m) ≡ false → IsKept (record reg { list = change n f reg.list }) q c' ix'
-      kept_same was is = record {
+    -- ---- its turn
+    module _ (to : Turn M) (c' : Counts) (moved : AreMoved m (turned to m) c c') where
+      turned_kept : (q' : Queues) → q'.places ≡ q.places → IsOrderOf (altered n (turned to) reg.list) q'.order
+          → q'.inside ≡ filter (is_inside_at (altered n (turned to) reg.list)) q'.order → IsKept (record reg { list = altered n (turned to) reg.list }) q' c'
+      turned_kept q' places ordered inside = record {
         sound = record {
-          rising = rising_change n f num reg.list h.sound.rising;
-          ordered = ordered_same reg.list q.order h.sound.ordered n f num m found (is ∙ sym was);
-          rollbacks = all_change n f (λ m. m.rollbacks ≤ 8) few reg.list h.sound.rollbacks;
+          rising = rising_altered n (turned to) (turned_number to) reg.list h.sound.rising;
+          ordered = ordered;
+          rollbacks = all_altered n (turned to) (λ m. m.rollbacks ≤ 8) (turned_few to) reg.list h.sound.rollbacks;
         };
-        inside = h.inside ∙ inside_but reg.list n f num m found q.order (absent reg.list q.order h.sound n (not_there was));
-        counted = counted_change reg.list c h.counted n f m found c' moved;
-        fits = fits_still;
-        small = h.small;
-        indexed = indexed;
+        inside = inside;
+        counted = counted_altered reg.list c h.counted n m found (turned to) c' moved;
+        fits = omega (arith, h.fits, places, length_altered n (turned to) reg.list);
+        small = omega (arith, h.small, places);
       }
 
-      pub kept_readied : is_ready m ≡ false → is_ready (f m) ≡ true → IsKept (record reg { list = change n f reg.list }) (pushed n (f m).inside q) c' ix'
-      kept_readied was is = record {
-        sound = record {
-          rising = rising_change n f num reg.list h.sound.rising;
-          ordered = ordered_readied reg.list q.order h.sound.ordered n f num m found was is;
-          rollbacks = all_change n f (λ m. m.rollbacks ≤ 8) few reg.list h.sound.rollbacks;
-        };
-        inside =
-            ap (λ l. cond (f m).inside (l ++ n ∷ []) l) (h.inside ∙ inside_but reg.list n f num m found q.order (absent reg.list q.order h.sound n (not_there was)))
-            ∙ filter_push (is_inside_at (change n f reg.list)) q.order n (f m).inside (inside_now reg.list n f num m found);
-        counted = counted_change reg.list c h.counted n f m found c' moved;
-        fits = fits_still;
-        small = h.small;
-        indexed = indexed;
-      }
+      kept_same : is_ready m ≡ false → is_ready (turned to m) ≡ false → IsKept (record reg { list = altered n (turned to) reg.list }) q c'
+      kept_same was is =
+          turned_kept q refl (ordered_same reg.list q.order h.sound.ordered n (turned to) (turned_number to) m found (is ∙ sym was))
+          (h.inside ∙ inside_but reg.list n (turned to) (turned_number to) m found q.order (absent reg.list q.order h.sound n (away was)))
 
-      pub kept_held : is_ready m ≡ true → is_ready (f m) ≡ false → (f m).inside ≡ m.inside → IsKept (record reg { list = change n f reg.list }) (taken n m.inside q) c' ix'
-      kept_held was is same = record {
-        sound = record {
-          rising = rising_change n f num reg.list h.sound.rising;
-          ordered = ordered_held reg.list q.order h.sound.ordered n f num m found was is;
-          rollbacks = all_change n f (λ m. m.rollbacks ≤ 8) few reg.list h.sound.rollbacks;
-        };
-        inside =
-            ap (λ l. cond m.inside (skipping n l) l) (h.inside ∙ inside_same reg.list n f num m found same q.order)
-            ∙ filter_skipping (is_inside_at (change n f reg.list)) n q.order m.inside (inside_now reg.list n f num m found ∙ same);
-        counted = counted_change reg.list c h.counted n f m found c' moved;
-        fits = fits_still;
-        small = h.small;
-        indexed = indexed;
-      }
+      kept_readied : is_ready m ≡ false → is_ready (turned to m) ≡ true → IsKept (record reg { list = altered n (turned to) reg.list }) (pushed n (turned to m).inside q) c'
+      kept_readied was is =
+          turned_kept (pushed n (turned to m).inside q) refl (ordered_readied reg.list q.order h.sound.ordered n (turned to) (turned_number to) m found was is)
+          (ap (λ l. cond (turned to m).inside (l ++ n ∷ []) l) (h.inside ∙ inside_but reg.list n (turned to) (turned_number to) m found q.order (absent reg.list q.order h.sound n (away was)))
+          ∙ filter_push (is_inside_at (altered n (turned to) reg.list)) q.order n (turned to m).inside (inside_now reg.list n (turned to) (turned_number to) m found))
+
+      pub kept_held : is_ready m ≡ true → is_ready (turned to m) ≡ false → (turned to m).inside ≡ m.inside → IsKept (record reg { list = altered n (turned to) reg.list }) (taken n m.inside q) c'
+      kept_held was is same =
+          turned_kept (taken n m.inside q) refl (ordered_held reg.list q.order h.sound.ordered n (turned to) (turned_number to) m found was is)
+          (ap (λ l. cond m.inside (skipping n l) l) (h.inside ∙ inside_same reg.list n (turned to) (turned_number to) m found same q.order)
+          ∙ filter_skipping (is_inside_at (altered n (turned to) reg.list)) n q.order m.inside (inside_now reg.list n (turned to) (turned_number to) m found ∙ same))
+
+    pub kept_turn : is_ready m ≡ false → (to : Turn M) (reg' : Register M) → reg' ≡ record reg { list = altered n (turned to) reg.list }
+        → (r : Bool) → Some r ≡ option_map (is_readied to) (find n reg.list) → (d c' : Counts) → c ≡ counted m d → (o : Member M) → Some o ≡ find n reg'.list → c' ≡ counted o d
+        → (q' : Queues) → q' ≡ cond r (pushed n o.inside q) q → IsKept reg' q' c'
+    kept_turn was to reg' new r told d c' leave o read enter q' queue =
+        let same : o ≡ turned to m = read_turned n to reg.list m found o (rw new at read) in
+        let readied : Some r ≡ Some (is_readied to m) = told ∙ ap (option_map (is_readied to)) found in
+        let is : is_ready (turned to m) ≡ r = turned_ready to m was ∙ (let e : is_readied to m ≡ r = cc in e) in
+        let moved = moved_both m (turned to m) c d c' leave (enter ∙ ap (λ x. counted x d) same) in
+        let line : q' ≡ cond r (pushed n (turned to m).inside q) q = queue ∙ ap (λ (x : Member M). cond r (pushed n x.inside q) q) same in
+        rw (new, line) (elim r as (λ b. is_ready (turned to m) ≡ b → IsKept (record reg { list = altered n (turned to) reg.list }) (cond b (pushed n (turned to m).inside q) q) c') [
+          | true ↦ kept_readied to c' moved was
+          | false ↦ kept_same to c' moved was
+        ] is)
 
     -- ---- it leaves
-    pub kept_without : is_ready m ≡ false → (c' : Counts) → c ≡ counted m c' → (ix' : BTreeSet (ℕ × ℕ)) → IsIndexOf (without n reg.list) ix'
-        → IsKept (record reg { list = without n reg.list }) q c' ix'
-    kept_without was c' counts ix' indexed = record {
+    pub kept_except : is_ready m ≡ false → (c' : Counts) → c ≡ counted m c' → IsKept (record reg { list = except n reg.list }) q c'
+    kept_except was c' counts = record {
       sound = record {
-        rising = rising_without n reg.list h.sound.rising;
-        ordered = ordered_without reg.list q.order h.sound.ordered n m found was;
-        rollbacks = all_without n (λ m. m.rollbacks ≤ 8) reg.list h.sound.rollbacks;
+        rising = rising_except n reg.list h.sound.rising;
+        ordered = ordered_except reg.list q.order h.sound.ordered n m found was;
+        rollbacks = all_except n (λ m. m.rollbacks ≤ 8) reg.list h.sound.rollbacks;
       };
-      inside = h.inside ∙ inside_without reg.list n h.sound.rising q.order (absent reg.list q.order h.sound n (not_there was));
-      counted = counted_without reg.list c h.counted n m found c' counts;
-      fits = omega (arith, h.fits, length_without n reg.list m found);
+      inside = h.inside ∙ inside_except reg.list n h.sound.rising q.order (absent reg.list q.order h.sound n (away was));
+      counted = counted_except reg.list c h.counted n m found c' counts;
+      fits = omega (arith, h.fits, length_except n reg.list m found);
       small = h.small;
-      indexed = indexed;
     }
 
   -- ---- more room
-  pub kept_roomy : (q' : Queues) → q'.order ≡ q.order → q'.inside ≡ q.inside → q'.places < 2 ^ 63 → (room : ℕ) → length reg.list + room ≤ q'.places
-      → IsKept (record reg { room = room }) q' c ix
+  pub kept_roomy : (q' : Queues) → q'.order ≡ q.order → q'.inside ≡ q.inside → q'.places < 2 ^ 63 → (room : ℕ) → length reg.list + room ≤ q'.places → IsKept (record reg { room = room }) q' c
   kept_roomy q' order inside small room fits = record {
     sound = rw order h.sound;
     inside = inside ∙ h.inside ∙ ap (filter (is_inside_at reg.list)) (sym order);
     counted = h.counted;
     fits = fits;
     small = small;
-    indexed = h.indexed;
   }
 
   -- ---- one joins
-  pub kept_placed : (new : Member M) → find new.number reg.list ≡ None → is_ready new ≡ true → new.rollbacks ≤ 8 → untouched new.standing ≡ [] → 0 < reg.room
-      → IsKept (record { list = placed new reg.list; room = reg.room - 1 }) (pushed new.number new.inside q) c ix
-  kept_placed new fresh is few none room =
-      let away = absent reg.list q.order h.sound new.number (λ s. subst (λ o. IsSomeAnd o (λ m. IsTrue (is_ready m))) fresh s) in
+  pub kept_placed : (new : Member M) → find new.number reg.list ≡ None → is_ready new ≡ true → new.rollbacks ≤ 8 → 0 < reg.room
+      → IsKept (record { list = placed new reg.list; room = reg.room - 1 }) (pushed new.number new.inside q) c
+  kept_placed new fresh is few room =
+      let none = absent reg.list q.order h.sound new.number (λ s. subst (λ o. IsSomeAnd o (λ m. IsTrue (is_ready m))) fresh s) in
       record {
         sound = record {
           rising = rising_placed new reg.list fresh h.sound.rising;
@@ -169,10 +162,19 @@ module _ {M : Type 0} {reg : Register M} {q : Queues} {c : Counts} {ix : BTreeSe
           rollbacks = all_placed new (λ m. m.rollbacks ≤ 8) few reg.list h.sound.rollbacks;
         };
         inside =
-            ap (λ l. cond new.inside (l ++ new.number ∷ []) l) (h.inside ∙ inside_placed reg.list new fresh q.order away)
+            ap (λ l. cond new.inside (l ++ new.number ∷ []) l) (h.inside ∙ inside_placed reg.list new fresh q.order none)
             ∙ filter_push (is_inside_at (placed new reg.list)) q.order new.number new.inside (inside_new reg.list new fresh);
         counted = counted_placed reg.list c h.counted new is;
         fits = omega (arith, h.fits, room, length_placed new reg.list);
         small = h.small;
-        indexed = indexed_placed reg.list ix h.indexed new fresh none;
       }
+
+module _ {M : Type 0} where
+  -- its machine
+  pub machine_begun : (n : ℕ) (ms : List (Member M)) → option_map (λ m. m.machine) (find n (altered n begun ms)) ≡ option_map (λ m. m.machine) (find n ms)
+  machine_begun n ms = rw (find_altered n begun (λ _. refl) ms n) (grind (arith, nat_tests))
+
+  -- a member that is there has a machine
+  pub machine_there : (o : Option (Member M)) (P : Member M → Type 0) → IsSomeAnd o P → None ≡ option_map (λ m. m.machine) o → ⊥
+  machine_there None P h e = h
+  machine_there (Some m) P h e = cc

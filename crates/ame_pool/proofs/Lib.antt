@@ -1,17 +1,13 @@
+mod Words
 mod EntryLemmas
-mod WalkLemmas
 mod SlotLemmas
-mod ChangeLemmas
-mod OldestLemmas
+pub mod MemberLemmas
 mod OrderLemmas
-mod ListedLemmas
 mod FindLemmas
 mod CountLemmas
 mod StandingLemmas
 mod KeptLemmas
 mod WakeLemmas
-mod SkipLemmas
-mod HoldLemmas
-mod FrontLemmas
+mod LineLemmas
 mod ChoiceLemmas
 mod IndexLemmas

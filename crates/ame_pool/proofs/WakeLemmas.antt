@@ -1,28 +1,16 @@
 -- What a write to a location changes.
 use Rattle.std.proofs.Common.{◌==◌, ◌≡◌, ◌<◌, ◌≤◌, ℕ, suc, Bool, true, false, cond, List, [], ◌∷◌, ◌++◌, length, get_or, map, Option, Some, None, IsSomeAnd, IsTrue, refl, sym, ap, subst, ◌∙◌, arith}
-use mathlib.Core.Bool.{false≢true}
-use Rattle.std.specs.List.{All, count_by, filter}
-use Rattle.std.specs.BTreeSet.{BTreeSet}
-use Rattle.std.proofs.lemmas.Bool.Decides.{nat_tests}
-use Rattle.std.proofs.lemmas.List.{append-nil, append_assoc}
-use Rattle.std.proofs.lemmas.List.Elements.{All-head, All-tail}
-use Rattle.ame_pool.specs.declared.member.Member.{Member}
-use Rattle.ame_pool.specs.declared.member.Standing.{Standing}
-use Rattle.ame_pool.specs.declared.member.Watch.{Watch}
-use Rattle.ame_pool.specs.Members.{IsRising, find, change}
-use Rattle.ame_pool.specs.Index.{untouched, lists, waits_for, IsIndexOf}
-use Rattle.ame_pool.specs.Waking.{has, touched_by, stirred, stirred_by, is_waiting_for, is_woken_by, woken_by}
-use Rattle.ame_pool.specs.Roster.{Roster}
-use Rattle.ame_pool.specs.Calls.{IsAt, woken}
-use Rattle.ame_pool.specs.Stirs.{is_watching, is_woken_at, stirred_at}
-use Rattle.ame_pool.proofs.ChangeLemmas.{count_change, find_number, find_passes, all_found}
+use Rattle.std.specs.List.{All}
+use Rattle.ame_pool.proofs.Words.{Member, Standing, Watch, IsRising, find, altered, untouched, lists, waits_for, has, touched_by, stirred, stirred_by, is_waiting_for, is_woken_by, woken_by, Roster, IsAt, woken, is_watching, is_woken_at, stirred_at, IsWatched, false≢true, count_by, filter, BTreeSet, nat_tests, append-nil, append_assoc, All-head, All-tail}
+use Rattle.ame_pool.proofs.KeptLemmas.{IsOpen, opened}
+use Rattle.ame_pool.proofs.MemberLemmas.{count_altered, find_number, find_passes, all_found}
 
 module _ (l : ℕ) where
   -- ---- a standing and a write
-  waiting_is_untouched : (s : Standing) → is_waiting_for l s ≡ true → has l (untouched s) ≡ true
-  waiting_is_untouched Standing.Ready e = e
-  waiting_is_untouched (Standing.Busy w) e = absurd (false≢true e)
-  waiting_is_untouched (Standing.Parked locs) e = e
+  not_waiting : (s : Standing) → has l (untouched s) ≡ false → is_waiting_for l s ≡ false
+  not_waiting Standing.Ready e = refl
+  not_waiting (Standing.Busy w) e = refl
+  not_waiting (Standing.Parked locs) e = e
 
   watch_once : (w : Watch) (b : Bool) → w.touched ≡ b → has l (cond b [] w.locs) ≡ false → touched_by l w ≡ w
   watch_once w true t e =
@@ -50,11 +38,7 @@ module _ (l : ℕ) where
   stirred_twice s e = stirred_once (stirred l s) (ap (has l) (stirred_clears s e))
 
   stirred_waits_not : (s : Standing) → has l (untouched s) ≡ true → is_waiting_for l (stirred l s) ≡ false
-  stirred_waits_not s e =
-      elim (is_waiting_for l (stirred l s)) as (λ b. is_waiting_for l (stirred l s) ≡ b → b ≡ false) [
-        | true ↦ λ h. absurd (false≢true (sym (ap (has l) (stirred_clears s e)) ∙ waiting_is_untouched (stirred l s) h))
-        | false ↦ λ h. refl
-      ] refl
+  stirred_waits_not s e = not_waiting (stirred l s) (ap (has l) (stirred_clears s e))
 
 module _ {M : Type 0} (l : ℕ) where
   -- it watches nothing once it is stirred
@@ -62,115 +46,98 @@ module _ {M : Type 0} (l : ℕ) where
   stirred_untouched m e = stirred_clears l m.standing e
 
   calm_not_woken : (m : Member M) → is_watching l m ≡ false → is_woken_by l m ≡ false
-  calm_not_woken m e =
-      elim (is_woken_by l m) as (λ b. is_woken_by l m ≡ b → b ≡ false) [
-        | true ↦ λ q. absurd (false≢true (sym e ∙ waiting_is_untouched l m.standing q))
-        | false ↦ λ q. refl
-      ] refl
+  calm_not_woken m e = not_waiting l m.standing e
 
   -- ---- one turn
-  map_change : (n : ℕ) (ms : List (Member M)) (m : Member M) → find n ms ≡ Some m → is_watching l m ≡ true
-      → map (stirred_by l) (change n (stirred_by l) ms) ≡ map (stirred_by l) ms
-  map_change n [] m found watched = refl
-  map_change n (o ∷ ms) m found watched =
-      elim (o.number == n) as (λ b. cond b (Some o) (find n ms) ≡ Some m
-      → map (stirred_by l) (cond b (stirred_by l o ∷ ms) (o ∷ change n (stirred_by l) ms)) ≡ map (stirred_by l) (o ∷ ms)) [
-        | true ↦ λ h.
-            let same : m ≡ o = cc in
-            let here : has l (untouched o.standing) ≡ true = subst (λ (q : Member M). has l (untouched q.standing) ≡ true) same watched in
-            ap (λ (s : Standing). let x : Member M = record o { standing = s } in x ∷ map (stirred_by l) ms) (stirred_twice l o.standing here)
-        | false ↦ λ h. ap (λ q. stirred_by l o ∷ q) (map_change n ms m h watched)
-      ] found
+  map_altered : (n : ℕ) (ms : List (Member M)) (m : Member M) → find n ms ≡ Some m → is_watching l m ≡ true
+      → map (stirred_by l) (altered n (stirred_by l) ms) ≡ map (stirred_by l) ms
+  map_altered n [] m found watched = refl
+  map_altered n (o ∷ ms) m found watched =
+      let twice : stirred_by l (stirred_by l m) ≡ stirred_by l m = ap (λ (s : Standing). let x : Member M = record m { standing = s } in x) (stirred_twice l m.standing watched) in
+      grind (arith, nat_tests, found, twice, map_altered n ms m)
 
-  woken_change : (n : ℕ) (ms : List (Member M)) → IsRising ms → (m : Member M) → find n ms ≡ Some m → is_watching l m ≡ true
+  woken_cons : (m : Member M) (ms : List (Member M)) → woken_by l (m ∷ ms) ≡ cond (is_woken_by l m) (m.number ∷ []) [] ++ woken_by l ms
+  woken_cons m ms =
+      elim (is_woken_by l m) as (λ b. map (λ (q : Member M). q.number) (cond b (m ∷ filter (is_woken_by l) ms) (filter (is_woken_by l) ms)) ≡ cond b (m.number ∷ []) [] ++ woken_by l ms) [
+        | true ↦ refl
+        | false ↦ refl
+      ]
+
+  woken_altered : (n : ℕ) (ms : List (Member M)) → IsRising ms → (m : Member M) → find n ms ≡ Some m → is_watching l m ≡ true
       → All (λ o. o.number < n → is_watching l o ≡ false) ms
-      → woken_by l ms ≡ cond (is_woken_by l m) (n ∷ []) [] ++ woken_by l (change n (stirred_by l) ms)
-  woken_change n [] r m found watched before = cc
-  woken_change n (o ∷ ms) r m found watched before =
+      → woken_by l ms ≡ cond (is_woken_by l m) (n ∷ []) [] ++ woken_by l (altered n (stirred_by l) ms)
+  woken_altered n [] r m found watched before = cc
+  woken_altered n (o ∷ ms) r m found watched before =
       elim (o.number == n) as (λ b. (o.number == n) ≡ b → cond b (Some o) (find n ms) ≡ Some m
-      → woken_by l (o ∷ ms) ≡ cond (is_woken_by l m) (n ∷ []) [] ++ woken_by l (cond b (stirred_by l o ∷ ms) (o ∷ change n (stirred_by l) ms))) [
+      → woken_by l (o ∷ ms) ≡ cond (is_woken_by l m) (n ∷ []) [] ++ woken_by l (cond b (stirred_by l o ∷ ms) (o ∷ altered n (stirred_by l) ms))) [
         | true ↦ λ t h.
             let same : o ≡ m = cc in
             let at : o.number ≡ n = grind (arith, nat_tests, t) in
-            let here : has l (untouched o.standing) ≡ true = subst (λ (q : Member M). has l (untouched q.standing) ≡ true) (sym same) watched in
-            let calm : is_waiting_for l (stirred l o.standing) ≡ false = stirred_waits_not l o.standing here in
+            let calm : is_woken_by l (stirred_by l o) ≡ false = stirred_waits_not l o.standing (ap (is_watching l) same ∙ watched) in
             let rest : woken_by l (stirred_by l o ∷ ms) ≡ woken_by l ms = rw calm refl in
-            let first : woken_by l (o ∷ ms) ≡ cond (is_woken_by l o) (o.number ∷ []) [] ++ woken_by l ms
-            = elim (is_woken_by l o) as (λ b. map (λ (q : Member M). q.number) (cond b (o ∷ filter (is_woken_by l) ms) (filter (is_woken_by l) ms)) ≡ cond b (o.number ∷ []) [] ++ woken_by l ms) [
-              | true ↦ refl
-              | false ↦ refl
-            ] in
-            first ∙ ap (λ k. cond (is_woken_by l o) (k ∷ []) [] ++ woken_by l ms) at
-            ∙ ap (λ (q : Member M). cond (is_woken_by l q) (n ∷ []) [] ++ woken_by l ms) same
-            ∙ ap (λ q. cond (is_woken_by l m) (n ∷ []) [] ++ q) (sym rest)
+            woken_cons o ms ∙ grind (arith, same, at, rest)
         | false ↦ λ t h.
             let lt : o.number < n = omega (arith, find_passes (λ (q : Member M). o.number < q.number) n ms r.0 m h, find_number n ms m h) in
             let calm = calm_not_woken o (All-head (λ (q : Member M). q.number < n → is_watching l q ≡ false) o ms before lt) in
-            let rest = woken_change n ms r.1 m h watched (All-tail (λ (q : Member M). q.number < n → is_watching l q ≡ false) o ms before) in
-            let left : woken_by l (o ∷ ms) ≡ woken_by l ms = rw calm refl in
-            let right : woken_by l (o ∷ change n (stirred_by l) ms) ≡ woken_by l (change n (stirred_by l) ms) = rw calm refl in
-            left ∙ rest ∙ ap (λ q. cond (is_woken_by l m) (n ∷ []) [] ++ q) (sym right)
+            let rest = woken_altered n ms r.1 m h watched (All-tail (λ (q : Member M). q.number < n → is_watching l q ≡ false) o ms before) in
+            let both : (xs : List (Member M)) → woken_by l (o ∷ xs) ≡ woken_by l xs = λ xs. rw calm refl in
+            both ms ∙ rest ∙ ap (λ q. cond (is_woken_by l m) (n ∷ []) [] ++ q) (sym (both (altered n (stirred_by l) ms)))
       ] refl found
 
-  calm_map : (ms : List (Member M)) → ((j : ℕ) (d : Member M) → j < length ms → has l (untouched (get_or ms j d).standing) ≡ false) → map (stirred_by l) ms ≡ ms
-  calm_map [] h = refl
-  calm_map (m ∷ ms) h =
-      let e = stirred_once l m.standing (h 0 m (omega arith)) in
-      let one : stirred_by l m ≡ m = ap (λ (s : Standing). let x : Member M = record m { standing = s } in x) e in
-      let rest = calm_map ms (λ j d q. h (suc j) d (omega arith)) in
-      ap (λ q. q ∷ map (stirred_by l) ms) one ∙ ap (λ q. m ∷ q) rest
-
-  calm_woken : (ms : List (Member M)) → ((j : ℕ) (d : Member M) → j < length ms → has l (untouched (get_or ms j d).standing) ≡ false) → woken_by l ms ≡ []
-  calm_woken [] h = refl
-  calm_woken (m ∷ ms) h =
-      let no : is_woken_by l m ≡ false = elim (is_woken_by l m) as (λ b. is_woken_by l m ≡ b → b ≡ false) [
-        | true ↦ λ q. absurd (false≢true (sym (h 0 m (omega arith)) ∙ waiting_is_untouched l m.standing q))
-        | false ↦ λ q. refl
-      ] refl in
-      let left : woken_by l (m ∷ ms) ≡ woken_by l ms = rw no refl in
-      left ∙ calm_woken ms (λ j d q. h (suc j) d (omega arith))
+  -- a write that nobody watches changes nothing
+  calm_all : (ms : List (Member M)) → All (λ m. is_watching l m ≡ false) ms → (map (stirred_by l) ms ≡ ms) × (woken_by l ms ≡ [])
+  calm_all [] h = (refl, refl)
+  calm_all (m ∷ ms) h =
+      let calm = All-head (λ (m : Member M). is_watching l m ≡ false) m ms h in
+      let same : stirred_by l m ≡ m = ap (λ (s : Standing). let x : Member M = record m { standing = s } in x) (stirred_once l m.standing calm) in
+      let rest = calm_all ms (All-tail (λ (m : Member M). is_watching l m ≡ false) m ms h) in
+      (ap (λ q. q ∷ map (stirred_by l) ms) same ∙ ap (λ q. m ∷ q) rest.0, rw (calm_not_woken m calm) rest.1)
 
   -- ---- the loop
   -- how many members the write still changes
   abbrev pub to_stir : List (Member M) → ℕ
   to_stir ms = count_by (is_watching l) ms
 
-  module _ (s : Roster M) (ix : BTreeSet (ℕ × ℕ)) (h : IsIndexOf s.members ix) where
+  module _ {s : Roster M} {ix : BTreeSet (ℕ × ℕ)} (h : IsWatched s ix) where
     -- who is listed watches
     pub listed_watches : (n : ℕ) → lists ix l n ≡ true → IsAt (is_watching l) n s
-    listed_watches n listed = go (find n s.members) (sym (h l n) ∙ listed)
+    listed_watches n listed = go (find n s.members) (sym (h.indexed l n) ∙ listed)
       where
         go : (o : Option (Member M)) → waits_for l o ≡ true → IsSomeAnd o (λ m. IsTrue (is_watching l m))
         go None e = absurd (false≢true e)
         go (Some m) e = e
 
-    module _ (rising : IsRising s.members) where
-      pub waking_all : ((n : ℕ) → lists ix l n ≡ false) → s ≡ woken l s
-      waking_all none =
-          let calm : All (λ m. is_watching l m ≡ false) s.members
-          = all_found (λ m. is_watching l m ≡ false) s.members rising (λ n m found. sym (ap (waits_for l) found) ∙ sym (h l n) ∙ none n) in
-          rw (calm_map s.members (λ j d lt. calm j d lt), calm_woken s.members (λ j d lt. calm j d lt), append-nil) refl
+    pub waking_all : ((n : ℕ) → lists ix l n ≡ false) → s ≡ woken l s
+    waking_all none =
+        let calm : All (λ m. is_watching l m ≡ false) s.members
+        = all_found (λ m. is_watching l m ≡ false) s.members h.rising (λ n m found. sym (ap (waits_for l) found) ∙ sym (h.indexed l n) ∙ none n) in
+        rw ((calm_all s.members calm).0, (calm_all s.members calm).1, append-nil) refl
 
-      module _ (n : ℕ) (m : Member M) (found : find n s.members ≡ Some m) (watched : is_watching l m ≡ true)
-          (least : (k : ℕ) → lists ix l k ≡ true → n ≤ k) where
-        before : All (λ o. o.number < n → is_watching l o ≡ false) s.members
-        before = all_found (λ (o : Member M). o.number < n → is_watching l o ≡ false) s.members rising (λ k o at lt.
-            elim (is_watching l o) as (λ b. is_watching l o ≡ b → b ≡ false) [
-              | true ↦ λ e. absurd (omega (arith, lt, find_number k s.members o at, least k (h l k ∙ ap (waits_for l) at ∙ e)))
-              | false ↦ λ e. refl
-            ] refl)
+    module _ (n : ℕ) (listed : lists ix l n ≡ true) (least : (k : ℕ) → lists ix l k ≡ true → n ≤ k) where
+      stirring : IsOpen (is_watching l) n s.members
+      stirring = opened (is_watching l) n s s refl (listed_watches n listed)
 
-        pub waking_more : woken l (stirred_at l n s) ≡ woken l s
-        waking_more =
-            let split = woken_change n s.members rising m found watched before in
-            let at : is_woken_at l n s ≡ is_woken_by l m = ap (λ o. elim o as (λ _. Bool) [ None ↦ false | Some m ↦ is_woken_by l m ]) found in
-            let orders : (stirred_at l n s).order ++ woken_by l (change n (stirred_by l) s.members) ≡ s.order ++ woken_by l s.members
-            = rw (at, append_assoc, ← split) refl in
-            rw (orders, map_change n s.members m found watched) refl
+      before : All (λ o. o.number < n → is_watching l o ≡ false) s.members
+      before = all_found (λ (o : Member M). o.number < n → is_watching l o ≡ false) s.members h.rising (λ k o at lt.
+          elim (is_watching l o) as (λ b. is_watching l o ≡ b → b ≡ false) [
+            | true ↦ λ e. absurd (omega (arith, lt, find_number k s.members o at, least k (h.indexed l k ∙ ap (waits_for l) at ∙ e)))
+            | false ↦ λ e. refl
+          ] refl)
 
-        pub waking_fewer : to_stir (change n (stirred_by l) s.members) < to_stir s.members
-        waking_fewer =
-            let one : ◌≡◌ {A = ℕ} (cond (is_watching l m) 1 0) 1 = rw watched refl in
-            let clear : has l (untouched (stirred l m.standing)) ≡ false = ap (has l) (stirred_clears l m.standing watched) in
-            let none : ◌≡◌ {A = ℕ} (cond (is_watching l (stirred_by l m)) 1 0) 0 = rw clear refl in
-            omega (arith, count_change n (stirred_by l) (is_watching l) s.members m found, one, none)
+      pub waking_more : woken l (stirred_at l n s) ≡ woken l s
+      waking_more =
+          let m = stirring.member in
+          let split = woken_altered n s.members h.rising m stirring.found stirring.passes before in
+          let at : is_woken_at l n s ≡ is_woken_by l m = ap (λ o. elim o as (λ _. Bool) [ None ↦ false | Some m ↦ is_woken_by l m ]) stirring.found in
+          let orders : (stirred_at l n s).order ++ woken_by l (altered n (stirred_by l) s.members) ≡ s.order ++ woken_by l s.members
+          = rw (at, append_assoc, ← split) refl in
+          rw (orders, map_altered n s.members m stirring.found stirring.passes) refl
+
+      pub waking_fewer : to_stir (altered n (stirred_by l) s.members) < to_stir s.members
+      waking_fewer =
+          let m = stirring.member in
+          let watched : is_watching l m ≡ true = stirring.passes in
+          let one : ◌≡◌ {A = ℕ} (cond (is_watching l m) 1 0) 1 = rw watched refl in
+          let clear : has l (untouched (stirred l m.standing)) ≡ false = ap (has l) (stirred_clears l m.standing watched) in
+          let none : ◌≡◌ {A = ℕ} (cond (is_watching l (stirred_by l m)) 1 0) 0 = rw clear refl in
+          omega (arith, count_altered n (stirred_by l) (is_watching l) s.members m stirring.found, one, none)

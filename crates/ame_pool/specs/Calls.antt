@@ -2,7 +2,7 @@
 use Rattle.std.specs.Prelude.{ℕ, ◌-◌, ◌==◌, Bool, false, cond, List, [], ◌∷◌, ◌++◌, map, Option, Some, None, is_some, is_none, option_map, IsSomeAnd, IsTrue, max}
 use Rattle.ame_pool.specs.declared.member.Member.{Member}
 use Rattle.ame_pool.specs.declared.member.Standing.{Standing}
-use Rattle.ame_pool.specs.Members.{find, change, placed, without}
+use Rattle.ame_pool.specs.Members.{find, altered, placed, except}
 use Rattle.ame_pool.specs.Standings.{rolled, settled, is_touched}
 use Rattle.ame_pool.specs.Waking.{stirred_by, woken_by}
 use Rattle.ame_pool.specs.Roster.{Roster}
@@ -72,27 +72,27 @@ module _ {M : Type 0} where
 
   -- a ready member is busy
   abbrev pub held : ℕ → Roster M → Roster M
-  held number s = record s { members = change number begun s.members; order = skipping number s.order }
+  held number s = record s { members = altered number begun s.members; order = skipping number s.order }
 
   -- a member goes home, the youngest ready one
   abbrev pub home : ℕ → Bool → Roster M → Roster M
-  home number rolled_back s = record s { members = change number (at_home rolled_back) s.members; order = s.order ++ number ∷ [] }
+  home number rolled_back s = record s { members = altered number (at_home rolled_back) s.members; order = s.order ++ number ∷ [] }
 
   -- a member goes home as another one
-  abbrev pub replaced : ℕ → M → Bool → Roster M → Roster M
-  replaced number machine inside s = record s { members = change number (renewed machine inside) s.members; order = s.order ++ number ∷ [] }
+  abbrev pub exchanged : ℕ → M → Bool → Roster M → Roster M
+  exchanged number machine inside s = record s { members = altered number (renewed machine inside) s.members; order = s.order ++ number ∷ [] }
 
   abbrev pub removed : ℕ → Roster M → Roster M
-  removed number s = record s { members = without number s.members }
+  removed number s = record s { members = except number s.members }
 
   -- a busy member is noted as stuck
   abbrev pub noted : ℕ → List ℕ → Roster M → Roster M
-  noted number locs s = record s { members = change number (noted_on locs) s.members }
+  noted number locs s = record s { members = altered number (noted_on locs) s.members }
 
   -- a noted member is parked, or the youngest ready one where its watch was touched
   abbrev pub parked : ℕ → Roster M → Roster M
   parked number s = record s {
-    members = change number at_rest s.members;
+    members = altered number at_rest s.members;
     order = s.order ++ cond (is_touched_at number s) (number ∷ []) [];
   }
 

@@ -5,6 +5,7 @@ use Rattle.ame_pool.specs.Index.{IsIndexOf}
 use Rattle.ame_pool.specs.declared.member.Member.{Member}
 use Rattle.ame_pool.specs.declared.counts.Counts.{Counts}
 use Rattle.ame_pool.specs.Register.{Register}
+use Rattle.ame_pool.specs.Roster.{Roster}
 use Rattle.ame_pool.specs.Queues.{Queues}
 use Rattle.ame_pool.specs.Counts.{AreCounted}
 use Rattle.ame_pool.specs.Members.{IsRising, is_ready, find}
@@ -24,12 +25,15 @@ module _ {M : Type 0} where
   abbrev pub is_inside_at : List (Member M) → ℕ → Bool
   is_inside_at ms n = elim (find n ms) [ None ↦ false | Some m ↦ m.inside ]
 
-  -- a sound pool, the ready ones inside in the same order, the counts, places for its members and for those that may join,
-  -- and an index that says what the watch lists say
-  pub record IsKept (members : Register M) (ready : Queues) (counts : Counts) (index : BTreeSet (ℕ × ℕ)) : Type 0 where
+  -- a sound pool, the ready ones inside in the same order, the counts, and places for its members and for those that may join
+  pub record IsKept (members : Register M) (ready : Queues) (counts : Counts) : Type 0 where
     pub sound : IsSound members.list ready.order
     pub inside : ready.inside ≡ filter (is_inside_at members.list) ready.order
     pub counted : AreCounted members.list counts
     pub fits : length members.list + members.room ≤ ready.places
     pub small : ready.places < 2 ^ 63
-    pub indexed : IsIndexOf members.list index
+
+  -- rising numbers, and an index that says what the watch lists say
+  pub record IsWatched (s : Roster M) (index : BTreeSet (ℕ × ℕ)) : Type 0 where
+    pub rising : IsRising s.members
+    pub indexed : IsIndexOf s.members index

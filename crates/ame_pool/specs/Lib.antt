@@ -1,4 +1,5 @@
 pub mod Members
+pub mod Found
 pub mod Register
 pub mod Numbered
 pub mod Standings
@@ -7,6 +8,8 @@ pub mod Index
 pub mod Roster
 pub mod Begin
 pub mod Calls
+pub mod Turns
+pub mod Line
 pub mod Queues
 pub mod Counts
 pub mod Stirs

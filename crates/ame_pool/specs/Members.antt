@@ -24,9 +24,9 @@ module _ {M : Type 0} where
   find number (m ∷ ms) = cond (m.number == number) (Some m) (find number ms)
 
   -- the list with the member of a number changed
-  abbrev pub change : ℕ → (Member M → Member M) → List (Member M) → List (Member M)
-  change number f [] = []
-  change number f (m ∷ ms) = cond (m.number == number) (f m ∷ ms) (m ∷ change number f ms)
+  abbrev pub altered : ℕ → (Member M → Member M) → List (Member M) → List (Member M)
+  altered number f [] = []
+  altered number f (m ∷ ms) = cond (m.number == number) (f m ∷ ms) (m ∷ altered number f ms)
 
   -- the list with one member more, by its number
   abbrev pub placed : Member M → List (Member M) → List (Member M)
@@ -34,6 +34,6 @@ module _ {M : Type 0} where
   placed new (m ∷ ms) = cond (nat_lt new.number m.number) (new ∷ m ∷ ms) (m ∷ placed new ms)
 
   -- the list without the member of a number
-  abbrev pub without : ℕ → List (Member M) → List (Member M)
-  without number [] = []
-  without number (m ∷ ms) = cond (m.number == number) ms (m ∷ without number ms)
+  abbrev pub except : ℕ → List (Member M) → List (Member M)
+  except number [] = []
+  except number (m ∷ ms) = cond (m.number == number) ms (m ∷ except number ms)

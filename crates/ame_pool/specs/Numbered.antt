@@ -27,9 +27,9 @@ key_of number [] = None
 key_of number (e ∷ es) = cond (e.number == number) (Some e.key) (key_of number es)
 
 -- the entries with this one at its place, in place of one that has its number
-abbrev pub entered : Numbered → List Numbered → List Numbered
-entered new [] = new ∷ []
-entered new (e ∷ es) = cond (nat_lt new.number e.number) (new ∷ e ∷ es) (cond (e.number == new.number) (new ∷ es) (e ∷ entered new es))
+abbrev pub filed : Numbered → List Numbered → List Numbered
+filed new [] = new ∷ []
+filed new (e ∷ es) = cond (nat_lt new.number e.number) (new ∷ e ∷ es) (cond (e.number == new.number) (new ∷ es) (e ∷ filed new es))
 
 module _ {M : Type 0} where
   -- a member, if it has this number

@@ -1,5 +1,5 @@
 -- The ready members in two lines: all of them, and those that stand inside.
-use Rattle.std.specs.Prelude.{ℕ, Bool, cond, List, [], ◌∷◌, ◌++◌, Option, Some, None}
+use Rattle.std.specs.Prelude.{ℕ, ◌<◌, Bool, cond, List, [], ◌∷◌, ◌++◌, length, Option, Some, None}
 use Rattle.ame_pool.specs.Calls.{skipping}
 
 -- the numbers of the ready members from the oldest on, those of them that stand inside, and how many numbers fit
@@ -7,6 +7,11 @@ pub record Queues : Type 0 where
   pub order : List ℕ
   pub inside : List ℕ
   pub places : ℕ
+
+-- one more number fits
+pub record HasPlace (q : Queues) : Type 0 where
+  pub order : length q.order < q.places
+  pub inside : length q.inside < q.places
 
 -- the first number
 abbrev pub front : List ℕ → Option ℕ

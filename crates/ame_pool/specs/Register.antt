@@ -9,5 +9,5 @@ pub record Register (M : Type 0) : Type 0 where
 
 module _ {M : Type 0} where
   -- no members, and no room
-  abbrev pub empty : Register M
-  empty = record { list = []; room = 0 }
+  abbrev pub vacant : Register M
+  vacant = record { list = []; room = 0 }

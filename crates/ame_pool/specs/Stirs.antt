@@ -1,7 +1,7 @@
 -- What a write to a location makes of one member that watches it.
 use Rattle.std.specs.Prelude.{ℕ, Bool, false, cond, [], ◌∷◌, ◌++◌, Some, None}
 use Rattle.ame_pool.specs.declared.member.Member.{Member}
-use Rattle.ame_pool.specs.Members.{find, change}
+use Rattle.ame_pool.specs.Members.{find, altered}
 use Rattle.ame_pool.specs.Waking.{has, stirred_by, is_woken_by}
 use Rattle.ame_pool.specs.Index.{untouched}
 use Rattle.ame_pool.specs.Roster.{Roster}
@@ -18,6 +18,6 @@ module _ {M : Type 0} where
   -- the member with the number is stirred, and the youngest ready one if it is woken
   abbrev pub stirred_at : ℕ → ℕ → Roster M → Roster M
   stirred_at l number s = record s {
-    members = change number (stirred_by l) s.members;
+    members = altered number (stirred_by l) s.members;
     order = s.order ++ cond (is_woken_at l number s) (number ∷ []) [];
   }

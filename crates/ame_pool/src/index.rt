@@ -21,7 +21,7 @@ pub fn first(index: &BTreeSet<(u32, u64)>, l: Loc) -> Option<u64>
 
 /// One more watcher. A refusal changes nothing.
 fn add(index: &mut BTreeSet<(u32, u64)>, l: Loc, number: u64) -> Result<(), NoMemory>
-    ensures ok { OnOk result ((k n : ℕ) → lists index.new k n ≡ (((l.0 == k) && (number == n)) || lists index.old k n)) }
+    ensures ok { OnOk result ((k n : ℕ) → lists index.new k n ≡ (((n == number) && (l.0 == k)) || lists index.old k n)) }
     ensures err { OnErr result ((k n : ℕ) → lists index.new k n ≡ lists index.old k n) }
 {
     match index.insert((l.0, number)) {
@@ -32,7 +32,7 @@ fn add(index: &mut BTreeSet<(u32, u64)>, l: Loc, number: u64) -> Result<(), NoMe
 
 /// One watcher less.
 fn drop_one(index: &mut BTreeSet<(u32, u64)>, l: Loc, number: u64)
-    ensures { (k n : ℕ) → lists index.new k n ≡ (not ((l.0 == k) && (number == n)) && lists index.old k n) }
+    ensures { (k n : ℕ) → lists index.new k n ≡ (not ((n == number) && (l.0 == k)) && lists index.old k n) }
 {
     index.remove(&(l.0, number));
 }

@@ -3,15 +3,20 @@
 
 mod counts;
 mod index;
+mod laws;
+mod line;
 mod member;
 mod members;
 mod numbers;
 mod oldest;
 mod pool;
 mod ready;
+mod roll;
 #[cfg(test)]
 mod tests;
+mod turn;
 
+pub use laws::{found_after_calls, found_are_all};
 pub use member::{Member, Standing, Watch};
 pub use oldest::Oldest;
 pub use pool::Pool;

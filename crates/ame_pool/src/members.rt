@@ -6,7 +6,8 @@ ghost use Rattle.ame_pool.specs.Numbered.{AreRising, only, members_at};
 
 use crate::member::Member;
 use crate::numbers::{Numbered, enter, known_slot, slot_of};
-use ame_term::{Loc, Locs, NoMemory};
+use crate::turn::Turn;
+use ame_term::NoMemory;
 use slab::Slab;
 use std::alloc::Global;
 use std::marker::Model;
@@ -75,15 +76,13 @@ fn drop_stale<M>(numbers: &mut Vec<Numbered>, slots: &Slab<Member<M>>)
 }
 
 impl<M: Drop> Members<M> {
-    ghost use Rattle.ame_pool.specs.Members.{find, change, placed, without};
-    ghost use Rattle.ame_pool.specs.Standings.{is_touched};
-    ghost use Rattle.ame_pool.specs.Waking.{stirred_by, is_woken_by};
-    ghost use Rattle.ame_pool.specs.Calls.{begun, at_home, renewed, noted_on, at_rest};
-    ghost use Rattle.ame_pool.specs.Register.{empty};
+    ghost use Rattle.ame_pool.specs.Members.{find, altered, placed, except};
+    ghost use Rattle.ame_pool.specs.Turns.{turned, is_readied};
+    ghost use Rattle.ame_pool.specs.Register.{vacant};
 
     /// No members. It takes no memory.
     pub fn new(alloc: Global) -> Members<M>
-        ensures { result ≡ empty }
+        ensures { result ≡ vacant }
     {
         Members {
             slots: Slab::new(alloc),
@@ -128,6 +127,14 @@ impl<M: Drop> Members<M> {
         }
     }
 
+    /// The seat of a member, which no other one has meanwhile.
+    pub fn seat(&self, number: u64) -> usize {
+        match slot_of(self.numbers.as_slice(), number) {
+            Some(key) => key,
+            None => 0,
+        }
+    }
+
     /// One member more.
     pub fn insert(&mut self, member: Member<M>)
         requires room { 0 < self.old.room }
@@ -143,66 +150,20 @@ impl<M: Drop> Members<M> {
     /// Takes a member out.
     pub fn remove(&mut self, number: u64) -> Member<M>
         requires { IsSome (find number self.old.list) }
-        ensures members { self.new ≡ record self.old { list = without number self.old.list } }
+        ensures members { self.new ≡ record self.old { list = except number self.old.list } }
         ensures member { Some result ≡ find number self.old.list }
     {
         let key = known_slot(self.numbers.as_slice(), number);
         self.slots.remove(key)
     }
 
-    /// A seat runs it.
-    pub fn begin(&mut self, number: u64)
-        requires { IsSome (find number self.old.list) }
-        ensures { self.new ≡ record self.old { list = change number begun self.old.list } }
-    {
-        let key = known_slot(self.numbers.as_slice(), number);
-        self.slots[key].begin();
-    }
-
-    /// Ready again.
-    pub fn go_home(&mut self, number: u64, rolled_back: bool)
+    /// A member's turn; the answer tells whether this makes it ready.
+    pub fn turn(&mut self, number: u64, to: Turn<M>) -> bool
         requires { IsSomeAnd (find number self.old.list) (λ m. m.rollbacks ≤ 8) }
-        ensures { self.new ≡ record self.old { list = change number (at_home rolled_back) self.old.list } }
+        ensures members { self.new ≡ record self.old { list = altered number (turned to) self.old.list } }
+        ensures readied { Some result ≡ option_map (is_readied to) (find number self.old.list) }
     {
         let key = known_slot(self.numbers.as_slice(), number);
-        self.slots[key].go_home(rolled_back);
-    }
-
-    /// Ready with another machine.
-    pub fn renew(&mut self, number: u64, machine: M, inside: bool)
-        requires { IsSome (find number self.old.list) }
-        ensures { self.new ≡ record self.old { list = change number (renewed machine inside) self.old.list } }
-    {
-        let key = known_slot(self.numbers.as_slice(), number);
-        self.slots[key].renew(machine, inside);
-    }
-
-    /// Noted as stuck on these locations.
-    pub fn watch(&mut self, number: u64, locs: Locs)
-        requires { IsSome (find number self.old.list) }
-        ensures { self.new ≡ record self.old { list = change number (noted_on locs) self.old.list } }
-    {
-        let key = known_slot(self.numbers.as_slice(), number);
-        self.slots[key].watch(locs);
-    }
-
-    /// Parked, or ready where its watch was touched, which the answer tells.
-    pub fn settle(&mut self, number: u64) -> bool
-        requires { IsSome (find number self.old.list) }
-        ensures members { self.new ≡ record self.old { list = change number at_rest self.old.list } }
-        ensures touched { Some result ≡ option_map (λ m. is_touched m.standing) (find number self.old.list) }
-    {
-        let key = known_slot(self.numbers.as_slice(), number);
-        self.slots[key].settle()
-    }
-
-    /// A location was written; the answer tells whether this member was woken.
-    pub fn stir(&mut self, number: u64, l: Loc) -> bool
-        requires { IsSome (find number self.old.list) }
-        ensures members { self.new ≡ record self.old { list = change number (stirred_by l.0) self.old.list } }
-        ensures woken { Some result ≡ option_map (is_woken_by l.0) (find number self.old.list) }
-    {
-        let key = known_slot(self.numbers.as_slice(), number);
-        self.slots[key].stir(l)
+        self.slots[key].turn(to)
     }
 }

@@ -1,7 +1,7 @@
 //! Which number leads to which slot.
 
 ghost use Rattle.std.specs.Prelude.{◌≡◌, ◌+◌, ◌<◌, ◌≤◌, Some, IsSome, IfOk, IfErr, vec_len, vec_capacity};
-ghost use Rattle.ame_pool.specs.Numbered.{AreRising, IsEntryOf, IsEntryGap, key_of, entered};
+ghost use Rattle.ame_pool.specs.Numbered.{AreRising, IsEntryOf, IsEntryGap, key_of, filed};
 
 /// A number that was given, and the slot of its member. The entry is stale where that slot has no member with the number.
 #[derive(Clone, Copy)]
@@ -46,7 +46,7 @@ pub fn known_slot(numbers: &[Numbered], number: u64) -> usize
 pub fn enter(numbers: &mut Vec<Numbered>, entry: Numbered)
     requires rising { AreRising numbers.old.items }
     requires room { vec_len numbers.old < vec_capacity numbers.old }
-    ensures items { numbers.new.items ≡ entered entry numbers.old.items }
+    ensures items { numbers.new.items ≡ filed entry numbers.old.items }
     ensures len { vec_len numbers.new ≤ vec_len numbers.old + 1 }
     ensures capacity { vec_capacity numbers.old ≤ vec_capacity numbers.new }
 {

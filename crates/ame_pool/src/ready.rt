@@ -1,13 +1,11 @@
-//! The ready members, from the oldest on.
+//! The order of the ready members, from the oldest on.
 
-ghost use Rattle.std.specs.Prelude.{◌≡◌, ◌+◌, ◌<◌, ◌≤◌, ◌==◌, ◌^◌, [], length, position, OnOk};
-ghost use Rattle.std.specs.VecDeque.{deque_capacity};
-ghost use Rattle.ame_pool.specs.Calls.{skipping};
-ghost use Rattle.ame_pool.specs.Queues.{front, pushed, taken};
+ghost use Rattle.std.specs.Prelude.{◌≡◌, ◌+◌, ◌<◌, ◌≤◌, ◌==◌, ◌^◌, [], length, count_by, OnOk};
+ghost use Rattle.ame_pool.specs.Queues.{HasPlace, front, pushed, taken};
 
+use crate::line::Line;
 use ame_term::NoMemory;
 use std::alloc::Global;
-use std::collections::VecDeque;
 use std::marker::Model;
 
 #[cfg(test)]
@@ -16,49 +14,21 @@ mod probe;
 /// Their numbers, and apart from them the numbers of those that stand inside, in the same order.
 #[derive(Drop)]
 pub struct Ready {
-    order: VecDeque<u64>,
-    inside: VecDeque<u64>,
+    order: Line,
+    inside: Line,
 }
 
 impl Model for Ready {
     ghost use Rattle.std.specs.Prelude.{min};
-    ghost use Rattle.std.specs.VecDeque.{deque_capacity};
     ghost use Rattle.ame_pool.specs.Queues.{Queues};
 
     ghost Value = { Queues };
 
     ghost view = { λ a. record {
-      order = a.order.items;
-      inside = a.inside.items;
-      places = min (deque_capacity a.order) (deque_capacity a.inside);
+      order = a.order.list;
+      inside = a.inside.list;
+      places = min a.order.places a.inside.places;
     } };
-}
-
-/// Where a number first stands.
-fn rank(numbers: &VecDeque<u64>, number: u64) -> Option<usize>
-    ensures { result ≡ position (λ n. n == number) numbers.now.items }
-{
-    numbers.iter().position(|n| *n == number)
-}
-
-/// Takes a number out, if it is there. The first one is found at once.
-fn skip(numbers: &mut VecDeque<u64>, number: u64)
-    ensures items { numbers.new.items ≡ skipping number numbers.old.items }
-    ensures capacity { deque_capacity numbers.new ≡ deque_capacity numbers.old }
-{
-    if let Some(place) = rank(numbers, number) {
-        numbers.remove(place);
-    }
-}
-
-/// The first number.
-fn first_of(numbers: &VecDeque<u64>) -> Option<u64>
-    ensures { result ≡ front numbers.now.items }
-{
-    match numbers.front() {
-        Some(number) => Some(*number),
-        None => None,
-    }
 }
 
 impl Ready {
@@ -69,46 +39,45 @@ impl Ready {
         ensures small { result.places < 2 ^ 63 }
     {
         Ready {
-            order: VecDeque::new(alloc),
-            inside: VecDeque::new(alloc),
+            order: Line::new(alloc),
+            inside: Line::new(alloc),
         }
     }
 
     /// Makes room for this many more than are ready.
     pub fn room(&mut self, more: usize) -> Result<(), NoMemory>
-        requires more { length self.old.order + more < 2 ^ 64 }
-        requires fewer { length self.old.inside ≤ length self.old.order }
+        requires { length self.old.inside ≤ length self.old.order }
         ensures order { self.new.order ≡ self.old.order }
         ensures inside { self.new.inside ≡ self.old.inside }
         ensures grows { self.old.places ≤ self.new.places }
         ensures small { self.new.places < 2 ^ 63 }
         ensures ok { OnOk result (length self.old.order + more ≤ self.new.places) }
     {
+        self.order.room(more)?;
         let inside_more = self.order.len() - self.inside.len() + more;
-        self.order.reserve(more)?;
-        self.inside.reserve(inside_more)?;
-        Ok(())
+        self.inside.room(inside_more)
     }
 
-    /// The youngest of them.
-    pub fn push(&mut self, number: u64, is_inside: bool)
-        requires order { length self.old.order < self.old.places }
-        requires inside { length self.old.inside < self.old.places }
+    /// The youngest of them, at a seat.
+    pub fn push(&mut self, number: u64, seat: usize, is_inside: bool)
+        requires { HasPlace self.old }
         ensures { self.new ≡ pushed number is_inside self.old }
     {
-        self.order.push_back_reserved(number);
+        self.order.push(number, seat);
         if is_inside {
-            self.inside.push_back_reserved(number);
+            self.inside.push(number, seat);
         }
     }
 
-    /// One of them leaves.
-    pub fn take(&mut self, number: u64, is_inside: bool)
+    /// One of them leaves its seat.
+    pub fn take(&mut self, number: u64, seat: usize, is_inside: bool)
+        requires order { count_by (λ n. n == number) self.old.order ≤ 1 }
+        requires inside { count_by (λ n. n == number) self.old.inside ≤ 1 }
         ensures { self.new ≡ taken number is_inside self.old }
     {
-        skip(&mut self.order, number);
+        self.order.take(number, seat);
         if is_inside {
-            skip(&mut self.inside, number);
+            self.inside.take(number, seat);
         }
     }
 
@@ -116,13 +85,13 @@ impl Ready {
     pub fn first(&self) -> Option<u64>
         ensures { result ≡ front self.now.order }
     {
-        first_of(&self.order)
+        self.order.first()
     }
 
     /// The oldest that stands inside.
     pub fn first_inside(&self) -> Option<u64>
         ensures { result ≡ front self.now.inside }
     {
-        first_of(&self.inside)
+        self.inside.first()
     }
 }

@@ -249,6 +249,27 @@ fn ready_members_have_an_order(rt: HostRuntime) -> Result<(), Fail> {
 }
 
 #[test]
+fn a_held_member_is_found_at_once(rt: HostRuntime) -> Result<(), Fail> {
+    use Step::*;
+    let mut pool = run(
+        &rt,
+        rt.alloc(),
+        &[Add(1, false), Add(2, true), Add(3, false)],
+    )?;
+    for _ in 0..300u16 {
+        for number in [2u64, 3] {
+            assert!(&rt; pool.is_at_ticket(number));
+            hold(&rt, &mut pool, number);
+            home(&rt, &mut pool, number, false);
+        }
+        assert!(&rt; pool.has_order(&[1, 2, 3]));
+        assert!(&rt; pool.is_at_ticket(1));
+        assert!(&rt; pool.entries() <= 64);
+    }
+    Ok(())
+}
+
+#[test]
 fn where_none_is_ready_it_is_told_why(rt: HostRuntime) -> Result<(), Fail> {
     use Step::*;
     let alloc = rt.alloc();

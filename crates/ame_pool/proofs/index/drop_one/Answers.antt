@@ -1,5 +1,5 @@
 use Rattle.std.proofs.Common.{◌∙◌, ◌==◌, ◌&&◌, false, cond, ap}
-use Rattle.ame_pool.specs.Index.{lists}
+use Rattle.ame_pool.proofs.Words.{lists}
 use Rattle.ame_pool.proofs.IndexLemmas.{pair_at, cond_and}
 use Rattle.ame_pool.proofs.index.drop_one.Goals as goal
 
@@ -7,4 +7,4 @@ pub returns : goal.returns
 returns c k n =
     c.remove.ensures.updates.0 (k, n)
     ∙ ap (λ b. cond b false (lists c.args.index.now k n)) (pair_at c.args.l.0 c.args.number k n)
-    ∙ cond_and ((c.args.l.0 == k) && (c.args.number == n)) (lists c.args.index.now k n)
+    ∙ cond_and ((n == c.args.number) && (c.args.l.0 == k)) (lists c.args.index.now k n)

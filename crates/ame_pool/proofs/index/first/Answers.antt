@@ -1,5 +1,5 @@
 use Rattle.std.proofs.Common.{◌≡◌, true, false, refl}
-use Rattle.ame_pool.specs.Index.{lists}
+use Rattle.ame_pool.proofs.Words.{lists}
 use Rattle.ame_pool.proofs.IndexLemmas.{pair_low, pair_le, pair_le_at}
 use Rattle.ame_pool.proofs.index.first.Goals as goal
 

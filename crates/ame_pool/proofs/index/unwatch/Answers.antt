@@ -1,6 +1,5 @@
 use Rattle.std.proofs.Common.{sym, get_or}
-use Rattle.std.proofs.lemmas.List.{get_or_default}
-use Rattle.ame_term.specs.declared.types.Loc.{Loc}
+use Rattle.ame_pool.proofs.Words.{Loc, get_or_default}
 use Rattle.ame_pool.proofs.IndexLemmas.{dropped_none, dropped_more, dropped_kept, dropped_all}
 use Rattle.ame_pool.proofs.index.unwatch.Goals as goal
 use Rattle.ame_pool.proofs.index.unwatch.Goals.{then-not-is_among, else-not-is_among}

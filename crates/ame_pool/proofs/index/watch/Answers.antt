@@ -1,7 +1,5 @@
 use Rattle.std.proofs.Common.{get_or}
-use Rattle.std.proofs.lemmas.List.{get_or_default}
-use Rattle.ame_term.specs.declared.types.Loc.{Loc}
-use Rattle.ame_pool.specs.Index.{IsBetween}
+use Rattle.ame_pool.proofs.Words.{Loc, IsBetween, get_or_default}
 use Rattle.ame_pool.proofs.IndexLemmas.{on_err, added_none, added_more, added_all, added_part}
 use Rattle.ame_pool.proofs.index.watch.Goals as goal
 

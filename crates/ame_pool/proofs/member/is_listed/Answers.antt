@@ -1,6 +1,6 @@
 use Rattle.std.proofs.Common.{◌∙◌, ◌==◌, sym, ap}
-use Rattle.ame_pool.specs.Waking.{has}
-use Rattle.ame_pool.proofs.ListedLemmas.{list_any-map}
+use Rattle.ame_pool.proofs.Words.{has}
+use Rattle.ame_pool.proofs.FindLemmas.{list_any-map}
 use Rattle.ame_pool.proofs.member.is_listed.Goals as goal
 
 pub returns : goal.returns

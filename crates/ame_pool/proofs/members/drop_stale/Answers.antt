@@ -1,10 +1,7 @@
 use Rattle.std.proofs.Common.{◌∙◌, is_some, ap, rules}
-use Rattle.std.proofs.lemmas.Fn.{filter_same}
-use Rattle.slab.specs.Slab.{get}
-use Rattle.ame_pool.specs.declared.numbers.Numbered.{Numbered}
-use Rattle.ame_pool.specs.Numbered.{only, members_at}
+use Rattle.ame_pool.proofs.Words.{get, Numbered, only, members_at, filter_same}
 use Rattle.ame_pool.proofs.EntryLemmas.{rising_filtered}
-use Rattle.ame_pool.proofs.WalkLemmas.{kept_members}
+use Rattle.ame_pool.proofs.SlotLemmas.{kept_members}
 use Rattle.ame_pool.proofs.members.drop_stale.Goals as goal
 
 pub returns-then-len-clause-list : goal.returns-then-len-clause-list

@@ -1,7 +1,6 @@
 use Rattle.std.proofs.Common.{◌∙◌, ap, refl}
-use Rattle.slab.specs.Slab.{get}
-use Rattle.ame_pool.specs.Numbered.{key_of}
-use Rattle.ame_pool.proofs.WalkLemmas.{find_held}
+use Rattle.ame_pool.proofs.Words.{get, key_of}
+use Rattle.ame_pool.proofs.SlotLemmas.{find_held}
 use Rattle.ame_pool.proofs.members.Members.get.Goals as goal
 
 pub returns-in-Some : goal.returns-in-Some

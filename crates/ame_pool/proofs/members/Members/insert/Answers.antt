@@ -1,6 +1,6 @@
 use Rattle.std.proofs.Common.{◌≡◌, ◌<◌, None, refl, sym, subst, arith}
-use Rattle.ame_pool.specs.Members.{find}
-use Rattle.ame_pool.proofs.EntryLemmas.{rising_entered}
+use Rattle.ame_pool.proofs.Words.{find}
+use Rattle.ame_pool.proofs.EntryLemmas.{rising_filed}
 use Rattle.ame_pool.proofs.SlotLemmas.{slot_filled}
 use Rattle.ame_pool.proofs.members.Members.insert.Goals as goal
 
@@ -8,7 +8,7 @@ pub invariant_of-self : goal.invariant_of-self
 invariant_of-self g c =
     let room = subst (λ s. 0 < s.room) (sym c.self.view_is) c.requires.room in
     record {
-      rising = rw c.enter.ensures.items (rising_entered c.self.inside.numbers.items c.self.invariant.rising (record { number = c.args.member.number; key = c.insert_reserved-key.result }));
+      rising = rw c.enter.ensures.items (rising_filed c.self.inside.numbers.items c.self.invariant.rising (record { number = c.args.member.number; key = c.insert_reserved-key.result }));
       slots_fit = omega (arith, room, c.self.invariant.slots_fit, c.insert_reserved-key.ensures.len, c.insert_reserved-key.ensures.capacity);
       numbers_fit = omega (arith, room, c.self.invariant.numbers_fit, c.enter.ensures.len, c.enter.ensures.capacity);
     }

@@ -16,7 +16,7 @@ pub returns-clause-members : goal.returns-clause-members
 returns-clause-members g c =
     let h = slot_at c.self.inside.slots c.self.inside.numbers c.self.inside.room c.self.invariant c.args.self.now c.self.view_is c.args.number c.requires c.as_slice.result.now c.as_slice.ensures.value
     c.known_slot-key.result c.known_slot-key.ensures in
-    rw (← c.self.view_is, slot_emptied c.self.inside.slots c.remove.new.self c.self.inside.numbers.items c.args.number c.known_slot-key.result h c.remove.ensures.updates) refl
+    rw (← c.self.view_is, slot_emptied c.self.inside.slots c.self.inside.numbers.items c.args.number c.known_slot-key.result h c.remove.new.self c.remove.ensures.updates) refl
 
 pub returns-clause-member : goal.returns-clause-member
 returns-clause-member g c =

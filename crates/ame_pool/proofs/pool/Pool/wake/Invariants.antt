@@ -1,5 +1,5 @@
 use Rattle.std.proofs.Common.{◌≡◌}
-use Rattle.ame_pool.specs.Calls.{woken}
+use Rattle.ame_pool.proofs.Words.{woken}
 use Rattle.ame_pool.proofs.WakeLemmas.{to_stir}
 use Rattle.ame_pool.proofs.pool.Pool.wake.Given as goal
 

@@ -1,0 +1,36 @@
+use Rattle.std.proofs.Common.{◌==◌, refl, ap, ◌∙◌, arith}
+use Rattle.ame_pool.proofs.Words.{Turn, is_ready, counted, taken, is_inside_at, count_by}
+use Rattle.ame_pool.proofs.OrderLemmas.{order_once, count_filter}
+use Rattle.ame_pool.proofs.CountLemmas.{moved_in}
+use Rattle.ame_pool.proofs.KeptLemmas.{opened, few_at, there_turned, read_turned, kept_held}
+use Rattle.ame_pool.proofs.roll.Roll.begin.Goals as goal
+
+pub turn-requires : goal.turn-requires
+turn-requires g c = let o = opened is_ready c.args.number _ c.args.self.now c.self.view_is c.requires in few_at c.self.invariant c.args.number o.member o.found
+
+pub member-member-requires : goal.member-member-requires
+member-member-requires g c =
+    let o = opened is_ready c.args.number _ c.args.self.now c.self.view_is c.requires in
+    rw c.turn.ensures.members (there_turned c.args.number Turn.Begin c.self.inside.members.list o.member o.found)
+
+pub invariant_of-self : goal.invariant_of-self
+invariant_of-self g c =
+    let n = c.args.number in
+    let o = opened is_ready n _ c.args.self.now c.self.view_is c.requires in
+    let read = read_turned n Turn.Begin c.self.inside.members.list o.member o.found c.member-member.result.now (rw c.turn.ensures.members at c.member-member.ensures) in
+    let counts = c.enter.ensures ∙ ap (λ m. counted m c.self.inside.counts) read in
+    let queues = c.take.ensures ∙ ap (λ m. taken n m.inside c.self.inside.ready) read in
+    rw (c.turn.ensures.members, queues) (kept_held c.self.invariant n o.member o.found Turn.Begin c.enter.new.self (moved_in o.member _ o.passes _ c.enter.new.self counts) o.passes refl refl)
+
+pub take-requires-clause-order : goal.take-requires-clause-order
+take-requires-clause-order g c = order_once c.self.inside.members.list c.self.inside.ready.order c.self.invariant.sound c.args.number
+
+pub take-requires-clause-inside : goal.take-requires-clause-inside
+take-requires-clause-inside g c =
+    let n = c.args.number in
+    omega (
+      arith,
+      order_once c.self.inside.members.list c.self.inside.ready.order c.self.invariant.sound n,
+      ap (count_by (λ k. k == n)) c.self.invariant.inside,
+      count_filter (λ k. k == n) (is_inside_at c.self.inside.members.list) c.self.inside.ready.order,
+    )

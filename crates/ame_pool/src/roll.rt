@@ -1,0 +1,165 @@
+//! Who is there, and who is ready.
+
+ghost use Rattle.std.specs.Prelude.{◌≡◌, ◌<◌, ℕ, Some, None, IsSome, OnOk, OnErr, IsTrue, option_copied};
+ghost use Rattle.std.specs.List.{list_any};
+
+use crate::counts::Counts;
+use crate::member::{Member, Standing};
+use crate::members::Members;
+use crate::oldest::Oldest;
+use crate::ready::Ready;
+use crate::turn::Turn;
+use ame_term::NoMemory;
+use std::alloc::Global;
+use std::marker::Model;
+
+#[cfg(test)]
+mod probe;
+
+/// Members by their numbers, those that are ready from the oldest on, and how many are busy or parked.
+#[derive(Drop)]
+pub struct Roll<M> {
+    members: Members<M>,
+    ready: Ready,
+    counts: Counts,
+}
+
+impl<M> Model for Roll<M> {
+    ghost use Rattle.ame_pool.specs.Roster.{Roster};
+
+    ghost Value = { Roster M };
+
+    ghost use Rattle.ame_pool.specs.Keeps.{IsKept};
+
+    ghost view = { λ a. record { members = a.members.list; order = a.ready.order; room = a.members.room } };
+
+    ghost invariant = { λ a. IsKept a.members a.ready a.counts };
+}
+
+impl<M: Drop> Roll<M> {
+    ghost use Rattle.ame_pool.specs.Members.{find, is_ready, is_busy};
+    ghost use Rattle.ame_pool.specs.Roster.{nobody};
+    ghost use Rattle.ame_pool.specs.Begin.{oldest as oldest_of};
+    ghost use Rattle.ame_pool.specs.Keeps.{IsSound};
+    ghost use Rattle.ame_pool.specs.Turns.{is_away, turned_at};
+    ghost use Rattle.ame_pool.specs.Calls.{IsAt, with_room, joined, newcomer, held, removed, machine_of};
+
+    /// Without members. It takes no memory.
+    pub fn new(alloc: Global) -> Roll<M>
+        ensures { result ≡ nobody }
+    {
+        Roll {
+            members: Members::new(alloc),
+            ready: Ready::new(alloc),
+            counts: Counts::new(),
+        }
+    }
+
+    /// Makes room for this many members more. The calls below then take no memory.
+    pub fn room(&mut self, places: usize) -> Result<(), NoMemory>
+        ensures ok { OnOk result (self.new ≡ with_room places self.old) }
+        ensures err { OnErr result (self.new ≡ self.old) }
+    {
+        let others = self.counts.busy + self.counts.parked;
+        let Some(more) = others.checked_add(places) else {
+            return Err(NoMemory);
+        };
+        self.ready.room(more)?;
+        self.members.room(places)
+    }
+
+    /// A new member, the youngest ready one.
+    pub fn add(&mut self, number: u64, machine: M, inside: bool)
+        requires room { 0 < self.old.room }
+        requires fresh { find number self.old.members ≡ None }
+        ensures { self.new ≡ joined (newcomer number machine inside) self.old }
+    {
+        self.members.insert(Member {
+            number,
+            machine,
+            inside,
+            rollbacks: 0,
+            standing: Standing::Ready,
+        });
+        self.ready.push(number, self.members.seat(number), inside);
+    }
+
+    /// The member with a number, if there is one.
+    pub fn get(&self, number: u64) -> Option<&Member<M>>
+        ensures member { option_copied result ≡ find number self.now.members }
+        ensures sound { IsSound self.now.members self.now.order }
+    {
+        self.members.get(number)
+    }
+
+    /// The member with a number that is there.
+    pub fn member(&self, number: u64) -> &Member<M>
+        requires { IsSome (find number self.now.members) }
+        ensures { Some result.now ≡ find number self.now.members }
+    {
+        self.members.member(number)
+    }
+
+    /// A ready member is busy.
+    pub fn begin(&mut self, number: u64)
+        requires { IsAt is_ready number self.old }
+        ensures { self.new ≡ held number self.old }
+    {
+        self.members.turn(number, Turn::Begin);
+        let member = self.members.member(number);
+        self.counts.enter(member);
+        self.ready
+            .take(number, self.members.seat(number), member.inside);
+    }
+
+    /// The turn of a member that is busy or parked. Where it is ready then, it is the youngest ready one.
+    pub fn turn(&mut self, number: u64, to: Turn<M>)
+        requires { IsAt is_away number self.old }
+        ensures { self.new ≡ turned_at number to self.old }
+    {
+        self.counts.leave(self.members.member(number));
+        let is_readied = self.members.turn(number, to);
+        let member = self.members.member(number);
+        self.counts.enter(member);
+        if is_readied {
+            let seat = self.members.seat(number);
+            self.ready.push(number, seat, member.inside);
+        }
+    }
+
+    /// A member that is busy or parked leaves.
+    pub fn remove(&mut self, number: u64) -> M
+        requires { IsAt is_away number self.old }
+        ensures roll { self.new ≡ removed number self.old }
+        ensures machine { Some result ≡ machine_of number self.old }
+    {
+        self.counts.leave(self.members.member(number));
+        let Member {
+            number: _,
+            machine,
+            inside: _,
+            rollbacks: _,
+            standing: _,
+        } = self.members.remove(number);
+        machine
+    }
+
+    /// The oldest ready member that may begin, or why there is none.
+    pub fn oldest(&self) -> Oldest
+        ensures oldest { result ≡ oldest_of self.now }
+        ensures ready { (n : ℕ) → result ≡ Oldest.Member n → IsAt is_ready n self.now }
+        ensures waits { result ≡ Oldest.Wait → IsTrue (list_any is_busy self.now.members) }
+        ensures sound { IsSound self.now.members self.now.order }
+    {
+        let Some(number) = self.ready.first() else {
+            return self.counts.idle();
+        };
+        if self.counts.may_begin(self.members.member(number)) {
+            return Oldest::Member(number);
+        }
+        match self.ready.first_inside() {
+            Some(inside) => Oldest::Member(inside),
+            None => Oldest::Wait,
+        }
+    }
+}

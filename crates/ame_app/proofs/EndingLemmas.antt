@@ -6,9 +6,9 @@ use Rattle.ame_journal.specs.declared.entry.Entry.{Entry}
 use Rattle.ame_journal.specs.Replay.{resting, replay}
 use Rattle.ame_app.specs.declared.ended.Ended.{Ended}
 use Rattle.ame_app.specs.Runs.{AtRest, HaltsAt, HasMembers, IsEmpty, Replays}
-use Rattle.ame_app.specs.Endings.{entries_of, output_of, turns_of, left_of, IsRunOf, IsFinished, IsSpent}
+use Rattle.ame_app.specs.Endings.{journal_of, output_of, turns_of, left_of, IsRunOf, IsFinished, IsSpent}
 
-run-of : (p : Tree) (e : Ended) (entries : List Entry) (s : State) → entries_of e ≡ entries → replay p entries ≡ Some (resting s) →
+run-of : (p : Tree) (e : Ended) (entries : List Entry) (s : State) → journal_of e ≡ entries → replay p entries ≡ Some (resting s) →
     s.output ≡ output_of e → IfSome (left_of e) (λ t. t ≡ s) → IsRunOf p e
 run-of p e entries s same replays printed left =
     record { state = s; replays = ap (λ es. replay p es) same ∙ replays; printed = printed; left = left }
@@ -20,11 +20,11 @@ left-none : (e : Ended) (s : State) → left_of e ≡ None → IfSome (left_of e
 left-none e s same = let P : Option State → Type 0 = λ o. IfSome o (λ t. t ≡ s) in subst P (sym same) tt
 
 -- a run between two fragments
-pub rests-run : (p : Tree) (e : Ended) (entries : List Entry) (s : State) (k : ℕ) → entries_of e ≡ entries → output_of e ≡ s.output → left_of e ≡ Some s →
+pub rests-run : (p : Tree) (e : Ended) (entries : List Entry) (s : State) (k : ℕ) → journal_of e ≡ entries → output_of e ≡ s.output → left_of e ≡ Some s →
     AtRest p entries s k → IsRunOf p e
 rests-run p e entries s k same output left rests = run-of p e entries s same rests.replays (sym output) (left-is e s left)
 
-pub rests-finished : (p : Tree) (e : Ended) (entries : List Entry) (s : State) (k : ℕ) → entries_of e ≡ entries → output_of e ≡ s.output → left_of e ≡ Some s →
+pub rests-finished : (p : Tree) (e : Ended) (entries : List Entry) (s : State) (k : ℕ) → journal_of e ≡ entries → output_of e ≡ s.output → left_of e ≡ Some s →
     IsEmpty s → AtRest p entries s k → IsFinished p e
 rests-finished p e entries s k same output left empty rests =
     record {
@@ -32,13 +32,13 @@ rests-finished p e entries s k same output left empty rests =
       empty = let P : Option State → Type 0 = λ o. IsSomeAnd o IsEmpty in subst P (sym left) empty;
     }
 
-members-of : (p : Tree) (e : Ended) (entries : List Entry) → entries_of e ≡ entries → HasMembers p entries → HasMembers p (entries_of e)
+members-of : (p : Tree) (e : Ended) (entries : List Entry) → journal_of e ≡ entries → HasMembers p entries → HasMembers p (journal_of e)
 members-of p e entries same some = subst (HasMembers p) (sym same) some
 
 left-some : (e : Ended) (s : State) → left_of e ≡ Some s → IsSome (left_of e)
 left-some e s same = let P : Option State → Type 0 = λ o. IsSome o in subst P (sym same) refl
 
-pub rests-spent : (p : Tree) (e : Ended) (entries : List Entry) (s : State) (k : ℕ) → entries_of e ≡ entries → output_of e ≡ s.output → left_of e ≡ Some s →
+pub rests-spent : (p : Tree) (e : Ended) (entries : List Entry) (s : State) (k : ℕ) → journal_of e ≡ entries → output_of e ≡ s.output → left_of e ≡ Some s →
     turns_of e ≡ 1000000 → AtRest p entries s k → HasMembers p entries → IsSpent p e
 rests-spent p e entries s k same output left turns rests some =
     record {
@@ -49,7 +49,7 @@ rests-spent p e entries s k same output left turns rests some =
     }
 
 -- a run that was cut off, with the state before
-pub halts-spent : (p : Tree) (e : Ended) (entries : List Entry) (s : State) (output : List ℤ) → entries_of e ≡ entries → output_of e ≡ s.output → left_of e ≡ Some s →
+pub halts-spent : (p : Tree) (e : Ended) (entries : List Entry) (s : State) (output : List ℤ) → journal_of e ≡ entries → output_of e ≡ s.output → left_of e ≡ Some s →
     turns_of e ≡ 1000000 → HaltsAt p entries s output → HasMembers p entries → IsSpent p e
 halts-spent p e entries s output same printed left turns halts some =
     record {
@@ -60,7 +60,7 @@ halts-spent p e entries s output same printed left turns halts some =
     }
 
 -- a run that halted
-pub part-run : (p : Tree) (e : Ended) (entries : List Entry) (output : List ℤ) → entries_of e ≡ entries → output_of e ≡ output → left_of e ≡ None →
+pub part-run : (p : Tree) (e : Ended) (entries : List Entry) (output : List ℤ) → journal_of e ≡ entries → output_of e ≡ output → left_of e ≡ None →
     Replays p entries output → IsRunOf p e
 part-run p e entries output same printed left replays =
     run-of p e entries replays.state same replays.replays (replays.output_is ∙ sym printed) (left-none e replays.state left)

@@ -7,13 +7,7 @@ use Rattle.std.proofs.KnownBytes.{Appends-trans}
 use Rattle.ame_io.specs.Writes.{AppendsFront, AppendsFirst}
 use Rattle.ame_io.specs.declared.whole_write.WriteFault.{WriteFault}
 use Rattle.ame_io.proofs.WritesLemmas.{AppendsFront-first, AppendsFront-longer, AppendsFront-after}
-use Rattle.ame_app.specs.Lines.{line_of, lines}
-
--- a write that failed wrote a front
-pub front-written : (r : Result (Unit {0}) WriteFault) (a b : Option (List ℕ)) (text text' : List ℕ) → text ≡ text' →
-    IfErr r (λ e. AppendsFirst e.gone a b text) → OnErr r (AppendsFront a b text')
-front-written (Ok x) a b text text' same gone = tt
-front-written (Err e) a b text text' same gone = subst (AppendsFront a b) same (AppendsFront-first e.gone a b text gone)
+use Rattle.ame_io.specs.Lines.{line_of, lines}
 
 pub lines-append : (xs ys : List ℤ) → lines (xs ++ ys) ≡ lines xs ++ lines ys
 lines-append [] ys = refl

@@ -2,7 +2,7 @@
 use Rattle.std.proofs.Common.{◌≡◌, ℕ, List, Option, Some, None, Ok, IfSome, refl, sym, subst}
 use Rattle.ame_term.specs.Tree.{Typ, Tree}
 use Rattle.ame_term.specs.Typing.{typing, ref_types, no_cells}
-use Rattle.ame_term.specs.Written.{IsWritten}
+use Rattle.ame_term.specs.SourceTerm.{IsSourceTerm}
 use Rattle.ame_term.specs.State.{State, start}
 use Rattle.ame_journal.specs.Replay.{begun, resting}
 use Rattle.ame_journal.proofs.LabelLemmas.{unfold-all, unfolds_all-run}
@@ -10,18 +10,18 @@ use Rattle.ame_soundness.proofs.Started.{started}
 use Rattle.ame_soundness.proofs.Preserved.{preserved_along}
 use Rattle.ame_app.specs.declared.ended.Ended.{Ended}
 use Rattle.ame_app.specs.declared.execute.Ending.{Ending}
-use Rattle.ame_app.specs.Endings.{entries_of, left_of, IsRunOf, IsTypedState}
+use Rattle.ame_app.specs.Endings.{journal_of, left_of, IsRunOf, IsTypedState}
 use Rattle.ame_app.specs.Execute.{EndsAs}
 
 left-typed : (o : Option State) (s : State) → IfSome o (λ t. t ≡ s) → IsTypedState s → IfSome o IsTypedState
 left-typed None s same typed = tt
 left-typed (Some t) s same typed = subst IsTypedState (sym same) typed
 
-module _ (p : Tree) (places : List ℕ) (e : Ended) (typed : typing 0 places p ≡ Ok Typ.Unit) (written : IsWritten p) where
+module _ (p : Tree) (places : List ℕ) (e : Ended) (typed : typing 0 places p ≡ Ok Typ.Unit) (written : IsSourceTerm p) where
   run-typed : IsRunOf p e → IfSome (left_of e) IsTypedState
   run-typed run =
-      let all = unfold-all (begun p) (entries_of e) (resting run.state) run.replays in
-      let ran = unfolds_all-run (begun p) (entries_of e) all.0 (resting run.state) all.1 in
+      let all = unfold-all (begun p) (journal_of e) (resting run.state) run.replays in
+      let ran = unfolds_all-run (begun p) (journal_of e) all.0 (resting run.state) all.1 in
       let begins = started 0 places p (ref_types 0 places p) (typed, refl) written in
       let kept = preserved_along 0 all.0 no_cells (start p) run.state begins ran in
       left-typed (left_of e) run.state run.left (kept.0, kept.2)

@@ -1,12 +1,12 @@
 -- What each status tells of a call: of its words, of what the source gave, and of the run.
 use Rattle.std.specs.Prelude.{◌≡◌, ◌≢◌, ◌⊎◌, slice_index, ℕ, List, [], Option, Some, None, Ok, Err, ⊤}
 use Rattle.ame_io.specs.Counts.{HasRisen}
-use Rattle.ame_io.specs.Reads.{IsReadWhole, GivesMoreThan}
+use Rattle.ame_io.specs.Reads.{whole_limit, IsReadWhole, GivesMoreThan}
 use Rattle.ame_lex.specs.Bytes.{Text}
 use Rattle.ame_lex.specs.declared.tokens.LexFault.{LexFault}
 use Rattle.ame_parse.specs.declared.fault.ParseFault.{ParseFault}
 use Rattle.ame_parse.specs.declared.fault.Want.{Want}
-use Rattle.ame_parse.specs.Text.{Source, Fault, source_of, reading}
+use Rattle.ame_parse.specs.Text.{Source, ReadingFault, source_of, reading}
 use Rattle.ame_term.specs.View.{tree_of}
 use Rattle.ame_term.specs.Tree.{Typ}
 use Rattle.ame_term.specs.Typing.{typing}
@@ -20,26 +20,22 @@ use Rattle.ame_app.specs.declared.status.Status.{Status}
 use Rattle.ame_app.specs.declared.ended.Ended.{Ended}
 use Rattle.ame_app.specs.Endings.{IsRunOf, IsFinished, IsSpent}
 
--- the most bytes that a program may have
-abbrev pub limit : ℕ
-limit = 1048576
-
 -- how a fault of the bytes or of the tokens is told
-abbrev pub told : Fault → Option TextFault
-told (Fault.Lexical (LexFault.BadByte place)) = Some (record { place = place; kind = TextKind.BadByte })
-told (Fault.Lexical (LexFault.LongNumber place)) = Some (record { place = place; kind = TextKind.LongNumber })
-told (Fault.Lexical LexFault.NoMemory) = None
-told (Fault.Syntactic (ParseFault.Expected place want)) = Some (record { place = place; kind = TextKind.Expected want })
-told (Fault.Syntactic (ParseFault.UnknownName place)) = Some (record { place = place; kind = TextKind.UnknownName })
-told (Fault.Syntactic (ParseFault.TooNested place)) = Some (record { place = place; kind = TextKind.TooNested })
-told (Fault.Syntactic (ParseFault.Trailing place)) = Some (record { place = place; kind = TextKind.Trailing })
-told (Fault.Syntactic ParseFault.NoMemory) = None
+abbrev pub fault_told : ReadingFault → Option TextFault
+fault_told (ReadingFault.Lexical (LexFault.BadByte place)) = Some (record { place = place; kind = TextKind.BadByte })
+fault_told (ReadingFault.Lexical (LexFault.LongNumber place)) = Some (record { place = place; kind = TextKind.LongNumber })
+fault_told (ReadingFault.Lexical LexFault.NoMemory) = None
+fault_told (ReadingFault.Syntactic (ParseFault.Expected place want)) = Some (record { place = place; kind = TextKind.Expected want })
+fault_told (ReadingFault.Syntactic (ParseFault.UnknownName place)) = Some (record { place = place; kind = TextKind.UnknownName })
+fault_told (ReadingFault.Syntactic (ParseFault.TooNested place)) = Some (record { place = place; kind = TextKind.TooNested })
+fault_told (ReadingFault.Syntactic (ParseFault.Trailing place)) = Some (record { place = place; kind = TextKind.Trailing })
+fault_told (ReadingFault.Syntactic ParseFault.NoMemory) = None
 
 -- the text is no program, and this tells why
 pub record IsNoProgram (text : Text) (fault : TextFault) : Type 0 where
-  pub why : Fault
+  pub why : ReadingFault
   pub reads : reading text ≡ Err why
-  pub is : told why ≡ Some fault
+  pub is : fault_told why ≡ Some fault
 
 -- the text is a program that isn't Unit under protected, without devices, and this is its first fault
 pub record IsIllTyped (text : Text) (fault : TypeFault) : Type 0 where
@@ -101,8 +97,8 @@ pub record IsReadFault (call : Call) : Type 0 where
 -- the source gave more bytes than a program may have
 pub record IsTooLong (call : Call) (at : ℕ) : Type 0 where
   pub words : call.words ≡ []
-  pub given : GivesMoreThan limit call.left call.left_after
-  pub place : at ≡ limit
+  pub given : GivesMoreThan whole_limit call.left call.left_after
+  pub place : at ≡ whole_limit
   pub faults : call.faults_after ≡ call.faults
 
 -- the source was read to its end, and the status tells of all its bytes

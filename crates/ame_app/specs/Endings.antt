@@ -5,14 +5,14 @@ use Rattle.ame_term.specs.State.{State}
 use Rattle.ame_strong.specs.View.{state_of}
 use Rattle.ame_journal.specs.declared.entry.Entry.{Entry}
 use Rattle.ame_journal.specs.Replay.{resting, replay}
-use Rattle.ame_soundness.specs.Cells.{Cells}
+use Rattle.ame_soundness.specs.StoreTyping.{StoreTyping}
 use Rattle.ame_soundness.specs.TypedState.{IsTyped}
 use Rattle.ame_app.specs.declared.ended.Ended.{Ended}
 use Rattle.ame_app.specs.Runs.{HasMembers, IsEmpty}
 
 -- the journal
-abbrev pub entries_of : Ended → List Entry
-entries_of e = e.journal.entries
+abbrev pub journal_of : Ended → List Entry
+journal_of e = e.journal.entries
 
 -- the integers printed
 abbrev pub output_of : Ended → List ℤ
@@ -30,7 +30,7 @@ left_of e = if e.whole then Some (state_of e.state) else None
 -- was printed, and its state is the one left.
 pub record IsRunOf (program : Tree) (e : Ended) : Type 0 where
   pub state : State
-  pub replays : replay program (entries_of e) ≡ Some (resting state)
+  pub replays : replay program (journal_of e) ≡ Some (resting state)
   pub printed : state.output ≡ output_of e
   pub left : IfSome (left_of e) (λ s. s ≡ state)
 
@@ -44,11 +44,11 @@ pub record IsSpent (program : Tree) (e : Ended) : Type 0 where
   pub run : IsRunOf program e
   pub turns : turns_of e ≡ 1000000
   pub left : IsSome (left_of e)
-  pub members : HasMembers program (entries_of e)
+  pub members : HasMembers program (journal_of e)
 
 -- the values stored and the members are typed, for some types of the locations
 abbrev pub IsTypedState : State → Type 0
-IsTypedState s = (cells : Cells) × IsTyped 0 cells s
+IsTypedState s = (cells : StoreTyping) × IsTyped 0 cells s
 
 -- so is the state left, where there is one
 abbrev pub LeavesTyped : Option Ended → Type 0

@@ -1,4 +1,3 @@
-pub mod Lines
 pub mod Verdict
 pub mod Runs
 pub mod Endings

@@ -35,18 +35,18 @@ want_line Want.Opening = codes "refused: expected opening at "
 want_line Want.Closing = codes "refused: expected closing at "
 
 -- a place in decimal, and the line's end
-abbrev pub placed : List ℕ → ℕ → List ℕ
-placed text place = text ++ (decimal place ++ codes "\n")
+abbrev pub line_at : List ℕ → ℕ → List ℕ
+line_at text place = text ++ (decimal place ++ codes "\n")
 
 -- the line of a fault of the text
 abbrev pub text_line_at : TextKind → ℕ → List ℕ
 text_line_at TextKind.TooLong place = codes "refused: too long" ++ codes "\n"
-text_line_at TextKind.BadByte place = placed (codes "refused: bad byte at ") place
-text_line_at TextKind.LongNumber place = placed (codes "refused: long number at ") place
-text_line_at (TextKind.Expected want) place = placed (want_line want) place
-text_line_at TextKind.UnknownName place = placed (codes "refused: unknown name at ") place
-text_line_at TextKind.TooNested place = placed (codes "refused: too nested at ") place
-text_line_at TextKind.Trailing place = placed (codes "refused: trailing at ") place
+text_line_at TextKind.BadByte place = line_at (codes "refused: bad byte at ") place
+text_line_at TextKind.LongNumber place = line_at (codes "refused: long number at ") place
+text_line_at (TextKind.Expected want) place = line_at (want_line want) place
+text_line_at TextKind.UnknownName place = line_at (codes "refused: unknown name at ") place
+text_line_at TextKind.TooNested place = line_at (codes "refused: too nested at ") place
+text_line_at TextKind.Trailing place = line_at (codes "refused: trailing at ") place
 
 abbrev pub text_line : TextFault → List ℕ
 text_line fault = text_line_at fault.kind fault.place
@@ -58,6 +58,6 @@ verdict Status.Spent = codes "spent" ++ codes "\n"
 verdict Status.Usage = codes "usage" ++ codes "\n"
 verdict Status.ReadFault = codes "read fault" ++ codes "\n"
 verdict (Status.Text fault) = text_line fault
-verdict (Status.Types fault) = codes "types: rule " ++ (decimal fault.rule ++ placed (codes " at ") fault.place)
+verdict (Status.Types fault) = codes "types: rule " ++ (decimal fault.rule ++ line_at (codes " at ") fault.place)
 verdict Status.WriteFault = []
 verdict Status.NoMemory = codes "no memory" ++ codes "\n"

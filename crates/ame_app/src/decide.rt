@@ -6,7 +6,6 @@ ghost use Rattle.ame_parse.specs.Text.{reading, source_of};
 ghost use Rattle.ame_term.specs.Tree.{Typ};
 ghost use Rattle.ame_term.specs.View.{tree_of};
 ghost use Rattle.ame_term.specs.Typing.{typing};
-ghost use Rattle.ame_term.specs.Written.{nodes, IsWritten, IsBound};
 ghost use Rattle.ame_app.specs.Causes.{TextCause, IsProgramOf, Cause, call_of};
 ghost use Rattle.ame_app.specs.Endings.{LeavesTyped};
 ghost use Rattle.ame_lex.specs.Bytes.{Text};
@@ -82,9 +81,6 @@ fn decide_tokens(alloc: Global, text: &[u8], tokens: &[Token]) -> Decision
 
 /// The same from the text's program on.
 fn decide_program(alloc: Global, program: Program) -> Decision
-    requires places { length program.places.items ≡ nodes (tree_of program.term) }
-    requires written { IsWritten (tree_of program.term) }
-    requires bound { IsBound [] (tree_of program.term) }
     ensures cause { (text : Text) → reading text ≡ Ok (source_of program) → TextCause text result.status result.program result.ended }
     ensures typed { LeavesTyped result.ended }
 {
@@ -97,13 +93,11 @@ fn decide_program(alloc: Global, program: Program) -> Decision
 
 /// The same of an accepted program: it is refused at its first form that can't be run yet.
 fn decide_accepted(alloc: Global, accepted: Accepted) -> Decision
-    requires places { length accepted.program.places.items ≡ nodes (tree_of accepted.program.term) }
-    requires typed { typing 0 accepted.program.places.items (tree_of accepted.program.term) ≡ Ok Typ.Unit }
-    requires written { IsWritten (tree_of accepted.program.term) }
-    requires devices { accepted.devices ≡ 0 }
+    requires { accepted.devices ≡ 0 }
     ensures cause { (text : Text) → reading text ≡ Ok (source_of accepted.program) → TextCause text result.status result.program result.ended }
     ensures typed { LeavesTyped result.ended }
 {
+    accepted_is_typed(&accepted);
     match unbuilt_place(&accepted.program) {
         Some(place) => no_program(place, TextKind::Expected(Want::Form)),
         None => decide_run(alloc, accepted),
@@ -112,11 +106,11 @@ fn decide_accepted(alloc: Global, accepted: Accepted) -> Decision
 
 /// The run of an accepted program.
 fn decide_run(alloc: Global, accepted: Accepted) -> Decision
-    requires typed { typing 0 accepted.program.places.items (tree_of accepted.program.term) ≡ Ok Typ.Unit }
-    requires written { IsWritten (tree_of accepted.program.term) }
+    requires { accepted.devices ≡ 0 }
     ensures cause { (text : Text) → IsProgramOf text accepted → TextCause text result.status result.program result.ended }
     ensures typed { LeavesTyped result.ended }
 {
+    accepted_is_typed(&accepted);
     let Some(execution) = execute(alloc, &accepted.program.term) else {
         return without_run(Status::NoMemory);
     };
@@ -131,6 +125,11 @@ fn decide_run(alloc: Global, accepted: Accepted) -> Decision
         ended: Some(execution.ended),
     }
 }
+
+/// What an accepted program keeps: it is Unit under protected.
+fn accepted_is_typed(accepted: &Accepted)
+    ensures { typing accepted.now.devices accepted.now.program.places.items (tree_of accepted.now.program.term) ≡ Ok Typ.Unit }
+{}
 
 /// The program of a call, its run and its end; all but the writing.
 pub(crate) fn decide<S: Source>(alloc: Global, words: &[String], source: &mut S) -> Decision

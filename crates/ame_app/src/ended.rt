@@ -22,11 +22,11 @@ pub struct Ended {
 impl Ended {
     ghost use Rattle.std.specs.Prelude.{option_map, take, Some, None, IfSome};
     ghost use Rattle.ame_strong.specs.View.{state_of};
-    ghost use Rattle.ame_app.specs.Endings.{entries_of, output_of, turns_of, left_of};
+    ghost use Rattle.ame_app.specs.Endings.{journal_of, output_of, turns_of, left_of};
 
     /// The entries of the run.
     pub fn journal(&self) -> &Journal
-        ensures { result.now.entries ≡ entries_of self.now }
+        ensures { result.now.entries ≡ journal_of self.now }
     {
         &self.journal
     }
@@ -55,7 +55,7 @@ impl Ended {
 
     /// What a run leaves between two fragments.
     pub(crate) fn whole(run: Run) -> Ended
-        ensures entries { entries_of result ≡ run.journal.entries }
+        ensures entries { journal_of result ≡ run.journal.entries }
         ensures output { output_of result ≡ (state_of run.state).output }
         ensures turns { turns_of result ≡ run.turns }
         ensures left { left_of result ≡ Some (state_of run.state) }
@@ -81,7 +81,7 @@ impl Ended {
 
     /// What a run leaves that halted within a fragment.
     pub(crate) fn part(run: Run) -> Ended
-        ensures entries { entries_of result ≡ run.journal.entries }
+        ensures entries { journal_of result ≡ run.journal.entries }
         ensures output { output_of result ≡ take run.printed (state_of run.state).output }
         ensures turns { turns_of result ≡ run.turns }
         ensures left { left_of result ≡ None }
@@ -106,7 +106,7 @@ impl Ended {
 
     /// What a run leaves that was cut off within a fragment: the state before it, if it was kept.
     pub(crate) fn cut(run: Run) -> Ended
-        ensures entries { entries_of result ≡ run.journal.entries }
+        ensures entries { journal_of result ≡ run.journal.entries }
         ensures turns { turns_of result ≡ run.turns }
         ensures kept { IfSome run.kept (λ k. (left_of result ≡ Some (state_of k)) × (output_of result ≡ (state_of k).output)) }
         ensures lost { run.kept ≡ None → left_of result ≡ None }

@@ -4,7 +4,6 @@
 mod decide;
 mod ended;
 mod execute;
-mod line;
 mod report;
 mod run;
 mod status;

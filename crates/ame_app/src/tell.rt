@@ -4,25 +4,14 @@ ghost use Rattle.std.specs.Prelude.{◌≡◌, ◌++◌, OnOk, OnErr};
 ghost use Rattle.std.specs.Io.KnownBytes.{Appends};
 ghost use Rattle.ame_io.specs.Counts.{HasRisen};
 ghost use Rattle.ame_io.specs.Writes.{AppendsFront};
-ghost use Rattle.ame_app.specs.Lines.{lines};
+ghost use Rattle.ame_io.specs.Lines.{lines};
 ghost use Rattle.ame_app.specs.Verdict.{verdict};
 ghost use Rattle.ame_app.specs.Reports.{printed_of};
 
 use crate::ended::Ended;
-use crate::line::{Line, integer_line};
 use crate::status::Status;
 use crate::verdict::verdict_line;
-use ame_io::{Sink, WriteFault, write_all};
-
-/// Writes a line whole.
-fn write_line<K: Sink>(sink: &mut K, line: &Line) -> Result<(), WriteFault>
-    ensures whole { OnOk result (Appends (K.written sink.old) (K.written sink.new) line.now.bytes) }
-    ensures stayed { OnOk result (K.faults sink.new ≡ K.faults sink.old) }
-    ensures front { OnErr result (AppendsFront (K.written sink.old) (K.written sink.new) line.now.bytes) }
-    ensures risen { OnErr result (HasRisen (K.faults sink.old) (K.faults sink.new)) }
-{
-    write_all(sink, line.as_str().as_bytes())
-}
+use ame_io::{Sink, WriteFault, integer_line, write_line};
 
 /// Writes the integers, a line each.
 fn write_output<K: Sink>(sink: &mut K, output: &[i64]) -> Result<(), WriteFault>

@@ -3,8 +3,8 @@
 ghost use Rattle.std.specs.Prelude.{◌≡◌, ◌≤◌, ◌++◌, length, codes, decimal};
 ghost use Rattle.ame_app.specs.Verdict.{verdict, text_line, want_line};
 
-use crate::line::Line;
 use crate::status::{Status, TextFault, TextKind};
+use ame_io::Line;
 use ame_parse::Want;
 use ame_types::TypeFault;
 use itoa::Buffer;

@@ -1,6 +1,6 @@
 use Rattle.std.proofs.Common.{◌≡◌, take}
 use Rattle.std.specs.Io.KnownBytes.{Appends}
-use Rattle.ame_app.specs.Lines.{lines}
+use Rattle.ame_io.specs.Lines.{lines}
 use Rattle.ame_app.proofs.tell.write_output.Given as goal
 
 abbrev pub invariant-lines : goal.invariant-lines

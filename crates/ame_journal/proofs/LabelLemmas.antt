@@ -1,14 +1,17 @@
 -- What is replayed unfolds into labels, each of which is legal.
-use Rattle.std.proofs.Common.{◌≡◌, ℕ, zero, suc, ◌==◌, ◌⊎◌, inl, inr, ℤ, Bool, true, false, List, [], ◌∷◌, ◌++◌, map, Option, Some, None, option_and_then, option_map, is_some, is_none, if◌then◌else◌, refl, sym, ap, ◌∙◌, subst, arith, eqb-true}
+use Rattle.std.proofs.Common.{◌≡◌, ℕ, zero, suc, ◌==◌, ◌⊎◌, inl, inr, ℤ, Bool, true, false, List, [], ◌∷◌, ◌++◌, map, Option, Some, None, option_and_then, option_map, is_some, if◌then◌else◌, refl, sym, ap, ◌∙◌, subst, arith, eqb-true}
 use Rattle.std.proofs.lemmas.Option.{option_and_then_some}
-use Rattle.ame_term.specs.Act.{Act}
+use Rattle.ame_term.specs.Frame.{Side}
+use Rattle.ame_term.specs.Act.{device_answer}
 use Rattle.ame_term.specs.State.{State, after, run}
 use Rattle.ame_term.specs.declared.semantics.StepKind.{StepKind}
 use Rattle.ame_term.specs.declared.semantics.Label.{Label}
 use Rattle.ame_journal.specs.declared.entry.Entry.{Entry}
 use Rattle.ame_journal.specs.declared.entry.EntryKind.{EntryKind}
-use Rattle.ame_journal.specs.Replay.{Replayed, Supply, member_act, next_kind, fresh_of, steps, fragment, attempt, settled, entering, leaving, staying, noted, is_at_unprotected, is_inside, is_failing, is_tall, fails_after, locations, or_else, replay_ran, replay_free, replay_kind, replay_entry, replay_from}
-use Rattle.ame_journal.specs.Labels.{answer_of, Answers, AreSteps, fragment_labels, free_labels, attempt_labels, Unfolds, UnfoldsAll}
+use Rattle.ame_journal.specs.Replayed.{Replayed, has_such, entering, leaving, staying, is_at_unprotected, side_at, is_inside, is_failing, is_tall}
+use Rattle.ame_journal.specs.Labels.{fresh_of, IsAnswered, AreSteps, fragment_labels, free_labels, attempt_labels, Unfolds, UnfoldsAll}
+use Rattle.ame_journal.specs.Replay.{Supply, next_kind, steps, fragment, attempt, attempt_on, left_or_ended, note_where, fails_after, locations, or_else, replay_ran, replay_closing, replay_free, replay_kind, replay_entry, replay_from}
+use Rattle.ame_journal.proofs.SupplyLemmas.{Taken, taken}
 
 -- Runs
 
@@ -24,38 +27,12 @@ run-append s (x ∷ xs) ys = behind (after s x) (λ t. run-append t xs ys)
 pub run-two : (s t u : State) (xs ys : List Label) → run s xs ≡ Some t → run t ys ≡ Some u → run s (xs ++ ys) ≡ Some u
 run-two s t u xs ys first second = run-append s xs ys ∙ ap (λ o. option_and_then (λ v. run v ys) o) first ∙ second
 
-run-one : (t u : State) (label : Label) → after t label ≡ Some u → run t (label ∷ []) ≡ Some u
+pub run-one : (t u : State) (label : Label) → after t label ≡ Some u → run t (label ∷ []) ≡ Some u
 run-one t u label e = ap (λ o. option_and_then (λ v. run v []) o) e
 
 -- Steps
 
--- what a step takes of a supply
-record Told (last : Bool) (fresh : List ℕ) (answer : Option ℤ) (kind : StepKind) (left : Supply) : Type 0 where
-  used : fresh ≡ fresh_of kind ++ left.fresh
-  kept : ((answer_of kind ≡ None) × (left.answer ≡ answer)) ⊎ ((last ≡ true) × (answer ≡ answer_of kind) × (left.answer ≡ None))
-
-told_is : (last : Bool) (fresh : List ℕ) (answer : Option ℤ) (p q : StepKind × Supply) → Some p ≡ Some q → Told last fresh answer p.0 p.1 → Told last fresh answer q.0 q.1
-told_is last fresh answer p q e t = let same : p ≡ q = cc in subst (λ (k : StepKind × Supply). Told last fresh answer k.0 k.1) same t
-
-told : (last : Bool) (act : Act) (fresh : List ℕ) (answer : Option ℤ) (kind : StepKind) (left : Supply) → next_kind last act fresh answer ≡ Some (kind, left) →
-    Told last fresh answer kind left
-told last (Act.Becomes term) fresh answer kind left e = told_is last fresh answer _ (kind, left) e (record { used = refl; kept = inl (refl, refl) })
-told last (Act.Allocates v) [] answer kind left e = cc
-told last (Act.Allocates v) (l ∷ fresh) answer kind left e = told_is last (l ∷ fresh) answer _ (kind, left) e (record { used = refl; kept = inl (refl, refl) })
-told last (Act.Reads l) fresh answer kind left e = told_is last fresh answer _ (kind, left) e (record { used = refl; kept = inl (refl, refl) })
-told last (Act.Peeks l) fresh answer kind left e = told_is last fresh answer _ (kind, left) e (record { used = refl; kept = inl (refl, refl) })
-told last (Act.Writes l v) fresh answer kind left e = told_is last fresh answer _ (kind, left) e (record { used = refl; kept = inl (refl, refl) })
-told last (Act.Spawns body) fresh answer kind left e = told_is last fresh answer _ (kind, left) e (record { used = refl; kept = inl (refl, refl) })
-told last (Act.Prints n) fresh answer kind left e = told_is last fresh answer _ (kind, left) e (record { used = refl; kept = inl (refl, refl) })
-told last Act.Passes fresh answer kind left e = told_is last fresh answer _ (kind, left) e (record { used = refl; kept = inl (refl, refl) })
-told last Act.Fails fresh answer kind left e = cc
-told true (Act.Calls device n) fresh (Some a) kind left e = told_is true fresh (Some a) _ (kind, left) e (record { used = refl; kept = inr (refl, refl, refl) })
-told true (Act.Calls device n) fresh None kind left e = cc
-told false (Act.Calls device n) fresh answer kind left e = cc
-told last (Act.Closes v) fresh answer kind left e = cc
-told last Act.Stuck fresh answer kind left e = cc
-
-one_step : (kind : StepKind) (n : ℕ) (fresh : List ℕ) (answer : Option ℤ) (left : Supply) (kinds : List StepKind) → Told (n == 0) fresh answer kind left →
+one_step : (kind : StepKind) (n : ℕ) (fresh : List ℕ) (answer : Option ℤ) (left : Supply) (kinds : List StepKind) → Taken (n == 0) fresh answer kind left →
     AreSteps kinds n left.fresh left.answer → AreSteps (kind ∷ kinds) (suc n) fresh answer
 one_step kind n fresh answer left [] t are =
     record {
@@ -68,7 +45,7 @@ one_step kind n fresh answer left (k ∷ ks) t are =
       count = ap suc are.count;
       made = ap (λ ls. fresh_of kind ++ ls) are.made ∙ sym t.used;
       answered = elim t.kept [
-        | inl kept ↦ (kept.0, subst (Answers (k ∷ ks)) kept.1 are.answered)
+        | inl kept ↦ (kept.0, subst (IsAnswered (k ∷ ks)) kept.1 are.answered)
         | inr kept ↦ let none : n ≡ 0 = eqb-true n 0 kept.0 in let some = are.count in absurd (omega arith)
       ];
     }
@@ -86,7 +63,7 @@ steps_run label i (suc n) fresh answer s t e =
     option_and_then_some _ _ _ e2 (λ w at_state e3.
     let go = steps_run label i n next.1.fresh next.1.answer w t e3 in (
       next.0 ∷ go.0,
-      one_step next.0 n fresh answer next.1 go.0 (told (n == 0) act fresh answer next.0 next.1 at_kind) go.1,
+      one_step next.0 n fresh answer next.1 go.0 (taken (n == 0) act fresh answer next at_kind) go.1,
       ap (λ o. option_and_then (λ v. run v (map label go.0)) o) at_state ∙ go.2,
     ))))
 
@@ -97,26 +74,26 @@ fragment_run i n fresh s t e =
     let go = steps_run Label.Step i n fresh None a t made in
     (go.0, go.1, ap (λ o. option_and_then (λ v. run v (map Label.Step go.0)) o) begins ∙ go.2))
 
-pub attempt_run : (b : Bool) (i n : ℕ) (fresh : List ℕ) (s t : State) → (if b then steps (Label.Free i) i n (locations fresh) s else fragment i n fresh s) ≡ Some t →
-    (kinds : List StepKind) × AreSteps kinds n fresh None × (run s (attempt_labels b i kinds) ≡ Some t)
-attempt_run true i n fresh s t e = steps_run (Label.Free i) i n fresh None s t e
-attempt_run false i n fresh s t e = fragment_run i n fresh s t e
+pub attempt_run : (side : Side) (i n : ℕ) (fresh : List ℕ) (s t : State) → attempt_on side i n fresh s ≡ Some t →
+    (kinds : List StepKind) × AreSteps kinds n fresh None × (run s (attempt_labels side i kinds) ≡ Some t)
+attempt_run Side.Protected i n fresh s t e = fragment_run i n fresh s t e
+attempt_run Side.Unprotected i n fresh s t e = steps_run (Label.Free i) i n fresh None s t e
 
 -- Entries
 
-settled-cases : (r : Replayed) (i : ℕ) (u : Replayed) (a b : Option State) → or_else (option_map (entering r i) a) (option_map (staying r) b) ≡ Some u →
+left_or_ended-cases : (r : Replayed) (i : ℕ) (u : Replayed) (a b : Option State) → or_else (option_map (entering r i) a) (option_map (staying r) b) ≡ Some u →
     ((x : State) × (a ≡ Some x) × (entering r i x ≡ u)) ⊎ ((x : State) × (b ≡ Some x) × (staying r x ≡ u))
-settled-cases r i u (Some x) b e = inl (x, refl, cc)
-settled-cases r i u None (Some x) e = inr (x, refl, cc)
-settled-cases r i u None None e = cc
+left_or_ended-cases r i u (Some x) b e = inl (x, refl, cc)
+left_or_ended-cases r i u None (Some x) e = inr (x, refl, cc)
+left_or_ended-cases r i u None None e = cc
 
 -- a fragment that leaves or ends
-ran_settled : (r : Replayed) (i n : ℕ) (fresh : List ℕ) (t : Replayed) → is_inside r i ≡ false → option_and_then (settled r i) (fragment i n fresh r.state) ≡ Some t →
+ran_left_or_ended : (r : Replayed) (i n : ℕ) (fresh : List ℕ) (t : Replayed) → is_inside r i ≡ false → option_and_then (left_or_ended r i) (fragment i n fresh r.state) ≡ Some t →
     (labels : List Label) × Unfolds r i EntryKind.Ran n fresh None labels t
-ran_settled r i n fresh t outside e =
+ran_left_or_ended r i n fresh t outside e =
     option_and_then_some _ _ _ e (λ s made settles.
     let f = fragment_run i n fresh r.state s made in
-    elim (settled-cases r i t (after s Label.Leave) (after s Label.End) settles) [
+    elim (left_or_ended-cases r i t (after s Label.Leave) (after s Label.End) settles) [
       | inl x ↦
           let labels = fragment_labels i f.0 ++ Label.Leave ∷ [] in
           let runs = run-two r.state s x.0 (fragment_labels i f.0) (Label.Leave ∷ []) f.2 (run-one s x.0 Label.Leave x.1) in
@@ -128,18 +105,18 @@ ran_settled r i n fresh t outside e =
     ])
 
 ran_resting : (r : Replayed) (i : ℕ) (t : Replayed) (b : Bool) → is_inside r i ≡ false → is_at_unprotected i r.state ≡ b →
-    (if b then Some (entering r i r.state) else option_and_then (settled r i) (fragment i 0 [] r.state)) ≡ Some t →
+    (if b then Some (entering r i r.state) else option_and_then (left_or_ended r i) (fragment i 0 [] r.state)) ≡ Some t →
     (labels : List Label) × Unfolds r i EntryKind.Ran 0 [] None labels t
 ran_resting r i t true outside is e =
     let same : entering r i r.state ≡ t = cc in
     ([], subst (λ u. Unfolds r i EntryKind.Ran 0 [] None [] u) same (Unfolds.arrives outside is))
-ran_resting r i t false outside is e = ran_settled r i 0 [] t outside e
+ran_resting r i t false outside is e = ran_left_or_ended r i 0 [] t outside e
 
 unfold-ran : (r : Replayed) (i n : ℕ) (fresh : List ℕ) (t : Replayed) → is_inside r i ≡ false → replay_ran r i n fresh ≡ Some t →
     (labels : List Label) × Unfolds r i EntryKind.Ran n fresh None labels t
 unfold-ran r i zero [] t outside e = ran_resting r i t (is_at_unprotected i r.state) outside refl e
-unfold-ran r i zero (x ∷ fresh) t outside e = ran_settled r i zero (x ∷ fresh) t outside e
-unfold-ran r i (suc n) fresh t outside e = ran_settled r i (suc n) fresh t outside e
+unfold-ran r i zero (x ∷ fresh) t outside e = ran_left_or_ended r i zero (x ∷ fresh) t outside e
+unfold-ran r i (suc n) fresh t outside e = ran_left_or_ended r i (suc n) fresh t outside e
 
 module _ (r : Replayed) (i n : ℕ) (fresh : List ℕ) (t : Replayed) (inside : is_inside r i ≡ true) where
   free_closed : (o : Option State) → option_and_then (λ s. after s (Label.Close i)) (steps (Label.Free i) i n (locations fresh) r.state) ≡ o →
@@ -153,16 +130,12 @@ module _ (r : Replayed) (i n : ℕ) (fresh : List ℕ) (t : Replayed) (inside : 
       let same : leaving r i x ≡ t = cc in
       (labels, subst (λ u. Unfolds r i EntryKind.Free (suc n) fresh None labels u) same (Unfolds.closes f.0 n fresh x inside f.1 runs)))
 
-  free_last : (answer : Option ℤ) →
-      (if is_none answer then option_map (leaving r i) (option_and_then (λ s. after s (Label.Close i)) (steps (Label.Free i) i n (locations fresh) r.state)) else None) ≡ Some t →
-      (labels : List Label) × Unfolds r i EntryKind.Free (suc n) fresh answer labels t
+  free_last : (answer : Option ℤ) → replay_closing r i n fresh answer ≡ Some t → (labels : List Label) × Unfolds r i EntryKind.Free (suc n) fresh answer labels t
   free_last None e = free_closed _ refl e
   free_last (Some a) e = cc
 
   free_first : (answer : Option ℤ) (o : Option State) → steps (Label.Free i) i (suc n) (record { fresh = fresh; answer = answer }) r.state ≡ o →
-      or_else (option_map (staying r) o)
-      (if is_none answer then option_map (leaving r i) (option_and_then (λ s. after s (Label.Close i)) (steps (Label.Free i) i n (locations fresh) r.state)) else None) ≡ Some t →
-      (labels : List Label) × Unfolds r i EntryKind.Free (suc n) fresh answer labels t
+      or_else (option_map (staying r) o) (replay_closing r i n fresh answer) ≡ Some t → (labels : List Label) × Unfolds r i EntryKind.Free (suc n) fresh answer labels t
   free_first answer None is e = free_last answer e
   free_first answer (Some s) is e =
       let f = steps_run (Label.Free i) i (suc n) fresh answer r.state s is in
@@ -176,47 +149,39 @@ unfold-free r i (suc n) fresh answer t inside e = free_first r i n fresh t insid
 
 -- Notes
 
-noted-is : (b : Bool) (r t : Replayed) → noted b r ≡ Some t → (b ≡ true) × (r ≡ t)
+noted-is : (b : Bool) (r t : Replayed) → note_where b r ≡ Some t → (b ≡ true) × (r ≡ t)
 noted-is true r t e = (refl, cc)
 noted-is false r t e = cc
 
-some_at : (b : Bool) (s : State) → is_some (if b then Some s else None) ≡ true → b ≡ true
-some_at true s e = refl
-some_at false s e = cc
-
-some_where : (test : State → Bool) (o : Option State) → is_some (option_and_then (λ s. if test s then Some s else None) o) ≡ true →
-    (s : State) × (o ≡ Some s) × (test s ≡ true)
-some_where test None e = cc
-some_where test (Some s) e = (s, refl, some_at (test s) s e)
+some_such : (test : State → Bool) (o : Option State) → has_such test o ≡ true → (s : State) × (o ≡ Some s) × (test s ≡ true)
+some_such test None e = cc
+some_such test (Some s) e = (s, refl, e)
 
 some_is : (o : Option State) → is_some o ≡ true → (s : State) × (o ≡ Some s)
 some_is None e = cc
 some_is (Some s) e = (s, refl)
 
-unfold-stuck : (r : Replayed) (i n : ℕ) (fresh : List ℕ) (t : Replayed) → noted (fails_after r.state i n fresh) r ≡ Some t →
-    (labels : List Label) × Unfolds r i EntryKind.Stuck n fresh None labels t
-unfold-stuck r i n fresh t e =
-    let is = noted-is (fails_after r.state i n fresh) r t e in
-    let found = some_where (λ s. is_failing i s) (fragment i n fresh r.state) is.0 in
-    let f = fragment_run i n fresh r.state found.0 found.1 in
-    ([], subst (λ u. Unfolds r i EntryKind.Stuck n fresh None [] u) is.1 (Unfolds.fails f.0 n fresh found.0 f.1 f.2 found.2))
+module _ (r : Replayed) (i n : ℕ) (fresh : List ℕ) (t : Replayed) where
+  unfold-stuck : note_where (fails_after r.state i n fresh) r ≡ Some t → (labels : List Label) × Unfolds r i EntryKind.Stuck n fresh None labels t
+  unfold-stuck e =
+      let is = noted-is (fails_after r.state i n fresh) r t e in
+      let found = some_such (is_failing i) (fragment i n fresh r.state) is.0 in
+      let f = fragment_run i n fresh r.state found.0 found.1 in
+      ([], subst (λ u. Unfolds r i EntryKind.Stuck n fresh None [] u) is.1 (Unfolds.fails f.0 n fresh found.0 f.1 f.2 found.2))
 
-unfold-cut : (r : Replayed) (i n : ℕ) (fresh : List ℕ) (t : Replayed) → noted (is_some (attempt i n fresh r.state)) r ≡ Some t →
-    (labels : List Label) × Unfolds r i EntryKind.Cut n fresh None labels t
-unfold-cut r i n fresh t e =
-    let is = noted-is (is_some (attempt i n fresh r.state)) r t e in
-    let found = some_is (attempt i n fresh r.state) is.0 in
-    let f = attempt_run (is_at_unprotected i r.state) i n fresh r.state found.0 found.1 in
-    ([], subst (λ u. Unfolds r i EntryKind.Cut n fresh None [] u) is.1 (Unfolds.is_cut f.0 n fresh found.0 f.1 f.2))
+  unfold-cut : note_where (is_some (attempt i n fresh r.state)) r ≡ Some t → (labels : List Label) × Unfolds r i EntryKind.Cut n fresh None labels t
+  unfold-cut e =
+      let is = noted-is (is_some (attempt i n fresh r.state)) r t e in
+      let found = some_is (attempt i n fresh r.state) is.0 in
+      let f = attempt_run (side_at i r.state) i n fresh r.state found.0 found.1 in
+      ([], subst (λ u. Unfolds r i EntryKind.Cut n fresh None [] u) is.1 (Unfolds.is_cut f.0 n fresh found.0 f.1 f.2))
 
-unfold-tall : (r : Replayed) (i n : ℕ) (fresh : List ℕ) (t : Replayed) →
-    noted (is_some (option_and_then (λ s. if is_tall (is_at_unprotected i r.state) i s then Some s else None) (attempt i n fresh r.state))) r ≡ Some t →
-    (labels : List Label) × Unfolds r i EntryKind.Tall n fresh None labels t
-unfold-tall r i n fresh t e =
-    let is = noted-is (is_some (option_and_then (λ s. if is_tall (is_at_unprotected i r.state) i s then Some s else None) (attempt i n fresh r.state))) r t e in
-    let found = some_where (is_tall (is_at_unprotected i r.state) i) (attempt i n fresh r.state) is.0 in
-    let f = attempt_run (is_at_unprotected i r.state) i n fresh r.state found.0 found.1 in
-    ([], subst (λ u. Unfolds r i EntryKind.Tall n fresh None [] u) is.1 (Unfolds.grows f.0 n fresh found.0 f.1 f.2 found.2))
+  unfold-tall : note_where (has_such (is_tall (side_at i r.state) i) (attempt i n fresh r.state)) r ≡ Some t → (labels : List Label) × Unfolds r i EntryKind.Tall n fresh None labels t
+  unfold-tall e =
+      let is = noted-is (has_such (is_tall (side_at i r.state) i) (attempt i n fresh r.state)) r t e in
+      let found = some_such (is_tall (side_at i r.state) i) (attempt i n fresh r.state) is.0 in
+      let f = attempt_run (side_at i r.state) i n fresh r.state found.0 found.1 in
+      ([], subst (λ u. Unfolds r i EntryKind.Tall n fresh None [] u) is.1 (Unfolds.grows f.0 n fresh found.0 f.1 f.2 found.2))
 
 outside-of : (r : Replayed) (i n : ℕ) (fresh : List ℕ) (t : Replayed) (b : Bool) → is_inside r i ≡ b → (if b then None else replay_ran r i n fresh) ≡ Some t →
     (labels : List Label) × Unfolds r i EntryKind.Ran n fresh None labels t

@@ -1,4 +1,5 @@
 pub mod StepLemmas
+pub mod SupplyLemmas
 pub mod ReplayLemmas
 pub mod NumberLemmas
 pub mod WordLemmas
@@ -8,3 +9,4 @@ pub mod TextLemmas
 pub mod LabelLemmas
 pub mod UniqueLemmas
 pub mod UnfoldLemmas
+pub mod UnderWayLemmas

@@ -9,7 +9,7 @@ use Rattle.std.proofs.lemmas.Bool.Decides.{nat_tests}
 use Rattle.std.proofs.lemmas.Int.{ints}
 use Rattle.std.proofs.lemmas.Str.Parse.{IsNumeralModel, numerals_by_fold, tells_all_ascii_digits, digit_at}
 use Rattle.std.proofs.lemmas.Fmt.{digits_value-decimal, decimal_is_IsNumeral, decimal_nonempty}
-use Rattle.ame_journal.specs.Words.{value_of}
+use Rattle.ame_journal.specs.Words.{digits_number}
 
 abbrev pub read_on : ℕ → List ℕ → ℕ
 read_on n digits = fold (λ value digit. 10 * value + (digit - 48)) n digits
@@ -18,13 +18,13 @@ pub own : IsNumeralModel (λ ds. all_ascii_digits ds ≡ true) (read_on 0)
 own = numerals_by_fold _ tells_all_ascii_digits read_on (search rules)
 
 -- what is read from a number's digits is the number
-pub value_of-decimal : (n : ℕ) → n < 2 ^ 64 → value_of (decimal n) ≡ n
-value_of-decimal n h = digits_value-decimal own n h
+pub digits_number-decimal : (n : ℕ) → n < 2 ^ 64 → digits_number (decimal n) ≡ n
+digits_number-decimal n h = digits_value-decimal own n h
 
 -- a word that spells a number is spelled by what is read from it
-pub same-decimal : (word text : List ℕ) (v x : ℕ) → v ≡ min (value_of word) (2 ^ 64 - 1) → text ≡ decimal v → x < 2 ^ 64 → word ≡ decimal x → text ≡ word
+pub same-decimal : (word text : List ℕ) (v x : ℕ) → v ≡ min (digits_number word) (2 ^ 64 - 1) → text ≡ decimal v → x < 2 ^ 64 → word ≡ decimal x → text ≡ word
 same-decimal word text v x is text_is h e =
-    let back : value_of word ≡ x = ap value_of e ∙ value_of-decimal x h in
+    let back : digits_number word ≡ x = ap digits_number e ∙ digits_number-decimal x h in
     let same : v ≡ x = omega arith in
     text_is ∙ ap decimal same ∙ sym e
 
@@ -46,7 +46,7 @@ minus : (n : ℕ) → pos 0 -ℤ pos (suc n) ≡ negsuc n
 minus n = omega (arith, ints)
 
 -- what is read from a word that begins with a minus sign
-pub signed-minus : (word digits : List ℕ) (v : ℕ) (r : Option ℤ) → pointwise eqb (take 1 word) (45 ∷ []) ≡ true → digits ≡ drop 1 word → v ≡ min (value_of digits) (2 ^ 64 - 1) →
+pub signed-minus : (word digits : List ℕ) (v : ℕ) (r : Option ℤ) → pointwise eqb (take 1 word) (45 ∷ []) ≡ true → digits ≡ drop 1 word → v ≡ min (digits_number digits) (2 ^ 64 - 1) →
     SomeIff r (FitsSigned w64 (pos 0 -ℤ pos v)) (pos 0 -ℤ pos v) → (z : ℤ) → FitsSigned w64 z → word ≡ signed_decimal z → r ≡ Some z
 signed-minus word digits v r begins rest is iff (pos n) fits e =
     let small : n < 2 ^ 64 = let h = fits.sfits in omega arith in
@@ -55,17 +55,17 @@ signed-minus word digits v r begins rest is iff (pos n) fits e =
 signed-minus word digits v r begins rest is iff (negsuc n) fits e =
     let small : suc n < 2 ^ 64 = let h = fits.sfits in omega arith in
     let digits_are : digits ≡ decimal (suc n) = rest ∙ ap (drop 1) e in
-    let back : value_of digits ≡ suc n = ap value_of digits_are ∙ value_of-decimal (suc n) small in
+    let back : digits_number digits ≡ suc n = ap digits_number digits_are ∙ digits_number-decimal (suc n) small in
     let same : v ≡ suc n = omega arith in
     let value : pos 0 -ℤ pos v ≡ negsuc n = ap (λ m. pos 0 -ℤ pos m) same ∙ minus n in
     there (FitsSigned w64 (negsuc n)) (negsuc n) r (subst (λ m. SomeIff r (FitsSigned w64 m) m) value iff) fits
 
 -- what is read from a word that doesn't
-pub signed-plain : (word : List ℕ) (v : ℕ) (r : Option ℤ) → pointwise eqb (take 1 word) (45 ∷ []) ≡ false → v ≡ min (value_of word) (2 ^ 64 - 1) →
+pub signed-plain : (word : List ℕ) (v : ℕ) (r : Option ℤ) → pointwise eqb (take 1 word) (45 ∷ []) ≡ false → v ≡ min (digits_number word) (2 ^ 64 - 1) →
     SomeIff r (FitsSigned w64 (pos (0 + v))) (pos (0 + v)) → (z : ℤ) → FitsSigned w64 z → word ≡ signed_decimal z → r ≡ Some z
 signed-plain word v r begins is iff (pos n) fits e =
     let small : n < 2 ^ 64 = let h = fits.sfits in omega arith in
-    let back : value_of word ≡ n = ap value_of e ∙ value_of-decimal n small in
+    let back : digits_number word ≡ n = ap digits_number e ∙ digits_number-decimal n small in
     let same : 0 + v ≡ n = omega arith in
     there (FitsSigned w64 (pos n)) (pos n) r (subst (λ m. SomeIff r (FitsSigned w64 (pos m)) (pos m)) same iff) fits
 signed-plain word v r begins is iff (negsuc n) fits e =

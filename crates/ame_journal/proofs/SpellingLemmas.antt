@@ -7,7 +7,7 @@ use Rattle.std.proofs.lemmas.Grind.{flat_map-append}
 use Rattle.ame_term.specs.declared.types.Loc.{Loc}
 use Rattle.ame_journal.specs.declared.entry.Entry.{Entry}
 use Rattle.ame_journal.specs.Kinds.{kind_word}
-use Rattle.ame_journal.specs.Text.{answer_words, words_of, line_of}
+use Rattle.ame_journal.specs.Text.{answer_words, words_of, entry_line}
 use Rattle.ame_journal.specs.Lines.{part_of, answer_text}
 
 -- words with spaces between them: the first, and then each behind its space
@@ -30,7 +30,7 @@ fresh-parts (l ∷ ls) = ap (λ t. part_of (decimal l) ++ t) (fresh-parts ls)
 -- a line, part by part
 pub line-parts : (old : List ℕ) (entry : Entry) →
     (((((((old ++ kind_word entry.kind) ++ part_of (decimal entry.seat)) ++ part_of (decimal entry.number)) ++ part_of (decimal entry.steps)) ++ fresh_text entry.fresh)
-    ++ answer_text entry.answer) ++ codes "\n") ≡ old ++ line_of entry
+    ++ answer_text entry.answer) ++ codes "\n") ≡ old ++ entry_line entry
 line-parts old entry =
     let rest = map decimal entry.fresh ++ answer_words entry.answer in
     let tail : flat_map part_of rest ≡ fresh_text entry.fresh ++ answer_text entry.answer =

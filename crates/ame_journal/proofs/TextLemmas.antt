@@ -12,9 +12,9 @@ use Rattle.std.proofs.lemmas.Fmt.{decimal_is_IsNumeral}
 use Rattle.ame_journal.specs.declared.entry.Entry.{Entry}
 use Rattle.ame_journal.specs.declared.entry.EntryKind.{EntryKind}
 use Rattle.ame_journal.specs.Kinds.{kind_word}
-use Rattle.ame_journal.specs.Words.{words, Reads}
+use Rattle.ame_journal.specs.Words.{line_words, ReadsWord}
 use Rattle.ame_journal.specs.Lines.{Lacks, IsCut, ReadsLine, ReadsNoLine, part_of}
-use Rattle.ame_journal.specs.Text.{answer_words, words_of, line_of, text_of, IsSpellable, IsText, IsFirstBad}
+use Rattle.ame_journal.specs.Text.{answer_words, words_of, entry_line, text_of, IsSpellable, IsText, IsFirstBadLine}
 use Rattle.ame_journal.proofs.SpellingLemmas.{join-parts}
 
 -- Where the first line ends
@@ -168,7 +168,7 @@ joined-lack w ws lack =
     (All-append (λ x. (x == 10) ≡ false) w (flat_map part_of ws) (All-head (Lacks 10) w ws lack) (parts-lack ws (All-tail (Lacks 10) w ws lack)))
 
 -- words that lack spaces are told by the line that they make
-pub words-joined : (w : List ℕ) (ws : List (List ℕ)) → All (Lacks 32) (w ∷ ws) → words (join_with_byte 32 (w ∷ ws)) ≡ w ∷ ws
+pub words-joined : (w : List ℕ) (ws : List (List ℕ)) → All (Lacks 32) (w ∷ ws) → line_words (join_with_byte 32 (w ∷ ws)) ≡ w ∷ ws
 words-joined w [] lack = slice_split_none (λ b. b == 32) w (All-head (Lacks 32) w [] lack)
 words-joined w (v ∷ vs) lack =
     slice_split_at (λ b. b == 32) w 32 (join_with_byte 32 (v ∷ vs)) (All-head (Lacks 32) w (v ∷ vs) lack) refl
@@ -184,10 +184,10 @@ bare entry = join_with_byte 32 (words_of entry)
 pub bare-lacks : (entry : Entry) → IsSpellable entry → Lacks 10 (bare entry)
 bare-lacks entry is = joined-lack (kind_word entry.kind) (tail_words entry) (words-lack 10 (omega arith) kind-lacks-feed entry is)
 
-pub words-bare : (entry : Entry) → IsSpellable entry → words (bare entry) ≡ words_of entry
+pub words-bare : (entry : Entry) → IsSpellable entry → line_words (bare entry) ≡ words_of entry
 words-bare entry is = words-joined (kind_word entry.kind) (tail_words entry) (words-lack 32 (omega arith) kind-lacks-space entry is)
 
-pub line-cut : (entry : Entry) (after : List ℕ) → line_of entry ++ after ≡ bare entry ++ 10 ∷ after
+pub line-cut : (entry : Entry) (after : List ℕ) → entry_line entry ++ after ≡ bare entry ++ 10 ∷ after
 line-cut entry after = append_assoc (bare entry) (codes "\n") after
 
 -- What the first line is
@@ -196,12 +196,12 @@ pub no_line : (text : List ℕ) → Lacks 10 text → ReadsNoLine text
 no_line text lacks entry after is e =
     lacks-not (bare entry) after (subst (Lacks 10) (e ∙ line-cut entry after) lacks)
 
-pub reads_none : (text line behind : List ℕ) → IsCut text line behind → Reads words_of IsSpellable (words line) None → ReadsNoLine text
+pub reads_none : (text line behind : List ℕ) → IsCut text line behind → ReadsWord words_of IsSpellable (line_words line) None → ReadsNoLine text
 reads_none text line behind cut none entry after is e =
     let same = first-same line (bare entry) behind after cut.no_feed (bare-lacks entry is) (sym cut.split ∙ e ∙ line-cut entry after) in
-    none entry is (ap words same.0 ∙ words-bare entry is)
+    none entry is (ap line_words same.0 ∙ words-bare entry is)
 
-pub reads_some : (text line behind : List ℕ) (entry : Entry) → IsCut text line behind → Reads words_of IsSpellable (words line) (Some entry) → ReadsLine text entry behind
+pub reads_some : (text line behind : List ℕ) (entry : Entry) → IsCut text line behind → ReadsWord words_of IsSpellable (line_words line) (Some entry) → ReadsLine text entry behind
 reads_some text line behind entry cut read =
     let line_is : line ≡ bare entry = sym (join_with_byte-slice_split 32 line) ∙ ap (join_with_byte 32) read.0 in
     record { spelled = cut.split ∙ ap (λ l. l ++ 10 ∷ behind) line_is ∙ sym (line-cut entry behind); spellable = read.1 }
@@ -214,19 +214,19 @@ pub record IsUnderWay (text : List ℕ) (entries : List Entry) (rest : List ℕ)
   pub spellable : All IsSpellable entries
   pub count : length entries + length rest ≤ length text
 
-length-line : (entry : Entry) → 0 < length (line_of entry)
+length-line : (entry : Entry) → 0 < length (entry_line entry)
 length-line entry = simp length-append (omega arith)
 
 pub one_more : (text : List ℕ) (entries : List Entry) (rest behind : List ℕ) (entry : Entry) → IsUnderWay text entries rest → ReadsLine rest entry behind →
     IsUnderWay text (entries ++ entry ∷ []) behind
 one_more text entries rest behind entry way read =
-    let more : text_of (entries ++ entry ∷ []) ≡ text_of entries ++ line_of entry = flat_map-append line_of entries (entry ∷ []) ∙ ap (λ t. text_of entries ++ t) (append-nil (line_of entry)) in
-    let size : length rest ≡ length (line_of entry) + length behind = ap length read.spelled ∙ length-append (line_of entry) behind in
+    let more : text_of (entries ++ entry ∷ []) ≡ text_of entries ++ entry_line entry = flat_map-append entry_line entries (entry ∷ []) ∙ ap (λ t. text_of entries ++ t) (append-nil (entry_line entry)) in
+    let size : length rest ≡ length (entry_line entry) + length behind = ap length read.spelled ∙ length-append (entry_line entry) behind in
     let places : length (entries ++ entry ∷ []) ≡ length entries + 1 = length-append entries (entry ∷ []) in
     let some = length-line entry in
     let before = way.count in
     record {
-      split = way.split ∙ ap (λ t. text_of entries ++ t) read.spelled ∙ sym (append_assoc (text_of entries) (line_of entry) behind) ∙ ap (λ t. t ++ behind) (sym more);
+      split = way.split ∙ ap (λ t. text_of entries ++ t) read.spelled ∙ sym (append_assoc (text_of entries) (entry_line entry) behind) ∙ ap (λ t. t ++ behind) (sym more);
       spellable = All-push IsSpellable entries entry way.spellable read.spellable;
       count = omega arith;
     }
@@ -236,20 +236,20 @@ is_text text entries [] way none = record { spelled = way.split ∙ append-nil (
 is_text text entries (b ∷ rest) way none = cc
 
 pub first_bad : (text : List ℕ) (entries : List Entry) (rest : List ℕ) (n : ℕ) → IsUnderWay text entries rest → (length rest ≡ 0 → ⊥) → n ≡ length entries + 1 → ReadsNoLine rest →
-    IsFirstBad text n
+    IsFirstBadLine text n
 first_bad text entries rest n way some is bad =
     record { before = entries; left = rest; reads = way.spellable; split = way.split; count = is; follows = λ e. some (ap length e); bad = bad }
 
 -- Writing a whole text
 
-pub one_written : (text new : List ℕ) (entries : List Entry) (i : ℕ) (d : Entry) → i < length entries → IsText text (take i entries) → new ≡ text ++ line_of (get_or entries i d) →
+pub one_written : (text new : List ℕ) (entries : List Entry) (i : ℕ) (d : Entry) → i < length entries → IsText text (take i entries) → new ≡ text ++ entry_line (get_or entries i d) →
     IsSpellable (get_or entries i d) → IsText new (take (i + 1) entries)
 one_written text new entries i d inside before is spellable =
     let e = get_or entries i d in
     let more : take (i + 1) entries ≡ take i entries ++ e ∷ [] = take_more entries i d inside in
-    let written : text_of (take i entries ++ e ∷ []) ≡ text_of (take i entries) ++ line_of e =
-    flat_map-append line_of (take i entries) (e ∷ []) ∙ ap (λ t. text_of (take i entries) ++ t) (append-nil (line_of e)) in
+    let written : text_of (take i entries ++ e ∷ []) ≡ text_of (take i entries) ++ entry_line e =
+    flat_map-append entry_line (take i entries) (e ∷ []) ∙ ap (λ t. text_of (take i entries) ++ t) (append-nil (entry_line e)) in
     record {
-      spelled = is ∙ ap (λ t. t ++ line_of e) before.spelled ∙ sym written ∙ ap text_of (sym more);
+      spelled = is ∙ ap (λ t. t ++ entry_line e) before.spelled ∙ sym written ∙ ap text_of (sym more);
       spellable = All-same IsSpellable _ _ more (All-push IsSpellable (take i entries) e before.spellable spellable);
     }

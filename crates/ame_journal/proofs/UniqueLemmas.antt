@@ -5,9 +5,9 @@ use Rattle.std.proofs.lemmas.List.Elements.{All-head, All-tail}
 use Rattle.std.proofs.lemmas.Fmt.{decimal_injective, signed_decimal_injective}
 use Rattle.ame_journal.specs.declared.entry.Entry.{Entry}
 use Rattle.ame_journal.specs.Kinds.{kind_word}
-use Rattle.ame_journal.specs.Words.{words}
+use Rattle.ame_journal.specs.Words.{line_words}
 use Rattle.ame_journal.specs.Lines.{ReadsNoLine}
-use Rattle.ame_journal.specs.Text.{answer_words, words_of, line_of, text_of, IsSpellable}
+use Rattle.ame_journal.specs.Text.{answer_words, words_of, entry_line, text_of, IsSpellable}
 use Rattle.ame_journal.proofs.LineLemmas.{kind_word-same, same-fresh, no_location}
 use Rattle.ame_journal.proofs.TextLemmas.{first-same, bare, bare-lacks, words-bare, line-cut}
 
@@ -44,12 +44,12 @@ words_of-same e f se sf same =
     (decimal_injective e.steps f.steps se.steps sf.steps steps) behind.0 (answer_words-same e.answer f.answer se.answer sf.answer behind.1)
 
 -- the first line tells its entry
-pub line-same : (e f : Entry) (xs ys : List ℕ) → IsSpellable e → IsSpellable f → line_of e ++ xs ≡ line_of f ++ ys → (e ≡ f) × (xs ≡ ys)
+pub line-same : (e f : Entry) (xs ys : List ℕ) → IsSpellable e → IsSpellable f → entry_line e ++ xs ≡ entry_line f ++ ys → (e ≡ f) × (xs ≡ ys)
 line-same e f xs ys se sf same =
     let cut = first-same (bare e) (bare f) xs ys (bare-lacks e se) (bare-lacks f sf) (sym (line-cut e xs) ∙ same ∙ line-cut f ys) in
-    (words_of-same e f se sf (sym (words-bare e se) ∙ ap words cut.0 ∙ words-bare f sf), cut.1)
+    (words_of-same e f se sf (sym (words-bare e se) ∙ ap line_words cut.0 ∙ words-bare f sf), cut.1)
 
-no_text : (e : Entry) (xs : List ℕ) → line_of e ++ xs ≢ []
+no_text : (e : Entry) (xs : List ℕ) → entry_line e ++ xs ≢ []
 no_text e xs same = none (bare e) (sym (line-cut e xs) ∙ same)
   where
     none : (front : List ℕ) → front ++ 10 ∷ xs ≢ []
@@ -65,8 +65,8 @@ text_of-same (e ∷ es) (f ∷ fs) se sf same =
     let first = line-same e f (text_of es) (text_of fs) (All-head IsSpellable e es se) (All-head IsSpellable f fs sf) same in
     ap (λ x. x ∷ es) first.0 ∙ ap (λ xs. f ∷ xs) (text_of-same es fs (All-tail IsSpellable e es se) (All-tail IsSpellable f fs sf) first.1)
 
-behind-line : (f : Entry) (fs : List Entry) (left : List ℕ) → text_of (f ∷ fs) ++ left ≡ line_of f ++ (text_of fs ++ left)
-behind-line f fs left = append_assoc (line_of f) (text_of fs) left
+behind-line : (f : Entry) (fs : List Entry) (left : List ℕ) → text_of (f ∷ fs) ++ left ≡ entry_line f ++ (text_of fs ++ left)
+behind-line f fs left = append_assoc (entry_line f) (text_of fs) left
 
 -- a text that is spelled isn't one with a bad line
 pub not_bad : (es before : List Entry) (left : List ℕ) → All IsSpellable es → All IsSpellable before → left ≢ [] → ReadsNoLine left → text_of es ≢ text_of before ++ left

@@ -4,29 +4,29 @@ use Rattle.std.specs.List.{onto_first}
 use Rattle.std.proofs.lemmas.Fmt.{decimal_injective}
 use Rattle.std.proofs.lemmas.List.{take_all}
 use denote.Ref.{Bor}
-use Rattle.ame_journal.specs.Words.{words, word_len, rest_words}
+use Rattle.ame_journal.specs.Words.{line_words, word_len, rest_words}
 
 -- the words behind a space, if there is one
 abbrev pub words_behind : List ℕ → List (List ℕ)
 words_behind [] = []
-words_behind (b ∷ rest) = words rest
+words_behind (b ∷ rest) = line_words rest
 
 one-plus : (n : ℕ) → 1 + n ≡ suc n
 one-plus n = omega arith
 
-cut_at : (b : ℕ) (rest : List ℕ) (v : Bool) → words rest ≡ take (word_len rest) rest ∷ words_behind (drop (word_len rest) rest) →
-    cond v ([] ∷ words rest) (onto_first b (words rest))
+cut_at : (b : ℕ) (rest : List ℕ) (v : Bool) → line_words rest ≡ take (word_len rest) rest ∷ words_behind (drop (word_len rest) rest) →
+    cond v ([] ∷ line_words rest) (onto_first b (line_words rest))
     ≡ take (cond (not v) (1 + word_len rest) 0) (b ∷ rest) ∷ words_behind (drop (cond (not v) (1 + word_len rest) 0) (b ∷ rest))
 cut_at b rest true e = refl
 cut_at b rest false e = rw one-plus (ap (onto_first b) e)
 
 -- the first word, and those behind it
-pub words-cut : (line : List ℕ) → words line ≡ take (word_len line) line ∷ words_behind (drop (word_len line) line)
+pub words-cut : (line : List ℕ) → line_words line ≡ take (word_len line) line ∷ words_behind (drop (word_len line) line)
 words-cut [] = refl
 words-cut (b ∷ rest) = cut_at b rest (eqb b 32) (words-cut rest)
 
 -- each line has a word
-pub words-some : (line : List ℕ) → words line ≢ []
+pub words-some : (line : List ℕ) → line_words line ≢ []
 words-some line e = let c = words-cut line in cc
 
 pub rest_words-none : (rest : Option (Bor (List ℕ))) → rest_words rest ≡ [] → is_none rest ≡ true
@@ -40,7 +40,7 @@ is_empty-words (Some rest) old true is e = cc
 is_empty-words (Some rest) old false is e = (λ f. cc, λ none. absurd (words-some rest.now (is ∙ none)))
 
 -- the same, as the code cuts a line
-pub cut-last : (line front back : List ℕ) (n : ℕ) → n ≡ word_len line → front ≡ take n line → back ≡ drop n line → length back < 1 → words line ≡ front ∷ []
+pub cut-last : (line front back : List ℕ) (n : ℕ) → n ≡ word_len line → front ≡ take n line → back ≡ drop n line → length back < 1 → line_words line ≡ front ∷ []
 cut-last line front [] n len front_is back_is none =
     let c = words-cut line in
     let a : take (word_len line) line ≡ front = ap (λ m. take m line) (sym len) ∙ sym front_is in
@@ -48,14 +48,14 @@ cut-last line front [] n len front_is back_is none =
     c ∙ ap (λ w. w ∷ words_behind (drop (word_len line) line)) a ∙ ap (λ d. front ∷ words_behind d) b
 cut-last line front (b ∷ back) n len front_is back_is none = absurd (omega arith)
 
-pub cut-more : (line front back : List ℕ) (n : ℕ) → n ≡ word_len line → front ≡ take n line → back ≡ drop n line → 1 ≤ length back → words line ≡ front ∷ words (take (length back - 1) (drop 1 back))
+pub cut-more : (line front back : List ℕ) (n : ℕ) → n ≡ word_len line → front ≡ take n line → back ≡ drop n line → 1 ≤ length back → line_words line ≡ front ∷ line_words (take (length back - 1) (drop 1 back))
 cut-more line front [] n len front_is back_is some = absurd (omega arith)
 cut-more line front (x ∷ back) n len front_is back_is some =
     let c = words-cut line in
     let a : take (word_len line) line ≡ front = ap (λ m. take m line) (sym len) ∙ sym front_is in
     let b : drop (word_len line) line ≡ x ∷ back = ap (λ m. drop m line) (sym len) ∙ sym back_is in
     let whole : take (length (x ∷ back) - 1) back ≡ back = take_all (length (x ∷ back) - 1) back (omega arith) in
-    c ∙ ap (λ w. w ∷ words_behind (drop (word_len line) line)) a ∙ ap (λ d. front ∷ words_behind d) b ∙ ap (λ r. front ∷ words r) (sym whole)
+    c ∙ ap (λ w. w ∷ words_behind (drop (word_len line) line)) a ∙ ap (λ d. front ∷ words_behind d) b ∙ ap (λ r. front ∷ line_words r) (sym whole)
 
 -- a word that spells a number spells no lower one
 pub too_great : (old rest : List (List ℕ)) (word : List ℕ) (n x limit : ℕ) → old ≡ word ∷ drop 1 old → word ≡ decimal n → n < 2 ^ 64 → limit ≤ n → x < limit → old ≢ decimal x ∷ rest

@@ -1,33 +1,35 @@
--- The labels that a journal stands for: those of its entries, one entry after another.
-use Rattle.std.specs.Prelude.{◌≡◌, ℕ, suc, ℤ, Bool, true, false, List, [], ◌∷◌, ◌++◌, map, length, Option, Some, None}
+-- The labels that a journal stands for: those of its entries, one entry after another. A journal tells
+-- members, counts of steps, fresh locations and device answers; all else is determined.
+use Rattle.std.specs.Prelude.{◌≡◌, ℕ, suc, ℤ, true, false, List, [], ◌∷◌, ◌++◌, map, length, Option, Some, None, option_to_list}
 use Rattle.std.specs.List.{flat_map}
+use Rattle.ame_term.specs.Frame.{Side}
+use Rattle.ame_term.specs.Act.{fresh_location, device_answer}
 use Rattle.ame_term.specs.State.{State, run}
 use Rattle.ame_term.specs.declared.semantics.StepKind.{StepKind}
 use Rattle.ame_term.specs.declared.semantics.Label.{Label}
 use Rattle.ame_journal.specs.declared.entry.Entry.{Entry}
 use Rattle.ame_journal.specs.declared.entry.EntryKind.{EntryKind}
-use Rattle.ame_journal.specs.Replay.{Replayed, fresh_of, is_at_unprotected, is_inside, is_failing, is_tall, entering, leaving, staying}
+use Rattle.ame_journal.specs.Replayed.{Replayed, is_at_unprotected, side_at, is_inside, is_failing, is_tall, entering, leaving, staying}
+
+-- the fresh location of a step, if it makes one
+abbrev pub fresh_of : StepKind → List ℕ
+fresh_of kind = option_to_list (fresh_location kind)
 
 -- the locations that steps make, in order
 abbrev pub made_by : List StepKind → List ℕ
 made_by kinds = flat_map fresh_of kinds
 
--- the answer of a step that calls a device
-abbrev pub answer_of : StepKind → Option ℤ
-answer_of (StepKind.Device answer) = Some answer
-answer_of _ = None
-
 -- a device is called in the last step alone, and then its answer is told
-abbrev pub Answers : List StepKind → Option ℤ → Type 0
-Answers [] answer = answer ≡ None
-Answers (kind ∷ []) answer = answer ≡ answer_of kind
-Answers (kind ∷ next ∷ kinds) answer = (answer_of kind ≡ None) × Answers (next ∷ kinds) answer
+abbrev pub IsAnswered : List StepKind → Option ℤ → Type 0
+IsAnswered [] answer = answer ≡ None
+IsAnswered (kind ∷ []) answer = answer ≡ device_answer kind
+IsAnswered (kind ∷ next ∷ kinds) answer = (device_answer kind ≡ None) × IsAnswered (next ∷ kinds) answer
 
 -- n steps of these kinds make these locations and have this answer
 pub record AreSteps (kinds : List StepKind) (n : ℕ) (fresh : List ℕ) (answer : Option ℤ) : Type 0 where
   pub count : length kinds ≡ n
   pub made : made_by kinds ≡ fresh
-  pub answered : Answers kinds answer
+  pub answered : IsAnswered kinds answer
 
 -- the labels of a fragment that goes on
 abbrev pub fragment_labels : ℕ → List StepKind → List Label
@@ -37,10 +39,10 @@ fragment_labels i kinds = Label.Activate i ∷ map Label.Step kinds
 abbrev pub free_labels : ℕ → List StepKind → List Label
 free_labels i kinds = map (Label.Free i) kinds
 
--- the labels of an attempt, at a member that stands at `unprotected` (the first argument true) or doesn't
-abbrev pub attempt_labels : Bool → ℕ → List StepKind → List Label
-attempt_labels true i kinds = free_labels i kinds
-attempt_labels false i kinds = fragment_labels i kinds
+-- the labels of an attempt, which is one of these on either side
+abbrev pub attempt_labels : Side → ℕ → List StepKind → List Label
+attempt_labels Side.Protected i kinds = fragment_labels i kinds
+attempt_labels Side.Unprotected i kinds = free_labels i kinds
 
 -- An entry of a kind for member i, with so many steps, these fresh locations and this answer, unfolds
 -- into labels that lead on. A note has none: what it tells could happen here, and nothing changes.
@@ -60,9 +62,9 @@ pub data Unfolds (r : Replayed) (i : ℕ) : EntryKind → ℕ → List ℕ → O
   fails : (kinds : List StepKind) (n : ℕ) (fresh : List ℕ) (s : State) → AreSteps kinds n fresh None → run r.state (fragment_labels i kinds) ≡ Some s →
       is_failing i s ≡ true → Unfolds r i EntryKind.Stuck n fresh None [] r
   is_cut : (kinds : List StepKind) (n : ℕ) (fresh : List ℕ) (s : State) → AreSteps kinds n fresh None →
-      run r.state (attempt_labels (is_at_unprotected i r.state) i kinds) ≡ Some s → Unfolds r i EntryKind.Cut n fresh None [] r
+      run r.state (attempt_labels (side_at i r.state) i kinds) ≡ Some s → Unfolds r i EntryKind.Cut n fresh None [] r
   grows : (kinds : List StepKind) (n : ℕ) (fresh : List ℕ) (s : State) → AreSteps kinds n fresh None →
-      run r.state (attempt_labels (is_at_unprotected i r.state) i kinds) ≡ Some s → is_tall (is_at_unprotected i r.state) i s ≡ true → Unfolds r i EntryKind.Tall n fresh None [] r
+      run r.state (attempt_labels (side_at i r.state) i kinds) ≡ Some s → is_tall (side_at i r.state) i s ≡ true → Unfolds r i EntryKind.Tall n fresh None [] r
 
 -- the labels of all entries, one entry after another
 pub data UnfoldsAll : Replayed → List Entry → List Label → Replayed → Type 0 where

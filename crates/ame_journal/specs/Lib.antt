@@ -1,8 +1,10 @@
 pub mod Log
+pub mod Replayed
+pub mod Labels
 pub mod Replay
+pub mod UnderWay
 pub mod Kinds
 pub mod Text
 pub mod Words
 pub mod Cursor
 pub mod Lines
-pub mod Labels

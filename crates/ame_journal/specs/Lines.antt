@@ -2,7 +2,7 @@
 use Rattle.std.specs.Prelude.{◌≡◌, ◌≢◌, ◌==◌, ◌<◌, ◌^◌, ℕ, ℤ, false, List, [], ◌∷◌, ◌++◌, map, All, Option, Some, None, IfSome, FitsSigned, decimal, codes}
 use Rattle.std.specs.Fmt.{signed_decimal}
 use Rattle.ame_journal.specs.declared.entry.Entry.{Entry}
-use Rattle.ame_journal.specs.Text.{line_of, IsSpellable}
+use Rattle.ame_journal.specs.Text.{entry_line, IsSpellable}
 use Rattle.std.specs.Int.{w64}
 use Rattle.ame_journal.specs.declared.entry.EntryKind.{EntryKind}
 use Rattle.ame_journal.specs.declared.line.Head.{Head}
@@ -46,12 +46,12 @@ pub record IsCut (text line behind : List ℕ) : Type 0 where
 
 -- the first line spells this entry, and this stands behind it
 pub record ReadsLine (text : List ℕ) (entry : Entry) (behind : List ℕ) : Type 0 where
-  pub spelled : text ≡ line_of entry ++ behind
+  pub spelled : text ≡ entry_line entry ++ behind
   pub spellable : IsSpellable entry
 
 -- no line of an entry stands at the front of a text
 abbrev pub ReadsNoLine : List ℕ → Type 0
-ReadsNoLine text = (entry : Entry) (after : List ℕ) → IsSpellable entry → text ≢ line_of entry ++ after
+ReadsNoLine text = (entry : Entry) (after : List ℕ) → IsSpellable entry → text ≢ entry_line entry ++ after
 
 -- a word behind its space
 abbrev pub part_of : List ℕ → List ℕ

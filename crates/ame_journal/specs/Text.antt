@@ -19,12 +19,12 @@ words_of entry =
     kind_word entry.kind ∷ decimal entry.seat ∷ decimal entry.number ∷ decimal entry.steps ∷ map decimal entry.fresh ++ answer_words entry.answer
 
 -- a line: one space between each word and the next, and a line feed at the end
-abbrev pub line_of : Entry → List ℕ
-line_of entry = join_with_byte 32 (words_of entry) ++ codes "\n"
+abbrev pub entry_line : Entry → List ℕ
+entry_line entry = join_with_byte 32 (words_of entry) ++ codes "\n"
 
 -- the lines of all entries
 abbrev pub text_of : List Entry → List ℕ
-text_of entries = flat_map line_of entries
+text_of entries = flat_map entry_line entries
 
 -- an entry that a line can spell: a fit one, whose numbers are in the ranges of their types
 pub record IsSpellable (entry : Entry) : Type 0 where
@@ -41,16 +41,16 @@ pub record IsText (text : List ℕ) (entries : List Entry) : Type 0 where
 
 -- Line n, counted from 1, is the first that spells no entry: the lines before it spell entries, something
 -- follows them, and no line of an entry stands at its front.
-pub record IsFirstBad (text : List ℕ) (n : ℕ) : Type 0 where
+pub record IsFirstBadLine (text : List ℕ) (n : ℕ) : Type 0 where
   pub before : List Entry
   pub left : List ℕ
   pub reads : All IsSpellable before
   pub split : text ≡ text_of before ++ left
   pub count : n ≡ length before + 1
   pub follows : left ≢ []
-  pub bad : (entry : Entry) (after : List ℕ) → IsSpellable entry → left ≢ line_of entry ++ after
+  pub bad : (entry : Entry) (after : List ℕ) → IsSpellable entry → left ≢ entry_line entry ++ after
 
 -- why a text gives no journal, unless memory ran out
 abbrev pub Explains : List ℕ → JournalFault → Type 0
-Explains text (JournalFault.BadLine n) = IsFirstBad text n
+Explains text (JournalFault.BadLine n) = IsFirstBadLine text n
 Explains text JournalFault.NoMemory = ⊤

@@ -5,9 +5,10 @@ ghost use Rattle.ame_term.specs.Tree.{Tree};
 ghost use Rattle.ame_term.specs.State.{IsRun, run, State};
 ghost use Rattle.ame_term.specs.declared.semantics.Label.{Label};
 ghost use Rattle.ame_journal.specs.declared.entry.Entry.{Entry};
-ghost use Rattle.ame_journal.specs.Replay.{Replayed, begun, replay, replay_entry, replay_from};
+ghost use Rattle.ame_journal.specs.Replayed.{Replayed, begun_at};
 ghost use Rattle.ame_journal.specs.Labels.{UnfoldsAll};
-ghost use Rattle.ame_journal.specs.Text.{IsText, IsFirstBad};
+ghost use Rattle.ame_journal.specs.Replay.{replay, replay_entry, replay_from};
+ghost use Rattle.ame_journal.specs.Text.{IsText, IsFirstBadLine};
 
 /// A journal with one more entry is replayed in the state that the journal gives.
 pub fn one_more_entry()
@@ -25,12 +26,12 @@ pub fn front_is_replayed()
 /// which is legal where it stands, and the run ends in the replayed state.
 pub fn journal_is_one_run()
     ensures { (program : Tree) (entries : List Entry) (r : Replayed) → replay program entries ≡ Some r →
-        (labels : List Label) × UnfoldsAll (begun program) entries labels r × IsRun program labels r.state }
+        (labels : List Label) × UnfoldsAll (begun_at program) entries labels r × IsRun program labels r.state }
 {}
 
 /// A journal whose entries unfold into labels can be replayed, and ends in the same state.
 pub fn unfolded_is_replayed()
-    ensures { (program : Tree) (entries : List Entry) (labels : List Label) (r : Replayed) → UnfoldsAll (begun program) entries labels r → replay program entries ≡ Some r }
+    ensures { (program : Tree) (entries : List Entry) (labels : List Label) (r : Replayed) → UnfoldsAll (begun_at program) entries labels r → replay program entries ≡ Some r }
 {}
 
 /// A text spells one journal at most.
@@ -40,10 +41,10 @@ pub fn text_is_of_one_journal()
 
 /// A text that spells a journal has no bad line.
 pub fn spelled_has_no_bad_line()
-    ensures { (text : List ℕ) (entries : List Entry) (n : ℕ) → IsText text entries → IsFirstBad text n → ⊥ }
+    ensures { (text : List ℕ) (entries : List Entry) (n : ℕ) → IsText text entries → IsFirstBadLine text n → ⊥ }
 {}
 
 /// The first bad line of a text is one.
 pub fn first_bad_line_is_one()
-    ensures { (text : List ℕ) (m n : ℕ) → IsFirstBad text m → IsFirstBad text n → m ≡ n }
+    ensures { (text : List ℕ) (m n : ℕ) → IsFirstBadLine text m → IsFirstBadLine text n → m ≡ n }
 {}

@@ -3,7 +3,7 @@
 ghost use Rattle.std.specs.Prelude.{◌≡◌, map, IfOk};
 ghost use Rattle.ame_journal.specs.Text.{answer_words, words_of, IsSpellable};
 ghost use Rattle.ame_journal.specs.Words as spec;
-ghost use Rattle.ame_journal.specs.Words.{Reads};
+ghost use Rattle.ame_journal.specs.Words.{ReadsWord};
 ghost use Rattle.ame_journal.specs.Lines.{TakesHead, TakesLocations, IsAnswer};
 
 use crate::entry::{Entry, EntryKind};
@@ -44,7 +44,7 @@ fn take_fresh(alloc: Global, words: &mut Words) -> Result<Vec<Loc>, NoMemory>
 
 /// What stands behind the locations: nothing, or for `free` an equals sign and the answer.
 fn answer_of(kind: EntryKind, words: &mut Words) -> Option<Option<i64>>
-    ensures { Reads answer_words (IsAnswer kind) words.old result }
+    ensures { ReadsWord answer_words (IsAnswer kind) words.old result }
 {
     if words.is_empty() {
         return Some(None);
@@ -63,7 +63,7 @@ fn answer_of(kind: EntryKind, words: &mut Words) -> Option<Option<i64>>
 
 /// The entry that a line spells, without its line feed.
 pub fn entry_of(alloc: Global, line: &[u8]) -> Result<Option<Entry>, NoMemory>
-    ensures { IfOk result (Reads words_of IsSpellable (spec.words line.now)) }
+    ensures { IfOk result (ReadsWord words_of IsSpellable (spec.line_words line.now)) }
 {
     let mut words = Words::new(line);
     let Some(head) = take_head(&mut words) else {

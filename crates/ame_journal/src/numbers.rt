@@ -4,13 +4,13 @@ ghost use Rattle.std.specs.Prelude.{◌≡◌, ℤ, ◌-◌, ◌<◌, ◌^◌, m
 ghost use Rattle.std.specs.Int.{w64};
 ghost use Rattle.std.specs.Fmt.{signed_decimal};
 ghost use Rattle.ame_journal.specs.Words as spec;
-ghost use Rattle.ame_journal.specs.Words.{Reads};
+ghost use Rattle.ame_journal.specs.Words.{ReadsWord};
 
 use itoa::Buffer;
 
 /// The value of decimal digits, or the greatest `u64` where it doesn't fit.
 fn value_of(digits: &[u8]) -> u64
-    ensures { result ≡ min (spec.value_of digits.now) (2 ^ 64 - 1) }
+    ensures { result ≡ min (spec.digits_number digits.now) (2 ^ 64 - 1) }
 {
     let mut value: u64 = 0;
     for digit in digits {
@@ -23,7 +23,7 @@ fn value_of(digits: &[u8]) -> u64
 
 /// The number that a word spells.
 pub fn number(word: &[u8]) -> Option<u64>
-    ensures { Reads decimal (λ n. n < 2 ^ 64) word.now result }
+    ensures { ReadsWord decimal (λ n. n < 2 ^ 64) word.now result }
 {
     let value = value_of(word);
     let mut buffer = Buffer::new();
@@ -46,7 +46,7 @@ fn signed_value(word: &[u8]) -> Option<i64>
 
 /// The number that a word spells, which may be negative.
 pub fn signed_number(word: &[u8]) -> Option<i64>
-    ensures { Reads signed_decimal (FitsSigned w64) word.now result }
+    ensures { ReadsWord signed_decimal (FitsSigned w64) word.now result }
 {
     let value = signed_value(word)?;
     let mut buffer = Buffer::new();

@@ -4,7 +4,7 @@ ghost use Rattle.std.specs.Prelude.{◌≡◌, ◌++◌, ◌<◌, ◌^◌, All, 
 ghost use Rattle.std.specs.Int.{w64};
 ghost use Rattle.std.specs.List.{flat_map};
 ghost use Rattle.ame_journal.specs.Log.{IsFit};
-ghost use Rattle.ame_journal.specs.Text.{line_of, IsSpellable};
+ghost use Rattle.ame_journal.specs.Text.{entry_line, IsSpellable};
 ghost use Rattle.ame_journal.specs.Lines.{part_of, answer_text};
 
 use crate::entry::Entry;
@@ -14,7 +14,7 @@ use itoa::Buffer;
 /// Appends the line of an entry.
 pub fn write_line(text: &mut Vec<u8>, entry: &Entry) -> Result<(), NoMemory>
     requires { IsFit entry.now }
-    ensures written { OnOk result (text.new.items ≡ text.old.items ++ line_of entry.now) }
+    ensures written { OnOk result (text.new.items ≡ text.old.items ++ entry_line entry.now) }
     ensures spellable { OnOk result (IsSpellable entry.now) }
 {
     write(text, entry.kind.word())?;

@@ -5,7 +5,7 @@ ghost use Rattle.std.specs.Int.{w64};
 ghost use Rattle.std.specs.Fmt.{signed_decimal};
 ghost use Rattle.ame_journal.specs.Kinds.{kind_word};
 ghost use Rattle.ame_journal.specs.Words as spec;
-ghost use Rattle.ame_journal.specs.Words.{Reads, Takes, BeginsWith, rest_words};
+ghost use Rattle.ame_journal.specs.Words.{ReadsWord, TakesFront, BeginsWith, rest_words};
 
 use crate::entry::EntryKind;
 use crate::numbers::{number, signed_number};
@@ -14,7 +14,7 @@ use std::marker::Model;
 
 /// The kind that a word stands for.
 fn kind_of(word: &[u8]) -> Option<EntryKind>
-    ensures { Reads kind_word (λ _. ⊤) word.now result }
+    ensures { ReadsWord kind_word (λ _. ⊤) word.now result }
 {
     match word {
         b"ran" => Some(EntryKind::Ran),
@@ -44,7 +44,7 @@ impl<'a> Model for Words<'a> {
 
 impl<'a> Words<'a> {
     pub fn new(line: &'a [u8]) -> Words<'a>
-        ensures { result ≡ spec.words line.now }
+        ensures { result ≡ spec.line_words line.now }
     {
         Words { rest: Some(line) }
     }
@@ -72,7 +72,7 @@ impl<'a> Words<'a> {
     }
 
     pub fn kind(&mut self) -> Option<EntryKind>
-        ensures { Takes kind_word (λ _. ⊤) self.old result self.new }
+        ensures { TakesFront kind_word (λ _. ⊤) self.old result self.new }
     {
         let kind = kind_of(self.first()?)?;
         self.advance();
@@ -80,7 +80,7 @@ impl<'a> Words<'a> {
     }
 
     pub fn number(&mut self) -> Option<u64>
-        ensures { Takes decimal (λ n. n < 2 ^ 64) self.old result self.new }
+        ensures { TakesFront decimal (λ n. n < 2 ^ 64) self.old result self.new }
     {
         let number = number(self.first()?)?;
         self.advance();
@@ -88,7 +88,7 @@ impl<'a> Words<'a> {
     }
 
     pub fn seat(&mut self) -> Option<u32>
-        ensures { Takes decimal (λ n. n < 32) self.old result self.new }
+        ensures { TakesFront decimal (λ n. n < 32) self.old result self.new }
     {
         let seat = number(self.first()?)?;
         if seat >= 32 {
@@ -99,7 +99,7 @@ impl<'a> Words<'a> {
     }
 
     pub fn location(&mut self) -> Option<Loc>
-        ensures { Takes (λ l. decimal l.0) (λ l. l.0 < 2 ^ 32) self.old result self.new }
+        ensures { TakesFront (λ l. decimal l.0) (λ l. l.0 < 2 ^ 32) self.old result self.new }
     {
         let location = number(self.first()?)?;
         if location > u32::MAX as u64 {
@@ -110,7 +110,7 @@ impl<'a> Words<'a> {
     }
 
     pub fn equals_sign(&mut self) -> Option<()>
-        ensures { Takes (λ _. codes "=") (λ _. ⊤) self.old result self.new }
+        ensures { TakesFront (λ _. codes "=") (λ _. ⊤) self.old result self.new }
     {
         if self.first()? != b"=".as_slice() {
             return None;
@@ -120,7 +120,7 @@ impl<'a> Words<'a> {
     }
 
     pub fn answer(&mut self) -> Option<i64>
-        ensures { Takes signed_decimal (FitsSigned w64) self.old result self.new }
+        ensures { TakesFront signed_decimal (FitsSigned w64) self.old result self.new }
     {
         let answer = signed_number(self.first()?)?;
         self.advance();
@@ -138,7 +138,7 @@ fn word_len(line: &[u8]) -> usize
 
 /// The first word, and what stands behind the space after it.
 fn cut(line: &[u8]) -> (&[u8], Option<&[u8]>)
-    ensures { spec.words line.now ≡ result.0.now ∷ rest_words result.1 }
+    ensures { spec.line_words line.now ≡ result.0.now ∷ rest_words result.1 }
 {
     let (word, rest) = line.split_at(word_len(line));
     match rest {

@@ -1,5 +1,5 @@
 use Rattle.std.proofs.Common.{◌≡◌, ◌<◌, ◌^◌, ◌∙◌, ◌++◌, All, ap, codes, decimal, sym, subst}
-use Rattle.ame_journal.specs.Text.{line_of}
+use Rattle.ame_journal.specs.Text.{entry_line}
 use Rattle.ame_journal.specs.Lines.{part_of, answer_text}
 use Rattle.ame_journal.proofs.SpellingLemmas.{line-parts, on_ok, fresh_text, holds_ok}
 use Rattle.ame_journal.proofs.spelling.write_line.Goals as goal
@@ -14,7 +14,7 @@ returns-clause-written c =
     let e4 = c.in_ok-write_number-3.ensures.written in
     let e5 = c.in_ok-write_fresh.ensures.written ∙ ap (λ ls. c.write_number-3.new.text.items ++ fresh_text ls) (sym c.as_slice.ensures) in
     let e6 = c.in_ok-write_answer.ensures.written in
-    let front : c.write_answer.new.text.items ++ codes "\n" ≡ old ++ line_of e =
+    let front : c.write_answer.new.text.items ++ codes "\n" ≡ old ++ entry_line e =
     ap (λ t. t ++ codes "\n") (e6 ∙ ap (λ t. t ++ answer_text e.answer) (e5 ∙ ap (λ t. t ++ fresh_text e.fresh) (e4 ∙ ap (λ t. t ++ part_of (decimal e.steps)) (e3 ∙ ap (λ t. t ++ part_of (decimal e.number)) (e2 ∙ ap (λ t. t ++ part_of (decimal e.seat)) e1)))))
     ∙ line-parts old e in
     on_ok _ _ c.write-2.result (λ is. is ∙ front) c.write-2.ensures

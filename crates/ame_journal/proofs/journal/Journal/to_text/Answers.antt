@@ -1,5 +1,5 @@
 use Rattle.std.proofs.Common.{◌∙◌, ◌++◌, ap, subst, arith}
-use Rattle.ame_journal.specs.Text.{line_of, IsSpellable}
+use Rattle.ame_journal.specs.Text.{entry_line, IsSpellable}
 use Rattle.ame_journal.proofs.TextLemmas.{one_written}
 use Rattle.ame_journal.proofs.journal.Journal.to_text.Goals as goal
 
@@ -10,4 +10,4 @@ loop-entry-preserved c =
     let text = c.loop-entry.text.items in
     let ensures = c.in_ok-write_line.ensures in
     one_written text _ entries c.loop-entry.entry-index entry (omega arith) c.loop-entry.invariant
-    (ensures.written ∙ ap (λ e. text ++ line_of e) c.entry-item.is) (subst IsSpellable c.entry-item.is ensures.spellable)
+    (ensures.written ∙ ap (λ e. text ++ entry_line e) c.entry-item.is) (subst IsSpellable c.entry-item.is ensures.spellable)

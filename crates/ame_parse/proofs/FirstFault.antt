@@ -9,9 +9,9 @@ use Rattle.ame_parse.specs.declared.fault.ParseFault.{ParseFault}
 use Rattle.ame_parse.specs.Input.{Seen, Input, ParseOutcome, place_in}
 use Rattle.ame_parse.specs.Seen.{seen, start_of}
 use Rattle.ame_parse.specs.Reading.{program}
-use Rattle.ame_parse.specs.Fault.{place_of, HasSeenTokens}
+use Rattle.ame_parse.specs.Fault.{place_of, at_place, lexeme_of, first_lexeme, HasSeenTokens}
 use Rattle.ame_parse.specs.Text.{TextFault, source_by, reading_by, reading}
-use Rattle.ame_parse.proofs.Locality.{swapped, Alike, LocalAt, goes, stops}
+use Rattle.ame_parse.proofs.Locality.{Follows, LocalAt, goes, stops}
 use Rattle.ame_parse.proofs.LocalTerms.{local_program}
 
 -- ---- places rise
@@ -41,19 +41,19 @@ tail_same : (x y : Seen) (xs ys : List Seen) → x ∷ xs ≡ y ∷ ys → xs �
 tail_same x y xs ys e = cc
 
 -- one place of the list has this place of the text
-one_place : (before before' rest : List Seen) (token : Seen) (after : List Seen) (from end : ℕ) → IsRising from (before ++ rest) end → before ++ rest ≡ before' ++ (token ∷ after)
-    → place_in end rest ≡ token.place → (before ≡ before') × (rest ≡ token ∷ after)
-one_place [] [] rest token after from end h e place = (refl, e)
-one_place [] (x ∷ before') rest token after from end h e place =
-    let rises : IsRising from (x ∷ (before' ++ (token ∷ after))) end = subst (λ z. IsRising from z end) e h in
+one_place : (before before' rest rest' : List Seen) (from end : ℕ) → IsRising from (before ++ rest) end → before ++ rest ≡ before' ++ rest'
+    → place_in end rest ≡ place_in end rest' → (before ≡ before') × (rest ≡ rest')
+one_place [] [] rest rest' from end h e place = (refl, e)
+one_place [] (x ∷ before') rest rest' from end h e place =
+    let rises : IsRising from (x ∷ (before' ++ rest')) end = subst (λ z. IsRising from z end) e h in
     let first : place_in end rest ≡ x.place = ap (place_in end) e in
-    absurd (omega (arith, place_rises before' (token ∷ after) (x.place + 1) end rises.1, first, place))
-one_place (x ∷ before) [] rest token after from end h e place =
-    let same : x.place ≡ token.place = ap (λ z. z.place) (head_same x token (before ++ rest) after e) in
-    absurd (omega (arith, place_rises before rest (x.place + 1) end h.1, same, place))
-one_place (x ∷ before) (y ∷ before') rest token after from end h e place =
-    let first : x ≡ y = head_same x y (before ++ rest) (before' ++ (token ∷ after)) e in
-    let found = one_place before before' rest token after (x.place + 1) end h.1 (tail_same x y (before ++ rest) (before' ++ (token ∷ after)) e) place in
+    absurd (omega (arith, place_rises before' rest' (x.place + 1) end rises.1, first, place))
+one_place (x ∷ before) [] rest rest' from end h e place =
+    let first : x.place ≡ place_in end rest' = ap (place_in end) e in
+    absurd (omega (arith, place_rises before rest (x.place + 1) end h.1, first, place))
+one_place (x ∷ before) (y ∷ before') rest rest' from end h e place =
+    let first : x ≡ y = head_same x y (before ++ rest) (before' ++ rest') e in
+    let found = one_place before before' rest rest' (x.place + 1) end h.1 (tail_same x y (before ++ rest) (before' ++ rest') e) place in
     (cc, found.1)
 
 -- ---- where the program stops
@@ -63,13 +63,19 @@ record Stop (m : ℕ) (i : Input) (fault : ParseFault) : Type 0 where
   from : List Seen
   split : i.rest ≡ before ++ from
   stands : place_of fault ≡ place_in i.end from
-  stays : (rest : List Seen) (end : ℕ) → length (before ++ rest) ≤ m → Alike from i.end rest end → program (swapped i (before ++ rest) end) ≡ Err fault
+  stays : (i' : Input) (rest' : List Seen) → Follows m i before from i' rest' → program i' ≡ Err (at_place (place_in i'.end rest') fault)
 
 stop_of : (m : ℕ) (i : Input) (fault : ParseFault) (o : ParseOutcome Tree) → LocalAt m program i o → o ≡ Err fault → Stop m i fault
 stop_of m i fault o (goes used e ends go) same = absurd (cc)
 stop_of m i fault o (stops {fault = found} before from e place stay) same =
     let it : found ≡ fault = cc in
-    record { before = before; from = from; split = e; stands = ap place_of (sym it) ∙ place; stays = λ rest end few alike. stay rest end few alike ∙ ap Err it }
+    record {
+      before = before;
+      from = from;
+      split = e;
+      stands = ap place_of (sym it) ∙ place;
+      stays = λ i' rest' follows. stay i' rest' follows ∙ ap (λ z. Err (at_place (place_in i'.end rest') z)) it;
+    }
 
 stop_at : (m : ℕ) (i : Input) (fault : ParseFault) → length i.rest ≤ m → program i ≡ Err fault → Stop m i fault
 stop_at m i fault few e = stop_of m i fault (program i) (local_program m i few) e
@@ -99,18 +105,24 @@ fault_stands text all fault has e =
 abbrev AreInOrder : Text → Type 0
 AreInOrder text = (tokens : List Token) → tokens_of text ≡ Ok tokens → InOrder 0 tokens (length text)
 
--- and stays, whatever comes after that token
-pub fault_stays : (text other : Text) (before after others : List Seen) (token : Seen) (fault : ParseFault) → AreInOrder text
-    → HasSeenTokens text (before ++ token ∷ after) → reading text ≡ Err (TextFault.Syntactic fault) → place_of fault ≡ token.place
-    → HasSeenTokens other (before ++ token ∷ others) → reading other ≡ Err (TextFault.Syntactic fault)
-fault_stays text other before after others token fault ordered has e place has' =
+-- and stays, wherever the tokens stand and whatever comes after that one
+pub fault_stays : (text other : Text) (before from before' from' : List Seen) (fault : ParseFault) → AreInOrder text
+    → HasSeenTokens text (before ++ from) → reading text ≡ Err (TextFault.Syntactic fault) → place_of fault ≡ place_in (length text) from
+    → HasSeenTokens other (before' ++ from') → map lexeme_of before' ≡ map lexeme_of before → first_lexeme from' ≡ first_lexeme from
+    → reading other ≡ Err (TextFault.Syntactic (at_place (place_in (length other) from') fault))
+fault_stays text other before from before' from' fault ordered has e place has' same alike =
     let i = start_of text has.tokens in
-    let m = length (before ++ token ∷ others) + length i.rest in
+    let i' = start_of other has'.tokens in
+    let m = length i'.rest + length i.rest in
     let stop = stop_at m i fault (omega arith) (fault_of_tokens text has.tokens fault has.lexed e) in
     let rises : IsRising 0 i.rest (length text) = rising_of text 0 (length text) has.tokens (ordered has.tokens has.lexed) in
-    let found = one_place stop.before before stop.from token after 0 (length text) (subst (λ z. IsRising 0 z (length text)) stop.split rises) (sym stop.split ∙ has.seen_so) (sym stop.stands ∙ place) in
-    let few : length (stop.before ++ (token ∷ others)) ≤ m = omega (arith, ap (λ z. length (z ++ (token ∷ others))) found.0) in
-    let alike : Alike stop.from (length text) (token ∷ others) (length other) = subst (λ z. Alike z (length text) (token ∷ others) (length other)) (sym found.1) (others, refl) in
-    let same : stop.before ++ (token ∷ others) ≡ map (seen other) has'.tokens = ap (λ z. z ++ (token ∷ others)) found.0 ∙ sym has'.seen_so in
-    reading_of_fault other has'.tokens fault has'.lexed
-    (ap (λ z. program (swapped i z (length other))) (sym same) ∙ stop.stays (token ∷ others) (length other) few alike)
+    let found = one_place stop.before before stop.from from 0 (length text) (subst (λ z. IsRising 0 z (length text)) stop.split rises) (sym stop.split ∙ has.seen_so) (sym stop.stands ∙ place) in
+    let follows : Follows m i stop.before stop.from i' from' = record {
+      twin = record { names = refl; scope = refl };
+      few = omega arith;
+      used' = before';
+      split = has'.seen_so;
+      same = same ∙ ap (map lexeme_of) (sym found.0);
+      alike = alike ∙ ap first_lexeme (sym found.1);
+    } in
+    reading_of_fault other has'.tokens _ has'.lexed (stop.stays i' from' follows)

@@ -1,6 +1,5 @@
 -- Each form, type and program is read locally.
-use Rattle.std.proofs.Common.{refl, sym, ap, ◌∙◌, ℕ, zero, suc, ◌-◌, ◌==◌, Bool, true, false, cond, List, [], ◌∷◌, ◌++◌, take, drop, Option, Some, None, Ok, Err}
-use Rattle.std.proofs.lemmas.List.{take-append-drop}
+use Rattle.std.proofs.Common.{refl, sym, ap, ◌∙◌, ℕ, zero, suc, ◌-◌, ◌==◌, Bool, true, false, cond, List, [], ◌∷◌, ◌++◌, Option, Some, None, Ok, Err}
 use Rattle.ame_term.specs.declared.types.Sort.{Sort}
 use Rattle.ame_term.specs.declared.types.Effect.{Effect}
 use Rattle.ame_term.specs.declared.types.Unary.TheVariants as unary
@@ -18,7 +17,7 @@ use Rattle.ame_parse.specs.Letters.{sort_of, effect_named, device_of, sort_by, e
 use Rattle.ame_parse.specs.Types as t
 use Rattle.ame_parse.specs.Types.{ty, param}
 use Rattle.ame_parse.specs.Reading.{alone, two, choice, binding, more_from, reference, call, function, recursive}
-use Rattle.ame_parse.proofs.Locality.{IsLocal, goes, local_bind, local_pure, local_peek, local_see, local_sees_closing, local_fault, local_expected, local_advance, local_bound, local_unbound, spelling_taken, drop_alike}
+use Rattle.ame_parse.proofs.Locality.{IsLocal, local_bind, local_pure, local_peek, local_see, local_sees_closing, local_fault, local_expected, local_take, local_advance, local_bound, local_unbound, spelling_alike}
 
 -- ---- steps by the next token
 
@@ -32,7 +31,7 @@ local_closing m = local_bind m peek closing_by (local_peek m) (closing_by_local 
 
 finish_by_local : (m : ℕ) (next : Ahead) → IsLocal m (finish_by next)
 finish_by_local m a.End = local_pure m tt
-finish_by_local m _ = local_fault m Trailing (λ n. refl)
+finish_by_local m _ = local_fault m Trailing (λ n. refl) (λ n k. refl)
 
 pub local_finish : (m : ℕ) → IsLocal m finish
 unfolding finish
@@ -40,10 +39,11 @@ local_finish m = local_bind m peek finish_by (local_peek m) (finish_by_local m)
 
 pub take_name_local : (m : ℕ) → IsLocal m (λ i. Ok (name_number i, named i))
 unfolding name_number named spelling
-take_name_local m i few = goes (take 1 i.rest) (sym (take-append-drop 1 i.rest)) refl
-    (λ rest end few' alike.
-    ap (λ z. Ok (number_in i.names z, record i { rest = drop 1 (take 1 i.rest ++ rest); end = end; names = with_name i.names z })) (spelling_taken i.rest rest i.end end alike)
-    ∙ ap (λ z. Ok (number_in i.names (spelling_in i.rest), record i { rest = z; end = end; names = with_name i.names (spelling_in i.rest) })) (drop_alike i.rest rest i.end end alike))
+take_name_local m = local_take m name_number named (λ i. refl) (λ i. refl) (λ i i' twin alike.
+    let spelt = spelling_alike i.rest i'.rest alike in (
+      ap (λ z. number_in z (spelling_in i'.rest)) twin.names ∙ ap (number_in i.names) spelt,
+      record { names = ap (λ z. with_name z (spelling_in i'.rest)) twin.names ∙ ap (with_name i.names) spelt; scope = twin.scope },
+    ))
 
 name_by_local : (m : ℕ) (next : Ahead) → IsLocal m (name_by next)
 name_by_local m a.Name = take_name_local m
@@ -54,7 +54,7 @@ unfolding name
 local_name m = local_bind m peek name_by (local_peek m) (name_by_local m)
 
 opening_test_local : (m : ℕ) (b : Bool) → IsLocal m (cond {A = Parser (Unit {0})} b (λ i. Err (TooNested (place i))) advance)
-opening_test_local m true = local_fault m TooNested (λ n. refl)
+opening_test_local m true = local_fault m TooNested (λ n. refl) (λ n k. refl)
 opening_test_local m false = local_advance m
 
 opening_by_local : (m n : ℕ) (next : Ahead) → IsLocal m (opening_by n next)
@@ -142,7 +142,7 @@ ty_of_local m form local = local_bind m peek (t.ty_by form) (local_peek m) (ty_b
 
 nested_type_local : (m n : ℕ) → IsLocal m (t.nested n)
 unfolding t.nested
-nested_type_local m zero = local_fault m TooNested (λ n. refl)
+nested_type_local m zero = local_fault m TooNested (λ n. refl) (λ n k. refl)
 nested_type_local m (suc n) = after_one m (t.compound (t.ty_of (t.nested n))) (type_form_local m (t.ty_of (t.nested n)) (ty_of_local m (t.nested n) (nested_type_local m n)))
 
 pub local_ty : (m n : ℕ) → IsLocal m (ty n)

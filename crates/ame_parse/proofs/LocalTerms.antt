@@ -11,14 +11,14 @@ use Rattle.ame_parse.specs.declared.fault.ParseFault.{ParseFault}
 use Rattle.ame_parse.specs.declared.fault.ParseFault.TheVariants.{Expected, UnknownName, TooNested}
 use Rattle.ame_parse.specs.declared.forms.Opener.{Opener}
 use Rattle.ame_parse.specs.declared.forms.Opener.TheVariants as opener
-use Rattle.ame_parse.specs.Input.{Seen, Input, ParseOutcome, Parser, and_then, ◌>>=◌, ◌>>◌, pure, expected, peek, advance, mark, ahead_in, ahead, place, spelling, name_number, named, marked, binds_name, tokens_left, is_closing, sees_closing, name_by, name, finish}
+use Rattle.ame_parse.specs.Input.{Seen, Input, ParseOutcome, Parser, and_then, ◌>>=◌, ◌>>◌, pure, expected, peek, advance, mark, ahead_in, ahead, place, spelling_in, spelling, name_number, named, marked, binds_name, tokens_left, is_closing, sees_closing, name_by, name, finish}
 use Rattle.ame_parse.specs.Names.{number_in}
 use Rattle.ame_parse.specs.Types.{ty, param}
 use Rattle.ame_parse.specs.Forms.{opener_of, row}
 use Rattle.ame_parse.specs.Reading.{more_from, more, first_two, sequence, alone, two, choice, binding, function, recursive, reference, call, form_by, compound, variable, yielding, constant, atom_by, atom, term_by, term_of, nested, term, max_open, program}
 use Rattle.ame_parse.proofs.Soundness.{term_leads}
 use Rattle.ame_parse.proofs.Completeness.{term_takes, term_at, atom_at}
-use Rattle.ame_parse.proofs.Locality.{swapped, IsLocal, goes, local_bind, local_same, local_pure, local_peek, local_fault, local_expected, local_advance, local_mark, spelling_alike}
+use Rattle.ame_parse.proofs.Locality.{IsLocal, local_bind, local_same, local_tell, local_pure, local_peek, local_fault, local_expected, local_advance, local_mark, spelling_alike}
 use Rattle.ame_parse.proofs.LocalForms.{take_name_local, local_finish, after_one, shut, alone_local, two_local, choice_local, reference_local, call_local, binding_local, function_local, recursive_local, more_from_local}
 
 -- ---- a name that is bound
@@ -50,14 +50,16 @@ variable_is i = variable_is_by (ahead i) i
 
 is_bound_local : (m : ℕ) → IsLocal m is_bound
 unfolding binds_name name_number named spelling
-is_bound_local m i few = goes [] refl refl (λ rest end few' alike. ap (λ z. Ok (list_any (λ y. y == number_in i.names z) i.scope, swapped i rest end)) (spelling_alike i.rest rest i.end end alike))
+is_bound_local m = local_tell m (λ i. binds_name (name_number i) (named i)) (λ i i' twin alike.
+    ap (list_any (λ y. y == number_in i'.names (spelling_in i'.rest))) twin.scope
+    ∙ ap (λ x. list_any (λ y. y == x) i.scope) (ap (λ z. number_in z (spelling_in i'.rest)) twin.names ∙ ap (number_in i.names) (spelling_alike i.rest i'.rest alike)))
 
 found_local : (m : ℕ) → IsLocal m found
 found_local m = local_bind m (λ i. Ok (name_number i, named i)) (λ x. pure (Tree.Var x)) (take_name_local m) (λ x. local_pure m (Tree.Var x))
 
 found_or_not : (m : ℕ) (b : Bool) → IsLocal m (cond {A = Parser Tree} b found unknown)
 found_or_not m true = found_local m
-found_or_not m false = local_fault m UnknownName (λ n. refl)
+found_or_not m false = local_fault m UnknownName (λ n. refl) (λ n k. refl)
 
 variable_by_local : (m : ℕ) (next : Ahead) → IsLocal m (variable_by next)
 variable_by_local m a.Name = local_bind m is_bound (λ b. cond {A = Parser Tree} b found unknown) (is_bound_local m) (found_or_not m)
@@ -185,7 +187,7 @@ term_of_local m form local = local_bind m (mark >> peek) (term_by form) (local_b
 
 nested_local : (m n : ℕ) → IsLocal m (nested n)
 unfolding nested term
-nested_local m zero = local_fault m TooNested (λ n. refl)
+nested_local m zero = local_fault m TooNested (λ n. refl) (λ n k. refl)
 nested_local m (suc n) = after_one m (compound (term n) (param n) (ty n)) (compound_local m n (term_of_local m (nested n) (nested_local m n)))
 
 local_term : (m n : ℕ) → IsLocal m (term n)

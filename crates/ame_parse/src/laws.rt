@@ -1,10 +1,10 @@
 //! What holds of the grammar of programs.
 
-ghost use Rattle.std.specs.Prelude.{◌≡◌, ◌↔◌, ◌∷◌, ◌++◌, ℕ, List, length, Ok, Err};
+ghost use Rattle.std.specs.Prelude.{◌≡◌, ◌↔◌, ◌++◌, ℕ, List, length, map, Ok, Err};
 ghost use Rattle.ame_lex.specs.declared.tokens.LexFault.{LexFault};
 ghost use Rattle.ame_lex.specs.Reading.{tokens_of};
 ghost use Rattle.ame_parse.specs.declared.fault.ParseFault.{ParseFault};
-ghost use Rattle.ame_parse.specs.Fault.{place_of, HasSeenTokens};
+ghost use Rattle.ame_parse.specs.Fault.{place_of, at_place, lexeme_of, first_lexeme, HasSeenTokens};
 ghost use Rattle.ame_parse.specs.Grammar.{Spells};
 ghost use Rattle.ame_parse.specs.Input.{Seen, place_in};
 ghost use Rattle.ame_parse.specs.Text.{reading, Source, TextFault};
@@ -31,14 +31,15 @@ pub fn bytes_come_first()
     ensures { (text : List ℕ) (fault : LexFault) → tokens_of text ≡ Err fault → reading text ≡ Err (TextFault.Lexical fault) }
 {}
 
-/// A fault stands at a token of the text or at its end, and it is the first: each text with the same
-/// tokens before that token, and with it, has the same fault, so none of them is a program.
+/// A fault stands at a token of the text or at its end, and it is the first: each text whose tokens are spelled alike up to that
+/// one, and with it, wherever they stand, has the same fault at that token, so none of them is a program.
 pub fn fault_is_first()
     ensures stands { (text : List ℕ) (all : List Seen) (fault : ParseFault) → HasSeenTokens text all → reading text ≡ Err (TextFault.Syntactic fault)
         → (before from : List Seen) × (all ≡ before ++ from) × (place_of fault ≡ place_in (length text) from) }
-    ensures stays { (text other : List ℕ) (before after others : List Seen) (token : Seen) (fault : ParseFault)
-        → HasSeenTokens text (before ++ token ∷ after) → reading text ≡ Err (TextFault.Syntactic fault) → place_of fault ≡ token.place
-        → HasSeenTokens other (before ++ token ∷ others) → reading other ≡ Err (TextFault.Syntactic fault) }
+    ensures stays { (text other : List ℕ) (before from others rest : List Seen) (fault : ParseFault)
+        → HasSeenTokens text (before ++ from) → reading text ≡ Err (TextFault.Syntactic fault) → place_of fault ≡ place_in (length text) from
+        → HasSeenTokens other (others ++ rest) → map lexeme_of others ≡ map lexeme_of before → first_lexeme rest ≡ first_lexeme from
+        → reading other ≡ Err (TextFault.Syntactic (at_place (place_in (length other) rest) fault)) }
 {
     tokens_lie_within();
 }

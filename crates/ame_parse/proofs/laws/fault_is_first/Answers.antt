@@ -5,5 +5,5 @@ pub returns-clause-stands : goal.returns-clause-stands
 returns-clause-stands c = fault_stands
 
 pub returns-clause-stays : goal.returns-clause-stays
-returns-clause-stays c text other before advanced others token fault =
-    fault_stays text other before advanced others token fault (c.tokens_lie_within.ensures.in_order text)
+returns-clause-stays c text other before from others rest fault =
+    fault_stays text other before from others rest fault (c.tokens_lie_within.ensures.in_order text)

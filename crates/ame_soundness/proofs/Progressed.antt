@@ -1,5 +1,5 @@
 -- A member of a typed state goes on, ends, or waits.
-use Rattle.std.proofs.Common.{◌≡◌, ℕ, ◌⊎◌, Bool, true, false, not, ◌&&◌, Option, Some, None, refl, sym, ap, subst, ◌∙◌, inl, inr, is_some, is_none}
+use Rattle.std.proofs.Common.{◌≡◌, ℕ, ◌⊎◌, Bool, true, false, not, ◌&&◌, List, [], ◌∷◌, Option, Some, None, refl, sym, ap, subst, ◌∙◌, inl, inr, is_some, is_none}
 use Rattle.std.specs.Prelude.{if◌then◌else◌, option_map, option_and_then, IsSome}
 use Rattle.ame_term.specs.Tree.{Typ, Val, Tree}
 use Rattle.ame_term.specs.Frame.{Side, same_side}
@@ -12,12 +12,12 @@ use Rattle.ame_term.specs.declared.semantics.Label.{Label}
 use Rattle.ame_term.specs.declared.types.Sort.{Sort}
 use Rattle.ame_term.specs.declared.types.Effect.{Effect}
 use Rattle.ame_laws.proofs.FrameLemmas.{focused, found}
-use Rattle.ame_laws.proofs.MapLemmas.{each-at}
+use Rattle.ame_laws.proofs.MapLemmas.{is_at-here, each-at}
 use Rattle.ame_soundness.specs.StoreTyping.{StoreTyping}
 use Rattle.ame_soundness.specs.Fragment.{IsFragment, effect_at}
 use Rattle.ame_soundness.specs.TypedAct.{IsTypedAct}
 use Rattle.ame_soundness.specs.TypedState.{IsTyped, IsMember}
-use Rattle.ame_soundness.specs.Progress.{waiting, Waits, LeadsOn, GoesOn, CanBeMade, IsKnown, Progresses, is_stored, is_cell, is_fresh, is_step, is_next}
+use Rattle.ame_soundness.specs.Progress.{waiting, Waits, LeadsOn, GoesOn, StateProgresses, CanBeMade, IsKnown, Progresses, is_stored, is_cell, is_fresh, is_step, is_next}
 use Rattle.ame_soundness.proofs.FrameTypes.{placed}
 use Rattle.ame_soundness.proofs.RedexSorts.{Sorted, sorted}
 use Rattle.ame_soundness.proofs.MakingLemmas.{is_protected, can_be_made, made_on, some_kind, kind_named, kind_named-fresh, fresh_in}
@@ -201,3 +201,26 @@ module _ (devices : ℕ) (cells : StoreTyping) (s : State) (typed : IsTyped devi
 
   pub resting_progresses : s.active ≡ None → GoesOn s i
   resting_progresses idle = rest_goes_on idle (focus term) refl progressed
+
+-- a member of a state in which nothing is active, if there is one
+first_goes_on : (devices : ℕ) (cells : StoreTyping) (s : State) → IsTyped devices cells s → s.active ≡ None → (members : List (ℕ × Tree)) → s.members ≡ members → StateProgresses s
+first_goes_on devices cells s typed idle [] is = StateProgresses.over is
+first_goes_on devices cells s typed idle (e ∷ es) is = by (resting_progresses devices cells s typed e.0 e.1 (ap (λ (z : List (ℕ × Tree)). at z e.0) is ∙ rw (is_at-here e.0)) idle)
+  where
+    by : GoesOn s e.0 → StateProgresses s
+    by (GoesOn.activates leads) = StateProgresses.goes_on (Label.Activate e.0) leads
+    by (GoesOn.steps kind leads) = StateProgresses.goes_on (Label.Free e.0 kind) leads
+    by (GoesOn.closes leads) = StateProgresses.goes_on (Label.Close e.0) leads
+
+pub state_progresses : (devices : ℕ) (cells : StoreTyping) (s : State) → IsTyped devices cells s → StateProgresses s
+state_progresses devices cells s typed = by s.active refl
+  where
+    active : (i : ℕ) (term : Tree) → s.active ≡ Some i → at s.members i ≡ Some term → Waits term ⊎ ((label : Label) × LeadsOn s label) → StateProgresses s
+    active i term is member (inl waits) = StateProgresses.waits i term is member waits
+    active i term is member (inr on) = StateProgresses.goes_on on.0 on.1
+
+    by : (o : Option ℕ) → s.active ≡ o → StateProgresses s
+    by None is = first_goes_on devices cells s typed is s.members refl
+    by (Some i) is =
+        let m = some-known (at s.members i) (typed.typed.present i is) in
+        active i m.0 is m.1 (active_progresses devices cells s typed i m.0 m.1 is)

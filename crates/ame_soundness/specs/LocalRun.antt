@@ -25,7 +25,8 @@ pub data LocalStep (devices : ℕ) (cells : StoreTyping) : Side → Tree → Tre
   spawned : (side : Side) (body : Tree) → LocalStep devices cells side (Tree.Async body) (Tree.Held Val.Unit)
   printed : (side : Side) (n : ℤ) → LocalStep devices cells side (Tree.One unary.Print (Tree.Held (Val.Int n))) (Tree.Held Val.Unit)
   passed : LocalStep devices cells Side.Protected (Tree.One unary.Block (Tree.Held (Val.Bool true))) (Tree.Held Val.Unit)
-  answered : (device : ℕ) (n answer : ℤ) → LocalStep devices cells Side.Unprotected (Tree.One (unary.Call device) (Tree.Held (Val.Int n))) (Tree.Held (Val.Int answer))
+  answered : (device : ℕ) (n answer : ℤ)
+      → LocalStep devices cells Side.Unprotected (Tree.One (unary.Call device) (Tree.Held (Val.Int n))) (Tree.Held (Val.Int answer))
   closed : (v : Val) → LocalStep devices cells Side.Protected (Tree.Unprotected (Tree.Held v)) (Tree.Held v)
 
 -- steps that lead from one term to another, each in the frames of its redex

@@ -119,9 +119,9 @@ module _ (devices : ℕ) (cells : StoreTyping) (s : State) (typed : IsTyped devi
   rule_later _ _ (Rule.frees i kind t idle st) = step_later Side.Unprotected kind i t st
   rule_later label t rule = same_cells label t rule tt refl
 
-  -- after a legal label
-  pub kept : (label : Label) (t : State) → after s label ≡ Some t → IsTypedLater devices cells t
-  kept label t e = rule_later label t (rule_of s label t e)
+-- after a legal label
+pub kept : (devices : ℕ) (cells : StoreTyping) (s : State) (label : Label) (t : State) → IsTyped devices cells s → after s label ≡ Some t → IsTypedLater devices cells t
+kept devices cells s label t typed legal = rule_later devices cells s typed label t (rule_of s label t legal)
 
 -- after a list of labels
 along : (devices : ℕ) (s t : State) (labels : List Label) → Runs s labels t → (cells : StoreTyping) → IsTyped devices cells s → IsTypedLater devices cells t

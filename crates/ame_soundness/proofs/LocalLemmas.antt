@@ -1,24 +1,26 @@
 -- A typed fragment after a local step.
-use Rattle.std.proofs.Common.{◌≡◌, ℕ, true, List, Some, refl, ap, subst}
+use Rattle.std.proofs.Common.{◌≡◌, ℕ, ◌⊎◌, true, List, [], ◌∷◌, Some, refl, ap, subst, inl, inr}
 use Rattle.ame_term.specs.Tree.{Typ, Val, Tree}
 use Rattle.ame_term.specs.Scope.{unscoped}
 use Rattle.ame_term.specs.Frame.{Frame, Side, plug_all, side_of}
 use Rattle.ame_term.specs.Redex.{is_redex}
 use Rattle.ame_term.specs.Act.{act_of}
 use Rattle.ame_term.specs.HasType.{HasType, HasValue, HasUnary, held, location, one}
-use Rattle.ame_term.specs.State.{start}
+use Rattle.ame_term.specs.Maps.{at}
+use Rattle.ame_term.specs.State.{State, start}
 use Rattle.ame_term.specs.declared.semantics.StepKind.{StepKind}
 use Rattle.ame_term.specs.declared.types.Sort.{Sort}
 use Rattle.ame_term.specs.declared.types.Effect.{Effect}
 use Rattle.ame_term.specs.declared.types.Unary.TheVariants as unary
 use Rattle.ame_laws.specs.Rules.{Reduces}
 use Rattle.ame_laws.proofs.Complete.{unique}
+use Rattle.ame_laws.proofs.MapLemmas.{is_at-here}
 use Rattle.ame_laws.proofs.RuleEffects.{becomes_act, row_redex}
 use Rattle.ame_soundness.specs.StoreTyping.{StoreTyping}
 use Rattle.ame_soundness.specs.WellFormed.{IsWellFormedValue}
 use Rattle.ame_soundness.specs.Fragment.{IsFragment, IsValueOf, effect_at}
 use Rattle.ame_soundness.specs.TypedAct.{IsTypedAct}
-use Rattle.ame_soundness.specs.LocalRun.{LocalStep, LocalRun}
+use Rattle.ame_soundness.specs.LocalRun.{LocalStep, LocalRun, HasReduction, ClosesAtValue}
 use Rattle.ame_soundness.proofs.FrameTypes.{placed}
 use Rattle.ame_soundness.proofs.FragmentLemmas.{same_cell, held_fragment, unit_fragment, int_fragment}
 
@@ -63,3 +65,27 @@ module _ (devices : ℕ) (cells : StoreTyping) where
   pub local_run : (q : Effect) (term last : Tree) (t : Typ) → LocalRun devices cells term last → IsFragment devices cells q term t → IsFragment devices cells q last t
   local_run q _ _ t (LocalRun.done term) typed = typed
   local_run q _ _ t (LocalRun.step frames redex part last step rest) typed = local_run q (plug_all frames part) last t rest (local_step q frames redex part t typed step)
+
+  -- A local step is a reduction in a state that has what it is fed.
+
+  storing : ℕ → Val → State
+  storing l v = record (start (Tree.Held Val.Unit)) { store = (l, v) ∷ [] }
+
+  stored_there : (l : ℕ) (v : Val) → at (storing l v).store l ≡ Some v
+  unfolding storing
+  stored_there l v = rw (is_at-here l)
+
+  pub local_reduces : (side : Side) (redex part : Tree) → LocalStep devices cells side redex part → ClosesAtValue side redex part ⊎ HasReduction side redex part
+  local_reduces _ _ _ (LocalStep.becomes side redex part row) = inr (start part, StepKind.Local, start part, Reduces.pure side redex part row)
+  local_reduces _ _ _ (LocalStep.allocated side sort v l content is value) =
+      inr (start (Tree.Held v), StepKind.Alloc (record { 0 = l }), _, Reduces.allocation side (record { 0 = l }) sort v refl)
+  local_reduces _ _ _ (LocalStep.read side l v sort content is value) =
+      inr (storing l v, StepKind.Read, storing l v, Reduces.reading side l v (stored_there l v))
+  local_reduces _ _ _ (LocalStep.peeked l v sort content is value) = inr (storing l v, StepKind.Peek, storing l v, Reduces.peeking l v (stored_there l v))
+  local_reduces _ _ _ (LocalStep.written side l v) = inr (start (Tree.Held v), StepKind.Write, _, Reduces.writing side l v)
+  local_reduces _ _ _ (LocalStep.spawned side body) = inr (start body, StepKind.Spawn, _, Reduces.spawning side body)
+  local_reduces _ _ _ (LocalStep.printed side n) = inr (start (Tree.Held Val.Unit), StepKind.Print, _, Reduces.printing side n)
+  local_reduces _ _ _ LocalStep.passed = inr (start (Tree.Held Val.Unit), StepKind.Block, start (Tree.Held Val.Unit), Reduces.passing)
+  local_reduces _ _ _ (LocalStep.answered device n answer) =
+      inr (start (Tree.Held Val.Unit), StepKind.Device answer, start (Tree.Held Val.Unit), Reduces.answering device n answer)
+  local_reduces _ _ _ (LocalStep.closed v) = inl (v, refl, refl, refl)

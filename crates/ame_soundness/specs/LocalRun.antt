@@ -31,16 +31,16 @@ pub data LocalStep (devices : ℕ) (cells : StoreTyping) : Side → Tree → Tre
       → LocalStep devices cells Side.Unprotected (Tree.One (unary.Call device) (Tree.Held (Val.Int n))) (Tree.Held (Val.Int answer))
   closed : (v : Val) → LocalStep devices cells Side.Protected (Tree.Unprotected (Tree.Held v)) (Tree.Held v)
 
--- in some state a rule rewrites the redex so
-abbrev pub HasReduction : Side → Tree → Tree → Type 0
-HasReduction side redex part = (s : State) × (kind : StepKind) × (t : State) × Reduces s side kind redex part t
-
--- a form under which protected code comes out of `unprotected`, and its value
-abbrev pub ClosesAtValue : Side → Tree → Tree → Type 0
-ClosesAtValue side redex part = (v : Val) × (side ≡ Side.Protected) × (redex ≡ Tree.Unprotected (Tree.Held v)) × (part ≡ Tree.Held v)
-
 -- steps that lead from one term to another, each in the frames of its redex
 pub data LocalRun (devices : ℕ) (cells : StoreTyping) : Tree → Tree → Type 0 where
   done : (term : Tree) → LocalRun devices cells term term
   step : (frames : List Frame) (redex part last : Tree) → LocalStep devices cells (side_of frames) redex part
       → LocalRun devices cells (plug_all frames part) last → LocalRun devices cells (plug_all frames redex) last
+
+-- in some state a rule rewrites the redex so
+abbrev pub HasReduction : Side → Tree → Tree → Type 0
+HasReduction side redex part = (s : State) × (kind : StepKind) × (t : State) × Reduces s side kind redex part t
+
+-- an `unprotected` form with a value in it, where protected code stands, and the value
+abbrev pub ClosesAtValue : Side → Tree → Tree → Type 0
+ClosesAtValue side redex part = (v : Val) × (side ≡ Side.Protected) × (redex ≡ Tree.Unprotected (Tree.Held v)) × (part ≡ Tree.Held v)

@@ -5,6 +5,7 @@ pub mod Acts
 pub mod FrameTypes
 pub mod FragmentLemmas
 pub mod LocalLemmas
+pub mod GivenTypes
 pub mod Preserved
 pub mod RunsLocally
 pub mod Started

@@ -1,5 +1,5 @@
 -- Which kinds of steps make an act, and that they have an effect in a typed state.
-use Rattle.std.proofs.Common.{◌≡◌, ℕ, ◌+◌, ◌≤◌, Bool, true, false, ◌&&◌, List, [], ◌∷◌, Option, Some, None, refl, ap, subst, is_some, is_none, arith, pos}
+use Rattle.std.proofs.Common.{◌≡◌, ℕ, ◌+◌, ◌≤◌, Bool, true, false, ◌&&◌, List, [], ◌∷◌, Option, Some, None, refl, ◌∙◌, ap, subst, is_some, is_none, arith, pos}
 use Rattle.std.specs.Prelude.{if◌then◌else◌, option_map, IsSome}
 use Rattle.std.specs.BTreeMap.{is_at}
 use Rattle.std.specs.Ordering.{nat_cmp}
@@ -72,19 +72,23 @@ is_protected Side.Unprotected e = cc
 is_protected Side.Protected e = refl
 
 module _ (devices : ℕ) (cells : StoreTyping) (known : ℕ → Bool) (there : (l : ℕ) (cell : Sort × Typ) → cells l ≡ Some cell → known l ≡ true) (side : Side) (t : Typ) where
+  pub known_act : (act : Act) → IsTypedAct devices cells (effect_at side Effect.Protected) t act → IsKnown known act
+  known_act (Act.Reads l) a = there l (a.0, t) a.1
+  known_act (Act.Peeks l) a = there l (Sort.Protected, t) a.0
+  known_act (Act.Writes l v) a = there l (a.0, a.1) a.2
+  known_act _ a = tt
+
+  made_act : (act : Act) → IsTypedAct devices cells (effect_at side Effect.Protected) t act → IsOther act → IsSome (making_on side act)
+  made_act (Act.Peeks l) a o = ap (λ z. is_some (making_on z (Act.Peeks l))) (is_unprotected side a.1)
+  made_act Act.Passes a o = ap (λ z. is_some (making_on z Act.Passes)) (is_protected side a.0)
+  made_act (Act.Calls device n) a o = ap (λ z. is_some (making_on z (Act.Calls device n))) (is_unprotected side a.1)
+  made_act Act.Fails a o = absurd o
+  made_act (Act.Closes v) a o = absurd o
+  made_act Act.Stuck a o = absurd a
+  made_act _ a o = refl
+
   pub can_be_made : (act : Act) → IsTypedAct devices cells (effect_at side Effect.Protected) t act → IsOther act → CanBeMade known side act
-  can_be_made (Act.Becomes e) a o = (refl, tt)
-  can_be_made (Act.Allocates sort v) a o = (refl, tt)
-  can_be_made (Act.Reads l) a o = (refl, there l (a.0, t) a.1)
-  can_be_made (Act.Peeks l) a o = (ap (λ z. is_some (making_on z (Act.Peeks l))) (is_unprotected side a.1), there l (Sort.Protected, t) a.0)
-  can_be_made (Act.Writes l v) a o = (refl, there l (a.0, a.1) a.2)
-  can_be_made (Act.Spawns body) a o = (refl, tt)
-  can_be_made (Act.Prints n) a o = (refl, tt)
-  can_be_made Act.Passes a o = (ap (λ z. is_some (making_on z Act.Passes)) (is_protected side a.0), tt)
-  can_be_made Act.Fails a o = absurd o
-  can_be_made (Act.Calls device n) a o = (ap (λ z. is_some (making_on z (Act.Calls device n))) (is_unprotected side a.1), tt)
-  can_be_made (Act.Closes v) a o = absurd o
-  can_be_made Act.Stuck a o = absurd a
+  can_be_made act a o = (made_act act a o, known_act act a)
 
 -- The steps that make an act have an effect, where the location that they make is fresh.
 
@@ -101,6 +105,10 @@ named side (Some row) kind e = by (is_among_sides row.0 side) e
     by true e = e
     by false e = cc
 
+pub some-map : {A B : Type 0} (f : A → B) (o : Option A) → is_some (option_map f o) ≡ is_some o
+some-map f None = refl
+some-map f (Some x) = refl
+
 module _ (s : State) where
   effect_made : (kind : StepKind) (act : Act) → IsKnown (λ l. is_some (at s.store l)) act → is_named (making act) kind ≡ true → is_some (performed kind act s) ≡ is_fresh s kind
   effect_made StepKind.Local (Act.Becomes e) a k = refl
@@ -109,16 +117,8 @@ module _ (s : State) where
       by : (o : Option Val) → is_some {T = Tree × State} (if is_some o then None else Some (Tree.Held (Val.Loc l.0), record s { store = put s.store l.0 v })) ≡ is_none o
       by None = refl
       by (Some w) = refl
-  effect_made StepKind.Read (Act.Reads l) a k = by (at s.store l) a
-    where
-      by : (o : Option Val) → IsSome o → is_some {T = Tree × State} (option_map (λ v. (Tree.Held v, s)) o) ≡ true
-      by None e = e
-      by (Some w) e = refl
-  effect_made StepKind.Peek (Act.Peeks l) a k = by (at s.store l) a
-    where
-      by : (o : Option Val) → IsSome o → is_some {T = Tree × State} (option_map (λ v. (Tree.Held v, s)) o) ≡ true
-      by None e = e
-      by (Some w) e = refl
+  effect_made StepKind.Read (Act.Reads l) a k = some-map (λ v. (Tree.Held v, s)) (at s.store l) ∙ a
+  effect_made StepKind.Peek (Act.Peeks l) a k = some-map (λ v. (Tree.Held v, s)) (at s.store l) ∙ a
   effect_made StepKind.Write (Act.Writes l v) a k = refl
   effect_made StepKind.Spawn (Act.Spawns body) a k = refl
   effect_made StepKind.Print (Act.Prints n) a k = refl

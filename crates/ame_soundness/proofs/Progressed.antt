@@ -1,5 +1,5 @@
 -- A member of a typed state goes on, ends, or waits.
-use Rattle.std.proofs.Common.{◌≡◌, ℕ, ◌⊎◌, Bool, true, false, not, ◌&&◌, Option, Some, None, refl, sym, ap, subst, ◌∙◌, inl, inr, is_some, is_none}
+use Rattle.std.proofs.Common.{◌≡◌, ℕ, ◌⊎◌, Bool, true, false, not, ◌&&◌, List, [], ◌∷◌, Option, Some, None, refl, sym, ap, subst, ◌∙◌, inl, inr, is_some, is_none}
 use Rattle.std.specs.Prelude.{if◌then◌else◌, option_map, option_and_then, IsSome}
 use Rattle.ame_term.specs.Tree.{Typ, Val, Tree}
 use Rattle.ame_term.specs.Frame.{Side, same_side}
@@ -12,15 +12,15 @@ use Rattle.ame_term.specs.declared.semantics.Label.{Label}
 use Rattle.ame_term.specs.declared.types.Sort.{Sort}
 use Rattle.ame_term.specs.declared.types.Effect.{Effect}
 use Rattle.ame_laws.proofs.FrameLemmas.{focused, found}
-use Rattle.ame_laws.proofs.MapLemmas.{each-at}
+use Rattle.ame_laws.proofs.MapLemmas.{is_at-here, each-at}
 use Rattle.ame_soundness.specs.StoreTyping.{StoreTyping}
 use Rattle.ame_soundness.specs.Fragment.{IsFragment, effect_at}
 use Rattle.ame_soundness.specs.TypedAct.{IsTypedAct}
 use Rattle.ame_soundness.specs.TypedState.{IsTyped, IsMember}
-use Rattle.ame_soundness.specs.Progress.{waiting, Waits, LeadsOn, GoesOn, CanBeMade, IsKnown, Progresses, is_stored, is_cell, is_fresh, is_step, is_next}
+use Rattle.ame_soundness.specs.Progress.{waiting, Waits, LeadsOn, GoesOn, StateProgresses, CanBeMade, IsKnown, Progresses, is_stored, is_cell, is_fresh, is_step, is_next}
 use Rattle.ame_soundness.proofs.FrameTypes.{placed}
 use Rattle.ame_soundness.proofs.RedexSorts.{Sorted, sorted}
-use Rattle.ame_soundness.proofs.MakingLemmas.{is_protected, can_be_made, made_on, some_kind, kind_named, kind_named-fresh, fresh_in}
+use Rattle.ame_soundness.proofs.MakingLemmas.{some-map, is_protected, known_act, can_be_made, made_on, some_kind, kind_named, kind_named-fresh, fresh_in}
 
 waiting_act : act_of waiting ≡ Act.Fails
 unfolding act_of
@@ -30,13 +30,17 @@ closing_act : (v : Val) → act_of (Tree.Unprotected (Tree.Held v)) ≡ Act.Clos
 unfolding act_of
 closing_act v = refl
 
-some-map : {A B : Type 0} (f : A → B) (o : Option A) → is_some (option_map f o) ≡ is_some o
-some-map f None = refl
-some-map f (Some x) = refl
-
 some-known : {X : Type 0} (o : Option X) → IsSome o → (x : X) × (o ≡ Some x)
 some-known None e = absurd (cc)
 some-known (Some x) e = (x, refl)
+
+-- the act of the redex of a typed term under protected is of the redex's type
+found_act : (devices : ℕ) (cells : StoreTyping) (term : Tree) (t : Typ) → IsFragment devices cells Effect.Protected term t → (side : Side) (redex : Tree) → focus term ≡ Focus.AtRedex side redex
+    → (u : Typ) × IsTypedAct devices cells (effect_at side Effect.Protected) u (act_of redex)
+found_act devices cells term t typed side redex e =
+    let f = found term redex side e in
+    let p = placed devices cells Effect.Protected f.frames redex t (subst (λ (z : Tree). IsFragment devices cells Effect.Protected z t) f.term typed) in
+    (p.part_type, subst (λ (z : Side). IsTypedAct devices cells (effect_at z Effect.Protected) p.part_type (act_of redex)) f.on (p.act_typed f.redex))
 
 -- a typed term under protected
 module _ (devices : ℕ) (cells : StoreTyping) (known : ℕ → Bool) (there : (l : ℕ) (cell : Sort × Typ) → cells l ≡ Some cell → known l ≡ true) where
@@ -57,11 +61,7 @@ module _ (devices : ℕ) (cells : StoreTyping) (known : ℕ → Bool) (there : (
     where
       by : (f : Focus) → focus term ≡ f → Progresses known f
       by (Focus.AtValue v) e = Progresses.ends v
-      by (Focus.AtRedex side redex) e =
-          let f = found term redex side e in
-          let p = placed devices cells Effect.Protected f.frames redex t (subst (λ (z : Tree). IsFragment devices cells Effect.Protected z t) f.term typed) in
-          let a = p.act_typed f.redex in
-          at_redex side redex p.part_type (subst (λ (z : Side). IsTypedAct devices cells (effect_at z Effect.Protected) p.part_type (act_of redex)) f.on a) (sorted redex)
+      by (Focus.AtRedex side redex) e = let a = found_act devices cells term t typed side redex e in at_redex side redex a.0 a.1 (sorted redex)
 
 pub fragment_progresses : (devices : ℕ) (cells : StoreTyping) (term : Tree) (t : Typ) → IsFragment devices cells Effect.Protected term t → Progresses (is_cell cells) (focus term)
 fragment_progresses devices cells term t typed = term_progresses devices cells (is_cell cells) (λ l cell e. ap is_some e) term t typed
@@ -76,12 +76,8 @@ not_unprotected _ made = refl
 -- a term that waits has no next label
 none_next : (s : State) (label : Label) → is_next s (Focus.AtRedex Side.Protected waiting) label ≡ false
 unfolding act_of
-none_next s (Label.Activate i) = refl
 none_next s (Label.Step kind) = refl
-none_next s Label.Leave = refl
-none_next s Label.End = refl
-none_next s (Label.Free i kind) = refl
-none_next s (Label.Close i) = refl
+none_next s _ = refl
 
 none-known : {X : Type 0} (o : Option X) → is_some o ≡ false → o ≡ None
 none-known None e = refl
@@ -92,24 +88,22 @@ found_waiting : (term : Tree) → focus term ≡ Focus.AtRedex Side.Protected wa
 found_waiting term e = let f = found term waiting Side.Protected e in (f.frames, f.on, f.term)
 
 module _ (devices : ℕ) (cells : StoreTyping) (s : State) (typed : IsTyped devices cells s) (i : ℕ) (term : Tree) (member : at s.members i ≡ Some term) where
+  member_typed : IsMember devices cells term
+  member_typed = each-at (IsMember devices cells) s.members i term member typed.typed.members
+
   pub progressed : Progresses (is_stored s) (focus term)
-  progressed =
-      term_progresses devices cells (is_stored s) (λ l cell e. typed.located l cell e) term Typ.Unit
-      (each-at (IsMember devices cells) s.members i term member typed.typed.members)
+  progressed = term_progresses devices cells (is_stored s) (λ l cell e. typed.located l cell e) term Typ.Unit member_typed
 
   -- the locations that its act reads or writes are stored
-  known_at : (f : Focus) → Progresses (is_stored s) f → (side : Side) (redex : Tree) → f ≡ Focus.AtRedex side redex → IsKnown (is_stored s) (act_of redex)
-  unfolding act_of
-  known_at _ (Progresses.ends v) side redex e = absurd (cc)
-  known_at _ Progresses.waits side redex e = let same : waiting ≡ redex = cc in subst (λ (z : Tree). IsKnown (is_stored s) (act_of z)) same tt
-  known_at _ (Progresses.closes v) side redex e =
-      let same : Tree.Unprotected (Tree.Held v) ≡ redex = cc in subst (λ (z : Tree). IsKnown (is_stored s) (act_of z)) same tt
-  known_at _ (Progresses.steps under found can) side redex e = let same : found ≡ redex = cc in subst (λ (z : Tree). IsKnown (is_stored s) (act_of z)) same can.1
+  known_at : (side : Side) (redex : Tree) → focus term ≡ Focus.AtRedex side redex → IsKnown (is_stored s) (act_of redex)
+  known_at side redex e =
+      let a = found_act devices cells term Typ.Unit member_typed side redex e in
+      known_act devices cells (is_stored s) (λ l cell e. typed.located l cell e) side a.0 (act_of redex) a.1
 
   reduced-some : (side : Side) (kind : StepKind) (f : Focus) → focus term ≡ f → is_some (reduced_at side kind f s) ≡ is_step s side f kind
   reduced-some side kind (Focus.AtValue v) e = refl
   reduced-some side kind (Focus.AtRedex under redex) e =
-      by (same_side side under) (made_on s side kind (act_of redex) (known_at (focus term) progressed under redex e))
+      by (same_side side under) (made_on s side kind (act_of redex) (known_at under redex e))
     where
       by : (b : Bool) → is_some (performed_on side kind (act_of redex) s) ≡ (makes side kind (act_of redex) && is_fresh s kind)
           → is_some (if b then performed_on side kind (act_of redex) s else None) ≡ (b && (makes side kind (act_of redex) && is_fresh s kind))
@@ -201,3 +195,26 @@ module _ (devices : ℕ) (cells : StoreTyping) (s : State) (typed : IsTyped devi
 
   pub resting_progresses : s.active ≡ None → GoesOn s i
   resting_progresses idle = rest_goes_on idle (focus term) refl progressed
+
+-- a member of a state in which nothing is active, if there is one
+first_goes_on : (devices : ℕ) (cells : StoreTyping) (s : State) → IsTyped devices cells s → s.active ≡ None → (members : List (ℕ × Tree)) → s.members ≡ members → StateProgresses s
+first_goes_on devices cells s typed idle [] is = StateProgresses.over is
+first_goes_on devices cells s typed idle (e ∷ es) is = by (resting_progresses devices cells s typed e.0 e.1 (ap (λ (z : List (ℕ × Tree)). at z e.0) is ∙ rw (is_at-here e.0)) idle)
+  where
+    by : GoesOn s e.0 → StateProgresses s
+    by (GoesOn.activates leads) = StateProgresses.goes_on (Label.Activate e.0) leads
+    by (GoesOn.steps kind leads) = StateProgresses.goes_on (Label.Free e.0 kind) leads
+    by (GoesOn.closes leads) = StateProgresses.goes_on (Label.Close e.0) leads
+
+pub state_progresses : (devices : ℕ) (cells : StoreTyping) (s : State) → IsTyped devices cells s → StateProgresses s
+state_progresses devices cells s typed = by s.active refl
+  where
+    active : (i : ℕ) (term : Tree) → s.active ≡ Some i → at s.members i ≡ Some term → Waits term ⊎ ((label : Label) × LeadsOn s label) → StateProgresses s
+    active i term is member (inl waits) = StateProgresses.waits i term is member waits
+    active i term is member (inr on) = StateProgresses.goes_on on.0 on.1
+
+    by : (o : Option ℕ) → s.active ≡ o → StateProgresses s
+    by None is = first_goes_on devices cells s typed is s.members refl
+    by (Some i) is =
+        let m = some-known (at s.members i) (typed.typed.present i is) in
+        active i m.0 is m.1 (active_progresses devices cells s typed i m.0 m.1 is)

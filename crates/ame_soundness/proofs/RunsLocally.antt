@@ -15,7 +15,7 @@ use Rattle.ame_soundness.specs.StoreTyping.{StoreTyping}
 use Rattle.ame_soundness.specs.TypedState.{IsTypedBy}
 use Rattle.ame_soundness.specs.NewCell.{HasNewCellOf, HasNewCellAfter}
 use Rattle.ame_soundness.specs.LocalRun.{LocalStep, LocalRun}
-use Rattle.ame_soundness.proofs.Preserved.{makes_of, step_local}
+use Rattle.ame_soundness.proofs.GivenTypes.{makes_of, step_local}
 
 equal_or_not : (j k : ℕ) → (j ≡ k) ⊎ (j ≡ k → ⊥)
 equal_or_not j k = by (j == k) refl

@@ -1,5 +1,5 @@
 -- What a member of a typed state can do, and by which labels.
-use Rattle.std.specs.Prelude.{◌≡◌, ℕ, Bool, true, false, ◌&&◌, IsTrue, List, IsSome, is_none, is_some}
+use Rattle.std.specs.Prelude.{◌≡◌, ℕ, Bool, true, false, ◌&&◌, IsTrue, List, [], Some, IsSome, is_none, is_some}
 use Rattle.ame_term.specs.Tree.{Val, Tree}
 use Rattle.ame_term.specs.Frame.{Frame, Side, plug_all, same_side, side_of}
 use Rattle.ame_term.specs.Context.{Focus}
@@ -28,6 +28,12 @@ pub data GoesOn (s : State) (i : ℕ) : Type 0 where
   activates : LeadsOn s (Label.Activate i) → GoesOn s i
   steps : (kind : StepKind) → LeadsOn s (Label.Free i kind) → GoesOn s i
   closes : LeadsOn s (Label.Close i) → GoesOn s i
+
+-- a state has no member left; or its active member waits; or some label is legal
+pub data StateProgresses (s : State) : Type 0 where
+  over : s.members ≡ [] → StateProgresses s
+  waits : (i : ℕ) (term : Tree) → s.active ≡ Some i → at s.members i ≡ Some term → Waits term → StateProgresses s
+  goes_on : (label : Label) → LeadsOn s label → StateProgresses s
 
 -- where these locations are known, one that an act reads or writes is among them
 abbrev pub IsKnown : (ℕ → Bool) → Act → Type 0

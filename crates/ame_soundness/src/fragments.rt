@@ -6,19 +6,23 @@ ghost use Rattle.ame_term.specs.Frame.{Frame, plug_all};
 ghost use Rattle.ame_term.specs.Substitute.{substitute, entered};
 ghost use Rattle.ame_term.specs.Scope.{Scope, bind};
 ghost use Rattle.ame_term.specs.HasType.{HasType, HasValue};
+ghost use Rattle.ame_term.specs.State.{State};
 ghost use Rattle.ame_term.specs.declared.types.Effect.{Effect};
 ghost use Rattle.ame_term.specs.declared.types.Effect.TheVariants.{Either};
 ghost use Rattle.ame_soundness.specs.StoreTyping.{StoreTyping, Grows};
 ghost use Rattle.ame_soundness.specs.WellFormed.{IsWellFormed, IsWellFormedValue};
 ghost use Rattle.ame_soundness.specs.Fragment.{IsFragment, IsValueOf};
 ghost use Rattle.ame_soundness.specs.TypedTerm.{IsTypedAt};
+ghost use Rattle.ame_soundness.specs.TypedState.{IsTypedBy};
 
-/// Terms and values keep their types where more locations get types.
+/// Terms, values and states keep their types where more locations get types.
 pub fn growing_keeps_types()
     ensures fragments { (devices : ℕ) (cells later : StoreTyping) (q : Effect) (term : Tree) (t : Typ)
         → Grows cells later → IsFragment devices cells q term t → IsFragment devices later q term t }
     ensures values { (devices : ℕ) (cells later : StoreTyping) (value : Val) (t : Typ)
         → Grows cells later → IsValueOf devices cells value t → IsValueOf devices later value t }
+    ensures states { (devices : ℕ) (cells later : StoreTyping) (s : State)
+        → Grows cells later → IsTypedBy devices cells s → IsTypedBy devices later s }
 {}
 
 /// A term of the effect that fits both may stand under each.

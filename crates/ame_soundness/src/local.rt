@@ -1,6 +1,6 @@
 //! A fragment's own run, without a store.
 
-ghost use Rattle.std.specs.Prelude.{◌≡◌, ℕ, List, true, Some};
+ghost use Rattle.std.specs.Prelude.{◌≡◌, ℕ, ◌⊎◌, List, true, Some};
 ghost use Rattle.ame_term.specs.Tree.{Typ, Tree};
 ghost use Rattle.ame_term.specs.Frame.{Frame, Side, plug_all, side_of};
 ghost use Rattle.ame_term.specs.Redex.{is_redex};
@@ -13,7 +13,7 @@ ghost use Rattle.ame_soundness.specs.StoreTyping.{StoreTyping};
 ghost use Rattle.ame_soundness.specs.Fragment.{IsFragment};
 ghost use Rattle.ame_soundness.specs.TypedState.{IsTypedBy};
 ghost use Rattle.ame_soundness.specs.NewCell.{HasNewCellAfter};
-ghost use Rattle.ame_soundness.specs.LocalRun.{LocalStep, LocalRun};
+ghost use Rattle.ame_soundness.specs.LocalRun.{LocalStep, LocalRun, HasReduction, ClosesAtValue};
 
 /// A local step rewrites a redex, and keeps the fragment's type, whatever value of the right type it
 /// is fed.
@@ -30,6 +30,13 @@ pub fn local_runs_keep_types()
     ensures { (devices : ℕ) (cells : StoreTyping) (q : Effect) (term last : Tree) (t : Typ)
         → IsFragment devices cells q term t → LocalRun devices cells term last
         → IsFragment devices cells q last t }
+{}
+
+/// Each local step is one of the strong semantics: of a fragment that closes, or a reduction in some
+/// state, on the same side of `unprotected`.
+pub fn local_steps_reduce()
+    ensures { (devices : ℕ) (cells : StoreTyping) (side : Side) (redex part : Tree)
+        → LocalStep devices cells side redex part → ClosesAtValue side redex part ⊎ HasReduction side redex part }
 {}
 
 /// What a legal label makes of a member of a typed state is a local run of it: its own step, fed what

@@ -15,7 +15,7 @@ ghost use Rattle.ame_term.specs.declared.types.Loc.{Loc};
 ghost use Rattle.ame_soundness.specs.StoreTyping.{StoreTyping};
 ghost use Rattle.ame_soundness.specs.Fragment.{IsFragment};
 ghost use Rattle.ame_soundness.specs.TypedState.{IsTyped};
-ghost use Rattle.ame_soundness.specs.Progress.{Waits, LeadsOn, GoesOn, Progresses, CanBeMade, is_stored, is_cell, is_next, is_step};
+ghost use Rattle.ame_soundness.specs.Progress.{Waits, LeadsOn, GoesOn, StateProgresses, Progresses, CanBeMade, is_stored, is_cell, is_next, is_step};
 
 /// While a member of a typed state is active, it waits at a false condition, or some label is legal;
 /// and where it waits, none is.
@@ -33,6 +33,12 @@ pub fn active_members_progress()
 pub fn resting_members_progress()
     ensures { (devices : ℕ) (cells : StoreTyping) (s : State) (i : ℕ) (term : Tree)
         → IsTyped devices cells s → at s.members i ≡ Some term → s.active ≡ None → GoesOn s i }
+{}
+
+/// A typed state has no member left, or its active member waits at a false condition, or some label is
+/// legal.
+pub fn states_progress()
+    ensures { (devices : ℕ) (cells : StoreTyping) (s : State) → IsTyped devices cells s → StateProgresses s }
 {}
 
 /// Each member of a typed state is a value, or waits at `blockUntil false`, or stands at `unprotected`

@@ -1,4 +1,5 @@
 use Rattle.ame_soundness.proofs.Weaken.{weaken_cells, weaken_value}
+use Rattle.ame_soundness.proofs.Preserved.{grown}
 use Rattle.ame_soundness.proofs.fragments.growing_keeps_types.Goals as goal
 
 pub returns-clause-fragments : goal.returns-clause-fragments
@@ -6,3 +7,6 @@ returns-clause-fragments c = λ devices cells later q term t grows typed. (weake
 
 pub returns-clause-values : goal.returns-clause-values
 returns-clause-values c = λ devices cells later v t grows typed. (weaken_value devices cells later grows typed.0, typed.1)
+
+pub returns-clause-states : goal.returns-clause-states
+returns-clause-states c = grown

@@ -1,4 +1,4 @@
-use Rattle.ame_soundness.proofs.Preserved.{label_kept}
+use Rattle.ame_soundness.proofs.GivenTypes.{label_kept}
 use Rattle.ame_soundness.proofs.states.labels_keep_given_types.Goals as goal
 
 pub returns : goal.returns

@@ -1,4 +1,4 @@
-use Rattle.ame_soundness.proofs.Preserved.{step_kept}
+use Rattle.ame_soundness.proofs.GivenTypes.{step_kept}
 use Rattle.ame_soundness.proofs.states.steps_keep_given_types.Goals as goal
 
 pub returns : goal.returns

@@ -27,7 +27,7 @@ pub use names::{
 pub use orderly::{
     first_state_is_orderly, legal_labels_keep_order, nobody_is_active_at_the_end, runs_are_orderly,
 };
-pub use rules::{after_follows_the_rules, runs_follow_the_rules};
+pub use rules::{after_follows_the_rules, reductions_follow_the_rows, runs_follow_the_rules};
 pub use sizes::filled_size;
 pub use substitution::substitution_puts;
 pub use typing::{

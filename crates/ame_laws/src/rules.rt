@@ -2,9 +2,21 @@
 
 ghost use Rattle.std.specs.Prelude.{◌≡◌, ◌↔◌, List, Some};
 ghost use Rattle.ame_term.specs.Tree.{Tree};
-ghost use Rattle.ame_term.specs.State.{State, start, run, IsLegal, IsRun};
+ghost use Rattle.ame_term.specs.Frame.{Side};
+ghost use Rattle.ame_term.specs.Act.{Act, act_of};
+ghost use Rattle.ame_term.specs.State.{State, performed_on, start, run, IsLegal, IsRun};
+ghost use Rattle.ame_term.specs.declared.semantics.StepKind.{StepKind};
 ghost use Rattle.ame_term.specs.declared.semantics.Label.{Label};
-ghost use Rattle.ame_laws.specs.Rules.{Rule, Begins, Runs};
+ghost use Rattle.ame_laws.specs.Rules.{Becomes, Reduces, Rule, Begins, Runs};
+
+/// What a redex does is what its row tells: what it becomes, where that is all that happens, and what
+/// a kind of step makes of it on a side.
+pub fn reductions_follow_the_rows()
+    ensures becomes { (redex part : Tree)
+        → (act_of redex ≡ Act.Becomes part) ↔ Becomes redex part }
+    ensures reduces { (s : State) (side : Side) (kind : StepKind) (redex part : Tree) (t : State)
+        → (performed_on side kind (act_of redex) s ≡ Some (part, t)) ↔ Reduces s side kind redex part t }
+{}
 
 /// A label leads from one state to another exactly where a rule has it.
 pub fn after_follows_the_rules()

@@ -1,132 +1,265 @@
--- A typed state after a legal label.
-use Rattle.std.proofs.Common.{◌≡◌, ℕ, Bool, true, false, List, [], ◌∷◌, Option, Some, None, refl, sym, ap, subst, ◌∙◌, is_some}
-use Rattle.std.specs.Prelude.{option_and_then}
+-- A typed state after a label by a rule.
+use Rattle.std.proofs.Common.{◌≡◌, ℕ, ◌⊎◌, true, false, List, Some, None, refl, sym, ap, subst, ◌∙◌, inl, inr, is_some, arith}
+use Rattle.std.specs.Prelude.{if◌then◌else◌, ◌==◌, IsSome}
 use Rattle.ame_term.specs.Tree.{Typ, Val, Tree}
-use Rattle.ame_term.specs.Typing.{unscoped}
-use Rattle.ame_term.specs.Context.{Focus, focus, fill}
-use Rattle.ame_term.specs.Act.{Act, act_of}
-use Rattle.ame_term.specs.Has.{held}
-use Rattle.ame_term.specs.State.{State, at, change, after, run}
+use Rattle.ame_term.specs.Frame.{Frame, Side, plug_all, side_of}
+use Rattle.ame_term.specs.Act.{act_of}
+use Rattle.ame_term.specs.HasType.{HasValue}
+use Rattle.ame_term.specs.Maps.{at, put, change}
+use Rattle.ame_term.specs.State.{State, after, run}
 use Rattle.ame_term.specs.declared.semantics.StepKind.{StepKind}
 use Rattle.ame_term.specs.declared.semantics.Label.{Label}
 use Rattle.ame_term.specs.declared.types.Effect.{Effect}
-use Rattle.ame_laws.proofs.FoundLemmas.{found}
-use Rattle.ame_rules.specs.Rules.{Rule, Steps}
-use Rattle.ame_rules.proofs.Effects.{effect_of}
-use Rattle.ame_rules.proofs.Followed.{rule_of}
-use Rattle.ame_soundness.specs.Cells.{Cells, Grows}
-use Rattle.ame_soundness.specs.Formed.{IsFormed}
-use Rattle.ame_soundness.specs.Fragment.{IsFragment, effect_at}
-use Rattle.ame_soundness.specs.TypedState.{IsTyped, IsTypedLater, IsMember}
+use Rattle.ame_term.specs.declared.types.Loc.{Loc}
+use Rattle.ame_term.specs.declared.types.Sort.{Sort}
+use Rattle.ame_term.specs.declared.types.Unary.TheVariants as unary
+use Rattle.ame_laws.specs.Rules.{Reduces, Steps, Rule, Runs}
+use Rattle.ame_laws.proofs.RuleEffects.{row_redex}
+use Rattle.ame_laws.proofs.Followed.{rule_of, runs}
+use Rattle.ame_laws.proofs.MapLemmas.{at-put, is_some-put, each-at, each-put, each-change, each-without, each-map, is_some-change}
+use Rattle.ame_soundness.specs.StoreTyping.{StoreTyping, Grows}
+use Rattle.ame_soundness.specs.WellFormed.{IsWellFormed}
+use Rattle.ame_soundness.specs.Fragment.{IsValueOf, effect_at}
 use Rattle.ame_soundness.specs.TypedAct.{IsTypedAct}
-use Rattle.ame_soundness.proofs.Placed.{placed}
-use Rattle.ame_soundness.proofs.FormedLemmas.{formed_placed}
-use Rattle.ame_soundness.proofs.Acts.{typed_act}
-use Rattle.ame_soundness.proofs.Effects.{Made, IsMade, effect_typed}
-use Rattle.ame_soundness.proofs.Entries.{each-at, each-change, each-without, is_some-change}
+use Rattle.ame_soundness.specs.TypedTerm.{IsTypedAt}
+use Rattle.ame_soundness.specs.TypedState.{IsTyped, IsTypedBy, IsTypedLater, IsMember, IsStored}
+use Rattle.ame_soundness.specs.NewCell.{HasNewCell, HasNewCellOf, HasNewCellAfter}
+use Rattle.ame_soundness.specs.LocalRun.{LocalStep}
+use Rattle.ame_soundness.proofs.Weaken.{weaken_cells, weaken_value}
+use Rattle.ame_soundness.proofs.FrameTypes.{placed}
+use Rattle.ame_soundness.proofs.LocalLemmas.{local_step}
 
--- a typed term at a redex: the redex's type and act, and a part of this type in its place
-pub record AtRedex (devices : ℕ) (cells : Cells) (inside : Bool) (q : Effect) (term redex part : Tree) (t : Typ) : Type 0 where
-  pub part_type : Typ
-  pub act : IsTypedAct devices cells (effect_at inside q) part_type (act_of redex)
-  pub back : (later : Cells) → Grows cells later → IsFragment devices later (effect_at inside q) part part_type → IsFragment devices later q (fill term part) t
+-- the location that a redex makes by a kind of step, if it makes one, has the sort and the value's type
+abbrev pub MakesCell : ℕ → StoreTyping → StepKind → Tree → Type 0
+MakesCell devices cells kind redex =
+    (l : Loc) (sort : Sort) (v : Val) → kind ≡ StepKind.Alloc l → redex ≡ Tree.One (unary.Ref sort) (Tree.Held v)
+    → (content : Typ) × (cells l.0 ≡ Some (sort, content)) × HasValue devices cells v content
 
-pub at_redex : (devices : ℕ) (cells : Cells) (inside : Bool) (q : Effect) (term redex part : Tree) (t : Typ) → IsFragment devices cells q term t → focus term ≡ Focus.AtRedex inside redex
-    → AtRedex devices cells inside q term redex part t
-at_redex devices cells inside q term redex part t typed e =
-    let f = found term part redex inside e in
-    let p = placed devices cells unscoped redex part inside term (fill term part) f.1 q t typed.0 in
-    let h = formed_placed inside term (fill term part) f.1 typed.1 in
-    record {
-      part_type = p.part_type;
-      act = typed_act devices cells redex f.0 (effect_at inside q) p.part_type p.part h.0;
-      back = λ later grows a. (p.back later grows a.0, h.1 a.1);
-    }
+-- the same of the step that a rule is
+abbrev pub RuleMakes : ℕ → StoreTyping → (s : State) (label : Label) (t : State) → Rule s label t → Type 0
+RuleMakes devices cells s _ _ (Rule.steps i kind t is st) = MakesCell devices cells kind st.redex
+RuleMakes devices cells s _ _ (Rule.frees i kind t idle st) = MakesCell devices cells kind st.redex
+RuleMakes devices cells s _ _ _ = Unit {0}
 
-module _ (devices : ℕ) (cells : Cells) (s : State) (typed : IsTyped devices cells s) where
-  member_typed : (i : ℕ) (term : Tree) → at s.members i ≡ Some term → IsMember devices cells term
-  member_typed i term member = each-at (IsMember devices cells) s.members i term member typed.members
+-- by one typing of locations
+module _ (devices : ℕ) (cells : StoreTyping) (s : State) (typed : IsTypedBy devices cells s) where
+  put_typed : (l : ℕ) (v : Val) (cell : Sort × Typ) → cells l ≡ Some cell → IsValueOf devices cells v cell.1 → IsTypedBy devices cells (record s { store = put s.store l v })
+  put_typed l v cell is value = record { stored = λ m w found. by m w found (at-put s.store l m v); members = typed.members; present = typed.present }
+    where
+      by : (m : ℕ) (w : Val) → at (put s.store l v) m ≡ Some w → ((l ≡ m) × (at (put s.store l v) m ≡ Some v)) ⊎ (((l ≡ m) → ⊥) × (at (put s.store l v) m ≡ at s.store m))
+          → IsStored devices cells m w
+      by m w found (inl k) = let same : v ≡ w = cc in (cell, ap cells (sym k.0) ∙ is, subst (λ (z : Val). IsValueOf devices cells z cell.1) same value)
+      by m w found (inr k) = typed.stored m w (sym k.1 ∙ found)
+
+  -- after the effect of a row
+  effect_typed : (side : Side) (kind : StepKind) (redex part : Tree) (t : State) → Reduces s side kind redex part t → MakesCell devices cells kind redex → (q : Effect) (u : Typ) → IsWellFormed redex
+      → IsTypedAct devices cells q u (act_of redex) → IsTypedBy devices cells t
+  unfolding act_of IsWellFormed
+  effect_typed _ _ _ _ _ (Reduces.pure side redex part row) makes q u formed a = typed
+  effect_typed _ _ _ _ _ (Reduces.allocation side l sort v fresh) makes q u formed a = let p = makes l sort v refl refl in put_typed l.0 v (sort, p.0) p.1 (p.2, formed)
+  effect_typed _ _ _ _ _ (Reduces.reading side l v found) makes q u formed a = typed
+  effect_typed _ _ _ _ _ (Reduces.peeking l v found) makes q u formed a = typed
+  effect_typed _ _ _ _ _ (Reduces.writing side l v) makes q u formed a = put_typed l v (a.0, a.1) a.2 a.3
+  effect_typed _ _ _ _ _ (Reduces.spawning side body) makes q u formed a = record {
+    stored = typed.stored;
+    members = each-put (IsMember devices cells) s.members s.next body a.0 typed.members;
+    present = λ i is. is_some-put s.members s.next i body (typed.present i is);
+  }
+  effect_typed _ _ _ _ _ (Reduces.printing side n) makes q u formed a = record { stored = typed.stored; members = typed.members; present = typed.present }
+  effect_typed _ _ _ _ _ Reduces.passing makes q u formed a = typed
+  effect_typed _ _ _ _ _ (Reduces.answering device n reply) makes q u formed a = typed
+
+  -- a row is a local step, which is fed what the store has
+  pub fed : (side : Side) (kind : StepKind) (redex part : Tree) (t : State) → Reduces s side kind redex part t → MakesCell devices cells kind redex → IsWellFormed redex → LocalStep devices cells side redex part
+  unfolding IsWellFormed
+  fed _ _ _ _ _ (Reduces.pure side redex part row) makes formed = LocalStep.becomes side redex part row
+  fed _ _ _ _ _ (Reduces.allocation side l sort v fresh) makes formed = let p = makes l sort v refl refl in LocalStep.allocated side sort v l.0 p.0 p.1 (p.2, formed)
+  fed _ _ _ _ _ (Reduces.reading side l v found) makes formed = let p = typed.stored l v found in LocalStep.read side l v p.0.0 p.0.1 p.1 p.2
+  fed _ _ _ _ _ (Reduces.peeking l v found) makes formed = let p = typed.stored l v found in LocalStep.peeked l v p.0.0 p.0.1 p.1 p.2
+  fed _ _ _ _ _ (Reduces.writing side l v) makes formed = LocalStep.written side l v
+  fed _ _ _ _ _ (Reduces.spawning side body) makes formed = LocalStep.spawned side body
+  fed _ _ _ _ _ (Reduces.printing side n) makes formed = LocalStep.printed side n
+  fed _ _ _ _ _ Reduces.passing makes formed = LocalStep.passed
+  fed _ _ _ _ _ (Reduces.answering device n reply) makes formed = LocalStep.answered device n reply
 
   -- a member's term is changed to another typed one
-  changed : (later : Cells) → Grows cells later → (s' : State) → IsTyped devices later s' → (i : ℕ) (term : Tree) → IsMember devices later term
-      → IsTypedLater devices cells (record s' { members = change s'.members i term })
-  changed later grows s' state i term member = (
-    later,
-    grows,
-    record {
-      stored = state.stored;
-      located = state.located;
-      members = each-change (IsMember devices later) s'.members i term member state.members;
-      present = λ j is. is_some-change s'.members i j term ∙ state.present j is;
-    },
-  )
+  changed : (t : State) → IsTypedBy devices cells t → (i : ℕ) (term : Tree) → IsMember devices cells term → IsTypedBy devices cells (record t { members = change t.members i term })
+  changed t state i term member = record {
+    stored = state.stored;
+    members = each-change (IsMember devices cells) t.members i term member state.members;
+    present = λ j is. is_some-change t.members i j term ∙ state.present j is;
+  }
 
-  stepped : (side : Bool) (kind : StepKind) (i : ℕ) (t : State) → Steps s side kind i t → IsTypedLater devices cells t
-  stepped side kind i t st =
-      let p = at_redex devices cells side Effect.Protected st.term st.redex st.part Typ.Unit (member_typed i st.term st.member) st.stands in
-      let made : Made devices cells s (effect_at side Effect.Protected) p.part_type st.part st.after_effect =
-      subst (IsMade devices cells s (effect_at side Effect.Protected) p.part_type) (effect_of s kind st.redex st.part st.after_effect st.reduces)
-      (effect_typed devices cells s typed kind (act_of st.redex) (effect_at side Effect.Protected) p.part_type p.act) in
-      subst (IsTypedLater devices cells) (sym st.result)
-      (changed made.later made.grows st.after_effect made.state i (fill st.term st.part) (p.back made.later made.grows made.part_typed))
+  member_typed : (i : ℕ) (term : Tree) → at s.members i ≡ Some term → IsMember devices cells term
+  member_typed i term found = each-at (IsMember devices cells) s.members i term found typed.members
 
-  closes : (i : ℕ) (term : Tree) (v : Val) → at s.members i ≡ Some term → focus term ≡ Focus.AtRedex false (Tree.Unprotected (Tree.Held v))
-      → IsTypedLater devices cells (record s { members = change s.members i (fill term (Tree.Held v)) })
-  unfolding act_of IsFormed
-  closes i term v member e =
-      let p = at_redex devices cells false Effect.Protected term (Tree.Unprotected (Tree.Held v)) (Tree.Held v) Typ.Unit (member_typed i term member) e in
-      let a : IsTypedAct devices cells Effect.Protected p.part_type (Act.Closes v) = p.act in
-      changed cells (λ l cell e. e) s typed i (fill term (Tree.Held v)) (p.back cells (λ l cell e. e) (held a.0.0, a.0.1))
+  module _ (side : Side) (kind : StepKind) (i : ℕ) (t : State) (st : Steps s side kind i t) where
+    pub step_placed : IsTypedAt devices cells Effect.Protected st.frames st.redex Typ.Unit
+    step_placed = placed devices cells Effect.Protected st.frames st.redex Typ.Unit (member_typed i (plug_all st.frames st.redex) st.found)
 
-  here : IsTyped devices cells s
-  here = typed
+    pub step_act : (p : IsTypedAt devices cells Effect.Protected st.frames st.redex Typ.Unit)
+        → IsTypedAct devices cells (effect_at (side_of st.frames) Effect.Protected) p.part_type (act_of st.redex)
+    step_act p = p.act_typed (row_redex s side kind st.redex st.part st.after_effect st.reduces)
 
-  pub preserved : (label : Label) (t : State) → Rule s label t → IsTypedLater devices cells t
-  preserved _ _ (Rule.activates i term idle member calm) = (
-    cells,
-    (λ l cell e. e),
-    record {
-      stored = typed.stored;
-      located = typed.located;
-      members = typed.members;
-      present = λ j is. ap (λ n. is_some (at s.members n)) (same i j is) ∙ ap is_some member;
-    },
-  )
+    pub step_local : MakesCell devices cells kind st.redex → LocalStep devices cells (side_of st.frames) st.redex st.part
+    step_local makes =
+        subst (λ (z : Side). LocalStep devices cells z st.redex st.part) (sym st.on)
+        (fed side kind st.redex st.part st.after_effect st.reduces makes step_placed.part_typed.1)
+
+    pub stepped : MakesCell devices cells kind st.redex → IsTypedBy devices cells t
+    stepped makes =
+        let p = step_placed in
+        let state = effect_typed side kind st.redex st.part st.after_effect st.reduces makes (effect_at (side_of st.frames) Effect.Protected) p.part_type p.part_typed.1 (step_act p) in
+        subst (IsTypedBy devices cells) (sym st.result)
+        (changed st.after_effect state i (plug_all st.frames st.part)
+        (local_step devices cells Effect.Protected st.frames st.redex st.part Typ.Unit (member_typed i (plug_all st.frames st.redex) st.found) (step_local makes)))
+
+  pub preserved : (label : Label) (t : State) (rule : Rule s label t) → RuleMakes devices cells s label t rule → IsTypedBy devices cells t
+  preserved _ _ (Rule.activates i term idle found calm) makes =
+      record { stored = typed.stored; members = typed.members; present = λ j is. let same : j ≡ i = cc in ap (λ n. is_some (at s.members n)) same ∙ ap is_some found }
+  preserved _ _ (Rule.steps i kind t is st) makes = stepped Side.Protected kind i t st makes
+  preserved _ _ (Rule.leaves i term is found stands) makes = record { stored = typed.stored; members = typed.members; present = λ j is. absurd (cc) }
+  preserved _ _ (Rule.ends i v is found) makes =
+      record { stored = typed.stored; members = each-without (IsMember devices cells) s.members i typed.members; present = λ j is. absurd (cc) }
+  preserved _ _ (Rule.frees i kind t idle st) makes = stepped Side.Unprotected kind i t st makes
+  preserved _ _ (Rule.closes i frames v idle found on) makes =
+      changed s typed i (plug_all frames (Tree.Held v))
+      (local_step devices cells Effect.Protected frames (Tree.Unprotected (Tree.Held v)) (Tree.Held v) Typ.Unit
+      (member_typed i (plug_all frames (Tree.Unprotected (Tree.Held v))) found)
+      (subst (λ (z : Side). LocalStep devices cells z (Tree.Unprotected (Tree.Held v)) (Tree.Held v)) (sym on) (LocalStep.closed v)))
+
+  pub makes_of : (kind : StepKind) (frames : List Frame) (redex : Tree) → HasNewCell devices cells kind (plug_all frames redex) → MakesCell devices cells kind redex
+  makes_of kind frames redex has l sort v is e = has l frames sort v is (ap (plug_all frames) e)
+
+  rule_makes : (label : Label) (t : State) (rule : Rule s label t) → HasNewCellAfter devices cells s label → RuleMakes devices cells s label t rule
+  rule_makes _ _ (Rule.activates i term idle found calm) has = tt
+  rule_makes _ _ (Rule.steps i kind t is st) has = makes_of kind st.frames st.redex (has i is (plug_all st.frames st.redex) st.found)
+  rule_makes _ _ (Rule.leaves i term is found stands) has = tt
+  rule_makes _ _ (Rule.ends i v is found) has = tt
+  rule_makes _ _ (Rule.frees i kind t idle st) has = makes_of kind st.frames st.redex (has (plug_all st.frames st.redex) st.found)
+  rule_makes _ _ (Rule.closes i frames v idle found on) has = tt
+
+  pub label_kept : (label : Label) (t : State) → after s label ≡ Some t → HasNewCellAfter devices cells s label → IsTypedBy devices cells t
+  label_kept label t e has = let rule = rule_of s label t e in preserved label t rule (rule_makes label t rule has)
+
+  pub step_kept : (side : Side) (kind : StepKind) (i : ℕ) (t : State) → Steps s side kind i t → HasNewCellOf devices cells s kind i → IsTypedBy devices cells t
+  step_kept side kind i t st has = stepped side kind i t st (makes_of kind st.frames st.redex (has (plug_all st.frames st.redex) st.found))
+
+grown : (devices : ℕ) (cells later : StoreTyping) (s : State) → Grows cells later → IsTypedBy devices cells s → IsTypedBy devices later s
+grown devices cells later s grows typed = record {
+  stored = λ l v found. let p = typed.stored l v found in (p.0, grows l p.0 p.1, (weaken_value devices cells later grows p.2.0, p.2.1));
+  members = each-map (IsMember devices cells) (IsMember devices later) (λ e f. (weaken_cells devices cells later grows f.0, f.1)) s.members typed.members;
+  present = typed.present;
+}
+
+-- one more location
+abbrev extend : StoreTyping → ℕ → Sort × Typ → StoreTyping
+extend cells l cell m = if l == m then Some cell else cells m
+
+module _ (devices : ℕ) (cells : StoreTyping) (s : State) (typed : IsTyped devices cells s) where
+  -- a typing for what a row makes, whose locations are in the store that it leaves
+  record Choice (kind : StepKind) (redex : Tree) (t : State) : Type 0 where
+    pub later : StoreTyping
+    pub grows : Grows cells later
+    pub makes : MakesCell devices later kind redex
+    pub located : (l : ℕ) (cell : Sort × Typ) → later l ≡ Some cell → IsSome (at t.store l)
+
+  keep : (kind : StepKind) (redex : Tree) (t : State) → ((l : Loc) → kind ≡ StepKind.Alloc l → ⊥) → ((l : ℕ) → IsSome (at s.store l) → IsSome (at t.store l)) → Choice kind redex t
+  keep kind redex t none stay = record {
+    later = cells;
+    grows = λ l cell is. is;
+    makes = λ l sort v is e. absurd (none l is);
+    located = λ l cell is. stay l (typed.located l cell is);
+  }
+
+  extended : (l : Loc) (sort : Sort) (v : Val) (content : Typ) → at s.store l.0 ≡ None → HasValue devices cells v content
+      → Choice (StepKind.Alloc l) (Tree.One (unary.Ref sort) (Tree.Held v)) (record s { store = put s.store l.0 v })
+  extended l sort v content fresh value = record {
+    later = later;
+    grows = grows;
+    makes = λ m other w is e.
+        let place : l ≡ m = cc in
+        let same_sort : sort ≡ other = cc in
+        let same : v ≡ w = cc in (
+          content,
+          ap (λ (z : Loc). later z.0) (sym place) ∙ has ∙ ap (λ (z : Sort). Some (z, content)) same_sort,
+          subst (λ (z : Val). HasValue devices later z content) same (weaken_value devices cells later grows value),
+        );
+    located = λ m cell is. by m cell is (at-put s.store l.0 m v);
+  }
     where
-      same : (i j : ℕ) → ◌≡◌ {A = Option ℕ} (Some i) (Some j) → j ≡ i
-      same i j e = cc
-  preserved _ _ (Rule.steps i kind t is st) = stepped false kind i t st
-  preserved _ _ (Rule.leaves i term is member stands) =
-      (cells, (λ l cell e. e), record { stored = typed.stored; located = typed.located; members = typed.members; present = λ j is. absurd (cc) })
-  preserved _ _ (Rule.ends i term v is member value) = (
+      itself : (n : ℕ) → (n == n) ≡ true
+      itself n = grind arith
+
+      differ : (m n : ℕ) → (m ≡ n → ⊥) → (m == n) ≡ false
+      differ m n apart = grind arith
+
+      later : StoreTyping
+      later = extend cells l.0 (sort, content)
+
+      other : (m : ℕ) (cell : Sort × Typ) → cells m ≡ Some cell → l.0 ≡ m → ⊥
+      other m cell is same = let clash : false ≡ true = ap is_some (sym fresh ∙ ap (at s.store) same) ∙ typed.located m cell is in absurd (cc)
+
+      grows : Grows cells later
+      grows m cell is = rw (differ l.0 m (other m cell is)) is
+
+      has : later l.0 ≡ Some (sort, content)
+      has = rw (itself l.0)
+
+      by : (m : ℕ) (cell : Sort × Typ) → later m ≡ Some cell → ((l.0 ≡ m) × (at (put s.store l.0 v) m ≡ Some v)) ⊎ (((l.0 ≡ m) → ⊥) × (at (put s.store l.0 v) m ≡ at s.store m))
+          → IsSome (at (put s.store l.0 v) m)
+      by m cell is (inl k) = ap is_some k.1
+      by m cell is (inr k) = ap is_some k.1 ∙ typed.located m cell (rw (differ l.0 m k.0) at is)
+
+  choice : (side : Side) (kind : StepKind) (redex part : Tree) (t : State) → Reduces s side kind redex part t → (q : Effect) (u : Typ) → IsTypedAct devices cells q u (act_of redex) → Choice kind redex t
+  unfolding act_of
+  choice _ _ _ _ _ (Reduces.pure side redex part row) q u a = keep StepKind.Local redex s (λ l is. cc) (λ l there. there)
+  choice _ _ _ _ _ (Reduces.allocation side l sort v fresh) q u a = extended l sort v a.0 fresh a.2.0
+  choice _ _ _ _ _ (Reduces.reading side l v found) q u a = keep StepKind.Read _ s (λ l is. cc) (λ l there. there)
+  choice _ _ _ _ _ (Reduces.peeking l v found) q u a = keep StepKind.Peek _ s (λ l is. cc) (λ l there. there)
+  choice _ _ _ _ _ (Reduces.writing side l v) q u a = keep StepKind.Write _ _ (λ l is. cc) (λ m there. is_some-put s.store l m v there)
+  choice _ _ _ _ _ (Reduces.spawning side body) q u a = keep StepKind.Spawn _ _ (λ l is. cc) (λ l there. there)
+  choice _ _ _ _ _ (Reduces.printing side n) q u a = keep StepKind.Print _ _ (λ l is. cc) (λ l there. there)
+  choice _ _ _ _ _ Reduces.passing q u a = keep StepKind.Block _ s (λ l is. cc) (λ l there. there)
+  choice _ _ _ _ _ (Reduces.answering device n reply) q u a = keep (StepKind.Device reply) _ s (λ l is. cc) (λ l there. there)
+
+  step_later : (side : Side) (kind : StepKind) (i : ℕ) (t : State) → Steps s side kind i t → IsTypedLater devices cells t
+  step_later side kind i t st =
+      let p = step_placed devices cells s typed.typed side kind i t st in
+      let c = choice side kind st.redex st.part st.after_effect st.reduces (effect_at (side_of st.frames) Effect.Protected) p.part_type (step_act devices cells s typed.typed side kind i t st p) in
+      let state = stepped devices c.later s (grown devices cells c.later s c.grows typed.typed) side kind i t st c.makes in
+      (c.later, c.grows, record { typed = state; located = λ l cell is. ap (λ (z : State). is_some (at z.store l)) st.result ∙ c.located l cell is })
+
+  -- the store is the same
+  same_cells : (label : Label) (t : State) (rule : Rule s label t) → RuleMakes devices cells s label t rule → t.store ≡ s.store → IsTypedLater devices cells t
+  same_cells label t rule makes same = (
     cells,
-    (λ l cell e. e),
+    (λ l cell is. is),
     record {
-      stored = typed.stored;
-      located = typed.located;
-      members = each-without (IsMember devices cells) s.members i typed.members;
-      present = λ j is. absurd (cc);
+      typed = preserved devices cells s typed.typed label t rule makes;
+      located = λ l cell is. ap (λ (z : List (ℕ × Val)). is_some (at z l)) same ∙ typed.located l cell is;
     },
   )
-  preserved _ _ (Rule.frees i kind t idle st) = stepped true kind i t st
-  preserved _ _ (Rule.closes i term v idle member stands) = closes i term v member stands
 
--- the same of a label that is legal
-pub kept : (devices : ℕ) (cells : Cells) (s : State) (label : Label) (t : State) → IsTyped devices cells s → after s label ≡ Some t → IsTypedLater devices cells t
-kept devices cells s label t typed legal = preserved devices cells s typed label t (rule_of s label t legal)
+  rule_later : (label : Label) (t : State) → Rule s label t → IsTypedLater devices cells t
+  rule_later _ _ (Rule.activates i term idle found calm) = same_cells _ _ (Rule.activates i term idle found calm) tt refl
+  rule_later _ _ (Rule.steps i kind t is st) = step_later Side.Protected kind i t st
+  rule_later _ _ (Rule.leaves i term is found stands) = same_cells _ _ (Rule.leaves i term is found stands) tt refl
+  rule_later _ _ (Rule.ends i v is found) = same_cells _ _ (Rule.ends i v is found) tt refl
+  rule_later _ _ (Rule.frees i kind t idle st) = step_later Side.Unprotected kind i t st
+  rule_later _ _ (Rule.closes i frames v idle found on) = same_cells _ _ (Rule.closes i frames v idle found on) tt refl
 
--- a typed state after a list of labels
-pub preserved_along : (devices : ℕ) (labels : List Label) (cells : Cells) (s t : State) → IsTyped devices cells s → run s labels ≡ Some t → IsTypedLater devices cells t
-preserved_along devices [] cells s t typed e = (cells, (λ l cell e. e), subst (IsTyped devices cells) (opened s t e) typed)
-  where
-    opened : (s t : State) → ◌≡◌ {A = Option State} (Some s) (Some t) → s ≡ t
-    opened s t e = cc
-preserved_along devices (label ∷ labels) cells s t typed e = by (after s label) refl e (λ cells u typed e. preserved_along devices labels cells u t typed e)
-  where
-    by : (o : Option State) → after s label ≡ o → option_and_then (λ u. run u labels) o ≡ Some t
-        → ((cells : Cells) (u : State) → IsTyped devices cells u → run u labels ≡ Some t → IsTypedLater devices cells t) → IsTypedLater devices cells t
-    by None legal e rest = absurd (cc)
-    by (Some u) legal e rest =
-        let p = kept devices cells s label u typed legal in
-        let k = rest p.0 u p.2 e in
-        (k.0, (λ l cell is. k.1 l cell (p.1 l cell is)), k.2)
+  -- after a legal label
+  pub kept : (label : Label) (t : State) → after s label ≡ Some t → IsTypedLater devices cells t
+  kept label t e = rule_later label t (rule_of s label t e)
+
+-- after a list of labels
+along : (devices : ℕ) (s t : State) (labels : List Label) → Runs s labels t → (cells : StoreTyping) → IsTyped devices cells s → IsTypedLater devices cells t
+along devices _ _ _ (Runs.none s) cells typed = (cells, (λ l cell is. is), typed)
+along devices _ _ _ (Runs.more s t u label labels rule rest) cells typed =
+    let p = rule_later devices cells s typed label t rule in
+    let k = along devices t u labels rest p.0 p.2 in
+    (k.0, (λ l cell is. k.1 l cell (p.1 l cell is)), k.2)
+
+pub preserved_along : (devices : ℕ) (labels : List Label) (cells : StoreTyping) (s t : State) → IsTyped devices cells s → run s labels ≡ Some t → IsTypedLater devices cells t
+preserved_along devices labels cells s t typed e = along devices s t labels ((runs s labels t).0 e) cells typed

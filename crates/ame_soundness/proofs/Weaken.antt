@@ -2,11 +2,13 @@
 use Rattle.std.proofs.Common.{◌≡◌, ℕ, Bool, true, false, ◌⊎◌, Some, refl, subst, ◌∙◌, inl, inr}
 use Rattle.std.specs.Prelude.{if◌then◌else◌, ◌==◌}
 use Rattle.ame_term.specs.Tree.{Typ, Val, Tree, Trees}
-use Rattle.ame_term.specs.Typing.{Scope, bind, unscoped}
-use Rattle.ame_term.specs.Has.{Has, HasLast, HasValue, code_of, held, name, function, recursive, app, binding, sequence, choice, operation, negation, reference, get, peek, set, async, block, unprotected, print, call, pairing, first, second, last, more, unit, bool, int, location, function_value, recursive_value, pair}
+use Rattle.ame_term.specs.Scope.{Scope, bind, unscoped}
+use Rattle.ame_term.specs.HasType.{HasType, HasLast, HasValue, HasUnary, HasBinary, code_of, held, name, function, recursive, binding, sequence, choice, async, unprotected, one, two, last, more, unit, bool, int, location, function_value, recursive_value, pair}
 use Rattle.ame_term.specs.declared.types.Sort.{Sort}
 use Rattle.ame_term.specs.declared.types.Effect.{Effect}
-use Rattle.ame_soundness.specs.Cells.{Cells, Grows}
+use Rattle.ame_term.specs.declared.types.Unary.{Unary}
+use Rattle.ame_term.specs.declared.types.Binary.{Binary}
+use Rattle.ame_soundness.specs.StoreTyping.{StoreTyping, Grows}
 
 -- a scope has the names of another one, with their types
 abbrev pub Within : Scope → Scope → Type 0
@@ -26,30 +28,48 @@ within_bind x t g h w y s = by (x == y)
 abbrev pub Fits : Effect → Effect → Type 0
 Fits q r = (q ≡ r) ⊎ (q ≡ Effect.Either)
 
-pub fits_both : (k q r : Effect) → Fits k q → Fits q r → Fits k r
-fits_both k q r (inl e) (inl f) = inl (e ∙ f)
-fits_both k q r (inl e) (inr f) = inr (e ∙ f)
-fits_both k q r (inr e) f = inr e
-
 never_either : (s : Sort) → code_of s ≡ Effect.Either → ⊥
 never_either Sort.Protected e = cc
 never_either Sort.Unprotected e = cc
 
-code_fits : (s : Sort) (q r : Effect) → code_of s ≡ q → Fits q r → code_of s ≡ r
-code_fits s q r e (inl f) = e ∙ f
-code_fits s q r e (inr f) = absurd (never_either s (e ∙ f))
-
-under_protected : (r : Effect) → Fits Effect.Protected r → Effect.Protected ≡ r
+pub under_protected : (r : Effect) → Fits Effect.Protected r → Effect.Protected ≡ r
 under_protected r (inl f) = f
 under_protected r (inr f) = cc
 
-under_unprotected : (r : Effect) → Fits Effect.Unprotected r → Effect.Unprotected ≡ r
-under_unprotected r (inl f) = f
-under_unprotected r (inr f) = cc
+-- what may stand under the effect that fits both may stand under each
+unary_either : {devices : ℕ} {op : Unary} {q : Effect} {t u : Typ} → HasUnary devices op q t u → q ≡ Effect.Either → (r : Effect) → HasUnary devices op r t u
+unary_either HasUnary.negation e r = HasUnary.negation
+unary_either HasUnary.reference e r = HasUnary.reference
+unary_either (HasUnary.get {s} k) e r = absurd (never_either s (k ∙ e))
+unary_either HasUnary.peek e r = cc
+unary_either HasUnary.block e r = cc
+unary_either HasUnary.print e r = HasUnary.print
+unary_either (HasUnary.call k) e r = cc
+unary_either HasUnary.first e r = HasUnary.first
+unary_either HasUnary.second e r = HasUnary.second
 
-module _ (devices : ℕ) (cells later : Cells) (grows : Grows cells later) where
+binary_either : {op : Binary} {q : Effect} {t u w : Typ} → HasBinary op q t u w → q ≡ Effect.Either → (r : Effect) → HasBinary op r t u w
+binary_either (HasBinary.app (inl k)) e r = HasBinary.app (inr (k ∙ e))
+binary_either (HasBinary.app (inr k)) e r = HasBinary.app (inr k)
+binary_either HasBinary.sum e r = HasBinary.sum
+binary_either HasBinary.difference e r = HasBinary.difference
+binary_either HasBinary.product e r = HasBinary.product
+binary_either HasBinary.less e r = HasBinary.less
+binary_either HasBinary.equal e r = HasBinary.equal
+binary_either (HasBinary.set {s} k) e r = absurd (never_either s (k ∙ e))
+binary_either HasBinary.pair e r = HasBinary.pair
+
+unary_fits : {devices : ℕ} {op : Unary} {q : Effect} {t u : Typ} → HasUnary devices op q t u → (r : Effect) → Fits q r → HasUnary devices op r t u
+unary_fits {devices} {op} {q} {t} {u} row r (inl e) = subst (λ (z : Effect). HasUnary devices op z t u) e row
+unary_fits row r (inr e) = unary_either row e r
+
+binary_fits : {op : Binary} {q : Effect} {t u w : Typ} → HasBinary op q t u w → (r : Effect) → Fits q r → HasBinary op r t u w
+binary_fits {op} {q} {t} {u} {w} row r (inl e) = subst (λ (z : Effect). HasBinary op z t u w) e row
+binary_fits row r (inr e) = binary_either row e r
+
+module _ (devices : ℕ) (cells later : StoreTyping) (grows : Grows cells later) where
   mutual
-    pub weaken : {g : Scope} {q : Effect} {e : Tree} {t : Typ} → Has devices cells g q e t → (h : Scope) → Within g h → (r : Effect) → Fits q r → Has devices later h r e t
+    pub weaken : {g : Scope} {q : Effect} {e : Tree} {t : Typ} → HasType devices cells g q e t → (h : Scope) → Within g h → (r : Effect) → Fits q r → HasType devices later h r e t
     weaken (held v) h w r f = held (weaken_value v)
     weaken (name {g} {q} {x} {t} e) h w r f = name (w x t e)
     weaken (function {g} {q} {head} p b) h w r f =
@@ -59,28 +79,14 @@ module _ (devices : ℕ) (cells later : Cells) (grows : Grows cells later) where
         recursive p
         (weaken b (bind head.param head.param_type (bind own.name t h))
         (within_bind head.param head.param_type (bind own.name t g) (bind own.name t h) (within_bind own.name t g h w)) head.effect (inl refl))
-    weaken (app {q = q} {r = k} p a b) h w r f = app (fits_both k q r p f) (weaken a h w r f) (weaken b h w r f)
     weaken (binding {g} {q} {x} {bound} {body} {t} a b) h w r f = binding (weaken a h w r f) (weaken b (bind x t h) (within_bind x t g h w) r f)
     weaken (sequence a) h w r f = sequence (weaken_last a h w r f)
     weaken (choice a b c) h w r f = choice (weaken a h w r f) (weaken b h w r f) (weaken c h w r f)
-    weaken (operation a b) h w r f = operation (weaken a h w r f) (weaken b h w r f)
-    weaken (negation a) h w r f = negation (weaken a h w r f)
-    weaken (reference a) h w r f = reference (weaken a h w r f)
-    weaken (get {g} {q} {s} p a) h w r f = get (code_fits s q r p f) (weaken a h w r f)
-    weaken (peek {g} {e} {t} a) h w r f =
-        subst (λ (z : Effect). Has devices later h z (Tree.Peek e) t) (under_unprotected r f) (peek (weaken a h w Effect.Unprotected (inl refl)))
-    weaken (set {g} {q} {s} p a b) h w r f = set (code_fits s q r p f) (weaken a h w r f) (weaken b h w r f)
     weaken (async a) h w r f = async (weaken a h w Effect.Protected (inl refl))
-    weaken (block {g} {e} a) h w r f =
-        subst (λ (z : Effect). Has devices later h z (Tree.Block e) Typ.Unit) (under_protected r f) (block (weaken a h w Effect.Protected (inl refl)))
     weaken (unprotected {g} {e} {t} a) h w r f =
-        subst (λ (z : Effect). Has devices later h z (Tree.Unprotected e) t) (under_protected r f) (unprotected (weaken a h w Effect.Unprotected (inl refl)))
-    weaken (print a) h w r f = print (weaken a h w r f)
-    weaken (call {g} {device} {e} p a) h w r f =
-        subst (λ (z : Effect). Has devices later h z (Tree.Call device e) Typ.Int) (under_unprotected r f) (call p (weaken a h w Effect.Unprotected (inl refl)))
-    weaken (pairing a b) h w r f = pairing (weaken a h w r f) (weaken b h w r f)
-    weaken (first a) h w r f = first (weaken a h w r f)
-    weaken (second a) h w r f = second (weaken a h w r f)
+        subst (λ (z : Effect). HasType devices later h z (Tree.Unprotected e) t) (under_protected r f) (unprotected (weaken a h w Effect.Unprotected (inl refl)))
+    weaken (one row a) h w r f = one (unary_fits row r f) (weaken a h w r f)
+    weaken (two row a b) h w r f = two (binary_fits row r f) (weaken a h w r f) (weaken b h w r f)
 
     pub weaken_last : {g : Scope} {q : Effect} {parts : Trees} {t : Typ} → HasLast devices cells g q parts t → (h : Scope) → Within g h → (r : Effect) → Fits q r → HasLast devices later h r parts t
     weaken_last (last a) h w r f = last (weaken a h w r f)
@@ -97,3 +103,7 @@ module _ (devices : ℕ) (cells later : Cells) (grows : Grows cells later) where
         let g = bind head.param head.param_type (bind own.name (Typ.Fun head.effect head.param_type own.result) unscoped) in
         recursive_value p (weaken b g (within_itself g) head.effect (inl refl))
     weaken_value (pair a b) = pair (weaken_value a) (weaken_value b)
+
+  -- the same names and effect
+  pub weaken_cells : {g : Scope} {q : Effect} {e : Tree} {t : Typ} → HasType devices cells g q e t → HasType devices later g q e t
+  weaken_cells {g} {q} a = weaken a g (within_itself g) q (inl refl)

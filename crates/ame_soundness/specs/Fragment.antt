@@ -1,21 +1,22 @@
 -- Typed fragments and values, for a number of devices and the types of locations.
-use Rattle.std.specs.Prelude.{ℕ, Bool, true, false}
+use Rattle.std.specs.Prelude.{ℕ}
 use Rattle.ame_term.specs.Tree.{Typ, Val, Tree}
-use Rattle.ame_term.specs.Typing.{unscoped}
-use Rattle.ame_term.specs.Has.{Has, HasValue}
+use Rattle.ame_term.specs.Scope.{unscoped}
+use Rattle.ame_term.specs.Frame.{Side}
+use Rattle.ame_term.specs.HasType.{HasType, HasValue}
 use Rattle.ame_term.specs.declared.types.Effect.{Effect}
-use Rattle.ame_soundness.specs.Cells.{Cells}
-use Rattle.ame_soundness.specs.Formed.{IsFormed, IsFormedValue}
+use Rattle.ame_soundness.specs.StoreTyping.{StoreTyping}
+use Rattle.ame_soundness.specs.WellFormed.{IsWellFormed, IsWellFormedValue}
 
 -- a closed term of a type, under an effect
-abbrev pub IsFragment : ℕ → Cells → Effect → Tree → Typ → Type 0
-IsFragment devices cells q e t = Has devices cells unscoped q e t × IsFormed e
+abbrev pub IsFragment : ℕ → StoreTyping → Effect → Tree → Typ → Type 0
+IsFragment devices cells q e t = HasType devices cells unscoped q e t × IsWellFormed e
 
 -- a value of a type
-abbrev pub IsValueOf : ℕ → Cells → Val → Typ → Type 0
-IsValueOf devices cells v t = HasValue devices cells v t × IsFormedValue v
+abbrev pub IsValueOf : ℕ → StoreTyping → Val → Typ → Type 0
+IsValueOf devices cells v t = HasValue devices cells v t × IsWellFormedValue v
 
--- the effect under which a part stands, in a term under an effect: whether under `unprotected` is told
-abbrev pub effect_at : Bool → Effect → Effect
-effect_at true q = Effect.Unprotected
-effect_at false q = q
+-- the effect of a part on a side of `unprotected`, in a term under an effect
+abbrev pub effect_at : Side → Effect → Effect
+effect_at Side.Protected q = q
+effect_at Side.Unprotected q = Effect.Unprotected

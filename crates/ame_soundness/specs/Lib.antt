@@ -1,8 +1,9 @@
-pub mod Cells
-pub mod Formed
+pub mod StoreTyping
+pub mod WellFormed
 pub mod Fragment
-pub mod TypedState
 pub mod TypedAct
 pub mod TypedTerm
+pub mod TypedState
+pub mod NewCell
 pub mod Progress
 pub mod LocalRun

@@ -2,17 +2,17 @@
 use Rattle.std.specs.Prelude.{◌≡◌, ℕ, ◌<◌, Some}
 use Rattle.ame_term.specs.Tree.{Typ}
 use Rattle.ame_term.specs.Act.{Act}
-use Rattle.ame_term.specs.Has.{code_of}
+use Rattle.ame_term.specs.HasType.{code_of}
 use Rattle.ame_term.specs.declared.types.Sort.{Sort}
 use Rattle.ame_term.specs.declared.types.Effect.{Effect}
-use Rattle.ame_soundness.specs.Cells.{Cells}
+use Rattle.ame_soundness.specs.StoreTyping.{StoreTyping}
 use Rattle.ame_soundness.specs.Fragment.{IsFragment, IsValueOf}
 
-module _ (devices : ℕ) (cells : Cells) where
+module _ (devices : ℕ) (cells : StoreTyping) where
   -- the act of a redex that is of a type under an effect
   abbrev pub IsTypedAct : Effect → Typ → Act → Type 0
   IsTypedAct q t (Act.Becomes e) = IsFragment devices cells q e t
-  IsTypedAct q t (Act.Allocates v) = (sort : Sort) × (content : Typ) × (t ≡ Typ.Ref sort content) × IsValueOf devices cells v content
+  IsTypedAct q t (Act.Allocates sort v) = (content : Typ) × (t ≡ Typ.Ref sort content) × IsValueOf devices cells v content
   IsTypedAct q t (Act.Reads l) = (sort : Sort) × (cells l ≡ Some (sort, t)) × (code_of sort ≡ q)
   IsTypedAct q t (Act.Peeks l) = (cells l ≡ Some (Sort.Protected, t)) × (q ≡ Effect.Unprotected)
   IsTypedAct q t (Act.Writes l v) =

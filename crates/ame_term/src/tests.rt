@@ -160,6 +160,91 @@ fn copies_through_the_bound(rt: HostRuntime) -> Result<(), Fail> {
     Ok(())
 }
 
+/// A type by its number.
+fn ty(alloc: Global, number: u8) -> Result<Ty, NoMemory> {
+    Ok(match number {
+        0 => Ty::Unit,
+        1 => Ty::Bool,
+        2 => Ty::Int,
+        3 => Ty::Ref(Sort::Unprotected, boxed(alloc, Ty::Int)?),
+        4 => Ty::Fun(
+            Effect::Either,
+            boxed(alloc, Ty::Int)?,
+            boxed(alloc, Ty::Unit)?,
+        ),
+        _ => Ty::Pair(boxed(alloc, Ty::Int)?, boxed(alloc, Ty::Bool)?),
+    })
+}
+
+/// A value by its number.
+fn value(alloc: Global, number: u8) -> Result<Value, NoMemory> {
+    Ok(match number {
+        0 => Value::Unit,
+        1 => Value::Bool(true),
+        2 => Value::Int(7),
+        3 => Value::Loc(Loc(3)),
+        4 => match function(alloc, Some(X), Y, Term::Var(X))? {
+            Term::Fun(function) => Value::Fun(function),
+            _ => Value::Unit,
+        },
+        _ => Value::Pair(boxed(alloc, Value::Unit)?, boxed(alloc, Value::Unit)?),
+    })
+}
+
+/// A form whose parts are numbers and names, by its number from `FORMS` on; the others are those of
+/// `form`.
+fn other_form(alloc: Global, number: u8) -> Result<Term, NoMemory> {
+    Ok(match number {
+        13 => Term::Held(value(alloc, 4)?),
+        14 => Term::Var(X),
+        15 => function(alloc, None, Y, Term::Var(X))?,
+        16 => Term::Bin(Op::Less, name(alloc, X)?, int(alloc, 0)?),
+        17 => Term::Set(name(alloc, X)?, int(alloc, 0)?),
+        18 => Term::Async(name(alloc, X)?),
+        19 => Term::Pair(name(alloc, X)?, int(alloc, 0)?),
+        _ => {
+            let mut parts = Vec::new(alloc);
+            push(&mut parts, Term::Var(X))?;
+            push(&mut parts, Term::Var(Y))?;
+            Term::Do(parts)
+        }
+    })
+}
+
+/// A form of each kind over names and numbers, by its number.
+fn any_form(alloc: Global, number: u8) -> Result<Term, NoMemory> {
+    if number < FORMS {
+        let part = name(alloc, X)?;
+        form(alloc, number, part)
+    } else {
+        other_form(alloc, number)
+    }
+}
+
+#[test]
+fn copies_and_substitutes_in_each_form_with_memory_at_hand(rt: HostRuntime) -> Result<(), Fail> {
+    let alloc = rt.alloc();
+    for number in 0..6u8 {
+        let ty = ty(alloc, number)?;
+        assert!(rt; copy_ty(alloc, &ty).is_ok());
+        let value = value(alloc, number)?;
+        assert!(rt; copy_value(alloc, &value).is_ok());
+    }
+    for number in 0..21u8 {
+        let term = any_form(alloc, number)?;
+        assert!(rt; copy_term(alloc, &term).is_ok());
+        assert!(rt; substitute(alloc, &term, X, &Value::Unit).is_ok());
+        let mut terms = Vec::new(alloc);
+        push(&mut terms, term)?;
+        assert!(rt; copy_parts(alloc, &terms).is_ok());
+    }
+    match function(alloc, Some(X), Y, Term::Var(X))? {
+        Term::Fun(function) => assert!(rt; copy_function(alloc, &function).is_ok()),
+        _ => assert!(rt; false),
+    }
+    Ok(())
+}
+
 #[test]
 fn heights_stop_at_the_first_that_is_refused(rt: HostRuntime) -> Result<(), Fail> {
     let alloc = rt.alloc();
@@ -228,6 +313,18 @@ fn goes_down_two_hundred_forms_of_each_kind(rt: HostRuntime) -> Result<(), Fail>
     Ok(())
 }
 
+/// The program `unit`.
+#[tactic(auto, unfolding(crate::specs::SourceTerm::nodes, crate::specs::SourceTerm::IsSourceTerm, crate::specs::SourceTerm::IsBound, crate::specs::SourceTerm::IsClosedValue))]
+fn unit_program(alloc: Global) -> Result<Program, NoMemory> {
+    let mut places = Vec::new(alloc);
+    places.push(0)?;
+    Ok(Program {
+        names: Vec::new(alloc),
+        places,
+        term: Term::Held(Value::Unit),
+    })
+}
+
 fn crosses_threads<T: Send + Sync + Drop>(_value: T) {}
 
 #[test]
@@ -242,11 +339,7 @@ fn every_type_crosses_threads(rt: HostRuntime) -> Result<(), Fail> {
         result: Ty::Int,
     });
     crosses_threads(function(alloc, None, X, Term::Var(X))?);
-    crosses_threads(Program {
-        names: Vec::new(alloc),
-        places: Vec::new(alloc),
-        term: Term::Var(X),
-    });
+    crosses_threads(unit_program(alloc)?);
     crosses_threads(StepKind::Local);
     crosses_threads(Label::End);
     Ok(())

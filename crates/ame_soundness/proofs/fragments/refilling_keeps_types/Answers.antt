@@ -1,5 +1,5 @@
-use Rattle.ame_soundness.proofs.Refilled.{refilled}
+use Rattle.ame_soundness.proofs.FrameTypes.{placed}
 use Rattle.ame_soundness.proofs.fragments.refilling_keeps_types.Goals as goal
 
 pub returns : goal.returns
-returns c = refilled
+returns c = placed

@@ -1,6 +1,6 @@
 -- Finite maps by number: what a look-up finds after an entry was put, changed or removed, what holds of
 -- all entries then, and that their numbers still rise.
-use Rattle.std.proofs.Common.{◌≡◌, ℕ, ◌<◌, List, [], ◌∷◌, ◌++◌, ◌⊎◌, Bool, true, false, Option, Some, None, cond, refl, sym, ap, ◌∙◌, subst, inl, inr, is_some, arith}
+use Rattle.std.proofs.Common.{◌≡◌, ℕ, ◌<◌, ◌==◌, List, [], ◌∷◌, ◌++◌, ◌⊎◌, Bool, true, false, Option, Some, None, cond, refl, sym, ap, ◌∙◌, subst, inl, inr, is_some, arith}
 use Rattle.std.specs.declared.cmp.Ordering.{Ordering}
 use Rattle.std.specs.declared.cmp.Ordering.TheVariants.{Less, Equal, Greater}
 use Rattle.std.specs.Ordering.{MatchOrdering, match_ordering, is_eq, nat_cmp}
@@ -44,6 +44,15 @@ is_at-differs i n away same =
     let here : is_at (nat_cmp i) n ≡ true = subst (λ (k : ℕ). is_at (nat_cmp i) k ≡ true) (sym same) (is_at-here i) in
     let clash : true ≡ false = sym here ∙ away in
     cc
+
+-- the test of an entry is equality of numbers
+pub is_at-eq : (i n : ℕ) → is_at (nat_cmp i) n ≡ (i == n)
+is_at-eq i n = by (nat_cmp i n) (ranked i n (nat_cmp i n) refl)
+  where
+    by : (o : Ordering) → MatchOrdering o (i < n) (i ≡ n) (n < i) → is_eq o ≡ (i == n)
+    by Less h = grind arith
+    by Equal h = grind arith
+    by Greater h = grind arith
 
 pub less-from_lt : (a b : ℕ) → a < b → nat_cmp a b ≡ Less
 less-from_lt a b below = sym (nat_cmp_is a b Less below)

@@ -117,12 +117,7 @@ module _ {M : Type 0} where
 
     -- somebody is busy where nobody is ready, and it is told to wait
     pub idle_waits : idle c ≡ Oldest.Wait → list_any is_busy reg.list ≡ true
-    idle_waits e = any_counts is_busy reg.list ∙ ap (nat_lt 0) (sym h.counted.busy) ∙ go (nat_lt 0 c.busy) (nat_lt 0 c.parked) e
-      where
-        go : (b p : Bool) → cond b Oldest.Wait (cond p Oldest.Parked Oldest.Empty) ≡ Oldest.Wait → b ≡ true
-        go true p i = refl
-        go false true i = cc
-        go false false i = cc
+    idle_waits e = any_counts is_busy reg.list ∙ grind (arith, nat_tests, e, h.counted.busy, tells (nat_lt 0 c.busy), tells (nat_lt 0 c.parked))
 
     -- and where the front may not begin
     pub held_up : (m : Member M) → may_begin_beside (nat_lt 0 c.protected) (nat_lt 0 c.worn) false m ≡ false → list_any is_busy reg.list ≡ true

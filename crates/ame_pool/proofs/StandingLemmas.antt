@@ -42,30 +42,22 @@ calm p noted parked (Standing.Busy (Some w)) h = absurd (false≢true (sym (note
 calm p noted parked (Standing.Parked locs) h = absurd (false≢true (sym (parked locs) ∙ h))
 
 module _ {M : Type 0} where
+  -- a turn keeps the number and no more than eight rollbacks, and who isn't ready is ready then where the turn says so
+  pub record IsTurn (to : Turn M) (m : Member M) : Type 0 where
+    pub number : (turned to m).number ≡ m.number
+    pub few : m.rollbacks ≤ 8 → (turned to m).rollbacks ≤ 8
+    pub ready : is_ready m ≡ false → is_ready (turned to m) ≡ is_readied to m
+
+  pub turn_is : (to : Turn M) (m : Member M) → IsTurn to m
+  turn_is Turn.Begin m = record { number = refl; few = λ h. h; ready = λ h. refl }
+  turn_is (Turn.Home b) m = record { number = refl; few = rolled_le b m.rollbacks; ready = λ h. refl }
+  turn_is (Turn.Renew x i) m = record { number = refl; few = λ h. omega arith; ready = λ h. refl }
+  turn_is (Turn.Watch locs) m = record { number = refl; few = λ h. omega arith; ready = λ h. refl }
+  turn_is Turn.Settle m = record { number = refl; few = λ h. h; ready = settled_ready m.standing }
+  turn_is (Turn.Stir l) m = record { number = refl; few = λ h. h; ready = stirred_ready l.0 m.standing }
+
   pub turned_number : (to : Turn M) (m : Member M) → (turned to m).number ≡ m.number
-  turned_number Turn.Begin m = refl
-  turned_number (Turn.Home b) m = refl
-  turned_number (Turn.Renew x i) m = refl
-  turned_number (Turn.Watch locs) m = refl
-  turned_number Turn.Settle m = refl
-  turned_number (Turn.Stir l) m = refl
-
-  pub turned_few : (to : Turn M) (m : Member M) → m.rollbacks ≤ 8 → (turned to m).rollbacks ≤ 8
-  turned_few Turn.Begin m h = h
-  turned_few (Turn.Home b) m h = rolled_le b m.rollbacks h
-  turned_few (Turn.Renew x i) m h = omega arith
-  turned_few (Turn.Watch locs) m h = omega arith
-  turned_few Turn.Settle m h = h
-  turned_few (Turn.Stir l) m h = h
-
-  -- who isn't ready is ready then where the turn says so
-  pub turned_ready : (to : Turn M) (m : Member M) → is_ready m ≡ false → is_ready (turned to m) ≡ is_readied to m
-  turned_ready Turn.Begin m h = refl
-  turned_ready (Turn.Home b) m h = refl
-  turned_ready (Turn.Renew x i) m h = refl
-  turned_ready (Turn.Watch locs) m h = refl
-  turned_ready Turn.Settle m h = settled_ready m.standing h
-  turned_ready (Turn.Stir l) m h = stirred_ready l.0 m.standing h
+  turned_number to m = (turn_is to m).number
 
   -- ---- who is away
   pub away_unready : (m : Member M) → is_away m ≡ true → is_ready m ≡ false

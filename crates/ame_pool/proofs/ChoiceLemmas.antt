@@ -117,12 +117,7 @@ module _ {M : Type 0} where
 
     -- somebody is busy where nobody is ready, and it is told to wait
     pub idle_waits : idle c ≡ Oldest.Wait → list_any is_busy reg.list ≡ true
-    idle_waits e = any_counts is_busy reg.list ∙ ap (nat_lt 0) (sym h.counted.busy) ∙ go (nat_lt 0 c.busy) (nat_lt 0 c.parked) e
-      where
-        go : (b p : Bool) → cond b Oldest.Wait (cond p Oldest.Parked Oldest.Empty) ≡ Oldest.Wait → b ≡ true
-        go true p i = refl
-        go false true i = cc
-        go false false i = cc
+    idle_waits e = any_counts is_busy reg.list ∙ grind (arith, nat_tests, e, h.counted.busy, tells (nat_lt 0 c.busy), tells (nat_lt 0 c.parked))
 
     -- and where the front may not begin
     pub held_up : (m : Member M) → may_begin_beside (nat_lt 0 c.protected) (nat_lt 0 c.worn) false m ≡ false → list_any is_busy reg.list ≡ true
@@ -136,11 +131,7 @@ module _ {M : Type 0} where
       where
         front_counts : (p : ℕ → Bool) (n : ℕ) (xs : List ℕ) → front (filter p xs) ≡ Some n → 1 ≤ count_by (λ k. k == n) xs
         front_counts p n [] e = cc
-        front_counts p n (x ∷ xs) e =
-            elim (p x) as (λ b. front (cond b (x ∷ filter p xs) (filter p xs)) ≡ Some n → 1 ≤ count_by (λ k. k == n) (x ∷ xs)) [
-              | true ↦ λ i. let same : x ≡ n = cc in grind (arith, nat_tests, same, count_cons (λ k. k == n) x xs)
-              | false ↦ λ i. omega (arith, count_cons (λ k. k == n) x xs, front_counts p n xs i)
-            ] e
+        front_counts p n (x ∷ xs) e = grind (arith, nat_tests, tells (p x), e, count_cons (λ k. k == n) x xs, front_counts p n xs)
 
     module _ (n : ℕ) (first : front q.order ≡ Some n) (m : Member M) (found : find n reg.list ≡ Some m) where
       flags : may_begin reg.list [] m ≡ may_begin_beside (nat_lt 0 c.protected) (nat_lt 0 c.worn) false m

@@ -4,6 +4,7 @@ use Rattle.std.specs.List.Sorted.{IsSearchInRange, IsBinarySearchResult, IsNonDe
 use Rattle.std.specs.Ordering.{nat_cmp, ordering_index}
 use Rattle.std.proofs.lemmas.Cmp.{ranked}
 use Rattle.ame_pool.proofs.Words.{Numbered, AreRising, IsEntryOf, IsEntryGap, key_of, filed, nat_lt, insert, filter, nat_tests, All-cons, All-head, All-tail}
+use Rattle.std.proofs.lemmas.List.Elements.{All-filter}
 
 -- an earlier number is not greater
 rising_le : (es : List Numbered) → AreRising es → (i j : ℕ) (d : Numbered) → i ≤ j → j < length es
@@ -111,14 +112,8 @@ rising_filed (e ∷ es) r new =
     ] refl
 
 -- ---- where some entries are dropped
-all_filtered : (P : Numbered → Type 0) (p : Numbered → Bool) (es : List Numbered) → All P es → All P (filter p es)
-all_filtered P p [] h = h
-all_filtered P p (e ∷ es) h =
-    let rest = all_filtered P p es (All-tail P e es h) in
-    elim (p e) as (λ b. All P (cond b (e ∷ filter p es) (filter p es))) [ true ↦ All-cons P e (filter p es) (All-head P e es h) rest | false ↦ rest ]
-
 pub rising_filtered : (p : Numbered → Bool) (es : List Numbered) → AreRising es → AreRising (filter p es)
 rising_filtered p [] r = r
 rising_filtered p (e ∷ es) r =
     let rest = rising_filtered p es r.1 in
-    elim (p e) as (λ b. AreRising (cond b (e ∷ filter p es) (filter p es))) [ true ↦ (all_filtered (λ o. e.number < o.number) p es r.0, rest) | false ↦ rest ]
+    elim (p e) as (λ b. AreRising (cond b (e ∷ filter p es) (filter p es))) [ true ↦ (All-filter p (λ o. e.number < o.number) es r.0, rest) | false ↦ rest ]

@@ -3,8 +3,8 @@ use Rattle.std.proofs.Common.{◌≡◌, ◌<◌, ◌≤◌, ◌+◌, ◌-◌, �
 use Rattle.ame_pool.proofs.Words.{Member, Turn, Counts, find, altered, placed, except, is_ready, Register, Roster, Queues, HasPlace, pushed, taken, counted, IsAt, skipping, begun, turned, is_readied, is_readied_at, turned_at, IsOrderOf, is_inside_at, IsKept, false≢true, filter, nat_tests, count_by-le-length, length-filter}
 use Rattle.ame_pool.proofs.MemberLemmas.{count_all, find_passes, find_altered, length_altered, rising_altered, all_altered, length_placed, rising_placed, all_placed, length_except, rising_except, all_except}
 use Rattle.ame_pool.proofs.OrderLemmas.{filter_push, filter_skipping, absent, order_short, order_shorter, ordered_same, ordered_readied, ordered_held, ordered_placed, ordered_except, inside_same, inside_but, inside_now, inside_placed, inside_new, inside_except}
-use Rattle.ame_pool.proofs.CountLemmas.{kinds, AreMoved, moved_both, counted_altered, counted_placed, counted_except}
-use Rattle.ame_pool.proofs.StandingLemmas.{turned_number, turned_few, turned_ready}
+use Rattle.ame_pool.proofs.CountLemmas.{kinds, counted_altered, counted_placed, counted_except}
+use Rattle.ame_pool.proofs.StandingLemmas.{turned_number, turn_is}
 
 module _ {M : Type 0} where
   one_there : (o : Option (Member M)) (P : Member M → Type 0) → IsSomeAnd o P → (m : Member M) × (o ≡ Some m) × P m
@@ -80,17 +80,17 @@ module _ {M : Type 0} {reg : Register M} {q : Queues} {c : Counts} (h : IsKept r
     few_at = rw found (find_passes (λ (o : Member M). o.rollbacks ≤ 8) n reg.list h.sound.rollbacks m found)
 
     -- ---- its turn
-    module _ (to : Turn M) (c' : Counts) (moved : AreMoved m (turned to m) c c') where
+    module _ (to : Turn M) (d c' : Counts) (leave : c ≡ counted m d) (enter : c' ≡ counted (turned to m) d) where
       turned_kept : (q' : Queues) → q'.places ≡ q.places → IsOrderOf (altered n (turned to) reg.list) q'.order
           → q'.inside ≡ filter (is_inside_at (altered n (turned to) reg.list)) q'.order → IsKept (record reg { list = altered n (turned to) reg.list }) q' c'
       turned_kept q' places ordered inside = record {
         sound = record {
           rising = rising_altered n (turned to) (turned_number to) reg.list h.sound.rising;
           ordered = ordered;
-          rollbacks = all_altered n (turned to) (λ m. m.rollbacks ≤ 8) (turned_few to) reg.list h.sound.rollbacks;
+          rollbacks = all_altered n (turned to) (λ m. m.rollbacks ≤ 8) (λ o. (turn_is to o).few) reg.list h.sound.rollbacks;
         };
         inside = inside;
-        counted = counted_altered reg.list c h.counted n m found (turned to) c' moved;
+        counted = counted_altered reg.list c h.counted n m found (turned to) d c' leave enter;
         fits = omega (arith, h.fits, places, length_altered n (turned to) reg.list);
         small = omega (arith, h.small, places);
       }
@@ -118,12 +118,12 @@ module _ {M : Type 0} {reg : Register M} {q : Queues} {c : Counts} (h : IsKept r
     kept_turn was to reg' new r told d c' leave o read enter q' queue =
         let same : o ≡ turned to m = read_turned n to reg.list m found o (rw new at read) in
         let readied : Some r ≡ Some (is_readied to m) = told ∙ ap (option_map (is_readied to)) found in
-        let is : is_ready (turned to m) ≡ r = turned_ready to m was ∙ (let e : is_readied to m ≡ r = cc in e) in
-        let moved = moved_both m (turned to m) c d c' leave (enter ∙ ap (λ x. counted x d) same) in
+        let is : is_ready (turned to m) ≡ r = (turn_is to m).ready was ∙ (let e : is_readied to m ≡ r = cc in e) in
+        let entered = enter ∙ ap (λ x. counted x d) same in
         let line : q' ≡ cond r (pushed n (turned to m).inside q) q = queue ∙ ap (λ (x : Member M). cond r (pushed n x.inside q) q) same in
         rw (new, line) (elim r as (λ b. is_ready (turned to m) ≡ b → IsKept (record reg { list = altered n (turned to) reg.list }) (cond b (pushed n (turned to m).inside q) q) c') [
-          | true ↦ kept_readied to c' moved was
-          | false ↦ kept_same to c' moved was
+          | true ↦ kept_readied to d c' leave entered was
+          | false ↦ kept_same to d c' leave entered was
         ] is)
 
     -- ---- it leaves

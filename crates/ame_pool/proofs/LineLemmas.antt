@@ -7,36 +7,30 @@ use Rattle.ame_pool.proofs.MemberLemmas.{count_cons, which}
 
 -- ---- one entry at the head
 gap_head : (e : Entry) (es : List Entry) → is_gap e ≡ true → numbers_in (e ∷ es) ≡ numbers_in es
-gap_head e es = go e.number
-  where
-    go : (o : Option ℕ) → is_none o ≡ true → numbers_in (record e { number = o } ∷ es) ≡ numbers_in es
-    go None h = refl
-    go (Some n) h = absurd (false≢true h)
+gap_head e es h = grind (arith, which e.number, h)
 
 full_head : (e : Entry) (es : List Entry) (n : ℕ) → e.number ≡ Some n → numbers_in (e ∷ es) ≡ n ∷ numbers_in es
 full_head e es n h = rw h refl
 
 of_number : (n : ℕ) (e : Entry) → is_of n e ≡ true → e.number ≡ Some n
-of_number n e = go e.number
-  where
-    go : (o : Option ℕ) → elim o as (λ _. Bool) [ None ↦ false | Some k ↦ k == n ] ≡ true → o ≡ Some n
-    go None h = absurd (false≢true h)
-    go (Some k) h = let same : k ≡ n = grind (arith, nat_tests, h) in ap Some same
+of_number n e h = grind (arith, nat_tests, which e.number, h)
 
 -- ---- counts
 pub numbers_fewer : (es : List Entry) → length (numbers_in es) ≤ length es
 numbers_fewer [] = omega arith
 numbers_fewer (e ∷ es) = grind (arith, which e.number, numbers_fewer es)
 
+numbers_count : (n : ℕ) (e : Entry) (es : List Entry) → count_by (λ k. k == n) (numbers_in (e ∷ es)) ≡ cond (is_of n e) 1 0 + count_by (λ k. k == n) (numbers_in es)
+numbers_count n e es =
+    elim e.number as (λ o. count_by (λ k. k == n) (numbers_in (record e { number = o } ∷ es)) ≡ cond (is_of n (record e { number = o })) 1 0 + count_by (λ k. k == n) (numbers_in es)) [
+      | None ↦ omega arith
+      | Some k ↦ count_cons (λ k. k == n) k (numbers_in es)
+    ]
+
 pub has_number : (n : ℕ) (es : List Entry) (i : ℕ) (d : Entry) → i < length es → is_of n (get_or es i d) ≡ true → 1 ≤ count_by (λ k. k == n) (numbers_in es)
 has_number n [] i d lt is = absurd (omega arith)
 has_number n (e ∷ es) zero d lt is = rw (full_head e es n (of_number n e is)) (grind (arith, nat_tests, count_cons (λ k. k == n) n (numbers_in es)))
-has_number n (e ∷ es) (suc i) d lt is =
-    let rest = has_number n es i d (omega arith) is in
-    elim e.number as (λ o. 1 ≤ count_by (λ k. k == n) (numbers_in (record e { number = o } ∷ es))) [
-      | None ↦ rest
-      | Some k ↦ omega (arith, rest, count_cons (λ k. k == n) k (numbers_in es))
-    ]
+has_number n (e ∷ es) (suc i) d lt is = omega (arith, numbers_count n e es, has_number n es i d (omega arith) is)
 
 -- ---- a number leaves
 pub gap_made : (n : ℕ) (es : List Entry) (i : ℕ) (d e' : Entry) → i < length es → is_of n (get_or es i d) ≡ true → is_gap e' ≡ true
@@ -47,11 +41,7 @@ gap_made n (e ∷ es) zero d e' lt is gap once =
 gap_made n (e ∷ es) (suc i) d e' lt is gap once =
     let has = has_number n es i d (omega arith) is in
     let rest = gap_made n es i d e' (omega arith) is gap in
-    elim e.number as (λ o. count_by (λ k. k == n) (numbers_in (record e { number = o } ∷ es)) ≤ 1
-    → numbers_in (record e { number = o } ∷ set es i e') ≡ skipping n (numbers_in (record e { number = o } ∷ es))) [
-      | None ↦ λ h. rest h
-      | Some k ↦ λ h. let c = count_cons (λ k. k == n) k (numbers_in es) in let more = rest (omega (arith, c, h)) in grind (arith, nat_tests, c, h, has, more)
-    ] once
+    grind (arith, nat_tests, which e.number, has, rest, once, numbers_count n e es)
 
 pub absent : (n : ℕ) (xs : List ℕ) → count_by (λ k. k == n) xs ≡ 0 → skipping n xs ≡ xs
 absent n [] none = refl
@@ -63,15 +53,7 @@ shorter n (x ∷ xs) has = grind (arith, nat_tests, has, count_cons (λ k. k == 
 
 past : (n : ℕ) (es : List Entry) → length es ≤ position_or_len (is_of n) es → count_by (λ k. k == n) (numbers_in es) ≡ 0
 past n [] h = refl
-past n (e ∷ es) h =
-    let rest = past n es in
-    elim e.number as (λ o. length (e ∷ es) ≤ position_or_len (is_of n) (record e { number = o } ∷ es) → count_by (λ k. k == n) (numbers_in (record e { number = o } ∷ es)) ≡ 0) [
-      | None ↦ λ h. rest (omega (arith, h))
-      | Some k ↦ elim (k == n) as (λ b. (k == n) ≡ b → length (e ∷ es) ≤ cond (not b) (1 + position_or_len (is_of n) es) 0 → count_by (λ k. k == n) (k ∷ numbers_in es) ≡ 0) [
-        | true ↦ λ t h. absurd (omega (arith, h))
-        | false ↦ λ t h. grind (arith, t, count_cons (λ k. k == n) k (numbers_in es), rest (omega (arith, h)))
-      ] refl
-    ] h
+past n (e ∷ es) h = grind (arith, nat_tests, which e.number, h, past n es, count_cons (λ k. k == n))
 
 -- a look through the line finds a place, or the number isn't there
 pub looked : (n : ℕ) (es : List Entry) (r : Option ℕ) → r ≡ position (is_of n) es

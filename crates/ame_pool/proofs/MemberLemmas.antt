@@ -1,7 +1,7 @@
 -- A list with a member altered, with one more, and with one less: who has which number, how many pass a test, and that numbers still rise.
 use Rattle.std.proofs.Common.{◌≡◌, ◌≢◌, ◌<◌, ◌+◌, ◌==◌, ℕ, Bool, true, false, cond, List, [], ◌∷◌, length, map, Option, Some, None, option_map, refl, sym, ap, subst, ◌∙◌, inl, inr, arith}
 use Rattle.std.specs.List.{All}
-use Rattle.ame_pool.proofs.Words.{Member, IsRising, find, altered, placed, except, IsFoundAfter, count_by, nat_tests, sum_by-cons, All-nil, All-cons, All-head, All-tail, All-weaker, nat_lt}
+use Rattle.ame_pool.proofs.Words.{Member, IsRising, find, altered, placed, except, IsFoundAfter, count_by, nat_tests, sum_by-cons, All-nil, All-cons, All-head, All-tail, All-weaker, nat_lt, Standing, Watch}
 use Rattle.std.specs.Prelude.{◌⊎◌}
 
 -- cases for a search
@@ -12,6 +12,12 @@ tells false = inr refl
 pub which : {X : Type 0} (o : Option X) → (o ≡ None) ⊎ ((x : X) × (o ≡ Some x))
 which None = inl refl
 which (Some x) = inr (x, refl)
+
+pub standing_is : (s : Standing) → (s ≡ Standing.Ready) ⊎ (s ≡ Standing.Busy None) ⊎ ((w : Watch) × (s ≡ Standing.Busy (Some w))) ⊎ ((locs : List ℕ) × (s ≡ Standing.Parked locs))
+standing_is Standing.Ready = inl refl
+standing_is (Standing.Busy None) = inr (inl refl)
+standing_is (Standing.Busy (Some w)) = inr (inr (inl (w, refl)))
+standing_is (Standing.Parked locs) = inr (inr (inr (locs, refl)))
 
 pub count_cons : {X : Type 0} (p : X → Bool) (x : X) (xs : List X) → count_by p (x ∷ xs) ≡ cond (p x) 1 0 + count_by p xs
 count_cons p x xs = sum_by-cons (λ y. cond (p y) 1 0) x xs

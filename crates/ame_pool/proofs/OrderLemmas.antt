@@ -149,17 +149,13 @@ module _ {M : Type 0} where
         omega (arith, h p, count_except n r ms m found, none)
 
   -- ---- who stands inside
-  inside_cond : (b : Bool) (o p : Option (Member M)) → elim (cond b o p) as (λ _. Bool) [ None ↦ false | Some m ↦ m.inside ]
-      ≡ cond b (elim o as (λ _. Bool) [ None ↦ false | Some m ↦ m.inside ]) (elim p as (λ _. Bool) [ None ↦ false | Some m ↦ m.inside ])
-  inside_cond true o p = refl
-  inside_cond false o p = refl
+  abbrev inside_of : Option (Member M) → Bool
+  inside_of o = elim o as (λ _. Bool) [ None ↦ false | Some m ↦ m.inside ]
 
   module _ (ms : List (Member M)) (n : ℕ) where
     module _ (f : Member M → Member M) (num : (m : Member M) → (f m).number ≡ m.number) (m : Member M) (found : find n ms ≡ Some m) where
       changed_at : (k : ℕ) → is_inside_at (altered n f ms) k ≡ cond (n == k) (f m).inside (is_inside_at ms k)
-      changed_at k =
-          ap (λ o. elim o as (λ _. Bool) [ None ↦ false | Some m ↦ m.inside ]) (find_altered n f num ms k ∙ ap (λ o. cond (n == k) (option_map f o) (find k ms)) found)
-          ∙ inside_cond (n == k) (Some (f m)) (find k ms)
+      changed_at k = grind (arith, nat_tests, ap inside_of (find_altered n f num ms k), found, ap inside_of found)
 
       -- the altered one is where it was
       pub inside_same : (f m).inside ≡ m.inside → (order : List ℕ) → filter (is_inside_at ms) order ≡ filter (is_inside_at (altered n f ms)) order
@@ -176,21 +172,12 @@ module _ {M : Type 0} where
 
     pub inside_except : IsRising ms → (order : List ℕ) → count_by (λ k. k == n) order ≡ 0 → filter (is_inside_at ms) order ≡ filter (is_inside_at (except n ms)) order
     inside_except r order none =
-        filter_but (is_inside_at ms) (is_inside_at (except n ms)) n (λ k t.
-        let out : (n == k) ≡ false = grind (arith, nat_tests, t) in
-        let e : find k (except n ms) ≡ find k ms = find_except n ms r k ∙ rw out refl in
-        sym (ap (λ o. elim o as (λ _. Bool) [ None ↦ false | Some m ↦ m.inside ]) e)) order none
+        filter_but (is_inside_at ms) (is_inside_at (except n ms)) n (λ k t. grind (arith, nat_tests, t, ap inside_of (find_except n ms r k))) order none
 
   module _ (ms : List (Member M)) (new : Member M) (fresh : find new.number ms ≡ None) where
     pub inside_placed : (order : List ℕ) → count_by (λ k. k == new.number) order ≡ 0 → filter (is_inside_at ms) order ≡ filter (is_inside_at (placed new ms)) order
     inside_placed order none =
-        filter_but (is_inside_at ms) (is_inside_at (placed new ms)) new.number (λ k t.
-        let out : (new.number == k) ≡ false = grind (arith, nat_tests, t) in
-        let e : find k (placed new ms) ≡ find k ms = find_placed new ms fresh k ∙ rw out refl in
-        sym (ap (λ o. elim o as (λ _. Bool) [ None ↦ false | Some m ↦ m.inside ]) e)) order none
+        filter_but (is_inside_at ms) (is_inside_at (placed new ms)) new.number (λ k t. grind (arith, nat_tests, t, ap inside_of (find_placed new ms fresh k))) order none
 
     pub inside_new : is_inside_at (placed new ms) new.number ≡ new.inside
-    inside_new =
-        let same : (new.number == new.number) ≡ true = grind (arith, nat_tests) in
-        let e : find new.number (placed new ms) ≡ Some new = find_placed new ms fresh new.number ∙ rw same refl in
-        ap (λ o. elim o as (λ _. Bool) [ None ↦ false | Some m ↦ m.inside ]) e
+    inside_new = grind (arith, nat_tests, ap inside_of (find_placed new ms fresh new.number))

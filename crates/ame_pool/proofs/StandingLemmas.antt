@@ -1,6 +1,7 @@
 -- What a member's standing tells, and what a turn makes of it.
 use Rattle.std.proofs.Common.{◌≡◌, ◌≤◌, ℕ, Bool, true, false, not, cond, List, [], Some, None, refl, sym, ◌∙◌, arith}
 use Rattle.ame_pool.proofs.Words.{Member, Standing, Watch, Turn, is_ready, is_busy, rolled, settled, is_touched, has, stirred, is_waiting_for, untouched, is_running, is_noted, at_rest, is_away, turned, is_readied, false≢true}
+use Rattle.ame_pool.proofs.MemberLemmas.{standing_is}
 
 abbrev ready : Standing → Bool
 ready s = elim s [ Standing.Ready ↦ true | Standing.Busy _ ↦ false | Standing.Parked _ ↦ false ]
@@ -28,67 +29,46 @@ settled_untouched (Standing.Busy None) = refl
 settled_untouched (Standing.Busy (Some w)) = elim w.touched as (λ b. untouched (cond b Standing.Ready (Standing.Parked w.locs)) ≡ cond b [] w.locs) [ true ↦ refl | false ↦ refl ]
 settled_untouched (Standing.Parked locs) = refl
 
--- who passes a test that a ready one fails isn't ready
-unready : (p : Standing → Bool) → p Standing.Ready ≡ false → (s : Standing) → p s ≡ true → not (ready s) ≡ true
-unready p fails Standing.Ready h = absurd (false≢true (sym fails ∙ h))
-unready p fails (Standing.Busy w) h = refl
-unready p fails (Standing.Parked locs) h = refl
-
--- who passes a test that those with a list fail watches nothing
-calm : (p : Standing → Bool) → ((w : Watch) → p (Standing.Busy (Some w)) ≡ false) → ((locs : List ℕ) → p (Standing.Parked locs) ≡ false) → (s : Standing) → p s ≡ true → untouched s ≡ []
-calm p noted parked Standing.Ready h = refl
-calm p noted parked (Standing.Busy None) h = refl
-calm p noted parked (Standing.Busy (Some w)) h = absurd (false≢true (sym (noted w) ∙ h))
-calm p noted parked (Standing.Parked locs) h = absurd (false≢true (sym (parked locs) ∙ h))
-
 module _ {M : Type 0} where
+  -- a turn keeps the number and no more than eight rollbacks, and who isn't ready is ready then where the turn says so
+  pub record IsTurn (to : Turn M) (m : Member M) : Type 0 where
+    pub number : (turned to m).number ≡ m.number
+    pub few : m.rollbacks ≤ 8 → (turned to m).rollbacks ≤ 8
+    pub ready : is_ready m ≡ false → is_ready (turned to m) ≡ is_readied to m
+
+  pub turn_is : (to : Turn M) (m : Member M) → IsTurn to m
+  turn_is Turn.Begin m = record { number = refl; few = λ h. h; ready = λ h. refl }
+  turn_is (Turn.Home b) m = record { number = refl; few = rolled_le b m.rollbacks; ready = λ h. refl }
+  turn_is (Turn.Renew x i) m = record { number = refl; few = λ h. omega arith; ready = λ h. refl }
+  turn_is (Turn.Watch locs) m = record { number = refl; few = λ h. omega arith; ready = λ h. refl }
+  turn_is Turn.Settle m = record { number = refl; few = λ h. h; ready = settled_ready m.standing }
+  turn_is (Turn.Stir l) m = record { number = refl; few = λ h. h; ready = stirred_ready l.0 m.standing }
+
   pub turned_number : (to : Turn M) (m : Member M) → (turned to m).number ≡ m.number
-  turned_number Turn.Begin m = refl
-  turned_number (Turn.Home b) m = refl
-  turned_number (Turn.Renew x i) m = refl
-  turned_number (Turn.Watch locs) m = refl
-  turned_number Turn.Settle m = refl
-  turned_number (Turn.Stir l) m = refl
-
-  pub turned_few : (to : Turn M) (m : Member M) → m.rollbacks ≤ 8 → (turned to m).rollbacks ≤ 8
-  turned_few Turn.Begin m h = h
-  turned_few (Turn.Home b) m h = rolled_le b m.rollbacks h
-  turned_few (Turn.Renew x i) m h = omega arith
-  turned_few (Turn.Watch locs) m h = omega arith
-  turned_few Turn.Settle m h = h
-  turned_few (Turn.Stir l) m h = h
-
-  -- who isn't ready is ready then where the turn says so
-  pub turned_ready : (to : Turn M) (m : Member M) → is_ready m ≡ false → is_ready (turned to m) ≡ is_readied to m
-  turned_ready Turn.Begin m h = refl
-  turned_ready (Turn.Home b) m h = refl
-  turned_ready (Turn.Renew x i) m h = refl
-  turned_ready (Turn.Watch locs) m h = refl
-  turned_ready Turn.Settle m h = settled_ready m.standing h
-  turned_ready (Turn.Stir l) m h = stirred_ready l.0 m.standing h
+  turned_number to m = (turn_is to m).number
 
   -- ---- who is away
   pub away_unready : (m : Member M) → is_away m ≡ true → is_ready m ≡ false
-  away_unready m h = elim (is_ready m) as (λ b. not b ≡ true → b ≡ false) [ true ↦ λ i. absurd (false≢true i) | false ↦ λ i. refl ] h
+  away_unready m h = grind (arith, standing_is m.standing, h)
 
   pub busy_away : (m : Member M) → is_busy m ≡ true → is_away m ≡ true
-  busy_away m = unready (λ s. is_busy (record m { standing = s })) refl m.standing
+  busy_away m h = grind (arith, standing_is m.standing, h)
 
   pub running_away : (m : Member M) → is_running m ≡ true → is_away m ≡ true
-  running_away m = unready (λ s. is_running (record m { standing = s })) refl m.standing
+  running_away m h = grind (arith, standing_is m.standing, h)
 
   pub noted_away : (m : Member M) → is_noted m ≡ true → is_away m ≡ true
-  noted_away m = unready (λ s. is_noted (record m { standing = s })) refl m.standing
+  noted_away m h = grind (arith, standing_is m.standing, h)
 
   pub watching_away : (l : ℕ) (m : Member M) → has l (untouched m.standing) ≡ true → is_away m ≡ true
-  watching_away l m = unready (λ s. has l (untouched s)) refl m.standing
+  watching_away l m h = grind (arith, standing_is m.standing, h)
 
   -- ---- what is watched
   pub ready_untouched : (m : Member M) → is_ready m ≡ true → untouched m.standing ≡ []
-  ready_untouched m = calm (λ s. is_ready (record m { standing = s })) (λ w. refl) (λ locs. refl) m.standing
+  ready_untouched m h = grind (arith, standing_is m.standing, h)
 
   pub running_untouched : (m : Member M) → is_running m ≡ true → untouched m.standing ≡ []
-  running_untouched m = calm (λ s. is_running (record m { standing = s })) (λ w. refl) (λ locs. refl) m.standing
+  running_untouched m h = grind (arith, standing_is m.standing, h)
 
   pub rest_untouched : (m : Member M) → untouched (at_rest m).standing ≡ untouched m.standing
   rest_untouched m = settled_untouched m.standing

@@ -3,7 +3,7 @@ use Rattle.std.proofs.Common.{◌==◌, ◌≡◌, ◌<◌, ◌≤◌, ℕ, suc,
 use Rattle.std.specs.List.{All}
 use Rattle.ame_pool.proofs.Words.{Member, Standing, Watch, IsRising, find, altered, untouched, lists, waits_for, has, touched_by, stirred, stirred_by, is_waiting_for, is_woken_by, woken_by, Roster, IsAt, woken, is_watching, is_woken_at, stirred_at, IsWatched, false≢true, count_by, filter, BTreeSet, nat_tests, append-nil, append_assoc, All-head, All-tail}
 use Rattle.ame_pool.proofs.KeptLemmas.{IsOpen, opened}
-use Rattle.ame_pool.proofs.MemberLemmas.{count_altered, find_number, find_passes, all_found}
+use Rattle.ame_pool.proofs.MemberLemmas.{count_altered, find_number, find_passes, all_found, tells}
 
 module _ (l : ℕ) where
   -- ---- a standing and a write
@@ -57,11 +57,7 @@ module _ {M : Type 0} (l : ℕ) where
       grind (arith, nat_tests, found, twice, map_altered n ms m)
 
   woken_cons : (m : Member M) (ms : List (Member M)) → woken_by l (m ∷ ms) ≡ cond (is_woken_by l m) (m.number ∷ []) [] ++ woken_by l ms
-  woken_cons m ms =
-      elim (is_woken_by l m) as (λ b. map (λ (q : Member M). q.number) (cond b (m ∷ filter (is_woken_by l) ms) (filter (is_woken_by l) ms)) ≡ cond b (m.number ∷ []) [] ++ woken_by l ms) [
-        | true ↦ refl
-        | false ↦ refl
-      ]
+  woken_cons m ms = grind (arith, tells (is_woken_by l m))
 
   woken_altered : (n : ℕ) (ms : List (Member M)) → IsRising ms → (m : Member M) → find n ms ≡ Some m → is_watching l m ≡ true
       → All (λ o. o.number < n → is_watching l o ≡ false) ms
@@ -119,10 +115,7 @@ module _ {M : Type 0} (l : ℕ) where
 
       before : All (λ o. o.number < n → is_watching l o ≡ false) s.members
       before = all_found (λ (o : Member M). o.number < n → is_watching l o ≡ false) s.members h.rising (λ k o at lt.
-          elim (is_watching l o) as (λ b. is_watching l o ≡ b → b ≡ false) [
-            | true ↦ λ e. absurd (omega (arith, lt, find_number k s.members o at, least k (h.indexed l k ∙ ap (waits_for l) at ∙ e)))
-            | false ↦ λ e. refl
-          ] refl)
+          grind (arith, tells (is_watching l o), find_number k s.members o at, least k, h.indexed l k, ap (waits_for l) at, lt))
 
       pub waking_more : woken l (stirred_at l n s) ≡ woken l s
       waking_more =
@@ -137,7 +130,5 @@ module _ {M : Type 0} (l : ℕ) where
       waking_fewer =
           let m = stirring.member in
           let watched : is_watching l m ≡ true = stirring.passes in
-          let one : ◌≡◌ {A = ℕ} (cond (is_watching l m) 1 0) 1 = rw watched refl in
-          let clear : has l (untouched (stirred l m.standing)) ≡ false = ap (has l) (stirred_clears l m.standing watched) in
-          let none : ◌≡◌ {A = ℕ} (cond (is_watching l (stirred_by l m)) 1 0) 0 = rw clear refl in
-          omega (arith, count_altered n (stirred_by l) (is_watching l) s.members m stirring.found, one, none)
+          let clear : is_watching l (stirred_by l m) ≡ false = ap (has l) (stirred_clears l m.standing watched) in
+          grind (arith, count_altered n (stirred_by l) (is_watching l) s.members m stirring.found, watched, clear)

@@ -1,7 +1,7 @@
 use Rattle.std.proofs.Common.{◌==◌, refl, ap, ◌∙◌, arith}
 use Rattle.ame_pool.proofs.Words.{Turn, is_ready, counted, taken, is_inside_at, count_by}
 use Rattle.ame_pool.proofs.OrderLemmas.{order_once, count_filter}
-use Rattle.ame_pool.proofs.CountLemmas.{moved_in}
+use Rattle.ame_pool.proofs.CountLemmas.{ready_counted}
 use Rattle.ame_pool.proofs.KeptLemmas.{opened, few_at, there_turned, read_turned, kept_held}
 use Rattle.ame_pool.proofs.roll.Roll.begin.Goals as goal
 
@@ -20,7 +20,7 @@ invariant_of-self g c =
     let read = read_turned n Turn.Begin c.self.inside.members.list o.member o.found c.member-member.result.now (rw c.turn.ensures.members at c.member-member.ensures) in
     let counts = c.enter.ensures ∙ ap (λ m. counted m c.self.inside.counts) read in
     let queues = c.take.ensures ∙ ap (λ m. taken n m.inside c.self.inside.ready) read in
-    rw (c.turn.ensures.members, queues) (kept_held c.self.invariant n o.member o.found Turn.Begin c.enter.new.self (moved_in o.member _ o.passes _ c.enter.new.self counts) o.passes refl refl)
+    rw (c.turn.ensures.members, queues) (kept_held c.self.invariant n o.member o.found Turn.Begin c.self.inside.counts c.enter.new.self (ready_counted o.member o.passes c.self.inside.counts) counts o.passes refl refl)
 
 pub take-requires-clause-order : goal.take-requires-clause-order
 take-requires-clause-order g c = order_once c.self.inside.members.list c.self.inside.ready.order c.self.invariant.sound c.args.number

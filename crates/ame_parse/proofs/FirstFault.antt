@@ -10,7 +10,7 @@ use Rattle.ame_parse.specs.Input.{Seen, Input, ParseOutcome, place_in}
 use Rattle.ame_parse.specs.Seen.{seen, start_of}
 use Rattle.ame_parse.specs.Reading.{program}
 use Rattle.ame_parse.specs.Fault.{place_of, at_place, lexeme_of, first_lexeme, HasSeenTokens}
-use Rattle.ame_parse.specs.Text.{TextFault, source_by, reading_by, reading}
+use Rattle.ame_parse.specs.Text.{ReadingFault, source_by, reading_by, reading}
 use Rattle.ame_parse.proofs.Locality.{Follows, LocalAt, goes, stops}
 use Rattle.ame_parse.proofs.LocalTerms.{local_program}
 
@@ -80,22 +80,22 @@ stop_of m i fault o (stops {fault = found} before from e place stay) same =
 stop_at : (m : ℕ) (i : Input) (fault : ParseFault) → length i.rest ≤ m → program i ≡ Err fault → Stop m i fault
 stop_at m i fault few e = stop_of m i fault (program i) (local_program m i few) e
 
-syntactic_by : (o : ParseOutcome Tree) (fault : ParseFault) → source_by o ≡ Err (TextFault.Syntactic fault) → o ≡ Err fault
+syntactic_by : (o : ParseOutcome Tree) (fault : ParseFault) → source_by o ≡ Err (ReadingFault.Syntactic fault) → o ≡ Err fault
 syntactic_by (Ok p) fault e = absurd (cc)
 syntactic_by (Err found) fault e = let same : found ≡ fault = cc in ap Err same
 
-fault_of_tokens : (text : Text) (tokens : List Token) (fault : ParseFault) → tokens_of text ≡ Ok tokens → reading text ≡ Err (TextFault.Syntactic fault)
+fault_of_tokens : (text : Text) (tokens : List Token) (fault : ParseFault) → tokens_of text ≡ Ok tokens → reading text ≡ Err (ReadingFault.Syntactic fault)
     → program (start_of text tokens) ≡ Err fault
 unfolding reading
 fault_of_tokens text tokens fault lexed e = syntactic_by (program (start_of text tokens)) fault (sym (ap (reading_by text) lexed) ∙ e)
 
 reading_of_fault : (text : Text) (tokens : List Token) (fault : ParseFault) → tokens_of text ≡ Ok tokens → program (start_of text tokens) ≡ Err fault
-    → reading text ≡ Err (TextFault.Syntactic fault)
+    → reading text ≡ Err (ReadingFault.Syntactic fault)
 unfolding reading
 reading_of_fault text tokens fault lexed e = ap (reading_by text) lexed ∙ ap source_by e
 
 -- a fault stands at a token of the text, or at its end
-pub fault_stands : (text : Text) (all : List Seen) (fault : ParseFault) → HasSeenTokens text all → reading text ≡ Err (TextFault.Syntactic fault)
+pub fault_stands : (text : Text) (all : List Seen) (fault : ParseFault) → HasSeenTokens text all → reading text ≡ Err (ReadingFault.Syntactic fault)
     → (before from : List Seen) × (all ≡ before ++ from) × (place_of fault ≡ place_in (length text) from)
 fault_stands text all fault has e =
     let i = start_of text has.tokens in
@@ -107,9 +107,9 @@ AreInOrder text = (tokens : List Token) → tokens_of text ≡ Ok tokens → InO
 
 -- and stays, wherever the tokens stand and whatever comes after that one
 pub fault_stays : (text other : Text) (before from before' from' : List Seen) (fault : ParseFault) → AreInOrder text
-    → HasSeenTokens text (before ++ from) → reading text ≡ Err (TextFault.Syntactic fault) → place_of fault ≡ place_in (length text) from
+    → HasSeenTokens text (before ++ from) → reading text ≡ Err (ReadingFault.Syntactic fault) → place_of fault ≡ place_in (length text) from
     → HasSeenTokens other (before' ++ from') → map lexeme_of before' ≡ map lexeme_of before → first_lexeme from' ≡ first_lexeme from
-    → reading other ≡ Err (TextFault.Syntactic (at_place (place_in (length other) from') fault))
+    → reading other ≡ Err (ReadingFault.Syntactic (at_place (place_in (length other) from') fault))
 fault_stays text other before from before' from' fault ordered has e place has' same alike =
     let i = start_of text has.tokens in
     let i' = start_of other has'.tokens in

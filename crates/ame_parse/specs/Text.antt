@@ -24,24 +24,24 @@ abbrev pub source_of : Program → Source
 source_of p = record { names = map (λ name. name.items) p.names.items; places = p.places.items; tree = tree_of p.term }
 
 -- why a text is no program: by its bytes, or by its tokens
-pub data TextFault : Type 0 where
-  Lexical : LexFault → TextFault
-  Syntactic : ParseFault → TextFault
+pub data ReadingFault : Type 0 where
+  Lexical : LexFault → ReadingFault
+  Syntactic : ParseFault → ReadingFault
 
-abbrev pub source_by : ParseOutcome Tree → Result Source TextFault
+abbrev pub source_by : ParseOutcome Tree → Result Source ReadingFault
 source_by (Ok (tree, i)) = Ok (record { names = i.names; places = i.places; tree = tree })
-source_by (Err fault) = Err (TextFault.Syntactic fault)
+source_by (Err fault) = Err (ReadingFault.Syntactic fault)
 
-abbrev pub reading_by : Text → Result (List Token) LexFault → Result Source TextFault
+abbrev pub reading_by : Text → Result (List Token) LexFault → Result Source ReadingFault
 reading_by text (Ok tokens) = source_by (program (start_of text tokens))
-reading_by text (Err fault) = Err (TextFault.Lexical fault)
+reading_by text (Err fault) = Err (ReadingFault.Lexical fault)
 
 -- the program of a text, or its first fault; a fault of the bytes comes before all others
-unfoldable pub reading : Text → Result Source TextFault
+unfoldable pub reading : Text → Result Source ReadingFault
 reading text = reading_by text (tokens_of text)
 
 -- what was answered is what is read of the text, unless memory ran out
 abbrev pub AnswersProgram : Text → Result Program ParseFault → Type 0
 AnswersProgram text (Ok program) = reading text ≡ Ok (source_of program)
 AnswersProgram text (Err NoMemory) = ⊤
-AnswersProgram text (Err fault) = reading text ≡ Err (TextFault.Syntactic fault)
+AnswersProgram text (Err fault) = reading text ≡ Err (ReadingFault.Syntactic fault)

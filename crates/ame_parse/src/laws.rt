@@ -7,7 +7,7 @@ ghost use Rattle.ame_parse.specs.declared.fault.ParseFault.{ParseFault};
 ghost use Rattle.ame_parse.specs.Fault.{place_of, at_place, lexeme_of, first_lexeme, HasSeenTokens};
 ghost use Rattle.ame_parse.specs.Grammar.{Spells};
 ghost use Rattle.ame_parse.specs.Input.{Seen, place_in};
-ghost use Rattle.ame_parse.specs.Text.{reading, Source, TextFault};
+ghost use Rattle.ame_parse.specs.Text.{reading, Source, ReadingFault};
 
 use ame_lex::{grammar_is_reading, tokens_lie_within};
 
@@ -28,18 +28,18 @@ pub fn one_program()
 /// A fault of the bytes comes before all others.
 #[tactic(auto, unfolding(crate::specs::Text::reading))]
 pub fn bytes_come_first()
-    ensures { (text : List ℕ) (fault : LexFault) → tokens_of text ≡ Err fault → reading text ≡ Err (TextFault.Lexical fault) }
+    ensures { (text : List ℕ) (fault : LexFault) → tokens_of text ≡ Err fault → reading text ≡ Err (ReadingFault.Lexical fault) }
 {}
 
 /// A fault stands at a token of the text or at its end, and it is the first: each text whose tokens are spelled alike up to that
 /// one, and with it, wherever they stand, has the same fault at that token, so none of them is a program.
 pub fn fault_is_first()
-    ensures stands { (text : List ℕ) (all : List Seen) (fault : ParseFault) → HasSeenTokens text all → reading text ≡ Err (TextFault.Syntactic fault)
+    ensures stands { (text : List ℕ) (all : List Seen) (fault : ParseFault) → HasSeenTokens text all → reading text ≡ Err (ReadingFault.Syntactic fault)
         → (before from : List Seen) × (all ≡ before ++ from) × (place_of fault ≡ place_in (length text) from) }
     ensures stays { (text other : List ℕ) (before from others rest : List Seen) (fault : ParseFault)
-        → HasSeenTokens text (before ++ from) → reading text ≡ Err (TextFault.Syntactic fault) → place_of fault ≡ place_in (length text) from
+        → HasSeenTokens text (before ++ from) → reading text ≡ Err (ReadingFault.Syntactic fault) → place_of fault ≡ place_in (length text) from
         → HasSeenTokens other (others ++ rest) → map lexeme_of others ≡ map lexeme_of before → first_lexeme rest ≡ first_lexeme from
-        → reading other ≡ Err (TextFault.Syntactic (at_place (place_in (length other) rest) fault)) }
+        → reading other ≡ Err (ReadingFault.Syntactic (at_place (place_in (length other) rest) fault)) }
 {
     tokens_lie_within();
 }

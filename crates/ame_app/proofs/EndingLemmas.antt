@@ -3,7 +3,8 @@ use Rattle.std.proofs.Common.{◌≡◌, ℕ, ℤ, List, Option, Some, None, IfS
 use Rattle.ame_term.specs.Tree.{Tree}
 use Rattle.ame_term.specs.State.{State}
 use Rattle.ame_journal.specs.declared.entry.Entry.{Entry}
-use Rattle.ame_journal.specs.Replay.{resting, replay}
+use Rattle.ame_journal.specs.Replayed.{resting}
+use Rattle.ame_journal.specs.Replay.{replay}
 use Rattle.ame_app.specs.declared.ended.Ended.{Ended}
 use Rattle.ame_app.specs.Runs.{AtRest, HaltsAt, HasMembers, IsEmpty, Replays}
 use Rattle.ame_app.specs.Endings.{journal_of, output_of, turns_of, left_of, IsRunOf, IsFinished, IsSpent}

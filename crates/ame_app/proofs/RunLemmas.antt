@@ -2,15 +2,19 @@
 use Rattle.std.proofs.Common.{◌≡◌, ◌≢◌, ℕ, ℤ, List, [], ◌∷◌, ◌++◌, length, take, Some, None, option_and_then, refl, sym, ap, ◌∙◌, subst, arith, append-nil, Bool, true, false, is_none, if◌then◌else◌, Result, Ok, Err, is_err, OnOk}
 use Rattle.std.proofs.Math.Seq.{take-append_seam}
 use Rattle.ame_term.specs.Tree.{Tree}
-use Rattle.ame_term.specs.State.{State, after, at, at_unprotected}
+use Rattle.ame_term.specs.Maps.{at}
+use Rattle.ame_term.specs.State.{State, after, at_unprotected}
 use Rattle.ame_term.specs.Context.{focus}
 use Rattle.ame_term.specs.declared.semantics.StepKind.{StepKind}
 use Rattle.ame_term.specs.declared.semantics.Label.{Label}
 use Rattle.ame_journal.specs.declared.entry.Entry.{Entry}
 use Rattle.ame_journal.specs.declared.entry.EntryKind.{EntryKind}
-use Rattle.ame_journal.specs.Replay.{Replayed, UnderWay, resting, replay, replay_entry, begun}
+use Rattle.ame_journal.specs.Replayed.{Replayed, resting, begun_at}
+use Rattle.ame_journal.specs.UnderWay.{UnderWay}
+use Rattle.ame_journal.specs.Replay.{replay, replay_entry}
 use Rattle.ame_journal.proofs.StepLemmas.{step-keeps, activate-is, end-is}
-use Rattle.ame_journal.proofs.ReplayLemmas.{replay_from-append, UnderWay-ended, UnderWay-cut}
+use Rattle.ame_journal.proofs.ReplayLemmas.{replay_from-one}
+use Rattle.ame_journal.proofs.UnderWayLemmas.{replay-ended, replay-cut}
 use Rattle.ame_strong.specs.Pool.{pool, but, first_number}
 use Rattle.ame_app.specs.Runs.{AddsFew, AtRest, HasMembers, IsEmpty, entry_of}
 
@@ -27,7 +31,7 @@ end-few s i active t e = let same : t.next ≡ s.next = ap (λ u. u.next) (end-i
 pub replay-pushed : (p : Tree) (entries : List Entry) (entry : Entry) (s : State) (r : Replayed) →
     replay p entries ≡ Some (resting s) → replay_entry (resting s) entry ≡ Some r → replay p (entries ++ entry ∷ []) ≡ Some r
 replay-pushed p entries entry s r before last =
-    replay_from-append (begun p) entries entry ∙ ap (λ o. option_and_then (λ t. replay_entry t entry) o) before ∙ last
+    replay_from-one (begun_at p) entries entry ∙ ap (λ o. option_and_then (λ t. replay_entry t entry) o) before ∙ last
 
 -- the state after the end of a fragment
 pub ended-idle : (i : ℕ) (t u : State) → t.active ≡ Some i → after t Label.End ≡ Some u → u.active ≡ None
@@ -38,7 +42,7 @@ pub ended-rests : (p : Tree) (entries : List Entry) (i n : ℕ) (fresh : List �
     AtRest p (entries ++ entry_of EntryKind.Ran i n fresh ∷ []) u (length u.output)
 ended-rests p entries i n fresh s t u before way ends =
     record {
-      replays = replay-pushed p entries (entry_of EntryKind.Ran i n fresh) s (resting u) before (UnderWay-ended s (entry_of EntryKind.Ran i n fresh) t u way ends refl refl);
+      replays = replay-pushed p entries (entry_of EntryKind.Ran i n fresh) s (resting u) before (replay-ended (resting s) (entry_of EntryKind.Ran i n fresh) t way refl refl refl u ends);
       idle = ended-idle i t u way.active ends;
       all_printed = refl;
     }
@@ -47,7 +51,7 @@ pub cut-replays : (p : Tree) (entries : List Entry) (i n : ℕ) (fresh : List �
     replay p entries ≡ Some (resting s) → UnderWay s i n fresh t →
     replay p (entries ++ entry_of EntryKind.Cut i n fresh ∷ []) ≡ Some (resting s)
 cut-replays p entries i n fresh s t before way =
-    replay-pushed p entries (entry_of EntryKind.Cut i n fresh) s (resting s) before (UnderWay-cut s (entry_of EntryKind.Cut i n fresh) t way refl refl)
+    replay-pushed p entries (entry_of EntryKind.Cut i n fresh) s (resting s) before (replay-cut (resting s) (entry_of EntryKind.Cut i n fresh) t way refl refl)
 
 -- what was printed before a fragment
 pub printed-before : (p : Tree) (entries : List Entry) (s t : State) (i n printed : ℕ) (fresh : List ℕ) →

@@ -4,10 +4,9 @@ use Rattle.ame_term.specs.Tree.{Typ, Tree}
 use Rattle.ame_term.specs.Typing.{typing, ref_types, no_cells}
 use Rattle.ame_term.specs.SourceTerm.{IsSourceTerm}
 use Rattle.ame_term.specs.State.{State, start}
-use Rattle.ame_journal.specs.Replay.{begun, resting}
+use Rattle.ame_journal.specs.Replayed.{begun_at, resting}
 use Rattle.ame_journal.proofs.LabelLemmas.{unfold-all, unfolds_all-run}
-use Rattle.ame_soundness.proofs.Started.{started}
-use Rattle.ame_soundness.proofs.Preserved.{preserved_along}
+use Rattle.ame_soundness.proofs.Started.{reached}
 use Rattle.ame_app.specs.declared.ended.Ended.{Ended}
 use Rattle.ame_app.specs.declared.execute.Ending.{Ending}
 use Rattle.ame_app.specs.Endings.{journal_of, left_of, IsRunOf, IsTypedState}
@@ -17,14 +16,13 @@ left-typed : (o : Option State) (s : State) → IfSome o (λ t. t ≡ s) → IsT
 left-typed None s same typed = tt
 left-typed (Some t) s same typed = subst IsTypedState (sym same) typed
 
-module _ (p : Tree) (places : List ℕ) (e : Ended) (typed : typing 0 places p ≡ Ok Typ.Unit) (written : IsSourceTerm p) where
+module _ (p : Tree) (places : List ℕ) (e : Ended) (typed : typing 0 places p ≡ Ok Typ.Unit) (source : IsSourceTerm p) where
   run-typed : IsRunOf p e → IfSome (left_of e) IsTypedState
   run-typed run =
-      let all = unfold-all (begun p) (journal_of e) (resting run.state) run.replays in
-      let ran = unfolds_all-run (begun p) (journal_of e) all.0 (resting run.state) all.1 in
-      let begins = started 0 places p (ref_types 0 places p) (typed, refl) written in
-      let kept = preserved_along 0 all.0 no_cells (start p) run.state begins ran in
-      left-typed (left_of e) run.state run.left (kept.0, kept.2)
+      let all = unfold-all (begun_at p) (journal_of e) (resting run.state) run.replays in
+      let ran = unfolds_all-run (begun_at p) (journal_of e) all.0 (resting run.state) all.1 in
+      let there = reached 0 places p (ref_types 0 places p) all.0 run.state (typed, refl) source ran in
+      left-typed (left_of e) run.state run.left (there.0, there.1)
 
   pub ending-typed : (ending : Ending) → EndsAs p ending e → IfSome (left_of e) IsTypedState
   ending-typed Ending.Finished ends = run-typed ends.run

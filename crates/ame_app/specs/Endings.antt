@@ -4,7 +4,8 @@ use Rattle.ame_term.specs.Tree.{Tree}
 use Rattle.ame_term.specs.State.{State}
 use Rattle.ame_strong.specs.View.{state_of}
 use Rattle.ame_journal.specs.declared.entry.Entry.{Entry}
-use Rattle.ame_journal.specs.Replay.{resting, replay}
+use Rattle.ame_journal.specs.Replayed.{resting}
+use Rattle.ame_journal.specs.Replay.{replay}
 use Rattle.ame_soundness.specs.StoreTyping.{StoreTyping}
 use Rattle.ame_soundness.specs.TypedState.{IsTyped}
 use Rattle.ame_app.specs.declared.ended.Ended.{Ended}

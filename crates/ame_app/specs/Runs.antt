@@ -6,7 +6,8 @@ use Rattle.ame_term.specs.declared.types.Loc.{Loc}
 use Rattle.ame_term.specs.declared.semantics.Label.{Label}
 use Rattle.ame_journal.specs.declared.entry.Entry.{Entry}
 use Rattle.ame_journal.specs.declared.entry.EntryKind.{EntryKind}
-use Rattle.ame_journal.specs.Replay.{Replayed, resting, replay}
+use Rattle.ame_journal.specs.Replayed.{Replayed, resting}
+use Rattle.ame_journal.specs.Replay.{replay}
 
 -- the numbers of locations
 abbrev pub locations_of : List Loc → List ℕ

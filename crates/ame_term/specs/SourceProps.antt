@@ -3,7 +3,7 @@ use Rattle.std.specs.Prelude.{ℕ, List, [], ◌∷◌, true}
 use Rattle.std.specs.Coded.{×_prop, Unit-prop}
 use mathlib.Core.HLevel.{×₃_prop, ⊥_prop}
 use mathlib.Core.Bool.{Bool-set}
-use Rattle.ame_term.specs.Tree.{OwnName, Val, Tree, Trees}
+use Rattle.ame_term.specs.Tree.{Val, Tree, Trees}
 use Rattle.ame_term.specs.SourceTerm.{IsConstant, HasTwo, IsSourceTerm, AreSourceTerms, names_within, is_name_of, IsBound, AllBound, IsClosedValue}
 
 IsConstant-prop : (v : Val) → IsProp (IsConstant v)

@@ -1,7 +1,7 @@
 -- The types of terms. Each row of the table computes a form's type or its first fault. Separation of
 -- protected and unprotected references by effects is after Abadi, Birrell, Harris and Isard (POPL
 -- 2008); the effect that fits both, peeks, pairs and the order of the tests are ours.
-use Rattle.std.specs.Prelude.{◌≡◌, ℕ, ◌+◌, Bool, true, false, ◌&&◌, List, [], ◌∷◌, ◌++◌, Option, Some, None, Result, Ok, Err, slice_index, nat_lt, if◌then◌else◌}
+use Rattle.std.specs.Prelude.{◌≡◌, ℕ, ◌+◌, Bool, true, false, ◌&&◌, List, [], ◌∷◌, ◌++◌, Option, Some, None, Ok, Err, slice_index, nat_lt}
 use Rattle.ame_term.specs.Tree.{Typ, OwnName, Val, Tree, Trees}
 use Rattle.ame_term.specs.Scope.{Scope, unscoped, bind, within}
 use Rattle.ame_term.specs.SourceTerm.{nodes}

@@ -3,6 +3,7 @@ pub mod Replayed
 pub mod Labels
 pub mod Replay
 pub mod UnderWay
+pub mod Totals
 pub mod Kinds
 pub mod Text
 pub mod Words

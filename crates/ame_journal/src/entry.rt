@@ -2,7 +2,8 @@
 
 ghost use Rattle.std.specs.Prelude.{◌≡◌};
 
-use ame_term::Locs;
+use ame_term::{Copied, Locs, NoMemory};
+use std::alloc::Global;
 
 /// What an entry is.
 #[derive(Clone, Copy, PartialEq, Eq, Debug)]
@@ -21,6 +22,7 @@ pub enum EntryKind {
 
 impl EntryKind {
     ghost use Rattle.ame_journal.specs.Kinds.{kind_word};
+    ghost use Rattle.ame_journal.specs.Totals as spec;
 
     /// The word for a kind in a journal's text.
     pub fn word(self) -> &'static [u8]
@@ -32,6 +34,16 @@ impl EntryKind {
             EntryKind::Stuck => b"stuck",
             EntryKind::Cut => b"cut",
             EntryKind::Tall => b"tall",
+        }
+    }
+
+    /// Whether entries of this kind are notes, which change nothing.
+    pub fn is_note(self) -> bool
+        ensures { result ≡ spec.is_note self }
+    {
+        match self {
+            EntryKind::Ran | EntryKind::Free => false,
+            EntryKind::Stuck | EntryKind::Cut | EntryKind::Tall => true,
         }
     }
 }
@@ -46,4 +58,30 @@ pub struct Entry {
     pub steps: u64,
     pub fresh: Locs,
     pub answer: Option<i64>,
+}
+
+impl Copied for Entry {
+    ghost use Rattle.std.specs.Prelude.{refl};
+    ghost use Rattle.std.proofs.Common.{sym, ◌∙◌};
+
+    ghost same = { λ x y. x ≡ y };
+
+    ghost reflexive = { λ x. refl };
+
+    ghost symmetric = { λ x y e. sym e };
+
+    ghost transitive = { λ x y z e f. e ∙ f };
+
+    fn copy(&self, alloc: Global) -> Result<Entry, NoMemory> {
+        let mut fresh = Vec::new(alloc);
+        fresh.extend_from_slice(self.fresh.as_slice())?;
+        Ok(Entry {
+            kind: self.kind,
+            seat: self.seat,
+            number: self.number,
+            steps: self.steps,
+            fresh: Locs::from_vec(fresh),
+            answer: self.answer,
+        })
+    }
 }

@@ -132,24 +132,24 @@ mutual
 
 -- ---- one step, by what comes next
 
-closing_at : (i : Input) → ahead i ≡ a.Closing → closing i ≡ Ok (tt, advanced i)
+pub closing_at : (i : Input) → ahead i ≡ a.Closing → closing i ≡ Ok (tt, advanced i)
 unfolding closing
 closing_at i e = ap (λ z. closing_by z i) e
 
-name_at : (i : Input) → ahead i ≡ a.Name → name i ≡ Ok (name_number i, named i)
+pub name_at : (i : Input) → ahead i ≡ a.Name → name i ≡ Ok (name_number i, named i)
 unfolding name
 name_at i e = ap (λ z. name_by z i) e
 
-opening_at : (n : ℕ) (i : Input) → ahead i ≡ a.Opening → opening (suc n) i ≡ Ok (tt, advanced i)
+pub opening_at : (n : ℕ) (i : Input) → ahead i ≡ a.Opening → opening (suc n) i ≡ Ok (tt, advanced i)
 unfolding opening
 opening_at n i e = ap (λ z. opening_by (suc n) z i) e ∙ ap (λ b. cond {A = Parser (Unit {0})} b (λ i. Err (TooNested (place i))) advance i) (eqb-suc-zero n)
 
-sort_at : (i : Input) (s : Sort) → IsSort i s → sort i ≡ Ok (s, advanced i)
+pub sort_at : (i : Input) (s : Sort) → IsSort i s → sort i ≡ Ok (s, advanced i)
 unfolding sort sort_of
 sort_at i s (IsSort.protected e) = ap (λ z. sort_by (sort_of z) i) e
 sort_at i s (IsSort.unprotected e) = ap (λ z. sort_by (sort_of z) i) e
 
-effect_at : (i : Input) (q : Effect) → IsEffect i q → effect_word i ≡ Ok (q, advanced i)
+pub effect_at : (i : Input) (q : Effect) → IsEffect i q → effect_word i ≡ Ok (q, advanced i)
 unfolding effect_word effect_named
 effect_at i q (IsEffect.protected e) = ap (λ z. effect_by (effect_named z) i) e
 effect_at i q (IsEffect.unprotected e) = ap (λ z. effect_by (effect_named z) i) e
@@ -158,7 +158,7 @@ effect_at i q (IsEffect.either e) = ap (λ z. effect_by (effect_named z) i) e
 below_test : (n m : ℕ) → n < m → nat_lt n m ≡ true
 below_test n m h = grind (arith, nat_tests)
 
-device_at : (i : Input) (d : ℕ) → ahead i ≡ a.Number (pos d) → d < 256 → device i ≡ Ok (d, advanced i)
+pub device_at : (i : Input) (d : ℕ) → ahead i ≡ a.Number (pos d) → d < 256 → device i ≡ Ok (d, advanced i)
 unfolding device device_of
 device_at i d e small = ap (λ z. device_by (device_of z) i) e ∙ ap (λ b. device_by (cond b (Some d) None) i) (below_test d 256 small)
 
@@ -171,15 +171,15 @@ op_at s o g.equals = refl
 
 -- ---- types
 
-ty_at : (n : ℕ) (i : Input) (next : Ahead) → ahead i ≡ next → ty n i ≡ t.ty_by (t.nested n) next i
+pub ty_at : (n : ℕ) (i : Input) (next : Ahead) → ahead i ≡ next → ty n i ≡ t.ty_by (t.nested n) next i
 unfolding ty
 ty_at n i next e = ap (λ z. t.ty_by (t.nested n) z i) e
 
-nested_ty_at : (n : ℕ) (i : Input) → t.nested (suc n) i ≡ t.compound (ty n) (advanced i)
+pub nested_ty_at : (n : ℕ) (i : Input) → t.nested (suc n) i ≡ t.compound (ty n) (advanced i)
 unfolding t.nested ty
 nested_ty_at n i = refl
 
-compound_ty_at : (part : Parser Typ) (i : Input) (next : Ahead) → ahead i ≡ next → t.compound part i ≡ t.compound_by part next i
+pub compound_ty_at : (part : Parser Typ) (i : Input) (next : Ahead) → ahead i ≡ next → t.compound part i ≡ t.compound_by part next i
 unfolding t.compound
 compound_ty_at part i next e = ap (λ z. t.compound_by part z i) e
 
@@ -210,7 +210,7 @@ mutual
   type_form_reads (g.pair_type {n = n} {i = i} {j = j} {k = k} e h h' shut) =
       compound_ty_at (ty n) i _ e ∙ pair_type_reads (ty n) (advanced i) j k _ _ (type_reads h) (type_reads h') shut
 
-one_from : (n : ℕ) → suc n - 1 ≡ n
+pub one_from : (n : ℕ) → suc n - 1 ≡ n
 one_from n = omega arith
 
 param_reads : {n : ℕ} {i j : Input} {x : ℕ} {type : Typ} → IsParam n i x type j → param n i ≡ Ok ((x, type), j)
@@ -220,7 +220,7 @@ param_reads (g.param {n = n} {i = i} {j = j} e e' h shut) =
 
 -- ---- terms
 
-ahead_marked : (i : Input) → ahead (marked i) ≡ ahead i
+pub ahead_marked : (i : Input) → ahead (marked i) ≡ ahead i
 unfolding ahead marked
 ahead_marked i = refl
 
@@ -240,11 +240,11 @@ pub atom_at : (i : Input) (next : Ahead) → ahead i ≡ next → atom (marked i
 unfolding atom
 atom_at i next e = ap (λ z. atom_by z (marked i)) (ahead_marked i ∙ e)
 
-nested_at : (n : ℕ) (i : Input) → nested (suc n) i ≡ compound (term n) (param n) (ty n) (advanced i)
+pub nested_at : (n : ℕ) (i : Input) → nested (suc n) i ≡ compound (term n) (param n) (ty n) (advanced i)
 unfolding nested term
 nested_at n i = refl
 
-compound_at : (part : Parser Tree) (parameter : Parser (ℕ × Typ)) (type : Parser Typ) (i : Input) (next : Ahead) → ahead i ≡ next
+pub compound_at : (part : Parser Tree) (parameter : Parser (ℕ × Typ)) (type : Parser Typ) (i : Input) (next : Ahead) → ahead i ≡ next
     → compound part parameter type i ≡ form_by part parameter type (opener_of next) i
 unfolding compound
 compound_at part parameter type i next e = ap (λ z. form_by part parameter type (opener_of z) i) e

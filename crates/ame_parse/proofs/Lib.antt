@@ -14,3 +14,4 @@ pub mod NameLemmas
 pub mod ReaderLemmas
 pub mod TreeLemmas
 pub mod Turns
+pub mod Failing

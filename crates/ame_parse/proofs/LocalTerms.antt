@@ -101,7 +101,7 @@ none_left_in : (rest : List Seen) → length rest ≤ 0 → ahead_in rest ≡ a.
 none_left_in [] few = refl
 none_left_in (token ∷ rest) few = absurd (omega arith)
 
-none_left : (i : Input) → tokens_left i ≤ 0 → ahead i ≡ a.End
+pub none_left : (i : Input) → tokens_left i ≤ 0 → ahead i ≡ a.End
 unfolding tokens_left ahead
 none_left i few = none_left_in i.rest few
 

@@ -197,7 +197,7 @@ unfolding t.pair
 pair_type_reads part i j k x y read read' shut = rw read (rw read' (rw (closing_at k shut)))
 
 mutual
-  type_reads : {n : ℕ} {i j : Input} {type : Typ} → IsType n i type j → ty n i ≡ Ok (type, j)
+  pub type_reads : {n : ℕ} {i j : Input} {type : Typ} → IsType n i type j → ty n i ≡ Ok (type, j)
   type_reads (g.unit_type {n = n} {i = i} e) = ty_at n i _ e
   type_reads (g.bool_type {n = n} {i = i} e) = ty_at n i _ e
   type_reads (g.int_type {n = n} {i = i} e) = ty_at n i _ e
@@ -213,7 +213,7 @@ mutual
 pub one_from : (n : ℕ) → suc n - 1 ≡ n
 one_from n = omega arith
 
-param_reads : {n : ℕ} {i j : Input} {x : ℕ} {type : Typ} → IsParam n i x type j → param n i ≡ Ok ((x, type), j)
+pub param_reads : {n : ℕ} {i j : Input} {x : ℕ} {type : Typ} → IsParam n i x type j → param n i ≡ Ok ((x, type), j)
 unfolding param
 param_reads (g.param {n = n} {i = i} {j = j} e e' h shut) =
     rw (opening_at n i e) (rw (name_at (advanced i) e') (rw (one_from n) (rw (type_reads h) (rw (closing_at j shut)))))
@@ -338,7 +338,7 @@ more_ends : (part : Parser Tree) (m : ℕ) (found : List Tree) (i : Input) → a
 unfolding more_from sees_closing
 more_ends part m found i e = ap (λ z. cond {A = Parser (List Tree)} (is_closing z) (λ i. Ok (found, i)) (λ i. and_then (part i) (λ x. more_from part m (found ++ x ∷ []))) i) e
 
-more_goes_on : (part : Parser Tree) (m : ℕ) (found : List Tree) (i j : Input) (x : Tree) → is_closing (ahead i) ≡ false → part i ≡ Ok (x, j)
+pub more_goes_on : (part : Parser Tree) (m : ℕ) (found : List Tree) (i j : Input) (x : Tree) → is_closing (ahead i) ≡ false → part i ≡ Ok (x, j)
     → more_from part (suc m) found i ≡ more_from part m (found ++ x ∷ []) j
 unfolding more_from sees_closing
 more_goes_on part m found i j x open_ read =
@@ -347,7 +347,7 @@ more_goes_on part m found i j x open_ read =
 
 -- ---- the words and symbols
 
-unary_at : (part : Parser Tree) (parameter : Parser (ℕ × Typ)) (type : Parser Typ) (i : Input) {word : Word} {op : Unary} → IsUnary word op
+pub unary_at : (part : Parser Tree) (parameter : Parser (ℕ × Typ)) (type : Parser Typ) (i : Input) {word : Word} {op : Unary} → IsUnary word op
     → form_by part parameter type (opener_of (a.Reserved word)) i ≡ alone part (Tree.One op) (advanced i)
 unfolding opener_of
 unary_at part parameter type i g.negation = refl
@@ -358,7 +358,7 @@ unary_at part parameter type i g.print = refl
 unary_at part parameter type i g.fst = refl
 unary_at part parameter type i g.snd = refl
 
-binary_at : (part : Parser Tree) (parameter : Parser (ℕ × Typ)) (type : Parser Typ) (i : Input) {next : Ahead} {op : Binary} → IsBinary next op
+pub binary_at : (part : Parser Tree) (parameter : Parser (ℕ × Typ)) (type : Parser Typ) (i : Input) {next : Ahead} {op : Binary} → IsBinary next op
     → form_by part parameter type (opener_of next) i ≡ two part op (advanced i)
 unfolding opener_of
 binary_at part parameter type i g.app = refl

@@ -79,13 +79,13 @@ shut_pure y i = shut (pure y) i (λ fault e. cc)
 
 -- ---- names, sorts, effects and device numbers
 
-sort_is : (i : Input) (s : Sort) → sort i ≡ Ok (s, advanced i) → IsSort i s
+pub sort_is : (i : Input) (s : Sort) → sort i ≡ Ok (s, advanced i) → IsSort i s
 sort_is i s e = leads_sort (λ z. pure z) (λ z j. IsSort i z) i (λ z is. leads_pure z (advanced i) (λ z j. IsSort i z) is) s (advanced i) (ap (λ o. and_then o (λ z. pure z)) e)
 
-effect_is : (i : Input) (q : Effect) → effect_word i ≡ Ok (q, advanced i) → IsEffect i q
+pub effect_is : (i : Input) (q : Effect) → effect_word i ≡ Ok (q, advanced i) → IsEffect i q
 effect_is i q e = leads_effect (λ z. pure z) (λ z j. IsEffect i z) i (λ z is. leads_pure z (advanced i) (λ z j. IsEffect i z) is) q (advanced i) (ap (λ o. and_then o (λ z. pure z)) e)
 
-device_is : (i : Input) (d : ℕ) → device i ≡ Ok (d, advanced i) → IsDevice i d
+pub device_is : (i : Input) (d : ℕ) → device i ≡ Ok (d, advanced i) → IsDevice i d
 device_is i d e = leads_device (λ z. pure z) (λ z j. IsDevice i z) i (λ z is. leads_pure z (advanced i) (λ z j. IsDevice i z) is) d (advanced i) (ap (λ o. and_then o (λ z. pure z)) e)
 
 module _ {B : Type 0} (pieces : List Piece) where
@@ -195,14 +195,14 @@ ty_stops n = ty_stops_of n (nested_type_stops n)
 
 -- ---- parameters
 
-abbrev param_rest : ℕ → Parser (ℕ × Typ)
+abbrev pub param_rest : ℕ → Parser (ℕ × Typ)
 param_rest n = name >>= (λ y. ty n >>= (λ type. closing >> pure (y, type)))
 
-param_by : (n : ℕ) (i : Input) (next : Ahead) → ahead i ≡ next → param n i ≡ (opening_by n next >> param_rest (n - 1)) i
+pub param_by : (n : ℕ) (i : Input) (next : Ahead) → ahead i ≡ next → param n i ≡ (opening_by n next >> param_rest (n - 1)) i
 unfolding param opening
 param_by n i next e = ap (λ z. and_then (opening_by n z i) (λ _. param_rest (n - 1))) e
 
-param_open : (n : ℕ) (i : Input) → ahead i ≡ a.Opening → param (suc n) i ≡ param_rest n (advanced i)
+pub param_open : (n : ℕ) (i : Input) → ahead i ≡ a.Opening → param (suc n) i ≡ param_rest n (advanced i)
 unfolding param
 param_open n i e = rw (opening_at n i e) (rw (one_from n) refl)
 
@@ -224,7 +224,7 @@ param_stops_by n i next e fault read =
 param_stops : (n : ℕ) (i : Input) → Stops (param n) i (Fails (Piece.Param n) i)
 param_stops n i = param_stops_by n i (ahead i) refl
 
-param_number : {n : ℕ} {i j : Input} {y : ℕ} {type : Typ} → IsParam n i y type j → y ≡ name_number (advanced i)
+pub param_number : {n : ℕ} {i j : Input} {y : ℕ} {type : Typ} → IsParam n i y type j → y ≡ name_number (advanced i)
 param_number (g.param e e' h closes) = refl
 
 on_param : {B : Type 0} (n : ℕ) (pieces : List Piece) (f : ℕ × Typ → Parser B) (i : Input)
@@ -409,10 +409,10 @@ constant_stops n i w.False e fault read = absurd (cc)
 constant_stops n i w.Yield e fault read = absurd (cc)
 constant_stops n i _ e fault read = no_term_at n i (ap begins_term e) fault (cc)
 
-abbrev tested : Input → Bool → ParseOutcome Tree
+abbrev pub tested : Input → Bool → ParseOutcome Tree
 tested i b = cond b (Ok (Tree.Var (name_number (marked i)), named (marked i))) (Err (UnknownName (place (marked i))))
 
-variable_at : (i : Input) → ahead i ≡ a.Name → variable (marked i) ≡ tested i (binds_name (name_number (marked i)) (named (marked i)))
+pub variable_at : (i : Input) → ahead i ≡ a.Name → variable (marked i) ≡ tested i (binds_name (name_number (marked i)) (named (marked i)))
 unfolding variable
 variable_at i e = rw (name_at (marked i) (ahead_marked i ∙ e)) refl
 

@@ -15,3 +15,4 @@ pub mod ReaderLemmas
 pub mod TreeLemmas
 pub mod Turns
 pub mod Failing
+pub mod Faulty

@@ -32,9 +32,9 @@ pub fn bytes_come_first()
     ensures { (text : List ℕ) (fault : LexFault) → tokens_of text ≡ Err fault → reading text ≡ Err (TextFault.Lexical fault) }
 {}
 
-/// A fault that is read of a text is one that the table of what is expected gives it.
+/// The fault that is read of the tokens of a text is the one that the table of what is expected gives it.
 pub fn fault_is_expected()
-    ensures { (text : List ℕ) (fault : ParseFault) → reading text ≡ Err (TextFault.Syntactic fault) → Faults text fault }
+    ensures { (text : List ℕ) (fault : ParseFault) → Faults text fault ↔ (reading text ≡ Err (TextFault.Syntactic fault)) }
 {
     grammar_is_reading();
 }

@@ -132,24 +132,24 @@ mutual
 
 -- ---- one step, by what comes next
 
-closing_at : (i : Input) → ahead i ≡ a.Closing → closing i ≡ Ok (tt, advanced i)
+pub closing_at : (i : Input) → ahead i ≡ a.Closing → closing i ≡ Ok (tt, advanced i)
 unfolding closing
 closing_at i e = ap (λ z. closing_by z i) e
 
-name_at : (i : Input) → ahead i ≡ a.Name → name i ≡ Ok (name_number i, named i)
+pub name_at : (i : Input) → ahead i ≡ a.Name → name i ≡ Ok (name_number i, named i)
 unfolding name
 name_at i e = ap (λ z. name_by z i) e
 
-opening_at : (n : ℕ) (i : Input) → ahead i ≡ a.Opening → opening (suc n) i ≡ Ok (tt, advanced i)
+pub opening_at : (n : ℕ) (i : Input) → ahead i ≡ a.Opening → opening (suc n) i ≡ Ok (tt, advanced i)
 unfolding opening
 opening_at n i e = ap (λ z. opening_by (suc n) z i) e ∙ ap (λ b. cond {A = Parser (Unit {0})} b (λ i. Err (TooNested (place i))) advance i) (eqb-suc-zero n)
 
-sort_at : (i : Input) (s : Sort) → IsSort i s → sort i ≡ Ok (s, advanced i)
+pub sort_at : (i : Input) (s : Sort) → IsSort i s → sort i ≡ Ok (s, advanced i)
 unfolding sort sort_of
 sort_at i s (IsSort.protected e) = ap (λ z. sort_by (sort_of z) i) e
 sort_at i s (IsSort.unprotected e) = ap (λ z. sort_by (sort_of z) i) e
 
-effect_at : (i : Input) (q : Effect) → IsEffect i q → effect_word i ≡ Ok (q, advanced i)
+pub effect_at : (i : Input) (q : Effect) → IsEffect i q → effect_word i ≡ Ok (q, advanced i)
 unfolding effect_word effect_named
 effect_at i q (IsEffect.protected e) = ap (λ z. effect_by (effect_named z) i) e
 effect_at i q (IsEffect.unprotected e) = ap (λ z. effect_by (effect_named z) i) e
@@ -158,7 +158,7 @@ effect_at i q (IsEffect.either e) = ap (λ z. effect_by (effect_named z) i) e
 below_test : (n m : ℕ) → n < m → nat_lt n m ≡ true
 below_test n m h = grind (arith, nat_tests)
 
-device_at : (i : Input) (d : ℕ) → ahead i ≡ a.Number (pos d) → d < 256 → device i ≡ Ok (d, advanced i)
+pub device_at : (i : Input) (d : ℕ) → ahead i ≡ a.Number (pos d) → d < 256 → device i ≡ Ok (d, advanced i)
 unfolding device device_of
 device_at i d e small = ap (λ z. device_by (device_of z) i) e ∙ ap (λ b. device_by (cond b (Some d) None) i) (below_test d 256 small)
 
@@ -171,15 +171,15 @@ op_at s o g.equals = refl
 
 -- ---- types
 
-ty_at : (n : ℕ) (i : Input) (next : Ahead) → ahead i ≡ next → ty n i ≡ t.ty_by (t.nested n) next i
+pub ty_at : (n : ℕ) (i : Input) (next : Ahead) → ahead i ≡ next → ty n i ≡ t.ty_by (t.nested n) next i
 unfolding ty
 ty_at n i next e = ap (λ z. t.ty_by (t.nested n) z i) e
 
-nested_ty_at : (n : ℕ) (i : Input) → t.nested (suc n) i ≡ t.compound (ty n) (advanced i)
+pub nested_ty_at : (n : ℕ) (i : Input) → t.nested (suc n) i ≡ t.compound (ty n) (advanced i)
 unfolding t.nested ty
 nested_ty_at n i = refl
 
-compound_ty_at : (part : Parser Typ) (i : Input) (next : Ahead) → ahead i ≡ next → t.compound part i ≡ t.compound_by part next i
+pub compound_ty_at : (part : Parser Typ) (i : Input) (next : Ahead) → ahead i ≡ next → t.compound part i ≡ t.compound_by part next i
 unfolding t.compound
 compound_ty_at part i next e = ap (λ z. t.compound_by part z i) e
 
@@ -197,7 +197,7 @@ unfolding t.pair
 pair_type_reads part i j k x y read read' shut = rw read (rw read' (rw (closing_at k shut)))
 
 mutual
-  type_reads : {n : ℕ} {i j : Input} {type : Typ} → IsType n i type j → ty n i ≡ Ok (type, j)
+  pub type_reads : {n : ℕ} {i j : Input} {type : Typ} → IsType n i type j → ty n i ≡ Ok (type, j)
   type_reads (g.unit_type {n = n} {i = i} e) = ty_at n i _ e
   type_reads (g.bool_type {n = n} {i = i} e) = ty_at n i _ e
   type_reads (g.int_type {n = n} {i = i} e) = ty_at n i _ e
@@ -210,17 +210,17 @@ mutual
   type_form_reads (g.pair_type {n = n} {i = i} {j = j} {k = k} e h h' shut) =
       compound_ty_at (ty n) i _ e ∙ pair_type_reads (ty n) (advanced i) j k _ _ (type_reads h) (type_reads h') shut
 
-one_from : (n : ℕ) → suc n - 1 ≡ n
+pub one_from : (n : ℕ) → suc n - 1 ≡ n
 one_from n = omega arith
 
-param_reads : {n : ℕ} {i j : Input} {x : ℕ} {type : Typ} → IsParam n i x type j → param n i ≡ Ok ((x, type), j)
+pub param_reads : {n : ℕ} {i j : Input} {x : ℕ} {type : Typ} → IsParam n i x type j → param n i ≡ Ok ((x, type), j)
 unfolding param
 param_reads (g.param {n = n} {i = i} {j = j} e e' h shut) =
     rw (opening_at n i e) (rw (name_at (advanced i) e') (rw (one_from n) (rw (type_reads h) (rw (closing_at j shut)))))
 
 -- ---- terms
 
-ahead_marked : (i : Input) → ahead (marked i) ≡ ahead i
+pub ahead_marked : (i : Input) → ahead (marked i) ≡ ahead i
 unfolding ahead marked
 ahead_marked i = refl
 
@@ -240,11 +240,11 @@ pub atom_at : (i : Input) (next : Ahead) → ahead i ≡ next → atom (marked i
 unfolding atom
 atom_at i next e = ap (λ z. atom_by z (marked i)) (ahead_marked i ∙ e)
 
-nested_at : (n : ℕ) (i : Input) → nested (suc n) i ≡ compound (term n) (param n) (ty n) (advanced i)
+pub nested_at : (n : ℕ) (i : Input) → nested (suc n) i ≡ compound (term n) (param n) (ty n) (advanced i)
 unfolding nested term
 nested_at n i = refl
 
-compound_at : (part : Parser Tree) (parameter : Parser (ℕ × Typ)) (type : Parser Typ) (i : Input) (next : Ahead) → ahead i ≡ next
+pub compound_at : (part : Parser Tree) (parameter : Parser (ℕ × Typ)) (type : Parser Typ) (i : Input) (next : Ahead) → ahead i ≡ next
     → compound part parameter type i ≡ form_by part parameter type (opener_of next) i
 unfolding compound
 compound_at part parameter type i next e = ap (λ z. form_by part parameter type (opener_of z) i) e
@@ -338,7 +338,7 @@ more_ends : (part : Parser Tree) (m : ℕ) (found : List Tree) (i : Input) → a
 unfolding more_from sees_closing
 more_ends part m found i e = ap (λ z. cond {A = Parser (List Tree)} (is_closing z) (λ i. Ok (found, i)) (λ i. and_then (part i) (λ x. more_from part m (found ++ x ∷ []))) i) e
 
-more_goes_on : (part : Parser Tree) (m : ℕ) (found : List Tree) (i j : Input) (x : Tree) → is_closing (ahead i) ≡ false → part i ≡ Ok (x, j)
+pub more_goes_on : (part : Parser Tree) (m : ℕ) (found : List Tree) (i j : Input) (x : Tree) → is_closing (ahead i) ≡ false → part i ≡ Ok (x, j)
     → more_from part (suc m) found i ≡ more_from part m (found ++ x ∷ []) j
 unfolding more_from sees_closing
 more_goes_on part m found i j x open_ read =
@@ -347,7 +347,7 @@ more_goes_on part m found i j x open_ read =
 
 -- ---- the words and symbols
 
-unary_at : (part : Parser Tree) (parameter : Parser (ℕ × Typ)) (type : Parser Typ) (i : Input) {word : Word} {op : Unary} → IsUnary word op
+pub unary_at : (part : Parser Tree) (parameter : Parser (ℕ × Typ)) (type : Parser Typ) (i : Input) {word : Word} {op : Unary} → IsUnary word op
     → form_by part parameter type (opener_of (a.Reserved word)) i ≡ alone part (Tree.One op) (advanced i)
 unfolding opener_of
 unary_at part parameter type i g.negation = refl
@@ -358,7 +358,7 @@ unary_at part parameter type i g.print = refl
 unary_at part parameter type i g.fst = refl
 unary_at part parameter type i g.snd = refl
 
-binary_at : (part : Parser Tree) (parameter : Parser (ℕ × Typ)) (type : Parser Typ) (i : Input) {next : Ahead} {op : Binary} → IsBinary next op
+pub binary_at : (part : Parser Tree) (parameter : Parser (ℕ × Typ)) (type : Parser Typ) (i : Input) {next : Ahead} {op : Binary} → IsBinary next op
     → form_by part parameter type (opener_of next) i ≡ two part op (advanced i)
 unfolding opener_of
 binary_at part parameter type i g.app = refl

@@ -84,7 +84,7 @@ syntactic_by : (o : ParseOutcome Tree) (fault : ParseFault) → source_by o ≡ 
 syntactic_by (Ok p) fault e = absurd (cc)
 syntactic_by (Err found) fault e = let same : found ≡ fault = cc in ap Err same
 
-fault_of_tokens : (text : Text) (tokens : List Token) (fault : ParseFault) → tokens_of text ≡ Ok tokens → reading text ≡ Err (ReadingFault.Syntactic fault)
+pub fault_of_tokens : (text : Text) (tokens : List Token) (fault : ParseFault) → tokens_of text ≡ Ok tokens → reading text ≡ Err (ReadingFault.Syntactic fault)
     → program (start_of text tokens) ≡ Err fault
 unfolding reading
 fault_of_tokens text tokens fault lexed e = syntactic_by (program (start_of text tokens)) fault (sym (ap (reading_by text) lexed) ∙ e)

@@ -14,3 +14,5 @@ pub mod NameLemmas
 pub mod ReaderLemmas
 pub mod TreeLemmas
 pub mod Turns
+pub mod Failing
+pub mod Faulty

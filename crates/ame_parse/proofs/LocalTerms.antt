@@ -94,25 +94,25 @@ place_marked : (i : Input) → place (marked i) ≡ place i
 unfolding place marked
 place_marked i = refl
 
-no_term_at_end : (n : ℕ) (i : Input) → ahead i ≡ a.End → term n i ≡ Err (Expected (place i) want.Term)
+pub no_term_at_end : (n : ℕ) (i : Input) → ahead i ≡ a.End → term n i ≡ Err (Expected (place i) want.Term)
 no_term_at_end n i e = term_at n i a.End e ∙ atom_at i a.End e ∙ ap (λ p. Err (Expected p want.Term)) (place_marked i)
 
 none_left_in : (rest : List Seen) → length rest ≤ 0 → ahead_in rest ≡ a.End
 none_left_in [] few = refl
 none_left_in (token ∷ rest) few = absurd (omega arith)
 
-none_left : (i : Input) → tokens_left i ≤ 0 → ahead i ≡ a.End
+pub none_left : (i : Input) → tokens_left i ≤ 0 → ahead i ≡ a.End
 unfolding tokens_left ahead
 none_left i few = none_left_in i.rest few
 
-more_stops : (part : Parser Tree) (k : ℕ) (so_far : List Tree) (i : Input) (fault : ParseFault) → is_closing (ahead i) ≡ false → part i ≡ Err fault
+pub more_stops : (part : Parser Tree) (k : ℕ) (so_far : List Tree) (i : Input) (fault : ParseFault) → is_closing (ahead i) ≡ false → part i ≡ Err fault
     → more_from part (suc k) so_far i ≡ Err fault
 unfolding more_from sees_closing
 more_stops part k so_far i fault open_ read =
     ap (λ z. cond {A = Parser (List Tree)} z (λ i. Ok (so_far, i)) (λ i. and_then (part i) (λ x. more_from part k (so_far ++ x ∷ []))) i) open_
     ∙ ap (λ o. and_then o (λ x. more_from part k (so_far ++ x ∷ []))) read
 
-no_turns : (part : Parser Tree) (so_far : List Tree) (i : Input) → more_from part zero so_far i ≡ Err (Expected (place i) want.Term)
+pub no_turns : (part : Parser Tree) (so_far : List Tree) (i : Input) → more_from part zero so_far i ≡ Err (Expected (place i) want.Term)
 unfolding more_from
 no_turns part so_far i = refl
 

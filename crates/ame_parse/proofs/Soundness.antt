@@ -51,7 +51,7 @@ module _ (n : ℕ) (part : Parser Tree) (gives : (i : Input) → Leads part i (I
 
   -- ---- `do`
 
-  abbrev LeadsParts : (List Tree → Parser (List Tree)) → Type 0
+  abbrev pub LeadsParts : (List Tree → Parser (List Tree)) → Type 0
   LeadsParts rest = (found : List Tree) (i : Input) → Leads (rest found) i (λ all k. (others : List Tree) × (found ++ others ≡ all) × AreParts n i others k)
 
   more_leads_by : (rest : List Tree → Parser (List Tree)) → LeadsParts rest → (found : List Tree) (i : Input) (ends : Bool) → is_closing (ahead i) ≡ ends
@@ -62,7 +62,7 @@ module _ (n : ℕ) (part : Parser Tree) (gives : (i : Input) → Leads part i (I
       (λ x j first all k e. let others = h (found ++ x ∷ []) j all k e in
       (x ∷ others.0, sym (append_assoc found (x ∷ []) others.0) ∙ others.1, g.more first others.2))
 
-  more_leads : (m : ℕ) → LeadsParts (more_from part m)
+  pub more_leads : (m : ℕ) → LeadsParts (more_from part m)
   unfolding more_from sees_closing
   more_leads zero found i = λ all k e. absurd (cc)
   more_leads (suc m) found i = more_leads_by (more_from part m) (more_leads m) found i (is_closing (ahead i)) refl

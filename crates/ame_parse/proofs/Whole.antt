@@ -40,7 +40,7 @@ unfolding program
 program_reads i j tree t e = rw (term_reads t) (rw (finish_at j e))
 
 -- the tokens of a text are what it is by their grammar
-abbrev LexesAsRead : Text → Type 0
+abbrev pub LexesAsRead : Text → Type 0
 LexesAsRead text = (outcome : Result (List Token) LexFault) → Lexes 0 text outcome ↔ (tokens_of text ≡ outcome)
 
 pub spelled_is_read : (text : Text) (source : Source) → LexesAsRead text → Spells text source → reading text ≡ Ok source

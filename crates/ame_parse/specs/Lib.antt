@@ -10,3 +10,4 @@ pub mod Reading
 pub mod Fault
 pub mod Text
 pub mod Grammar
+pub mod Expected

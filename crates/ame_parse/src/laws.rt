@@ -4,6 +4,7 @@ ghost use Rattle.std.specs.Prelude.{◌≡◌, ◌↔◌, ◌++◌, ℕ, List, l
 ghost use Rattle.ame_lex.specs.declared.tokens.LexFault.{LexFault};
 ghost use Rattle.ame_lex.specs.Reading.{tokens_of};
 ghost use Rattle.ame_parse.specs.declared.fault.ParseFault.{ParseFault};
+ghost use Rattle.ame_parse.specs.Expected.{Faults};
 ghost use Rattle.ame_parse.specs.Fault.{place_of, at_place, lexeme_of, first_lexeme, HasSeenTokens};
 ghost use Rattle.ame_parse.specs.Grammar.{Spells};
 ghost use Rattle.ame_parse.specs.Input.{Seen, place_in};
@@ -30,6 +31,13 @@ pub fn one_program()
 pub fn bytes_come_first()
     ensures { (text : List ℕ) (fault : LexFault) → tokens_of text ≡ Err fault → reading text ≡ Err (ReadingFault.Lexical fault) }
 {}
+
+/// The fault that is read of the tokens of a text is the one that the table of what is expected gives it.
+pub fn fault_is_expected()
+    ensures { (text : List ℕ) (fault : ParseFault) → Faults text fault ↔ (reading text ≡ Err (ReadingFault.Syntactic fault)) }
+{
+    grammar_is_reading();
+}
 
 /// A fault stands at a token of the text or at its end, and it is the first: each text whose tokens are spelled alike up to that
 /// one, and with it, wherever they stand, has the same fault at that token, so none of them is a program.

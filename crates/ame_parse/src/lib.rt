@@ -15,7 +15,7 @@ mod ty;
 mod words;
 
 pub use fault::{ParseFault, Want};
-pub use laws::{bytes_come_first, fault_is_first, one_program, spelled_is_read};
+pub use laws::{bytes_come_first, fault_is_expected, fault_is_first, one_program, spelled_is_read};
 pub use parser::parse;
 
 #[cfg(test)]

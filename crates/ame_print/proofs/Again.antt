@@ -1,17 +1,17 @@
 -- Parts that are read again where their names are among all, and what is to be read is good.
-use Rattle.std.proofs.Common.{◌≡◌, ◌∙◌, ℕ, suc, List, ◌∷◌, ◌++◌}
+use Rattle.std.proofs.Common.{◌≡◌, ◌∙◌, subst, ℕ, suc, List, ◌∷◌, ◌++◌}
 use Rattle.std.specs.List.{AllByRecursion}
 use Rattle.ame_lex.specs.Bytes.{Text}
 use Rattle.ame_term.specs.Tree.{Tree}
 use Rattle.ame_parse.specs.declared.ahead.Ahead.{Ahead}
 use Rattle.ame_parse.specs.declared.ahead.Ahead.TheVariants as a
-use Rattle.ame_parse.specs.Input.{Input, ahead, after, marked, number, named, bound, unbound}
+use Rattle.ame_parse.specs.Input.{Input, ahead, advanced, marked, name_number, named, bound, unbound}
 use Rattle.ame_parse.specs.Grammar.{IsTerm, IsForm}
-use Rattle.ame_print.specs.Layout.{Printed, opening, closing}
+use Rattle.ame_print.specs.Layout.{Printed, open_token, close_token}
 use Rattle.ame_print.specs.Tokens.{form, name_token}
 use Rattle.ame_print.proofs.Canon.{IsLike, IsGood, IsFirstOf}
 use Rattle.ame_print.proofs.Growth.{Grows, first_of_first, grows_after, grows_named}
-use Rattle.ame_print.proofs.Alone.{IsFixed, name_fixed}
+use Rattle.ame_print.proofs.Alone.{IsFixed, IsNameToken, name_fixed}
 use Rattle.ame_print.proofs.Parts as parts
 use Rattle.ame_print.proofs.Parts.{Part, Moves, Begun, Both, Shut, moves_after, moves_unbound, moves_named, number_like}
 
@@ -33,27 +33,27 @@ pub record Again (all : List Text) (tokens : List Printed) (P : Input → Input 
 -- ---- steps
 
 pub step : {all : List Text} {token : Printed} {next : Ahead} {tokens : List Printed} {P : Input → Input → Type 0} {j : Input} (i : Input) → IsFixed token next
-    → Again all tokens P (after i) j → Again all (token ∷ tokens) (Begun token next after P) i j
+    → Again all tokens P (advanced i) j → Again all (token ∷ tokens) (Begun token next advanced P) i j
 step {token = token} i fixed again =
     let here = adds (grows_after i) in
     record { adds = over here again.adds; part = λ good first. parts.begun fixed (moves_after token i) (again.part (here.good good) first) }
 
--- a name, and then a part
-pub record Named (i : Input) (P : Input → Input → Type 0) (i' j' : Input) : Type 0 where
+-- a name of this number, and then a part
+pub record Named (own : ℕ) (P : Input → Input → Type 0) (i' j' : Input) : Type 0 where
   pub is : ahead i' ≡ a.Name
-  pub same : number i' ≡ number i
+  pub same : name_number i' ≡ own
   pub then : P (named i') j'
 
-pub name_step : {all : List Text} {tokens : List Printed} {P : Input → Input → Type 0} {j : Input} (i : Input) → ahead i ≡ a.Name
-    → Again all tokens P (named i) j → Again all (name_token all (number i) ∷ tokens) (Named i P) i j
-name_step {all} i e again =
+pub name_step : {all : List Text} {tokens : List Printed} {P : Input → Input → Type 0} {own : ℕ} {j : Input} (i : Input) → ahead i ≡ a.Name → name_number i ≡ own
+    → Again all tokens P (named i) j → Again all (name_token all own ∷ tokens) (Named own P) i j
+name_step {all} i e same again =
     let here = adds (grows_named i) in
     record {
       adds = over here again.adds;
       part = λ good first.
-          let name = name_fixed i all e good (first_of_first (again.adds).names first) in
+          let name = subst (λ x. IsNameToken (name_token all x) i) same (name_fixed i all e good (first_of_first (again.adds).names first)) in
           parts.mapped (parts.begun name.fixed (moves_named i name.bytes) (again.part (here.good good) first))
-          (λ i' j' like r. record { is = r.is; same = number_like i i' like (r.spelt ∙ name.bytes); then = r.then });
+          (λ i' j' like r. record { is = r.is; same = number_like i i' like (r.spelt ∙ name.bytes) ∙ same; then = r.then });
     }
 
 pub joined : {all : List Text} {xs ys : List Printed} {P Q : Input → Input → Type 0} {i j k : Input} → Again all xs P i j → Again all ys Q j k → Again all (xs ++ ys) (Both P Q) i k
@@ -76,8 +76,8 @@ mapped p f = record { adds = p.adds; part = λ good first. parts.mapped (p.part 
 pub regrouped : {all : List Text} {xs ys : List Printed} {P : Input → Input → Type 0} {i j : Input} → xs ≡ ys → Again all xs P i j → Again all ys P i j
 regrouped e p = record { adds = p.adds; part = λ good first. parts.regrouped e (p.part good first) }
 
-pub before : {all : List Text} {tokens : List Printed} {P : Input → Input → Type 0} {j : Input} (i : Input) → Again all tokens P (after (marked i)) j → Again all tokens P i j
-unfolding after marked
+pub before : {all : List Text} {tokens : List Printed} {P : Input → Input → Type 0} {j : Input} (i : Input) → Again all tokens P (advanced (marked i)) j → Again all tokens P i j
+unfolding advanced marked
 before i p = record {
   adds = record { names = (p.adds).names; good = λ h. (p.adds).good ((adds (grows_after (marked i))).good h) };
   part = λ good first. parts.before i (p.part ((adds (grows_after (marked i))).good good) first);
@@ -87,11 +87,11 @@ before i p = record {
 
 -- what a closing parenthesis leads to
 pub record Ends (step : Input → Input) (j k : Input) : Type 0 where
-  pub moves : Moves closing step j k
+  pub moves : Moves close_token step j k
   pub adds : Adds j k
 
-pub ends : (j : Input) → Ends after j (after j)
-ends j = record { moves = moves_after closing j; adds = adds (grows_after j) }
+pub ends : (j : Input) → Ends advanced j (advanced j)
+ends j = record { moves = moves_after close_token j; adds = adds (grows_after j) }
 
 pub ends_unbound : {step : Input → Input} {j k : Input} → Ends step j k → Ends (λ i. unbound (step i)) j (unbound k)
 unfolding unbound
@@ -106,5 +106,5 @@ formed e p rule = record {
 
 -- the same where the closing parenthesis is in the part
 pub formed_shut : {all : List Text} {n : ℕ} {tree : Tree} {tokens : List Printed} {step : Input → Input} {P : Input → Input → Type 0} {i j : Input} → Again all tokens (Shut step P) i j
-    → ((i' j' : Input) → IsLike i i' → P i' j' → ahead j' ≡ a.Closing → IsForm n i' tree (step j')) → Again all (opening ∷ tokens) (λ i' j'. IsTerm (suc n) i' tree j') i j
+    → ((i' j' : Input) → IsLike i i' → P i' j' → ahead j' ≡ a.Closing → IsForm n i' tree (step j')) → Again all (open_token ∷ tokens) (λ i' j'. IsTerm (suc n) i' tree j') i j
 formed_shut p rule = record { adds = p.adds; part = λ good first. parts.shut_part (p.part good first) rule }

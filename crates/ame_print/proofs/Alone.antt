@@ -13,28 +13,30 @@ use Rattle.ame_term.specs.declared.types.Sort.TheVariants as sorts
 use Rattle.ame_term.specs.declared.types.Effect.{Effect}
 use Rattle.ame_term.specs.declared.types.Effect.TheVariants as effects
 use Rattle.ame_term.specs.declared.types.Op.{Op}
+use Rattle.ame_term.specs.declared.types.Unary.{Unary}
+use Rattle.ame_term.specs.declared.types.Binary.{Binary}
 use Rattle.ame_parse.specs.declared.words.Word.{Word}
 use Rattle.ame_parse.specs.declared.words.Word.TheVariants as w
 use Rattle.ame_parse.specs.declared.ahead.Ahead.{Ahead}
 use Rattle.ame_parse.specs.declared.ahead.Ahead.TheVariants as a
 use Rattle.ame_parse.specs.Input.{Seen, Input, ahead_of_word, ahead_of, ahead_in, ahead, spelling_in, spelling, named}
-use Rattle.ame_parse.specs.Input.{number as number_of}
+use Rattle.ame_parse.specs.Input.{name_number as number_of}
 use Rattle.ame_parse.specs.Names.{number_in}
 use Rattle.ame_parse.specs.Words.{word_of}
-use Rattle.ame_parse.specs.Grammar.{IsSort, IsEffect, IsOp}
-use Rattle.ame_print.specs.Layout.{Printed, opening, closing, word, number, symbol}
-use Rattle.ame_print.specs.Tokens.{sort_token, effect_token, op_token, name_token}
+use Rattle.ame_parse.specs.Grammar.{IsSort, IsEffect, IsOp, IsUnary, IsBinary}
+use Rattle.ame_print.specs.Layout.{Printed, open_token, close_token, word, number_token, symbol}
+use Rattle.ame_print.specs.Tokens.{sort_token, effect_token, op_token, unary_tokens, binary_token, name_token}
 use Rattle.ame_print.proofs.Canon.{IsAlone, IsGood, IsFirstOf}
 use Rattle.ame_print.proofs.Numbers.{ends_number}
 use Rattle.ame_print.proofs.Names.{spelled_at}
 
 -- ---- by the bytes
 
-pub opening_alone : IsAlone opening
+pub opening_alone : IsAlone open_token
 unfolding class_of
 opening_alone rest apart = lex.opening refl
 
-pub closing_alone : IsAlone closing
+pub closing_alone : IsAlone close_token
 unfolding class_of
 closing_alone rest apart = lex.closing refl
 
@@ -55,10 +57,10 @@ pub record IsFixed (token : Printed) (next : Ahead) : Type 0 where
   pub alone : IsAlone token
   pub is : ahead_of token.kind token.bytes ≡ next
 
-pub opening_fixed : IsFixed opening a.Opening
+pub opening_fixed : IsFixed open_token a.Opening
 opening_fixed = record { alone = opening_alone; is = refl }
 
-pub closing_fixed : IsFixed closing a.Closing
+pub closing_fixed : IsFixed close_token a.Closing
 closing_fixed = record { alone = closing_alone; is = refl }
 
 -- ---- reserved words
@@ -90,44 +92,44 @@ text_alone (first ∷ more) e =
     let h = both_true (is_letter (class_of first)) (list_all is_word_byte more) e in
     word_alone first more (letter_class (class_of first) h.0) (all_pass more h.1)
 
-abbrev pub spelled : Word → Text
-spelled w.Unit = codes "unit"
-spelled w.True = codes "true"
-spelled w.False = codes "false"
-spelled w.Yield = codes "yield"
-spelled w.Fn = codes "fn"
-spelled w.Rec = codes "rec"
-spelled w.App = codes "app"
-spelled w.Let = codes "let"
-spelled w.Do = codes "do"
-spelled w.If = codes "if"
-spelled w.Not = codes "not"
-spelled w.Ref = codes "ref"
-spelled w.Get = codes "get"
-spelled w.Set = codes "set"
-spelled w.Async = codes "async"
-spelled w.BlockUntil = codes "blockUntil"
-spelled w.Unprotected = codes "unprotected"
-spelled w.Print = codes "print"
-spelled w.Call = codes "call"
-spelled w.Peek = codes "peek"
-spelled w.Pair = codes "pair"
-spelled w.Fst = codes "fst"
-spelled w.Snd = codes "snd"
-spelled w.UnitType = codes "Unit"
-spelled w.BoolType = codes "Bool"
-spelled w.IntType = codes "Int"
-spelled w.RefType = codes "Ref"
-spelled w.FunType = codes "Fun"
-spelled w.PairType = codes "Pair"
+abbrev pub word_text : Word → Text
+word_text w.Unit = codes "unit"
+word_text w.True = codes "true"
+word_text w.False = codes "false"
+word_text w.Yield = codes "yield"
+word_text w.Fn = codes "fn"
+word_text w.Rec = codes "rec"
+word_text w.App = codes "app"
+word_text w.Let = codes "let"
+word_text w.Do = codes "do"
+word_text w.If = codes "if"
+word_text w.Not = codes "not"
+word_text w.Ref = codes "ref"
+word_text w.Get = codes "get"
+word_text w.Set = codes "set"
+word_text w.Async = codes "async"
+word_text w.BlockUntil = codes "blockUntil"
+word_text w.Unprotected = codes "unprotected"
+word_text w.Print = codes "print"
+word_text w.Call = codes "call"
+word_text w.Peek = codes "peek"
+word_text w.Pair = codes "pair"
+word_text w.Fst = codes "fst"
+word_text w.Snd = codes "snd"
+word_text w.UnitType = codes "Unit"
+word_text w.BoolType = codes "Bool"
+word_text w.IntType = codes "Int"
+word_text w.RefType = codes "Ref"
+word_text w.FunType = codes "Fun"
+word_text w.PairType = codes "Pair"
 
-spelled_is : (which : Word) → (is_word_text (spelled which) ≡ true) × (word_of (spelled which) ≡ Some which)
+spelled_is : (which : Word) → (is_word_text (word_text which) ≡ true) × (word_of (word_text which) ≡ Some which)
 unfolding class_of word_of
 spelled_is w.Unit = (refl, refl)
 spelled_is _ = (refl, refl)
 
-pub reserved : (which : Word) → IsFixed (word (spelled which)) (a.Reserved which)
-reserved which = record { alone = text_alone (spelled which) (spelled_is which).0; is = ap ahead_of_word (spelled_is which).1 }
+pub reserved : (which : Word) → IsFixed (word (word_text which)) (a.Reserved which)
+reserved which = record { alone = text_alone (word_text which) (spelled_is which).0; is = ap ahead_of_word (spelled_is which).1 }
 
 -- ---- effects, sorts and operators
 
@@ -178,11 +180,28 @@ op_fixed IsOp.star = record { alone = operator_alone 42 refl; is = refl }
 op_fixed IsOp.less = record { alone = operator_alone 60 refl; is = refl }
 op_fixed IsOp.equals = record { alone = operator_alone 61 refl; is = refl }
 
+-- ---- the words and symbols of forms with one part and with two
+
+pub unary_word : {word_ : Word} {op : Unary} → IsUnary word_ op → word (word_text word_) ∷ [] ≡ unary_tokens op
+unary_word IsUnary.negation = refl
+unary_word IsUnary.get = refl
+unary_word IsUnary.peek = refl
+unary_word IsUnary.block_until = refl
+unary_word IsUnary.print = refl
+unary_word IsUnary.fst = refl
+unary_word IsUnary.snd = refl
+
+pub binary_fixed : {next : Ahead} {op : Binary} → IsBinary next op → IsFixed (binary_token op) next
+binary_fixed IsBinary.app = reserved w.App
+binary_fixed IsBinary.set = reserved w.Set
+binary_fixed IsBinary.pair = reserved w.Pair
+binary_fixed (IsBinary.operation is) = op_fixed is
+
 -- ---- tokens that were read
 
 number_by : (kind_ : Kind) (place : ℕ) (bytes : Text) (value : ℤ) → ahead_of kind_ bytes ≡ a.Number value → IsGood (record { place = place; kind = kind_; spelling = bytes })
-    → IsAlone (number value)
-number_by (kind.Number other) place bytes value e good = let same : other ≡ value = cc in subst (λ v. IsAlone (number v)) same good
+    → IsAlone (number_token value)
+number_by (kind.Number other) place bytes value e good = let same : other ≡ value = cc in subst (λ v. IsAlone (number_token v)) same good
 number_by kind.Word place bytes value e good = absurd (no_number (word_of bytes) e)
   where
     no_number : (found : Option Word) → ahead_of_word found ≡ a.Number value → ⊥
@@ -190,12 +209,12 @@ number_by kind.Word place bytes value e good = absurd (no_number (word_of bytes)
     no_number None e = cc
 number_by _ place bytes value e good = absurd (cc)
 
-number_in_rest : (rest : List Seen) (value : ℤ) → ahead_in rest ≡ a.Number value → AllByRecursion IsGood rest → IsAlone (number value)
+number_in_rest : (rest : List Seen) (value : ℤ) → ahead_in rest ≡ a.Number value → AllByRecursion IsGood rest → IsAlone (number_token value)
 number_in_rest [] value e good = absurd (cc)
 number_in_rest (seen ∷ rest) value e good = number_by seen.kind seen.place seen.spelling value e good.0
 
 -- a number that comes next
-pub number_fixed : (i : Input) (value : ℤ) → ahead i ≡ a.Number value → AllByRecursion IsGood i.rest → IsFixed (number value) (a.Number value)
+pub number_fixed : (i : Input) (value : ℤ) → ahead i ≡ a.Number value → AllByRecursion IsGood i.rest → IsFixed (number_token value) (a.Number value)
 unfolding ahead
 number_fixed i value e good = record { alone = number_in_rest i.rest value e good; is = refl }
 

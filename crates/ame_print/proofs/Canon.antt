@@ -7,7 +7,7 @@ use Rattle.ame_lex.specs.declared.tokens.Kind.TheVariants as kind
 use Rattle.ame_term.specs.Tree.{Tree}
 use Rattle.ame_parse.specs.Input.{Seen, Input}
 use Rattle.ame_parse.specs.Grammar.{IsTerm}
-use Rattle.ame_print.specs.Layout.{Printed, is_opening, word, number}
+use Rattle.ame_print.specs.Layout.{Printed, is_open_kind, word, number_token}
 use Rattle.ame_print.specs.Tokens.{term_tokens}
 use Rattle.std.specs.List.{AllByRecursion}
 
@@ -20,7 +20,7 @@ tokens_of seen = map token_of seen
 
 -- the bytes are this token by the grammar, before whatever can't belong to it
 abbrev pub IsAlone : Printed → Type 0
-IsAlone token = (rest : Text) → (is_opening token.kind ≡ false → begins is_word_byte rest ≡ false) → IsToken (token.bytes ++ rest) token.kind token.bytes rest
+IsAlone token = (rest : Text) → (is_open_kind token.kind ≡ false → begins is_word_byte rest ≡ false) → IsToken (token.bytes ++ rest) token.kind token.bytes rest
 
 -- the same of a token that was read, or of its canonical spelling
 abbrev pub IsGood : Seen → Type 0
@@ -28,7 +28,7 @@ IsGood seen = elim seen.kind [
   | kind.Open ↦ ⊤
   | kind.Close ↦ ⊤
   | kind.Word ↦ IsAlone (word seen.spelling)
-  | kind.Number value ↦ IsAlone (number value)
+  | kind.Number value ↦ IsAlone (number_token value)
   | kind.Symbol byte ↦ ⊤
 ]
 

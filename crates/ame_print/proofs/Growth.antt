@@ -4,11 +4,11 @@ use Rattle.std.specs.List.{list_any, AllByRecursion}
 use Rattle.std.specs.Str.{bytes_eq}
 use Rattle.std.proofs.Math.Seq.{take-append_seam}
 use Rattle.ame_lex.specs.Bytes.{Text}
-use Rattle.ame_term.specs.Tree.{Typ, Tree}
-use Rattle.ame_parse.specs.Input.{Seen, Input, after, marked, number, spelling, named, bound, unbound}
+use Rattle.ame_term.specs.Tree.{Typ, Head, Tree}
+use Rattle.ame_parse.specs.Input.{Seen, Input, advanced, marked, spelling, named, bound, unbound}
 use Rattle.ame_parse.specs.Names.{with_name}
 use Rattle.ame_parse.specs.Grammar as g
-use Rattle.ame_parse.specs.Grammar.{IsType, IsTypeForm, IsParam, IsTerm, IsForm, AreParts}
+use Rattle.ame_parse.specs.Grammar.{IsType, IsTypeForm, IsParam, IsHead, outside, IsTerm, IsForm, AreParts}
 use Rattle.ame_print.proofs.Canon.{IsFirstOf, IsGood}
 
 -- ---- first names
@@ -42,8 +42,8 @@ good_later : (rest : List Seen) → AllByRecursion IsGood rest → AllByRecursio
 good_later [] h = h
 good_later (token ∷ rest) h = h.1
 
-pub grows_after : (i : Input) → Grows i (after i)
-unfolding after
+pub grows_after : (i : Input) → Grows i (advanced i)
+unfolding advanced
 grows_after i = record { names = first_itself i.names; scope = refl; good = good_later i.rest }
 
 pub grows_marked : (i : Input) → Grows i (marked i)
@@ -72,15 +72,15 @@ mutual
   type_grows (g.type_form {i = i} e form) = grows_after i ▸ type_form_grows form
 
   pub type_form_grows : {n : ℕ} {i j : Input} {type : Typ} → IsTypeForm n i type j → Grows i j
-  type_form_grows (g.ref_type {i = i} {j = j} e s h shut) = grows_after i ▸ grows_after (after i) ▸ type_grows h ▸ grows_after j
-  type_form_grows (g.fun_type {i = i} {k = k} e s h h' shut) = grows_after i ▸ grows_after (after i) ▸ type_grows h ▸ type_grows h' ▸ grows_after k
+  type_form_grows (g.ref_type {i = i} {j = j} e s h shut) = grows_after i ▸ grows_after (advanced i) ▸ type_grows h ▸ grows_after j
+  type_form_grows (g.fun_type {i = i} {k = k} e s h h' shut) = grows_after i ▸ grows_after (advanced i) ▸ type_grows h ▸ type_grows h' ▸ grows_after k
   type_form_grows (g.pair_type {i = i} {k = k} e h h' shut) = grows_after i ▸ type_grows h ▸ type_grows h' ▸ grows_after k
 
 pub param_grows : {n : ℕ} {i j : Input} {x : ℕ} {type : Typ} → IsParam n i x type j → Grows i j
-param_grows (g.param {i = i} {j = j} e e' h shut) = grows_after i ▸ grows_named (after i) ▸ type_grows h ▸ grows_after j
+param_grows (g.param {i = i} {j = j} e e' h shut) = grows_after i ▸ grows_named (advanced i) ▸ type_grows h ▸ grows_after j
 
-names_after : (i : Input) → (after i).names ≡ i.names
-unfolding after
+names_after : (i : Input) → (advanced i).names ≡ i.names
+unfolding advanced
 names_after i = refl
 
 -- a type has no names
@@ -92,11 +92,17 @@ mutual
   type_names (g.type_form {i = i} e form) = type_form_names form ∙ names_after i
 
   type_form_names : {n : ℕ} {i j : Input} {type : Typ} → IsTypeForm n i type j → j.names ≡ i.names
-  type_form_names (g.ref_type {i = i} {j = j} e s h shut) = names_after j ∙ type_names h ∙ names_after (after i) ∙ names_after i
-  type_form_names (g.fun_type {i = i} {k = k} e s h h' shut) = names_after k ∙ type_names h' ∙ type_names h ∙ names_after (after i) ∙ names_after i
+  type_form_names (g.ref_type {i = i} {j = j} e s h shut) = names_after j ∙ type_names h ∙ names_after (advanced i) ∙ names_after i
+  type_form_names (g.fun_type {i = i} {k = k} e s h h' shut) = names_after k ∙ type_names h' ∙ type_names h ∙ names_after (advanced i) ∙ names_after i
   type_form_names (g.pair_type {i = i} {k = k} e h h' shut) = names_after k ∙ type_names h' ∙ type_names h ∙ names_after i
 
 -- ---- terms
+
+-- what grows from the names of a head, and loses them
+head_grows : {n : ℕ} {i j k : Input} {head : Head} → IsHead n i head j → Grows j k → Grows i (outside head.own k)
+head_grows (g.fn {i = i} {j = j} {x = x} e q p) more = grows_after i ▸ grows_after (advanced i) ▸ param_grows p ▸ grows_unbound x j more
+head_grows (g.rec {own = own} {i = i} {k = k} {x = x} e q e' same p t) more =
+    grows_after i ▸ grows_after (advanced i) ▸ grows_named (advanced (advanced i)) ▸ param_grows p ▸ type_grows t ▸ grows_unbound own k (grows_unbound x (bound own k) more)
 
 mutual
   pub term_grows : {n : ℕ} {i j : Input} {tree : Tree} → IsTerm n i tree j → Grows i j
@@ -109,31 +115,17 @@ mutual
   term_grows (g.form {i = i} e form) = grows_marked i ▸ grows_after (marked i) ▸ form_grows form
 
   pub form_grows : {n : ℕ} {i j : Input} {tree : Tree} → IsForm n i tree j → Grows i j
-  form_grows (g.fn {i = i} {j = j} {k = k} {x = x} e q p body shut) =
-      grows_after i ▸ grows_after (after i) ▸ param_grows p ▸ grows_unbound x j (term_grows body ▸ grows_after k)
-  form_grows (g.rec {i = i} {j = j} {k = k} {l = l} {x = x} e q e' p t body shut) =
-      let own = number (after (after i)) in
-      let inner = grows_unbound own k (grows_unbound x (bound own k) (term_grows body ▸ grows_after l)) in
-      grows_after i ▸ grows_after (after i) ▸ grows_named (after (after i)) ▸ param_grows p ▸ type_grows t ▸ inner
-  form_grows (g.app {i = i} {k = k} e h h' shut) = grows_after i ▸ term_grows h ▸ term_grows h' ▸ grows_after k
-  form_grows (g.bind {i = i} {j = j} {k = k} e e' h h' shut) =
-      grows_after i ▸ grows_named (after i) ▸ term_grows h ▸ grows_unbound (number (after i)) j (term_grows h' ▸ grows_after k)
+  form_grows (g.function {k = k} h body shut) = head_grows h (term_grows body ▸ grows_after k)
+  form_grows (g.binding {x = x} {i = i} {j = j} {k = k} e e' same h h' shut) =
+      grows_after i ▸ grows_named (advanced i) ▸ term_grows h ▸ grows_unbound x j (term_grows h' ▸ grows_after k)
   form_grows (g.sequence {i = i} {l = l} e h h' others shut) = grows_after i ▸ term_grows h ▸ term_grows h' ▸ parts_grow others ▸ grows_after l
   form_grows (g.choice {i = i} {l = l} e h h' h'' shut) = grows_after i ▸ term_grows h ▸ term_grows h' ▸ term_grows h'' ▸ grows_after l
-  form_grows (g.operation {i = i} {k = k} e o h h' shut) = grows_after i ▸ term_grows h ▸ term_grows h' ▸ grows_after k
-  form_grows (g.negation {i = i} {j = j} e h shut) = grows_after i ▸ term_grows h ▸ grows_after j
-  form_grows (g.ref {i = i} {j = j} e s h shut) = grows_after i ▸ grows_after (after i) ▸ term_grows h ▸ grows_after j
-  form_grows (g.get {i = i} {j = j} e h shut) = grows_after i ▸ term_grows h ▸ grows_after j
-  form_grows (g.peek {i = i} {j = j} e h shut) = grows_after i ▸ term_grows h ▸ grows_after j
-  form_grows (g.set {i = i} {k = k} e h h' shut) = grows_after i ▸ term_grows h ▸ term_grows h' ▸ grows_after k
+  form_grows (g.one {i = i} {j = j} e is h shut) = grows_after i ▸ term_grows h ▸ grows_after j
+  form_grows (g.ref {i = i} {j = j} e s h shut) = grows_after i ▸ grows_after (advanced i) ▸ term_grows h ▸ grows_after j
+  form_grows (g.call {i = i} {j = j} e d small h shut) = grows_after i ▸ grows_after (advanced i) ▸ term_grows h ▸ grows_after j
+  form_grows (g.two {i = i} {k = k} e is h h' shut) = grows_after i ▸ term_grows h ▸ term_grows h' ▸ grows_after k
   form_grows (g.async {i = i} {j = j} e h shut) = grows_after i ▸ term_grows h ▸ grows_after j
-  form_grows (g.block_until {i = i} {j = j} e h shut) = grows_after i ▸ term_grows h ▸ grows_after j
   form_grows (IsForm.unprotected {i = i} {j = j} e h shut) = grows_after i ▸ term_grows h ▸ grows_after j
-  form_grows (g.print {i = i} {j = j} e h shut) = grows_after i ▸ term_grows h ▸ grows_after j
-  form_grows (g.call {i = i} {j = j} e d small h shut) = grows_after i ▸ grows_after (after i) ▸ term_grows h ▸ grows_after j
-  form_grows (g.pair {i = i} {k = k} e h h' shut) = grows_after i ▸ term_grows h ▸ term_grows h' ▸ grows_after k
-  form_grows (g.fst {i = i} {j = j} e h shut) = grows_after i ▸ term_grows h ▸ grows_after j
-  form_grows (g.snd {i = i} {j = j} e h shut) = grows_after i ▸ term_grows h ▸ grows_after j
 
   pub parts_grow : {n : ℕ} {i k : Input} {others : List Tree} → AreParts n i others k → Grows i k
   parts_grow (g.none {i = i} e) = record { names = first_itself i.names; scope = refl; good = λ h. h }

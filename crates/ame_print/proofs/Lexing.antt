@@ -8,9 +8,9 @@ use Rattle.ame_lex.specs.declared.tokens.Token.{Token}
 use Rattle.ame_lex.specs.Bytes.{Text, class_of, continues_word, is_word_byte, begins}
 use Rattle.ame_lex.specs.Grammar as grammar
 use Rattle.ame_lex.specs.Grammar.{IsToken, Lexes}
-use Rattle.ame_lex.specs.Reading.{Outcome, token_at}
+use Rattle.ame_lex.specs.Reading.{LexOutcome, token_at}
 use Rattle.ame_parse.specs.Seen.{seen, start_of}
-use Rattle.ame_print.specs.Layout.{Printed, is_opening, is_closing, gap, layout}
+use Rattle.ame_print.specs.Layout.{Printed, is_open_kind, is_close_kind, gap, layout}
 use Rattle.ame_print.proofs.Canon.{token_of, tokens_of, IsAlone}
 
 -- the text behind `before` has tokens, which are these
@@ -26,13 +26,13 @@ unfolding class_of
 space_is_blank = refl
 
 -- what the space of a gap stands before is lexed behind it
-behind_gap : (none : Bool) (at : ℕ) (bytes more : Text) (outcome : Outcome) → Lexes (at + length {A = ℕ} (cond none [] (32 ∷ []))) (bytes ++ more) outcome
+behind_gap : (none : Bool) (at : ℕ) (bytes more : Text) (outcome : LexOutcome) → Lexes (at + length {A = ℕ} (cond none [] (32 ∷ []))) (bytes ++ more) outcome
     → Lexes at (cond none [] (32 ∷ []) ++ bytes ++ more) outcome
 behind_gap true at bytes more outcome l = subst (λ k. Lexes k (bytes ++ more) outcome) (add-zero at) l
 behind_gap false at bytes more outcome l = grammar.blank space_is_blank l
 
 -- a closing parenthesis begins with no byte of a word
-closing_ends : {kind : Kind} {text spelling rest : Text} (more : Text) → IsToken text kind spelling rest → is_closing kind ≡ true → begins is_word_byte (spelling ++ more) ≡ false
+closing_ends : {kind : Kind} {text spelling rest : Text} (more : Text) → IsToken text kind spelling rest → is_close_kind kind ≡ true → begins is_word_byte (spelling ++ more) ≡ false
 closing_ends more (grammar.opening e) is = (cc)
 closing_ends more (grammar.closing e) is = ap continues_word e
 closing_ends more (grammar.word e run) is = (cc)
@@ -40,7 +40,7 @@ closing_ends more (grammar.number n fit alone) is = (cc)
 closing_ends more (grammar.symbol e) is = (cc)
 closing_ends more (grammar.minus e alone) is = (cc)
 
-gap_ends : (none : Bool) (token : Printed) (more : Text) → IsAlone token → is_closing token.kind ≡ none → begins is_word_byte (cond none [] (32 ∷ []) ++ token.bytes ++ more) ≡ false
+gap_ends : (none : Bool) (token : Printed) (more : Text) → IsAlone token → is_close_kind token.kind ≡ none → begins is_word_byte (cond none [] (32 ∷ []) ++ token.bytes ++ more) ≡ false
 unfolding class_of
 gap_ends true token more alone is = closing_ends more (alone [] (λ e. refl)) is
 gap_ends false token more alone is = refl
@@ -49,7 +49,7 @@ gap_ends false token more alone is = refl
 layout_ends : (is_first : Bool) (tokens : List Printed) → AllByRecursion IsAlone tokens → is_first ≡ false → begins is_word_byte (layout is_first tokens) ≡ false
 layout_ends is_first [] alone e = refl
 layout_ends is_first (token ∷ rest) alone e =
-    subst (λ b. begins is_word_byte (layout b (token ∷ rest)) ≡ false) (sym e) (gap_ends (is_closing token.kind) token (layout (is_opening token.kind) rest) alone.0 refl)
+    subst (λ b. begins is_word_byte (layout b (token ∷ rest)) ≡ false) (sym e) (gap_ends (is_close_kind token.kind) token (layout (is_open_kind token.kind) rest) alone.0 refl)
 
 -- ---- a token in its text
 
@@ -83,17 +83,17 @@ pub laid_out : (before : Text) (is_first : Bool) (tokens : List Printed) → All
 laid_out before is_first [] alone = record { found = []; lexes = grammar.finished; same = refl }
 laid_out before is_first (token ∷ rest) alone =
     let space = gap is_first token.kind in
-    let more = layout (is_opening token.kind) rest in
+    let more = layout (is_open_kind token.kind) rest in
     let whole = before ++ (space ++ token.bytes ++ more) in
     let at = length before + length space in
-    let behind = laid_out (before ++ (space ++ token.bytes)) (is_opening token.kind) rest alone.1 in
+    let behind = laid_out (before ++ (space ++ token.bytes)) (is_open_kind token.kind) rest alone.1 in
     let here : Lexes (at + length token.bytes) more (Ok behind.found) =
     subst (λ k. Lexes k more (Ok behind.found)) (place_behind before space token.bytes more) behind.lexes in
     let left : tokens_of (map (seen whole) behind.found) ≡ rest =
     subst (λ z. tokens_of (map (seen z) behind.found) ≡ rest) (append_assoc before (space ++ token.bytes) more) behind.same in
     record {
       found = token_at at token.kind (length token.bytes) ∷ behind.found;
-      lexes = behind_gap (is_first || is_closing token.kind) (length before) token.bytes more _ (grammar.token (alone.0 more (layout_ends (is_opening token.kind) rest alone.1)) here);
+      lexes = behind_gap (is_first || is_close_kind token.kind) (length before) token.bytes more _ (grammar.token (alone.0 more (layout_ends (is_open_kind token.kind) rest alone.1)) here);
       same = ap (λ t. t ∷ tokens_of (map (seen whole) behind.found)) (token_is token whole at (spelled_behind before space token.bytes more)) ∙ ap (λ z. token ∷ z) left;
     }
 

@@ -9,10 +9,10 @@ use Rattle.std.proofs.lemmas.Str.Parse.{IsNumeralModel, numerals_by_fold, tells_
 use Rattle.std.proofs.lemmas.Fmt.{digits_value-decimal, decimal_is_IsNumeral}
 use Rattle.ame_lex.specs.declared.classes.Class.{Class}
 use Rattle.ame_lex.specs.declared.classes.Class.TheVariants.{Digit, Minus}
-use Rattle.ame_lex.specs.Bytes.{Text, class_of, continues_word, continues_number, is_word_byte, is_digit, begins, IsRun, decimal}
+use Rattle.ame_lex.specs.Bytes.{Text, class_of, continues_word, continues_number, is_word_byte, is_digit, begins, IsStretch, decimal}
 use Rattle.ame_lex.specs.Grammar as grammar
 use Rattle.ame_lex.specs.Grammar.{IsNumber}
-use Rattle.ame_print.specs.Layout.{number}
+use Rattle.ame_print.specs.Layout.{number_token}
 use Rattle.ame_print.proofs.Canon.{IsAlone}
 
 -- ---- the bytes of decimal text
@@ -65,7 +65,7 @@ decimal_digits n small =
     digits_of (fmt.decimal n) n numeral.0.0 numeral.0.1 (digits_value-decimal own n small)
 
 -- digits that end are a run
-run_ends : (more rest : Text) → AllByRecursion (λ b. is_digit b ≡ true) more → begins is_word_byte rest ≡ false → IsRun is_digit (more ++ rest) more rest
+run_ends : (more rest : Text) → AllByRecursion (λ b. is_digit b ≡ true) more → begins is_word_byte rest ≡ false → IsStretch is_digit (more ++ rest) more rest
 run_ends more rest pass ends = record { split = refl; pass = pass; longest = ends_number rest ends }
 
 plain_number : (text rest : Text) (n : ℕ) → Digits text n → begins is_word_byte rest ≡ false → IsNumber (text ++ rest) (pos n) text rest
@@ -85,7 +85,7 @@ negative_number text rest n digits ends =
     (grammar.negative minus_class digits.begins_so (run_ends digits.more rest digits.pass ends)))
 
 -- a number that fits 64 bits stands alone
-pub number_alone : (value : ℤ) → FitsSigned w64 value → IsAlone (number value)
+pub number_alone : (value : ℤ) → FitsSigned w64 value → IsAlone (number_token value)
 number_alone (pos n) fit rest ends =
     let small : n < 2 ^ 64 = let h = fit.sfits in omega arith in
     grammar.number (plain_number (fmt.decimal n) rest n (decimal_digits n small) (ends refl)) fit (ends refl)

@@ -4,11 +4,11 @@ use Rattle.std.specs.List.{AllByRecursion}
 use Rattle.ame_term.specs.Tree.{Typ, Tree}
 use Rattle.ame_parse.specs.declared.ahead.Ahead.{Ahead}
 use Rattle.ame_parse.specs.declared.ahead.Ahead.TheVariants as a
-use Rattle.ame_parse.specs.Input.{Seen, Input, ahead_of, ahead_in, ahead, spelling_in, spelling, after, marked, number, named, bound, unbound}
+use Rattle.ame_parse.specs.Input.{Seen, Input, ahead_of, ahead_in, ahead, spelling_in, spelling, advanced, marked, name_number, named, bound, unbound}
 use Rattle.ame_parse.specs.Names.{number_in, with_name}
 use Rattle.ame_parse.specs.Grammar as g
 use Rattle.ame_parse.specs.Grammar.{IsType, IsTypeForm, IsTerm, IsForm}
-use Rattle.ame_print.specs.Layout.{Printed, opening, closing}
+use Rattle.ame_print.specs.Layout.{Printed, open_token, close_token}
 use Rattle.ame_print.specs.Tokens.{form}
 use Rattle.ame_print.proofs.Canon.{token_of, tokens_of, IsAlone, IsLike, Reaches}
 use Rattle.ame_print.proofs.Alone.{IsFixed, opening_fixed, closing_fixed}
@@ -38,25 +38,25 @@ pub record Moves (token : Printed) (step : Input → Input) (i k : Input) : Type
   pub like : (i' : Input) → IsLike i i' → spelling i' ≡ token.bytes → IsLike k (step i')
   pub rest : (i' : Input) → (step i').rest ≡ drop 1 i'.rest
 
-pub moves_after : (token : Printed) (i : Input) → Moves token after i (after i)
-unfolding after
+pub moves_after : (token : Printed) (i : Input) → Moves token advanced i (advanced i)
+unfolding advanced
 moves_after token i = record { like = λ i' like e. record { names = like.names; scope = like.scope }; rest = λ i'. refl }
 
-pub moves_marked : (token : Printed) (i : Input) → Moves token (λ i. after (marked i)) i (after (marked i))
-unfolding after marked
+pub moves_marked : (token : Printed) (i : Input) → Moves token (λ i. advanced (marked i)) i (advanced (marked i))
+unfolding advanced marked
 moves_marked token i = record { like = λ i' like e. record { names = like.names; scope = like.scope }; rest = λ i'. refl }
 
-pub moves_marked_twice : (token : Printed) (i k : Input) → IsLike i k → Moves token (λ i. after (marked (marked i))) i k
-unfolding after marked
+pub moves_marked_twice : (token : Printed) (i k : Input) → IsLike i k → Moves token (λ i. advanced (marked (marked i))) i k
+unfolding advanced marked
 moves_marked_twice token i k same = record { like = λ i' like e. record { names = like.names ∙ sym same.names; scope = like.scope ∙ sym same.scope }; rest = λ i'. refl }
 
 -- where the input before the token is like the one after it
-moves_open : (i : Input) → Moves opening after i i
-unfolding after
+moves_open : (i : Input) → Moves open_token advanced i i
+unfolding advanced
 moves_open i = record { like = λ i' like e. record { names = like.names; scope = like.scope }; rest = λ i'. refl }
 
-moves_open_marked : (i : Input) → Moves opening (λ i. after (marked i)) i i
-unfolding after marked
+moves_open_marked : (i : Input) → Moves open_token (λ i. advanced (marked i)) i i
+unfolding advanced marked
 moves_open_marked i = record { like = λ i' like e. record { names = like.names; scope = like.scope }; rest = λ i'. refl }
 
 named_names : (i i' : Input) → IsLike i i' → spelling i' ≡ spelling i → (named i').names ≡ (named i).names
@@ -78,8 +78,8 @@ moves_unbound moves = record {
   rest = moves.rest;
 }
 
-pub number_like : (i i' : Input) → IsLike i i' → spelling i' ≡ spelling i → number i' ≡ number i
-unfolding number
+pub number_like : (i i' : Input) → IsLike i i' → spelling i' ≡ spelling i → name_number i' ≡ name_number i
+unfolding name_number
 number_like i i' like e = ap (λ z. number_in z (spelling i')) like.names ∙ ap (number_in i.names) e
 
 -- ---- joining
@@ -130,14 +130,14 @@ pub record Shut (step : Input → Input) (P : Input → Input → Type 0) (i k :
   pub next : ahead last ≡ a.Closing
   pub end : step last ≡ k
 
-pub shut : {tokens : List Printed} {step : Input → Input} {P : Input → Input → Type 0} {i j k : Input} → Part tokens P i j → Moves closing step j k
-    → Part (tokens ++ closing ∷ []) (Shut step P) i k
+pub shut : {tokens : List Printed} {step : Input → Input} {P : Input → Input → Type 0} {i j k : Input} → Part tokens P i j → Moves close_token step j k
+    → Part (tokens ++ close_token ∷ []) (Shut step P) i k
 unfolding ahead spelling
 shut {tokens} {step} {P} part moves = record {
-  alone = all_append IsAlone tokens (closing ∷ []) part.alone (closing_fixed.alone, tt);
+  alone = all_append IsAlone tokens (close_token ∷ []) part.alone (closing_fixed.alone, tt);
   again = λ i' more like e.
-      let r = part.again i' (closing ∷ more) like (e ∙ append_assoc tokens (closing ∷ []) more) in
-      let t = takes closing (r.last).rest more r.left in
+      let r = part.again i' (close_token ∷ more) like (e ∙ append_assoc tokens (close_token ∷ []) more) in
+      let t = takes close_token (r.last).rest more r.left in
       record {
         last = step r.last;
         ends = record { last = r.last; inside = r.ends; next = t.next; end = refl };
@@ -166,12 +166,12 @@ within x i p = record {
 }
 
 -- the same from the input before a parenthesis
-pub before : {tokens : List Printed} {P : Input → Input → Type 0} {j : Input} (i : Input) → Part tokens P (after (marked i)) j → Part tokens P i j
-unfolding after marked
+pub before : {tokens : List Printed} {P : Input → Input → Type 0} {j : Input} (i : Input) → Part tokens P (advanced (marked i)) j → Part tokens P i j
+unfolding advanced marked
 before i p = record { alone = p.alone; again = λ i' more like e. p.again i' more (record { names = like.names; scope = like.scope }) e }
 
-pub before_type : {tokens : List Printed} {P : Input → Input → Type 0} {j : Input} (i : Input) → Part tokens P (after i) j → Part tokens P i j
-unfolding after
+pub before_type : {tokens : List Printed} {P : Input → Input → Type 0} {j : Input} (i : Input) → Part tokens P (advanced i) j → Part tokens P i j
+unfolding advanced
 before_type i p = record { alone = p.alone; again = λ i' more like e. p.again i' more (record { names = like.names; scope = like.scope }) e }
 
 -- ---- whole parts
@@ -183,21 +183,21 @@ atom {k = k} {P = P} fixed moves rule = mapped (begun fixed moves (nothing k)) (
 
 -- a form of a type
 pub type_form_part : {n : ℕ} {type : Typ} {tokens : List Printed} {P : Input → Input → Type 0} {i j : Input} → Part tokens P i j
-    → ((i' j' : Input) → P i' j' → ahead j' ≡ a.Closing → IsTypeForm n i' type (after j')) → Part (form tokens) (λ i' j'. IsType (suc n) i' type j') i (after j)
+    → ((i' j' : Input) → P i' j' → ahead j' ≡ a.Closing → IsTypeForm n i' type (advanced j')) → Part (form tokens) (λ i' j'. IsType (suc n) i' type j') i (advanced j)
 type_form_part {n = n} {type = type} {i = i} {j = j} part rule =
-    mapped (begun opening_fixed (moves_open i) (shut part (moves_after closing j)))
-    (λ i' j' like r. let s = r.then in subst (IsType (suc n) i' type) s.end (g.type_form r.is (rule (after i') s.last s.inside s.next)))
+    mapped (begun opening_fixed (moves_open i) (shut part (moves_after close_token j)))
+    (λ i' j' like r. let s = r.then in subst (IsType (suc n) i' type) s.end (g.type_form r.is (rule (advanced i') s.last s.inside s.next)))
 
 -- a form that ends with a closing parenthesis
 pub shut_part : {n : ℕ} {tree : Tree} {tokens : List Printed} {step : Input → Input} {P : Input → Input → Type 0} {i j : Input} → Part tokens (Shut step P) i j
-    → ((i' j' : Input) → IsLike i i' → P i' j' → ahead j' ≡ a.Closing → IsForm n i' tree (step j')) → Part (opening ∷ tokens) (λ i' j'. IsTerm (suc n) i' tree j') i j
-unfolding after marked
+    → ((i' j' : Input) → IsLike i i' → P i' j' → ahead j' ≡ a.Closing → IsForm n i' tree (step j')) → Part (open_token ∷ tokens) (λ i' j'. IsTerm (suc n) i' tree j') i j
+unfolding advanced marked
 shut_part {n = n} {tree = tree} {i = i} part rule =
     mapped (begun opening_fixed (moves_open_marked i) part)
     (λ i' j' like r.
     let s = r.then in
-    subst (IsTerm (suc n) i' tree) s.end (g.form r.is (rule (after (marked i')) s.last (record { names = like.names; scope = like.scope }) s.inside s.next)))
+    subst (IsTerm (suc n) i' tree) s.end (g.form r.is (rule (advanced (marked i')) s.last (record { names = like.names; scope = like.scope }) s.inside s.next)))
 
-pub form_part : {n : ℕ} {tree : Tree} {tokens : List Printed} {step : Input → Input} {P : Input → Input → Type 0} {i j k : Input} → Part tokens P i j → Moves closing step j k
+pub form_part : {n : ℕ} {tree : Tree} {tokens : List Printed} {step : Input → Input} {P : Input → Input → Type 0} {i j k : Input} → Part tokens P i j → Moves close_token step j k
     → ((i' j' : Input) → IsLike i i' → P i' j' → ahead j' ≡ a.Closing → IsForm n i' tree (step j')) → Part (form tokens) (λ i' j'. IsTerm (suc n) i' tree j') i k
 form_part part moves rule = shut_part (shut part moves) rule

@@ -1,6 +1,6 @@
 -- What tokens add to a text.
 use Rattle.std.proofs.Common.{◌≡◌, refl, ap, ◌∙◌, sym, List, [], ◌∷◌, ◌++◌, append_assoc, append-nil}
-use Rattle.ame_print.specs.Layout.{Printed, layout, gap, is_opening}
+use Rattle.ame_print.specs.Layout.{Printed, layout, gap, is_open_kind}
 use Rattle.ame_print.specs.Printer.{Page, with_token, with_tokens}
 
 -- tokens one after another
@@ -13,7 +13,7 @@ pub text_of_page : (page : Page) (tokens : List Printed) → (with_tokens page t
 text_of_page page [] = sym (append-nil page.text)
 text_of_page page (token ∷ rest) =
     let before = gap page.is_first token.kind in
-    let more = layout (is_opening token.kind) rest in
+    let more = layout (is_open_kind token.kind) rest in
     text_of_page (with_token page token) rest
     ∙ append_assoc (page.text ++ before) token.bytes more
     ∙ append_assoc page.text before (token.bytes ++ more)

@@ -16,24 +16,13 @@ abbrev mutual
   size (Tree.Held value) = value_size value + 1
   size (Tree.Var x) = 1
   size (Tree.Lambda head body) = size body + 1
-  size (Tree.App function argument) = size function + size argument + 1
   size (Tree.Let x bound body) = size bound + size body + 1
   size (Tree.Do parts) = row_size parts + 2
   size (Tree.If test first second) = size test + size first + size second + 1
-  size (Tree.Bin op left right) = size left + size right + 1
-  size (Tree.Not part) = size part + 1
-  size (Tree.Ref sort part) = size part + 1
-  size (Tree.Get part) = size part + 1
-  size (Tree.Peek part) = size part + 1
-  size (Tree.Set cell content) = size cell + size content + 1
   size (Tree.Async body) = size body + 1
-  size (Tree.Block part) = size part + 2
   size (Tree.Unprotected part) = size part + 2
-  size (Tree.Print part) = size part + 1
-  size (Tree.Call device part) = size part + 1
-  size (Tree.Pairing first second) = size first + size second + 1
-  size (Tree.First part) = size part + 1
-  size (Tree.Second part) = size part + 1
+  size (Tree.One op part) = size part + 1
+  size (Tree.Two op left right) = size left + size right + 1
 
   pub row_size : Trees → ℕ
   row_size Trees.None = 0

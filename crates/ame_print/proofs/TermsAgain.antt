@@ -3,22 +3,21 @@ use Rattle.std.proofs.Common.{◌≡◌, refl, sym, ap, subst, ◌∙◌, ℕ, s
 use Rattle.std.specs.Prelude.{ℤ, codes}
 use Rattle.std.specs.List.{AllByRecursion}
 use Rattle.ame_lex.specs.Bytes.{Text}
-use Rattle.ame_term.specs.declared.types.Effect.{Effect}
-use Rattle.ame_term.specs.Tree.{Typ, Val, Tree, unit_tree}
+use Rattle.ame_term.specs.Tree.{Typ, Head, Val, Tree, unit_tree}
 use Rattle.ame_parse.specs.declared.words.Word.{Word}
 use Rattle.ame_parse.specs.declared.words.Word.TheVariants as w
 use Rattle.ame_parse.specs.declared.ahead.Ahead.{Ahead}
 use Rattle.ame_parse.specs.declared.ahead.Ahead.TheVariants as a
-use Rattle.ame_parse.specs.Input.{Input, ahead, after, marked, number, spelling, named, binds, bound, unbound}
+use Rattle.ame_parse.specs.Input.{Input, ahead, advanced, marked, name_number, spelling, named, binds_name, bound, unbound}
 use Rattle.ame_parse.specs.Forms.{row}
 use Rattle.ame_parse.specs.Grammar as g
-use Rattle.ame_parse.specs.Grammar.{IsTerm, IsForm, IsParam, IsType, IsEffect, AreParts}
-use Rattle.ame_print.specs.Layout.{Printed, closing, word}
+use Rattle.ame_parse.specs.Grammar.{IsTerm, IsForm, IsParam, IsHead, outside, IsType, AreParts}
+use Rattle.ame_print.specs.Layout.{Printed, close_token, word}
 use Rattle.ame_print.specs.Layout as layout
-use Rattle.ame_print.specs.Tokens.{form, is_unit, is_unit_tree, type_tokens, name_token, term_tokens, row_tokens}
+use Rattle.ame_print.specs.Tokens.{form, is_unit, is_unit_tree, type_tokens, name_token, function_tokens, term_tokens, row_tokens}
 use Rattle.ame_print.proofs.Canon.{IsLike, IsGood, IsFirstOf, IsRead}
 use Rattle.ame_print.proofs.Growth.{◌▸◌, grows_after, grows_marked, grows_named, type_grows, param_grows, term_grows}
-use Rattle.ame_print.proofs.Alone.{closing_fixed, reserved, sort_fixed, sort_read, effect_fixed, effect_read, op_fixed, number_fixed, name_fixed, spelled}
+use Rattle.ame_print.proofs.Alone.{closing_fixed, reserved, sort_fixed, sort_read, effect_fixed, effect_read, unary_word, binary_fixed, number_fixed, name_fixed, word_text}
 use Rattle.ame_print.proofs.Parts as parts
 use Rattle.ame_print.proofs.Parts.{Begun, Both, Shut, moves_after, moves_marked, moves_marked_twice, moves_variable, number_like, atom}
 use Rattle.ame_print.proofs.TypesAgain.{type_again, param_again}
@@ -30,30 +29,30 @@ IsAgain all tokens n i tree j = Again all tokens (λ i' j'. IsTerm n i' tree j')
 
 -- ---- one token
 
-constant : {all : List Text} {n : ℕ} {tree : Tree} (which : Word) (i : Input) → ((i' : Input) → ahead i' ≡ a.Reserved which → IsTerm n i' tree (after (marked i')))
-    → IsAgain all (word (spelled which) ∷ []) n i tree (after (marked i))
+constant : {all : List Text} {n : ℕ} {tree : Tree} (which : Word) (i : Input) → ((i' : Input) → ahead i' ≡ a.Reserved which → IsTerm n i' tree (advanced (marked i')))
+    → IsAgain all (word (word_text which) ∷ []) n i tree (advanced (marked i))
 constant which i rule = record {
   adds = adds (grows_marked i ▸ grows_after (marked i));
   part = λ good first. atom (reserved which) (moves_marked _ i) (λ i' like is spelt. rule i' is);
 }
 
 integer : {all : List Text} (n : ℕ) (i : Input) (value : ℤ) → ahead i ≡ a.Number value
-    → IsAgain all (layout.number value ∷ []) n i (Tree.Held (Val.Int value)) (after (marked i))
+    → IsAgain all (layout.number_token value ∷ []) n i (Tree.Held (Val.Int value)) (advanced (marked i))
 integer n i value e = record {
   adds = adds (grows_marked i ▸ grows_after (marked i));
   part = λ good first. atom (number_fixed i value e good) (moves_marked _ i) (λ i' like is spelt. g.int is);
 }
 
-binds_like : (i i' : Input) → IsLike i i' → number i' ≡ number i → binds (number i) i ≡ true → binds (number i') i' ≡ true
-unfolding binds
+binds_like : (i i' : Input) → IsLike i i' → name_number i' ≡ name_number i → binds_name (name_number i) i ≡ true → binds_name (name_number i') i' ≡ true
+unfolding binds_name
 binds_like i i' like same e = rw (same, like.scope) e
 
 names_marked : (i : Input) (all : List Text) → IsFirstOf (named (marked i)).names all → IsFirstOf (named i).names all
 unfolding named marked spelling
 names_marked i all first = first
 
-variable : {all : List Text} (n : ℕ) (i : Input) → ahead i ≡ a.Name → binds (number i) i ≡ true
-    → IsAgain all (name_token all (number i) ∷ []) n i (Tree.Var (number i)) (named (marked i))
+variable : {all : List Text} (n : ℕ) (i : Input) → ahead i ≡ a.Name → binds_name (name_number i) i ≡ true
+    → IsAgain all (name_token all (name_number i) ∷ []) n i (Tree.Var (name_number i)) (named (marked i))
 variable {all} n i e is_bound = record {
   adds = adds (grows_marked i ▸ grows_named (marked i));
   part = λ good first.
@@ -67,10 +66,7 @@ variable {all} n i e is_bound = record {
 -- ---- `unprotected unit`
 
 form_is_no_unit : {n : ℕ} {i j : Input} {tree : Tree} → IsForm n i tree j → is_unit_tree tree ≡ false
-form_is_no_unit (g.fn e q p body shut) = refl
-form_is_no_unit (g.rec e q e' p t body shut) = refl
-form_is_no_unit (g.app e h h' shut) = refl
-form_is_no_unit (g.bind e e' h h' shut) = refl
+form_is_no_unit (g.function head body shut) = refl
 form_is_no_unit _ = refl
 
 is_unit_value : (value : Val) → is_unit value ≡ true → value ≡ Val.Unit
@@ -83,7 +79,7 @@ is_unit_only _ e = absurd (cc)
 
 -- `unit` leaves the names and the scope as they were
 unit_leaves : {n : ℕ} {i j : Input} {tree : Tree} → IsTerm n i tree j → is_unit_tree tree ≡ true → IsLike i j
-unfolding after marked
+unfolding advanced marked
 unit_leaves (g.int e) is = absurd (cc)
 unit_leaves (g.unit e) is = record { names = refl; scope = refl }
 unit_leaves (g.truth e) is = absurd (cc)
@@ -97,15 +93,15 @@ yielded : {all : List Text} {n : ℕ} {part : Tree} {i k : Input} → Adds i k �
 yielded {n = n} {i = i} {k = k} more same e = record {
   adds = more;
   part = λ good first.
-      atom (reserved w.Yield) (moves_marked_twice _ i k same) (λ i' like is spelt. subst (λ t. IsTerm n i' (Tree.Unprotected t) (after (marked (marked i')))) (sym e) (g.yield is));
+      atom (reserved w.Yield) (moves_marked_twice _ i k same) (λ i' like is spelt. subst (λ t. IsTerm n i' (Tree.Unprotected t) (advanced (marked (marked i')))) (sym e) (g.yield is));
 }
 
-like_after : {i j : Input} → IsLike (after i) j → IsLike i (after j)
-unfolding after
+like_after : {i j : Input} → IsLike (advanced i) j → IsLike i (advanced j)
+unfolding advanced
 like_after same = record { names = same.names; scope = same.scope }
 
-unprotected : {all : List Text} {n : ℕ} {i j : Input} {part : Tree} → IsTerm n (after i) part j → IsAgain all (term_tokens all part) n (after i) part j → (b : Bool) → is_unit_tree part ≡ b
-    → IsAgain all (term_tokens all (Tree.Unprotected part)) (suc n) i (Tree.Unprotected part) (after j)
+unprotected : {all : List Text} {n : ℕ} {i j : Input} {part : Tree} → IsTerm n (advanced i) part j → IsAgain all (term_tokens all part) n (advanced i) part j → (b : Bool) → is_unit_tree part ≡ b
+    → IsAgain all (term_tokens all (Tree.Unprotected part)) (suc n) i (Tree.Unprotected part) (advanced j)
 unfolding term_tokens
 unprotected {all} {i = i} {j = j} {part = part} h again true e =
     regrouped (ap (λ b. cond b (word (codes "yield") ∷ []) (form (word (codes "unprotected") ∷ term_tokens all part))) (sym e))
@@ -124,38 +120,39 @@ result : {n : ℕ} {i j : Input} {type : Typ} → IsType n i type j → (all : L
 result t all = record { adds = adds (type_grows t); part = λ good first. type_again t }
 
 device : {all : List Text} {tokens : List Printed} {P : Input → Input → Type 0} {j : Input} (i : Input) (value : ℤ) → ahead i ≡ a.Number value
-    → Again all tokens P (after i) j → Again all (layout.number value ∷ tokens) (Begun (layout.number value) (a.Number value) after P) i j
+    → Again all tokens P (advanced i) j → Again all (layout.number_token value ∷ tokens) (Begun (layout.number_token value) (a.Number value) advanced P) i j
 device i value e again =
     let here = adds (grows_after i) in
     record { adds = over here again.adds; part = λ good first. parts.begun (number_fixed i value e good) (moves_after _ i) (again.part (here.good good) first) }
 
--- with the number of the own name, and of the name that is bound, by an equation
-rec_by : {n : ℕ} {i j k l : Input} {effect : Effect} {x own : ℕ} {type gives : Typ} {body : Tree} → number (after (after i)) ≡ own → ahead i ≡ a.Reserved w.Rec → IsEffect (after i) effect
-    → ahead (after (after i)) ≡ a.Name → IsParam n (named (after (after i))) x type j → IsType n j gives k → IsTerm n (bound x (bound own k)) body l → ahead l ≡ a.Closing
-    → IsForm n i (Tree.Lambda (record { effect = effect; own = Some (record { name = own; result = gives }); param = x; param_type = type }) body) (unbound (unbound (after l)))
-rec_by {n} {i} {j} {k} {l} {effect} {x} {own} {type} {gives} {body} same e q e' p t h shut =
-    subst
-    (λ y. IsTerm n (bound x (bound y k)) body l
-    → IsForm n i (Tree.Lambda (record { effect = effect; own = Some (record { name = y; result = gives }); param = x; param_type = type }) body) (unbound (unbound (after l))))
-    same (λ h. g.rec e q e' p t h shut) h
-
-let_by : {n : ℕ} {i j k : Input} {x : ℕ} {value body : Tree} → number (after i) ≡ x → ahead i ≡ a.Reserved w.Let → ahead (after i) ≡ a.Name → IsTerm n (named (after i)) value j
-    → IsTerm n (bound x j) body k → ahead k ≡ a.Closing → IsForm n i (Tree.Let x value body) (unbound (after k))
-let_by {n} {i} {j} {k} {x} {value} {body} same e e' h h' shut =
-    subst (λ y. IsTerm n (bound y j) body k → IsForm n i (Tree.Let y value body) (unbound (after k))) same (λ h'. g.bind e e' h h' shut) h'
+-- a function, whose body is read again
+function : {n : ℕ} {i j k : Input} {head : Head} {body : Tree} → IsHead n i head j → (all : List Text) → IsAgain all (term_tokens all body) n j body k
+    → IsAgain all (function_tokens all head (term_tokens all body)) (suc n) i (Tree.Lambda head body) (outside head.own (advanced k))
+function {k = k} (g.fn {i = i} {j = j} {effect = effect} {x = x} e q p) all again =
+    formed (ends_unbound (ends k)) (step i (reserved w.Fn) (step (advanced i) (effect_fixed effect) (joined (parameter p all) (inner x j again))))
+    (λ i' j' like r shut. let s = r.then in g.function (g.fn r.is (effect_read effect (advanced i') s.spelt) (s.then).first) (s.then).second shut)
+function {k = l} (g.rec {own = own} {i = i} {k = k} {effect = effect} {x = x} e q e' same p t) all again =
+    formed (ends_unbound (ends_unbound (ends l)))
+    (step i (reserved w.Rec) (step (advanced i) (effect_fixed effect)
+    (name_step (advanced (advanced i)) e' same (joined (joined (parameter p all) (result t all)) (inner own k (inner x (bound own k) again))))))
+    (λ i' j' like r shut.
+    let s = r.then in
+    let name = s.then in
+    let types = (name.then).first in
+    g.function (g.rec r.is (effect_read effect (advanced i') s.spelt) name.is name.same types.first types.second) (name.then).second shut)
 
 -- ---- terms
 
 abbrev AreAgain : List Text → ℕ → Input → List Tree → Input → Type 0
-AreAgain all n i others k = Again all (row_tokens all (row others) ++ closing ∷ []) (Shut after (λ i' j'. AreParts n i' others j')) i k
+AreAgain all n i others k = Again all (row_tokens all (row others) ++ close_token ∷ []) (Shut advanced (λ i' j'. AreParts n i' others j')) i k
 
-like_yield : (i : Input) → IsLike i (after (marked (marked i)))
-unfolding after marked
+like_yield : (i : Input) → IsLike i (advanced (marked (marked i)))
+unfolding advanced marked
 like_yield i = record { names = refl; scope = refl }
 
 -- the word before all parts, and the closing parenthesis after them
 sequenced : {all : List Text} {tokens : List Printed} {head : Printed} {next : Ahead} {P Q R : Input → Input → Type 0} {i k : Input}
-    → Again all tokens (Begun head next after (Both P (Both Q (Shut after R)))) i k → Again all tokens (Shut after (Begun head next after (Both P (Both Q R)))) i k
+    → Again all tokens (Begun head next advanced (Both P (Both Q (Shut advanced R)))) i k → Again all tokens (Shut advanced (Begun head next advanced (Both P (Both Q R)))) i k
 sequenced again = mapped again
     (λ i' k' like r.
     let front = r.then in
@@ -182,63 +179,41 @@ mutual
 
   -- with the opening parenthesis
   form_part : {n : ℕ} {i j : Input} {tree : Tree} → IsForm n i tree j → (all : List Text) → IsAgain all (term_tokens all tree) (suc n) i tree j
-  form_part (g.fn {i = i} {j = j} {k = k} {effect = effect} {x = x} e q p body is_shut) all =
-      formed (ends_unbound (ends k)) (step i (reserved w.Fn) (step (after i) (effect_fixed effect) (joined (parameter p all) (inner x j (term_part body all)))))
-      (λ i' j' like r shut. let s = r.then in g.fn r.is (effect_read effect (after i') s.spelt) (s.then).first (s.then).second shut)
-  form_part (g.rec {i = i} {j = j} {k = k} {l = l} {effect = effect} {x = x} e q e' p t body is_shut) all =
-      let own = number (after (after i)) in
-      formed (ends_unbound (ends_unbound (ends l)))
-      (step i (reserved w.Rec) (step (after i) (effect_fixed effect)
-      (name_step (after (after i)) e' (joined (joined (parameter p all) (result t all)) (inner own k (inner x (bound own k) (term_part body all)))))))
-      (λ i' j' like r shut.
-      let s = r.then in
-      let name = s.then in
-      let types = (name.then).first in
-      rec_by name.same r.is (effect_read effect (after i') s.spelt) name.is types.first types.second (name.then).second shut)
-  form_part (g.app {i = i} {k = k} e h h' is_shut) all =
-      formed (ends k) (step i (reserved w.App) (joined (term_part h all) (term_part h' all))) (λ i' j' like r shut. g.app r.is (r.then).first (r.then).second shut)
-  form_part (g.bind {i = i} {j = j} {k = k} e e' h h' is_shut) all =
-      formed (ends_unbound (ends k)) (step i (reserved w.Let) (name_step (after i) e' (joined (term_part h all) (inner (number (after i)) j (term_part h' all)))))
-      (λ i' j' like r shut. let name = r.then in let_by name.same r.is name.is (name.then).first (name.then).second shut)
+  form_part (g.function h body is_shut) all = function h all (term_part body all)
+  form_part (g.binding {x = x} {i = i} {j = j} {k = k} e e' same h h' is_shut) all =
+      formed (ends_unbound (ends k)) (step i (reserved w.Let) (name_step (advanced i) e' same (joined (term_part h all) (inner x j (term_part h' all)))))
+      (λ i' j' like r shut. let name = r.then in g.binding r.is name.is name.same (name.then).first (name.then).second shut)
   form_part (g.sequence {i = i} {first = first} {second = second} {others = others} e h h' tail is_shut) all =
       let front = term_tokens all first in
       let next = term_tokens all second in
       let rest = row_tokens all (row others) in
-      let same = append_assoc front (next ++ rest) (closing ∷ []) ∙ ap (λ z. front ++ z) (append_assoc next rest (closing ∷ [])) in
+      let same = append_assoc front (next ++ rest) (close_token ∷ []) ∙ ap (λ z. front ++ z) (append_assoc next rest (close_token ∷ [])) in
       formed_shut (sequenced (step i (reserved w.Do) (regrouped (sym same) (joined (term_part h all) (joined (term_part h' all) (parts_part tail all))))))
       (λ i' j' like r shut. let s = (r.then).second in g.sequence r.is (r.then).first s.first s.second shut)
   form_part (g.choice {i = i} {l = l} e h h' h'' is_shut) all =
       formed (ends l) (step i (reserved w.If) (joined (joined (term_part h all) (term_part h' all)) (term_part h'' all)))
       (λ i' j' like r shut. let s = (r.then).first in g.choice r.is s.first s.second (r.then).second shut)
-  form_part (g.operation {i = i} {k = k} e o h h' is_shut) all =
-      formed (ends k) (step i (op_fixed o) (joined (term_part h all) (term_part h' all))) (λ i' j' like r shut. g.operation r.is o (r.then).first (r.then).second shut)
-  form_part (g.negation {i = i} {j = j} e h is_shut) all = formed (ends j) (step i (reserved w.Not) (term_part h all)) (λ i' j' like r shut. g.negation r.is r.then shut)
+  form_part (g.one {i = i} {j = j} {word = which} {part = part} e is h is_shut) all =
+      regrouped (ap (λ z. form (z ++ term_tokens all part)) (unary_word is))
+      (formed (ends j) (step i (reserved which) (term_part h all)) (λ i' j' like r shut. g.one r.is is r.then shut))
   form_part (g.ref {i = i} {j = j} {sort = sort} e s h is_shut) all =
-      formed (ends j) (step i (reserved w.Ref) (step (after i) (sort_fixed sort) (term_part h all)))
-      (λ i' j' like r shut. g.ref r.is (sort_read sort (after i') (r.then).spelt) (r.then).then shut)
-  form_part (g.get {i = i} {j = j} e h is_shut) all = formed (ends j) (step i (reserved w.Get) (term_part h all)) (λ i' j' like r shut. g.get r.is r.then shut)
-  form_part (g.peek {i = i} {j = j} e h is_shut) all = formed (ends j) (step i (reserved w.Peek) (term_part h all)) (λ i' j' like r shut. g.peek r.is r.then shut)
-  form_part (g.set {i = i} {k = k} e h h' is_shut) all =
-      formed (ends k) (step i (reserved w.Set) (joined (term_part h all) (term_part h' all))) (λ i' j' like r shut. g.set r.is (r.then).first (r.then).second shut)
-  form_part (g.async {i = i} {j = j} e h is_shut) all = formed (ends j) (step i (reserved w.Async) (term_part h all)) (λ i' j' like r shut. g.async r.is r.then shut)
-  form_part (g.block_until {i = i} {j = j} e h is_shut) all = formed (ends j) (step i (reserved w.BlockUntil) (term_part h all)) (λ i' j' like r shut. g.block_until r.is r.then shut)
-  form_part (IsForm.unprotected {part = part} e h is_shut) all = unprotected h (term_part h all) (is_unit_tree part) refl
-  form_part (g.print {i = i} {j = j} e h is_shut) all = formed (ends j) (step i (reserved w.Print) (term_part h all)) (λ i' j' like r shut. g.print r.is r.then shut)
+      formed (ends j) (step i (reserved w.Ref) (step (advanced i) (sort_fixed sort) (term_part h all)))
+      (λ i' j' like r shut. g.ref r.is (sort_read sort (advanced i') (r.then).spelt) (r.then).then shut)
   form_part (g.call {device = number_} {i = i} {j = j} e d small h is_shut) all =
-      formed (ends j) (step i (reserved w.Call) (device (after i) (pos number_) d (term_part h all))) (λ i' j' like r shut. g.call r.is (r.then).is small (r.then).then shut)
-  form_part (g.pair {i = i} {k = k} e h h' is_shut) all =
-      formed (ends k) (step i (reserved w.Pair) (joined (term_part h all) (term_part h' all))) (λ i' j' like r shut. g.pair r.is (r.then).first (r.then).second shut)
-  form_part (g.fst {i = i} {j = j} e h is_shut) all = formed (ends j) (step i (reserved w.Fst) (term_part h all)) (λ i' j' like r shut. g.fst r.is r.then shut)
-  form_part (g.snd {i = i} {j = j} e h is_shut) all = formed (ends j) (step i (reserved w.Snd) (term_part h all)) (λ i' j' like r shut. g.snd r.is r.then shut)
+      formed (ends j) (step i (reserved w.Call) (device (advanced i) (pos number_) d (term_part h all))) (λ i' j' like r shut. g.call r.is (r.then).is small (r.then).then shut)
+  form_part (g.two {i = i} {k = k} e is h h' is_shut) all =
+      formed (ends k) (step i (binary_fixed is) (joined (term_part h all) (term_part h' all))) (λ i' j' like r shut. g.two r.is is (r.then).first (r.then).second shut)
+  form_part (g.async {i = i} {j = j} e h is_shut) all = formed (ends j) (step i (reserved w.Async) (term_part h all)) (λ i' j' like r shut. g.async r.is r.then shut)
+  form_part (IsForm.unprotected {part = part} e h is_shut) all = unprotected h (term_part h all) (is_unit_tree part) refl
 
   -- with the closing parenthesis
-  parts_part : {n : ℕ} {i j : Input} {others : List Tree} → AreParts n i others j → (all : List Text) → AreAgain all n i others (after j)
+  parts_part : {n : ℕ} {i j : Input} {others : List Tree} → AreParts n i others j → (all : List Text) → AreAgain all n i others (advanced j)
   parts_part (g.none {i = i} e) all = record {
     adds = adds (grows_after i);
-    part = λ good first. atom closing_fixed (moves_after closing i) (λ i' like is spelt. record { last = i'; inside = g.none is; next = is; end = refl });
+    part = λ good first. atom closing_fixed (moves_after close_token i) (λ i' like is spelt. record { last = i'; inside = g.none is; next = is; end = refl });
   }
   parts_part (g.more {part = part} {others = others} h tail) all =
-      regrouped (sym (append_assoc (term_tokens all part) (row_tokens all (row others)) (closing ∷ [])))
+      regrouped (sym (append_assoc (term_tokens all part) (row_tokens all (row others)) (close_token ∷ [])))
       (mapped (joined (term_part h all) (parts_part tail all))
       (λ i' j' like r. let s = r.second in record { last = s.last; inside = g.more r.first s.inside; next = s.next; end = s.end }))
 

@@ -10,35 +10,41 @@ pub record Printed : Type 0 where
   pub kind : Kind
   pub bytes : Text
 
-abbrev pub opening : Printed
-opening = record { kind = kind.Open; bytes = 40 ∷ [] }
+-- what a form begins with
+abbrev pub open_token : Printed
+open_token = record { kind = kind.Open; bytes = 40 ∷ [] }
 
-abbrev pub closing : Printed
-closing = record { kind = kind.Close; bytes = 41 ∷ [] }
+-- what a form ends with
+abbrev pub close_token : Printed
+close_token = record { kind = kind.Close; bytes = 41 ∷ [] }
 
+-- a word by its bytes
 abbrev pub word : Text → Printed
 word bytes = record { kind = kind.Word; bytes = bytes }
 
--- without leading zeros or a plus
-abbrev pub number : ℤ → Printed
-number value = record { kind = kind.Number value; bytes = signed_decimal value }
+-- a number in decimal, without leading zeros or a plus
+abbrev pub number_token : ℤ → Printed
+number_token value = record { kind = kind.Number value; bytes = signed_decimal value }
 
+-- a symbol by its byte
 abbrev pub symbol : ℕ → Printed
 symbol byte = record { kind = kind.Symbol byte; bytes = byte ∷ [] }
 
-abbrev pub is_opening : Kind → Bool
-is_opening kind.Open = true
-is_opening _ = false
+-- whether a token begins a form
+abbrev pub is_open_kind : Kind → Bool
+is_open_kind kind.Open = true
+is_open_kind _ = false
 
-abbrev pub is_closing : Kind → Bool
-is_closing kind.Close = true
-is_closing _ = false
+-- whether a token ends a form
+abbrev pub is_close_kind : Kind → Bool
+is_close_kind kind.Close = true
+is_close_kind _ = false
 
 -- one space, but none before a closing parenthesis, and none where nothing or an opening one stands before
 abbrev pub gap : Bool → Kind → Text
-gap is_first next = if is_first || is_closing next then [] else 32 ∷ []
+gap is_first next = if is_first || is_close_kind next then [] else 32 ∷ []
 
 -- the bytes of tokens, where nothing or an opening parenthesis stands before them or not
 abbrev pub layout : Bool → List Printed → Text
 layout is_first [] = []
-layout is_first (token ∷ rest) = gap is_first token.kind ++ token.bytes ++ layout (is_opening token.kind) rest
+layout is_first (token ∷ rest) = gap is_first token.kind ++ token.bytes ++ layout (is_open_kind token.kind) rest

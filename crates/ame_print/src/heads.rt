@@ -1,12 +1,12 @@
 //! What stands before the parts of a form: words, operators, names, sorts and effects.
 
 ghost use Rattle.std.specs.Prelude.{◌≡◌, OnOk};
-ghost use Rattle.ame_print.specs.Layout.{opening, word};
-ghost use Rattle.ame_print.specs.Printer.{with_token, spelled};
-ghost use Rattle.ame_print.specs.Tokens.{sort_token, effect_token, op_token, truth_token, name_token, location_token};
+ghost use Rattle.ame_print.specs.Layout.{open_token, word};
+ghost use Rattle.ame_print.specs.Printer.{with_token, with_tokens, spelling_of};
+ghost use Rattle.ame_print.specs.Tokens.{sort_token, effect_token, op_token, unary_tokens, binary_token, truth_token, name_token, location_token};
 
 use crate::page::Page;
-use ame_term::{Effect, Loc, Name, NoMemory, Op, Sort};
+use ame_term::{Binary, Effect, Loc, Name, NoMemory, Op, Sort, Unary};
 
 pub fn sort(page: &mut Page, sort: Sort) -> Result<(), NoMemory>
     ensures { OnOk result (page.new ≡ with_token page.old (sort_token sort)) }
@@ -29,7 +29,7 @@ pub fn effect(page: &mut Page, effect: Effect) -> Result<(), NoMemory>
 
 /// The parenthesis and the word of a function form, and its effect.
 pub fn begin_function(page: &mut Page, head: &[u8], under: Effect) -> Result<(), NoMemory>
-    ensures { OnOk result (page.new ≡ with_token (with_token (with_token page.old opening) (word head.now)) (effect_token under)) }
+    ensures { OnOk result (page.new ≡ with_token (with_token (with_token page.old open_token) (word head.now)) (effect_token under)) }
 {
     page.begin(head)?;
     effect(page, under)
@@ -47,6 +47,44 @@ pub fn op(page: &mut Page, op: Op) -> Result<(), NoMemory>
     }
 }
 
+/// The parenthesis and the word of a form with one part, and the sort or the number before the part.
+pub fn begin_one(page: &mut Page, op: Unary) -> Result<(), NoMemory>
+    ensures { OnOk result (page.new ≡ with_tokens (with_token page.old open_token) (unary_tokens op)) }
+{
+    match op {
+        Unary::Not => page.begin(b"not"),
+        Unary::Ref(which) => {
+            page.begin(b"ref")?;
+            sort(page, which)
+        }
+        Unary::Get => page.begin(b"get"),
+        Unary::Peek => page.begin(b"peek"),
+        Unary::Block => page.begin(b"blockUntil"),
+        Unary::Print => page.begin(b"print"),
+        Unary::Call(device) => {
+            page.begin(b"call")?;
+            page.number(i64::from(device))
+        }
+        Unary::First => page.begin(b"fst"),
+        Unary::Second => page.begin(b"snd"),
+    }
+}
+
+/// The parenthesis and the word or the symbol of a form with two parts.
+pub fn begin_two(page: &mut Page, which: Binary) -> Result<(), NoMemory>
+    ensures { OnOk result (page.new ≡ with_token (with_token page.old open_token) (binary_token which)) }
+{
+    match which {
+        Binary::App => page.begin(b"app"),
+        Binary::Bin(symbol) => {
+            page.open()?;
+            op(page, symbol)
+        }
+        Binary::Set => page.begin(b"set"),
+        Binary::Pair => page.begin(b"pair"),
+    }
+}
+
 pub fn truth(page: &mut Page, truth: bool) -> Result<(), NoMemory>
     ensures { OnOk result (page.new ≡ with_token page.old (truth_token truth)) }
 {
@@ -59,7 +97,7 @@ pub fn truth(page: &mut Page, truth: bool) -> Result<(), NoMemory>
 
 /// A name by its spelling, where it has one.
 pub fn name(page: &mut Page, names: &[Vec<u8>], x: Name) -> Result<(), NoMemory>
-    ensures { OnOk result (page.new ≡ with_token page.old (name_token (spelled names.now) x.0)) }
+    ensures { OnOk result (page.new ≡ with_token page.old (name_token (spelling_of names.now) x.0)) }
 {
     match names.get(x.0 as usize) {
         Some(name) => page.word(name.as_slice()),

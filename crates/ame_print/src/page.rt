@@ -1,7 +1,7 @@
 //! A text to which tokens are added.
 
 ghost use Rattle.std.specs.Prelude.{◌≡◌, ◌∷◌, [], OnOk, decimal};
-ghost use Rattle.ame_print.specs.Layout.{opening, closing, word as word_token, number as number_token, symbol as symbol_token};
+ghost use Rattle.ame_print.specs.Layout.{open_token, close_token, word as word_token, number_token, symbol as symbol_token};
 ghost use Rattle.ame_print.specs.Printer.{with_token};
 
 use ame_term::NoMemory;
@@ -64,7 +64,7 @@ impl Page {
     }
 
     pub fn open(&mut self) -> Result<(), NoMemory>
-        ensures { OnOk result (self.new ≡ with_token self.old opening) }
+        ensures { OnOk result (self.new ≡ with_token self.old open_token) }
     {
         self.gap()?;
         self.bytes(b"(")?;
@@ -74,14 +74,14 @@ impl Page {
 
     /// An opening parenthesis and the word of a form.
     pub fn begin(&mut self, head: &[u8]) -> Result<(), NoMemory>
-        ensures { OnOk result (self.new ≡ with_token (with_token self.old opening) (word_token head.now)) }
+        ensures { OnOk result (self.new ≡ with_token (with_token self.old open_token) (word_token head.now)) }
     {
         self.open()?;
         self.word(head)
     }
 
     pub fn close(&mut self) -> Result<(), NoMemory>
-        ensures { OnOk result (self.new ≡ with_token self.old closing) }
+        ensures { OnOk result (self.new ≡ with_token self.old close_token) }
     {
         self.bytes(b")")?;
         self.is_first = false;

@@ -4,7 +4,7 @@ ghost use Rattle.std.specs.Prelude.{◌≡◌, IfOk, List, Ok, ℕ};
 ghost use Rattle.ame_term.specs.View.{typ_of, tree_of};
 ghost use Rattle.ame_parse.specs.Text.{reading, source_of};
 ghost use Rattle.ame_print.specs.Again.{ReadsAs, source_text};
-ghost use Rattle.ame_print.specs.Printer.{spelled};
+ghost use Rattle.ame_print.specs.Printer.{spelling_of};
 ghost use Rattle.ame_print.specs.Tokens.{type_text, term_text};
 
 use crate::laws::printed_is_read;
@@ -27,7 +27,7 @@ pub fn print_ty(alloc: Global, shown: &Ty) -> Result<Vec<u8>, NoMemory>
 /// The canonical text of a term, with these spellings for its names. Its time is linear in the text.
 #[tactic(auto, using(crate::proofs::PrinterLemmas::text_of_page))]
 pub fn print_term(alloc: Global, names: &[Vec<u8>], shown: &Term) -> Result<Vec<u8>, NoMemory>
-    ensures { IfOk result (λ text. text.items ≡ term_text (spelled names.now) (tree_of shown.now)) }
+    ensures { IfOk result (λ text. text.items ≡ term_text (spelling_of names.now) (tree_of shown.now)) }
 {
     let mut page = Page::new(alloc);
     term(&mut page, names, shown)?;

@@ -1,16 +1,16 @@
 //! Values and terms.
 
-ghost use Rattle.std.specs.Prelude.{◌≡◌, ◌∷◌, ◌++◌, OnOk, codes, pos};
+ghost use Rattle.std.specs.Prelude.{◌≡◌, ◌∷◌, ◌++◌, OnOk, codes};
 ghost use Rattle.ame_term.specs.View.{val_of, tree_of, trees_of, function_head};
 ghost use Rattle.ame_term.specs.Tree.{Tree};
-ghost use Rattle.ame_print.specs.Layout.{word, number};
-ghost use Rattle.ame_print.specs.Printer.{with_tokens, spelled};
-ghost use Rattle.ame_print.specs.Tokens.{form, value_tokens, term_tokens, row_tokens, function_tokens, param_tokens, name_token, sort_token, op_token, is_unit_tree};
+ghost use Rattle.ame_print.specs.Layout.{word};
+ghost use Rattle.ame_print.specs.Printer.{with_tokens, spelling_of};
+ghost use Rattle.ame_print.specs.Tokens.{form, value_tokens, term_tokens, row_tokens, function_tokens, param_tokens, name_token, unary_tokens, binary_token, is_unit_tree};
 
-use crate::heads::{begin_function, location, name, op, sort, truth};
+use crate::heads::{begin_function, begin_one, begin_two, location, name, truth};
 use crate::page::Page;
 use crate::types::ty;
-use ame_term::{Function, Name, NoMemory, Op, Sort, Term, Value};
+use ame_term::{Binary, Function, Name, NoMemory, Term, Unary, Value};
 
 /// Whether a term is the value unit.
 fn is_unit(term: &Term) -> bool
@@ -23,7 +23,7 @@ fn is_unit(term: &Term) -> bool
 #[cycle(print)]
 #[tactic(auto, using(crate::proofs::PrinterLemmas::append), unfolding(crate::specs::Tokens::value_tokens))]
 fn held(page: &mut Page, names: &[Vec<u8>], value: &Value) -> Result<(), NoMemory>
-    ensures { OnOk result (page.new ≡ with_tokens page.old (value_tokens (spelled names.now) (val_of value.now))) }
+    ensures { OnOk result (page.new ≡ with_tokens page.old (value_tokens (spelling_of names.now) (val_of value.now))) }
 {
     match value {
         Value::Unit => page.word(b"unit"),
@@ -43,7 +43,7 @@ fn held(page: &mut Page, names: &[Vec<u8>], value: &Value) -> Result<(), NoMemor
 /// Prints the parameter of a function, with its type.
 #[tactic(auto, using(crate::proofs::PrinterLemmas::append))]
 fn param(page: &mut Page, names: &[Vec<u8>], f: &Function) -> Result<(), NoMemory>
-    ensures { OnOk result (page.new ≡ with_tokens page.old (param_tokens (spelled names.now) (function_head f.now))) }
+    ensures { OnOk result (page.new ≡ with_tokens page.old (param_tokens (spelling_of names.now) (function_head f.now))) }
 {
     page.open()?;
     name(page, names, f.param)?;
@@ -55,7 +55,7 @@ fn param(page: &mut Page, names: &[Vec<u8>], f: &Function) -> Result<(), NoMemor
 #[cycle(print)]
 #[tactic(auto, using(crate::proofs::PrinterLemmas::append))]
 fn function(page: &mut Page, names: &[Vec<u8>], f: &Function) -> Result<(), NoMemory>
-    ensures { OnOk result (page.new ≡ with_tokens page.old (function_tokens (spelled names.now) (function_head f.now) (term_tokens (spelled names.now) (tree_of f.now.body)))) }
+    ensures { OnOk result (page.new ≡ with_tokens page.old (function_tokens (spelling_of names.now) (function_head f.now) (term_tokens (spelling_of names.now) (tree_of f.now.body)))) }
 {
     match &f.own {
         None => {
@@ -76,10 +76,10 @@ fn function(page: &mut Page, names: &[Vec<u8>], f: &Function) -> Result<(), NoMe
 /// Prints a form with one part.
 #[cycle(print)]
 #[tactic(auto, using(crate::proofs::PrinterLemmas::append))]
-fn one(page: &mut Page, names: &[Vec<u8>], head: &[u8], part: &Term) -> Result<(), NoMemory>
-    ensures { OnOk result (page.new ≡ with_tokens page.old (form (word head.now ∷ term_tokens (spelled names.now) (tree_of part.now)))) }
+fn one(page: &mut Page, names: &[Vec<u8>], op: Unary, part: &Term) -> Result<(), NoMemory>
+    ensures { OnOk result (page.new ≡ with_tokens page.old (form (unary_tokens op ++ term_tokens (spelling_of names.now) (tree_of part.now)))) }
 {
-    page.begin(head)?;
+    begin_one(page, op)?;
     term(page, names, part)?;
     page.close()
 }
@@ -90,15 +90,26 @@ fn one(page: &mut Page, names: &[Vec<u8>], head: &[u8], part: &Term) -> Result<(
 fn two(
     page: &mut Page,
     names: &[Vec<u8>],
-    head: &[u8],
+    op: Binary,
     first: &Term,
     second: &Term,
 ) -> Result<(), NoMemory>
-    ensures { OnOk result (page.new ≡ with_tokens page.old (form (word head.now ∷ term_tokens (spelled names.now) (tree_of first.now) ++ term_tokens (spelled names.now) (tree_of second.now)))) }
+    ensures { OnOk result (page.new ≡ with_tokens page.old (form (binary_token op ∷ term_tokens (spelling_of names.now) (tree_of first.now) ++ term_tokens (spelling_of names.now) (tree_of second.now)))) }
 {
-    page.begin(head)?;
+    begin_two(page, op)?;
     term(page, names, first)?;
     term(page, names, second)?;
+    page.close()
+}
+
+/// Prints a form that is its word and a term.
+#[cycle(print)]
+#[tactic(auto, using(crate::proofs::PrinterLemmas::append))]
+fn alone(page: &mut Page, names: &[Vec<u8>], head: &[u8], part: &Term) -> Result<(), NoMemory>
+    ensures { OnOk result (page.new ≡ with_tokens page.old (form (word head.now ∷ term_tokens (spelling_of names.now) (tree_of part.now)))) }
+{
+    page.begin(head)?;
+    term(page, names, part)?;
     page.close()
 }
 
@@ -112,7 +123,7 @@ fn binding(
     bound: &Term,
     body: &Term,
 ) -> Result<(), NoMemory>
-    ensures { OnOk result (page.new ≡ with_tokens page.old (form (word (codes "let") ∷ name_token (spelled names.now) x.0 ∷ term_tokens (spelled names.now) (tree_of bound.now) ++ term_tokens (spelled names.now) (tree_of body.now)))) }
+    ensures { OnOk result (page.new ≡ with_tokens page.old (form (word (codes "let") ∷ name_token (spelling_of names.now) x.0 ∷ term_tokens (spelling_of names.now) (tree_of bound.now) ++ term_tokens (spelling_of names.now) (tree_of body.now)))) }
 {
     page.begin(b"let")?;
     name(page, names, x)?;
@@ -131,7 +142,7 @@ fn choice(
     yes: &Term,
     no: &Term,
 ) -> Result<(), NoMemory>
-    ensures { OnOk result (page.new ≡ with_tokens page.old (form (word (codes "if") ∷ term_tokens (spelled names.now) (tree_of test.now) ++ term_tokens (spelled names.now) (tree_of yes.now) ++ term_tokens (spelled names.now) (tree_of no.now)))) }
+    ensures { OnOk result (page.new ≡ with_tokens page.old (form (word (codes "if") ∷ term_tokens (spelling_of names.now) (tree_of test.now) ++ term_tokens (spelling_of names.now) (tree_of yes.now) ++ term_tokens (spelling_of names.now) (tree_of no.now)))) }
 {
     page.begin(b"if")?;
     term(page, names, test)?;
@@ -140,75 +151,24 @@ fn choice(
     page.close()
 }
 
-/// Prints an operator with its parts.
-#[cycle(print)]
-#[tactic(auto, using(crate::proofs::PrinterLemmas::append))]
-fn operation(
-    page: &mut Page,
-    names: &[Vec<u8>],
-    which: Op,
-    left: &Term,
-    right: &Term,
-) -> Result<(), NoMemory>
-    ensures { OnOk result (page.new ≡ with_tokens page.old (form (op_token which ∷ term_tokens (spelled names.now) (tree_of left.now) ++ term_tokens (spelled names.now) (tree_of right.now)))) }
-{
-    page.open()?;
-    op(page, which)?;
-    term(page, names, left)?;
-    term(page, names, right)?;
-    page.close()
-}
-
-/// Prints a `ref` form.
-#[cycle(print)]
-#[tactic(auto, using(crate::proofs::PrinterLemmas::append))]
-fn reference(page: &mut Page, names: &[Vec<u8>], which: Sort, part: &Term) -> Result<(), NoMemory>
-    ensures { OnOk result (page.new ≡ with_tokens page.old (form (word (codes "ref") ∷ sort_token which ∷ term_tokens (spelled names.now) (tree_of part.now)))) }
-{
-    page.begin(b"ref")?;
-    sort(page, which)?;
-    term(page, names, part)?;
-    page.close()
-}
-
-/// Prints a call of a device.
-#[cycle(print)]
-#[tactic(auto, using(crate::proofs::PrinterLemmas::append))]
-fn call(page: &mut Page, names: &[Vec<u8>], device: u8, part: &Term) -> Result<(), NoMemory>
-    ensures { OnOk result (page.new ≡ with_tokens page.old (form (word (codes "call") ∷ number (pos device) ∷ term_tokens (spelled names.now) (tree_of part.now)))) }
-{
-    page.begin(b"call")?;
-    page.number(i64::from(device))?;
-    term(page, names, part)?;
-    page.close()
-}
-
 /// Prints an `unprotected` form, as `yield` where its part is unit.
 #[cycle(print)]
 #[tactic(auto, using(crate::proofs::PrinterLemmas::append), unfolding(crate::specs::Tokens::term_tokens))]
 fn unprotected(page: &mut Page, names: &[Vec<u8>], part: &Term) -> Result<(), NoMemory>
-    ensures { OnOk result (page.new ≡ with_tokens page.old (term_tokens (spelled names.now) (Tree.Unprotected (tree_of part.now)))) }
+    ensures { OnOk result (page.new ≡ with_tokens page.old (term_tokens (spelling_of names.now) (Tree.Unprotected (tree_of part.now)))) }
 {
     if is_unit(part) {
         page.word(b"yield")
     } else {
-        one(page, names, b"unprotected", part)
+        alone(page, names, b"unprotected", part)
     }
-}
-
-/// Prints a `blockUntil` form.
-#[cycle(print)]
-fn block_until(page: &mut Page, names: &[Vec<u8>], part: &Term) -> Result<(), NoMemory>
-    ensures { OnOk result (page.new ≡ with_tokens page.old (form (word (codes "blockUntil") ∷ term_tokens (spelled names.now) (tree_of part.now)))) }
-{
-    one(page, names, b"blockUntil", part)
 }
 
 /// Prints a `do` form.
 #[cycle(print)]
 #[tactic(auto, using(crate::proofs::PrinterLemmas::append))]
 fn sequence(page: &mut Page, names: &[Vec<u8>], parts: &[Term]) -> Result<(), NoMemory>
-    ensures { OnOk result (page.new ≡ with_tokens page.old (form (word (codes "do") ∷ row_tokens (spelled names.now) (trees_of parts.now)))) }
+    ensures { OnOk result (page.new ≡ with_tokens page.old (form (word (codes "do") ∷ row_tokens (spelling_of names.now) (trees_of parts.now)))) }
 {
     page.begin(b"do")?;
     row(page, names, parts)?;
@@ -219,7 +179,7 @@ fn sequence(page: &mut Page, names: &[Vec<u8>], parts: &[Term]) -> Result<(), No
 #[cycle(print)]
 #[tactic(auto, using(crate::proofs::PrinterLemmas::append), unfolding(crate::specs::Tokens::row_tokens))]
 fn row(page: &mut Page, names: &[Vec<u8>], parts: &[Term]) -> Result<(), NoMemory>
-    ensures { OnOk result (page.new ≡ with_tokens page.old (row_tokens (spelled names.now) (trees_of parts.now))) }
+    ensures { OnOk result (page.new ≡ with_tokens page.old (row_tokens (spelling_of names.now) (trees_of parts.now))) }
 {
     for part in parts {
         term(page, names, part)?;
@@ -231,29 +191,29 @@ fn row(page: &mut Page, names: &[Vec<u8>], parts: &[Term]) -> Result<(), NoMemor
 #[cycle(print)]
 #[tactic(auto, using(crate::proofs::PrinterLemmas::append, crate::proofs::Sizes::tree_of_do), unfolding(crate::specs::Tokens::term_tokens))]
 pub fn term(page: &mut Page, names: &[Vec<u8>], shown: &Term) -> Result<(), NoMemory>
-    ensures { OnOk result (page.new ≡ with_tokens page.old (term_tokens (spelled names.now) (tree_of shown.now))) }
+    ensures { OnOk result (page.new ≡ with_tokens page.old (term_tokens (spelling_of names.now) (tree_of shown.now))) }
 {
     match shown {
         Term::Held(value) => held(page, names, value),
         Term::Var(x) => name(page, names, *x),
         Term::Fun(f) => function(page, names, f),
-        Term::App(f, a) => two(page, names, b"app", f, a),
+        Term::App(f, a) => two(page, names, Binary::App, f, a),
         Term::Let(x, bound, body) => binding(page, names, *x, bound, body),
         Term::Do(parts) => sequence(page, names, parts),
         Term::If(test, yes, no) => choice(page, names, test, yes, no),
-        Term::Bin(which, left, right) => operation(page, names, *which, left, right),
-        Term::Not(part) => one(page, names, b"not", part),
-        Term::Ref(which, part) => reference(page, names, *which, part),
-        Term::Get(part) => one(page, names, b"get", part),
-        Term::Peek(part) => one(page, names, b"peek", part),
-        Term::Set(cell, content) => two(page, names, b"set", cell, content),
-        Term::Async(body) => one(page, names, b"async", body),
-        Term::Block(part) => block_until(page, names, part),
+        Term::Bin(op, left, right) => two(page, names, Binary::Bin(*op), left, right),
+        Term::Not(part) => one(page, names, Unary::Not, part),
+        Term::Ref(sort, part) => one(page, names, Unary::Ref(*sort), part),
+        Term::Get(part) => one(page, names, Unary::Get, part),
+        Term::Peek(part) => one(page, names, Unary::Peek, part),
+        Term::Set(cell, content) => two(page, names, Binary::Set, cell, content),
+        Term::Async(body) => alone(page, names, b"async", body),
+        Term::Block(part) => one(page, names, Unary::Block, part),
         Term::Unprotected(part) => unprotected(page, names, part),
-        Term::Print(part) => one(page, names, b"print", part),
-        Term::Call(device, part) => call(page, names, *device, part),
-        Term::Pair(first, second) => two(page, names, b"pair", first, second),
-        Term::First(part) => one(page, names, b"fst", part),
-        Term::Second(part) => one(page, names, b"snd", part),
+        Term::Print(part) => one(page, names, Unary::Print, part),
+        Term::Call(device, part) => one(page, names, Unary::Call(*device), part),
+        Term::Pair(first, second) => two(page, names, Binary::Pair, first, second),
+        Term::First(part) => one(page, names, Unary::First, part),
+        Term::Second(part) => one(page, names, Unary::Second, part),
     }
 }

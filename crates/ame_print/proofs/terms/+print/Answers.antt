@@ -1,6 +1,6 @@
 use Rattle.std.proofs.Common.{sym, ap, ◌∙◌, arith, take}
 use Rattle.ame_term.specs.View.{tree_of, trees_of}
-use Rattle.ame_print.specs.Printer.{with_tokens, spelled}
+use Rattle.ame_print.specs.Printer.{with_tokens, spelling_of}
 use Rattle.ame_print.specs.Tokens.{term_tokens, row_tokens}
 use Rattle.ame_print.proofs.Sizes.{part_is_smaller}
 use Rattle.ame_print.proofs.RowLemmas.{row_more}
@@ -12,7 +12,7 @@ row-term-requires t c = (omega (arith, part_is_smaller c.args.parts.now c.loop-p
 
 pub row-loop-part-preserved : goal.row-loop-part-preserved
 row-loop-part-preserved t c =
-    let all = spelled c.args.names.now in
+    let all = spelling_of c.args.names.now in
     let row = row_tokens all in
     let so_far = trees_of (take c.loop-part.part-index c.args.parts.now) in
     c.in_ok-term.ensures

@@ -2,7 +2,7 @@
 
 ghost use Rattle.std.specs.Prelude.{◌≡◌, map, None, Some, IfOk};
 ghost use Rattle.ame_term.specs.Tree as tree;
-ghost use Rattle.ame_term.specs.View.{tree_of, typ_of};
+ghost use Rattle.ame_term.specs.View.{own_of, tree_of, typ_of};
 ghost use Rattle.ame_parse.specs.Forms as spec;
 
 use ame_term::{Binary, Effect, Function, Name, Own, Term, Ty, Unary, Value};
@@ -94,7 +94,8 @@ pub fn function(
     param_ty: Ty,
     body: Term,
 ) -> Result<Term, AllocError>
-    ensures { IfOk result (λ t. tree_of t ≡ tree.Tree.Lambda (record { effect = effect; own = None; param = param.0; param_type = typ_of param_ty }) (tree_of body)) }
+    ensures { IfOk result (λ t. tree_of t
+        ≡ tree.Tree.Lambda (record { effect = effect; own = None; param = param.0; param_type = typ_of param_ty }) (tree_of body)) }
 {
     let function = Function {
         effect,
@@ -115,7 +116,8 @@ pub fn recursive(
     param_ty: Ty,
     body: Term,
 ) -> Result<Term, AllocError>
-    ensures { IfOk result (λ t. tree_of t ≡ tree.Tree.Lambda (record { effect = effect; own = Some (record { name = own.name.0; result = typ_of own.result }); param = param.0; param_type = typ_of param_ty }) (tree_of body)) }
+    ensures { IfOk result (λ t. tree_of t
+        ≡ tree.Tree.Lambda (record { effect = effect; own = Some (own_of own); param = param.0; param_type = typ_of param_ty }) (tree_of body)) }
 {
     let function = Function {
         effect,

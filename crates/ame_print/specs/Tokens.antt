@@ -119,7 +119,8 @@ unfoldable mutual
   term_tokens names (Tree.If test first second) = form (word (codes "if") ∷ term_tokens names test ++ term_tokens names first ++ term_tokens names second)
   term_tokens names (Tree.Async body) = form (word (codes "async") ∷ term_tokens names body)
   -- `unprotected unit` is `yield`
-  term_tokens names (Tree.Unprotected part) = if is_unit_tree part then word (codes "yield") ∷ [] else form (word (codes "unprotected") ∷ term_tokens names part)
+  term_tokens names (Tree.Unprotected part) =
+      if is_unit_tree part then word (codes "yield") ∷ [] else form (word (codes "unprotected") ∷ term_tokens names part)
   term_tokens names (Tree.One op part) = form (unary_tokens op ++ term_tokens names part)
   term_tokens names (Tree.Two op left right) = form (binary_token op ∷ term_tokens names left ++ term_tokens names right)
 

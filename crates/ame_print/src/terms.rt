@@ -55,7 +55,8 @@ fn param(page: &mut Page, names: &[Vec<u8>], f: &Function) -> Result<(), NoMemor
 #[cycle(print)]
 #[tactic(auto, using(crate::proofs::PrinterLemmas::append))]
 fn function(page: &mut Page, names: &[Vec<u8>], f: &Function) -> Result<(), NoMemory>
-    ensures { OnOk result (page.new ≡ with_tokens page.old (function_tokens (spelling_of names.now) (function_head f.now) (term_tokens (spelling_of names.now) (tree_of f.now.body)))) }
+    ensures { OnOk result (page.new
+        ≡ with_tokens page.old (function_tokens (spelling_of names.now) (function_head f.now) (term_tokens (spelling_of names.now) (tree_of f.now.body)))) }
 {
     match &f.own {
         None => {
@@ -94,7 +95,8 @@ fn two(
     first: &Term,
     second: &Term,
 ) -> Result<(), NoMemory>
-    ensures { OnOk result (page.new ≡ with_tokens page.old (form (binary_token op ∷ term_tokens (spelling_of names.now) (tree_of first.now) ++ term_tokens (spelling_of names.now) (tree_of second.now)))) }
+    ensures { OnOk result (page.new ≡ with_tokens page.old (form (binary_token op
+        ∷ term_tokens (spelling_of names.now) (tree_of first.now) ++ term_tokens (spelling_of names.now) (tree_of second.now)))) }
 {
     begin_two(page, op)?;
     term(page, names, first)?;
@@ -123,7 +125,8 @@ fn binding(
     bound: &Term,
     body: &Term,
 ) -> Result<(), NoMemory>
-    ensures { OnOk result (page.new ≡ with_tokens page.old (form (word (codes "let") ∷ name_token (spelling_of names.now) x.0 ∷ term_tokens (spelling_of names.now) (tree_of bound.now) ++ term_tokens (spelling_of names.now) (tree_of body.now)))) }
+    ensures { OnOk result (page.new ≡ with_tokens page.old (form (word (codes "let") ∷ name_token (spelling_of names.now) x.0
+        ∷ term_tokens (spelling_of names.now) (tree_of bound.now) ++ term_tokens (spelling_of names.now) (tree_of body.now)))) }
 {
     page.begin(b"let")?;
     name(page, names, x)?;
@@ -142,7 +145,8 @@ fn choice(
     yes: &Term,
     no: &Term,
 ) -> Result<(), NoMemory>
-    ensures { OnOk result (page.new ≡ with_tokens page.old (form (word (codes "if") ∷ term_tokens (spelling_of names.now) (tree_of test.now) ++ term_tokens (spelling_of names.now) (tree_of yes.now) ++ term_tokens (spelling_of names.now) (tree_of no.now)))) }
+    ensures { OnOk result (page.new ≡ with_tokens page.old (form (word (codes "if") ∷ term_tokens (spelling_of names.now) (tree_of test.now)
+        ++ term_tokens (spelling_of names.now) (tree_of yes.now) ++ term_tokens (spelling_of names.now) (tree_of no.now)))) }
 {
     page.begin(b"if")?;
     term(page, names, test)?;

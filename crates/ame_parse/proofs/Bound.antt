@@ -8,7 +8,7 @@ use Rattle.ame_term.specs.SourceTerm.{names_within, is_name_of, IsBound, AllBoun
 use Rattle.ame_parse.specs.Input.{Input, advanced, marked, name_number, named, binds_name, bound, unbound}
 use Rattle.ame_parse.specs.Forms.{row}
 use Rattle.ame_parse.specs.Grammar as g
-use Rattle.ame_parse.specs.Grammar.{IsType, IsTypeForm, IsParam, IsHead, outside, IsTerm, IsForm, AreParts}
+use Rattle.ame_parse.specs.Grammar.{IsType, IsTypeForm, IsParam, IsFunctionHead, outside, IsTerm, IsForm, AreParts}
 
 -- ---- a term leaves the scope as it was
 
@@ -54,7 +54,7 @@ param_scope : {n : ℕ} {i j : Input} {x : ℕ} {type : Typ} → IsParam n i x t
 param_scope (g.param {i = i} {j = j} e e' h shut) = scope_advanced j ∙ type_scope h ∙ scope_named (advanced i) ∙ scope_advanced i
 
 -- what ends with the scope of a body leaves a function with the scope that was before
-head_scope : {n : ℕ} {i j : Input} {head : Head} → IsHead n i head j → (k : Input) → scope_of k ≡ scope_of j → scope_of (outside head.own k) ≡ scope_of i
+head_scope : {n : ℕ} {i j : Input} {head : Head} → IsFunctionHead n i head j → (k : Input) → scope_of k ≡ scope_of j → scope_of (outside head.own k) ≡ scope_of i
 head_scope (g.fn {i = i} {j = j} {x = x} e q p) k same =
     scope_unbound k (scope_of j) x (same ∙ scope_bound x j) ∙ param_scope p ∙ scope_advanced (advanced i) ∙ scope_advanced i
 head_scope (g.rec {own = own} {i = i} {k = k} {x = x} e q e' own_is p t) last same =
@@ -110,7 +110,7 @@ variable_covered : (names : List ℕ) (i : Input) (x : ℕ) → Covers names (sc
 unfolding binds_name
 variable_covered names i x covers e = covers x e
 
-head_covers : {n : ℕ} {i j : Input} {head : Head} → IsHead n i head j → (names : List ℕ) → Covers names (scope_of i) → Covers (names_within head.own head.param names) (scope_of j)
+head_covers : {n : ℕ} {i j : Input} {head : Head} → IsFunctionHead n i head j → (names : List ℕ) → Covers names (scope_of i) → Covers (names_within head.own head.param names) (scope_of j)
 head_covers (g.fn {i = i} {j = j} {x = x} e q p) names covers =
     one_more names _ _ x (scope_bound x j) (moved names _ _ (param_scope p ∙ scope_advanced (advanced i) ∙ scope_advanced i) covers)
 head_covers (g.rec {own = own} {i = i} {k = k} {x = x} e q e' own_is p t) names covers =

@@ -25,7 +25,7 @@ use Rattle.ame_parse.specs.Types.{ty, param}
 use Rattle.ame_parse.specs.Forms.{opener_of, op_of, row}
 use Rattle.ame_parse.specs.Reading.{alone, two, choice, binding, more_from, more, first_two, sequence, reference, call, function, recursive, form_by, compound, variable, yielding, constant, atom_by, atom, term_by, nested, term}
 use Rattle.ame_parse.specs.Grammar as g
-use Rattle.ame_parse.specs.Grammar.{IsSort, IsEffect, IsOp, IsUnary, IsBinary, IsType, IsTypeForm, IsParam, IsHead, outside, IsTerm, IsForm, AreParts}
+use Rattle.ame_parse.specs.Grammar.{IsSort, IsEffect, IsOp, IsUnary, IsBinary, IsType, IsTypeForm, IsParam, IsFunctionHead, outside, IsTerm, IsForm, AreParts}
 
 -- ---- each reading takes a token
 
@@ -88,7 +88,7 @@ mutual
 param_takes : {n : ℕ} {i j : Input} {x : ℕ} {type : Typ} → IsParam n i x type j → tokens_left j < tokens_left i
 param_takes (g.param {i = i} {j = j} e e' h shut) = omega (arith, left_advanced i, left_named (advanced i), left_advanced (advanced i), left_advanced j, type_takes h)
 
-head_takes : {n : ℕ} {i j : Input} {head : Head} → IsHead n i head j → tokens_left j < tokens_left i
+head_takes : {n : ℕ} {i j : Input} {head : Head} → IsFunctionHead n i head j → tokens_left j < tokens_left i
 head_takes (g.fn {i = i} {j = j} {x = x} e q p) = omega (arith, left_advanced i, left_advanced (advanced i), param_takes p, left_bound x j)
 head_takes (g.rec {own = own} {i = i} {k = k} {x = x} e q e' same p t) =
     omega (
@@ -367,7 +367,7 @@ binary_at part parameter type i g.pair = refl
 binary_at part parameter type i (g.operation {symbol = symbol} {op = o} is) =
     ap (λ z. form_by part parameter type (option_map (λ op. opener.Two (binary.Bin op)) z) i) (op_at symbol o is)
 
-function_at : {n : ℕ} {i j k : Input} {head : Head} {body : Tree} → IsHead n i head j → term n j ≡ Ok (body, k) → ahead k ≡ a.Closing
+function_at : {n : ℕ} {i j k : Input} {head : Head} {body : Tree} → IsFunctionHead n i head j → term n j ≡ Ok (body, k) → ahead k ≡ a.Closing
     → compound (term n) (param n) (ty n) i ≡ Ok (Tree.Lambda head body, outside head.own (advanced k))
 unfolding opener_of
 function_at {k = k} (g.fn {n = n} {i = i} {j = j} e q p) read shut =

@@ -5,7 +5,7 @@ use Rattle.ame_term.specs.SourceTerm.{nodes, all_nodes, IsSourceTerm, AreSourceT
 use Rattle.ame_parse.specs.Input.{Input, place, advanced, marked, named, bound, unbound}
 use Rattle.ame_parse.specs.Forms.{row}
 use Rattle.ame_parse.specs.Grammar as g
-use Rattle.ame_parse.specs.Grammar.{IsType, IsTypeForm, IsParam, IsHead, outside, IsTerm, IsForm, AreParts}
+use Rattle.ame_parse.specs.Grammar.{IsType, IsTypeForm, IsParam, IsFunctionHead, outside, IsTerm, IsForm, AreParts}
 
 -- ---- places
 
@@ -60,7 +60,7 @@ count_outside : (own : Option OwnName) (i : Input) → count (outside own i) ≡
 count_outside None i = count_unbound i
 count_outside (Some own) i = count_unbound (unbound i) ∙ count_unbound i
 
-head_places : {n : ℕ} {i j : Input} {head : Head} → IsHead n i head j → count j ≡ count i
+head_places : {n : ℕ} {i j : Input} {head : Head} → IsFunctionHead n i head j → count j ≡ count i
 head_places (g.fn {i = i} {j = j} {x = x} e q p) = omega (arith, count_advanced i, count_advanced (advanced i), param_places p, count_bound x j)
 head_places (g.rec {own = own} {i = i} {k = k} {x = x} e q e' same p t) =
     omega (

@@ -103,12 +103,12 @@ pub data IsParam : ℕ → Input → ℕ → Typ → Input → Type 0 where
       → IsParam (suc n) i (name_number (advanced i)) type (advanced j)
 
 -- The same of all of a function form that stands before its body. Its names are bound in the second input.
-pub data IsHead : ℕ → Input → Head → Input → Type 0 where
+pub data IsFunctionHead : ℕ → Input → Head → Input → Type 0 where
   fn : {n : ℕ} {i j : Input} {effect : Effect} {x : ℕ} {type : Typ}
       → ahead i ≡ a.Reserved w.Fn
       → IsEffect (advanced i) effect
       → IsParam n (advanced (advanced i)) x type j
-      → IsHead n i (record { effect = effect; own = None; param = x; param_type = type }) (bound x j)
+      → IsFunctionHead n i (record { effect = effect; own = None; param = x; param_type = type }) (bound x j)
   -- the parameter is bound within the own name, so it hides it where they are the same
   rec : {n own : ℕ} {i j k : Input} {effect : Effect} {x : ℕ} {type gives : Typ}
       → ahead i ≡ a.Reserved w.Rec
@@ -117,7 +117,7 @@ pub data IsHead : ℕ → Input → Head → Input → Type 0 where
       → name_number (advanced (advanced i)) ≡ own
       → IsParam n (named (advanced (advanced i))) x type j
       → IsType n j gives k
-      → IsHead n i (record { effect = effect; own = Some (record { name = own; result = gives }); param = x; param_type = type }) (bound x (bound own k))
+      → IsFunctionHead n i (record { effect = effect; own = Some (record { name = own; result = gives }); param = x; param_type = type }) (bound x (bound own k))
 
 -- the input behind a function form, whose names are no longer bound
 abbrev pub outside : Option OwnName → Input → Input
@@ -145,7 +145,7 @@ mutual
   -- The same of a form after its opening parenthesis.
   pub data IsForm : ℕ → Input → Tree → Input → Type 0 where
     function : {n : ℕ} {i j k : Input} {head : Head} {body : Tree}
-        → IsHead n i head j
+        → IsFunctionHead n i head j
         → IsTerm n j body k
         → ahead k ≡ a.Closing
         → IsForm n i (Tree.Lambda head body) (outside head.own (advanced k))

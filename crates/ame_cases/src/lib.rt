@@ -4,12 +4,8 @@
 #[cfg(test)]
 mod labels;
 #[cfg(test)]
-mod numbers;
-#[cfg(test)]
 mod replays;
 #[cfg(test)]
 mod runs;
-#[cfg(test)]
-mod turns;
 #[cfg(test)]
 mod workload;

@@ -1,9 +1,5 @@
 //! What several tables share: the program of a text, and the labels of its run.
 
-ghost use Rattle.std.specs.Prelude.{◌≡◌, [], IfOk, length};
-ghost use Rattle.ame_term.specs.View.{tree_of};
-ghost use Rattle.ame_term.specs.Written.{nodes, IsWritten, IsBound};
-
 use ame_lex::lex;
 use ame_parse::parse;
 use ame_strong::{Next, StepFail, StrongState};
@@ -16,11 +12,7 @@ use std::test::Fail;
 pub const LIMIT: usize = 1_048_576;
 
 /// The program of a text. The types aren't asked.
-pub fn read(alloc: Global, text: &[u8]) -> Result<Program, Fail>
-    ensures places { IfOk result (λ p. length p.places.items ≡ nodes (tree_of p.term)) }
-    ensures written { IfOk result (λ p. IsWritten (tree_of p.term)) }
-    ensures bound { IfOk result (λ p. IsBound [] (tree_of p.term)) }
-{
+pub fn read(alloc: Global, text: &[u8]) -> Result<Program, Fail> {
     if text.len() > LIMIT {
         return Err("too long".into());
     }

@@ -14,4 +14,6 @@ pub use lexer::lex;
 pub use tokens::{Kind, LexFault, Token};
 
 #[cfg(test)]
+mod number_tests;
+#[cfg(test)]
 mod tests;

@@ -8,7 +8,7 @@ use Rattle.ame_term.specs.Tree.{Typ, Head, Tree}
 use Rattle.ame_parse.specs.Input.{Seen, Input, advanced, marked, spelling, named, bound, unbound}
 use Rattle.ame_parse.specs.Names.{with_name}
 use Rattle.ame_parse.specs.Grammar as g
-use Rattle.ame_parse.specs.Grammar.{IsType, IsTypeForm, IsParam, IsHead, outside, IsTerm, IsForm, AreParts}
+use Rattle.ame_parse.specs.Grammar.{IsType, IsTypeForm, IsParam, IsFunctionHead, outside, IsTerm, IsForm, AreParts}
 use Rattle.ame_print.proofs.Canon.{IsFirstOf, IsGood}
 
 -- ---- first names
@@ -99,7 +99,7 @@ mutual
 -- ---- terms
 
 -- what grows from the names of a head, and loses them
-head_grows : {n : ℕ} {i j k : Input} {head : Head} → IsHead n i head j → Grows j k → Grows i (outside head.own k)
+head_grows : {n : ℕ} {i j k : Input} {head : Head} → IsFunctionHead n i head j → Grows j k → Grows i (outside head.own k)
 head_grows (g.fn {i = i} {j = j} {x = x} e q p) more = grows_after i ▸ grows_after (advanced i) ▸ param_grows p ▸ grows_unbound x j more
 head_grows (g.rec {own = own} {i = i} {k = k} {x = x} e q e' same p t) more =
     grows_after i ▸ grows_after (advanced i) ▸ grows_named (advanced (advanced i)) ▸ param_grows p ▸ type_grows t ▸ grows_unbound own k (grows_unbound x (bound own k) more)

@@ -11,7 +11,7 @@ use Rattle.ame_parse.specs.declared.ahead.Ahead.TheVariants as a
 use Rattle.ame_parse.specs.Input.{Input, ahead, advanced, marked, name_number, spelling, named, binds_name, bound, unbound}
 use Rattle.ame_parse.specs.Forms.{row}
 use Rattle.ame_parse.specs.Grammar as g
-use Rattle.ame_parse.specs.Grammar.{IsTerm, IsForm, IsParam, IsHead, outside, IsType, AreParts}
+use Rattle.ame_parse.specs.Grammar.{IsTerm, IsForm, IsParam, IsFunctionHead, outside, IsType, AreParts}
 use Rattle.ame_print.specs.Layout.{Printed, close_token, word}
 use Rattle.ame_print.specs.Layout as layout
 use Rattle.ame_print.specs.Tokens.{form, is_unit, is_unit_tree, type_tokens, name_token, function_tokens, term_tokens, row_tokens}
@@ -126,7 +126,7 @@ device i value e again =
     record { adds = over here again.adds; part = λ good first. parts.begun (number_fixed i value e good) (moves_after _ i) (again.part (here.good good) first) }
 
 -- a function, whose body is read again
-function : {n : ℕ} {i j k : Input} {head : Head} {body : Tree} → IsHead n i head j → (all : List Text) → IsAgain all (term_tokens all body) n j body k
+function : {n : ℕ} {i j k : Input} {head : Head} {body : Tree} → IsFunctionHead n i head j → (all : List Text) → IsAgain all (term_tokens all body) n j body k
     → IsAgain all (function_tokens all head (term_tokens all body)) (suc n) i (Tree.Lambda head body) (outside head.own (advanced k))
 function {k = k} (g.fn {i = i} {j = j} {effect = effect} {x = x} e q p) all again =
     formed (ends_unbound (ends k)) (step i (reserved w.Fn) (step (advanced i) (effect_fixed effect) (joined (parameter p all) (inner x j again))))

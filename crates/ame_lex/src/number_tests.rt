@@ -1,5 +1,5 @@
 //! Numbers at the limits, with leading zeros.
-use ame_lex::{Kind, LexFault, lex};
+use crate::{Kind, LexFault, lex};
 use std::alloc::Global;
 use std::test::Fail;
 

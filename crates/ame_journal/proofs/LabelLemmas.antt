@@ -220,7 +220,7 @@ unfold-all r (entry ∷ entries) t e =
 
 -- Each label is legal.
 
-unfolds-run : (r : Replayed) (i : ℕ) (kind : EntryKind) (n : ℕ) (fresh : List ℕ) (answer : Option ℤ) (labels : List Label) (t : Replayed) →
+pub unfolds-run : (r : Replayed) (i : ℕ) (kind : EntryKind) (n : ℕ) (fresh : List ℕ) (answer : Option ℤ) (labels : List Label) (t : Replayed) →
     Unfolds r i kind n fresh answer labels t → run r.state labels ≡ Some t.state
 unfolds-run r i _ _ _ _ _ _ (Unfolds.leaves kinds n fresh s outside are runs) = runs
 unfolds-run r i _ _ _ _ _ _ (Unfolds.ends kinds n fresh s outside are runs) = runs

@@ -14,3 +14,4 @@ pub mod MovedLemmas
 pub mod ReachedLemmas
 pub mod NoteLemmas
 pub mod TypedLemmas
+pub mod CallLemmas

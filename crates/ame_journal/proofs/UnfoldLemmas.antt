@@ -45,7 +45,7 @@ counted label i kinds n fresh answer s t are e =
     subst (λ m. steps label i m (record { fresh = fresh; answer = answer }) s ≡ Some t) are.count
     (subst (λ ls. steps label i (length kinds) (record { fresh = ls; answer = answer }) s ≡ Some t) are.made e)
 
-free-back : (i : ℕ) (kinds : List StepKind) (n : ℕ) (fresh : List ℕ) (answer : Option ℤ) (s t : State) → AreSteps kinds n fresh answer → run s (free_labels i kinds) ≡ Some t →
+pub free-back : (i : ℕ) (kinds : List StepKind) (n : ℕ) (fresh : List ℕ) (answer : Option ℤ) (s t : State) → AreSteps kinds n fresh answer → run s (free_labels i kinds) ≡ Some t →
     steps (Label.Free i) i n (record { fresh = fresh; answer = answer }) s ≡ Some t
 free-back i kinds n fresh answer s t are e =
     counted (Label.Free i) i kinds n fresh answer s t are

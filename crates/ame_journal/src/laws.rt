@@ -5,7 +5,7 @@ ghost use Rattle.ame_term.specs.Tree.{Typ, Tree};
 ghost use Rattle.ame_term.specs.View.{tree_of};
 ghost use Rattle.ame_term.specs.SourceTerm.{IsSourceTerm};
 ghost use Rattle.ame_term.specs.Typing.{Accepts};
-ghost use Rattle.ame_term.specs.State.{IsRun};
+ghost use Rattle.ame_term.specs.State.{start, IsRun};
 ghost use Rattle.ame_term.specs.declared.semantics.Label.{Label};
 ghost use Rattle.ame_laws.specs.Orderly.{IsOrderly};
 ghost use Rattle.ame_soundness.specs.StoreTyping.{StoreTyping};
@@ -15,6 +15,7 @@ ghost use Rattle.ame_journal.specs.Replayed.{Replayed, begun_at, is_inside, is_a
 ghost use Rattle.ame_journal.specs.Labels.{UnfoldsAll};
 ghost use Rattle.ame_journal.specs.Replay.{replay, replay_entry, replay_from};
 ghost use Rattle.ame_journal.specs.Totals.{is_note, without_notes};
+ghost use Rattle.ame_journal.specs.Calls.{calls_along, device_calls, device_calls_from};
 ghost use Rattle.ame_journal.specs.Text.{IsText, IsFirstBadLine};
 
 use ame_term::Accepted;
@@ -46,7 +47,8 @@ pub fn journal_is_one_run()
 
 /// A journal whose entries unfold into labels can be replayed, and ends in the same state.
 pub fn unfolded_is_replayed()
-    ensures { (program : Tree) (entries : List Entry) (labels : List Label) (r : Replayed) → UnfoldsAll (begun_at program) entries labels r → replay program entries ≡ Some r }
+    ensures { (program : Tree) (entries : List Entry) (labels : List Label) (r : Replayed) →
+        UnfoldsAll (begun_at program) entries labels r → replay program entries ≡ Some r }
 {}
 
 /// A note changes nothing, and a journal leads to the same state without its notes.
@@ -54,6 +56,18 @@ pub fn notes_change_nothing()
     ensures entry { (r : Replayed) (entry : Entry) (t : Replayed) → is_note entry.kind ≡ true → replay_entry r entry ≡ Some t → t ≡ r }
     ensures left_out { (program : Tree) (entries : List Entry) (r : Replayed) → replay program entries ≡ Some r →
         replay program (without_notes entries) ≡ Some r }
+{}
+
+/// The calls of a device that a journal makes are those of its labels.
+pub fn calls_are_of_the_labels()
+    ensures { (device : ℕ) (program : Tree) (entries : List Entry) (labels : List Label) (r : Replayed) →
+        UnfoldsAll (begun_at program) entries labels r → device_calls device program entries ≡ calls_along device (start program) labels }
+{}
+
+/// Entries behind others make their calls in the state that those others give.
+pub fn appended_calls()
+    ensures { (device : ℕ) (program : Tree) (front rest : List Entry) (r : Replayed) → replay program front ≡ Some r →
+        device_calls device program (front ++ rest) ≡ device_calls device program front ++ device_calls_from device r rest }
 {}
 
 /// Nothing is active in a replayed state.

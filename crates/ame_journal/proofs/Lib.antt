@@ -15,3 +15,4 @@ pub mod ReachedLemmas
 pub mod NoteLemmas
 pub mod TypedLemmas
 pub mod CallLemmas
+pub mod OneLemmas

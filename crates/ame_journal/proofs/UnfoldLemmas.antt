@@ -51,7 +51,7 @@ free-back i kinds n fresh answer s t are e =
     counted (Label.Free i) i kinds n fresh answer s t are
     (steps-back (Label.Free i) i Side.Unprotected (λ _. Unit {0}) (λ kind v u p legal. (tt, free-reduced kind i v u legal)) kinds answer s t tt are.answered e)
 
-fragment-back : (i : ℕ) (kinds : List StepKind) (n : ℕ) (fresh : List ℕ) (s t : State) → AreSteps kinds n fresh None → run s (fragment_labels i kinds) ≡ Some t →
+pub fragment-back : (i : ℕ) (kinds : List StepKind) (n : ℕ) (fresh : List ℕ) (s t : State) → AreSteps kinds n fresh None → run s (fragment_labels i kinds) ≡ Some t →
     (fragment i n fresh s ≡ Some t) × (is_at_unprotected i s ≡ false)
 fragment-back i kinds n fresh s t are e =
     option_and_then_some _ _ _ e (λ a begins rest.
@@ -75,7 +75,7 @@ run-last s u xs label e =
     whole (Some v) = refl
 
 -- a member that closes makes no other step
-no-more : (label : StepKind → Label) (i n : ℕ) (fresh : List ℕ) (s t : State) (v : Val) → steps label i n (locations fresh) s ≡ Some t → member_act i t ≡ Some (Act.Closes v) →
+pub no-more : (label : StepKind → Label) (i n : ℕ) (fresh : List ℕ) (s t : State) (v : Val) → steps label i n (locations fresh) s ≡ Some t → member_act i t ≡ Some (Act.Closes v) →
     steps label i (suc n) (locations fresh) s ≡ None
 no-more label i zero [] s t v e closes =
     let same : s ≡ t = cc in

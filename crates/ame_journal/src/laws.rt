@@ -58,6 +58,12 @@ pub fn notes_change_nothing()
         replay program (without_notes entries) ≡ Some r }
 {}
 
+/// Entries unfold in one way.
+pub fn labels_are_one()
+    ensures { (r : Replayed) (entries : List Entry) (labels more : List Label) (t u : Replayed) →
+        UnfoldsAll r entries labels t → UnfoldsAll r entries more u → (labels ≡ more) × (t ≡ u) }
+{}
+
 /// The calls of a device that a journal makes are those of its labels.
 pub fn calls_are_of_the_labels()
     ensures { (device : ℕ) (program : Tree) (entries : List Entry) (labels : List Label) (r : Replayed) →

@@ -19,6 +19,6 @@ pub use journal::Journal;
 pub use laws::{
     accepted_replayed_is_typed, appended_calls, appended_is_replayed, calls_are_of_the_labels,
     first_bad_line_is_one, front_is_replayed, inside_stand_at_unprotected, journal_is_one_run,
-    notes_change_nothing, one_more_entry, replayed_is_at_rest, replayed_is_orderly,
+    labels_are_one, notes_change_nothing, one_more_entry, replayed_is_at_rest, replayed_is_orderly,
     replayed_is_typed, spelled_has_no_bad_line, text_is_of_one_journal, unfolded_is_replayed,
 };

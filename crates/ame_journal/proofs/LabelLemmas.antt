@@ -2,7 +2,6 @@
 use Rattle.std.proofs.Common.{◌≡◌, ℕ, zero, suc, ◌==◌, ◌⊎◌, inl, inr, ℤ, Bool, true, false, List, [], ◌∷◌, ◌++◌, map, Option, Some, None, option_and_then, option_map, is_some, if◌then◌else◌, refl, sym, ap, ◌∙◌, subst, arith, eqb-true}
 use Rattle.std.proofs.lemmas.Option.{option_and_then_some}
 use Rattle.ame_term.specs.Frame.{Side}
-use Rattle.ame_term.specs.Act.{device_answer}
 use Rattle.ame_term.specs.State.{State, after, run}
 use Rattle.ame_term.specs.declared.semantics.StepKind.{StepKind}
 use Rattle.ame_term.specs.declared.semantics.Label.{Label}
@@ -10,7 +9,7 @@ use Rattle.ame_journal.specs.declared.entry.Entry.{Entry}
 use Rattle.ame_journal.specs.declared.entry.EntryKind.{EntryKind}
 use Rattle.ame_journal.specs.Replayed.{Replayed, has_such, entering, leaving, staying, is_at_unprotected, side_at, is_inside, is_failing, is_tall}
 use Rattle.ame_journal.specs.Labels.{fresh_of, IsAnswered, AreSteps, fragment_labels, free_labels, attempt_labels, Unfolds, UnfoldsAll}
-use Rattle.ame_journal.specs.Replay.{Supply, next_kind, steps, fragment, attempt, attempt_on, left_or_ended, note_where, fails_after, locations, or_else, replay_ran, replay_closing, replay_free, replay_kind, replay_entry, replay_from}
+use Rattle.ame_journal.specs.Replay.{Supply, steps, fragment, attempt, attempt_on, left_or_ended, note_where, fails_after, locations, or_else, replay_ran, replay_closing, replay_free, replay_kind, replay_entry, replay_from}
 use Rattle.ame_journal.proofs.SupplyLemmas.{Taken, taken}
 
 -- Runs
@@ -205,7 +204,7 @@ unfold-kind EntryKind.Stuck r i n fresh (Some a) t e = cc
 unfold-kind EntryKind.Cut r i n fresh (Some a) t e = cc
 unfold-kind EntryKind.Tall r i n fresh (Some a) t e = cc
 
-unfold-entry : (r : Replayed) (entry : Entry) (t : Replayed) → replay_entry r entry ≡ Some t →
+pub unfold-entry : (r : Replayed) (entry : Entry) (t : Replayed) → replay_entry r entry ≡ Some t →
     (labels : List Label) × Unfolds r entry.number entry.kind entry.steps entry.fresh entry.answer labels t
 unfolding replay_entry
 unfold-entry r entry t e = unfold-kind entry.kind r entry.number entry.steps entry.fresh entry.answer t e
@@ -221,7 +220,7 @@ unfold-all r (entry ∷ entries) t e =
 
 -- Each label is legal.
 
-unfolds-run : (r : Replayed) (i : ℕ) (kind : EntryKind) (n : ℕ) (fresh : List ℕ) (answer : Option ℤ) (labels : List Label) (t : Replayed) →
+pub unfolds-run : (r : Replayed) (i : ℕ) (kind : EntryKind) (n : ℕ) (fresh : List ℕ) (answer : Option ℤ) (labels : List Label) (t : Replayed) →
     Unfolds r i kind n fresh answer labels t → run r.state labels ≡ Some t.state
 unfolds-run r i _ _ _ _ _ _ (Unfolds.leaves kinds n fresh s outside are runs) = runs
 unfolds-run r i _ _ _ _ _ _ (Unfolds.ends kinds n fresh s outside are runs) = runs

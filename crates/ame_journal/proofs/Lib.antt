@@ -10,3 +10,9 @@ pub mod LabelLemmas
 pub mod UniqueLemmas
 pub mod UnfoldLemmas
 pub mod UnderWayLemmas
+pub mod MovedLemmas
+pub mod ReachedLemmas
+pub mod NoteLemmas
+pub mod TypedLemmas
+pub mod CallLemmas
+pub mod OneLemmas

@@ -1,5 +1,5 @@
 -- How a replay goes on: more entries, and one more step.
-use Rattle.std.proofs.Common.{◌≡◌, ℕ, zero, suc, ◌==◌, false, List, [], ◌∷◌, ◌++◌, Option, Some, None, option_and_then, if◌then◌else◌, refl, sym, ap, ◌∙◌}
+use Rattle.std.proofs.Common.{◌≡◌, ℕ, zero, suc, ◌==◌, false, List, [], ◌∷◌, ◌++◌, Option, Some, None, option_and_then, if◌then◌else◌, refl, ap, ◌∙◌}
 use Rattle.ame_term.specs.Act.{Act}
 use Rattle.ame_term.specs.State.{State, after}
 use Rattle.ame_term.specs.declared.semantics.StepKind.{StepKind}

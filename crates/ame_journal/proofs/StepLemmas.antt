@@ -1,14 +1,15 @@
 -- What a legal label tells of the state before it and after it.
 use Rattle.std.proofs.Common.{◌≡◌, ℕ, ◌+◌, ◌≤◌, arith, ◌++◌, ℤ, Bool, true, false, List, [], ◌∷◌, Option, Some, None, option_and_then, option_map, is_none, is_some, if◌then◌else◌, refl, sym, ap, ◌∙◌, subst, append-nil}
 use Rattle.std.proofs.lemmas.Option.{option_and_then_some}
-use Rattle.ame_term.specs.Tree.{Val, Tree, unit_tree}
+use Rattle.ame_term.specs.Tree.{Val, Tree}
 use Rattle.ame_term.specs.Frame.{Side, same_side}
 use Rattle.ame_term.specs.Context.{Focus, focus, fill}
-use Rattle.ame_term.specs.Act.{Act, act_of, StepName, Sides, step_name, fresh_location, device_answer, making, made_there, is_among_sides, is_step_told, makes}
+use Rattle.ame_term.specs.Act.{Act, act_of, StepName, Sides, step_name, device_answer, making, made_there, is_among_sides, is_step_told, makes}
 use Rattle.ame_term.specs.Maps.{at, put, change, without}
-use Rattle.ame_term.specs.State.{State, after, allocated, performed, performed_on, reduced_at, rewritten, reduce, activated, departed, ended, closed, closed_value, at_unprotected, at_value}
+use Rattle.ame_term.specs.State.{State, after, performed, performed_on, reduced_at, rewritten, reduce, activated, departed, ended, closed, closed_value, at_unprotected, at_value}
 use Rattle.ame_term.specs.declared.semantics.StepKind.{StepKind}
 use Rattle.ame_term.specs.declared.semantics.Label.{Label}
+use Rattle.ame_laws.proofs.MapLemmas.{at-put_other}
 use Rattle.ame_soundness.proofs.MakingLemmas.{same_step-true}
 use Rattle.ame_journal.specs.Replayed.{Replayed, is_at_unprotected, has_such, staying, entering}
 use Rattle.ame_journal.specs.Replay.{redex_act, member_act, making_name, left_or_ended, or_else}
@@ -35,21 +36,30 @@ gave x y e = cc
 -- what a step of a member on a side tells
 pub record IsReduced (side : Side) (kind : StepKind) (i : ℕ) (s u : State) : Type 0 where
   pub term : Tree
+  pub redex : Tree
   pub act : Act
   pub result : Tree × State
+  pub is_member : at s.members i ≡ Some term
+  pub stands : focus term ≡ Focus.AtRedex side redex
   pub is_act : member_act i s ≡ Some act
   pub can : makes side kind act ≡ true
   pub made : performed kind act s ≡ Some result
   pub is : rewritten i term result ≡ u
 
+on_side : (a b : Side) → same_side a b ≡ true → b ≡ a
+on_side Side.Protected Side.Protected e = refl
+on_side Side.Protected Side.Unprotected e = cc
+on_side Side.Unprotected Side.Protected e = cc
+on_side Side.Unprotected Side.Unprotected e = refl
+
 module _ (side : Side) (kind : StepKind) (i : ℕ) (s u : State) where
   redex-made : (f : Focus) (r : Tree × State) → reduced_at side kind f s ≡ Some r →
-      (act : Act) × (redex_act f ≡ Some act) × (makes side kind act ≡ true) × (performed kind act s ≡ Some r)
+      (redex : Tree) × (f ≡ Focus.AtRedex side redex) × (makes side kind (act_of redex) ≡ true) × (performed kind (act_of redex) s ≡ Some r)
   redex-made (Focus.AtValue v) r e = cc
   redex-made (Focus.AtRedex under redex) r e =
       let on = if-gave (same_side side under) (performed_on side kind (act_of redex) s) r e in
       let can = if-gave (makes side kind (act_of redex)) (performed kind (act_of redex) s) r on.1 in
-      (act_of redex, refl, can.0, can.1)
+      (redex, ap (λ z. Focus.AtRedex z redex) (on_side side under on.0), can.0, can.1)
 
   pub reduced : reduce side kind i s ≡ Some u → IsReduced side kind i s u
   reduced e =
@@ -58,9 +68,12 @@ module _ (side : Side) (kind : StepKind) (i : ℕ) (s u : State) where
       let d = redex-made (focus term) m.0 m.1 in
       record {
         term = term;
-        act = d.0;
+        redex = d.0;
+        act = act_of d.0;
         result = m.0;
-        is_act = ap (λ o. option_and_then (λ t. redex_act (focus t)) o) is_member ∙ d.1;
+        is_member = is_member;
+        stands = d.1;
+        is_act = ap (λ o. option_and_then (λ t. redex_act (focus t)) o) is_member ∙ ap redex_act d.1;
         can = d.2;
         made = d.3;
         is = m.2;
@@ -104,44 +117,50 @@ pub record Keeps (s t : State) : Type 0 where
   pub output : (printed : List ℤ) × (t.output ≡ s.output ++ printed)
   pub next : t.next ≤ s.next + 1
 
-keeps-same : (s t : State) → t.active ≡ s.active → t.output ≡ s.output → t.next ≡ s.next → Keeps s t
-keeps-same s t same_active same_output same_next =
-    record { active = same_active; output = ([], same_output ∙ sym (append-nil s.output)); next = omega arith }
+-- and the other members as they were
+pub record KeepsOthers (s t : State) : Type 0 where
+  pub keeps : Keeps s t
+  pub others : (k : ℕ) → (s.next ≡ k → ⊥) → at t.members k ≡ at s.members k
 
-keeps-of : (s : State) (term : Tree) (t : State) (r : Tree × State) → Some (term, t) ≡ Some r → Keeps s t → Keeps s r.1
-keeps-of s term t r e keeps = let same : t ≡ r.1 = cc in subst (Keeps s) same keeps
+keeps-same : (s t : State) → t.active ≡ s.active → t.output ≡ s.output → t.next ≡ s.next → t.members ≡ s.members → KeepsOthers s t
+keeps-same s t same_active same_output same_next same_members = record {
+  keeps = record { active = same_active; output = ([], same_output ∙ sym (append-nil s.output)); next = omega arith };
+  others = λ k new. ap (λ (ms : List (ℕ × Tree)). at ms k) same_members;
+}
 
-keeps-loaded : (s : State) (o : Option Val) (r : Tree × State) → option_map (λ v. (Tree.Held v, s)) o ≡ Some r → Keeps s r.1
+keeps-of : (s : State) (term : Tree) (t : State) (r : Tree × State) → Some (term, t) ≡ Some r → KeepsOthers s t → KeepsOthers s r.1
+keeps-of s term t r e keeps = let same : t ≡ r.1 = cc in subst (KeepsOthers s) same keeps
+
+keeps-loaded : (s : State) (o : Option Val) (r : Tree × State) → option_map (λ v. (Tree.Held v, s)) o ≡ Some r → KeepsOthers s r.1
 keeps-loaded s None r e = cc
-keeps-loaded s (Some v) r e = keeps-of s (Tree.Held v) s r e (keeps-same s s refl refl refl)
+keeps-loaded s (Some v) r e = keeps-of s (Tree.Held v) s r e (keeps-same s s refl refl refl refl)
 
-performed-keeps : (kind : StepKind) (act : Act) (s : State) (r : Tree × State) → performed kind act s ≡ Some r → Keeps s r.1
-performed-keeps kind (Act.Becomes term) s r e = keeps-of s _ s r e (keeps-same s s refl refl refl)
+keeps-told : (s : State) (o : Option ℤ) (r : Tree × State) → option_map (λ answer. (Tree.Held (Val.Int answer), s)) o ≡ Some r → KeepsOthers s r.1
+keeps-told s None r e = cc
+keeps-told s (Some a) r e = keeps-of s _ s r e (keeps-same s s refl refl refl refl)
+
+pub performed-keeps : (kind : StepKind) (act : Act) (s : State) (r : Tree × State) → performed kind act s ≡ Some r → KeepsOthers s r.1
+performed-keeps kind (Act.Becomes term) s r e = keeps-of s _ s r e (keeps-same s s refl refl refl refl)
 performed-keeps kind (Act.Allocates sort v) s r e =
     option_and_then_some _ _ _ e (λ l is e1.
-    keeps-of s _ _ r (unless-gave (is_some (at s.store l)) (Some (Tree.Held (Val.Loc l), record s { store = put s.store l v })) r e1).1 (keeps-same s _ refl refl refl))
+    keeps-of s _ _ r (unless-gave (is_some (at s.store l)) (Some (Tree.Held (Val.Loc l), record s { store = put s.store l v })) r e1).1 (keeps-same s _ refl refl refl refl))
 performed-keeps kind (Act.Reads l) s r e = keeps-loaded s (at s.store l) r e
 performed-keeps kind (Act.Peeks l) s r e = keeps-loaded s (at s.store l) r e
-performed-keeps kind (Act.Writes l v) s r e = keeps-of s _ _ r e (keeps-same s _ refl refl refl)
+performed-keeps kind (Act.Writes l v) s r e = keeps-of s _ _ r e (keeps-same s _ refl refl refl refl)
 performed-keeps kind (Act.Spawns body) s r e =
-    keeps-of s _ _ r e (record { active = refl; output = ([], sym (append-nil s.output)); next = omega arith })
-performed-keeps kind (Act.Prints n) s r e = keeps-of s _ _ r e (record { active = refl; output = (n ∷ [], refl); next = omega arith })
-performed-keeps kind Act.Passes s r e = keeps-of s _ s r e (keeps-same s s refl refl refl)
-performed-keeps kind Act.Fails s r e = cc
-performed-keeps kind (Act.Calls device n) s r e =
-    option_map-keeps (device_answer kind) e
-  where
-    option_map-keeps : (o : Option ℤ) → option_map (λ answer. (Tree.Held (Val.Int answer), s)) o ≡ Some r → Keeps s r.1
-    option_map-keeps None e' = cc
-    option_map-keeps (Some a) e' = keeps-of s _ s r e' (keeps-same s s refl refl refl)
-performed-keeps kind (Act.Closes v) s r e = cc
-performed-keeps kind Act.Stuck s r e = cc
+    keeps-of s _ _ r e
+    (record { keeps = record { active = refl; output = ([], sym (append-nil s.output)); next = omega arith }; others = λ k new. at-put_other s.members s.next k body new })
+performed-keeps kind (Act.Prints n) s r e =
+    keeps-of s _ _ r e (record { keeps = record { active = refl; output = (n ∷ [], refl); next = omega arith }; others = λ k new. refl })
+performed-keeps kind Act.Passes s r e = keeps-of s _ s r e (keeps-same s s refl refl refl refl)
+performed-keeps kind (Act.Calls device n) s r e = keeps-told s (device_answer kind) r e
+performed-keeps kind _ s r e = cc
 
 -- a legal step keeps the active member and what was printed
 pub step-keeps : (kind : StepKind) (i : ℕ) (s u : State) → s.active ≡ Some i → after s (Label.Step kind) ≡ Some u → Keeps s u
 step-keeps kind i s u is_active e =
     let r = step-reduced kind i s u is_active e in
-    let k = performed-keeps kind r.act s r.result r.made in
+    let k = (performed-keeps kind r.act s r.result r.made).keeps in
     record { active = sym (ap (λ t. t.active) r.is) ∙ k.active; output = (k.output.0, sym (ap (λ t. t.output) r.is) ∙ k.output.1); next = subst (λ n. n ≤ s.next + 1) (ap (λ t. t.next) r.is) k.next }
 
 -- Becoming active, leaving and ending
@@ -210,3 +229,11 @@ close-act i t u e =
     option_and_then_some _ _ _ (if-gave (is_none t.active) (closed i t) u e).1 (λ term is_member e1.
     let m = map-gave _ (closed_value (focus term)) u e1 in
     (m.0, ap (λ o. option_and_then (λ x. redex_act (focus x)) o) is_member ∙ closed_value-act (focus term) m.0 m.1))
+
+-- it changes no other member
+pub close-is : (i : ℕ) (t u : State) → after t (Label.Close i) ≡ Some u → (term : Tree) × (u ≡ record t { members = change t.members i term })
+unfolding after
+close-is i t u e =
+    option_and_then_some _ _ _ (if-gave (is_none t.active) (closed i t) u e).1 (λ term is_member e1.
+    let m = map-gave (λ v. record t { members = change t.members i (fill term (Tree.Held v)) }) (closed_value (focus term)) u e1 in
+    (fill term (Tree.Held m.0), sym m.2))

@@ -1,5 +1,5 @@
 -- A fragment under way: how it begins, goes on, and is told by an entry in any replayed state.
-use Rattle.std.proofs.Common.{◌≡◌, ℕ, ◌+◌, ◌≤◌, ◌++◌, ◌==◌, Bool, true, false, List, [], ◌∷◌, map, length, Option, Some, None, option_and_then, refl, sym, ap, ◌∙◌, subst, arith, append-nil, append_assoc, length-append}
+use Rattle.std.proofs.Common.{◌≡◌, ℕ, ◌+◌, ◌++◌, true, false, List, [], ◌∷◌, map, Some, None, option_and_then, refl, sym, ap, ◌∙◌, subst, arith, append-nil, append_assoc, length-append}
 use Rattle.std.proofs.lemmas.List.Concat.{flat_map-append}
 use Rattle.ame_term.specs.Frame.{Side, side_told}
 use Rattle.ame_term.specs.Act.{device_answer}
@@ -8,11 +8,11 @@ use Rattle.ame_term.specs.declared.semantics.StepKind.{StepKind}
 use Rattle.ame_term.specs.declared.semantics.Label.{Label}
 use Rattle.ame_journal.specs.declared.entry.Entry.{Entry}
 use Rattle.ame_journal.specs.declared.entry.EntryKind.{EntryKind}
-use Rattle.ame_journal.specs.Replayed.{Replayed, is_inside, is_at_unprotected, side_at, is_failing, is_tall, entering, staying}
+use Rattle.ame_journal.specs.Replayed.{Replayed, is_inside, side_at, is_failing, is_tall, entering, staying}
 use Rattle.ame_journal.specs.Labels.{fresh_of, made_by, IsAnswered, AreSteps, fragment_labels, attempt_labels, Unfolds}
 use Rattle.ame_journal.specs.Replay.{replay_entry}
 use Rattle.ame_journal.specs.UnderWay.{UnderWay}
-use Rattle.ame_journal.proofs.StepLemmas.{Keeps, step-keeps, step-reduced, activate-is, activated-resting, no_answer}
+use Rattle.ame_journal.proofs.StepLemmas.{step-keeps, step-reduced, activate-is, activated-resting, no_answer}
 use Rattle.ame_journal.proofs.LabelLemmas.{run-two, run-one}
 use Rattle.ame_journal.proofs.UnfoldLemmas.{entry-back}
 

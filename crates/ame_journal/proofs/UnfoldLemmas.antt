@@ -1,17 +1,17 @@
 -- What unfolds into legal labels is replayed.
-use Rattle.std.proofs.Common.{◌≡◌, ℕ, zero, suc, ◌==◌, ℤ, Bool, true, false, List, [], ◌∷◌, ◌++◌, map, length, Option, Some, None, option_and_then, option_map, is_some, if◌then◌else◌, refl, sym, ap, ◌∙◌, subst}
+use Rattle.std.proofs.Common.{◌≡◌, ℕ, zero, suc, ◌==◌, ℤ, true, false, List, [], ◌∷◌, ◌++◌, map, length, Option, Some, None, option_and_then, option_map, is_some, if◌then◌else◌, refl, sym, ap, ◌∙◌, subst}
 use Rattle.std.proofs.lemmas.Option.{option_and_then_some}
 use Rattle.ame_term.specs.Tree.{Val}
-use Rattle.ame_term.specs.Frame.{Side, side_told}
-use Rattle.ame_term.specs.Act.{Act, step_name, device_answer}
+use Rattle.ame_term.specs.Frame.{Side}
+use Rattle.ame_term.specs.Act.{Act}
 use Rattle.ame_term.specs.State.{State, after, run}
 use Rattle.ame_term.specs.declared.semantics.StepKind.{StepKind}
 use Rattle.ame_term.specs.declared.semantics.Label.{Label}
 use Rattle.ame_journal.specs.declared.entry.Entry.{Entry}
 use Rattle.ame_journal.specs.declared.entry.EntryKind.{EntryKind}
 use Rattle.ame_journal.specs.Replayed.{Replayed, has_such, entering, leaving, staying, is_at_unprotected, side_at, is_failing, is_tall}
-use Rattle.ame_journal.specs.Labels.{fresh_of, made_by, IsAnswered, AreSteps, fragment_labels, free_labels, attempt_labels, Unfolds, UnfoldsAll}
-use Rattle.ame_journal.specs.Replay.{member_act, making_name, next_kind, steps, fragment, attempt_on, left_or_ended, note_where, is_nothing, locations, or_else, replay_ran, replay_closing, replay_free, replay_kind, replay_entry, replay_from}
+use Rattle.ame_journal.specs.Labels.{made_by, IsAnswered, AreSteps, fragment_labels, free_labels, attempt_labels, Unfolds, UnfoldsAll}
+use Rattle.ame_journal.specs.Replay.{member_act, next_kind, steps, fragment, attempt_on, left_or_ended, note_where, is_nothing, locations, or_else, replay_ran, replay_closing, replay_free, replay_kind, replay_entry, replay_from}
 use Rattle.ame_journal.proofs.StepLemmas.{IsReduced, step-reduced, free-reduced, named, step-keeps, activate-is, activated-resting, ended-staying, close-act}
 use Rattle.ame_journal.proofs.SupplyLemmas.{none_left, anywhere, takes-more, takes-last}
 use Rattle.ame_journal.proofs.ReplayLemmas.{steps-behind, ran-left_or_ended}
@@ -45,13 +45,13 @@ counted label i kinds n fresh answer s t are e =
     subst (λ m. steps label i m (record { fresh = fresh; answer = answer }) s ≡ Some t) are.count
     (subst (λ ls. steps label i (length kinds) (record { fresh = ls; answer = answer }) s ≡ Some t) are.made e)
 
-free-back : (i : ℕ) (kinds : List StepKind) (n : ℕ) (fresh : List ℕ) (answer : Option ℤ) (s t : State) → AreSteps kinds n fresh answer → run s (free_labels i kinds) ≡ Some t →
+pub free-back : (i : ℕ) (kinds : List StepKind) (n : ℕ) (fresh : List ℕ) (answer : Option ℤ) (s t : State) → AreSteps kinds n fresh answer → run s (free_labels i kinds) ≡ Some t →
     steps (Label.Free i) i n (record { fresh = fresh; answer = answer }) s ≡ Some t
 free-back i kinds n fresh answer s t are e =
     counted (Label.Free i) i kinds n fresh answer s t are
     (steps-back (Label.Free i) i Side.Unprotected (λ _. Unit {0}) (λ kind v u p legal. (tt, free-reduced kind i v u legal)) kinds answer s t tt are.answered e)
 
-fragment-back : (i : ℕ) (kinds : List StepKind) (n : ℕ) (fresh : List ℕ) (s t : State) → AreSteps kinds n fresh None → run s (fragment_labels i kinds) ≡ Some t →
+pub fragment-back : (i : ℕ) (kinds : List StepKind) (n : ℕ) (fresh : List ℕ) (s t : State) → AreSteps kinds n fresh None → run s (fragment_labels i kinds) ≡ Some t →
     (fragment i n fresh s ≡ Some t) × (is_at_unprotected i s ≡ false)
 fragment-back i kinds n fresh s t are e =
     option_and_then_some _ _ _ e (λ a begins rest.
@@ -66,7 +66,7 @@ attempt-back Side.Protected i kinds n fresh s t are e = (fragment-back i kinds n
 attempt-back Side.Unprotected i kinds n fresh s t are e = free-back i kinds n fresh None s t are e
 
 -- the labels before the last one, and the last
-run-last : (s u : State) (xs : List Label) (label : Label) → run s (xs ++ label ∷ []) ≡ Some u → (t : State) × (run s xs ≡ Some t) × (after t label ≡ Some u)
+pub run-last : (s u : State) (xs : List Label) (label : Label) → run s (xs ++ label ∷ []) ≡ Some u → (t : State) × (run s xs ≡ Some t) × (after t label ≡ Some u)
 run-last s u xs label e =
     option_and_then_some _ _ _ (sym (run-append s xs (label ∷ [])) ∙ e) (λ t first last. (t, first, sym (whole (after t label)) ∙ last))
   where
@@ -75,7 +75,7 @@ run-last s u xs label e =
     whole (Some v) = refl
 
 -- a member that closes makes no other step
-no-more : (label : StepKind → Label) (i n : ℕ) (fresh : List ℕ) (s t : State) (v : Val) → steps label i n (locations fresh) s ≡ Some t → member_act i t ≡ Some (Act.Closes v) →
+pub no-more : (label : StepKind → Label) (i n : ℕ) (fresh : List ℕ) (s t : State) (v : Val) → steps label i n (locations fresh) s ≡ Some t → member_act i t ≡ Some (Act.Closes v) →
     steps label i (suc n) (locations fresh) s ≡ None
 no-more label i zero [] s t v e closes =
     let same : s ≡ t = cc in

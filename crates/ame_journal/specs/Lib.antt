@@ -9,3 +9,4 @@ pub mod Text
 pub mod Words
 pub mod Cursor
 pub mod Lines
+pub mod Calls

@@ -1,5 +1,5 @@
 -- What a journal leads to, computed. It is the state that its entries unfold to.
-use Rattle.std.specs.Prelude.{ℕ, zero, suc, ◌==◌, ℤ, Bool, true, false, List, [], ◌∷◌, Option, Some, None, is_some, is_none, option_map, option_and_then, if◌then◌else◌}
+use Rattle.std.specs.Prelude.{ℕ, zero, suc, ◌==◌, ℤ, Bool, true, false, List, [], ◌∷◌, Option, Some, None, is_some, option_map, option_and_then, if◌then◌else◌}
 use Rattle.ame_term.specs.Tree.{Tree}
 use Rattle.ame_term.specs.Frame.{Side}
 use Rattle.ame_term.specs.Context.{Focus, focus}
@@ -69,7 +69,9 @@ abbrev pub steps : (StepKind → Label) → ℕ → ℕ → Supply → State →
 steps label i zero supply s = if is_used supply then Some s else None
 steps label i (suc n) supply s =
     option_and_then
-    (λ act. option_and_then (λ next. option_and_then (λ t. steps label i n next.1 t) (after s (label next.0))) (next_kind (n == 0) act supply.fresh supply.answer))
+    (λ act.
+    option_and_then (λ next. option_and_then (λ t. steps label i n next.1 t) (after s (label next.0)))
+    (next_kind (n == 0) act supply.fresh supply.answer))
     (member_act i s)
 
 -- a fragment of a member: it becomes active and makes n steps

@@ -3,7 +3,7 @@
 use crate::entry::{Entry, EntryKind};
 use crate::fault::JournalFault;
 use crate::journal::Journal;
-use ame_term::{Loc, Locs};
+use ame_term::{Copied, Loc, Locs};
 use std::alloc::Global;
 use std::test::Fail;
 
@@ -111,5 +111,35 @@ fn entries_are_added_at_the_end(rt: HostRuntime) -> Result<(), Fail> {
     });
     let text = journal.to_text(rt.alloc())?;
     assert!(rt; text.as_slice() == b"free 3 7 2 4 0 = -5\ntall 0 1 0\n".as_slice());
+    Ok(())
+}
+
+/// The first entry of a journal, copied to the end.
+fn repeat(alloc: Global, journal: &mut Journal) -> Result<(), Fail> {
+    if let Some(first) = journal.entries().first() {
+        let again = first.copy(alloc)?;
+        if journal.room().is_ok() {
+            journal.push(again);
+        }
+    }
+    Ok(())
+}
+
+#[test]
+fn entries_are_copied_and_notes_are_dropped(rt: HostRuntime) -> Result<(), Fail> {
+    let text = b"free 3 7 2 4 0 = -5\ntall 0 1 0\nran 0 2 18446744073709551615\ncut 1 1 3\n";
+    let Ok(mut journal) = Journal::from_text(rt.alloc(), text.as_slice()) else {
+        assert!(rt; false);
+        return Ok(());
+    };
+    assert!(rt; journal.total() == 18446744073709551624);
+    journal.drop_notes();
+    assert!(rt; journal.total() == 18446744073709551619);
+    repeat(rt.alloc(), &mut journal)?;
+    let text = journal.to_text(rt.alloc())?;
+    assert!(rt;
+        text.as_slice()
+            == b"free 3 7 2 4 0 = -5\nran 0 2 18446744073709551615\nfree 3 7 2 4 0 = -5\n".as_slice()
+    );
     Ok(())
 }

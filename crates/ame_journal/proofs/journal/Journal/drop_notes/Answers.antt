@@ -1,4 +1,4 @@
-use Rattle.std.proofs.Common.{◌≡◌, not, All, filter, rules, subst, sym, ap, ◌∙◌}
+use Rattle.std.proofs.Common.{not, All, rules, subst, sym, ap, ◌∙◌}
 use Rattle.std.proofs.lemmas.Fn.{filter_same}
 use Rattle.std.proofs.lemmas.List.Elements.{All-filter}
 use Rattle.ame_journal.specs.Log.{Log, IsFit}

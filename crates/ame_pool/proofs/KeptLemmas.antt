@@ -1,5 +1,6 @@
 -- What a roll's fields keep after an edit of one member.
 use Rattle.std.proofs.Common.{◌≡◌, ◌<◌, ◌≤◌, ◌+◌, ◌-◌, ◌^◌, ◌==◌, ℕ, Bool, true, false, cond, List, [], ◌∷◌, ◌++◌, length, Option, Some, None, option_map, IsSome, IsSomeAnd, IsTrue, refl, sym, ap, subst, ◌∙◌, arith}
+use Rattle.ame_pool.specs.Standings.{max_rollbacks}
 use Rattle.ame_pool.proofs.Words.{Member, Turn, Counts, find, altered, placed, except, is_ready, Register, Roster, Queues, HasPlace, pushed, taken, counted, IsAt, skipping, begun, turned, is_readied, is_readied_at, turned_at, IsOrderOf, is_inside_at, IsKept, false≢true, filter, nat_tests, count_by-le-length, length-filter}
 use Rattle.ame_pool.proofs.MemberLemmas.{count_all, find_passes, find_altered, length_altered, rising_altered, all_altered, length_placed, rising_placed, all_placed, length_except, rising_except, all_except}
 use Rattle.ame_pool.proofs.OrderLemmas.{filter_push, filter_skipping, absent, order_short, order_shorter, ordered_same, ordered_readied, ordered_held, ordered_placed, ordered_except, inside_same, inside_but, inside_now, inside_placed, inside_new, inside_except}
@@ -76,8 +77,8 @@ module _ {M : Type 0} {reg : Register M} {q : Queues} {c : Counts} (h : IsKept r
       away : IsSomeAnd (find n reg.list) (λ m. IsTrue (is_ready m)) → ⊥
       away s = false≢true (sym was ∙ subst (λ o. IsSomeAnd o (λ m. IsTrue (is_ready m))) found s)
 
-    pub few_at : IsSomeAnd (find n reg.list) (λ m. m.rollbacks ≤ 8)
-    few_at = rw found (find_passes (λ (o : Member M). o.rollbacks ≤ 8) n reg.list h.sound.rollbacks m found)
+    pub few_at : IsSomeAnd (find n reg.list) (λ m. m.rollbacks ≤ max_rollbacks)
+    few_at = rw found (find_passes (λ (o : Member M). o.rollbacks ≤ max_rollbacks) n reg.list h.sound.rollbacks m found)
 
     -- ---- its turn
     module _ (to : Turn M) (d c' : Counts) (leave : c ≡ counted m d) (enter : c' ≡ counted (turned to m) d) where
@@ -87,7 +88,7 @@ module _ {M : Type 0} {reg : Register M} {q : Queues} {c : Counts} (h : IsKept r
         sound = record {
           rising = rising_altered n (turned to) (turned_number to) reg.list h.sound.rising;
           ordered = ordered;
-          rollbacks = all_altered n (turned to) (λ m. m.rollbacks ≤ 8) (λ o. (turn_is to o).few) reg.list h.sound.rollbacks;
+          rollbacks = all_altered n (turned to) (λ m. m.rollbacks ≤ max_rollbacks) (λ o. (turn_is to o).few) reg.list h.sound.rollbacks;
         };
         inside = inside;
         counted = counted_altered reg.list c h.counted n m found (turned to) d c' leave enter;
@@ -132,7 +133,7 @@ module _ {M : Type 0} {reg : Register M} {q : Queues} {c : Counts} (h : IsKept r
       sound = record {
         rising = rising_except n reg.list h.sound.rising;
         ordered = ordered_except reg.list q.order h.sound.ordered n m found was;
-        rollbacks = all_except n (λ m. m.rollbacks ≤ 8) reg.list h.sound.rollbacks;
+        rollbacks = all_except n (λ m. m.rollbacks ≤ max_rollbacks) reg.list h.sound.rollbacks;
       };
       inside = h.inside ∙ inside_except reg.list n h.sound.rising q.order (absent reg.list q.order h.sound n (away was));
       counted = counted_except reg.list c h.counted n m found c' counts;
@@ -151,7 +152,7 @@ module _ {M : Type 0} {reg : Register M} {q : Queues} {c : Counts} (h : IsKept r
   }
 
   -- ---- one joins
-  pub kept_placed : (new : Member M) → find new.number reg.list ≡ None → is_ready new ≡ true → new.rollbacks ≤ 8 → 0 < reg.room
+  pub kept_placed : (new : Member M) → find new.number reg.list ≡ None → is_ready new ≡ true → new.rollbacks ≤ max_rollbacks → 0 < reg.room
       → IsKept (record { list = placed new reg.list; room = reg.room - 1 }) (pushed new.number new.inside q) c
   kept_placed new fresh is few room =
       let none = absent reg.list q.order h.sound new.number (λ s. subst (λ o. IsSomeAnd o (λ m. IsTrue (is_ready m))) fresh s) in
@@ -159,7 +160,7 @@ module _ {M : Type 0} {reg : Register M} {q : Queues} {c : Counts} (h : IsKept r
         sound = record {
           rising = rising_placed new reg.list fresh h.sound.rising;
           ordered = ordered_placed reg.list q.order h.sound.ordered new is;
-          rollbacks = all_placed new (λ m. m.rollbacks ≤ 8) few reg.list h.sound.rollbacks;
+          rollbacks = all_placed new (λ m. m.rollbacks ≤ max_rollbacks) few reg.list h.sound.rollbacks;
         };
         inside =
             ap (λ l. cond new.inside (l ++ new.number ∷ []) l) (h.inside ∙ inside_placed reg.list new fresh q.order none)

@@ -5,6 +5,7 @@ use Rattle.ame_pool.specs.declared.member.Member.{Member}
 use Rattle.ame_pool.specs.declared.oldest.Oldest.{Oldest}
 use Rattle.ame_pool.specs.Members.{is_busy, is_parked, find}
 use Rattle.ame_pool.specs.Roster.{Roster}
+use Rattle.ame_pool.specs.Standings.{max_rollbacks}
 
 abbrev pub oldest_or_wait : Option ℕ → Oldest
 oldest_or_wait None = Oldest.Wait
@@ -16,7 +17,7 @@ module _ {M : Type 0} where
 
   -- it was rolled back as often as it may be
   abbrev pub is_worn : Member M → Bool
-  is_worn m = m.rollbacks == 8
+  is_worn m = m.rollbacks == max_rollbacks
 
   abbrev pub is_worn_protected : Member M → Bool
   is_worn_protected m = is_protected m && is_worn m
@@ -25,8 +26,8 @@ module _ {M : Type 0} where
   abbrev pub some_busy : (Member M → Bool) → List (Member M) → Bool
   some_busy kind ms = list_any (λ m. is_busy m && kind m) ms
 
-  -- A ready member may begin: inside always; with 8 rollbacks where no protected member is busy; else where
-  -- none with 8 is busy or older.
+  -- A ready member may begin: inside always; a worn one where no protected member is busy; else where
+  -- no worn one is busy or older.
   abbrev pub may_begin_beside : Bool → Bool → Bool → Member M → Bool
   may_begin_beside protected_busy worn_busy worn_older m =
       cond m.inside true (cond (is_worn m) (not protected_busy) (not worn_busy && not worn_older))

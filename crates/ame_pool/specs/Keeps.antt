@@ -6,6 +6,7 @@ use Rattle.ame_pool.specs.declared.member.Member.{Member}
 use Rattle.ame_pool.specs.declared.counts.Counts.{Counts}
 use Rattle.ame_pool.specs.Register.{Register}
 use Rattle.ame_pool.specs.Roster.{Roster}
+use Rattle.ame_pool.specs.Standings.{max_rollbacks}
 use Rattle.ame_pool.specs.Queues.{Queues}
 use Rattle.ame_pool.specs.Counts.{AreCounted}
 use Rattle.ame_pool.specs.Members.{IsRising, is_ready, find}
@@ -15,11 +16,11 @@ module _ {M : Type 0} where
   abbrev pub IsOrderOf : List (Member M) → List ℕ → Type 0
   IsOrderOf ms order = (p : ℕ → Bool) → count_by p order ≡ count_by (λ m. is_ready m && p m.number) ms
 
-  -- rising numbers, an order of the ready members, and no more than 8 rollbacks
+  -- rising numbers, an order of the ready members, and no more rollbacks than may be
   pub record IsSound (ms : List (Member M)) (order : List ℕ) : Type 0 where
     pub rising : IsRising ms
     pub ordered : IsOrderOf ms order
-    pub rollbacks : All (λ m. m.rollbacks ≤ 8) ms
+    pub rollbacks : All (λ m. m.rollbacks ≤ max_rollbacks) ms
 
   -- the member with the number stands inside
   abbrev pub is_inside_at : List (Member M) → ℕ → Bool

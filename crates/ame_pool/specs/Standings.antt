@@ -2,9 +2,13 @@
 use Rattle.std.specs.Prelude.{ℕ, ◌+◌, Bool, false, cond, Some, None, min}
 use Rattle.ame_pool.specs.declared.member.Standing.{Standing}
 
--- one rollback more, up to 8, or none
+-- how often a member is rolled back before it begins alone
+abbrev pub max_rollbacks : ℕ
+max_rollbacks = 8
+
+-- one rollback more, up to so many, or none
 abbrev pub rolled : Bool → ℕ → ℕ
-rolled rolled_back rollbacks = cond rolled_back (min 8 (rollbacks + 1)) rollbacks
+rolled rolled_back rollbacks = cond rolled_back (min max_rollbacks (rollbacks + 1)) rollbacks
 
 -- what a watch becomes once its member is at rest: a list to park on, or nothing where it was touched
 abbrev pub settled : Standing → Standing

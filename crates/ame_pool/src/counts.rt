@@ -4,7 +4,7 @@ ghost use Rattle.std.specs.Prelude.{◌≡◌, ◌+◌, ◌<◌, ◌≤◌, ◌^
 ghost use Rattle.ame_pool.specs.Begin.{is_protected, is_worn_protected, may_begin_beside};
 ghost use Rattle.ame_pool.specs.Members.{is_busy, is_parked};
 
-use crate::member::{Member, Standing};
+use crate::member::{Member, ROLLBACK_LIMIT, Standing};
 use crate::oldest::Oldest;
 
 /// Of the busy members all, the protected ones and those of these with 8 rollbacks, and the parked members.
@@ -38,7 +38,7 @@ impl<M> Member<M> {
     fn is_worn_protected(&self) -> bool
         ensures { result ≡ is_worn_protected self.now }
     {
-        !self.inside && self.rollbacks == 8
+        !self.inside && self.rollbacks == ROLLBACK_LIMIT
     }
 }
 
@@ -105,7 +105,7 @@ impl Counts {
     {
         if member.inside {
             true
-        } else if member.rollbacks == 8 {
+        } else if member.rollbacks == ROLLBACK_LIMIT {
             self.protected == 0
         } else {
             self.worn == 0

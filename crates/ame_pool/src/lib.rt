@@ -17,6 +17,6 @@ mod tests;
 mod turn;
 
 pub use laws::{found_after_calls, found_are_all};
-pub use member::{Member, Standing, Watch};
+pub use member::{Member, ROLLBACK_LIMIT, Standing, Watch};
 pub use oldest::Oldest;
 pub use pool::Pool;

@@ -3,10 +3,13 @@
 ghost use Rattle.std.specs.Prelude.{◌≡◌, ◌≤◌, ◌==◌, map};
 ghost use Rattle.std.specs.List.{list_any};
 ghost use Rattle.ame_pool.specs.Waking.{has};
-ghost use Rattle.ame_pool.specs.Standings.{rolled};
+ghost use Rattle.ame_pool.specs.Standings.{max_rollbacks, rolled};
 
 use ame_term::{Loc, Locs};
 use std::mem;
+
+/// How often a member is rolled back before it begins alone.
+pub const ROLLBACK_LIMIT: u8 = 8;
 
 /// A fragment that isn't at its end.
 #[derive(Drop)]
@@ -16,7 +19,7 @@ pub struct Member<M> {
     pub machine: M,
     /// Whether it stands inside `unprotected`.
     pub inside: bool,
-    /// How often it was rolled back since its last entry, up to 8.
+    /// How often it was rolled back since its last entry, up to `ROLLBACK_LIMIT`.
     pub rollbacks: u8,
     pub standing: Standing,
 }
@@ -41,10 +44,10 @@ pub struct Watch {
 
 /// Rollbacks after a way home.
 fn rolled_on(rolled_back: bool, rollbacks: u8) -> u8
-    requires { rollbacks ≤ 8 }
+    requires { rollbacks ≤ max_rollbacks }
     ensures { result ≡ rolled rolled_back rollbacks }
 {
-    if rolled_back && rollbacks < 8 {
+    if rolled_back && rollbacks < ROLLBACK_LIMIT {
         rollbacks + 1
     } else {
         rollbacks
@@ -147,7 +150,7 @@ impl<M: Drop> Member<M> {
 
     /// Ready again.
     pub fn go_home(&mut self, rolled_back: bool)
-        requires { self.old.rollbacks ≤ 8 }
+        requires { self.old.rollbacks ≤ max_rollbacks }
         ensures { self.new ≡ at_home rolled_back self.old }
     {
         self.rollbacks = rolled_on(rolled_back, self.rollbacks);

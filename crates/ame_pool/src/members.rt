@@ -77,6 +77,7 @@ fn drop_stale<M>(numbers: &mut Vec<Numbered>, slots: &Slab<Member<M>>)
 
 impl<M: Drop> Members<M> {
     ghost use Rattle.ame_pool.specs.Members.{find, altered, placed, except};
+    ghost use Rattle.ame_pool.specs.Standings.{max_rollbacks};
     ghost use Rattle.ame_pool.specs.Turns.{turned, is_readied};
     ghost use Rattle.ame_pool.specs.Register.{vacant};
 
@@ -159,7 +160,7 @@ impl<M: Drop> Members<M> {
 
     /// A member's turn; the answer tells whether this makes it ready.
     pub fn turn(&mut self, number: u64, to: Turn<M>) -> bool
-        requires { IsSomeAnd (find number self.old.list) (λ m. m.rollbacks ≤ 8) }
+        requires { IsSomeAnd (find number self.old.list) (λ m. m.rollbacks ≤ max_rollbacks) }
         ensures members { self.new ≡ record self.old { list = altered number (turned to) self.old.list } }
         ensures readied { Some result ≡ option_map (is_readied to) (find number self.old.list) }
     {

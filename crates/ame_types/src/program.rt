@@ -3,6 +3,7 @@
 ghost use Rattle.std.specs.Prelude.{◌≡◌, ◌≤◌, map, IfOk, IfErr};
 ghost use Rattle.ame_term.specs.View.{typ_of, tree_of};
 ghost use Rattle.ame_term.specs.Typing.{typing, Accepts};
+ghost use Rattle.ame_types.specs.Limits.{max_devices};
 ghost use Rattle.ame_types.specs.Fault.{IsFirstFault};
 
 use crate::expect::require;
@@ -19,7 +20,7 @@ use std::alloc::Global;
 /// pairs can double with each `let`, as in `(let b (pair a a) ..`: with 40 of these there is no memory
 /// for it, and the answer is `NoMemory`.
 pub fn check(alloc: Global, program: Program, devices: u32) -> Result<Accepted, TypesFail>
-    requires { devices ≤ 16 }
+    requires { devices ≤ max_devices }
     ensures program { IfOk result (λ a. a.program ≡ program) }
     ensures devices { IfOk result (λ a. a.devices ≡ devices) }
     ensures accepts { IfOk result (λ a. Accepts devices program.places.items (tree_of program.term) (map typ_of a.ref_tys.items)) }

@@ -1,0 +1,5 @@
+-- How many devices there may be.
+use Rattle.std.specs.Prelude.{ℕ}
+
+abbrev pub max_devices : ℕ
+max_devices = 16

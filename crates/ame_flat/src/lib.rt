@@ -1,0 +1,19 @@
+//! Laws of flat code: the term that a node, an environment and frames stand for. Each is the contract
+//! of a function that does nothing.
+#![tactic(auto)]
+
+mod closures;
+mod frames;
+mod listing;
+mod moves;
+mod reductions;
+mod slots;
+
+pub use closures::{bodies_are_entered, functions_capture_enough};
+pub use frames::{forms_stand_in_frames, frames_see_their_slots};
+pub use listing::{nodes_are_found, programs_have_nodes};
+pub use moves::{parts_come_first, values_are_found, values_come_back};
+pub use reductions::{
+    forms_go_on, fragments_begin, functions_are_made_and_called, values_are_computed,
+};
+pub use slots::{free_slots_are_enough, names_are_slots, slots_are_enough};

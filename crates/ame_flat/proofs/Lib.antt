@@ -4,3 +4,6 @@ pub mod ClosureLemmas
 pub mod PendingLemmas
 pub mod MoveLemmas
 pub mod ReductionLemmas
+pub mod ShapeLemmas
+pub mod HeightLemmas
+pub mod FreeSlotLemmas

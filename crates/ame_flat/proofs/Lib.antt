@@ -7,3 +7,4 @@ pub mod ReductionLemmas
 pub mod ShapeLemmas
 pub mod HeightLemmas
 pub mod FreeSlotLemmas
+pub mod SideLemmas

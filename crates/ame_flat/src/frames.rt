@@ -2,10 +2,10 @@
 
 ghost use Rattle.std.specs.Prelude.{◌≡◌, ℕ, List, ◌∷◌};
 ghost use Rattle.ame_term.specs.Tree.{Tree, Val};
-ghost use Rattle.ame_term.specs.Frame.{plug, plug_all};
+ghost use Rattle.ame_term.specs.Frame.{plug, plug_all, side_of, side_told};
 ghost use Rattle.ame_flat.specs.Slots.{SameSlots};
 ghost use Rattle.ame_flat.specs.Sources.{NodeSource};
-ghost use Rattle.ame_flat.specs.Pending.{Pending, Waiting, frame_of, frames_in, Fits};
+ghost use Rattle.ame_flat.specs.Pending.{Pending, Waiting, frame_of, frames_in, is_under, Fits};
 ghost use Rattle.ame_flat.specs.Configuration.{Control, Configuration, control_term, whole_term};
 
 /// Frames that look at so many slots stand for the same whatever the other slots have.
@@ -21,4 +21,10 @@ pub fn forms_stand_in_frames()
         → c.pending ≡ Pending.Waits form ∷ pending
         → whole_term sources c ≡ plug_all (frames_in sources c.values pending)
         (plug (frame_of sources c.values form) (control_term sources c.values c.control)) }
+{}
+
+/// The control stands under `unprotected` where such a form waits.
+pub fn sides_are_told()
+    ensures { (sources : List NodeSource) (values : List Val) (pending : List Pending)
+        → side_of (frames_in sources values pending) ≡ side_told (is_under pending) }
 {}

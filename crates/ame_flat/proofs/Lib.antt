@@ -8,3 +8,4 @@ pub mod ShapeLemmas
 pub mod HeightLemmas
 pub mod FreeSlotLemmas
 pub mod SideLemmas
+pub mod RefNumberLemmas

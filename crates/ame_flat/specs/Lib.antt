@@ -4,3 +4,4 @@ pub mod Shape
 pub mod Closure
 pub mod Pending
 pub mod Configuration
+pub mod RefNumbers

@@ -6,6 +6,7 @@ mod closures;
 mod frames;
 mod listing;
 mod moves;
+mod numbers;
 mod reductions;
 mod slots;
 
@@ -16,7 +17,10 @@ pub use frames::{forms_stand_in_frames, frames_see_their_slots, sides_are_told};
 pub use listing::{
     nodes_are_counted, nodes_are_found, programs_begin, programs_have_nodes, shapes_are_found,
 };
-pub use moves::{parts_come_first, values_are_found, values_come_back};
+pub use moves::{
+    answers_take_the_place_of_forms, parts_come_first, values_are_found, values_come_back,
+};
+pub use numbers::ref_numbers_are_places;
 pub use reductions::{
     forms_go_on, fragments_begin, functions_are_made_and_called, values_are_computed,
 };

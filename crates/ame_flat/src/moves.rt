@@ -1,14 +1,15 @@
 //! Moves of a machine that make no reduction: the term stays.
 
-ghost use Rattle.std.specs.Prelude.{ℕ, ◌<◌, List, ◌∷◌, length, take};
-ghost use Rattle.ame_term.specs.Tree.{Val};
+ghost use Rattle.std.specs.Prelude.{◌≡◌, ℕ, ◌<◌, List, ◌∷◌, length, take};
+ghost use Rattle.ame_term.specs.Tree.{Tree, Val};
+ghost use Rattle.ame_term.specs.Frame.{plug_all};
 ghost use Rattle.ame_term.specs.declared.types.Unary.{Unary};
 ghost use Rattle.ame_term.specs.declared.types.Binary.{Binary};
 ghost use Rattle.ame_flat.specs.Slots.{value_in};
 ghost use Rattle.ame_flat.specs.Sources.{NodeSource, source_at};
 ghost use Rattle.ame_flat.specs.Shape.{Shape, IsShape};
-ghost use Rattle.ame_flat.specs.Pending.{Pending, Waiting};
-ghost use Rattle.ame_flat.specs.Configuration.{at_node, with_value, IsInOrder, Keeps};
+ghost use Rattle.ame_flat.specs.Pending.{Pending, Waiting, frames_in, slots_left};
+ghost use Rattle.ame_flat.specs.Configuration.{at_node, with_value, whole_term, IsInOrder, Keeps};
 
 /// The control goes from a form to the part that is evaluated first, and the form waits for its value.
 pub fn parts_come_first()
@@ -69,4 +70,18 @@ pub fn values_come_back()
         (saved : List Val) → IsInOrder sources (with_value v values (Pending.Return saved ∷ pending))
         → Keeps sources (with_value v values (Pending.Return saved ∷ pending))
         (with_value v saved pending) }
+{}
+
+/// After an answer to a form that is a redex, its value stands in the frames below, in order.
+pub fn answers_take_the_place_of_forms()
+    ensures term { (sources : List NodeSource) (v : Val) (values : List Val) (pending : List Pending)
+        → whole_term sources (with_value v values pending)
+        ≡ plug_all (frames_in sources values pending) (Tree.Held v) }
+    ensures form { (sources : List NodeSource) (v w : Val) (values : List Val) (form : Waiting)
+        (pending : List Pending) → slots_left (length values) form ≡ length values
+        → IsInOrder sources (with_value v values (Pending.Waits form ∷ pending))
+        → IsInOrder sources (with_value w values pending) }
+    ensures node { (sources : List NodeSource) (n : ℕ) (w : Val) (values : List Val)
+        (pending : List Pending) → IsInOrder sources (at_node n values pending)
+        → IsInOrder sources (with_value w values pending) }
 {}

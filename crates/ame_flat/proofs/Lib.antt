@@ -1,0 +1,11 @@
+pub mod SlotLemmas
+pub mod ListingLemmas
+pub mod ClosureLemmas
+pub mod PendingLemmas
+pub mod MoveLemmas
+pub mod ReductionLemmas
+pub mod ShapeLemmas
+pub mod HeightLemmas
+pub mod FreeSlotLemmas
+pub mod SideLemmas
+pub mod RefNumberLemmas

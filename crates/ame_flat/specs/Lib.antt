@@ -1,0 +1,7 @@
+pub mod Slots
+pub mod Sources
+pub mod Shape
+pub mod Closure
+pub mod Pending
+pub mod Configuration
+pub mod RefNumbers

@@ -1,6 +1,6 @@
 pub mod Slots
 pub mod Sources
-pub mod Shape
+pub mod NodeShape
 pub mod Closure
 pub mod Pending
 pub mod Configuration

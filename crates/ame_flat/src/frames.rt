@@ -5,13 +5,13 @@ ghost use Rattle.ame_term.specs.Tree.{Tree, Val};
 ghost use Rattle.ame_term.specs.Frame.{plug, plug_all, side_of, side_told};
 ghost use Rattle.ame_flat.specs.Slots.{SameSlots};
 ghost use Rattle.ame_flat.specs.Sources.{NodeSource};
-ghost use Rattle.ame_flat.specs.Pending.{Pending, Waiting, frame_of, frames_in, is_under, Fits};
+ghost use Rattle.ame_flat.specs.Pending.{Pending, Waiting, frame_of, frames_in, is_under, FitsSlots};
 ghost use Rattle.ame_flat.specs.Configuration.{Control, Configuration, control_term, whole_term};
 
 /// Frames that look at so many slots stand for the same whatever the other slots have.
 pub fn frames_see_their_slots()
     ensures { (sources : List NodeSource) (k : ℕ) (pending : List Pending) (values others : List Val)
-        → Fits sources k pending → SameSlots k values others
+        → FitsSlots sources k pending → SameSlots k values others
         → frames_in sources values pending ≡ frames_in sources others pending }
 {}
 

@@ -9,7 +9,7 @@ ghost use Rattle.ame_term.specs.declared.types.Unary.TheVariants as unary;
 ghost use Rattle.ame_term.specs.declared.types.Binary.TheVariants as binary;
 ghost use Rattle.ame_flat.specs.Slots.{picked};
 ghost use Rattle.ame_flat.specs.Sources.{NodeSource, source_at};
-ghost use Rattle.ame_flat.specs.Shape.{Shape, IsShape};
+ghost use Rattle.ame_flat.specs.NodeShape.{NodeShape, IsShape};
 ghost use Rattle.ame_flat.specs.Closure.{function_at, body_values};
 ghost use Rattle.ame_flat.specs.Pending.{Pending, Waiting, frames_in, returning};
 ghost use Rattle.ame_flat.specs.Configuration.{at_node, with_value, whole_term, IsInOrder, Makes};
@@ -20,13 +20,13 @@ ghost use Rattle.ame_flat.specs.Configuration.{at_node, with_value, whole_term, 
 pub fn functions_are_made_and_called()
     ensures function { (sources : List NodeSource) (n : ℕ) (values : List Val) (pending : List Pending)
         (recursive : Bool) (body : ℕ) (free : List ℕ)
-        → IsShape sources (source_at sources n) (Shape.Function recursive body) free
+        → IsShape sources (source_at sources n) (NodeShape.Function recursive body) free
         → IsInOrder sources (at_node n values pending)
         → Makes sources (at_node n values pending)
         (with_value (function_at sources n (picked values free)) values pending) }
     ensures call { (sources : List NodeSource) (n : ℕ) (inner : List Val) (recursive : Bool) (body : ℕ)
         (free : List ℕ) (argument : Val) (values : List Val) (pending : List Pending)
-        → IsShape sources (source_at sources n) (Shape.Function recursive body) free
+        → IsShape sources (source_at sources n) (NodeShape.Function recursive body) free
         → length inner ≡ length free
         → IsInOrder sources
         (with_value argument values (Pending.Waits (Waiting.Right binary.App (function_at sources n inner)) ∷ pending))
@@ -97,10 +97,10 @@ pub fn values_are_computed()
 /// begins at the body with the values of the free slots.
 pub fn fragments_begin()
     ensures term { (sources : List NodeSource) (n : ℕ) (values : List Val) (pending : List Pending)
-        (body : ℕ) (free : List ℕ) → IsShape sources (source_at sources n) (Shape.Async body) free
+        (body : ℕ) (free : List ℕ) → IsShape sources (source_at sources n) (NodeShape.Async body) free
         → whole_term sources (at_node n values pending) ≡ plug_all (frames_in sources values pending)
         (Tree.Async (whole_term sources (at_node body (picked values free) []))) }
     ensures in_order { (sources : List NodeSource) (n : ℕ) (values : List Val) (pending : List Pending)
-        (body : ℕ) (free : List ℕ) → IsShape sources (source_at sources n) (Shape.Async body) free
+        (body : ℕ) (free : List ℕ) → IsShape sources (source_at sources n) (NodeShape.Async body) free
         → IsInOrder sources (at_node body (picked values free) []) }
 {}

@@ -1,0 +1,4 @@
+pub mod RunLemmas
+pub mod EffectLemmas
+pub mod ReplayLemmas
+pub mod EntryLemmas

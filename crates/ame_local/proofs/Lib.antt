@@ -2,3 +2,4 @@ pub mod RunLemmas
 pub mod EffectLemmas
 pub mod ReplayLemmas
 pub mod EntryLemmas
+pub mod TypedLemmas

@@ -47,6 +47,9 @@ has_feeds p Side.Unprotected (Act.Prints n) Val.Unit = Feeds.prints n
 has_feeds p Side.Unprotected (Act.Calls device n) (Val.Int answer) = Feeds.calls device n answer
 has_feeds p _ _ _ = tt
 
+pub feeds-of : (p : LocalState) (side : Side) (act : Act) (v : Val) (made : Tree × LocalState) → fed act side v p ≡ Some made → Feeds p side act v made.0 made.1
+feeds-of p side act v made e = subst (HasFeeds p side act v) e (has_feeds p side act v)
+
 feeds-acts : (p : LocalState) (side : Side) (act : Act) (v : Val) (inputs : List Val) → p.inputs ≡ v ∷ inputs → (o : Option (Tree × LocalState))
     → HasFeeds (record p { inputs = inputs }) side act v o → HasActs p side act o
 feeds-acts p side act v inputs is None h = tt
@@ -213,7 +216,7 @@ goes-more side p q more (suc n) e =
 pub acted-more : (side : Side) (p : LocalState) (act : Act) (v : Val) (made : Tree × LocalState) → p.inputs ≡ [] → fed act side v p ≡ Some made
     → acted act side (given_more (v ∷ []) p) ≡ Some made
 acted-more side p act v made empty gives =
-    let given = subst (HasFeeds p side act v) gives (has_feeds p side act v) in
+    let given = feeds-of p side act v made gives in
     acted-fed (given_more (v ∷ []) p) side act v [] (Some made) (ap (λ (xs : List Val). xs ++ v ∷ []) empty)
     (feeds-alone p side act v made.0 made.1 given (given_more (v ∷ []) p))
     (ap (λ (xs : List Val). fed act side v (record p { inputs = xs })) (sym empty) ∙ gives)

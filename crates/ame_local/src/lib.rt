@@ -5,6 +5,7 @@
 mod entries;
 mod replay;
 mod runs;
+mod typed;
 
 pub use entries::{
     closed_runs_are_replayed, cut_runs_are_replayed, ended_runs_are_replayed,
@@ -13,3 +14,4 @@ pub use entries::{
 };
 pub use replay::{free_runs_are_labels, protected_runs_are_labels};
 pub use runs::{more_inputs_change_no_step, one_more_input, runs_are_added, runs_are_one};
+pub use typed::{steps_keep_places_typed, typed_runs_begin, typed_runs_go_on};

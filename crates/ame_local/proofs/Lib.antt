@@ -1,0 +1,5 @@
+pub mod RunLemmas
+pub mod EffectLemmas
+pub mod ReplayLemmas
+pub mod EntryLemmas
+pub mod TypedLemmas

@@ -1,0 +1,4 @@
+pub mod Local
+pub mod Agrees
+pub mod Told
+pub mod Fit

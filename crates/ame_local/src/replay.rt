@@ -1,0 +1,33 @@
+//! A run that agrees with a state is labels in it.
+
+ghost use Rattle.std.specs.Prelude.{◌≡◌, ℕ, List, false, Some, None};
+ghost use Rattle.ame_term.specs.Tree.{Val, Tree};
+ghost use Rattle.ame_term.specs.Frame.{Side};
+ghost use Rattle.ame_term.specs.Context.{focus};
+ghost use Rattle.ame_term.specs.Maps.{at};
+ghost use Rattle.ame_term.specs.State.{State, run, at_unprotected};
+ghost use Rattle.ame_term.specs.declared.semantics.StepKind.{StepKind};
+ghost use Rattle.ame_journal.specs.Labels.{AreSteps, free_labels};
+ghost use Rattle.ame_journal.specs.UnderWay.{UnderWay};
+ghost use Rattle.ame_local.specs.Local.{LocalState, local};
+ghost use Rattle.ame_local.specs.Agrees.{Agrees, IsAfterRun};
+
+/// A run in protected code that agrees with the store is the member's labels: it becomes active and makes
+/// as many steps, with the same new locations. What it set is in the store then, what it printed stands
+/// behind the output, its new members have the next numbers, and the member is what the run has become.
+pub fn protected_runs_are_labels()
+    ensures { (s : State) (i : ℕ) (term : Tree) (inputs : List Val) (n : ℕ) (p : LocalState)
+        → s.active ≡ None → at s.members i ≡ Some term → at_unprotected (focus term) ≡ false
+        → local Side.Protected term inputs n ≡ Some p → Agrees s.store p
+        → (t : State) × UnderWay s i n p.fresh t × IsAfterRun s i p t × (at t.members i ≡ Some p.term) }
+{}
+
+/// A run in unprotected code that agrees with the store is as many free steps of the member, with the
+/// same new locations and the same answer, and nothing is active.
+pub fn free_runs_are_labels()
+    ensures { (s : State) (i : ℕ) (term : Tree) (inputs : List Val) (n : ℕ) (p : LocalState)
+        → s.active ≡ None → at s.members i ≡ Some term
+        → local Side.Unprotected term inputs n ≡ Some p → Agrees s.store p
+        → (t : State) × (kinds : List StepKind) × AreSteps kinds n p.fresh p.answer × (run s (free_labels i kinds) ≡ Some t)
+        × IsAfterRun s i p t × (at t.members i ≡ Some p.term) × (t.active ≡ None) }
+{}

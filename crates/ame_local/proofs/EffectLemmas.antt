@@ -79,9 +79,7 @@ put-alike xs ys n k x same = by (at-put xs n k x) (at-put ys n k x)
 -- An act
 
 -- an act of a run is one of a kind, and what the run holds then is in the state after it
-pub record IsPerformed (s : State) (i : ℕ) (p : LocalState) (t : State) (side : Side) (act : Act) (part : Tree) (q : LocalState) : Type 0 where
-  pub kind : StepKind
-  pub behind : State
+pub record IsPerformed (s : State) (i : ℕ) (p : LocalState) (t : State) (side : Side) (act : Act) (part : Tree) (q : LocalState) (kind : StepKind) (behind : State) : Type 0 where
   pub can : makes side kind act ≡ true
   pub made : performed kind act t ≡ Some (part, behind)
   pub after_run : IsAfterRun s i q behind
@@ -90,14 +88,18 @@ pub record IsPerformed (s : State) (i : ℕ) (p : LocalState) (t : State) (side 
   pub fresh : q.fresh ≡ p.fresh ++ fresh_of kind
   pub answer : q.answer ≡ device_answer kind
 
+-- the same by some kind
+pub record IsPerformedSomehow (s : State) (i : ℕ) (p : LocalState) (t : State) (side : Side) (act : Act) (part : Tree) (q : LocalState) : Type 0 where
+  pub kind : StepKind
+  pub behind : State
+  pub so : IsPerformed s i p t side act part q kind behind
+
 module _ (s : State) (i : ℕ) (p : LocalState) (t : State) (h : IsAfterRun s i p t) (there : is_some (at t.members i) ≡ true) (resting : p.answer ≡ None) where
   nothing_new : p.fresh ≡ p.fresh ++ []
   nothing_new = sym (append-nil p.fresh)
 
-  becomes : (side : Side) (term : Tree) → IsPerformed s i p t side (Act.Becomes term) term p
+  pub becomes : (side : Side) (term : Tree) → IsPerformed s i p t side (Act.Becomes term) term p StepKind.Local t
   becomes side term = record {
-    kind = StepKind.Local;
-    behind = t;
     can = refl;
     made = refl;
     after_run = h;
@@ -107,10 +109,8 @@ module _ (s : State) (i : ℕ) (p : LocalState) (t : State) (h : IsAfterRun s i 
     answer = resting;
   }
 
-  passes : IsPerformed s i p t Side.Protected Act.Passes unit_tree p
+  pub passes : IsPerformed s i p t Side.Protected Act.Passes unit_tree p StepKind.Block t
   passes = record {
-    kind = StepKind.Block;
-    behind = t;
     can = refl;
     made = refl;
     after_run = h;
@@ -120,10 +120,8 @@ module _ (s : State) (i : ℕ) (p : LocalState) (t : State) (h : IsAfterRun s i 
     answer = resting;
   }
 
-  spawns : (side : Side) (body : Tree) → IsPerformed s i p t side (Act.Spawns body) unit_tree (record p { spawns = p.spawns ++ body ∷ [] })
+  pub spawns : (side : Side) (body : Tree) → IsPerformed s i p t side (Act.Spawns body) unit_tree (record p { spawns = p.spawns ++ body ∷ [] }) StepKind.Spawn (record t { members = put t.members t.next body; next = t.next + 1 })
   spawns side body = record {
-    kind = StepKind.Spawn;
-    behind = record t { members = put t.members t.next body; next = t.next + 1 };
     can = refl;
     made = refl;
     after_run = record {
@@ -144,10 +142,8 @@ module _ (s : State) (i : ℕ) (p : LocalState) (t : State) (h : IsAfterRun s i 
     answer = resting;
   }
 
-  prints : (side : Side) (n : ℤ) → IsPerformed s i p t side (Act.Prints n) unit_tree (record p { prints = p.prints ++ n ∷ [] })
+  pub prints : (side : Side) (n : ℤ) → IsPerformed s i p t side (Act.Prints n) unit_tree (record p { prints = p.prints ++ n ∷ [] }) StepKind.Print (record t { output = t.output ++ n ∷ [] })
   prints side n = record {
-    kind = StepKind.Print;
-    behind = record t { output = t.output ++ n ∷ [] };
     can = refl;
     made = refl;
     after_run = record {
@@ -162,10 +158,8 @@ module _ (s : State) (i : ℕ) (p : LocalState) (t : State) (h : IsAfterRun s i 
     answer = resting;
   }
 
-  writes : (side : Side) (l : ℕ) (v : Val) → IsPerformed s i p t side (Act.Writes l v) unit_tree (record p { sets = put p.sets l v })
+  pub writes : (side : Side) (l : ℕ) (v : Val) → IsPerformed s i p t side (Act.Writes l v) unit_tree (record p { sets = put p.sets l v }) StepKind.Write (record t { store = put t.store l v })
   writes side l v = record {
-    kind = StepKind.Write;
-    behind = record t { store = put t.store l v };
     can = refl;
     made = refl;
     after_run = record {
@@ -180,11 +174,9 @@ module _ (s : State) (i : ℕ) (p : LocalState) (t : State) (h : IsAfterRun s i 
     answer = resting;
   }
 
-  calls : (device : ℕ) (n answer : ℤ)
-      → IsPerformed s i p t Side.Unprotected (Act.Calls device n) (Tree.Held (Val.Int answer)) (record p { answer = Some answer })
+  pub calls : (device : ℕ) (n answer : ℤ)
+      → IsPerformed s i p t Side.Unprotected (Act.Calls device n) (Tree.Held (Val.Int answer)) (record p { answer = Some answer }) (StepKind.Device answer) t
   calls device n answer = record {
-    kind = StepKind.Device answer;
-    behind = t;
     can = refl;
     made = refl;
     after_run = record { stored = h.stored; output = h.output; others = h.others; next = h.next };
@@ -195,11 +187,9 @@ module _ (s : State) (i : ℕ) (p : LocalState) (t : State) (h : IsAfterRun s i 
   }
 
   -- a new location is in no store
-  allocates : (side : Side) (l : Loc) (sort : Sort) (v : Val) → at s.store l.0 ≡ None → at p.sets l.0 ≡ None
-      → IsPerformed s i p t side (Act.Allocates sort v) (Tree.Held (Val.Loc l.0)) (made_at l.0 v p)
+  pub allocates : (side : Side) (l : Loc) (sort : Sort) (v : Val) → at s.store l.0 ≡ None → at p.sets l.0 ≡ None
+      → IsPerformed s i p t side (Act.Allocates sort v) (Tree.Held (Val.Loc l.0)) (made_at l.0 v p) (StepKind.Alloc l) (record t { store = put t.store l.0 v })
   allocates side l sort v unstored unset = record {
-    kind = StepKind.Alloc l;
-    behind = record t { store = put t.store l.0 v };
     can = refl;
     made =
         let free : at t.store l.0 ≡ None = h.stored l.0 ∙ ap (λ (o : Option Val). or_else o (at s.store l.0)) unset ∙ unstored in
@@ -237,10 +227,8 @@ module _ (s : State) (i : ℕ) (p : LocalState) (t : State) (h : IsAfterRun s i 
   loads : (l : ℕ) (v : Val) → at t.store l ≡ Some v → loaded l t ≡ Some (Tree.Held v, t)
   loads l v is = ap (option_map {U = Tree × State} (λ w. (Tree.Held w, t))) is
 
-  reads : (side : Side) (l : ℕ) (v : Val) → Agrees s.store (taken l v p) → IsPerformed s i p t side (Act.Reads l) (Tree.Held v) (taken l v p)
+  pub reads : (side : Side) (l : ℕ) (v : Val) → Agrees s.store (taken l v p) → IsPerformed s i p t side (Act.Reads l) (Tree.Held v) (taken l v p) StepKind.Read t
   reads side l v a = record {
-    kind = StepKind.Read;
-    behind = t;
     can = refl;
     made = loads l v (stored-taken (at p.sets l) l v refl a);
     after_run = taken-after (at p.sets l) l v;
@@ -250,10 +238,8 @@ module _ (s : State) (i : ℕ) (p : LocalState) (t : State) (h : IsAfterRun s i 
     answer = taken-resting (at p.sets l) l v;
   }
 
-  peeks : (l : ℕ) (v : Val) → Agrees s.store (taken l v p) → IsPerformed s i p t Side.Unprotected (Act.Peeks l) (Tree.Held v) (taken l v p)
+  pub peeks : (l : ℕ) (v : Val) → Agrees s.store (taken l v p) → IsPerformed s i p t Side.Unprotected (Act.Peeks l) (Tree.Held v) (taken l v p) StepKind.Peek t
   peeks l v a = record {
-    kind = StepKind.Peek;
-    behind = t;
     can = refl;
     made = loads l v (stored-taken (at p.sets l) l v refl a);
     after_run = taken-after (at p.sets l) l v;
@@ -264,37 +250,46 @@ module _ (s : State) (i : ℕ) (p : LocalState) (t : State) (h : IsAfterRun s i 
   }
 
   feeds-performed : (side : Side) (act : Act) (v : Val) (part : Tree) (q : LocalState) → Feeds p side act v part q → Agrees s.store q
-      → IsPerformed s i p t side act part q
-  feeds-performed _ _ _ _ _ (Feeds.allocates side sort v l) a = let new = a.made.0 in allocates side (record { 0 = l }) sort v new.0 new.1
-  feeds-performed _ _ _ _ _ (Feeds.reads side l v) a = reads side l v a
-  feeds-performed _ _ _ _ _ (Feeds.peeks l v) a = peeks l v a
-  feeds-performed _ _ _ _ _ (Feeds.writes side l v) a = writes side l v
-  feeds-performed _ _ _ _ _ (Feeds.spawns body) a = spawns Side.Unprotected body
-  feeds-performed _ _ _ _ _ (Feeds.prints n) a = prints Side.Unprotected n
-  feeds-performed _ _ _ _ _ (Feeds.calls device n answer) a = calls device n answer
+      → IsPerformedSomehow s i p t side act part q
+  feeds-performed _ _ _ _ _ (Feeds.allocates side sort v l) a =
+      let new = a.made.0 in
+      record {
+        kind = StepKind.Alloc (record { 0 = l });
+        behind = record t { store = put t.store l v };
+        so = allocates side (record { 0 = l }) sort v new.0 new.1;
+      }
+  feeds-performed _ _ _ _ _ (Feeds.reads side l v) a = record { kind = StepKind.Read; behind = t; so = reads side l v a }
+  feeds-performed _ _ _ _ _ (Feeds.peeks l v) a = record { kind = StepKind.Peek; behind = t; so = peeks l v a }
+  feeds-performed _ _ _ _ _ (Feeds.writes side l v) a = record { kind = StepKind.Write; behind = record t { store = put t.store l v }; so = writes side l v }
+  feeds-performed _ _ _ _ _ (Feeds.spawns body) a =
+      record { kind = StepKind.Spawn; behind = record t { members = put t.members t.next body; next = t.next + 1 }; so = spawns Side.Unprotected body }
+  feeds-performed _ _ _ _ _ (Feeds.prints n) a =
+      record { kind = StepKind.Print; behind = record t { output = t.output ++ n ∷ [] }; so = prints Side.Unprotected n }
+  feeds-performed _ _ _ _ _ (Feeds.calls device n answer) a = record { kind = StepKind.Device answer; behind = t; so = calls device n answer }
 
--- with its inputs not counted
-unfed : (s : State) (i : ℕ) (p : LocalState) (inputs : List Val) (t : State) → IsAfterRun s i p t → IsAfterRun s i (record p { inputs = inputs }) t
+-- with other inputs
+pub unfed : (s : State) (i : ℕ) (p : LocalState) (inputs : List Val) (t : State) → IsAfterRun s i p t → IsAfterRun s i (record p { inputs = inputs }) t
 unfed s i p inputs t h = record { stored = h.stored; output = h.output; others = h.others; next = h.next }
 
 acts-performed : (s : State) (i : ℕ) (p : LocalState) (t : State) → IsAfterRun s i p t → is_some (at t.members i) ≡ true → p.answer ≡ None
-    → (side : Side) (act : Act) (part : Tree) (q : LocalState) → Acts p side act part q → Agrees s.store q → IsPerformed s i p t side act part q
-acts-performed s i p t h there resting _ _ _ _ (Acts.becomes side term) a = becomes s i p t h there resting side term
-acts-performed s i p t h there resting _ _ _ _ (Acts.spawns body) a = spawns s i p t h there resting Side.Protected body
-acts-performed s i p t h there resting _ _ _ _ (Acts.prints n) a = prints s i p t h there resting Side.Protected n
-acts-performed s i p t h there resting _ _ _ _ Acts.passes a = passes s i p t h there resting
-acts-performed s i p t h there resting _ _ _ _ (Acts.feeds side act v inputs part q is given) a =
-    let r = feeds-performed s i (record p { inputs = inputs }) t (unfed s i p inputs t h) there resting side act v part q given a in
+    → (side : Side) (act : Act) (part : Tree) (q : LocalState) → Acts p side act part q → Agrees s.store q → IsPerformedSomehow s i p t side act part q
+acts-performed s i p t h there resting _ _ _ _ (Acts.becomes side term) a = record { kind = StepKind.Local; behind = t; so = becomes s i p t h there resting side term }
+acts-performed s i p t h there resting _ _ _ _ (Acts.spawns body) a =
     record {
-      kind = r.kind;
-      behind = r.behind;
-      can = r.can;
-      made = r.made;
-      after_run = r.after_run;
-      there = r.there;
-      active = r.active;
-      fresh = r.fresh;
-      answer = r.answer;
+      kind = StepKind.Spawn;
+      behind = record t { members = put t.members t.next body; next = t.next + 1 };
+      so = spawns s i p t h there resting Side.Protected body;
+    }
+acts-performed s i p t h there resting _ _ _ _ (Acts.prints n) a =
+    record { kind = StepKind.Print; behind = record t { output = t.output ++ n ∷ [] }; so = prints s i p t h there resting Side.Protected n }
+acts-performed s i p t h there resting _ _ _ _ Acts.passes a = record { kind = StepKind.Block; behind = t; so = passes s i p t h there resting }
+acts-performed s i p t h there resting _ _ _ _ (Acts.feeds side act v inputs part q is given) a =
+    let w = feeds-performed s i (record p { inputs = inputs }) t (unfed s i p inputs t h) there resting side act v part q given a in
+    let r = w.so in
+    record {
+      kind = w.kind;
+      behind = w.behind;
+      so = record { can = r.can; made = r.made; after_run = r.after_run; there = r.there; active = r.active; fresh = r.fresh; answer = r.answer };
     }
 
 -- A step
@@ -317,27 +312,28 @@ pub step-made : (s : State) (i : ℕ) (side : Side) (p q : LocalState) (t : Stat
 step-made s i side p q t h member e a =
     let x = step-is side p q e in
     let there : is_some (at t.members i) ≡ true = ap is_some member in
-    let r = acts-performed s i p t h there x.resting side (act_of x.redex) x.part x.behind x.acts (refilled-agrees s.store x.behind q (fill p.term x.part) x.is a) in
+    let w = acts-performed s i p t h there x.resting side (act_of x.redex) x.part x.behind x.acts (refilled-agrees s.store x.behind q (fill p.term x.part) x.is a) in
+    let r = w.so in
     let last = fill p.term x.part in
-    let u = record r.behind { members = change r.behind.members i last } in
+    let u = record w.behind { members = change w.behind.members i last } in
     subst (λ (z : LocalState). IsStepMade s i side p z t) (sym x.is) (record {
-      kind = r.kind;
+      kind = w.kind;
       behind = u;
       act = act_of x.redex;
       can = r.can;
       reduces =
-          ap (option_and_then (λ (term : Tree). option_map (rewritten i term) (reduced_at side r.kind (focus term) t))) member
-          ∙ ap (λ (f : Focus). option_map (rewritten i p.term) (reduced_at side r.kind f t)) x.stands
-          ∙ ap (λ (b : Bool). option_map (rewritten i p.term) (if b then performed_on side r.kind (act_of x.redex) t else None)) (same_as_itself side)
-          ∙ ap (λ (b : Bool). option_map (rewritten i p.term) (if b then performed r.kind (act_of x.redex) t else None)) r.can
+          ap (option_and_then (λ (term : Tree). option_map (rewritten i term) (reduced_at side w.kind (focus term) t))) member
+          ∙ ap (λ (f : Focus). option_map (rewritten i p.term) (reduced_at side w.kind f t)) x.stands
+          ∙ ap (λ (b : Bool). option_map (rewritten i p.term) (if b then performed_on side w.kind (act_of x.redex) t else None)) (same_as_itself side)
+          ∙ ap (λ (b : Bool). option_map (rewritten i p.term) (if b then performed w.kind (act_of x.redex) t else None)) r.can
           ∙ ap (option_map (rewritten i p.term)) r.made;
       after_run = record {
         stored = r.after_run.stored;
         output = r.after_run.output;
-        others = λ k apart. at-change_other r.behind.members i k last (λ same. apart (sym same)) ∙ r.after_run.others k apart;
+        others = λ k apart. at-change_other w.behind.members i k last (λ same. apart (sym same)) ∙ r.after_run.others k apart;
         next = r.after_run.next;
       };
-      member = at-change_same r.behind.members i last r.there;
+      member = at-change_same w.behind.members i last r.there;
       active = r.active;
       fresh = r.fresh;
       answer = r.answer;

@@ -3,3 +3,4 @@ pub mod EffectLemmas
 pub mod ReplayLemmas
 pub mod EntryLemmas
 pub mod TypedLemmas
+pub mod LegalLemmas

@@ -112,6 +112,10 @@ goes side p (suc n) = option_and_then (one_step side) (goes side p n)
 abbrev pub local : Side → Tree → List Val → ℕ → Option LocalState
 local side term inputs n = goes side (begun_with term inputs) n
 
+-- the same place of a run that has these inputs left
+abbrev pub given : List Val → LocalState → LocalState
+given inputs p = record p { inputs = inputs }
+
 -- the same place of a run that has more inputs
 abbrev pub given_more : List Val → LocalState → LocalState
 given_more more p = record p { inputs = p.inputs ++ more }

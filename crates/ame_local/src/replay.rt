@@ -1,15 +1,16 @@
 //! A run that agrees with a state is labels in it.
 
-ghost use Rattle.std.specs.Prelude.{◌≡◌, ℕ, List, false, Some, None};
+ghost use Rattle.std.specs.Prelude.{◌≡◌, ℕ, List, [], ◌++◌, false, Some, None};
 ghost use Rattle.ame_term.specs.Tree.{Val, Tree};
 ghost use Rattle.ame_term.specs.Frame.{Side};
 ghost use Rattle.ame_term.specs.Context.{focus};
+ghost use Rattle.ame_term.specs.Act.{device_answer};
 ghost use Rattle.ame_term.specs.Maps.{at};
-ghost use Rattle.ame_term.specs.State.{State, run, at_unprotected};
+ghost use Rattle.ame_term.specs.State.{State, run, reduce, at_unprotected};
 ghost use Rattle.ame_term.specs.declared.semantics.StepKind.{StepKind};
-ghost use Rattle.ame_journal.specs.Labels.{AreSteps, free_labels};
+ghost use Rattle.ame_journal.specs.Labels.{AreSteps, fresh_of, free_labels};
 ghost use Rattle.ame_journal.specs.UnderWay.{UnderWay};
-ghost use Rattle.ame_local.specs.Local.{LocalState, local};
+ghost use Rattle.ame_local.specs.Local.{LocalState, given, one_step, local};
 ghost use Rattle.ame_local.specs.Agrees.{Agrees, IsAfterRun};
 
 /// A run in protected code that agrees with the store is the member's labels: it becomes active and makes
@@ -30,4 +31,15 @@ pub fn free_runs_are_labels()
         → local Side.Unprotected term inputs n ≡ Some p → Agrees s.store p
         → (t : State) × (kinds : List StepKind) × AreSteps kinds n p.fresh p.answer × (run s (free_labels i kinds) ≡ Some t)
         × IsAfterRun s i p t × (at t.members i ≡ Some p.term) × (t.active ≡ None) }
+{}
+
+/// What a member does on a side, in a state after a run of it that agrees with the store, is a step of the
+/// run: with no input, or with one, which is what the store has, the new location, the answer, or the unit.
+/// The run agrees still, and the state is the one after it.
+pub fn steps_are_of_runs()
+    ensures { (s : State) (i : ℕ) (side : Side) (kind : StepKind) (p : LocalState) (t u : State)
+        → Agrees s.store p → IsAfterRun s i p t → at t.members i ≡ Some p.term → p.answer ≡ None → reduce side kind i t ≡ Some u
+        → (inputs : List Val) × (q : LocalState) × (one_step side (given inputs p) ≡ Some q) × (q.inputs ≡ [])
+        × Agrees s.store q × IsAfterRun s i q u × (at u.members i ≡ Some q.term)
+        × (q.fresh ≡ p.fresh ++ fresh_of kind) × (q.answer ≡ device_answer kind) }
 {}

@@ -12,33 +12,33 @@ use Rattle.ame_term.specs.declared.types.Sort.{Sort}
 use Rattle.ame_laws.proofs.MapLemmas.{at-put, at-put_other, at-change_same, at-change_other, is_some-put}
 use Rattle.ame_journal.specs.Labels.{fresh_of}
 use Rattle.ame_journal.specs.Replay.{or_else}
-use Rattle.ame_local.specs.Local.{LocalState, taken, taken_where, made_at, one_step}
-use Rattle.ame_local.specs.Agrees.{Agrees, joined, IsAfterRun}
+use Rattle.ame_local.specs.Local.{LocalState, took, taken_where, made_at, one_step}
+use Rattle.ame_local.specs.AgreesWith.{AgreesWith, with_members, IsAfterRun}
 use Rattle.ame_local.proofs.RunLemmas.{Acts, Feeds, same_as_itself, step-is}
 
 -- Agreeing, before a step
 
 module _ (store : List (ℕ × Val)) where
-  taken-agrees : (o : Option Val) (l : ℕ) (v : Val) (p : LocalState) → Agrees store (taken_where o l v p) → Agrees store p
+  taken-agrees : (o : Option Val) (l : ℕ) (v : Val) (p : LocalState) → AgreesWith store (taken_where o l v p) → AgreesWith store p
   taken-agrees None l v p a = record { seen = a.seen.1; own = a.own; made = a.made }
   taken-agrees (Some w) l v p a = record { seen = a.seen; own = a.own.1; made = a.made }
 
-  feeds-agrees : (p : LocalState) (side : Side) (act : Act) (v : Val) (part : Tree) (q : LocalState) → Feeds p side act v part q → Agrees store q → Agrees store p
+  feeds-agrees : (p : LocalState) (side : Side) (act : Act) (v : Val) (part : Tree) (q : LocalState) → Feeds p side act v part q → AgreesWith store q → AgreesWith store p
   feeds-agrees p _ _ _ _ _ (Feeds.allocates side sort v l) a = record { seen = a.seen; own = a.own; made = a.made.1 }
   feeds-agrees p _ _ _ _ _ (Feeds.reads side l v) a = taken-agrees (at p.sets l) l v p a
   feeds-agrees p _ _ _ _ _ (Feeds.peeks l v) a = taken-agrees (at p.sets l) l v p a
   feeds-agrees p _ _ _ _ _ _ a = record { seen = a.seen; own = a.own; made = a.made }
 
-  acts-agrees : (p : LocalState) (side : Side) (act : Act) (part : Tree) (q : LocalState) → Acts p side act part q → Agrees store q → Agrees store p
+  acts-agrees : (p : LocalState) (side : Side) (act : Act) (part : Tree) (q : LocalState) → Acts p side act part q → AgreesWith store q → AgreesWith store p
   acts-agrees p _ _ _ _ (Acts.feeds side act v inputs part q is given) a =
       let b = feeds-agrees (record p { inputs = inputs }) side act v part q given a in
       record { seen = b.seen; own = b.own; made = b.made }
   acts-agrees p _ _ _ _ _ a = record { seen = a.seen; own = a.own; made = a.made }
 
-  refilled-agrees : (p q : LocalState) (term : Tree) → q ≡ record p { term = term } → Agrees store q → Agrees store p
-  refilled-agrees p q term is a = let b = subst (Agrees store) is a in record { seen = b.seen; own = b.own; made = b.made }
+  refilled-agrees : (p q : LocalState) (term : Tree) → q ≡ record p { term = term } → AgreesWith store q → AgreesWith store p
+  refilled-agrees p q term is a = let b = subst (AgreesWith store) is a in record { seen = b.seen; own = b.own; made = b.made }
 
-  pub step-agrees : (side : Side) (p q : LocalState) → one_step side p ≡ Some q → Agrees store q → Agrees store p
+  pub step-agrees : (side : Side) (p q : LocalState) → one_step side p ≡ Some q → AgreesWith store q → AgreesWith store p
   step-agrees side p q e a =
       let x = step-is side p q e in
       acts-agrees p side (act_of x.redex) x.part x.behind x.acts (refilled-agrees x.behind q (fill p.term x.part) x.is a)
@@ -58,12 +58,12 @@ stored-put store sets below l v m h = by (at-put store l m v) (at-put sets l m v
     by (inr a) (inr b) = a.1 ∙ h ∙ sym (ap (λ (o : Option Val). or_else o below) b.1)
 
 joined-last : (members : List (ℕ × Tree)) (next : ℕ) (bodies : List Tree) (body : Tree)
-    → joined members next (bodies ++ body ∷ []) ≡ put (joined members next bodies) (next + length bodies) body
+    → with_members members next (bodies ++ body ∷ []) ≡ put (with_members members next bodies) (next + length bodies) body
 joined-last members next [] body = let e : next + 0 ≡ next = omega arith in ap (λ (n : ℕ). put members n body) (sym e)
 joined-last members next (b ∷ bodies) body =
     let e : (next + 1) + length bodies ≡ next + suc (length bodies) = omega arith in
     joined-last (put members next b) (next + 1) bodies body
-    ∙ ap (λ (n : ℕ). put (joined (put members next b) (next + 1) bodies) n body) e
+    ∙ ap (λ (n : ℕ). put (with_members (put members next b) (next + 1) bodies) n body) e
 
 put-alike : (xs ys : List (ℕ × Tree)) (n k : ℕ) (x : Tree) → at xs k ≡ at ys k → at (put xs n x) k ≡ at (put ys n x) k
 put-alike xs ys n k x same = by (at-put xs n k x) (at-put ys n k x)
@@ -128,8 +128,8 @@ module _ (s : State) (i : ℕ) (p : LocalState) (t : State) (h : IsAfterRun s i 
       stored = h.stored;
       output = h.output;
       others = λ k apart.
-          put-alike t.members (joined s.members s.next p.spawns) t.next k body (h.others k apart)
-          ∙ ap (λ (n : ℕ). at (put (joined s.members s.next p.spawns) n body) k) h.next
+          put-alike t.members (with_members s.members s.next p.spawns) t.next k body (h.others k apart)
+          ∙ ap (λ (n : ℕ). at (put (with_members s.members s.next p.spawns) n body) k) h.next
           ∙ ap (λ (ms : List (ℕ × Tree)). at ms k) (sym (joined-last s.members s.next p.spawns body));
       next =
           let longer : length (p.spawns ++ body ∷ []) ≡ length p.spawns + 1 = length-append p.spawns (body ∷ []) in
@@ -208,7 +208,7 @@ module _ (s : State) (i : ℕ) (p : LocalState) (t : State) (h : IsAfterRun s i 
 
   -- What is taken is what the state has there.
 
-  stored-taken : (o : Option Val) (l : ℕ) (v : Val) → at p.sets l ≡ o → Agrees s.store (taken_where o l v p) → at t.store l ≡ Some v
+  stored-taken : (o : Option Val) (l : ℕ) (v : Val) → at p.sets l ≡ o → AgreesWith s.store (taken_where o l v p) → at t.store l ≡ Some v
   stored-taken None l v is a = h.stored l ∙ ap (λ (z : Option Val). or_else z (at s.store l)) is ∙ a.seen.0
   stored-taken (Some w) l v is a = h.stored l ∙ ap (λ (z : Option Val). or_else z (at s.store l)) is ∙ ap Some (sym a.own.0)
 
@@ -227,7 +227,7 @@ module _ (s : State) (i : ℕ) (p : LocalState) (t : State) (h : IsAfterRun s i 
   loads : (l : ℕ) (v : Val) → at t.store l ≡ Some v → loaded l t ≡ Some (Tree.Held v, t)
   loads l v is = ap (option_map {U = Tree × State} (λ w. (Tree.Held w, t))) is
 
-  pub reads : (side : Side) (l : ℕ) (v : Val) → Agrees s.store (taken l v p) → IsPerformed s i p t side (Act.Reads l) (Tree.Held v) (taken l v p) StepKind.Read t
+  pub reads : (side : Side) (l : ℕ) (v : Val) → AgreesWith s.store (took l v p) → IsPerformed s i p t side (Act.Reads l) (Tree.Held v) (took l v p) StepKind.Read t
   reads side l v a = record {
     can = refl;
     made = loads l v (stored-taken (at p.sets l) l v refl a);
@@ -238,7 +238,7 @@ module _ (s : State) (i : ℕ) (p : LocalState) (t : State) (h : IsAfterRun s i 
     answer = taken-resting (at p.sets l) l v;
   }
 
-  pub peeks : (l : ℕ) (v : Val) → Agrees s.store (taken l v p) → IsPerformed s i p t Side.Unprotected (Act.Peeks l) (Tree.Held v) (taken l v p) StepKind.Peek t
+  pub peeks : (l : ℕ) (v : Val) → AgreesWith s.store (took l v p) → IsPerformed s i p t Side.Unprotected (Act.Peeks l) (Tree.Held v) (took l v p) StepKind.Peek t
   peeks l v a = record {
     can = refl;
     made = loads l v (stored-taken (at p.sets l) l v refl a);
@@ -249,7 +249,7 @@ module _ (s : State) (i : ℕ) (p : LocalState) (t : State) (h : IsAfterRun s i 
     answer = taken-resting (at p.sets l) l v;
   }
 
-  feeds-performed : (side : Side) (act : Act) (v : Val) (part : Tree) (q : LocalState) → Feeds p side act v part q → Agrees s.store q
+  feeds-performed : (side : Side) (act : Act) (v : Val) (part : Tree) (q : LocalState) → Feeds p side act v part q → AgreesWith s.store q
       → IsPerformedSomehow s i p t side act part q
   feeds-performed _ _ _ _ _ (Feeds.allocates side sort v l) a =
       let new = a.made.0 in
@@ -272,7 +272,7 @@ pub unfed : (s : State) (i : ℕ) (p : LocalState) (inputs : List Val) (t : Stat
 unfed s i p inputs t h = record { stored = h.stored; output = h.output; others = h.others; next = h.next }
 
 acts-performed : (s : State) (i : ℕ) (p : LocalState) (t : State) → IsAfterRun s i p t → is_some (at t.members i) ≡ true → p.answer ≡ None
-    → (side : Side) (act : Act) (part : Tree) (q : LocalState) → Acts p side act part q → Agrees s.store q → IsPerformedSomehow s i p t side act part q
+    → (side : Side) (act : Act) (part : Tree) (q : LocalState) → Acts p side act part q → AgreesWith s.store q → IsPerformedSomehow s i p t side act part q
 acts-performed s i p t h there resting _ _ _ _ (Acts.becomes side term) a = record { kind = StepKind.Local; behind = t; so = becomes s i p t h there resting side term }
 acts-performed s i p t h there resting _ _ _ _ (Acts.spawns body) a =
     record {
@@ -308,7 +308,7 @@ pub record IsStepMade (s : State) (i : ℕ) (side : Side) (p q : LocalState) (t 
   pub answer : q.answer ≡ device_answer kind
 
 pub step-made : (s : State) (i : ℕ) (side : Side) (p q : LocalState) (t : State) → IsAfterRun s i p t → at t.members i ≡ Some p.term
-    → one_step side p ≡ Some q → Agrees s.store q → IsStepMade s i side p q t
+    → one_step side p ≡ Some q → AgreesWith s.store q → IsStepMade s i side p q t
 step-made s i side p q t h member e a =
     let x = step-is side p q e in
     let there : is_some (at t.members i) ≡ true = ap is_some member in

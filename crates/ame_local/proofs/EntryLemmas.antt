@@ -21,7 +21,7 @@ use Rattle.ame_journal.proofs.LabelLemmas.{run-two, run-one}
 use Rattle.ame_journal.proofs.UnfoldLemmas.{entry-back}
 use Rattle.ame_journal.proofs.UnderWayLemmas.{UnderWay-runs, replay-ended, replay-left, replay-stuck, replay-cut, replay-tall}
 use Rattle.ame_local.specs.Local.{LocalState}
-use Rattle.ame_local.specs.Agrees.{IsAfterRun}
+use Rattle.ame_local.specs.AgreesWith.{IsAfterRun}
 use Rattle.ame_local.specs.Told.{TellsRun, IsTooHigh}
 use Rattle.ame_local.proofs.ReplayLemmas.{IsActiveRun, IsFreeRun, active_run, free_run}
 

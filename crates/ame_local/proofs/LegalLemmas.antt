@@ -13,8 +13,8 @@ use Rattle.ame_laws.proofs.MapLemmas.{at-change_same, at-change_other}
 use Rattle.ame_journal.specs.Labels.{fresh_of}
 use Rattle.ame_journal.specs.Replay.{or_else, redex_act}
 use Rattle.ame_journal.proofs.StepLemmas.{reduced}
-use Rattle.ame_local.specs.Local.{LocalState, given, taken, taken_where, set_at, made_at, spawned, printed, acted, refilled_in, one_step}
-use Rattle.ame_local.specs.Agrees.{Agrees, IsAfterRun}
+use Rattle.ame_local.specs.Local.{LocalState, with_inputs, took, taken_where, set_at, made_at, spawned, printed, acted, refilled_in, one_step}
+use Rattle.ame_local.specs.AgreesWith.{AgreesWith, IsAfterRun}
 use Rattle.ame_local.proofs.RunLemmas.{step-of}
 use Rattle.ame_local.proofs.EffectLemmas.{IsPerformed, unfed, becomes, passes, spawns, prints, writes, calls, allocates, reads, peeks}
 
@@ -30,19 +30,19 @@ taken-empty (Some w) l v p empty = empty
 record IsActed (s : State) (i : ℕ) (p : LocalState) (t : State) (side : Side) (act : Act) (kind : StepKind) (made : Tree × State) : Type 0 where
   pub inputs : List Val
   pub last : LocalState
-  pub acts : acted act side (given inputs p) ≡ Some (made.0, last)
+  pub acts : acted act side (with_inputs inputs p) ≡ Some (made.0, last)
   pub used : last.inputs ≡ []
-  pub agrees : Agrees s.store last
-  pub so : IsPerformed s i (given [] p) t side act made.0 last kind made.1
+  pub agrees : AgreesWith s.store last
+  pub so : IsPerformed s i (with_inputs [] p) t side act made.0 last kind made.1
 
-module _ (s : State) (i : ℕ) (p : LocalState) (t : State) (h : IsAfterRun s i p t) (there : is_some (at t.members i) ≡ true) (resting : p.answer ≡ None) (a : Agrees s.store p) where
-  unfed-after : IsAfterRun s i (given [] p) t
+module _ (s : State) (i : ℕ) (p : LocalState) (t : State) (h : IsAfterRun s i p t) (there : is_some (at t.members i) ≡ true) (resting : p.answer ≡ None) (a : AgreesWith s.store p) where
+  unfed-after : IsAfterRun s i (with_inputs [] p) t
   unfed-after = unfed s i p [] t h
 
   its : (side : Side) (act : Act) (kind : StepKind) (made other : Tree × State) → Some made ≡ Some other → IsActed s i p t side act kind made → IsActed s i p t side act kind other
   its side act kind made other e acted_so = let same : made ≡ other = cc in subst (IsActed s i p t side act kind) same acted_so
 
-  taken-agrees : (o : Option Val) (l : ℕ) (v : Val) → at p.sets l ≡ o → at t.store l ≡ Some v → Agrees s.store (taken_where o l v (given [] p))
+  taken-agrees : (o : Option Val) (l : ℕ) (v : Val) → at p.sets l ≡ o → at t.store l ≡ Some v → AgreesWith s.store (taken_where o l v (with_inputs [] p))
   taken-agrees None l v is found =
       let there_is : at s.store l ≡ Some v = sym (h.stored l ∙ ap (λ (z : Option Val). or_else z (at s.store l)) is) ∙ found in
       record { seen = (there_is, a.seen); own = a.own; made = a.made }
@@ -58,11 +58,11 @@ module _ (s : State) (i : ℕ) (p : LocalState) (t : State) (h : IsAfterRun s i 
       let both = none-both (at p.sets l.0) (at s.store l.0) (sym (h.stored l.0) ∙ free) in
       its side (Act.Allocates sort v) (StepKind.Alloc l) (Tree.Held (Val.Loc l.0), record t { store = put t.store l.0 v }) made e (record {
         inputs = Val.Loc l.0 ∷ [];
-        last = made_at l.0 v (given [] p);
+        last = made_at l.0 v (with_inputs [] p);
         acts = refl;
         used = refl;
         agrees = record { seen = a.seen; own = a.own; made = ((both.1, both.0), a.made) };
-        so = allocates s i (given [] p) t unfed-after there resting side l sort v both.1 both.0;
+        so = allocates s i (with_inputs [] p) t unfed-after there resting side l sort v both.1 both.0;
       })
   allocated-so side sort v l made (Some w) free e = cc
 
@@ -73,11 +73,11 @@ module _ (s : State) (i : ℕ) (p : LocalState) (t : State) (h : IsAfterRun s i 
       let agrees_then = taken-agrees (at p.sets l) l v refl found in
       its side (Act.Reads l) StepKind.Read (Tree.Held v, t) made e (record {
         inputs = v ∷ [];
-        last = taken l v (given [] p);
+        last = took l v (with_inputs [] p);
         acts = refl;
-        used = taken-empty (at p.sets l) l v (given [] p) refl;
+        used = taken-empty (at p.sets l) l v (with_inputs [] p) refl;
         agrees = agrees_then;
-        so = reads s i (given [] p) t unfed-after there resting side l v agrees_then;
+        so = reads s i (with_inputs [] p) t unfed-after there resting side l v agrees_then;
       })
 
   peek-so : (l : ℕ) (made : Tree × State) (o : Option Val) → at t.store l ≡ o → option_map {U = Tree × State} (λ v. (Tree.Held v, t)) o ≡ Some made
@@ -87,21 +87,21 @@ module _ (s : State) (i : ℕ) (p : LocalState) (t : State) (h : IsAfterRun s i 
       let agrees_then = taken-agrees (at p.sets l) l v refl found in
       its Side.Unprotected (Act.Peeks l) StepKind.Peek (Tree.Held v, t) made e (record {
         inputs = v ∷ [];
-        last = taken l v (given [] p);
+        last = took l v (with_inputs [] p);
         acts = refl;
-        used = taken-empty (at p.sets l) l v (given [] p) refl;
+        used = taken-empty (at p.sets l) l v (with_inputs [] p) refl;
         agrees = agrees_then;
-        so = peeks s i (given [] p) t unfed-after there resting l v agrees_then;
+        so = peeks s i (with_inputs [] p) t unfed-after there resting l v agrees_then;
       })
 
   legal : (side : Side) (act : Act) (kind : StepKind) (made : Tree × State) → makes side kind act ≡ true → performed kind act t ≡ Some made → IsActed s i p t side act kind made
   legal side (Act.Becomes term) StepKind.Local made can e = its side _ _ (term, t) made e (record {
     inputs = [];
-    last = given [] p;
+    last = with_inputs [] p;
     acts = refl;
     used = refl;
     agrees = record { seen = a.seen; own = a.own; made = a.made };
-    so = becomes s i (given [] p) t unfed-after there resting side term;
+    so = becomes s i (with_inputs [] p) t unfed-after there resting side term;
   })
   legal side (Act.Becomes term) _ made can e = cc
   legal side (Act.Allocates sort v) (StepKind.Alloc l) made can e = allocated-so side sort v l made (at t.store l.0) refl e
@@ -112,64 +112,64 @@ module _ (s : State) (i : ℕ) (p : LocalState) (t : State) (h : IsAfterRun s i 
   legal _ (Act.Peeks l) _ made can e = cc
   legal side (Act.Writes l v) StepKind.Write made can e = its side _ _ (unit_tree, record t { store = put t.store l v }) made e (record {
     inputs = Val.Unit ∷ [];
-    last = set_at l v (given [] p);
+    last = set_at l v (with_inputs [] p);
     acts = refl;
     used = refl;
     agrees = record { seen = a.seen; own = a.own; made = a.made };
-    so = writes s i (given [] p) t unfed-after there resting side l v;
+    so = writes s i (with_inputs [] p) t unfed-after there resting side l v;
   })
   legal side (Act.Writes l v) _ made can e = cc
   legal Side.Protected (Act.Spawns body) StepKind.Spawn made can e = its Side.Protected _ _ (unit_tree, record t { members = put t.members t.next body; next = t.next + 1 }) made e (record {
     inputs = [];
-    last = spawned body (given [] p);
+    last = spawned body (with_inputs [] p);
     acts = refl;
     used = refl;
     agrees = record { seen = a.seen; own = a.own; made = a.made };
-    so = spawns s i (given [] p) t unfed-after there resting Side.Protected body;
+    so = spawns s i (with_inputs [] p) t unfed-after there resting Side.Protected body;
   })
   legal Side.Unprotected (Act.Spawns body) StepKind.Spawn made can e = its Side.Unprotected _ _ (unit_tree, record t { members = put t.members t.next body; next = t.next + 1 }) made e (record {
     inputs = Val.Unit ∷ [];
-    last = spawned body (given [] p);
+    last = spawned body (with_inputs [] p);
     acts = refl;
     used = refl;
     agrees = record { seen = a.seen; own = a.own; made = a.made };
-    so = spawns s i (given [] p) t unfed-after there resting Side.Unprotected body;
+    so = spawns s i (with_inputs [] p) t unfed-after there resting Side.Unprotected body;
   })
   legal side (Act.Spawns body) _ made can e = cc
   legal Side.Protected (Act.Prints n) StepKind.Print made can e = its Side.Protected _ _ (unit_tree, record t { output = t.output ++ n ∷ [] }) made e (record {
     inputs = [];
-    last = printed n (given [] p);
+    last = printed n (with_inputs [] p);
     acts = refl;
     used = refl;
     agrees = record { seen = a.seen; own = a.own; made = a.made };
-    so = prints s i (given [] p) t unfed-after there resting Side.Protected n;
+    so = prints s i (with_inputs [] p) t unfed-after there resting Side.Protected n;
   })
   legal Side.Unprotected (Act.Prints n) StepKind.Print made can e = its Side.Unprotected _ _ (unit_tree, record t { output = t.output ++ n ∷ [] }) made e (record {
     inputs = Val.Unit ∷ [];
-    last = printed n (given [] p);
+    last = printed n (with_inputs [] p);
     acts = refl;
     used = refl;
     agrees = record { seen = a.seen; own = a.own; made = a.made };
-    so = prints s i (given [] p) t unfed-after there resting Side.Unprotected n;
+    so = prints s i (with_inputs [] p) t unfed-after there resting Side.Unprotected n;
   })
   legal side (Act.Prints n) _ made can e = cc
   legal Side.Protected Act.Passes StepKind.Block made can e = its Side.Protected _ _ (unit_tree, t) made e (record {
     inputs = [];
-    last = given [] p;
+    last = with_inputs [] p;
     acts = refl;
     used = refl;
     agrees = record { seen = a.seen; own = a.own; made = a.made };
-    so = passes s i (given [] p) t unfed-after there resting;
+    so = passes s i (with_inputs [] p) t unfed-after there resting;
   })
   legal _ Act.Passes _ made can e = cc
   legal side Act.Fails kind made can e = cc
   legal Side.Unprotected (Act.Calls device n) (StepKind.Device answer) made can e = its Side.Unprotected _ _ (Tree.Held (Val.Int answer), t) made e (record {
     inputs = Val.Int answer ∷ [];
-    last = record (given [] p) { answer = Some answer };
+    last = record (with_inputs [] p) { answer = Some answer };
     acts = refl;
     used = refl;
     agrees = record { seen = a.seen; own = a.own; made = a.made };
-    so = calls s i (given [] p) t unfed-after there resting device n answer;
+    so = calls s i (with_inputs [] p) t unfed-after there resting device n answer;
   })
   legal _ (Act.Calls device n) _ made can e = cc
   legal side (Act.Closes v) kind made can e = cc
@@ -179,9 +179,9 @@ module _ (s : State) (i : ℕ) (p : LocalState) (t : State) (h : IsAfterRun s i 
 pub record IsStepOfRun (s : State) (i : ℕ) (side : Side) (kind : StepKind) (p : LocalState) (u : State) : Type 0 where
   pub inputs : List Val
   pub last : LocalState
-  pub steps : one_step side (given inputs p) ≡ Some last
+  pub steps : one_step side (with_inputs inputs p) ≡ Some last
   pub used : last.inputs ≡ []
-  pub agrees : Agrees s.store last
+  pub agrees : AgreesWith s.store last
   pub after_run : IsAfterRun s i last u
   pub member : at u.members i ≡ Some last.term
   pub fresh : last.fresh ≡ p.fresh ++ fresh_of kind
@@ -190,7 +190,7 @@ pub record IsStepOfRun (s : State) (i : ℕ) (side : Side) (kind : StepKind) (p 
 same_term : (m n : Tree) (o : Option Tree) → o ≡ Some m → o ≡ Some n → m ≡ n
 same_term m n o e f = let both : ◌≡◌ {A = Option Tree} (Some m) (Some n) = sym e ∙ f in cc
 
-pub legal-step : (s : State) (i : ℕ) (side : Side) (kind : StepKind) (p : LocalState) (t u : State) → Agrees s.store p → IsAfterRun s i p t → at t.members i ≡ Some p.term
+pub legal-step : (s : State) (i : ℕ) (side : Side) (kind : StepKind) (p : LocalState) (t u : State) → AgreesWith s.store p → IsAfterRun s i p t → at t.members i ≡ Some p.term
     → p.answer ≡ None → reduce side kind i t ≡ Some u → IsStepOfRun s i side kind p u
 legal-step s i side kind p t u a h member resting e =
     let x = reduced side kind i t u e in
@@ -207,8 +207,8 @@ legal-step s i side kind p t u a h member resting e =
       inputs = w.inputs;
       last = refilled_in p.term (x.result.0, w.last);
       steps =
-          step-of side (given w.inputs p) x.redex (x.result.0, w.last) resting stands
-          (ap (λ (z : Act). acted z side (given w.inputs p)) act_is ∙ w.acts);
+          step-of side (with_inputs w.inputs p) x.redex (x.result.0, w.last) resting stands
+          (ap (λ (z : Act). acted z side (with_inputs w.inputs p)) act_is ∙ w.acts);
       used = w.used;
       agrees = record { seen = w.agrees.seen; own = w.agrees.own; made = w.agrees.made };
       after_run = record {

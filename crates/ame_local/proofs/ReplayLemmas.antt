@@ -16,7 +16,7 @@ use Rattle.ame_journal.proofs.StepLemmas.{no_answer}
 use Rattle.ame_journal.proofs.LabelLemmas.{run-two, run-one}
 use Rattle.ame_journal.proofs.UnderWayLemmas.{UnderWay-begun, UnderWay-step}
 use Rattle.ame_local.specs.Local.{LocalState, begun_with, one_step, goes}
-use Rattle.ame_local.specs.Agrees.{Agrees, IsAfterRun}
+use Rattle.ame_local.specs.AgreesWith.{AgreesWith, IsAfterRun}
 use Rattle.ame_local.proofs.RunLemmas.{step-is}
 use Rattle.ame_local.proofs.EffectLemmas.{step-agrees, step-made}
 
@@ -52,7 +52,7 @@ module _ (s : State) (i : ℕ) (term : Tree) (inputs : List Val) (member : at s.
   unfolding after
   active-step t kind is = ap (λ (o : Option ℕ). option_and_then (λ (j : ℕ). reduce Side.Protected kind j t) o) is
 
-  pub active_run : s.active ≡ None → at_unprotected (focus term) ≡ false → (n : ℕ) (p : LocalState) → goes Side.Protected (begun_with term inputs) n ≡ Some p → Agrees s.store p
+  pub active_run : s.active ≡ None → at_unprotected (focus term) ≡ false → (n : ℕ) (p : LocalState) → goes Side.Protected (begun_with term inputs) n ≡ Some p → AgreesWith s.store p
       → IsActiveRun s i n p
   active_run idle calm zero p e a =
       let same : begun_with term inputs ≡ p = cc in
@@ -113,7 +113,7 @@ unfolding after
 free-step i t kind is = ap (λ (o : Option ℕ). if is_none o then reduce Side.Unprotected kind i t else None) is
 
 module _ (s : State) (i : ℕ) (term : Tree) (inputs : List Val) (member : at s.members i ≡ Some term) (idle : s.active ≡ None) where
-  pub free_run : (n : ℕ) (p : LocalState) → goes Side.Unprotected (begun_with term inputs) n ≡ Some p → Agrees s.store p → IsFreeRun s i n p
+  pub free_run : (n : ℕ) (p : LocalState) → goes Side.Unprotected (begun_with term inputs) n ≡ Some p → AgreesWith s.store p → IsFreeRun s i n p
   free_run zero p e a =
       let same : begun_with term inputs ≡ p = cc in
       subst (IsFreeRun s i 0) same (record {

@@ -8,13 +8,13 @@ use Rattle.ame_term.specs.Act.{Act, act_of}
 use Rattle.ame_term.specs.Maps.{at, put}
 use Rattle.ame_term.specs.declared.types.Sort.{Sort}
 use Rattle.ame_journal.specs.Replay.{or_else}
-use Rattle.ame_local.specs.Local.{LocalState, begun_with, taken, taken_where, set_at, made_at, spawned, printed, alone, fed, fed_next, acted, acted_at, refilled_in, one_step, goes, local, given_more}
+use Rattle.ame_local.specs.Local.{LocalState, begun_with, took, taken_where, set_at, made_at, spawned, printed, acts_alone, fed, fed_next, acted, acted_at, refilled_in, one_step, goes, local, given_more}
 
 -- What an act with its input makes of a run.
 pub data Feeds (p : LocalState) : Side → Act → Val → Tree → LocalState → Type 0 where
   allocates : (side : Side) (sort : Sort) (v : Val) (l : ℕ) → Feeds p side (Act.Allocates sort v) (Val.Loc l) (Tree.Held (Val.Loc l)) (made_at l v p)
-  reads : (side : Side) (l : ℕ) (v : Val) → Feeds p side (Act.Reads l) v (Tree.Held v) (taken l v p)
-  peeks : (l : ℕ) (v : Val) → Feeds p Side.Unprotected (Act.Peeks l) v (Tree.Held v) (taken l v p)
+  reads : (side : Side) (l : ℕ) (v : Val) → Feeds p side (Act.Reads l) v (Tree.Held v) (took l v p)
+  peeks : (l : ℕ) (v : Val) → Feeds p Side.Unprotected (Act.Peeks l) v (Tree.Held v) (took l v p)
   writes : (side : Side) (l : ℕ) (v : Val) → Feeds p side (Act.Writes l v) Val.Unit unit_tree (set_at l v p)
   spawns : (body : Tree) → Feeds p Side.Unprotected (Act.Spawns body) Val.Unit unit_tree (spawned body p)
   prints : (n : ℤ) → Feeds p Side.Unprotected (Act.Prints n) Val.Unit unit_tree (printed n p)
@@ -89,7 +89,7 @@ feeds-more p _ _ _ _ _ more (Feeds.calls device n answer) = refl
 
 -- an act that takes an input isn't made alone
 pub feeds-alone : (p : LocalState) (side : Side) (act : Act) (v : Val) (part : Tree) (q : LocalState) → Feeds p side act v part q
-    → (r : LocalState) → alone act side r ≡ None
+    → (r : LocalState) → acts_alone act side r ≡ None
 feeds-alone p _ _ _ _ _ (Feeds.allocates side sort v l) r = refl
 feeds-alone p _ _ _ _ _ (Feeds.reads side l v) r = refl
 feeds-alone p _ _ _ _ _ (Feeds.peeks l v) r = refl
@@ -99,7 +99,7 @@ feeds-alone p _ _ _ _ _ (Feeds.prints n) r = refl
 feeds-alone p _ _ _ _ _ (Feeds.calls device n answer) r = refl
 
 acted-fed : (p : LocalState) (side : Side) (act : Act) (v : Val) (inputs : List Val) (o : Option (Tree × LocalState)) → p.inputs ≡ v ∷ inputs
-    → alone act side p ≡ None → fed act side v (record p { inputs = inputs }) ≡ o → acted act side p ≡ o
+    → acts_alone act side p ≡ None → fed act side v (record p { inputs = inputs }) ≡ o → acted act side p ≡ o
 acted-fed p side act v inputs o is none gives =
     ap (λ (a : Option (Tree × LocalState)). or_else a (fed_next act side p.inputs p)) none
     ∙ ap (λ (xs : List Val). fed_next act side xs p) is ∙ gives

@@ -1,4 +1,4 @@
 pub mod Local
-pub mod Agrees
+pub mod AgreesWith
 pub mod Told
 pub mod Fit

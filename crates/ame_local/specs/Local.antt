@@ -39,8 +39,8 @@ taken_where None l v p = record p { seen = (l, v) ∷ p.seen }
 taken_where (Some w) l v p = record p { own = (v, w) ∷ p.own }
 
 -- a value is taken from a location
-abbrev pub taken : ℕ → Val → LocalState → LocalState
-taken l v p = taken_where (at p.sets l) l v p
+abbrev pub took : ℕ → Val → LocalState → LocalState
+took l v p = taken_where (at p.sets l) l v p
 
 -- a value is set at a location
 abbrev pub set_at : ℕ → Val → LocalState → LocalState
@@ -61,19 +61,19 @@ printed n p = record p { prints = p.prints ++ n ∷ [] }
 -- Steps
 
 -- an act that takes no input
-abbrev pub alone : Act → Side → LocalState → Option (Tree × LocalState)
-alone (Act.Becomes term) side p = Some (term, p)
-alone (Act.Spawns body) Side.Protected p = Some (unit_tree, spawned body p)
-alone (Act.Prints n) Side.Protected p = Some (unit_tree, printed n p)
-alone Act.Passes Side.Protected p = Some (unit_tree, p)
-alone _ _ p = None
+abbrev pub acts_alone : Act → Side → LocalState → Option (Tree × LocalState)
+acts_alone (Act.Becomes term) side p = Some (term, p)
+acts_alone (Act.Spawns body) Side.Protected p = Some (unit_tree, spawned body p)
+acts_alone (Act.Prints n) Side.Protected p = Some (unit_tree, printed n p)
+acts_alone Act.Passes Side.Protected p = Some (unit_tree, p)
+acts_alone _ _ p = None
 
 -- An act with its input: a value that is taken, a new location, an answer, or the unit, by which it is told
 -- that a write, a print or a new member was accepted.
 abbrev pub fed : Act → Side → Val → LocalState → Option (Tree × LocalState)
 fed (Act.Allocates sort v) side (Val.Loc l) p = Some (Tree.Held (Val.Loc l), made_at l v p)
-fed (Act.Reads l) side v p = Some (Tree.Held v, taken l v p)
-fed (Act.Peeks l) Side.Unprotected v p = Some (Tree.Held v, taken l v p)
+fed (Act.Reads l) side v p = Some (Tree.Held v, took l v p)
+fed (Act.Peeks l) Side.Unprotected v p = Some (Tree.Held v, took l v p)
 fed (Act.Writes l v) side Val.Unit p = Some (unit_tree, set_at l v p)
 fed (Act.Spawns body) Side.Unprotected Val.Unit p = Some (unit_tree, spawned body p)
 fed (Act.Prints n) Side.Unprotected Val.Unit p = Some (unit_tree, printed n p)
@@ -87,7 +87,7 @@ fed_next act side (v ∷ inputs) p = fed act side v (record p { inputs = inputs 
 
 -- what an act becomes, and where the run stands then
 abbrev pub acted : Act → Side → LocalState → Option (Tree × LocalState)
-acted act side p = or_else (alone act side p) (fed_next act side p.inputs p)
+acted act side p = or_else (acts_alone act side p) (fed_next act side p.inputs p)
 
 -- the same of the redex of a term; it must stand on the side that is told
 abbrev pub acted_at : Side → Focus → LocalState → Option (Tree × LocalState)
@@ -113,8 +113,8 @@ abbrev pub local : Side → Tree → List Val → ℕ → Option LocalState
 local side term inputs n = goes side (begun_with term inputs) n
 
 -- the same place of a run that has these inputs left
-abbrev pub given : List Val → LocalState → LocalState
-given inputs p = record p { inputs = inputs }
+abbrev pub with_inputs : List Val → LocalState → LocalState
+with_inputs inputs p = record p { inputs = inputs }
 
 -- the same place of a run that has more inputs
 abbrev pub given_more : List Val → LocalState → LocalState

@@ -8,7 +8,7 @@ use Rattle.ame_term.specs.Maps.{at}
 use Rattle.ame_journal.specs.declared.entry.Entry.{Entry}
 use Rattle.ame_journal.specs.Replayed.{Replayed, side_at, coming_height}
 use Rattle.ame_local.specs.Local.{LocalState, local}
-use Rattle.ame_local.specs.Agrees.{Agrees}
+use Rattle.ame_local.specs.AgreesWith.{AgreesWith}
 
 -- In a replayed state n steps of the member that an entry names, on the side on which it stands, lead to a
 -- place of a run that agrees with the store; the entry has its new locations and its answer.
@@ -19,7 +19,7 @@ pub record TellsRun (r : Replayed) (entry : Entry) (side : Side) (n : ℕ) (p : 
   pub member : at r.state.members entry.number ≡ Some term
   pub inputs : List Val
   pub ran : local side term inputs n ≡ Some p
-  pub agrees : Agrees r.state.store p
+  pub agrees : AgreesWith r.state.store p
   pub fresh : entry.fresh ≡ p.fresh
   pub answer : entry.answer ≡ p.answer
 

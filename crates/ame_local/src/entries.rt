@@ -12,7 +12,7 @@ ghost use Rattle.ame_journal.specs.declared.entry.EntryKind.{EntryKind};
 ghost use Rattle.ame_journal.specs.Replayed.{Replayed, is_inside, staying, entering, leaving, is_false_condition};
 ghost use Rattle.ame_journal.specs.Replay.{replay_entry};
 ghost use Rattle.ame_local.specs.Local.{LocalState};
-ghost use Rattle.ame_local.specs.Agrees.{IsAfterRun};
+ghost use Rattle.ame_local.specs.AgreesWith.{IsAfterRun};
 ghost use Rattle.ame_local.specs.Told.{TellsRun, IsTooHigh};
 
 /// A run in protected code that has come to a value: by the entry `Ran` the member is gone.

@@ -10,8 +10,8 @@ ghost use Rattle.ame_term.specs.State.{State, run, reduce, at_unprotected};
 ghost use Rattle.ame_term.specs.declared.semantics.StepKind.{StepKind};
 ghost use Rattle.ame_journal.specs.Labels.{AreSteps, fresh_of, free_labels};
 ghost use Rattle.ame_journal.specs.UnderWay.{UnderWay};
-ghost use Rattle.ame_local.specs.Local.{LocalState, given, one_step, local};
-ghost use Rattle.ame_local.specs.Agrees.{Agrees, IsAfterRun};
+ghost use Rattle.ame_local.specs.Local.{LocalState, with_inputs, one_step, local};
+ghost use Rattle.ame_local.specs.AgreesWith.{AgreesWith, IsAfterRun};
 
 /// A run in protected code that agrees with the store is the member's labels: it becomes active and makes
 /// as many steps, with the same new locations. What it set is in the store then, what it printed stands
@@ -19,7 +19,7 @@ ghost use Rattle.ame_local.specs.Agrees.{Agrees, IsAfterRun};
 pub fn protected_runs_are_labels()
     ensures { (s : State) (i : ℕ) (term : Tree) (inputs : List Val) (n : ℕ) (p : LocalState)
         → s.active ≡ None → at s.members i ≡ Some term → at_unprotected (focus term) ≡ false
-        → local Side.Protected term inputs n ≡ Some p → Agrees s.store p
+        → local Side.Protected term inputs n ≡ Some p → AgreesWith s.store p
         → (t : State) × UnderWay s i n p.fresh t × IsAfterRun s i p t × (at t.members i ≡ Some p.term) }
 {}
 
@@ -28,7 +28,7 @@ pub fn protected_runs_are_labels()
 pub fn free_runs_are_labels()
     ensures { (s : State) (i : ℕ) (term : Tree) (inputs : List Val) (n : ℕ) (p : LocalState)
         → s.active ≡ None → at s.members i ≡ Some term
-        → local Side.Unprotected term inputs n ≡ Some p → Agrees s.store p
+        → local Side.Unprotected term inputs n ≡ Some p → AgreesWith s.store p
         → (t : State) × (kinds : List StepKind) × AreSteps kinds n p.fresh p.answer × (run s (free_labels i kinds) ≡ Some t)
         × IsAfterRun s i p t × (at t.members i ≡ Some p.term) × (t.active ≡ None) }
 {}
@@ -38,8 +38,8 @@ pub fn free_runs_are_labels()
 /// The run agrees still, and the state is the one after it.
 pub fn steps_are_of_runs()
     ensures { (s : State) (i : ℕ) (side : Side) (kind : StepKind) (p : LocalState) (t u : State)
-        → Agrees s.store p → IsAfterRun s i p t → at t.members i ≡ Some p.term → p.answer ≡ None → reduce side kind i t ≡ Some u
-        → (inputs : List Val) × (q : LocalState) × (one_step side (given inputs p) ≡ Some q) × (q.inputs ≡ [])
-        × Agrees s.store q × IsAfterRun s i q u × (at u.members i ≡ Some q.term)
+        → AgreesWith s.store p → IsAfterRun s i p t → at t.members i ≡ Some p.term → p.answer ≡ None → reduce side kind i t ≡ Some u
+        → (inputs : List Val) × (q : LocalState) × (one_step side (with_inputs inputs p) ≡ Some q) × (q.inputs ≡ [])
+        × AgreesWith s.store q × IsAfterRun s i q u × (at u.members i ≡ Some q.term)
         × (q.fresh ≡ p.fresh ++ fresh_of kind) × (q.answer ≡ device_answer kind) }
 {}

@@ -1,7 +1,7 @@
 -- What a step of a run that agrees with a store makes of a state.
-use Rattle.std.proofs.Common.{◌≡◌, ℕ, suc, ◌+◌, ◌<◌, ◌⊎◌, inl, inr, ℤ, Bool, true, false, List, [], ◌∷◌, ◌++◌, length, Option, Some, None, is_some, option_map, option_and_then, if◌then◌else◌, refl, sym, ap, ◌∙◌, subst, arith, append-nil, append_assoc, length-append}
+use Rattle.std.proofs.Common.{◌≡◌, ℕ, suc, ◌+◌, ◌⊎◌, inl, inr, ℤ, Bool, true, List, [], ◌∷◌, ◌++◌, length, Option, Some, None, is_some, option_map, option_and_then, if◌then◌else◌, refl, sym, ap, ◌∙◌, subst, arith, append-nil, append_assoc, length-append}
 use Rattle.ame_term.specs.Tree.{Val, Tree, unit_tree}
-use Rattle.ame_term.specs.Frame.{Side, same_side}
+use Rattle.ame_term.specs.Frame.{Side}
 use Rattle.ame_term.specs.Context.{Focus, focus, fill}
 use Rattle.ame_term.specs.Act.{Act, act_of, makes, device_answer}
 use Rattle.ame_term.specs.Maps.{at, put, change}
@@ -9,7 +9,7 @@ use Rattle.ame_term.specs.State.{State, loaded, performed, performed_on, reduced
 use Rattle.ame_term.specs.declared.semantics.StepKind.{StepKind}
 use Rattle.ame_term.specs.declared.types.Loc.{Loc}
 use Rattle.ame_term.specs.declared.types.Sort.{Sort}
-use Rattle.ame_laws.proofs.MapLemmas.{at-put, at-put_other, at-change_same, at-change_other, is_some-put}
+use Rattle.ame_laws.proofs.MapLemmas.{at-put, at-change_same, at-change_other, is_some-put}
 use Rattle.ame_journal.specs.Labels.{fresh_of}
 use Rattle.ame_journal.specs.Replay.{or_else}
 use Rattle.ame_local.specs.Local.{LocalState, took, taken_where, made_at, one_step}

@@ -1,19 +1,18 @@
 -- The entries of runs, by what each of them unfolds to.
-use Rattle.std.proofs.Common.{◌≡◌, ℕ, zero, suc, ◌+◌, ◌==◌, ◌<◌, ℤ, Bool, true, false, List, [], ◌∷◌, ◌++◌, map, Option, Some, None, is_none, is_some, option_map, option_and_then, if◌then◌else◌, refl, sym, ap, ◌∙◌, subst, arith}
+use Rattle.std.proofs.Common.{◌≡◌, ℕ, zero, suc, ◌+◌, ◌==◌, ◌<◌, ℤ, Bool, true, false, List, [], ◌∷◌, Option, Some, None, is_none, is_some, option_map, option_and_then, if◌then◌else◌, refl, sym, ap, ◌∙◌, subst, arith}
 use Rattle.ame_term.specs.Tree.{Val, Tree}
 use Rattle.ame_term.specs.Frame.{Side, side_told}
-use Rattle.ame_term.specs.Context.{Focus, focus, fill}
+use Rattle.ame_term.specs.Context.{focus, fill}
 use Rattle.ame_term.specs.Height.{max_height}
 use Rattle.ame_term.specs.Maps.{at, change, without}
 use Rattle.ame_term.specs.State.{State, after, run, departed, ended, closed, closed_value, at_value, at_unprotected}
-use Rattle.ame_term.specs.declared.semantics.StepKind.{StepKind}
 use Rattle.ame_term.specs.declared.semantics.Label.{Label}
 use Rattle.ame_laws.specs.Orderly.{IsOrderly}
 use Rattle.ame_laws.proofs.MapLemmas.{at-without_same, at-without_other, at-change_same, at-change_other}
 use Rattle.ame_laws.proofs.OrderlyLemmas.{run-goes}
 use Rattle.ame_journal.specs.declared.entry.Entry.{Entry}
 use Rattle.ame_journal.specs.declared.entry.EntryKind.{EntryKind}
-use Rattle.ame_journal.specs.Replayed.{Replayed, is_inside, side_at, has_such, is_at_unprotected, staying, entering, leaving, is_false_condition, is_failing, coming_height, is_tall}
+use Rattle.ame_journal.specs.Replayed.{Replayed, is_inside, side_at, has_such, staying, entering, leaving, is_false_condition, coming_height, is_tall}
 use Rattle.ame_journal.specs.Labels.{AreSteps, fragment_labels, free_labels, attempt_labels, Unfolds}
 use Rattle.ame_journal.specs.Replay.{replay_entry}
 use Rattle.ame_journal.specs.UnderWay.{UnderWay}

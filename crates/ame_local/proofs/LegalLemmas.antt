@@ -1,11 +1,11 @@
 -- What a member does in a state is a step of its run.
-use Rattle.std.proofs.Common.{◌≡◌, ℕ, ◌+◌, ◌++◌, ℤ, Bool, true, false, List, [], ◌∷◌, Option, Some, None, is_some, option_map, option_and_then, if◌then◌else◌, refl, sym, ap, ◌∙◌, subst}
+use Rattle.std.proofs.Common.{◌≡◌, ℕ, ◌+◌, ◌++◌, true, List, [], ◌∷◌, Option, Some, None, is_some, option_map, option_and_then, if◌then◌else◌, refl, sym, ap, ◌∙◌, subst}
 use Rattle.ame_term.specs.Tree.{Val, Tree, unit_tree}
 use Rattle.ame_term.specs.Frame.{Side}
 use Rattle.ame_term.specs.Context.{Focus, focus, fill}
 use Rattle.ame_term.specs.Act.{Act, act_of, makes, device_answer}
 use Rattle.ame_term.specs.Maps.{at, put, change}
-use Rattle.ame_term.specs.State.{State, loaded, performed, rewritten, reduce}
+use Rattle.ame_term.specs.State.{State, performed, rewritten, reduce}
 use Rattle.ame_term.specs.declared.semantics.StepKind.{StepKind}
 use Rattle.ame_term.specs.declared.types.Loc.{Loc}
 use Rattle.ame_term.specs.declared.types.Sort.{Sort}

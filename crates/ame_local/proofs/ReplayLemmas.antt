@@ -1,5 +1,5 @@
 -- A run that agrees with a state is labels of its member there.
-use Rattle.std.proofs.Common.{◌≡◌, ℕ, zero, suc, ◌+◌, Bool, true, false, List, [], ◌∷◌, ◌++◌, map, length, Option, Some, None, is_none, option_and_then, if◌then◌else◌, refl, sym, ap, ◌∙◌, subst, arith, append-nil, length-append}
+use Rattle.std.proofs.Common.{◌≡◌, ℕ, zero, suc, ◌+◌, Bool, false, List, [], ◌∷◌, ◌++◌, length, Option, Some, None, is_none, option_and_then, if◌then◌else◌, refl, sym, ap, ◌∙◌, subst, arith, append-nil, length-append}
 use Rattle.std.proofs.lemmas.List.Concat.{flat_map-append}
 use Rattle.std.proofs.lemmas.Option.{option_and_then_some}
 use Rattle.ame_term.specs.Tree.{Val, Tree}
@@ -15,7 +15,7 @@ use Rattle.ame_journal.specs.UnderWay.{UnderWay}
 use Rattle.ame_journal.proofs.StepLemmas.{no_answer}
 use Rattle.ame_journal.proofs.LabelLemmas.{run-two, run-one}
 use Rattle.ame_journal.proofs.UnderWayLemmas.{UnderWay-begun, UnderWay-step}
-use Rattle.ame_local.specs.Local.{LocalState, begun_with, one_step, goes}
+use Rattle.ame_local.specs.Local.{LocalState, begun_with, goes}
 use Rattle.ame_local.specs.AgreesWith.{AgreesWith, IsAfterRun}
 use Rattle.ame_local.proofs.RunLemmas.{step-is}
 use Rattle.ame_local.proofs.EffectLemmas.{step-agrees, step-made}

@@ -1,14 +1,14 @@
 -- Runs added, and with more inputs.
-use Rattle.std.proofs.Common.{◌≡◌, ℕ, zero, suc, ◌+◌, ℤ, Bool, true, false, List, [], ◌∷◌, ◌++◌, Option, Some, None, is_none, option_map, option_and_then, if◌then◌else◌, refl, sym, ap, ◌∙◌, subst, arith, append-nil, append_assoc}
+use Rattle.std.proofs.Common.{◌≡◌, ℕ, zero, suc, ◌+◌, ℤ, Bool, true, false, List, [], ◌∷◌, ◌++◌, Option, Some, None, is_none, option_map, option_and_then, if◌then◌else◌, refl, sym, ap, ◌∙◌, subst, arith}
 use Rattle.std.proofs.lemmas.Option.{option_and_then_some}
 use Rattle.ame_term.specs.Tree.{Val, Tree, unit_tree}
 use Rattle.ame_term.specs.Frame.{Side, same_side}
 use Rattle.ame_term.specs.Context.{Focus, focus, fill}
 use Rattle.ame_term.specs.Act.{Act, act_of}
-use Rattle.ame_term.specs.Maps.{at, put}
+use Rattle.ame_term.specs.Maps.{at}
 use Rattle.ame_term.specs.declared.types.Sort.{Sort}
 use Rattle.ame_journal.specs.Replay.{or_else}
-use Rattle.ame_local.specs.Local.{LocalState, begun_with, took, taken_where, set_at, made_at, spawned, printed, acts_alone, fed, fed_next, acted, acted_at, refilled_in, one_step, goes, local, given_more}
+use Rattle.ame_local.specs.Local.{LocalState, took, taken_where, set_at, made_at, spawned, printed, acts_alone, fed, fed_next, acted, acted_at, refilled_in, one_step, goes, given_more}
 
 -- What an act with its input makes of a run.
 pub data Feeds (p : LocalState) : Side → Act → Val → Tree → LocalState → Type 0 where

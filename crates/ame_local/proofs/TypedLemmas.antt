@@ -1,13 +1,11 @@
 -- A step of a typed place, and the places after it.
-use Rattle.std.proofs.Common.{◌≡◌, ℕ, zero, suc, ◌+◌, ◌⊎◌, inl, inr, true, List, [], ◌∷◌, ◌++◌, Option, Some, None, option_and_then, refl, sym, ap, ◌∙◌, subst, arith}
+use Rattle.std.proofs.Common.{◌≡◌, ℕ, zero, suc, ◌+◌, ◌⊎◌, inl, inr, List, [], ◌∷◌, ◌++◌, Option, Some, None, refl, sym, ap, ◌∙◌, subst, arith}
 use Rattle.std.proofs.lemmas.Option.{option_and_then_some}
 use Rattle.std.specs.List.{AllByRecursion}
 use Rattle.ame_term.specs.Tree.{Typ, Val, Tree, unit_tree}
 use Rattle.ame_term.specs.Frame.{Side, plug_all, side_of}
-use Rattle.ame_term.specs.Redex.{is_redex}
 use Rattle.ame_term.specs.Context.{Focus, focus, fill}
 use Rattle.ame_term.specs.Act.{Act, act_of}
-use Rattle.ame_term.specs.HasType.{HasValue}
 use Rattle.ame_term.specs.Maps.{at, put}
 use Rattle.ame_term.specs.State.{State, start, performed_on}
 use Rattle.ame_term.specs.declared.semantics.StepKind.{StepKind}
@@ -19,7 +17,7 @@ use Rattle.ame_laws.proofs.RuleEffects.{row_of}
 use Rattle.ame_laws.proofs.MapLemmas.{at-put, is_at-here}
 use Rattle.ame_soundness.specs.StoreTyping.{StoreTyping}
 use Rattle.ame_soundness.specs.WellFormed.{IsWellFormed}
-use Rattle.ame_soundness.specs.Fragment.{IsFragment, IsValueOf, effect_at}
+use Rattle.ame_soundness.specs.Fragment.{IsFragment, effect_at}
 use Rattle.ame_soundness.specs.TypedAct.{IsTypedAct}
 use Rattle.ame_soundness.specs.TypedState.{IsStored, IsMember}
 use Rattle.ame_soundness.specs.LocalRun.{LocalStep, LocalRun}

@@ -1,7 +1,7 @@
 -- A fragment's run by itself. What it takes from a store or from a device are its inputs, and what it
 -- hands out is held. On both sides of `unprotected` it is the same function; in unprotected code, where
 -- prints, new members and calls take effect at once, each of these takes an input too.
-use Rattle.std.specs.Prelude.{ℕ, zero, suc, ℤ, Bool, List, [], ◌∷◌, ◌++◌, Option, Some, None, option_map, option_and_then, is_none, if◌then◌else◌}
+use Rattle.std.specs.Prelude.{ℕ, zero, suc, ℤ, List, [], ◌∷◌, ◌++◌, Option, Some, None, option_map, option_and_then, is_none, if◌then◌else◌}
 use Rattle.ame_term.specs.Tree.{Val, Tree, unit_tree}
 use Rattle.ame_term.specs.Frame.{Side, same_side}
 use Rattle.ame_term.specs.Context.{Focus, focus, fill}

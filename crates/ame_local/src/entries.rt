@@ -17,7 +17,8 @@ ghost use Rattle.ame_local.specs.Told.{TellsRun, IsTooHigh};
 
 /// A run in protected code that has come to a value: by the entry `Ran` the member is gone.
 pub fn ended_runs_are_replayed()
-    ensures { (r : Replayed) (entry : Entry) (n : ℕ) (p : LocalState) → TellsRun r entry Side.Protected n p → entry.steps ≡ n → entry.kind ≡ EntryKind.Ran
+    ensures { (r : Replayed) (entry : Entry) (n : ℕ) (p : LocalState) → TellsRun r entry Side.Protected n p
+        → entry.steps ≡ n → entry.kind ≡ EntryKind.Ran
         → is_inside r entry.number ≡ false → IsOrderly r.state → at_value (focus p.term) ≡ true
         → (t : State) × (replay_entry r entry ≡ Some (staying r t)) × IsAfterRun r.state entry.number p t
         × (at t.members entry.number ≡ None) × (t.active ≡ None) }
@@ -26,7 +27,8 @@ pub fn ended_runs_are_replayed()
 /// A run in protected code that has come to `unprotected`: by the entry `Ran` the member stands there, and
 /// is inside.
 pub fn left_runs_are_replayed()
-    ensures { (r : Replayed) (entry : Entry) (n : ℕ) (p : LocalState) → TellsRun r entry Side.Protected n p → entry.steps ≡ n → entry.kind ≡ EntryKind.Ran
+    ensures { (r : Replayed) (entry : Entry) (n : ℕ) (p : LocalState) → TellsRun r entry Side.Protected n p
+        → entry.steps ≡ n → entry.kind ≡ EntryKind.Ran
         → is_inside r entry.number ≡ false → at_unprotected (focus p.term) ≡ true
         → (t : State) × (replay_entry r entry ≡ Some (entering r entry.number t)) × IsAfterRun r.state entry.number p t
         × (at t.members entry.number ≡ Some p.term) × (t.active ≡ None) }
@@ -34,26 +36,30 @@ pub fn left_runs_are_replayed()
 
 /// A run in protected code that has come to a condition that is false, by `Stuck`.
 pub fn stuck_runs_are_replayed()
-    ensures { (r : Replayed) (entry : Entry) (n : ℕ) (p : LocalState) → TellsRun r entry Side.Protected n p → entry.steps ≡ n → entry.kind ≡ EntryKind.Stuck
+    ensures { (r : Replayed) (entry : Entry) (n : ℕ) (p : LocalState) → TellsRun r entry Side.Protected n p
+        → entry.steps ≡ n → entry.kind ≡ EntryKind.Stuck
         → is_false_condition (focus p.term) ≡ true → replay_entry r entry ≡ Some r }
 {}
 
 /// A run on either side that was cut off, at any place where it has no device's answer, by `Cut`.
 pub fn cut_runs_are_replayed()
-    ensures { (r : Replayed) (entry : Entry) (side : Side) (n : ℕ) (p : LocalState) → TellsRun r entry side n p → entry.steps ≡ n → entry.kind ≡ EntryKind.Cut
+    ensures { (r : Replayed) (entry : Entry) (side : Side) (n : ℕ) (p : LocalState) → TellsRun r entry side n p
+        → entry.steps ≡ n → entry.kind ≡ EntryKind.Cut
         → p.answer ≡ None → replay_entry r entry ≡ Some r }
 {}
 
 /// A run on either side that has come to a form that would become a value that is too high, by `Tall`.
 pub fn tall_runs_are_replayed()
-    ensures { (r : Replayed) (entry : Entry) (side : Side) (n : ℕ) (p : LocalState) → TellsRun r entry side n p → entry.steps ≡ n → entry.kind ≡ EntryKind.Tall
+    ensures { (r : Replayed) (entry : Entry) (side : Side) (n : ℕ) (p : LocalState) → TellsRun r entry side n p
+        → entry.steps ≡ n → entry.kind ≡ EntryKind.Tall
         → p.answer ≡ None → IsTooHigh side p → replay_entry r entry ≡ Some r }
 {}
 
 /// A run of one step or more in unprotected code: by the entry `Free` the member is what the run has become,
 /// and inside still.
 pub fn free_runs_are_replayed()
-    ensures { (r : Replayed) (entry : Entry) (n : ℕ) (p : LocalState) → TellsRun r entry Side.Unprotected n p → entry.steps ≡ n → entry.kind ≡ EntryKind.Free
+    ensures { (r : Replayed) (entry : Entry) (n : ℕ) (p : LocalState) → TellsRun r entry Side.Unprotected n p
+        → entry.steps ≡ n → entry.kind ≡ EntryKind.Free
         → is_inside r entry.number ≡ true → 0 < n
         → (t : State) × (replay_entry r entry ≡ Some (staying r t)) × IsAfterRun r.state entry.number p t
         × (at t.members entry.number ≡ Some p.term) × (t.active ≡ None) }
@@ -62,7 +68,8 @@ pub fn free_runs_are_replayed()
 /// A run in unprotected code that has come to a value there and closes, which is one step more: by the entry
 /// `Free` the member goes on as protected with the value, and is no longer inside.
 pub fn closed_runs_are_replayed()
-    ensures { (r : Replayed) (entry : Entry) (n : ℕ) (p : LocalState) (v : Val) → TellsRun r entry Side.Unprotected n p → entry.steps ≡ n + 1 → entry.kind ≡ EntryKind.Free
+    ensures { (r : Replayed) (entry : Entry) (n : ℕ) (p : LocalState) (v : Val) → TellsRun r entry Side.Unprotected n p
+        → entry.steps ≡ n + 1 → entry.kind ≡ EntryKind.Free
         → is_inside r entry.number ≡ true → p.answer ≡ None → closed_value (focus p.term) ≡ Some v
         → (t : State) × (replay_entry r entry ≡ Some (leaving r entry.number t)) × IsAfterRun r.state entry.number p t
         × (at t.members entry.number ≡ Some (fill p.term (Tree.Held v))) × (t.active ≡ None) }

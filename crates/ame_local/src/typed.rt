@@ -30,7 +30,8 @@ pub fn typed_runs_begin()
 /// A run that is typed at each place that has used all inputs is so with one more input too, where it is
 /// fit for the act for which the run takes it. No store need ever have held all that was given.
 pub fn typed_runs_go_on()
-    ensures { (devices : ℕ) (cells : StoreTyping) (side : Side) (term redex : Tree) (inputs : List Val) (t : Typ) (n : ℕ) (p : LocalState) (v : Val) (made : Tree × LocalState)
+    ensures { (devices : ℕ) (cells : StoreTyping) (side : Side) (term redex : Tree) (inputs : List Val) (t : Typ)
+        (n : ℕ) (p : LocalState) (v : Val) (made : Tree × LocalState)
         → IsTypedThroughout devices cells side term inputs t → local side term inputs n ≡ Some p → p.inputs ≡ []
         → focus p.term ≡ Focus.AtRedex side redex → fed (act_of redex) side v p ≡ Some made → IsFitFor devices cells (act_of redex) v
         → IsTypedThroughout devices cells side term (inputs ++ v ∷ []) t }

@@ -2,7 +2,6 @@ pub mod TypingLaws
 pub mod Refs
 pub mod Standing
 pub mod Free
-pub mod Size
 pub mod Puts
 pub mod Rules
 pub mod Orderly

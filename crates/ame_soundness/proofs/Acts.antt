@@ -2,7 +2,7 @@
 use Rattle.std.proofs.Common.{◌≡◌, ℕ, Bool, true, false, Option, Some, None, refl, sym, subst, arith}
 use Rattle.std.proofs.lemmas.Bool.Decides.{nat_tests}
 use Rattle.std.specs.Prelude.{if◌then◌else◌, ◌==◌}
-use Rattle.ame_term.specs.Tree.{Typ, OwnName, Head, Val, Tree, Trees}
+use Rattle.ame_term.specs.Tree.{Typ, OwnName, Head, Val, Tree}
 use Rattle.ame_term.specs.Scope.{bind, unscoped}
 use Rattle.ame_term.specs.Substitute.{substitute, with_own, entered}
 use Rattle.ame_term.specs.Redex.{is_redex}
@@ -87,24 +87,16 @@ module _ (devices : ℕ) (cells : StoreTyping) where
 
   pub typed_act : (r : Tree) → is_redex r ≡ true → (q : Effect) (t : Typ) → HasType devices cells unscoped q r t → IsWellFormed r → IsTypedAct devices cells q t (act_of r)
   unfolding act_of IsWellFormed AreWellFormed IsWellFormedValue
-  typed_act (Tree.Held v) e q t h f = absurd (cc)
-  typed_act (Tree.Var x) e q t (name p) f = absurd (cc)
-  typed_act (Tree.Lambda head body) e q _ (function o b) f = (held (function_value o b), f)
-  typed_act (Tree.Lambda head body) e q _ (recursive o b) f = (held (recursive_value o b), f)
-  typed_act (Tree.Let x (Tree.Held v) body) e q t (binding {t = p} (held a) b) f =
-      (put_for devices cells x p v a unscoped b, formed_substituted x v f.0 body f.1)
-  typed_act (Tree.Let x a body) e q t h f = absurd (cc)
-  typed_act (Tree.Do (Trees.More (Tree.Held v) (Trees.More b Trees.None))) e q t (sequence (more h (last k))) f = (k, f.1.1.0)
-  typed_act (Tree.Do (Trees.More (Tree.Held v) (Trees.More b (Trees.More c rest)))) e q t (sequence (more h k)) f = (sequence k, (tt, f.1.1))
-  typed_act (Tree.Do (Trees.More (Tree.Held v) Trees.None)) e q t h f = absurd f.0
-  typed_act (Tree.Do Trees.None) e q t h f = absurd f.0
-  typed_act (Tree.Do parts) e q t h f = absurd (cc)
-  typed_act (Tree.If (Tree.Held v) a b) e q t (choice (held h) x y) f = if_typed v a b q t h (x, f.1) (y, f.2)
-  typed_act (Tree.If test a b) e q t h f = absurd (cc)
-  typed_act (Tree.Async body) e q _ (async a) f = ((a, f), refl)
-  typed_act (Tree.Unprotected (Tree.Held v)) e _ t (unprotected (held a)) f = ((a, f), refl)
-  typed_act (Tree.Unprotected a) e q t h f = absurd (cc)
-  typed_act (Tree.One op (Tree.Held v)) e q t (one {t = p} row (held a)) f = unary_typed op v q p t row a f
-  typed_act (Tree.One op a) e q t h f = absurd (cc)
-  typed_act (Tree.Two op (Tree.Held v) (Tree.Held w)) e q t (two {t = p} {u = u} row (held a) (held b)) f = binary_typed op v w q p u t row a b f.0 f.1
-  typed_act (Tree.Two op a b) e q t h f = absurd (cc)
+  typed_act _ e q t (name p) f = absurd (cc)
+  typed_act _ e q _ (function o b) f = (held (function_value o b), f)
+  typed_act _ e q _ (recursive o b) f = (held (recursive_value o b), f)
+  typed_act _ e q t (binding {x} {body} {t = p} (held {v} a) b) f = (put_for devices cells x p v a unscoped b, formed_substituted x v f.0 body f.1)
+  typed_act _ e q t (sequence (last h)) f = absurd f.0
+  typed_act _ e q t (sequence (more (held a) (last k))) f = (k, f.1.1.0)
+  typed_act _ e q t (sequence (more (held a) (more h k))) f = (sequence (more h k), (tt, f.1.1))
+  typed_act _ e q t (choice {then_part} {else_part} (held {v} h) x y) f = if_typed v then_part else_part q t h (x, f.1) (y, f.2)
+  typed_act _ e q _ (async a) f = ((a, f), refl)
+  typed_act _ e _ t (unprotected (held a)) f = ((a, f), refl)
+  typed_act _ e q t (one {op} {t = p} row (held {v} a)) f = unary_typed op v q p t row a f
+  typed_act _ e q t (two {op} {t = p} {u} row (held {v} a) (held {v = w} b)) f = binary_typed op v w q p u t row a b f.0 f.1
+  typed_act _ e q t h f = absurd (cc)

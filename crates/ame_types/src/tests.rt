@@ -523,7 +523,7 @@ fn a_fault_shows_what_was_found_and_wanted(rt: HostRuntime) -> Result<(), Fail> 
     Ok(())
 }
 
-/// A program of nested pairs, each of the one before twice: `let b pair a a let c pair b b ..`, around a body.
+/// A program of nested pairs, each of the one before twice: `let a pair a a let a pair a a ..`, around a body.
 fn doublings(alloc: Global, count: u8, value: &str, body: &str) -> Result<String, Fail> {
     let mut text = String::new(alloc);
     text.push_str("let a ")?;
@@ -540,6 +540,11 @@ fn doublings(alloc: Global, count: u8, value: &str, body: &str) -> Result<String
 fn pairs_may_double(rt: HostRuntime) -> Result<(), Fail> {
     let text = doublings(rt.alloc(), 200, "1", "unit")?;
     assert_eq!(rt; verdict(rt.alloc(), &text, 0)?, (0, 0));
+    Ok(())
+}
+
+#[test]
+fn a_fault_of_a_large_type_wants_memory(rt: HostRuntime) -> Result<(), Fail> {
     let text = doublings(rt.alloc(), 60, "1", "if true a a")?;
     assert_eq!(rt; verdict(rt.alloc(), &text, 0)?.0, 10);
     Ok(())

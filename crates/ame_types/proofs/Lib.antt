@@ -1,4 +1,5 @@
 pub mod Nodes
+pub mod SharedLemmas
 pub mod UnaryLemmas
 pub mod Parts
 pub mod Faults

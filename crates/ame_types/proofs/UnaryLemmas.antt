@@ -2,7 +2,7 @@
 use Rattle.std.proofs.Common.{◌≡◌, ℕ, true, List, [], ◌∷◌, ◌++◌, length, set, refl, ap, append_assoc, Ok, Err, ◌∙◌}
 use Rattle.std.proofs.lemmas.List.{map-set}
 use Rattle.ame_term.specs.Tree.{Typ}
-use Rattle.ame_term.specs.Shown.{TypeFault, TypeOutcome}
+use Rattle.ame_term.specs.Shown.{TypeFault}
 use Rattle.ame_term.specs.Typing.{unary_row, own_ref_type, no_cells}
 use Rattle.ame_term.specs.declared.types.Effect.{Effect}
 use Rattle.ame_term.specs.declared.types.Unary.{Unary}

@@ -1,15 +1,16 @@
 -- What the checker's functions need and answer.
 use Rattle.std.specs.Prelude.{◌≡◌, ◌+◌, ◌≤◌, List, ◌++◌, Result, Ok, Err, length, map, slice_index}
 use Rattle.ame_term.specs.Tree.{Typ, Tree}
-use Rattle.ame_term.specs.View.{typ_of, tree_of, function_head}
+use Rattle.ame_term.specs.View.{tree_of, function_head}
 use Rattle.ame_term.specs.SourceTerm.{nodes, IsSourceTerm, IsBound}
 use Rattle.ame_term.specs.Shown.{TypeOutcome}
 use Rattle.ame_term.specs.Typing.{typed, ref_types_in, no_cells}
 use Rattle.ame_term.specs.declared.types.Effect.{Effect}
-use Rattle.ame_term.specs.declared.types.Ty.{Ty}
 use Rattle.ame_term.specs.declared.term.Function.{Function}
 use Rattle.ame_types.specs.Fault.{fault_of}
-use Rattle.ame_types.specs.Scope.{scope_of, names_of}
+use Rattle.ame_types.specs.Shared.{shared_type, IsListed}
+use Rattle.ame_types.specs.Scope.{scope_of, names_of, AreListed}
+use Rattle.ame_types.specs.declared.shared.Shared.{Shared}
 use Rattle.ame_types.specs.declared.seen.Checker.{Checker}
 use Rattle.ame_types.specs.declared.seen.Seen.{Seen}
 use Rattle.ame_types.specs.declared.fault.TypesFail.{TypesFail}
@@ -28,15 +29,15 @@ type_outcome checker scope q seen term =
 -- the types that were stored, and behind them those that such a term stores
 abbrev pub ref_types_after : Checker → Scope → Effect → Seen → Tree → List Typ
 ref_types_after checker scope q seen term =
-    map typ_of seen.ref_tys.items ++
+    map shared_type seen.ref_tys.items ++
     ref_types_in checker.devices no_cells (slice_index checker.places.now) (scope_of scope) q seen.next term
 
 -- The answer to such a term: its type, with what it stores after the rest, and then comes the node
 -- after its own; or its first fault; or memory was wanted.
-abbrev pub Checks : Checker → Scope → Effect → Seen → Seen → Tree → Result Ty TypesFail → Type 0
+abbrev pub Checks : Checker → Scope → Effect → Seen → Seen → Tree → Result Shared TypesFail → Type 0
 Checks checker scope q old new term (Ok ty) =
-    (type_outcome checker scope q old term ≡ Ok (typ_of ty)) ×
-    (map typ_of new.ref_tys.items ≡ ref_types_after checker scope q old term) × (new.next ≡ old.next + nodes term)
+    (type_outcome checker scope q old term ≡ Ok (shared_type ty)) ×
+    (map shared_type new.ref_tys.items ≡ ref_types_after checker scope q old term) × (new.next ≡ old.next + nodes term)
 Checks checker scope q old new term (Err (fail.Fault fault)) = type_outcome checker scope q old term ≡ Err (fault_of fault)
 Checks checker scope q old new term (Err fail.NoMemory) = Unit {0}
 
@@ -44,3 +45,8 @@ Checks checker scope q old new term (Err fail.NoMemory) = Unit {0}
 abbrev pub IsCheckable : Checker → Scope → Seen → Tree → Type 0
 IsCheckable checker scope seen term =
     (seen.next + nodes term ≤ length checker.places.now) × IsSourceTerm term × IsBound (names_of scope) term
+
+-- a table that has the types of a chain still has them, and has that of the answer
+abbrev pub KeepsListed : Scope → Seen → Result Shared TypesFail → Type 0
+KeepsListed scope new (Ok ty) = AreListed new.types.keys.keys scope × IsListed new.types.keys.keys ty
+KeepsListed scope new (Err fail) = Unit {0}

@@ -4,7 +4,8 @@ use Rattle.ame_term.specs.Tree.{Typ}
 use Rattle.ame_term.specs.View.{typ_of}
 use Rattle.ame_term.specs.Shown.{Shown, TypeFault, TypeOutcome}
 use Rattle.ame_term.specs.Typing.{breaks}
-use Rattle.ame_term.specs.declared.types.Ty.{Ty}
+use Rattle.ame_types.specs.declared.shared.Shared.{Shared as SharedType}
+use Rattle.ame_types.specs.Shared.{shared_type}
 use Rattle.ame_types.specs.declared.fault.Shown.{Shown as Showing}
 use Rattle.ame_types.specs.declared.fault.Shown.TheVariants as shown
 use Rattle.ame_types.specs.declared.fault.TypeFault as told
@@ -26,24 +27,17 @@ fault_of fault =
 abbrev pub mismatch : ℕ → ℕ → Typ → Typ → TypeOutcome
 mismatch rule place found wanted = breaks rule place (Shown.Ty found) (Shown.Ty wanted)
 
--- the answer is the outcome, or memory was wanted
-abbrev pub AnswersType : TypeOutcome → Result Ty TypesFail → Type 0
-AnswersType outcome (Ok ty) = outcome ≡ Ok (typ_of ty)
-AnswersType outcome (Err (fail.Fault fault)) = outcome ≡ Err (fault_of fault)
-AnswersType outcome (Err fail.NoMemory) = Unit {0}
-
--- a fault that is the outcome
-abbrev pub IsTheFault : TypeOutcome → TypesFail → Type 0
-IsTheFault outcome (fail.Fault fault) = outcome ≡ Err (fault_of fault)
-IsTheFault outcome fail.NoMemory = ⊥
-
--- the test holds, or the answer is the fault
-abbrev pub PassesTest : Bool → TypeOutcome → Result ⊤ TypesFail → Type 0
-PassesTest test fault (Ok _) = test ≡ true
-PassesTest test fault (Err (fail.Fault f)) = (test ≡ false) × (fault ≡ Err (fault_of f))
-PassesTest test fault (Err fail.NoMemory) = ⊥
-
 -- the fault is the outcome, unless memory was wanted
 abbrev pub IsFirstFault : TypeOutcome → TypesFail → Type 0
 IsFirstFault outcome (fail.Fault fault) = outcome ≡ Err (fault_of fault)
 IsFirstFault outcome fail.NoMemory = Unit {0}
+
+-- the answer is the outcome, or memory was wanted
+abbrev pub AnswersType : TypeOutcome → Result SharedType TypesFail → Type 0
+AnswersType outcome (Ok ty) = outcome ≡ Ok (shared_type ty)
+AnswersType outcome (Err e) = IsFirstFault outcome e
+
+-- the test holds, or it doesn't and the answer is the fault, unless memory was wanted
+abbrev pub PassesTest : Bool → TypeOutcome → Result ⊤ TypesFail → Type 0
+PassesTest test fault (Ok _) = test ≡ true
+PassesTest test fault (Err e) = (test ≡ false) × IsFirstFault fault e

@@ -1,4 +1,5 @@
 pub mod Limits
+pub mod Shared
 pub mod Fault
 pub mod Unary
 pub mod Scope

@@ -4,30 +4,33 @@ ghost use Rattle.std.specs.Prelude.{◌≡◌};
 ghost use Rattle.ame_term.specs.Tree.{Val, Tree};
 ghost use Rattle.ame_term.specs.View.{val_of, tree_of, trees_of};
 ghost use Rattle.ame_term.specs.declared.types.Binary.TheVariants as binary;
-ghost use Rattle.ame_types.specs.Checks.{Checks, IsCheckable, function_tree};
+ghost use Rattle.ame_types.specs.Scope.{AreListed};
+ghost use Rattle.ame_types.specs.Checks.{Checks, IsCheckable, KeepsListed, function_tree};
 
-use crate::expect::{agree, applied, broken, constant, expect, op_ty, require, under, written};
-use crate::fault::{Shown, TypesFail};
+use crate::expect::{agree, applied, constant, expect, op_ty, require, under, unfit, written};
+use crate::fault::TypesFail;
 use crate::rule;
-use crate::same::same_ty;
 use crate::scope::Scope;
 use crate::seen::{Checker, Seen};
+use crate::shared::Shared;
 use crate::unary::{fill, reserve, stand, unary_ty};
-use ame_term::{Effect, Function, Name, Op, Own, Term, Ty, Unary, Value, boxed, copy_ty};
+use ame_term::{Effect, Function, Name, Op, Own, Term, Unary, Value};
 
 #[tactic(auto, unfolding(ame_term::specs::Typing::typed, ame_term::specs::Typing::ref_types_in, ame_term::specs::SourceTerm::nodes, ame_term::specs::SourceTerm::IsSourceTerm, ame_term::specs::SourceTerm::IsBound))]
 impl Checker<'_> {
     #[cycle(checker)]
     #[tactic(auto, using(ame_term::proofs::TreesLemmas::tree_of_do), unfolding(ame_term::specs::SourceTerm::nodes))]
-    pub fn term(
+    pub fn term<'t>(
         &self,
-        seen: &mut Seen,
-        scope: &Scope<'_>,
+        seen: &mut Seen<'t>,
+        scope: &Scope<'_, 't>,
         q: Effect,
         term: &Term,
-    ) -> Result<Ty, TypesFail>
-        requires { IsCheckable self.now scope.now seen.old (tree_of term.now) }
-        ensures { Checks self.now scope.now q seen.old seen.new (tree_of term.now) result }
+    ) -> Result<Shared<'t>, TypesFail>
+        requires source { IsCheckable self.now scope.now seen.old (tree_of term.now) }
+        requires listed { AreListed seen.old.types.keys.keys scope.now }
+        ensures ty { Checks self.now scope.now q seen.old seen.new (tree_of term.now) result }
+        ensures listed { KeepsListed scope.now seen.new result }
     {
         match term {
             Term::Held(value) => self.held(seen, scope, q, value),
@@ -54,45 +57,50 @@ impl Checker<'_> {
         }
     }
 
-    fn held(
+    fn held<'t>(
         &self,
-        seen: &mut Seen,
-        scope: &Scope<'_>,
+        seen: &mut Seen<'t>,
+        scope: &Scope<'_, 't>,
         q: Effect,
         value: &Value,
-    ) -> Result<Ty, TypesFail>
-        requires { IsCheckable self.now scope.now seen.old (Tree.Held (val_of value.now)) }
-        ensures { Checks self.now scope.now q seen.old seen.new (Tree.Held (val_of value.now)) result }
+    ) -> Result<Shared<'t>, TypesFail>
+        requires source { IsCheckable self.now scope.now seen.old (Tree.Held (val_of value.now)) }
+        requires listed { AreListed seen.old.types.keys.keys scope.now }
+        ensures ty { Checks self.now scope.now q seen.old seen.new (Tree.Held (val_of value.now)) result }
+        ensures listed { KeepsListed scope.now seen.new result }
     {
         seen.next += 1;
         Ok(constant(value))
     }
 
-    fn name(
+    fn name<'t>(
         &self,
-        seen: &mut Seen,
-        scope: &Scope<'_>,
+        seen: &mut Seen<'t>,
+        scope: &Scope<'_, 't>,
         q: Effect,
         name: Name,
-    ) -> Result<Ty, TypesFail>
-        requires { IsCheckable self.now scope.now seen.old (Tree.Var name.0) }
-        ensures { Checks self.now scope.now q seen.old seen.new (Tree.Var name.0) result }
+    ) -> Result<Shared<'t>, TypesFail>
+        requires source { IsCheckable self.now scope.now seen.old (Tree.Var name.0) }
+        requires listed { AreListed seen.old.types.keys.keys scope.now }
+        ensures ty { Checks self.now scope.now q seen.old seen.new (Tree.Var name.0) result }
+        ensures listed { KeepsListed scope.now seen.new result }
     {
         seen.next += 1;
-        let ty = copy_ty(self.alloc, scope.ty(name))?;
-        Ok(ty)
+        Ok(scope.ty(&seen.types, name))
     }
 
     #[cycle(checker)]
-    fn function(
+    fn function<'t>(
         &self,
-        seen: &mut Seen,
-        scope: &Scope<'_>,
+        seen: &mut Seen<'t>,
+        scope: &Scope<'_, 't>,
         q: Effect,
         function: &Function,
-    ) -> Result<Ty, TypesFail>
-        requires { IsCheckable self.now scope.now seen.old (function_tree function.now) }
-        ensures { Checks self.now scope.now q seen.old seen.new (function_tree function.now) result }
+    ) -> Result<Shared<'t>, TypesFail>
+        requires source { IsCheckable self.now scope.now seen.old (function_tree function.now) }
+        requires listed { AreListed seen.old.types.keys.keys scope.now }
+        ensures ty { Checks self.now scope.now q seen.old seen.new (function_tree function.now) result }
+        ensures listed { KeepsListed scope.now seen.new result }
     {
         match &function.own {
             None => self.plain(seen, scope, q, function),
@@ -101,126 +109,126 @@ impl Checker<'_> {
     }
 
     #[cycle(checker)]
-    fn plain(
+    fn plain<'t>(
         &self,
-        seen: &mut Seen,
-        scope: &Scope<'_>,
+        seen: &mut Seen<'t>,
+        scope: &Scope<'_, 't>,
         q: Effect,
         function: &Function,
-    ) -> Result<Ty, TypesFail>
+    ) -> Result<Shared<'t>, TypesFail>
         requires none { function.now.own ≡ None }
-        requires ready { IsCheckable self.now scope.now seen.old (function_tree function.now) }
-        ensures { Checks self.now scope.now q seen.old seen.new (function_tree function.now) result }
+        requires source { IsCheckable self.now scope.now seen.old (function_tree function.now) }
+        requires listed { AreListed seen.old.types.keys.keys scope.now }
+        ensures ty { Checks self.now scope.now q seen.old seen.new (function_tree function.now) result }
+        ensures listed { KeepsListed scope.now seen.new result }
     {
         seen.next += 1;
-        let inner = Scope::Bound(&*scope, function.param, &function.param_ty);
+        let param = seen.types.written(&function.param_ty)?;
+        let inner = Scope::Bound(&*scope, function.param, param);
         let body = self.term(seen, &inner, function.effect, &function.body)?;
-        let param = boxed(self.alloc, copy_ty(self.alloc, &function.param_ty)?)?;
-        Ok(Ty::Fun(function.effect, param, boxed(self.alloc, body)?))
+        let ty = seen.types.function(function.effect, param, body)?;
+        Ok(ty)
     }
 
     #[cycle(checker)]
-    fn recursive(
+    fn recursive<'t>(
         &self,
-        seen: &mut Seen,
-        scope: &Scope<'_>,
+        seen: &mut Seen<'t>,
+        scope: &Scope<'_, 't>,
         q: Effect,
         function: &Function,
         own: &Own,
-    ) -> Result<Ty, TypesFail>
+    ) -> Result<Shared<'t>, TypesFail>
         requires own { function.now.own ≡ Some own.now }
-        requires ready { IsCheckable self.now scope.now seen.old (function_tree function.now) }
-        ensures { Checks self.now scope.now q seen.old seen.new (function_tree function.now) result }
+        requires source { IsCheckable self.now scope.now seen.old (function_tree function.now) }
+        requires listed { AreListed seen.old.types.keys.keys scope.now }
+        ensures ty { Checks self.now scope.now q seen.old seen.new (function_tree function.now) result }
+        ensures listed { KeepsListed scope.now seen.new result }
     {
         seen.next += 1;
         let place = self.place(seen, &function.body);
-        let param = boxed(self.alloc, copy_ty(self.alloc, &function.param_ty)?)?;
-        let answer = boxed(self.alloc, copy_ty(self.alloc, &own.result)?)?;
-        let ty = Ty::Fun(function.effect, param, answer);
-        let named = Scope::Bound(&*scope, own.name, &ty);
-        let inner = Scope::Bound(&named, function.param, &function.param_ty);
+        let answer = seen.types.written(&own.result)?;
+        let param = seen.types.written(&function.param_ty)?;
+        let ty = seen.types.function(function.effect, param, answer)?;
+        let wanted = Scope::Beside(&*scope, answer);
+        let named = Scope::Bound(&wanted, own.name, ty);
+        let inner = Scope::Bound(&named, function.param, param);
         let found = self.term(seen, &inner, function.effect, &function.body)?;
-        if same_ty(&found, &own.result) {
-            return Ok(ty);
-        }
-        let wanted = copy_ty(self.alloc, &own.result)?;
-        broken(
-            rule::TYPE_MISMATCH,
-            place,
-            Shown::Ty(found),
-            Shown::Ty(wanted),
-        )
+        expect(&seen.types, rule::TYPE_MISMATCH, place, &found, &answer, ty)
     }
 
     #[cycle(checker)]
-    fn app(
+    fn app<'t>(
         &self,
-        seen: &mut Seen,
-        scope: &Scope<'_>,
+        seen: &mut Seen<'t>,
+        scope: &Scope<'_, 't>,
         q: Effect,
         function: &Term,
         argument: &Term,
-    ) -> Result<Ty, TypesFail>
-        requires { IsCheckable self.now scope.now seen.old (Tree.Two binary.App (tree_of function.now) (tree_of argument.now)) }
-        ensures { Checks self.now scope.now q seen.old seen.new (Tree.Two binary.App (tree_of function.now) (tree_of argument.now)) result }
+    ) -> Result<Shared<'t>, TypesFail>
+        requires source { IsCheckable self.now scope.now seen.old (Tree.Two binary.App (tree_of function.now) (tree_of argument.now)) }
+        requires listed { AreListed seen.old.types.keys.keys scope.now }
+        ensures ty { Checks self.now scope.now q seen.old seen.new (Tree.Two binary.App (tree_of function.now) (tree_of argument.now)) result }
+        ensures listed { KeepsListed scope.now seen.new result }
     {
         let at = self.places[seen.next];
         seen.next += 1;
         let function_at = self.place(seen, function);
         let callee = self.term(seen, scope, q, function)?;
         match callee {
-            Ty::Fun(effect, param, answer) => {
+            Shared::Fun(_, effect, param, answer) => {
                 let argument_at = self.place(seen, argument);
-                let found = self.term(seen, scope, q, argument)?;
+                let beside = Scope::Beside(&*scope, callee);
+                let found = self.term(seen, &beside, q, argument)?;
                 applied(
+                    &seen.types,
                     at,
                     argument_at,
                     q,
                     effect,
-                    found,
-                    Box::into_inner(param),
-                    Box::into_inner(answer),
+                    &found,
+                    param,
+                    *answer,
                 )
             }
-            other => broken(
-                rule::NO_FUNCTION,
-                function_at,
-                Shown::Ty(other),
-                Shown::Nothing,
-            ),
+            other => Err(unfit(seen.types.alloc, rule::NO_FUNCTION, function_at, &other)),
         }
     }
 
     #[cycle(checker)]
-    fn binding(
+    fn binding<'t>(
         &self,
-        seen: &mut Seen,
-        scope: &Scope<'_>,
+        seen: &mut Seen<'t>,
+        scope: &Scope<'_, 't>,
         q: Effect,
         name: Name,
         bound: &Term,
         body: &Term,
-    ) -> Result<Ty, TypesFail>
-        requires { IsCheckable self.now scope.now seen.old (Tree.Let name.0 (tree_of bound.now) (tree_of body.now)) }
-        ensures { Checks self.now scope.now q seen.old seen.new (Tree.Let name.0 (tree_of bound.now) (tree_of body.now)) result }
+    ) -> Result<Shared<'t>, TypesFail>
+        requires source { IsCheckable self.now scope.now seen.old (Tree.Let name.0 (tree_of bound.now) (tree_of body.now)) }
+        requires listed { AreListed seen.old.types.keys.keys scope.now }
+        ensures ty { Checks self.now scope.now q seen.old seen.new (Tree.Let name.0 (tree_of bound.now) (tree_of body.now)) result }
+        ensures listed { KeepsListed scope.now seen.new result }
     {
         seen.next += 1;
         let ty = self.term(seen, scope, q, bound)?;
-        let inner = Scope::Bound(&*scope, name, &ty);
+        let inner = Scope::Bound(&*scope, name, ty);
         let body = self.term(seen, &inner, q, body)?;
         Ok(body)
     }
 
     #[cycle(checker)]
-    fn sequence(
+    fn sequence<'t>(
         &self,
-        seen: &mut Seen,
-        scope: &Scope<'_>,
+        seen: &mut Seen<'t>,
+        scope: &Scope<'_, 't>,
         q: Effect,
         parts: &[Term],
-    ) -> Result<Ty, TypesFail>
-        requires { IsCheckable self.now scope.now seen.old (Tree.Do (trees_of parts.now)) }
-        ensures { Checks self.now scope.now q seen.old seen.new (Tree.Do (trees_of parts.now)) result }
+    ) -> Result<Shared<'t>, TypesFail>
+        requires source { IsCheckable self.now scope.now seen.old (Tree.Do (trees_of parts.now)) }
+        requires listed { AreListed seen.old.types.keys.keys scope.now }
+        ensures ty { Checks self.now scope.now q seen.old seen.new (Tree.Do (trees_of parts.now)) result }
+        ensures listed { KeepsListed scope.now seen.new result }
     {
         seen.next += 1;
         let mut rest = parts;
@@ -228,7 +236,7 @@ impl Checker<'_> {
             let part = &rest[0];
             let place = self.place(seen, part);
             let found = self.term(seen, scope, q, part)?;
-            require(rule::NOT_UNIT, place, found, Ty::Unit)?;
+            require(&seen.types, rule::NOT_UNIT, place, &found, &Shared::Unit)?;
             rest = rest.split_at(1).1;
         }
         let ty = self.term(seen, scope, q, &rest[0])?;
@@ -236,61 +244,87 @@ impl Checker<'_> {
     }
 
     #[cycle(checker)]
-    fn choice(
+    fn choice<'t>(
         &self,
-        seen: &mut Seen,
-        scope: &Scope<'_>,
+        seen: &mut Seen<'t>,
+        scope: &Scope<'_, 't>,
         q: Effect,
         test: &Term,
         then: &Term,
         other: &Term,
-    ) -> Result<Ty, TypesFail>
-        requires { IsCheckable self.now scope.now seen.old (Tree.If (tree_of test.now) (tree_of then.now) (tree_of other.now)) }
-        ensures { Checks self.now scope.now q seen.old seen.new (Tree.If (tree_of test.now) (tree_of then.now) (tree_of other.now)) result }
+    ) -> Result<Shared<'t>, TypesFail>
+        requires source { IsCheckable self.now scope.now seen.old (Tree.If (tree_of test.now) (tree_of then.now) (tree_of other.now)) }
+        requires listed { AreListed seen.old.types.keys.keys scope.now }
+        ensures ty { Checks self.now scope.now q seen.old seen.new (Tree.If (tree_of test.now) (tree_of then.now) (tree_of other.now)) result }
+        ensures listed { KeepsListed scope.now seen.new result }
     {
         seen.next += 1;
         let test_at = self.place(seen, test);
         let found = self.term(seen, scope, q, test)?;
-        require(rule::TYPE_MISMATCH, test_at, found, Ty::Bool)?;
+        require(
+            &seen.types,
+            rule::TYPE_MISMATCH,
+            test_at,
+            &found,
+            &Shared::Bool,
+        )?;
         let wanted = self.term(seen, scope, q, then)?;
         let other_at = self.place(seen, other);
-        let found = self.term(seen, scope, q, other)?;
-        agree(other_at, found, wanted)
+        let beside = Scope::Beside(&*scope, wanted);
+        let found = self.term(seen, &beside, q, other)?;
+        agree(&seen.types, other_at, &found, wanted)
     }
 
     #[cycle(checker)]
-    fn operation(
+    fn operation<'t>(
         &self,
-        seen: &mut Seen,
-        scope: &Scope<'_>,
+        seen: &mut Seen<'t>,
+        scope: &Scope<'_, 't>,
         q: Effect,
         op: Op,
         left: &Term,
         right: &Term,
-    ) -> Result<Ty, TypesFail>
-        requires { IsCheckable self.now scope.now seen.old (Tree.Two (binary.Bin op) (tree_of left.now) (tree_of right.now)) }
-        ensures { Checks self.now scope.now q seen.old seen.new (Tree.Two (binary.Bin op) (tree_of left.now) (tree_of right.now)) result }
+    ) -> Result<Shared<'t>, TypesFail>
+        requires source { IsCheckable self.now scope.now seen.old (Tree.Two (binary.Bin op) (tree_of left.now) (tree_of right.now)) }
+        requires listed { AreListed seen.old.types.keys.keys scope.now }
+        ensures ty { Checks self.now scope.now q seen.old seen.new (Tree.Two (binary.Bin op) (tree_of left.now) (tree_of right.now)) result }
+        ensures listed { KeepsListed scope.now seen.new result }
     {
         seen.next += 1;
         let left_at = self.place(seen, left);
         let found = self.term(seen, scope, q, left)?;
-        require(rule::TYPE_MISMATCH, left_at, found, Ty::Int)?;
+        require(
+            &seen.types,
+            rule::TYPE_MISMATCH,
+            left_at,
+            &found,
+            &Shared::Int,
+        )?;
         let right_at = self.place(seen, right);
         let found = self.term(seen, scope, q, right)?;
-        expect(rule::TYPE_MISMATCH, right_at, found, Ty::Int, op_ty(op))
+        expect(
+            &seen.types,
+            rule::TYPE_MISMATCH,
+            right_at,
+            &found,
+            &Shared::Int,
+            op_ty(op),
+        )
     }
 
     #[cycle(checker)]
-    fn one(
+    fn one<'t>(
         &self,
-        seen: &mut Seen,
-        scope: &Scope<'_>,
+        seen: &mut Seen<'t>,
+        scope: &Scope<'_, 't>,
         q: Effect,
         op: Unary,
         part: &Term,
-    ) -> Result<Ty, TypesFail>
-        requires { IsCheckable self.now scope.now seen.old (Tree.One op (tree_of part.now)) }
-        ensures { Checks self.now scope.now q seen.old seen.new (Tree.One op (tree_of part.now)) result }
+    ) -> Result<Shared<'t>, TypesFail>
+        requires source { IsCheckable self.now scope.now seen.old (Tree.One op (tree_of part.now)) }
+        requires listed { AreListed seen.old.types.keys.keys scope.now }
+        ensures ty { Checks self.now scope.now q seen.old seen.new (Tree.One op (tree_of part.now)) result }
+        ensures listed { KeepsListed scope.now seen.new result }
     {
         let at = self.places[seen.next];
         stand(self.devices, op, at, q)?;
@@ -298,68 +332,77 @@ impl Checker<'_> {
         let room = reserve(&mut seen.ref_tys, op)?;
         let part_at = self.place(seen, part);
         let found = self.term(seen, scope, q, part)?;
-        fill(self.alloc, &mut seen.ref_tys, op, room, &found)?;
-        unary_ty(self.alloc, op, at, part_at, q, found)
+        fill(&mut seen.ref_tys, op, room, found);
+        unary_ty(&mut seen.types, op, at, part_at, q, found)
     }
 
     #[cycle(checker)]
-    fn set(
+    fn set<'t>(
         &self,
-        seen: &mut Seen,
-        scope: &Scope<'_>,
+        seen: &mut Seen<'t>,
+        scope: &Scope<'_, 't>,
         q: Effect,
         cell: &Term,
         content: &Term,
-    ) -> Result<Ty, TypesFail>
-        requires { IsCheckable self.now scope.now seen.old (Tree.Two binary.Set (tree_of cell.now) (tree_of content.now)) }
-        ensures { Checks self.now scope.now q seen.old seen.new (Tree.Two binary.Set (tree_of cell.now) (tree_of content.now)) result }
+    ) -> Result<Shared<'t>, TypesFail>
+        requires source { IsCheckable self.now scope.now seen.old (Tree.Two binary.Set (tree_of cell.now) (tree_of content.now)) }
+        requires listed { AreListed seen.old.types.keys.keys scope.now }
+        ensures ty { Checks self.now scope.now q seen.old seen.new (Tree.Two binary.Set (tree_of cell.now) (tree_of content.now)) result }
+        ensures listed { KeepsListed scope.now seen.new result }
     {
         let at = self.places[seen.next];
         seen.next += 1;
         let cell_at = self.place(seen, cell);
         let target = self.term(seen, scope, q, cell)?;
         match target {
-            Ty::Ref(sort, wanted) => {
+            Shared::Ref(_, sort, wanted) => {
                 let content_at = self.place(seen, content);
-                let found = self.term(seen, scope, q, content)?;
-                written(at, content_at, q, sort, found, Box::into_inner(wanted))
+                let beside = Scope::Beside(&*scope, target);
+                let found = self.term(seen, &beside, q, content)?;
+                written(&seen.types, at, content_at, q, sort, &found, wanted)
             }
-            other => broken(
-                rule::NO_REFERENCE,
-                cell_at,
-                Shown::Ty(other),
-                Shown::Nothing,
-            ),
+            other => Err(unfit(seen.types.alloc, rule::NO_REFERENCE, cell_at, &other)),
         }
     }
 
     #[cycle(checker)]
-    fn spawn(
+    fn spawn<'t>(
         &self,
-        seen: &mut Seen,
-        scope: &Scope<'_>,
+        seen: &mut Seen<'t>,
+        scope: &Scope<'_, 't>,
         q: Effect,
         body: &Term,
-    ) -> Result<Ty, TypesFail>
-        requires { IsCheckable self.now scope.now seen.old (Tree.Async (tree_of body.now)) }
-        ensures { Checks self.now scope.now q seen.old seen.new (Tree.Async (tree_of body.now)) result }
+    ) -> Result<Shared<'t>, TypesFail>
+        requires source { IsCheckable self.now scope.now seen.old (Tree.Async (tree_of body.now)) }
+        requires listed { AreListed seen.old.types.keys.keys scope.now }
+        ensures ty { Checks self.now scope.now q seen.old seen.new (Tree.Async (tree_of body.now)) result }
+        ensures listed { KeepsListed scope.now seen.new result }
     {
         seen.next += 1;
         let place = self.place(seen, body);
         let found = self.term(seen, scope, Effect::Protected, body)?;
-        expect(rule::NOT_UNIT, place, found, Ty::Unit, Ty::Unit)
+        expect(
+            &seen.types,
+            rule::NOT_UNIT,
+            place,
+            &found,
+            &Shared::Unit,
+            Shared::Unit,
+        )
     }
 
     #[cycle(checker)]
-    fn unprotected(
+    fn unprotected<'t>(
         &self,
-        seen: &mut Seen,
-        scope: &Scope<'_>,
+        seen: &mut Seen<'t>,
+        scope: &Scope<'_, 't>,
         q: Effect,
         part: &Term,
-    ) -> Result<Ty, TypesFail>
-        requires { IsCheckable self.now scope.now seen.old (Tree.Unprotected (tree_of part.now)) }
-        ensures { Checks self.now scope.now q seen.old seen.new (Tree.Unprotected (tree_of part.now)) result }
+    ) -> Result<Shared<'t>, TypesFail>
+        requires source { IsCheckable self.now scope.now seen.old (Tree.Unprotected (tree_of part.now)) }
+        requires listed { AreListed seen.old.types.keys.keys scope.now }
+        ensures ty { Checks self.now scope.now q seen.old seen.new (Tree.Unprotected (tree_of part.now)) result }
+        ensures listed { KeepsListed scope.now seen.new result }
     {
         let at = self.places[seen.next];
         under(rule::MISPLACED_UNPROTECTED, at, q, Effect::Protected)?;
@@ -369,21 +412,24 @@ impl Checker<'_> {
     }
 
     #[cycle(checker)]
-    fn pair(
+    fn pair<'t>(
         &self,
-        seen: &mut Seen,
-        scope: &Scope<'_>,
+        seen: &mut Seen<'t>,
+        scope: &Scope<'_, 't>,
         q: Effect,
         first: &Term,
         second: &Term,
-    ) -> Result<Ty, TypesFail>
-        requires { IsCheckable self.now scope.now seen.old (Tree.Two binary.Pair (tree_of first.now) (tree_of second.now)) }
-        ensures { Checks self.now scope.now q seen.old seen.new (Tree.Two binary.Pair (tree_of first.now) (tree_of second.now)) result }
+    ) -> Result<Shared<'t>, TypesFail>
+        requires source { IsCheckable self.now scope.now seen.old (Tree.Two binary.Pair (tree_of first.now) (tree_of second.now)) }
+        requires listed { AreListed seen.old.types.keys.keys scope.now }
+        ensures ty { Checks self.now scope.now q seen.old seen.new (Tree.Two binary.Pair (tree_of first.now) (tree_of second.now)) result }
+        ensures listed { KeepsListed scope.now seen.new result }
     {
         seen.next += 1;
         let first = self.term(seen, scope, q, first)?;
-        let second = self.term(seen, scope, q, second)?;
-        let first = boxed(self.alloc, first)?;
-        Ok(Ty::Pair(first, boxed(self.alloc, second)?))
+        let beside = Scope::Beside(&*scope, first);
+        let second = self.term(seen, &beside, q, second)?;
+        let ty = seen.types.pair(first, second)?;
+        Ok(ty)
     }
 }

@@ -1,21 +1,26 @@
 //! The tests of the rules, on types that were found.
 
-ghost use Rattle.std.specs.Prelude.{◌≡◌, ℕ, Ok, nat_lt};
-ghost use Rattle.ame_term.specs.Tree.{Typ};
+ghost use Rattle.std.specs.Prelude.{◌≡◌, ℕ, List, Ok, nat_lt, IfOk};
 ghost use Rattle.ame_term.specs.View.{typ_of, val_of};
 ghost use Rattle.ame_term.specs.Shown.{Shown as Seen, wrong_effect, wrong_sort, no_device};
 ghost use Rattle.ame_term.specs.Typing.{same_type, same_effect, need, breaks, want, fits, touches, op_type, read_row, peeked_row, first_of as first_of_pair, second_of as second_of_pair, typed_value, no_cells};
+ghost use Rattle.ame_term.specs.Tree.{Typ};
 ghost use Rattle.ame_term.specs.SourceTerm.{IsConstant};
-ghost use Rattle.ame_types.specs.Fault.{AnswersType, PassesTest, IsTheFault, mismatch, shown_of};
+ghost use Rattle.ame_types.specs.declared.shared.Key.{Key};
+ghost use Rattle.ame_types.specs.Shared.{shared_type, IsListed};
+ghost use Rattle.ame_types.specs.Fault.{AnswersType, PassesTest, IsFirstFault, mismatch, shown_of};
 
+use crate::build::{LARGEST, build};
 use crate::fault::{Shown, TypeFault, TypesFail};
 use crate::rule;
-use crate::same::same_ty;
-use ame_term::{Effect, Op, Sort, Ty, Value};
+use crate::shared::Shared;
+use crate::table::Types;
+use ame_term::{Effect, NoMemory, Op, Sort, Ty, Value};
+use std::alloc::Global;
 
 /// The fault of a rule.
 fn fault(rule: u8, place: u32, found: Shown, wanted: Shown) -> TypesFail
-    ensures { IsTheFault (breaks rule place (shown_of found) (shown_of wanted)) result }
+    ensures { IsFirstFault (breaks rule place (shown_of found) (shown_of wanted)) result }
 {
     TypesFail::Fault(TypeFault {
         rule,
@@ -25,32 +30,82 @@ fn fault(rule: u8, place: u32, found: Shown, wanted: Shown) -> TypesFail
     })
 }
 
-/// The fault of a rule, in place of a type.
-pub fn broken(rule: u8, place: u32, found: Shown, wanted: Shown) -> Result<Ty, TypesFail>
-    ensures { AnswersType (breaks rule place (shown_of found) (shown_of wanted)) result }
+/// Two types, built.
+fn built(alloc: Global, found: &Shared<'_>, wanted: &Shared<'_>) -> Result<(Ty, Ty), NoMemory>
+    ensures found { IfOk result (λ both. typ_of both.0 ≡ shared_type found.now) }
+    ensures wanted { IfOk result (λ both. typ_of both.1 ≡ shared_type wanted.now) }
 {
-    Err(fault(rule, place, found, wanted))
+    let mut room = LARGEST;
+    let found = build(found, alloc, &mut room)?;
+    let wanted = build(wanted, alloc, &mut room)?;
+    Ok((found, wanted))
+}
+
+/// The fault of a part at the place, which has one type in place of the other.
+fn mismatched(
+    alloc: Global,
+    rule: u8,
+    place: u32,
+    found: &Shared<'_>,
+    wanted: &Shared<'_>,
+) -> TypesFail
+    ensures { IsFirstFault (mismatch rule place (shared_type found.now) (shared_type wanted.now)) result }
+{
+    match built(alloc, found, wanted) {
+        Ok((found, wanted)) => fault(rule, place, Shown::Ty(found), Shown::Ty(wanted)),
+        Err(_no_memory) => TypesFail::NoMemory,
+    }
+}
+
+/// The fault of a part at the place, whose type has no use there.
+pub fn unfit(alloc: Global, rule: u8, place: u32, found: &Shared<'_>) -> TypesFail
+    ensures { IsFirstFault (breaks rule place (Seen.Ty (shared_type found.now)) Seen.Nothing) result }
+{
+    let mut room = LARGEST;
+    match build(found, alloc, &mut room) {
+        Ok(found) => fault(rule, place, Shown::Ty(found), Shown::Nothing),
+        Err(_no_memory) => TypesFail::NoMemory,
+    }
 }
 
 /// The type that a form has, if its part at the place has the wanted type.
-pub fn expect(rule: u8, place: u32, found: Ty, wanted: Ty, then: Ty) -> Result<Ty, TypesFail>
-    ensures { AnswersType (need (same_type (typ_of found) (typ_of wanted)) (mismatch rule place (typ_of found) (typ_of wanted)) (Ok (typ_of then))) result }
+pub fn expect<'t>(
+    types: &Types<'t>,
+    rule: u8,
+    place: u32,
+    found: &Shared<'t>,
+    wanted: &Shared<'t>,
+    then: Shared<'t>,
+) -> Result<Shared<'t>, TypesFail>
+    requires found { IsListed types.now.keys.keys found.now }
+    requires wanted { IsListed types.now.keys.keys wanted.now }
+    requires then { IsListed types.now.keys.keys then }
+    ensures ty { AnswersType (need (same_type (shared_type found.now) (shared_type wanted.now)) (mismatch rule place (shared_type found.now) (shared_type wanted.now)) (Ok (shared_type then.entry))) result }
+    ensures listed { IfOk result (λ t. IsListed types.now.keys.keys t) }
 {
-    if same_ty(&found, &wanted) {
+    if types.same(found, wanted) {
         Ok(then)
     } else {
-        broken(rule, place, Shown::Ty(found), Shown::Ty(wanted))
+        Err(mismatched(types.alloc, rule, place, found, wanted))
     }
 }
 
 /// Nothing, if the part at the place has the wanted type.
-pub fn require(rule: u8, place: u32, found: Ty, wanted: Ty) -> Result<(), TypesFail>
-    ensures { PassesTest (same_type (typ_of found) (typ_of wanted)) (mismatch rule place (typ_of found) (typ_of wanted)) result }
+pub fn require<'t>(
+    types: &Types<'t>,
+    rule: u8,
+    place: u32,
+    found: &Shared<'t>,
+    wanted: &Shared<'t>,
+) -> Result<(), TypesFail>
+    requires found { IsListed types.now.keys.keys found.now }
+    requires wanted { IsListed types.now.keys.keys wanted.now }
+    ensures { PassesTest (same_type (shared_type found.now) (shared_type wanted.now)) (mismatch rule place (shared_type found.now) (shared_type wanted.now)) result }
 {
-    if same_ty(&found, &wanted) {
+    if types.same(found, wanted) {
         Ok(())
     } else {
-        Err(fault(rule, place, Shown::Ty(found), Shown::Ty(wanted)))
+        Err(mismatched(types.alloc, rule, place, found, wanted))
     }
 }
 
@@ -82,19 +137,18 @@ pub fn known(devices: u32, device: u32, at: u32) -> Result<(), TypesFail>
 }
 
 /// The wanted type, if the part at the place has it.
-pub fn agree(place: u32, found: Ty, wanted: Ty) -> Result<Ty, TypesFail>
-    ensures { AnswersType (want place (typ_of found) (typ_of wanted) (Ok (typ_of wanted))) result }
+pub fn agree<'t>(
+    types: &Types<'t>,
+    place: u32,
+    found: &Shared<'t>,
+    wanted: Shared<'t>,
+) -> Result<Shared<'t>, TypesFail>
+    requires found { IsListed types.now.keys.keys found.now }
+    requires wanted { IsListed types.now.keys.keys wanted }
+    ensures ty { AnswersType (want place (shared_type found.now) (shared_type wanted.entry) (Ok (shared_type wanted.entry))) result }
+    ensures listed { IfOk result (λ t. IsListed types.now.keys.keys t) }
 {
-    if same_ty(&found, &wanted) {
-        Ok(wanted)
-    } else {
-        broken(
-            rule::TYPE_MISMATCH,
-            place,
-            Shown::Ty(found),
-            Shown::Ty(wanted),
-        )
-    }
+    expect(types, rule::TYPE_MISMATCH, place, found, &wanted, wanted)
 }
 
 /// Whether a function of an effect may be called under another.
@@ -115,143 +169,161 @@ fn may_touch(sort: Sort, q: Effect) -> bool
 }
 
 /// The type of a call, whose argument at its place has the type found.
-pub fn applied(
+pub fn applied<'t>(
+    types: &Types<'t>,
     at: u32,
     argument_at: u32,
     q: Effect,
     effect: Effect,
-    found: Ty,
-    param: Ty,
-    answer: Ty,
-) -> Result<Ty, TypesFail>
-    ensures { AnswersType (want argument_at (typ_of found) (typ_of param) (need (fits effect q) (breaks wrong_effect at (Seen.Effect effect) (Seen.Effect q)) (Ok (typ_of answer)))) result }
+    found: &Shared<'t>,
+    param: &Shared<'t>,
+    answer: Shared<'t>,
+) -> Result<Shared<'t>, TypesFail>
+    requires found { IsListed types.now.keys.keys found.now }
+    requires param { IsListed types.now.keys.keys param.now }
+    requires answer { IsListed types.now.keys.keys answer }
+    ensures ty { AnswersType (want argument_at (shared_type found.now) (shared_type param.now) (need (fits effect q) (breaks wrong_effect at (Seen.Effect effect) (Seen.Effect q)) (Ok (shared_type answer.entry)))) result }
+    ensures listed { IfOk result (λ t. IsListed types.now.keys.keys t) }
 {
-    if !same_ty(&found, &param) {
-        return broken(
-            rule::TYPE_MISMATCH,
-            argument_at,
-            Shown::Ty(found),
-            Shown::Ty(param),
-        );
+    if !types.same(found, param) {
+        return Err(mismatched(types.alloc, rule::TYPE_MISMATCH, argument_at, found, param));
     }
     if !may_call(effect, q) {
-        return broken(
+        return Err(fault(
             rule::WRONG_EFFECT,
             at,
             Shown::Effect(effect),
             Shown::Effect(q),
-        );
+        ));
     }
     Ok(answer)
 }
 
 /// What is read through a value of the type found.
-pub fn read(at: u32, part_at: u32, q: Effect, found: Ty) -> Result<Ty, TypesFail>
-    ensures { AnswersType (read_row at part_at q (typ_of found)) result }
+pub fn read<'t>(
+    types: &Types<'t>,
+    at: u32,
+    part_at: u32,
+    q: Effect,
+    found: Shared<'t>,
+) -> Result<Shared<'t>, TypesFail>
+    requires { IsListed types.now.keys.keys found }
+    ensures ty { AnswersType (read_row at part_at q (shared_type found.entry)) result }
+    ensures listed { IfOk result (λ t. IsListed types.now.keys.keys t) }
 {
     match found {
-        Ty::Ref(sort, content) => {
+        Shared::Ref(_, sort, content) => {
             if may_touch(sort, q) {
-                Ok(Box::into_inner(content))
+                Ok(*content)
             } else {
-                broken(rule::WRONG_SORT, at, Shown::Sort(sort), Shown::Effect(q))
+                Err(fault(rule::WRONG_SORT, at, Shown::Sort(sort), Shown::Effect(q)))
             }
         }
-        other => broken(
-            rule::NO_REFERENCE,
-            part_at,
-            Shown::Ty(other),
-            Shown::Nothing,
-        ),
+        other => Err(unfit(types.alloc, rule::NO_REFERENCE, part_at, &other)),
     }
 }
 
 /// What is peeked at through a value of the type found.
-pub fn peeked(at: u32, part_at: u32, found: Ty) -> Result<Ty, TypesFail>
-    ensures { AnswersType (peeked_row at part_at (typ_of found)) result }
+pub fn peeked<'t>(
+    types: &Types<'t>,
+    at: u32,
+    part_at: u32,
+    found: Shared<'t>,
+) -> Result<Shared<'t>, TypesFail>
+    requires { IsListed types.now.keys.keys found }
+    ensures ty { AnswersType (peeked_row at part_at (shared_type found.entry)) result }
+    ensures listed { IfOk result (λ t. IsListed types.now.keys.keys t) }
 {
     match found {
-        Ty::Ref(Sort::Protected, content) => Ok(Box::into_inner(content)),
-        Ty::Ref(sort, _) => broken(
+        Shared::Ref(_, Sort::Protected, content) => Ok(*content),
+        Shared::Ref(_, sort, _) => Err(fault(
             rule::WRONG_SORT,
             at,
             Shown::Sort(sort),
             Shown::Sort(Sort::Protected),
-        ),
-        other => broken(
-            rule::NO_REFERENCE,
-            part_at,
-            Shown::Ty(other),
-            Shown::Nothing,
-        ),
+        )),
+        other => Err(unfit(types.alloc, rule::NO_REFERENCE, part_at, &other)),
     }
 }
 
 /// The type of a write, whose content at its place has the type found.
-pub fn written(
+pub fn written<'t>(
+    types: &Types<'t>,
     at: u32,
     content_at: u32,
     q: Effect,
     sort: Sort,
-    found: Ty,
-    wanted: Ty,
-) -> Result<Ty, TypesFail>
-    ensures { AnswersType (want content_at (typ_of found) (typ_of wanted) (need (touches sort q) (breaks wrong_sort at (Seen.Sort sort) (Seen.Effect q)) (Ok Typ.Unit))) result }
+    found: &Shared<'t>,
+    wanted: &Shared<'t>,
+) -> Result<Shared<'t>, TypesFail>
+    requires found { IsListed types.now.keys.keys found.now }
+    requires wanted { IsListed types.now.keys.keys wanted.now }
+    ensures ty { AnswersType (want content_at (shared_type found.now) (shared_type wanted.now) (need (touches sort q) (breaks wrong_sort at (Seen.Sort sort) (Seen.Effect q)) (Ok Typ.Unit))) result }
+    ensures listed { IfOk result (λ t. IsListed types.now.keys.keys t) }
 {
-    if !same_ty(&found, &wanted) {
-        return broken(
-            rule::TYPE_MISMATCH,
-            content_at,
-            Shown::Ty(found),
-            Shown::Ty(wanted),
-        );
+    if !types.same(found, wanted) {
+        return Err(mismatched(types.alloc, rule::TYPE_MISMATCH, content_at, found, wanted));
     }
     if !may_touch(sort, q) {
-        return broken(rule::WRONG_SORT, at, Shown::Sort(sort), Shown::Effect(q));
+        return Err(fault(rule::WRONG_SORT, at, Shown::Sort(sort), Shown::Effect(q)));
     }
-    Ok(Ty::Unit)
+    Ok(Shared::Unit)
 }
 
 /// The first part of a pair of the type found.
-pub fn first_of(place: u32, found: Ty) -> Result<Ty, TypesFail>
-    ensures { AnswersType (first_of_pair place (typ_of found)) result }
+pub fn first_of<'t>(
+    types: &Types<'t>,
+    place: u32,
+    found: Shared<'t>,
+) -> Result<Shared<'t>, TypesFail>
+    requires { IsListed types.now.keys.keys found }
+    ensures ty { AnswersType (first_of_pair place (shared_type found.entry)) result }
+    ensures listed { IfOk result (λ t. IsListed types.now.keys.keys t) }
 {
     match found {
-        Ty::Pair(first, _) => Ok(Box::into_inner(first)),
-        other => broken(rule::NO_PAIR, place, Shown::Ty(other), Shown::Nothing),
+        Shared::Pair(_, first, _) => Ok(*first),
+        other => Err(unfit(types.alloc, rule::NO_PAIR, place, &other)),
     }
 }
 
 /// The second part of a pair of the type found.
-pub fn second_of(place: u32, found: Ty) -> Result<Ty, TypesFail>
-    ensures { AnswersType (second_of_pair place (typ_of found)) result }
+pub fn second_of<'t>(
+    types: &Types<'t>,
+    place: u32,
+    found: Shared<'t>,
+) -> Result<Shared<'t>, TypesFail>
+    requires { IsListed types.now.keys.keys found }
+    ensures ty { AnswersType (second_of_pair place (shared_type found.entry)) result }
+    ensures listed { IfOk result (λ t. IsListed types.now.keys.keys t) }
 {
     match found {
-        Ty::Pair(_, second) => Ok(Box::into_inner(second)),
-        other => broken(rule::NO_PAIR, place, Shown::Ty(other), Shown::Nothing),
+        Shared::Pair(_, _, second) => Ok(*second),
+        other => Err(unfit(types.alloc, rule::NO_PAIR, place, &other)),
     }
 }
 
 /// What an operator gives.
-pub fn op_ty(op: Op) -> Ty
-    ensures { typ_of result ≡ op_type op }
+pub fn op_ty<'t>(op: Op) -> Shared<'t>
+    ensures ty { shared_type result ≡ op_type op }
+    ensures listed { (keys : List Key) → IsListed keys result }
 {
     match op {
-        Op::Add | Op::Sub | Op::Mul => Ty::Int,
-        Op::Less | Op::Same => Ty::Bool,
+        Op::Add | Op::Sub | Op::Mul => Shared::Int,
+        Op::Less | Op::Same => Shared::Bool,
     }
 }
 
 /// The type of a constant.
 #[tactic(auto, unfolding(ame_term::specs::Typing::typed_value))]
-pub fn constant(value: &Value) -> Ty
+pub fn constant<'t>(value: &Value) -> Shared<'t>
     requires { IsConstant (val_of value.now) }
-    ensures { (devices at : ℕ) → typed_value devices no_cells at (val_of value.now) ≡ Ok (typ_of result) }
+    ensures ty { (devices at : ℕ) → typed_value devices no_cells at (val_of value.now) ≡ Ok (shared_type result) }
+    ensures listed { (keys : List Key) → IsListed keys result }
 {
     match value {
-        Value::Unit => Ty::Unit,
-        Value::Bool(_) => Ty::Bool,
-        Value::Int(_) => Ty::Int,
+        Value::Unit => Shared::Unit,
+        Value::Bool(_) => Shared::Bool,
+        Value::Int(_) => Shared::Int,
         _ => unreachable!(),
     }
 }

@@ -6,19 +6,23 @@ ghost use Rattle.ame_term.specs.Typing.{typing, Accepts};
 ghost use Rattle.ame_types.specs.Limits.{max_devices};
 ghost use Rattle.ame_types.specs.Fault.{IsFirstFault};
 
+use crate::build::build_all;
 use crate::expect::require;
 use crate::fault::TypesFail;
 use crate::rule;
 use crate::scope::Scope;
 use crate::seen::{Checker, Seen};
+use crate::shared::Shared;
+use crate::table::Types;
 use ame_term::{Accepted, Effect, Program, Ty};
+use bumpalo::Bump;
 use std::alloc::Global;
 
 /// The program with the types of the values that its `ref` forms store, if it is Unit under protected,
 /// and else its first fault. A pass over the program that takes time by its nodes, by the depth of the
-/// names in scope at each name, and by the size of the types that are copied and compared. A type of
-/// pairs can double with each `let`, as in `(let b (pair a a) ..`: with 40 of these there is no memory
-/// for it, and the answer is `NoMemory`.
+/// names in scope at each name, and by the size of the types that the text writes. A type that it makes
+/// takes memory once, as in `(let b (pair a a) ..`; those of an answer are built, and where they have more
+/// than 1,048,576 nodes together the answer is `NoMemory`.
 pub fn check(alloc: Global, program: Program, devices: u32) -> Result<Accepted, TypesFail>
     requires { devices ≤ max_devices }
     ensures program { IfOk result (λ a. a.program ≡ program) }
@@ -35,17 +39,19 @@ fn ref_tys(alloc: Global, program: &Program, devices: u32) -> Result<Vec<Ty>, Ty
     ensures accepts { IfOk result (λ tys. Accepts devices program.now.places.items (tree_of program.now.term) (map typ_of tys.items)) }
     ensures fault { IfErr result (IsFirstFault (typing devices program.now.places.items (tree_of program.now.term))) }
 {
+    let arena = Bump::new(alloc);
     let checker = Checker {
-        alloc,
         devices,
         places: &program.places,
     };
     let mut seen = Seen {
         next: 0,
         ref_tys: Vec::new(alloc),
+        types: Types::new(alloc, &arena),
     };
     let place = checker.place(&seen, &program.term);
     let found = checker.term(&mut seen, &Scope::Empty, Effect::Protected, &program.term)?;
-    require(rule::NOT_UNIT, place, found, Ty::Unit)?;
-    Ok(seen.ref_tys)
+    require(&seen.types, rule::NOT_UNIT, place, &found, &Shared::Unit)?;
+    let tys = build_all(&seen.ref_tys, alloc)?;
+    Ok(tys)
 }

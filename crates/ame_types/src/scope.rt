@@ -1,29 +1,42 @@
 //! The names in scope.
 
-ghost use Rattle.std.specs.Prelude.{◌≡◌, IsTrue};
-ghost use Rattle.ame_term.specs.View.{typ_of};
+ghost use Rattle.std.specs.Prelude.{◌≡◌, IsTrue, Some};
 ghost use Rattle.ame_term.specs.SourceTerm.{is_name_of};
 
-use ame_term::{Name, Ty};
+use crate::shared::Shared;
+use crate::table::Types;
+use ame_term::Name;
 
 /// The names in scope with their types: a chain of bindings, the innermost first.
 #[derive(Clone, Copy)]
-pub enum Scope<'a> {
+pub enum Scope<'a, 't> {
     Empty,
-    Bound(&'a Scope<'a>, Name, &'a Ty),
+    Bound(&'a Scope<'a, 't>, Name, Shared<'t>),
+    /// The type of a part that was checked before, which is wanted after this one. It binds no name.
+    Beside(&'a Scope<'a, 't>, Shared<'t>),
 }
 
-impl<'a> Scope<'a> {
-    ghost use Rattle.ame_types.specs.Scope.{scope_of, names_of};
+impl<'a, 't> Scope<'a, 't> {
+    ghost use Rattle.ame_types.specs.Shared.{shared_type, IsListed};
+    ghost use Rattle.ame_types.specs.Scope.{scope_of, names_of, AreListed};
 
-    /// The type of a name in scope. Takes time by the number of bindings within its own.
-    pub fn ty(&self, name: Name) -> &'a Ty
-        requires { IsTrue (is_name_of (names_of self.now) name.0) }
-        ensures { scope_of self.now name.0 ≡ Some (typ_of result.now) }
+    /// The type of a name in scope, which the table has. Takes time by the number of links within its own.
+    pub fn ty(&self, types: &Types<'t>, name: Name) -> Shared<'t>
+        requires bound { IsTrue (is_name_of (names_of self.now) name.0) }
+        requires listed { AreListed types.now.keys.keys self.now }
+        ensures ty { scope_of self.now name.0 ≡ Some (shared_type result) }
+        ensures listed { IsListed types.now.keys.keys result }
     {
         match self {
             Scope::Empty => unreachable!(),
-            Scope::Bound(outer, bound, ty) => { if *bound == name { ty } else { outer.ty(name) } }
+            Scope::Bound(outer, bound, ty) => {
+                if *bound == name {
+                    *ty
+                } else {
+                    outer.ty(types, name)
+                }
+            }
+            Scope::Beside(outer, _) => outer.ty(types, name),
         }
     }
 }

@@ -4,28 +4,30 @@ ghost use Rattle.std.specs.Prelude.{◌≡◌, ◌+◌, ◌≤◌, length, slice
 ghost use Rattle.ame_term.specs.View.{tree_of};
 ghost use Rattle.ame_term.specs.SourceTerm.{nodes};
 
-use ame_term::{Term, Ty};
-use std::alloc::Global;
+use crate::shared::Shared;
+use crate::table::Types;
+use ame_term::Term;
 
 /// What stays the same while a program is checked.
 #[derive(Clone, Copy)]
 pub struct Checker<'a> {
-    pub alloc: Global,
     pub devices: u32,
     pub places: &'a [u32],
 }
 
-/// How far a check has come: the number of the next node in preorder, and the types that were stored.
+/// How far a check has come: the number of the next node in preorder, the types that were stored, and
+/// the table of types.
 #[derive(Drop)]
-pub struct Seen {
+pub struct Seen<'t> {
     pub next: usize,
-    pub ref_tys: Vec<Ty>,
+    pub ref_tys: Vec<Shared<'t>>,
+    pub types: Types<'t>,
 }
 
 impl Checker<'_> {
     /// The place of a term whose first node is the next one.
     #[tactic(auto, using(crate::proofs::Nodes::positive))]
-    pub fn place(&self, seen: &Seen, term: &Term) -> u32
+    pub fn place(&self, seen: &Seen<'_>, term: &Term) -> u32
         requires { seen.now.next + nodes (tree_of term.now) ≤ length self.now.places.now }
         ensures { result ≡ slice_index self.now.places.now seen.now.next }
     {

@@ -11,6 +11,7 @@ ghost use Rattle.ame_types.specs.Checks.{function_tree};
 use crate::fault::{Shown, TypesFail};
 use crate::program::check;
 use crate::scope::Scope;
+use crate::shared::Shared;
 use ame_term::{
     Accepted, Effect, Function, Name, NoMemory, Op, Own, Program, Sort, Term, Ty, Value, boxed,
     push,
@@ -217,19 +218,20 @@ fn leaf(word: &str) -> Term {
 }
 
 /// Whether a name is in scope.
-fn knows(scope: &Scope<'_>, name: Name) -> bool
+fn knows(scope: &Scope<'_, '_>, name: Name) -> bool
     ensures { result ≡ is_name_of (names_of scope.now) name.0 }
 {
     match scope {
         Scope::Empty => false,
         Scope::Bound(outer, bound, _) => *bound == name || knows(outer, name),
+        Scope::Beside(outer, _) => knows(outer, name),
     }
 }
 
 /// The number of nodes of a term, if it is as texts spell terms and its names are in scope.
 #[cycle(count)]
 #[tactic(auto, using(ame_term::proofs::TreesLemmas::tree_of_do), unfolding(ame_term::specs::SourceTerm::nodes, ame_term::specs::SourceTerm::IsSourceTerm, ame_term::specs::SourceTerm::IsBound))]
-fn count(term: &Term, scope: &Scope<'_>) -> Option<usize>
+fn count(term: &Term, scope: &Scope<'_, '_>) -> Option<usize>
     ensures { IfSome result (λ n. (n ≡ nodes (tree_of term.now)) × IsSourceTerm (tree_of term.now) × IsBound (names_of scope.now) (tree_of term.now)) }
 {
     match term {
@@ -238,7 +240,7 @@ fn count(term: &Term, scope: &Scope<'_>) -> Option<usize>
         Term::Var(name) => if knows(scope, *name) { Some(1) } else { None },
         Term::Fun(function) => count_function(function, scope),
         Term::Let(name, bound, body) => {
-            let inner = Scope::Bound(&*scope, *name, &Ty::Unit);
+            let inner = Scope::Bound(&*scope, *name, Shared::Unit);
             sum(count(bound, scope)?, count(body, &inner)?, 0)
         }
         Term::Do(parts) => count_parts(parts, scope),
@@ -273,17 +275,17 @@ fn sum(a: usize, b: usize, c: usize) -> Option<usize>
 
 #[cycle(count)]
 #[tactic(auto, unfolding(ame_term::specs::SourceTerm::nodes, ame_term::specs::SourceTerm::IsSourceTerm, ame_term::specs::SourceTerm::IsBound))]
-fn count_function(function: &Function, scope: &Scope<'_>) -> Option<usize>
+fn count_function(function: &Function, scope: &Scope<'_, '_>) -> Option<usize>
     ensures { IfSome result (λ n. (n ≡ nodes (function_tree function.now)) × IsSourceTerm (function_tree function.now) × IsBound (names_of scope.now) (function_tree function.now)) }
 {
     match &function.own {
         None => {
-            let inner = Scope::Bound(&*scope, function.param, &Ty::Unit);
+            let inner = Scope::Bound(&*scope, function.param, Shared::Unit);
             sum(count(&function.body, &inner)?, 0, 0)
         }
         Some(own) => {
-            let named = Scope::Bound(&*scope, own.name, &Ty::Unit);
-            let inner = Scope::Bound(&named, function.param, &Ty::Unit);
+            let named = Scope::Bound(&*scope, own.name, Shared::Unit);
+            let inner = Scope::Bound(&named, function.param, Shared::Unit);
             sum(count(&function.body, &inner)?, 0, 0)
         }
     }
@@ -291,7 +293,7 @@ fn count_function(function: &Function, scope: &Scope<'_>) -> Option<usize>
 
 #[cycle(count)]
 #[tactic(auto, using(crate::proofs::Counts::parts), unfolding(ame_term::specs::SourceTerm::nodes, ame_term::specs::SourceTerm::IsSourceTerm, ame_term::specs::SourceTerm::IsBound))]
-fn count_parts(parts: &[Term], scope: &Scope<'_>) -> Option<usize>
+fn count_parts(parts: &[Term], scope: &Scope<'_, '_>) -> Option<usize>
     ensures { IfSome result (λ n. (n ≡ nodes (Tree.Do (trees_of parts.now))) × IsSourceTerm (Tree.Do (trees_of parts.now)) × IsBound (names_of scope.now) (Tree.Do (trees_of parts.now))) }
 {
     if parts.len() < 2 {
@@ -302,7 +304,7 @@ fn count_parts(parts: &[Term], scope: &Scope<'_>) -> Option<usize>
 
 #[cycle(count)]
 #[tactic(auto, using(crate::proofs::Counts::parts))]
-fn count_all(parts: &[Term], scope: &Scope<'_>) -> Option<usize>
+fn count_all(parts: &[Term], scope: &Scope<'_, '_>) -> Option<usize>
     ensures { IfSome result (λ n. (n ≡ all_nodes (trees_of parts.now)) × AreSourceTerms (trees_of parts.now) × AllBound (names_of scope.now) (trees_of parts.now)) }
 {
     if parts.is_empty() {
@@ -322,7 +324,7 @@ fn program(alloc: Global, text: &str) -> Result<Option<Program>, Fail> {
         next: 0,
         places: Vec::new(alloc),
     };
-    let term = reader.term(60)?;
+    let term = reader.term(300)?;
     let places = reader.places;
     let names = Vec::new(alloc);
     match count(&term, &Scope::Empty) {
@@ -518,5 +520,32 @@ fn a_fault_shows_what_was_found_and_wanted(rt: HostRuntime) -> Result<(), Fail> 
         None => false,
     };
     assert!(rt; fine);
+    Ok(())
+}
+
+/// A program of nested pairs, each of the one before twice: `let a pair a a let a pair a a ..`, around a body.
+fn doublings(alloc: Global, count: u8, value: &str, body: &str) -> Result<String, Fail> {
+    let mut text = String::new(alloc);
+    text.push_str("let a ")?;
+    text.push_str(value)?;
+    for _ in 0..count {
+        text.push_str(" let a pair a a")?;
+    }
+    text.push_str(" ")?;
+    text.push_str(body)?;
+    Ok(text)
+}
+
+#[test]
+fn pairs_may_double(rt: HostRuntime) -> Result<(), Fail> {
+    let text = doublings(rt.alloc(), 200, "1", "unit")?;
+    assert_eq!(rt; verdict(rt.alloc(), &text, 0)?, (0, 0));
+    Ok(())
+}
+
+#[test]
+fn a_fault_of_a_large_type_wants_memory(rt: HostRuntime) -> Result<(), Fail> {
+    let text = doublings(rt.alloc(), 60, "1", "if true a a")?;
+    assert_eq!(rt; verdict(rt.alloc(), &text, 0)?.0, 10);
     Ok(())
 }

@@ -1,17 +1,18 @@
 //! Forms with one part.
 
 ghost use Rattle.std.specs.Prelude.{◌≡◌, ℕ, ◌++◌, true, Ok, length, map, IfOk, IfErr, OnOk};
-ghost use Rattle.ame_term.specs.View.{typ_of};
 ghost use Rattle.ame_term.specs.Shown.{TypeOutcome};
 ghost use Rattle.ame_term.specs.Typing.{unary_row};
+ghost use Rattle.ame_types.specs.Shared.{shared_type, IsListed, Lengthens};
 ghost use Rattle.ame_types.specs.Fault.{AnswersType, IsFirstFault};
 ghost use Rattle.ame_types.specs.Unary.{stands_under, ref_room, HasRefRoom, filled};
 
 use crate::expect::{expect, first_of, known, peeked, read, second_of, under};
 use crate::fault::TypesFail;
 use crate::rule;
-use ame_term::{Effect, NoMemory, Ty, Unary, boxed, copy_ty, push};
-use std::alloc::Global;
+use crate::shared::Shared;
+use crate::table::Types;
+use ame_term::{Effect, NoMemory, Unary, push};
 
 /// Nothing, if a form may stand under an effect, whatever its part is; else the fault.
 pub fn stand(devices: u32, op: Unary, at: u32, q: Effect) -> Result<(), TypesFail>
@@ -30,39 +31,57 @@ pub fn stand(devices: u32, op: Unary, at: u32, q: Effect) -> Result<(), TypesFai
 }
 
 /// The type of a form, whose part has the type found.
-pub fn unary_ty(
-    alloc: Global,
+pub fn unary_ty<'t>(
+    types: &mut Types<'t>,
     op: Unary,
     at: u32,
     part_at: u32,
     q: Effect,
-    found: Ty,
-) -> Result<Ty, TypesFail>
-    ensures { (devices : ℕ) → stands_under devices op q ≡ true → AnswersType (unary_row devices op at part_at q (Ok (typ_of found))) result }
+    found: Shared<'t>,
+) -> Result<Shared<'t>, TypesFail>
+    requires { IsListed types.old.keys.keys found }
+    ensures ty { (devices : ℕ) → stands_under devices op q ≡ true → AnswersType (unary_row devices op at part_at q (Ok (shared_type found.entry))) result }
+    ensures stays { Lengthens types.old.keys.keys types.new.keys.keys }
+    ensures listed { IfOk result (λ t. IsListed types.new.keys.keys t) }
 {
+    let mismatch = rule::TYPE_MISMATCH;
     match op {
-        Unary::Not => expect(rule::TYPE_MISMATCH, part_at, found, Ty::Bool, Ty::Bool),
-        Unary::Ref(sort) => Ok(Ty::Ref(sort, boxed(alloc, found)?)),
-        Unary::Get => read(at, part_at, q, found),
-        Unary::Peek => peeked(at, part_at, found),
-        Unary::Block => expect(rule::TYPE_MISMATCH, part_at, found, Ty::Bool, Ty::Unit),
-        Unary::Print => expect(rule::TYPE_MISMATCH, part_at, found, Ty::Int, Ty::Unit),
-        Unary::Call(_) => expect(rule::TYPE_MISMATCH, part_at, found, Ty::Int, Ty::Int),
-        Unary::First => first_of(part_at, found),
-        Unary::Second => second_of(part_at, found),
+        Unary::Not => expect(
+            types,
+            mismatch,
+            part_at,
+            &found,
+            &Shared::Bool,
+            Shared::Bool,
+        ),
+        Unary::Ref(sort) => Ok(types.reference(sort, found)?),
+        Unary::Get => read(types, at, part_at, q, found),
+        Unary::Peek => peeked(types, at, part_at, found),
+        Unary::Block => expect(
+            types,
+            mismatch,
+            part_at,
+            &found,
+            &Shared::Bool,
+            Shared::Unit,
+        ),
+        Unary::Print => expect(types, mismatch, part_at, &found, &Shared::Int, Shared::Unit),
+        Unary::Call(_) => expect(types, mismatch, part_at, &found, &Shared::Int, Shared::Int),
+        Unary::First => first_of(types, part_at, found),
+        Unary::Second => second_of(types, part_at, found),
     }
 }
 
 /// Makes room at the end for the type that a `ref` form stores, and tells the number of the end. Other
 /// forms store none.
-pub fn reserve(tys: &mut Vec<Ty>, op: Unary) -> Result<usize, NoMemory>
-    ensures number { IfOk result (λ n. n ≡ length (map typ_of tys.old.items)) }
-    ensures room { IfOk result (λ n. map typ_of tys.new.items ≡ map typ_of tys.old.items ++ ref_room op) }
+pub fn reserve(tys: &mut Vec<Shared<'_>>, op: Unary) -> Result<usize, NoMemory>
+    ensures number { IfOk result (λ n. n ≡ length (map shared_type tys.old.items)) }
+    ensures room { IfOk result (λ n. map shared_type tys.new.items ≡ map shared_type tys.old.items ++ ref_room op) }
 {
     let number = tys.len();
     match op {
         Unary::Ref(_) => {
-            push(tys, Ty::Unit)?;
+            push(tys, Shared::Unit)?;
             Ok(number)
         }
         _ => Ok(number),
@@ -71,18 +90,11 @@ pub fn reserve(tys: &mut Vec<Ty>, op: Unary) -> Result<usize, NoMemory>
 
 /// Puts the type of the part in the room of a `ref` form.
 #[tactic(auto, using(crate::proofs::UnaryLemmas::lists))]
-pub fn fill(
-    alloc: Global,
-    tys: &mut Vec<Ty>,
-    op: Unary,
-    number: usize,
-    part: &Ty,
-) -> Result<(), NoMemory>
-    requires { HasRefRoom op (map typ_of tys.old.items) number }
-    ensures { OnOk result (map typ_of tys.new.items ≡ filled op (map typ_of tys.old.items) number (typ_of part.now)) }
+pub fn fill<'t>(tys: &mut Vec<Shared<'t>>, op: Unary, number: usize, part: Shared<'t>)
+    requires { HasRefRoom op (map shared_type tys.old.items) number }
+    ensures { map shared_type tys.new.items ≡ filled op (map shared_type tys.old.items) number (shared_type part.entry) }
 {
     if let Unary::Ref(_) = op {
-        tys[number] = copy_ty(alloc, part)?;
+        tys[number] = part;
     }
-    Ok(())
 }

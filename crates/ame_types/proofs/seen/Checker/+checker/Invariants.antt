@@ -1,8 +1,9 @@
 -- A form's function is called by `term`, and calls it with the form's parts.
 use Rattle.std.proofs.Common.{◌+◌, ◌*◌, length, map, slice_index}
-use Rattle.ame_term.specs.View.{typ_of, tree_of, trees_of}
+use Rattle.ame_term.specs.View.{tree_of, trees_of}
 use Rattle.ame_term.specs.SourceTerm.{nodes, all_nodes}
-use Rattle.ame_types.specs.Scope.{scope_of, names_of}
+use Rattle.ame_types.specs.Shared.{shared_type}
+use Rattle.ame_types.specs.Scope.{scope_of, names_of, AreListed}
 use Rattle.ame_types.proofs.Parts.{Left}
 use Rattle.ame_types.proofs.seen.Checker.+checker.Given as goal
 
@@ -49,9 +50,12 @@ abbrev pub decreases-pair : goal.decreases-pair
 decreases-pair l = 4 * (nodes (tree_of l.first.now) + nodes (tree_of l.second.now)) + 1
 
 abbrev pub invariant-sequence-loop-rest : goal.invariant-sequence-loop-rest
-invariant-sequence-loop-rest l =
-    Left l.self.devices (slice_index l.self.places.now) (scope_of l.scope) (names_of l.scope) l.q
-    (l.fn.seen.next + 1) (map typ_of l.fn.seen.ref_tys.items) l.parts l.seen.next (map typ_of l.seen.ref_tys.items) l.rest
+invariant-sequence-loop-rest l = record {
+  walk :
+      Left l.self.devices (slice_index l.self.places.now) (scope_of l.scope) (names_of l.scope) l.q
+      (l.fn.seen.next + 1) (map shared_type l.fn.seen.ref_tys.items) l.parts l.seen.next (map shared_type l.seen.ref_tys.items) l.rest;
+  listed : AreListed l.seen.types.keys.keys l.scope;
+}
 
 abbrev pub decreases-sequence-loop-rest : goal.decreases-sequence-loop-rest
 decreases-sequence-loop-rest l = length l.rest

@@ -1,0 +1,11 @@
+pub mod CellLemmas
+pub mod OthersLemmas
+pub mod PlaceLemmas
+pub mod OwnLemmas
+pub mod ValidLemmas
+pub mod EventLemmas
+pub mod ReachLemmas
+pub mod TypedRunLemmas
+pub mod ScopedLemmas
+pub mod CommitLemmas
+pub mod WaitingLemmas

@@ -1,0 +1,34 @@
+//! What a row owes: what the run of a seat was given, and what is to be undone, by the cells as they are.
+//! Each law is the contract of a function that does nothing: a caller that wants a law calls its function.
+#![tactic(auto)]
+
+mod events;
+mod others;
+mod own;
+mod scoped;
+mod typed;
+mod undos;
+mod valid;
+mod waiting;
+
+pub use events::{
+    allocations_are_framed, births_are_framed, commits_are_framed, puts_are_framed,
+    undos_are_framed, writes_are_framed,
+};
+pub use others::{rows_stand_after_others, valid_reads_were_given_what_is_committed};
+pub use own::{
+    rows_begin, rows_stand_after_allocations, rows_stand_after_first_writes,
+    rows_stand_after_later_writes, rows_stand_after_outside_reads, rows_stand_after_own_reads,
+};
+pub use scoped::{
+    commits_keep_states_typed, scoped_rows_begin, scoped_rows_stand_after_allocations,
+    scoped_rows_stand_after_others, scoped_rows_stand_after_reads, scoped_rows_stand_after_writes,
+    valid_rows_own_what_they_reach,
+};
+pub use typed::{cells_stay_typed, reads_are_typed, writes_are_typed};
+pub use undos::undo_logs_stand_after_an_undo;
+pub use valid::{commits_settle, valid_rows_agree, valid_rows_are_told};
+pub use waiting::{
+    failed_rows_wait, waiting_runs_are_told, waiting_runs_need_no_seat,
+    waiting_runs_stand_after_an_undo, waiting_runs_stand_after_others,
+};

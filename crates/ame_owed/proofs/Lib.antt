@@ -9,3 +9,4 @@ pub mod TypedRunLemmas
 pub mod ScopedLemmas
 pub mod CommitLemmas
 pub mod WaitingLemmas
+pub mod SettledLemmas

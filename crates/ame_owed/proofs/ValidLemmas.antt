@@ -81,3 +81,11 @@ module _ (old new : Heap) (seat : ℕ) (reads : List ReadNote) (s t : State) (i 
           ⊎ ((IsOwnedBy seat (cell_at old l) → ⊥) × (cell_at new l ≡ cell_at old l) × (new.committed l ≡ old.committed l)) → new.committed l ≡ Some (cell_at new l).value
       free_at l live free (inl x) = x.4 ∙ ap Some (sym x.3 ∙ sym (ap (λ (z : Cell Val). z.value) x.2))
       free_at l live free (inr x) = x.2 ∙ c.free l (subst IsLive x.1 live) (subst IsFree x.1 free) ∙ ap (λ (z : Cell Val). Some z.value) (sym x.1)
+
+  pub others-settled : (l : ℕ) → (IsOwnedBy seat (cell_at old l) → ⊥) → new.committed l ≡ old.committed l
+  others-settled l apart = by (settled l)
+    where
+      by : ((v : Val) × IsOwnedBy seat (cell_at old l) × (cell_at new l ≡ released (cell_at old l)) × ((cell_at old l).value ≡ v) × (new.committed l ≡ Some v))
+          ⊎ ((IsOwnedBy seat (cell_at old l) → ⊥) × (cell_at new l ≡ cell_at old l) × (new.committed l ≡ old.committed l)) → new.committed l ≡ old.committed l
+      by (inl x) = absurd (apart x.1)
+      by (inr x) = x.2

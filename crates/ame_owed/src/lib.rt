@@ -2,6 +2,7 @@
 //! Each law is the contract of a function that does nothing: a caller that wants a law calls its function.
 #![tactic(auto)]
 
+mod committed;
 mod events;
 mod others;
 mod own;
@@ -11,6 +12,10 @@ mod undos;
 mod valid;
 mod waiting;
 
+pub use committed::{
+    what_is_committed_stands_after_allocations, what_is_committed_stands_after_puts,
+    what_is_committed_stands_after_undos, what_is_committed_stands_after_writes,
+};
 pub use events::{
     allocations_are_framed, births_are_framed, commits_are_framed, puts_are_framed,
     undos_are_framed, writes_are_framed,
@@ -26,7 +31,7 @@ pub use scoped::{
     valid_rows_own_what_they_reach,
 };
 pub use typed::{cells_stay_typed, reads_are_typed, writes_are_typed};
-pub use undos::undo_logs_stand_after_an_undo;
+pub use undos::{seats_without_undos_own_nothing, undo_logs_stand_after_an_undo};
 pub use valid::{commits_settle, valid_rows_agree, valid_rows_are_told};
 pub use waiting::{
     failed_rows_wait, waiting_runs_are_told, waiting_runs_need_no_seat,

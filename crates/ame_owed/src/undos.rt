@@ -5,7 +5,7 @@ ghost use Rattle.ame_term.specs.Tree.{Val};
 ghost use Rattle.ame_store.specs.declared.cell.Cell.{Cell};
 ghost use Rattle.ame_store.specs.Cells.{IsOwnedBy};
 ghost use Rattle.ame_rows.specs.declared.notes.Undo.{Undo};
-ghost use Rattle.ame_owed.specs.Heap.{Heap};
+ghost use Rattle.ame_owed.specs.Heap.{Heap, cell_at};
 ghost use Rattle.ame_owed.specs.UndoLog.{undo_place, IsUndoLog};
 ghost use Rattle.ame_owed.specs.Changed.{BecomesAt, KeepsCommitted};
 
@@ -14,4 +14,9 @@ pub fn undo_logs_stand_after_an_undo()
     ensures { (old new : Heap) (seat : ℕ) (undos : List (Undo Val)) (undo : Undo Val) (cell : Cell Val)
         → IsUndoLog old seat (undos ++ undo ∷ []) → BecomesAt old new (undo_place undo) cell → (IsOwnedBy seat cell → ⊥)
         → KeepsCommitted old new → IsUndoLog new seat undos }
+{}
+
+/// A seat that has nothing to undo owns nothing.
+pub fn seats_without_undos_own_nothing()
+    ensures { (heap : Heap) (seat : ℕ) → IsUndoLog heap seat [] → (l : ℕ) → IsOwnedBy seat (cell_at heap l) → ⊥ }
 {}

@@ -7,11 +7,12 @@ ghost use Rattle.ame_term.specs.Maps.{at};
 ghost use Rattle.ame_term.specs.State.{State};
 ghost use Rattle.ame_journal.specs.declared.entry.Entry.{Entry};
 ghost use Rattle.ame_journal.specs.Replayed.{Replayed, side_at};
+ghost use Rattle.ame_store.specs.Cells.{IsOwnedBy};
 ghost use Rattle.ame_rows.specs.declared.notes.ReadNote.{ReadNote};
 ghost use Rattle.ame_local.specs.Local.{LocalState};
 ghost use Rattle.ame_local.specs.AgreesWith.{AgreesWith, IsAfterRun};
 ghost use Rattle.ame_local.specs.Told.{TellsRun};
-ghost use Rattle.ame_owed.specs.Heap.{Heap, IsCommitted, ShowsStore};
+ghost use Rattle.ame_owed.specs.Heap.{Heap, cell_at, IsCommitted, ShowsStore};
 ghost use Rattle.ame_owed.specs.SeatRun.{SeatRun, HasUsed, AreValid};
 ghost use Rattle.ame_owed.specs.Given.{IsGiven, IsGivenThroughout};
 ghost use Rattle.ame_owed.specs.Changed.{ReleasesAll};
@@ -31,9 +32,14 @@ pub fn valid_rows_are_told()
         → entry.fresh ≡ p.fresh → entry.answer ≡ p.answer → TellsRun r entry Side.Protected n p }
 {}
 
-/// After a commit, which releases all that the seat owns, the cells show the store after the run.
+/// After a commit, which releases all that the seat owns, the cells show the store after the run. At a location
+/// that the seat doesn't own what is committed stays.
 pub fn commits_settle()
-    ensures { (old new : Heap) (seat : ℕ) (reads : List ReadNote) (s t : State) (i : ℕ) (p : LocalState)
+    ensures committed { (old new : Heap) (seat : ℕ) (reads : List ReadNote) (s t : State) (i : ℕ) (p : LocalState)
         → IsCommitted old → ShowsStore old s.store → IsGiven old seat reads p → IsAfterRun s i p t
         → ReleasesAll seat old new → ShowsStore new t.store → IsCommitted new }
+    ensures others { (old new : Heap) (seat : ℕ) (reads : List ReadNote) (s t : State) (i : ℕ) (p : LocalState)
+        → IsCommitted old → ShowsStore old s.store → IsGiven old seat reads p → IsAfterRun s i p t
+        → ReleasesAll seat old new → ShowsStore new t.store
+        → (l : ℕ) → (IsOwnedBy seat (cell_at old l) → ⊥) → new.committed l ≡ old.committed l }
 {}

@@ -10,3 +10,5 @@ pub mod ScopedLemmas
 pub mod CommitLemmas
 pub mod WaitingLemmas
 pub mod SettledLemmas
+pub mod ShownLemmas
+pub mod TryLemmas

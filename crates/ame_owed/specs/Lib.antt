@@ -9,3 +9,5 @@ pub mod Own
 pub mod TypedHeap
 pub mod Scoped
 pub mod Waiting
+pub mod Shown
+pub mod Tries

@@ -7,6 +7,8 @@ mod events;
 mod others;
 mod own;
 mod scoped;
+mod shown;
+mod tries;
 mod typed;
 mod undos;
 mod valid;
@@ -30,6 +32,8 @@ pub use scoped::{
     scoped_rows_stand_after_others, scoped_rows_stand_after_reads, scoped_rows_stand_after_writes,
     valid_rows_own_what_they_reach,
 };
+pub use shown::{shown_cells_are_found, shown_cells_change_alike, shown_reads_are_valid_alike};
+pub use tries::{sound_tries_stand, tries_begin, valid_rows_are_sound_tries};
 pub use typed::{cells_stay_typed, reads_are_typed, writes_are_typed};
 pub use undos::{seats_without_undos_own_nothing, undo_logs_stand_after_an_undo};
 pub use valid::{commits_settle, valid_rows_agree, valid_rows_are_told};

@@ -23,6 +23,7 @@ settled-one old new l cell c b k dead free = record {
     dead_at : (m : ℕ) → IsDead (cell_at new m) → ((m ≡ l) × (cell_at new m ≡ cell)) ⊎ (((m ≡ l) → ⊥) × (cell_at new m ≡ cell_at old m)) → new.committed m ≡ None
     dead_at m is (inl s) = ap new.committed s.0 ∙ dead (subst IsDead s.1 is)
     dead_at m is (inr s) = k m s.0 ∙ c.dead m (subst IsDead s.1 is)
+
     free_at : (m : ℕ) → IsLive (cell_at new m) → IsFree (cell_at new m) → ((m ≡ l) × (cell_at new m ≡ cell)) ⊎ (((m ≡ l) → ⊥) × (cell_at new m ≡ cell_at old m))
         → new.committed m ≡ Some (cell_at new m).value
     free_at m live is (inl s) =

@@ -102,6 +102,7 @@ module _ {V : Type 0} (view : V → Val) where
         own_at [] l its = cc
         own_at (c ∷ xs) zero its = ap (shown_cell view) (own c its)
         own_at (c ∷ xs) (suc l) its = own_at xs l its
+
         other_at : (xs : List (Cell V)) (l : ℕ) → (IsOwnedBy seat (get_or (show xs) l no_cell) → ⊥) → get_or (show (map change xs)) l no_cell ≡ get_or (show xs) l no_cell
         other_at [] l not_its = refl
         other_at (c ∷ xs) zero not_its = ap (shown_cell view) (other c not_its)

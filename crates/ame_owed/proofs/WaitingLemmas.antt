@@ -213,3 +213,15 @@ waiting-told heap seat watched run r entry n p c shows h idle stands member fres
   fresh = fresh;
   answer = answer;
 }
+
+pub not-written : (heap : Heap) (seat : ℕ) (watched : List ℕ) (run : SeatRun) (n : ℕ) (p : LocalState) (l : ℕ) → IsWaiting heap seat watched run n p
+    → (cell_at heap l).sort ≡ Sort.Unprotected → Contains watched l → ⊥
+not-written heap seat watched run n p l h sort there =
+    let its = All-contains (λ m. IsCell heap m × ((cell_at heap m).sort ≡ Sort.Protected)) watched l h.sorts there in
+    let clash : Sort.Protected ≡ Sort.Unprotected = sym its.1 ∙ sort in
+    cc
+
+pub not-born : (heap : Heap) (seat : ℕ) (watched : List ℕ) (run : SeatRun) (n : ℕ) (p : LocalState) (l : ℕ) → IsWaiting heap seat watched run n p
+    → (IsCell heap l → ⊥) → Contains watched l → ⊥
+not-born heap seat watched run n p l h none there =
+    none (All-contains (λ m. IsCell heap m × ((cell_at heap m).sort ≡ Sort.Protected)) watched l h.sorts there).0

@@ -1,5 +1,5 @@
 -- Typing by the types of all cells, live or not, whoever owns them: what no read can break, be it valid or not.
-use Rattle.std.specs.Prelude.{◌≡◌, ℕ, Some, All}
+use Rattle.std.specs.Prelude.{◌≡◌, ◌==◌, ℕ, Some, All, if◌then◌else◌}
 use Rattle.ame_term.specs.Tree.{Typ, Val}
 use Rattle.ame_term.specs.Frame.{Side}
 use Rattle.ame_term.specs.declared.types.Sort.{Sort}
@@ -11,6 +11,10 @@ use Rattle.ame_rows.specs.declared.notes.Undo.TheVariants.{Wrote, Made}
 use Rattle.ame_local.specs.Fit.{IsTypedThroughout}
 use Rattle.ame_owed.specs.Heap.{Heap, cell_at, IsCell}
 use Rattle.ame_owed.specs.SeatRun.{SeatRun}
+
+-- the types of locations, with one more
+abbrev pub types_with : ℕ → Sort × Typ → StoreTyping → StoreTyping
+types_with l cell types m = if m == l then Some cell else types m
 
 module _ (devices : ℕ) (types : StoreTyping) where
   -- each cell has a type of its sort, and what is in place there is of it; no other location has a type

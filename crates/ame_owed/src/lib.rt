@@ -22,7 +22,9 @@ pub use events::{
     allocations_are_framed, births_are_framed, commits_are_framed, puts_are_framed,
     undos_are_framed, writes_are_framed,
 };
-pub use others::{rows_stand_after_others, valid_reads_were_given_what_is_committed};
+pub use others::{
+    rows_stand_after_others, undo_logs_stand_after_others, valid_reads_were_given_what_is_committed,
+};
 pub use own::{
     rows_begin, rows_stand_after_allocations, rows_stand_after_first_writes,
     rows_stand_after_later_writes, rows_stand_after_outside_reads, rows_stand_after_own_reads,
@@ -34,10 +36,13 @@ pub use scoped::{
 };
 pub use shown::{shown_cells_are_found, shown_cells_change_alike, shown_reads_are_valid_alike};
 pub use tries::{sound_tries_stand, tries_begin, valid_rows_are_sound_tries};
-pub use typed::{cells_stay_typed, reads_are_typed, writes_are_typed};
+pub use typed::{
+    allocations_are_typed, cells_stay_typed, new_cells_are_typed, reads_are_typed,
+    typed_rows_stand, writes_are_typed,
+};
 pub use undos::{seats_without_undos_own_nothing, undo_logs_stand_after_an_undo};
 pub use valid::{commits_settle, valid_rows_agree, valid_rows_are_told};
 pub use waiting::{
-    failed_rows_wait, waiting_runs_are_told, waiting_runs_need_no_seat,
-    waiting_runs_stand_after_an_undo, waiting_runs_stand_after_others,
+    failed_rows_wait, unprotected_code_wakes_nobody, waiting_runs_are_told,
+    waiting_runs_need_no_seat, waiting_runs_stand_after_an_undo, waiting_runs_stand_after_others,
 };

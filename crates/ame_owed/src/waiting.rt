@@ -5,6 +5,7 @@ ghost use Rattle.ame_term.specs.Tree.{Val};
 ghost use Rattle.ame_term.specs.Frame.{Side};
 ghost use Rattle.ame_term.specs.Context.{focus};
 ghost use Rattle.ame_term.specs.Maps.{at};
+ghost use Rattle.ame_term.specs.declared.types.Sort.{Sort};
 ghost use Rattle.ame_journal.specs.declared.entry.Entry.{Entry};
 ghost use Rattle.ame_journal.specs.Replayed.{Replayed, side_at, is_false_condition};
 ghost use Rattle.ame_soundness.specs.StoreTyping.{StoreTyping};
@@ -12,7 +13,7 @@ ghost use Rattle.ame_store.specs.declared.cell.Cell.{Cell};
 ghost use Rattle.ame_store.specs.Cells.{IsOwnedBy};
 ghost use Rattle.ame_local.specs.Local.{LocalState};
 ghost use Rattle.ame_local.specs.Told.{TellsRun};
-ghost use Rattle.ame_owed.specs.Heap.{Heap, cell_at, IsCommitted, ShowsStore};
+ghost use Rattle.ame_owed.specs.Heap.{Heap, cell_at, IsCell, IsCommitted, ShowsStore};
 ghost use Rattle.ame_owed.specs.SeatRun.{SeatRun, HasUsed, AreValid};
 ghost use Rattle.ame_owed.specs.Owes.{Owes};
 ghost use Rattle.ame_owed.specs.Framed.{IsFramed};
@@ -46,6 +47,14 @@ pub fn waiting_runs_stand_after_an_undo()
 pub fn waiting_runs_need_no_seat()
     ensures { (heap : Heap) (seat other : ℕ) (watched : List ℕ) (run : SeatRun) (n : ℕ) (p : LocalState)
         → ((l : ℕ) → IsOwnedBy seat (cell_at heap l) → ⊥) → IsWaiting heap seat watched run n p → IsWaiting heap other watched run n p }
+{}
+
+/// What unprotected code writes, or makes, is not watched.
+pub fn unprotected_code_wakes_nobody()
+    ensures writes { (heap : Heap) (seat : ℕ) (watched : List ℕ) (run : SeatRun) (n : ℕ) (p : LocalState) (l : ℕ)
+        → IsWaiting heap seat watched run n p → (cell_at heap l).sort ≡ Sort.Unprotected → Contains watched l → ⊥ }
+    ensures births { (heap : Heap) (seat : ℕ) (watched : List ℕ) (run : SeatRun) (n : ℕ) (p : LocalState) (l : ℕ)
+        → IsWaiting heap seat watched run n p → (IsCell heap l → ⊥) → Contains watched l → ⊥ }
 {}
 
 /// As long as it waits, an entry tells it in the replayed state: its certificate holds there.

@@ -1,27 +1,33 @@
--- The state after a commit is typed by what is live.
-use Rattle.std.proofs.Common.{◌≡◌, ℕ, ◌+◌, ◌⊎◌, inl, inr, List, [], ◌∷◌, Option, Some, None, refl, sym, ap, ◌∙◌, subst}
+-- The state after a run, and after a commit.
+use Rattle.std.proofs.Common.{◌≡◌, ℕ, ◌+◌, ◌<◌, ◌⊎◌, inl, inr, List, [], ◌∷◌, length, Option, Some, None, refl, sym, ap, ◌∙◌, subst, arith}
 use Rattle.std.specs.Option.{ForSome}
 use Rattle.std.specs.List.{AllByRecursion}
 use Rattle.std.specs.List.Sorted.{IsStrictlySortedBy}
 use Rattle.ame_term.specs.Tree.{Typ, Val, Tree}
 use Rattle.ame_term.specs.Maps.{at, put}
 use Rattle.ame_term.specs.State.{State}
-use Rattle.ame_term.specs.declared.types.Effect.{Effect}
+use Rattle.ame_term.specs.declared.types.Sort.{Sort}
 use Rattle.ame_laws.specs.Orderly.{NumbersRise}
-use Rattle.ame_laws.proofs.MapLemmas.{is_at-here, is_at-apart, at-below_all, Each, each-at, each-put, each-map}
+use Rattle.ame_laws.proofs.MapLemmas.{is_at-here, is_at-apart, at-below_all, Each, each-at, each-put}
 use Rattle.ame_journal.specs.Replay.{or_else}
 use Rattle.ame_soundness.specs.StoreTyping.{StoreTyping, Grows}
-use Rattle.ame_soundness.specs.TypedState.{IsStored, IsMember}
+use Rattle.ame_soundness.specs.Fragment.{IsValueOf}
+use Rattle.ame_soundness.specs.TypedState.{IsStored, IsMember, IsTypedBy}
+use Rattle.ame_soundness.proofs.Preserved.{grown}
 use Rattle.ame_store.specs.declared.cell.Cell.{Cell}
 use Rattle.ame_store.specs.Cells.{IsOwnedBy, IsFree}
+use Rattle.ame_store.specs.Changes.{released}
 use Rattle.ame_local.specs.Local.{LocalState}
 use Rattle.ame_local.specs.AgreesWith.{IsAfterRun, with_members}
 use Rattle.ame_local.specs.Fit.{IsTypedPlace}
-use Rattle.ame_owed.specs.Heap.{Heap, cell_at, IsLive}
+use Rattle.ame_owed.specs.Heap.{Heap, cell_at, IsCell, IsLive}
+use Rattle.ame_owed.specs.Framed.{IsFramed}
 use Rattle.ame_owed.specs.Changed.{ReleasesAll}
+use Rattle.ame_owed.specs.TypedHeap.{IsTypedHeap}
 use Rattle.ame_owed.specs.Scoped.{reaches, live_types, reached_types, IsTypedNow}
 use Rattle.ame_owed.proofs.CellLemmas.{which, free_or_owned, free-apart, other-apart}
-use Rattle.ame_owed.proofs.ReachLemmas.{Reached, reach-of, where-grows, stored-grown, fragment-grown}
+use Rattle.ame_owed.proofs.ReachLemmas.{Reached, reach-of, where-grows, place-grown}
+use Rattle.ame_owed.proofs.ScopedLemmas.{still-lives}
 
 -- what holds of each entry that is found holds of all, where numbers rise
 each-from : {X : Type 0} (P : X → Type 0) (es : List (ℕ × X)) → NumbersRise es → ((k : ℕ) (x : X) → at es k ≡ Some x → P x) → Each P es
@@ -42,9 +48,31 @@ each-with P members next [] all new = all
 each-with P members next (body ∷ bodies) all new =
     each-with P (put members next body) (next + 1) bodies (each-put P members next body new.0 all) new.1
 
+-- a state after a run is typed by what types the state before, the place and the member
+module _ (devices : ℕ) (cells : StoreTyping) (s t : State) (i : ℕ) (p : LocalState) (typed : IsTypedBy devices cells s) (place : IsTypedPlace devices cells Typ.Unit p) (h : IsAfterRun s i p t)
+    (member : ForSome (at t.members i) (IsMember devices cells)) where
+  stored_at : (l : ℕ) (v : Val) (o : Option Val) → at p.sets l ≡ o → or_else o (at s.store l) ≡ Some v → IsStored devices cells l v
+  stored_at l v None is e = typed.stored l v e
+  stored_at l v (Some w) is e = place.stored l v (is ∙ e)
+
+  others : Each (IsMember devices cells) (with_members s.members s.next p.spawns)
+  others = each-with (IsMember devices cells) s.members s.next p.spawns typed.members place.members
+
+  member_at : (k : ℕ) (term : Tree) → at t.members k ≡ Some term → (k ≡ i) ⊎ ((k ≡ i) → ⊥) → IsMember devices cells term
+  member_at k term found (inl same) = member term (ap (at t.members) (sym same) ∙ found)
+  member_at k term found (inr apart) =
+      each-at (IsMember devices cells) (with_members s.members s.next p.spawns) k term (sym (h.others k apart) ∙ found) others
+
+  pub typed-run : NumbersRise t.members → t.active ≡ None → IsTypedBy devices cells t
+  typed-run rise idle = record {
+    stored = λ l v e. stored_at l v (at p.sets l) refl (sym (h.stored l) ∙ e);
+    members = each-from (IsMember devices cells) t.members rise (λ k term found. member_at k term found (which k i));
+    present = λ j active. absurd (let clash : ◌≡◌ {A = Option ℕ} None (Some j) = sym idle ∙ active in cc);
+  }
+
 module _ (devices : ℕ) (types : StoreTyping) (old new : Heap) (seat : ℕ) (releases : ReleasesAll seat old new) where
   -- what was live or the seat's own is live
-  owner-cases : (l : ℕ) → IsOwnedBy seat (cell_at old l) ⊎ (IsOwnedBy seat (cell_at old l) → ⊥)
+  pub owner-cases : (l : ℕ) → IsOwnedBy seat (cell_at old l) ⊎ (IsOwnedBy seat (cell_at old l) → ⊥)
   owner-cases l = by (free_or_owned (cell_at old l))
     where
       its : (owner : ℕ) → IsOwnedBy owner (cell_at old l) → (owner ≡ seat) ⊎ ((owner ≡ seat) → ⊥) → IsOwnedBy seat (cell_at old l) ⊎ (IsOwnedBy seat (cell_at old l) → ⊥)
@@ -78,35 +106,38 @@ module _ (devices : ℕ) (types : StoreTyping) (old new : Heap) (seat : ℕ) (re
 
   pub typed-after : (s t : State) (i : ℕ) (p : LocalState) → IsTypedNow devices types old s → IsTypedPlace devices (reached_types old seat types) Typ.Unit p → IsAfterRun s i p t
       → NumbersRise t.members → t.active ≡ None → ForSome (at t.members i) (λ term. term ≡ p.term) → IsTypedNow devices types new t
-  typed-after s t i p typed place h rise idle member = record {
-    stored = λ l v e. stored_at l v (at p.sets l) refl (sym (h.stored l) ∙ e);
-    members = each-from (IsMember devices (live_types new types)) t.members rise (λ k term found. member_at k term found (which k i));
-    present = λ j active. absurd (let clash : ◌≡◌ {A = Option ℕ} None (Some j) = sym idle ∙ active in cc);
-  }
-    where
-      stored_at : (l : ℕ) (v : Val) (o : Option Val) → at p.sets l ≡ o → or_else (at p.sets l) (at s.store l) ≡ Some v → IsStored devices (live_types new types) l v
-      stored_at l v None is e =
-          stored-grown devices (live_types old types) (live_types new types) live-grows l v
-          (typed.stored l v (sym (ap (λ (o : Option Val). or_else o (at s.store l)) is) ∙ e))
-      stored_at l v (Some w) is e =
-          stored-grown devices (reached_types old seat types) (live_types new types) reached-live l v
-          (place.stored l v (is ∙ sym (ap (λ (o : Option Val). or_else o (at s.store l)) is) ∙ e))
+  typed-after s t i p typed place h rise idle member =
+      let there = place-grown devices (reached_types old seat types) (live_types new types) reached-live Typ.Unit p place in
+      typed-run devices (live_types new types) s t i p (grown devices (live_types old types) (live_types new types) s live-grows typed) there h
+      (λ term found. subst (IsMember devices (live_types new types)) (sym (member term found)) there.fragment) rise idle
 
-      others : Each (IsMember devices (live_types new types)) (with_members s.members s.next p.spawns)
-      others =
-          each-with (IsMember devices (live_types new types)) s.members s.next p.spawns
-          (each-map (IsMember devices (live_types old types)) (IsMember devices (live_types new types))
-          (λ term m. fragment-grown devices (live_types old types) (live_types new types) live-grows Effect.Protected term Typ.Unit m) s.members typed.members)
-          (bodies p.spawns place.members)
-        where
-          bodies : (xs : List Tree) → AllByRecursion (IsMember devices (reached_types old seat types)) xs → AllByRecursion (IsMember devices (live_types new types)) xs
-          bodies [] all = tt
-          bodies (x ∷ xs) all =
-              (fragment-grown devices (reached_types old seat types) (live_types new types) reached-live Effect.Protected x Typ.Unit all.0, bodies xs all.1)
+-- events that keep what lives keep a state typed
+pub typed-still : (devices : ℕ) (types later : StoreTyping) (seat : ℕ) (old new : Heap) (s : State) → Grows types later → IsFramed seat old new
+    → IsTypedNow devices types old s → IsTypedNow devices later new s
+typed-still devices types later seat old new s grows f typed =
+    grown devices (live_types old types) (live_types new later) s
+    (where-grows (λ l. (cell_at old l).live) (λ l. (cell_at new l).live) types later grows (λ l live. still-lives seat old new f l live)) typed
 
-      member_at : (k : ℕ) (term : Tree) → at t.members k ≡ Some term → (k ≡ i) ⊎ ((k ≡ i) → ⊥) → IsMember devices (live_types new types) term
-      member_at k term found (inl same) =
-          subst (IsMember devices (live_types new types)) (sym (member term (ap (at t.members) (sym same) ∙ found)))
-          (fragment-grown devices (reached_types old seat types) (live_types new types) reached-live Effect.Protected p.term Typ.Unit place.fragment)
-      member_at k term found (inr apart) =
-          each-at (IsMember devices (live_types new types)) (with_members s.members s.next p.spawns) k term (sym (h.others k apart) ∙ found) others
+-- released cells keep their sort and what is in place
+pub heap-released : (devices : ℕ) (types : StoreTyping) (old new : Heap) (seat : ℕ) → IsTypedHeap devices types old → ReleasesAll seat old new → length new.cells ≡ length old.cells
+    → IsTypedHeap devices types new
+heap-released devices types old new seat h releases count = record {
+  typed = λ l there. by l (narrow l there) (owner-cases devices types old new seat releases l);
+  located = λ l c e. wide l (h.located l c e);
+}
+  where
+    narrow : (m : ℕ) → IsCell new m → IsCell old m
+    narrow m there = let t : m < length new.cells = there in omega (arith, count)
+    wide : (m : ℕ) → IsCell old m → IsCell new m
+    wide m there = let t : m < length old.cells = there in omega (arith, count)
+    moved : (l : ℕ) (cell : Cell Val) → cell_at new l ≡ cell → cell.sort ≡ (cell_at old l).sort → cell.value ≡ (cell_at old l).value → IsCell old l
+        → (content : Typ) × (types l ≡ Some ((cell_at new l).sort, content)) × IsValueOf devices types (cell_at new l).value content
+    moved l cell same sort value there =
+        let was = h.typed l there in
+        (was.0,
+        was.1 ∙ ap (λ (x : Sort). Some (x, was.0)) (sym (ap (λ (c : Cell Val). c.sort) same ∙ sort)),
+        subst (λ (v : Val). IsValueOf devices types v was.0) (sym (ap (λ (c : Cell Val). c.value) same ∙ value)) was.2)
+    by : (l : ℕ) → IsCell old l → IsOwnedBy seat (cell_at old l) ⊎ (IsOwnedBy seat (cell_at old l) → ⊥)
+        → (content : Typ) × (types l ≡ Some ((cell_at new l).sort, content)) × IsValueOf devices types (cell_at new l).value content
+    by l there (inl own) = moved l (released (cell_at old l)) (releases.own l own) refl refl there
+    by l there (inr apart) = moved l (cell_at old l) (releases.others l apart) refl refl there

@@ -44,13 +44,17 @@ use Rattle.ame_owed.proofs.ReachLemmas.{Reached, reach-of, of-reach, where-of, o
 
 -- Others
 
-reached-kept : (seat : ℕ) (old new : Heap) (f : IsFramed seat old new) (l : ℕ) → Reached seat (cell_at old l) → Reached seat (cell_at new l)
-reached-kept seat old new f l (inl live) = by (f.places l)
+-- what was live is live
+pub still-lives : (seat : ℕ) (old new : Heap) (f : IsFramed seat old new) (l : ℕ) → IsLive (cell_at old l) → IsLive (cell_at new l)
+still-lives seat old new f l live = by (f.places l)
   where
-    by : IsFramedAt seat old new l → Reached seat (cell_at new l)
-    by (IsFramedAt.stays same committed) = inl (subst IsLive (sym same) live)
-    by (IsFramedAt.changed c) = inl (c.lives live)
+    by : IsFramedAt seat old new l → IsLive (cell_at new l)
+    by (IsFramedAt.stays same committed) = subst IsLive (sym same) live
+    by (IsFramedAt.changed c) = c.lives live
     by (IsFramedAt.born none apart) = absurd (none (live_cell old l live))
+
+reached-kept : (seat : ℕ) (old new : Heap) (f : IsFramed seat old new) (l : ℕ) → Reached seat (cell_at old l) → Reached seat (cell_at new l)
+reached-kept seat old new f l (inl live) = inl (still-lives seat old new f l live)
 reached-kept seat old new f l (inr h) =
     let same = (own-stays seat old new f l h.0).0 in
     inr (subst (IsOwnedBy seat) (sym same) h.0, ap (λ (c : Cell Val). c.number) same ∙ h.1)

@@ -11,6 +11,7 @@ ghost use Rattle.ame_term.specs.declared.types.Sort.{Sort};
 ghost use Rattle.ame_term.specs.declared.types.TyNo.{TyNo};
 ghost use Rattle.ame_laws.specs.Orderly.{NumbersRise};
 ghost use Rattle.ame_soundness.specs.StoreTyping.{StoreTyping, Grows};
+ghost use Rattle.ame_soundness.specs.TypedState.{IsMember, IsTypedBy};
 ghost use Rattle.ame_store.specs.Cells.{IsFree, IsOwnedBy};
 ghost use Rattle.ame_store.specs.Changes.{made};
 ghost use Rattle.ame_store.specs.Writes.{taken_by};
@@ -84,4 +85,18 @@ pub fn commits_keep_states_typed()
         → ReleasesAll seat old new → IsTypedNow devices types old s → IsTypedPlace devices (reached_types old seat types) Typ.Unit p
         → IsAfterRun s i p t → NumbersRise t.members → t.active ≡ None → ForSome (at t.members i) (λ term. term ≡ p.term)
         → IsTypedNow devices types new t }
+{}
+
+/// So it is under the events that leave the state as it is, for whatever seat they are framed.
+pub fn states_stay_typed()
+    ensures { (devices : ℕ) (types later : StoreTyping) (seat : ℕ) (old new : Heap) (s : State)
+        → Grows types later → IsFramed seat old new → IsTypedNow devices types old s → IsTypedNow devices later new s }
+{}
+
+/// The state after a run, on either side, is typed where the state before was, the place of the run is, and the
+/// member, if it is there still.
+pub fn runs_keep_states_typed()
+    ensures { (devices : ℕ) (cells : StoreTyping) (s t : State) (i : ℕ) (p : LocalState)
+        → IsTypedBy devices cells s → IsTypedPlace devices cells Typ.Unit p → IsAfterRun s i p t
+        → ForSome (at t.members i) (IsMember devices cells) → NumbersRise t.members → t.active ≡ None → IsTypedBy devices cells t }
 {}

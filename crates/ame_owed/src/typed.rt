@@ -14,7 +14,7 @@ ghost use Rattle.ame_local.specs.Local.{LocalState};
 ghost use Rattle.ame_local.specs.Fit.{IsFitFor};
 ghost use Rattle.ame_owed.specs.Heap.{Heap, cell_at, IsCell};
 ghost use Rattle.ame_owed.specs.SeatRun.{SeatRun, ComesTo};
-ghost use Rattle.ame_owed.specs.Changed.{BecomesAt};
+ghost use Rattle.ame_owed.specs.Changed.{BecomesAt, ReleasesAll};
 ghost use Rattle.ame_owed.specs.Own.{begun_seat, given_one, given_undo};
 ghost use Rattle.ame_owed.specs.TypedHeap.{types_with, IsTypedHeap, IsTypedRun};
 
@@ -43,11 +43,14 @@ pub fn writes_are_typed()
         → IsTypedRun devices types (given_one Val.Unit run) }
 {}
 
-/// Cells stay typed where one becomes another of its sort, with a value of its type in place.
+/// Cells stay typed where one becomes another of its sort, with a value of its type in place, and where all that
+/// a seat owns is released.
 pub fn cells_stay_typed()
-    ensures { (devices : ℕ) (types : StoreTyping) (old new : Heap) (l : ℕ) (cell : Cell Val)
+    ensures changed { (devices : ℕ) (types : StoreTyping) (old new : Heap) (l : ℕ) (cell : Cell Val)
         → IsTypedHeap devices types old → BecomesAt old new l cell → length new.cells ≡ length old.cells → cell.sort ≡ (cell_at old l).sort
         → IsStored devices types l cell.value → IsTypedHeap devices types new }
+    ensures released { (devices : ℕ) (types : StoreTyping) (old new : Heap) (seat : ℕ)
+        → IsTypedHeap devices types old → ReleasesAll seat old new → length new.cells ≡ length old.cells → IsTypedHeap devices types new }
 {}
 
 /// A typed member begins a typed row, and a typed row stays typed where more locations have types.

@@ -128,15 +128,19 @@ heap-released devices types old new seat h releases count = record {
   where
     narrow : (m : ℕ) → IsCell new m → IsCell old m
     narrow m there = let t : m < length new.cells = there in omega (arith, count)
+
     wide : (m : ℕ) → IsCell old m → IsCell new m
     wide m there = let t : m < length old.cells = there in omega (arith, count)
+
     moved : (l : ℕ) (cell : Cell Val) → cell_at new l ≡ cell → cell.sort ≡ (cell_at old l).sort → cell.value ≡ (cell_at old l).value → IsCell old l
         → (content : Typ) × (types l ≡ Some ((cell_at new l).sort, content)) × IsValueOf devices types (cell_at new l).value content
     moved l cell same sort value there =
-        let was = h.typed l there in
-        (was.0,
-        was.1 ∙ ap (λ (x : Sort). Some (x, was.0)) (sym (ap (λ (c : Cell Val). c.sort) same ∙ sort)),
-        subst (λ (v : Val). IsValueOf devices types v was.0) (sym (ap (λ (c : Cell Val). c.value) same ∙ value)) was.2)
+        let was = h.typed l there in (
+          was.0,
+          was.1 ∙ ap (λ (x : Sort). Some (x, was.0)) (sym (ap (λ (c : Cell Val). c.sort) same ∙ sort)),
+          subst (λ (v : Val). IsValueOf devices types v was.0) (sym (ap (λ (c : Cell Val). c.value) same ∙ value)) was.2,
+        )
+
     by : (l : ℕ) → IsCell old l → IsOwnedBy seat (cell_at old l) ⊎ (IsOwnedBy seat (cell_at old l) → ⊥)
         → (content : Typ) × (types l ≡ Some ((cell_at new l).sort, content)) × IsValueOf devices types (cell_at new l).value content
     by l there (inl own) = moved l (released (cell_at old l)) (releases.own l own) refl refl there

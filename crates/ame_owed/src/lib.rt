@@ -30,7 +30,10 @@ pub use own::{
     rows_stand_after_later_writes, rows_stand_after_outside_reads, rows_stand_after_own_reads,
 };
 pub use scoped::{
-    commits_keep_states_typed, runs_keep_states_typed, scoped_rows_begin, scoped_rows_stand_after_allocations, scoped_rows_stand_after_others, scoped_rows_stand_after_reads, scoped_rows_stand_after_writes, states_stay_typed, valid_rows_own_what_they_reach,
+    commits_keep_states_typed, runs_keep_states_typed, scoped_rows_begin,
+    scoped_rows_stand_after_allocations, scoped_rows_stand_after_others,
+    scoped_rows_stand_after_reads, scoped_rows_stand_after_writes, states_stay_typed,
+    valid_rows_own_what_they_reach,
 };
 pub use shown::{shown_cells_are_found, shown_cells_change_alike, shown_reads_are_valid_alike};
 pub use tries::{sound_tries_stand, tries_begin, valid_rows_are_sound_tries};

@@ -12,3 +12,4 @@ pub mod WaitingLemmas
 pub mod SettledLemmas
 pub mod ShownLemmas
 pub mod TryLemmas
+pub mod WholeLemmas

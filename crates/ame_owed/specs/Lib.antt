@@ -11,3 +11,4 @@ pub mod Scoped
 pub mod Waiting
 pub mod Shown
 pub mod Tries
+pub mod Commits

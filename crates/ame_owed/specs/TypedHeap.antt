@@ -19,7 +19,8 @@ types_with l cell types m = if m == l then Some cell else types m
 module _ (devices : ℕ) (types : StoreTyping) where
   -- each cell has a type of its sort, and what is in place there is of it; no other location has a type
   pub record IsTypedHeap (heap : Heap) : Type 0 where
-    pub typed : (l : ℕ) → IsCell heap l → (content : Typ) × (types l ≡ Some ((cell_at heap l).sort, content)) × IsValueOf devices types (cell_at heap l).value content
+    pub typed : (l : ℕ) → IsCell heap l
+        → (content : Typ) × (types l ≡ Some ((cell_at heap l).sort, content)) × IsValueOf devices types (cell_at heap l).value content
     pub located : (l : ℕ) (cell : Sort × Typ) → types l ≡ Some cell → IsCell heap l
 
   -- what an entry would put back is of its location's type

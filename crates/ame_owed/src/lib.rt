@@ -2,6 +2,7 @@
 //! Each law is the contract of a function that does nothing: a caller that wants a law calls its function.
 #![tactic(auto)]
 
+mod commits;
 mod committed;
 mod events;
 mod others;
@@ -14,6 +15,7 @@ mod undos;
 mod valid;
 mod waiting;
 
+pub use commits::{ended_rows_commit, left_rows_commit};
 pub use committed::{
     what_is_committed_stands_after_allocations, what_is_committed_stands_after_puts,
     what_is_committed_stands_after_undos, what_is_committed_stands_after_writes,

@@ -13,3 +13,4 @@ pub mod SettledLemmas
 pub mod ShownLemmas
 pub mod TryLemmas
 pub mod WholeLemmas
+pub mod LoneLemmas

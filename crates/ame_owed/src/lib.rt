@@ -5,6 +5,7 @@
 mod commits;
 mod committed;
 mod events;
+mod lone;
 mod others;
 mod own;
 mod scoped;
@@ -23,6 +24,9 @@ pub use committed::{
 pub use events::{
     allocations_are_framed, births_are_framed, commits_are_framed, puts_are_framed,
     undos_are_framed, writes_are_framed,
+};
+pub use lone::{
+    valid_rows_read_what_they_reach, valid_rows_stand_after_changes, valid_rows_stand_after_reads,
 };
 pub use others::{
     rows_stand_after_others, undo_logs_stand_after_others, valid_reads_were_given_what_is_committed,

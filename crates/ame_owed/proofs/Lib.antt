@@ -14,3 +14,4 @@ pub mod ShownLemmas
 pub mod TryLemmas
 pub mod WholeLemmas
 pub mod LoneLemmas
+pub mod FreeLemmas

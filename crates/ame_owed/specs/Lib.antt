@@ -12,3 +12,4 @@ pub mod Waiting
 pub mod Shown
 pub mod Tries
 pub mod Commits
+pub mod Free

@@ -5,6 +5,7 @@
 mod commits;
 mod committed;
 mod events;
+mod free;
 mod lone;
 mod others;
 mod own;
@@ -25,6 +26,7 @@ pub use events::{
     allocations_are_framed, births_are_framed, commits_are_framed, puts_are_framed,
     undos_are_framed, writes_are_framed,
 };
+pub use free::unprotected_code_meets_what_lives;
 pub use lone::{
     valid_rows_read_what_they_reach, valid_rows_stand_after_changes, valid_rows_stand_after_reads,
 };

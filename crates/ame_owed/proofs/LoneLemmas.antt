@@ -2,6 +2,7 @@
 use Rattle.std.proofs.Common.{◌≡◌, ℕ, ◌+◌, ◌%◌, ◌⊎◌, inl, inr, List, [], ◌∷◌, ◌++◌, Option, MatchOption, All, refl, sym, ◌∙◌, subst, arith}
 use Rattle.std.proofs.lemmas.List.Elements.{All-push}
 use Rattle.ame_term.specs.Tree.{Val}
+use Rattle.ame_term.specs.Frame.{Side}
 use Rattle.ame_term.specs.Act.{Act}
 use Rattle.ame_term.specs.declared.types.Loc.{Loc}
 use Rattle.ame_term.specs.declared.types.Sort.{Sort}
@@ -26,7 +27,7 @@ pub read-reached : (devices : ℕ) (types : StoreTyping) (heap : Heap) (seat : �
     → ComesTo run (Act.Reads l) n p → Reached seat (cell_at heap l)
 read-reached devices types heap seat run l n p valid scoped comes =
     let scope = reached_types heap seat types in
-    let act = act-typed devices scope run (Act.Reads l) n p comes (scoped valid n p comes.place.ran comes.place.used) in
+    let act = act-typed devices scope Side.Protected (Act.Reads l) p comes.there (scoped valid n p comes.place.ran comes.place.used) in
     reach-of seat (cell_at heap l) (where-of (λ m. reaches seat (cell_at heap m)) types l (act.1.0, act.0) act.1.1).0
 
 pub read-valid : (devices : ℕ) (types : StoreTyping) (heap : Heap) (seat : ℕ) (run : SeatRun) (l : Loc) (n : ℕ) (p : LocalState) → AreValid heap seat run.reads → IsScoped devices types heap seat run

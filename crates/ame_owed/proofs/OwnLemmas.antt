@@ -49,8 +49,8 @@ pub given-on : (heap : Heap) (seat : ℕ) (run : SeatRun) (act : Act) (n : ℕ) 
     → (m : ℕ) (q : LocalState) → local Side.Protected run.start (run.inputs ++ v ∷ []) m ≡ Some q → q.inputs ≡ [] → IsGiven heap seat reads q
 given-on heap seat run act n p v reads result c gives h m q ran used =
     given-there heap seat reads result.1 q
-    (later-footprint Side.Protected (begun_with run.start run.inputs) p c.redex n v result c.place.ran c.place.used c.stands
-    (ap (λ (a : Act). fed a Side.Protected v p) c.acts ∙ gives) m q ran used)
+    (later-footprint Side.Protected (begun_with run.start run.inputs) p c.there.redex n v result c.place.ran c.place.used c.there.stands
+    (ap (λ (a : Act). fed a Side.Protected v p) c.there.acts ∙ gives) m q ran used)
     h
 
 -- more reads are logged

@@ -172,7 +172,7 @@ module _ (devices : ℕ) (types later : StoreTyping) (old new : Heap) (seat : �
       let cell = made sort ty v (Some seat) in
       let all = grown-on l cell b (λ _. inr (refl, refl)) (λ m there _. absurd (none there)) valid in
       let scope = reached_types new seat later in
-      let act = act-typed devices scope run (Act.Allocates sort v) n p comes (all n p comes.place.ran comes.place.used) in
+      let act = act-typed devices scope Side.Protected (Act.Allocates sort v) p comes.there (all n p comes.place.ran comes.place.used) in
       let value : IsValueOf devices scope v act.1.0 = act.1.2 in
       let wide : HasValue devices later v act.1.0 = weaken_value devices scope later (where-within (λ m. reaches seat (cell_at new m)) later) value.0 in
       let one : act.1.0 ≡ fit.0 = unique devices later (HasType.held {g = unscoped} {q = Effect.Protected} wide) (HasType.held {g = unscoped} {q = Effect.Protected} fit.2) in

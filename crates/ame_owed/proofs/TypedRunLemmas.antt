@@ -25,7 +25,7 @@ use Rattle.ame_local.specs.Local.{LocalState, begun_with, took, set_at, made_at,
 use Rattle.ame_local.specs.Fit.{IsFitFor, IsTypedPlace, IsTypedThroughout}
 use Rattle.ame_local.proofs.TypedLemmas.{typed-begun, typed-more}
 use Rattle.ame_owed.specs.Heap.{Heap, cell_at, IsCell}
-use Rattle.ame_owed.specs.SeatRun.{SeatRun, ComesTo}
+use Rattle.ame_owed.specs.SeatRun.{SeatRun, StandsAt, ComesTo}
 use Rattle.ame_owed.specs.Changed.{BecomesAt}
 use Rattle.ame_owed.specs.Own.{begun_seat, given_one, given_undo}
 use Rattle.ame_owed.specs.TypedHeap.{types_with, IsTypedHeap, IsTypedUndo, IsTypedRun}
@@ -37,22 +37,20 @@ pub scoped-on : (devices : ℕ) (cells : StoreTyping) (run : SeatRun) (act : Act
     → fed act Side.Protected v p ≡ Some result → IsFitFor devices cells act v → IsTypedThroughout devices cells Side.Protected run.start run.inputs Typ.Unit
     → IsTypedThroughout devices cells Side.Protected run.start (run.inputs ++ v ∷ []) Typ.Unit
 scoped-on devices cells run act n p v result c gives fit all =
-    typed-more devices cells Side.Protected (begun_with run.start run.inputs) p c.redex Typ.Unit n v result (all n p c.place.ran c.place.used) c.place.ran c.place.used c.stands
-    (ap (λ (a : Act). fed a Side.Protected v p) c.acts ∙ gives) (subst (λ (a : Act). IsFitFor devices cells a v) (sym c.acts) fit)
+    typed-more devices cells Side.Protected (begun_with run.start run.inputs) p c.there.redex Typ.Unit n v result (all n p c.place.ran c.place.used) c.place.ran c.place.used c.there.stands
+    (ap (λ (a : Act). fed a Side.Protected v p) c.there.acts ∙ gives) (subst (λ (a : Act). IsFitFor devices cells a v) (sym c.there.acts) fit)
 
 -- the act of a typed place
-pub act-typed : (devices : ℕ) (cells : StoreTyping) (run : SeatRun) (act : Act) (n : ℕ) (p : LocalState) → ComesTo run act n p → IsTypedPlace devices cells Typ.Unit p
-    → (t : Typ) × IsTypedAct devices cells Effect.Protected t act
-act-typed devices cells run act n p comes place =
-    let f : HasRedex p.term comes.redex Side.Protected = found p.term comes.redex Side.Protected comes.stands in
-    let typed : IsFragment devices cells Effect.Protected (plug_all f.frames comes.redex) Typ.Unit =
+pub act-typed : (devices : ℕ) (cells : StoreTyping) (side : Side) (act : Act) (p : LocalState) → StandsAt side act p → IsTypedPlace devices cells Typ.Unit p
+    → (t : Typ) × IsTypedAct devices cells (effect_at side Effect.Protected) t act
+act-typed devices cells side act p there place =
+    let f : HasRedex p.term there.redex side = found p.term there.redex side there.stands in
+    let typed : IsFragment devices cells Effect.Protected (plug_all f.frames there.redex) Typ.Unit =
     subst (λ (z : Tree). IsFragment devices cells Effect.Protected z Typ.Unit) f.term place.fragment in
-    let at_redex = placed devices cells Effect.Protected f.frames comes.redex Typ.Unit typed in
-    let its : IsTypedAct devices cells (effect_at Side.Protected Effect.Protected) at_redex.part_type (act_of comes.redex) =
-    subst (λ (z : Side). IsTypedAct devices cells (effect_at z Effect.Protected) at_redex.part_type (act_of comes.redex)) f.on (at_redex.act_typed f.redex) in (
-      at_redex.part_type,
-      subst (λ (a : Act). IsTypedAct devices cells Effect.Protected at_redex.part_type a) comes.acts its,
-    )
+    let at_redex = placed devices cells Effect.Protected f.frames there.redex Typ.Unit typed in
+    let its : IsTypedAct devices cells (effect_at side Effect.Protected) at_redex.part_type (act_of there.redex) =
+    subst (λ (z : Side). IsTypedAct devices cells (effect_at z Effect.Protected) at_redex.part_type (act_of there.redex)) f.on (at_redex.act_typed f.redex) in
+    (at_redex.part_type, subst (λ (a : Act). IsTypedAct devices cells (effect_at side Effect.Protected) at_redex.part_type a) there.acts its)
 
 protected_sort : (sort : Sort) → code_of sort ≡ Effect.Protected → sort ≡ Sort.Protected
 protected_sort Sort.Protected e = refl
@@ -72,7 +70,7 @@ module _ (devices : ℕ) (types : StoreTyping) (heap : Heap) (typed : IsTypedHea
     -- reads are of protected cells, and give what is of their type
     pub read-typed : (l : ℕ) → ComesTo run (Act.Reads l) n p → IsCell heap l × ((cell_at heap l).sort ≡ Sort.Protected) × IsStored devices types l (cell_at heap l).value
     read-typed l comes =
-        let act = act-typed devices types run (Act.Reads l) n p comes (h.places n p comes.place.ran comes.place.used) in
+        let act = act-typed devices types Side.Protected (Act.Reads l) p comes.there (h.places n p comes.place.ran comes.place.used) in
         let c = typed-cell l act.1.0 act.0 act.1.1 in
         (c.0, c.1 ∙ protected_sort act.1.0 act.1.2, ((act.1.0, act.0), act.1.1, c.2))
 
@@ -87,7 +85,7 @@ module _ (devices : ℕ) (types : StoreTyping) (heap : Heap) (typed : IsTypedHea
     -- so are writes, and what they set is of the type
     pub write-typed : (l : ℕ) (v : Val) → ComesTo run (Act.Writes l v) n p → IsCell heap l × ((cell_at heap l).sort ≡ Sort.Protected) × IsStored devices types l v
     write-typed l v comes =
-        let act = act-typed devices types run (Act.Writes l v) n p comes (h.places n p comes.place.ran comes.place.used) in
+        let act = act-typed devices types Side.Protected (Act.Writes l v) p comes.there (h.places n p comes.place.ran comes.place.used) in
         let c = typed-cell l act.1.0 act.1.1 act.1.2 in
         (c.0, c.1 ∙ protected_sort act.1.0 act.1.4, ((act.1.0, act.1.1), act.1.2, act.1.3))
 
@@ -221,7 +219,7 @@ module _ (devices : ℕ) (types : StoreTyping) (old new : Heap) (l : ℕ) (cell 
 pub allocated-typed : (devices : ℕ) (types : StoreTyping) (run : SeatRun) (sort : Sort) (v : Val) (n : ℕ) (p : LocalState) → IsTypedRun devices types run
     → ComesTo run (Act.Allocates sort v) n p → (content : Typ) × IsValueOf devices types v content
 allocated-typed devices types run sort v n p h comes =
-    let act = act-typed devices types run (Act.Allocates sort v) n p comes (h.places n p comes.place.ran comes.place.used) in
+    let act = act-typed devices types Side.Protected (Act.Allocates sort v) p comes.there (h.places n p comes.place.ran comes.place.used) in
     (act.1.0, act.1.2)
 
 pub run-made : (devices : ℕ) (types later : StoreTyping) (run : SeatRun) (sort : Sort) (l : Loc) (v : Val) (n : ℕ) (p : LocalState) → Grows types later → IsTypedRun devices types run

@@ -22,12 +22,16 @@ pub record HasUsed (run : SeatRun) (n : ℕ) (p : LocalState) : Type 0 where
   pub ran : local Side.Protected run.start run.inputs n ≡ Some p
   pub used : p.inputs ≡ []
 
--- there it has come to an act
+-- a place of a run stands at an act, on a side of `unprotected`
+pub record StandsAt (side : Side) (act : Act) (p : LocalState) : Type 0 where
+  pub redex : Tree
+  pub stands : focus p.term ≡ Focus.AtRedex side redex
+  pub acts : act_of redex ≡ act
+
+-- where the run has used all that it was given, it has come to an act
 pub record ComesTo (run : SeatRun) (act : Act) (n : ℕ) (p : LocalState) : Type 0 where
   pub place : HasUsed run n p
-  pub redex : Tree
-  pub stands : focus p.term ≡ Focus.AtRedex Side.Protected redex
-  pub acts : act_of redex ≡ act
+  pub there : StandsAt Side.Protected act p
 
 module _ (heap : Heap) (seat : ℕ) where
   -- a logged read of a seat is valid, by the cell that is there now

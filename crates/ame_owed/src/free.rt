@@ -10,9 +10,10 @@ ghost use Rattle.ame_soundness.specs.TypedState.{IsStored};
 ghost use Rattle.ame_local.specs.Local.{LocalState};
 ghost use Rattle.ame_local.specs.Fit.{IsTypedPlace};
 ghost use Rattle.ame_owed.specs.Heap.{Heap};
+ghost use Rattle.ame_owed.specs.SeatRun.{StandsAt};
 ghost use Rattle.ame_owed.specs.TypedHeap.{IsTypedHeap};
 ghost use Rattle.ame_owed.specs.Scoped.{live_types};
-ghost use Rattle.ame_owed.specs.Free.{StandsAt, MeetsLive};
+ghost use Rattle.ame_owed.specs.Free.{MeetsLive};
 
 /// Where its place is typed by what lives, what it reads and writes is a live cell of its own sort, what it peeks at
 /// a live cell of protected code, and what it sets is of the cell's type.

@@ -145,3 +145,11 @@ heap-released devices types old new seat h releases count = record {
         → (content : Typ) × (types l ≡ Some ((cell_at new l).sort, content)) × IsValueOf devices types (cell_at new l).value content
     by l there (inl own) = moved l (released (cell_at old l)) (releases.own l own) refl refl there
     by l there (inr apart) = moved l (cell_at old l) (releases.others l apart) refl refl there
+
+-- a seat that released all owns nothing
+pub nothing-kept : (old new : Heap) (seat : ℕ) → ReleasesAll seat old new → (l : ℕ) → IsOwnedBy seat (cell_at new l) → ⊥
+nothing-kept old new seat releases l own = by (owner-cases 0 (λ _. None) old new seat releases l)
+  where
+    by : IsOwnedBy seat (cell_at old l) ⊎ (IsOwnedBy seat (cell_at old l) → ⊥) → ⊥
+    by (inl its) = free-apart seat (cell_at new l) (ap (λ (c : Cell Val). c.owner) (releases.own l its)) own
+    by (inr apart) = apart (subst (IsOwnedBy seat) (releases.others l apart) own)

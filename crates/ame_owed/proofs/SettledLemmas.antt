@@ -7,10 +7,10 @@ use Rattle.ame_store.specs.declared.cell.Cell.{Cell}
 use Rattle.ame_store.specs.Cells.{IsOwnedBy, IsFree, IsDead}
 use Rattle.ame_store.specs.Changes.{made, let_go, restored}
 use Rattle.ame_store.specs.Writes.{taken_by}
-use Rattle.ame_owed.specs.Heap.{Heap, cell_at, IsLive, IsCommitted}
+use Rattle.ame_owed.specs.Heap.{Heap, cell_at, IsCell, IsLive, IsCommitted}
 use Rattle.ame_owed.specs.UndoLog.{IsUndoLog}
 use Rattle.ame_owed.specs.Changed.{BecomesAt, KeepsCommitted, KeepsCommittedBut}
-use Rattle.ame_owed.proofs.CellLemmas.{after, free-apart, dead-apart}
+use Rattle.ame_owed.proofs.CellLemmas.{after, live_or_dead, live_cell, free-apart, dead-apart}
 
 -- one cell becomes another one, and shows what is committed there
 pub settled-one : (old new : Heap) (l : ℕ) (cell : Cell Val) → IsCommitted old → BecomesAt old new l cell → KeepsCommittedBut l old new
@@ -50,10 +50,19 @@ module _ (old new : Heap) (l : ℕ) (c : IsCommitted old) (k : KeepsCommitted ol
   settled-killed dead b =
       settled-one old new l (let_go (cell_at old l)) c b (λ m _. k m) (λ _. k l ∙ c.dead l dead) (λ live _. absurd (dead-apart (cell_at old l) dead live))
 
-pub settled-made : (old new : Heap) (l seat : ℕ) (sort : Sort) (ty : TyNo) (v : Val) → IsCommitted old → KeepsCommitted old new → IsDead (cell_at old l)
+-- where no cell is, nothing lives
+absent-dead : (heap : Heap) (l : ℕ) → (IsCell heap l → ⊥) → IsDead (cell_at heap l)
+absent-dead heap l none = by (live_or_dead (cell_at heap l))
+  where
+    by : IsLive (cell_at heap l) ⊎ IsDead (cell_at heap l) → IsDead (cell_at heap l)
+    by (inl live) = absurd (none (live_cell heap l live))
+    by (inr dead) = dead
+
+pub settled-made : (old new : Heap) (l seat : ℕ) (sort : Sort) (ty : TyNo) (v : Val) → IsCommitted old → KeepsCommitted old new → (IsCell old l → ⊥)
     → BecomesAt old new l (made sort ty v (Some seat)) → IsCommitted new
 settled-made old new l seat sort ty v c k none b =
-    settled-one old new l (made sort ty v (Some seat)) c b (λ m _. k m) (λ _. k l ∙ c.dead l none) (λ _ free. absurd (free-apart seat (made sort ty v (Some seat)) free refl))
+    settled-one old new l (made sort ty v (Some seat)) c b (λ m _. k m) (λ _. k l ∙ c.dead l (absent-dead old l none))
+    (λ _ free. absurd (free-apart seat (made sort ty v (Some seat)) free refl))
 
 pub settled-put : (old new : Heap) (l : ℕ) (cell : Cell Val) → IsCommitted old → KeepsCommittedBut l old new → IsLive cell → new.committed l ≡ Some cell.value
     → BecomesAt old new l cell → IsCommitted new

@@ -8,7 +8,7 @@ ghost use Rattle.ame_store.specs.declared.cell.Cell.{Cell};
 ghost use Rattle.ame_store.specs.Cells.{IsOwnedBy, IsDead};
 ghost use Rattle.ame_store.specs.Changes.{made, let_go, restored};
 ghost use Rattle.ame_store.specs.Writes.{taken_by};
-ghost use Rattle.ame_owed.specs.Heap.{Heap, cell_at, IsLive, IsCommitted};
+ghost use Rattle.ame_owed.specs.Heap.{Heap, cell_at, IsCell, IsLive, IsCommitted};
 ghost use Rattle.ame_owed.specs.Changed.{BecomesAt, KeepsCommitted, KeepsCommittedBut};
 
 /// After writes of a seat, the first one of a cell and those that follow.
@@ -19,10 +19,10 @@ pub fn what_is_committed_stands_after_writes()
         → BecomesAt old new l (record (cell_at old l) { value = v }) → IsCommitted new }
 {}
 
-/// After an allocation of a seat, at a location where nothing lives.
+/// After an allocation of a seat, where no cell was.
 pub fn what_is_committed_stands_after_allocations()
     ensures { (old new : Heap) (l seat : ℕ) (sort : Sort) (ty : TyNo) (v : Val) → IsCommitted old → KeepsCommitted old new
-        → IsDead (cell_at old l) → BecomesAt old new l (made sort ty v (Some seat)) → IsCommitted new }
+        → (IsCell old l → ⊥) → BecomesAt old new l (made sort ty v (Some seat)) → IsCommitted new }
 {}
 
 /// After an undo: what is put back in a live cell is what is committed there, as its entry says, and a cell that

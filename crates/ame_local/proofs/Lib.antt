@@ -4,3 +4,4 @@ pub mod ReplayLemmas
 pub mod EntryLemmas
 pub mod TypedLemmas
 pub mod LegalLemmas
+pub mod LabelRunLemmas

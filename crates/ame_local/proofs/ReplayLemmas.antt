@@ -21,7 +21,7 @@ use Rattle.ame_local.proofs.RunLemmas.{step-is}
 use Rattle.ame_local.proofs.EffectLemmas.{step-agrees, step-made}
 
 -- a run of no step leaves the state
-begun-after : (s : State) (i : ℕ) (term : Tree) (inputs : List Val) (t : State) → t.store ≡ s.store → t.output ≡ s.output → t.members ≡ s.members → t.next ≡ s.next
+pub begun-after : (s : State) (i : ℕ) (term : Tree) (inputs : List Val) (t : State) → t.store ≡ s.store → t.output ≡ s.output → t.members ≡ s.members → t.next ≡ s.next
     → IsAfterRun s i (begun_with term inputs) t
 begun-after s i term inputs t stores outputs members nexts = record {
   stored = λ l. ap (λ (m : List (ℕ × Val)). at m l) stores;

@@ -33,7 +33,7 @@ taken-inputs : (o : Option Val) (l : ℕ) (v : Val) (p : LocalState) → (taken_
 taken-inputs None l v p = refl
 taken-inputs (Some w) l v p = refl
 
-feeds-inputs : (p : LocalState) (side : Side) (act : Act) (v : Val) (part : Tree) (q : LocalState) → Feeds p side act v part q → q.inputs ≡ p.inputs
+pub feeds-inputs : (p : LocalState) (side : Side) (act : Act) (v : Val) (part : Tree) (q : LocalState) → Feeds p side act v part q → q.inputs ≡ p.inputs
 feeds-inputs p _ _ _ _ _ (Feeds.reads side l v) = taken-inputs (at p.sets l) l v p
 feeds-inputs p _ _ _ _ _ (Feeds.peeks l v) = taken-inputs (at p.sets l) l v p
 feeds-inputs p _ _ _ _ _ _ = refl
@@ -47,7 +47,7 @@ step-empty side p q e empty =
     let x = step-is side p q e in
     ap (λ (z : LocalState). z.inputs) x.is ∙ acts-empty p side (act_of x.redex) x.part x.behind x.acts empty
 
-goes-empty : (side : Side) (p q : LocalState) (n : ℕ) → goes side p n ≡ Some q → p.inputs ≡ [] → q.inputs ≡ []
+pub goes-empty : (side : Side) (p q : LocalState) (n : ℕ) → goes side p n ≡ Some q → p.inputs ≡ [] → q.inputs ≡ []
 goes-empty side p q zero e empty = let same : p ≡ q = cc in ap (λ (z : LocalState). z.inputs) (sym same) ∙ empty
 goes-empty side p q (suc n) e empty = option_and_then_some _ _ _ e (λ r first second. step-empty side r q second (goes-empty side p r n first empty))
 
@@ -217,7 +217,7 @@ module _ (devices : ℕ) (cells : StoreTyping) where
       typed-later side t (begun_with term []) p n (record { fragment = typed; stored = λ l v is. absurd (cc); members = tt }) refl e
 
   -- one of two numbers is the other and more
-  compared : (m n : ℕ) → ((d : ℕ) × (n ≡ m + d)) ⊎ ((d : ℕ) × (m ≡ n + suc d))
+  pub compared : (m n : ℕ) → ((d : ℕ) × (n ≡ m + d)) ⊎ ((d : ℕ) × (m ≡ n + suc d))
   compared zero n = inl (n, omega arith)
   compared (suc m) zero = inr (m, omega arith)
   compared (suc m) (suc n) = by (compared m n)

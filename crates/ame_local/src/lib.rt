@@ -12,6 +12,9 @@ pub use entries::{
     free_runs_are_replayed, left_runs_are_replayed, stuck_runs_are_replayed,
     tall_runs_are_replayed,
 };
-pub use replay::{free_runs_are_labels, protected_runs_are_labels, steps_are_of_runs};
+pub use replay::{
+    fragments_are_runs, free_labels_are_runs, free_runs_are_labels, protected_runs_are_labels,
+    steps_are_of_runs,
+};
 pub use runs::{more_inputs_change_no_step, one_more_input, runs_are_added, runs_are_one};
 pub use typed::{steps_keep_places_typed, typed_runs_begin, typed_runs_go_on};

@@ -1,0 +1,17 @@
+pub mod CellLemmas
+pub mod OthersLemmas
+pub mod PlaceLemmas
+pub mod OwnLemmas
+pub mod ValidLemmas
+pub mod EventLemmas
+pub mod ReachLemmas
+pub mod TypedRunLemmas
+pub mod ScopedLemmas
+pub mod CommitLemmas
+pub mod WaitingLemmas
+pub mod SettledLemmas
+pub mod ShownLemmas
+pub mod TryLemmas
+pub mod WholeLemmas
+pub mod LoneLemmas
+pub mod FreeLemmas

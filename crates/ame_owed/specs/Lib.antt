@@ -1,0 +1,15 @@
+pub mod Heap
+pub mod SeatRun
+pub mod Given
+pub mod UndoLog
+pub mod Owes
+pub mod Framed
+pub mod Changed
+pub mod Own
+pub mod TypedHeap
+pub mod Scoped
+pub mod Waiting
+pub mod Shown
+pub mod Tries
+pub mod Commits
+pub mod Free

@@ -1,0 +1,7 @@
+pub mod LookupLemmas
+pub mod EntryLemmas
+pub mod LogLemmas
+pub mod KeptLemmas
+pub mod CommittedLemmas
+pub mod AccessLemmas
+pub mod LettingGoLemmas

@@ -64,6 +64,12 @@ module _ {V : Type 0} where
       → shown_at rows l o ≡ cond cell.live (settled_value rows l cell.value owner) None
   shown_owned rows l o cell owner at own = ap (shown_at rows l) at ∙ ap (λ w. cond cell.live (settled_value rows l cell.value w) None) own
 
+  pub committed_owned : (c : Contents V) (l : ℕ) (cell : Cell V) (owner : ℕ) → slice_get c.cells l ≡ Some cell → cell.live ≡ true → IsOwnedBy owner cell
+      → committed c l ≡ option_and_then old_value (entry_at (row_at c.rows owner).undos l)
+  committed_owned c l cell owner at live own =
+      shown_owned c.rows l (slice_get c.cells l) cell (Some owner) at own
+      ∙ ap (λ b. cond b (option_and_then old_value (entry_at (row_at c.rows owner).undos l)) None) live
+
   -- what the seat's own entry puts back
   settled_by : (rows : List (Notes V)) (seat l : ℕ) (notes : Notes V) (value : V) (e : Option (Undo V)) → seat < length rows → entry_at notes.undos l ≡ e
       → settled_value (set rows seat notes) l value (Some seat) ≡ option_and_then old_value e

@@ -5,3 +5,4 @@ pub mod KeptLemmas
 pub mod CommittedLemmas
 pub mod AccessLemmas
 pub mod LettingGoLemmas
+pub mod FieldLemmas

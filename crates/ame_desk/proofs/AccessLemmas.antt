@@ -1,7 +1,7 @@
 -- Reads, writes and allocations: what the calls of a store and of a row make, and that cells and logs stay consistent.
-use Rattle.std.proofs.Common.{◌≡◌, ◌≢◌, ◌==◌, ℕ, ◌+◌, ◌<◌, ◌≤◌, Bool, true, false, cond, List, [], ◌∷◌, ◌++◌, length, set, All, Option, Some, None, slice_get, sym, refl, ap, subst, ◌∙◌, arith, length-append}
+use Rattle.std.proofs.Common.{◌≡◌, ◌≢◌, ◌==◌, ℕ, ◌<◌, ◌≤◌, true, false, cond, List, [], ◌∷◌, ◌++◌, length, set, Option, Some, None, slice_get, sym, refl, ap, subst, ◌∙◌, arith, length-append}
 use Rattle.std.specs.Option.{option_map_or}
-use Rattle.std.proofs.lemmas.Bool.{eqb-true, eq-eqb, ne_eqb}
+use Rattle.std.proofs.lemmas.Bool.{eq-eqb, ne_eqb}
 use Rattle.std.proofs.lemmas.List.Elements.{All-push}
 use Rattle.std.proofs.lemmas.Option.{slice_get_within, slice_get_past}
 use Rattle.ame_term.specs.declared.types.Loc.{Loc}
@@ -18,7 +18,7 @@ use Rattle.ame_rows.specs.declared.notes.Undo.{Undo}
 use Rattle.ame_rows.specs.declared.notes.Undo.TheVariants.{Wrote, Made}
 use Rattle.ame_desk.specs.declared.answer.WriteAnswer.{WriteAnswer}
 use Rattle.ame_desk.specs.Contents.{Notes, Contents, row_at, by_seat}
-use Rattle.ame_desk.specs.Entries.{named_by, entry_at, OwnsAsLogged, IsLogOf}
+use Rattle.ame_desk.specs.Entries.{entry_at, OwnsAsLogged, IsLogOf}
 use Rattle.ame_desk.specs.Consistent.{IsConsistent}
 use Rattle.ame_desk.specs.Access.{changed_at, is_owned_by, noted_read, notes_read, overwritten, noted_write, told_write, notes_written, written_by, next_place, notes_allocated, allocated_by, put_at, born}
 use Rattle.ame_desk.proofs.LookupLemmas.{set_again, get_push_here, get_push_else, changed_is, changed_here, changed_else, changed_length}
@@ -122,7 +122,7 @@ module _ {V : Type 0} where
         let row = row_at c.rows seat in
         let same : length new ≡ length c.cells = changed_length l.0 (λ x. overwritten seat value x.owner x) c.cells in
         let reads : AreWithin new (noted_write seat l input cell.owner cell row).reads =
-            subst (AreWithin new) (reads_written cell.owner row) (within_more c.cells new row.reads (omega (arith, same)) (kept.reads seat)) in
+        subst (AreWithin new) (reads_written cell.owner row) (within_more c.cells new row.reads (omega (arith, same)) (kept.reads seat)) in
         subst (λ notes. IsConsistent (by_seat seat new notes c)) (sym (notes_at seat l input c.cells row cell at))
         (kept_by_seat c seat new (noted_write seat l input cell.owner cell row) kept within (log_written cell.owner refl) reads (others_written cell.owner refl) (omega (arith, same)))
 
@@ -149,10 +149,10 @@ module _ {V : Type 0} where
       let note : ReadNote = record { loc = l; number = cell.number } in
       let below = slice_get_within c.cells l.0 cell at in
       let reads : AreWithin c.cells (noted_read seat l input cell row).reads =
-          elim (is_owned_by seat cell) as (λ b. AreWithin c.cells (cond b row.reads (row.reads ++ note ∷ []))) [
-            | true ↦ kept.reads seat
-            | false ↦ All-push (λ note. note.loc.0 < length c.cells) row.reads note (kept.reads seat) below
-          ] in
+      elim (is_owned_by seat cell) as (λ b. AreWithin c.cells (cond b row.reads (row.reads ++ note ∷ []))) [
+        | true ↦ kept.reads seat
+        | false ↦ All-push (λ note. note.loc.0 < length c.cells) row.reads note (kept.reads seat) below
+      ] in
       subst (λ notes. IsConsistent (by_seat seat c.cells notes c)) (sym (ap (λ o. option_map_or (λ x. noted_read seat l input x row) o row) at))
       (kept_by_seat c seat c.cells (noted_read seat l input cell row) kept within (kept.logs seat) reads (λ other n j e h. h) (omega arith))
 

@@ -1,15 +1,15 @@
 -- What is committed at each location, after each call.
-use Rattle.std.proofs.Common.{◌≡◌, ◌≢◌, ◌==◌, ℕ, ◌+◌, ◌<◌, ◌≤◌, Bool, true, false, cond, List, [], ◌∷◌, ◌++◌, length, set, map, Option, Some, None, slice_get, sym, refl, ap, subst, ◌∙◌, arith, ⊎_elim, length-append}
+use Rattle.std.proofs.Common.{◌≡◌, ◌≢◌, ◌==◌, ℕ, ◌<◌, true, false, cond, List, [], ◌∷◌, ◌++◌, length, set, map, Option, Some, None, slice_get, sym, refl, ap, subst, ◌∙◌, arith, ⊎_elim}
 use Rattle.std.specs.Prelude.{option_map, option_and_then, IsSome, is_some, nat_eq}
 use Rattle.std.specs.Option.{option_map_or}
 use Rattle.std.specs.List.{IsDistinct}
-use Rattle.std.proofs.lemmas.Bool.{eq-eqb, ne_eqb, cases_eq}
+use Rattle.std.proofs.lemmas.Bool.{cases_eq}
 use Rattle.std.proofs.lemmas.Option.{slice_get_within, slice_get_past, slice_get-map}
 use Rattle.ame_term.specs.declared.types.Loc.{Loc}
 use Rattle.ame_term.specs.declared.types.Sort.{Sort}
 use Rattle.ame_term.specs.declared.types.TyNo.{TyNo}
 use Rattle.ame_store.specs.declared.cell.Cell.{Cell}
-use Rattle.ame_store.specs.Cells.{IsOwnedBy, IsFree, IsDead}
+use Rattle.ame_store.specs.Cells.{IsOwnedBy, IsFree}
 use Rattle.ame_store.specs.Changes.{made, replaced, released}
 use Rattle.ame_store.specs.Writes.{taken_by}
 use Rattle.ame_rows.specs.declared.notes.Undo.{Undo}
@@ -18,10 +18,10 @@ use Rattle.ame_desk.specs.Contents.{Notes, Contents, no_notes, row_at, by_seat}
 use Rattle.ame_desk.specs.Entries.{named_by, places, entry_at, OwnsAsLogged, IsEntryFor, IsLogOf}
 use Rattle.ame_desk.specs.Consistent.{IsConsistent}
 use Rattle.ame_desk.specs.Committed.{old_value, settled_value, committed}
-use Rattle.ame_desk.specs.Access.{changed_at, is_owned_by, notes_read, noted_read, overwritten, noted_write, notes_written, written_by, next_place, notes_allocated, allocated_by, put_at, born}
+use Rattle.ame_desk.specs.Access.{changed_at, is_owned_by, notes_read, noted_read, overwritten, noted_write, written_by, next_place, notes_allocated, allocated_by, put_at, born}
 use Rattle.ame_desk.specs.LettingGo.{released_by, released_all, undone_by, but_last, cells_undone, notes_undone, undone_last}
 use Rattle.ame_desk.specs.Rollback.{all_undone, rolled_back}
-use Rattle.ame_desk.proofs.LookupLemmas.{row_set_here, row_set_else, get_there, get_push_here, get_push_else, changed_is, changed_here, changed_else, changed_length}
+use Rattle.ame_desk.proofs.LookupLemmas.{row_set_here, row_set_else, get_there, get_push_here, get_push_else, changed_here, changed_else}
 use Rattle.ame_desk.proofs.EntryLemmas.{entry_head, entry_tail, entry_push_here, entry_push_else, once_tail, once_front, but_last_is, undos_undone, split_last}
 use Rattle.ame_desk.proofs.LogLemmas.{no_entry, no_cell_no_entry, has_entry, free_not_owned, last_cell}
 use Rattle.ame_desk.proofs.AccessLemmas.{notes_at}
@@ -115,7 +115,7 @@ module _ {V : Type 0} where
       ∙ sym (shown_owned c.rows l (slice_get c.cells l) cell.0 (Some seat) was own ∙ ap (λ o. cond cell.0.live (option_and_then old_value o) None) entry))
       (λ (n : l ≢ p).
       let entry : entry_at (notes_undone row).undos l ≡ entry_at row.undos l =
-          ap (λ us. entry_at us l) left ∙ sym (entry_push_else front u l n) ∙ ap (λ us. entry_at us l) (sym some.2) in
+      ap (λ us. entry_at us l) left ∙ sym (entry_push_else front u l n) ∙ ap (λ us. entry_at us l) (sym some.2) in
       same_elsewhere c seat l (cells_undone row.undos c.cells) (notes_undone row) within (ap (λ cs. slice_get cs l) cells_are ∙ changed_else p (undone_by u) c.cells l n) entry)
       (cases_eq l p))
       (split_last row.undos)
@@ -157,8 +157,8 @@ module _ {V : Type 0} where
       ⊎_elim
       (λ (e : l ≡ p).
       let untouched : slice_get (all_undone us cells) p ≡ slice_get cells p =
-          ap (slice_get (all_undone us cells)) (sym e) ∙ rest ∙ ap (λ (j : ℕ). option_map (rolled_back (entry_at us j)) (slice_get cells j)) e
-          ∙ ap (λ o. option_map (rolled_back o) (slice_get cells p)) tail.1 ∙ unchanged (slice_get cells p) in
+      ap (slice_get (all_undone us cells)) (sym e) ∙ rest ∙ ap (λ (j : ℕ). option_map (rolled_back (entry_at us j)) (slice_get cells j)) e
+      ∙ ap (λ o. option_map (rolled_back o) (slice_get cells p)) tail.1 ∙ unchanged (slice_get cells p) in
       ap (slice_get (all_undone (u ∷ us) cells)) e ∙ changed_there p (undone_by u) (all_undone us cells)
       ∙ ap (option_map (undone_by u)) untouched
       ∙ ap (λ o. option_map (rolled_back o) (slice_get cells p)) (sym (entry_head u us))
@@ -173,7 +173,7 @@ module _ {V : Type 0} where
   read_unseen seat l input j c within =
       let row = row_at c.rows seat in
       let undos : (notes_read seat l input c.cells row).undos ≡ row.undos =
-          elim (slice_get c.cells l.0) as (λ o. (option_map_or (λ cell. noted_read seat l input cell row) o row).undos ≡ row.undos) [ None ↦ refl | Some cell ↦ refl ] in
+      elim (slice_get c.cells l.0) as (λ o. (option_map_or (λ cell. noted_read seat l input cell row) o row).undos ≡ row.undos) [ None ↦ refl | Some cell ↦ refl ] in
       same_elsewhere c seat j c.cells (notes_read seat l input c.cells row) within refl (ap (λ us. entry_at us j) undos)
 
   owned_shown : (rows : List (Notes V)) (seat owner j : ℕ) (value : V) (cell : Cell V) → cell.owner ≡ Some owner
@@ -211,7 +211,7 @@ module _ {V : Type 0} where
       let new = changed_at l.0 f c.cells in
       let notes : Notes V = noted_write seat l input (Some owner) cell row in
       let undos : notes.undos ≡ row.undos =
-          elim (owner == seat) as (λ b. (cond b (record row { inputs = row.inputs ++ input ∷ [] }) row).undos ≡ row.undos) [ true ↦ refl | false ↦ refl ] in
+      elim (owner == seat) as (λ b. (cond b (record row { inputs = row.inputs ++ input ∷ [] }) row).undos ≡ row.undos) [ true ↦ refl | false ↦ refl ] in
       let entry : entry_at notes.undos j ≡ entry_at row.undos j = ap (λ us. entry_at us j) undos in
       let rows_same = entries_same c.rows seat j notes within entry in
       ⊎_elim

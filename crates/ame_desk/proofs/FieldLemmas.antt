@@ -1,5 +1,5 @@
 -- From the fields of a desk to what contracts see of it.
-use Rattle.std.proofs.Common.{◌≡◌, ◌≢◌, ℕ, ◌<◌, ◌≤◌, List, [], ◌∷◌, length, map, set, get_or, All, Option, Some, None, Result, Ok, Err, OnErr, slice_get, sym, refl, ap, subst, ◌∙◌, arith}
+use Rattle.std.proofs.Common.{◌≡◌, ℕ, ◌<◌, List, [], length, map, set, get_or, All, Some, None, Result, Ok, Err, OnErr, sym, refl, ap, subst, ◌∙◌, arith}
 use Rattle.std.proofs.lemmas.List.{length-map}
 use Rattle.ame_store.specs.declared.cell.Cell.{Cell}
 use Rattle.ame_store.specs.Cells.{IsFree}

@@ -1,18 +1,17 @@
 -- Cells and logs stay consistent.
-use Rattle.std.proofs.Common.{◌≡◌, ◌≢◌, ℕ, zero, suc, ◌+◌, ◌<◌, ◌≤◌, List, [], ◌∷◌, ◌++◌, length, map, set, replicate, get_or, All, Option, Some, None, slice_get, sym, refl, ap, subst, ◌∙◌, arith, ⊎_elim, length-set}
+use Rattle.std.proofs.Common.{◌≡◌, ◌≢◌, ℕ, zero, suc, ◌<◌, ◌≤◌, List, [], ◌∷◌, ◌++◌, length, map, set, replicate, get_or, All, Option, Some, None, slice_get, sym, refl, ap, ◌∙◌, arith, ⊎_elim}
 use Rattle.std.proofs.lemmas.List.{length-map}
-use Rattle.std.specs.Prelude.{unwrap_or}
 use Rattle.std.proofs.lemmas.Bool.{cases_eq, cases_lt}
-use Rattle.std.proofs.lemmas.List.{map-set, set-get_or, get_or-map}
+use Rattle.std.proofs.lemmas.List.{map-set, get_or-map}
 use Rattle.std.proofs.lemmas.List.Elements.{All-weaker, All-nil}
-use Rattle.std.proofs.lemmas.Option.{slice_get-get_or, unwrap_or-slice_get, slice_get_within, slice_get_past}
+use Rattle.std.proofs.lemmas.Option.{unwrap_or-slice_get, slice_get_within, slice_get_past}
 use Rattle.ame_store.specs.declared.cell.Cell.{Cell}
 use Rattle.ame_store.specs.Cells.{IsOwnedBy, IsFree}
 use Rattle.ame_rows.specs.Logs.{Logs}
 use Rattle.ame_rows.specs.declared.notes.ReadNote.{ReadNote}
 use Rattle.ame_rows.specs.declared.notes.Undo.{Undo}
 use Rattle.ame_desk.specs.Contents.{Notes, Contents, no_notes, without_room, contents_of, row_at, by_seat}
-use Rattle.ame_desk.specs.Entries.{OwnsAsLogged, IsLogOf, entry_at}
+use Rattle.ame_desk.specs.Entries.{OwnsAsLogged, IsLogOf}
 use Rattle.ame_desk.specs.Consistent.{IsConsistent}
 use Rattle.ame_desk.proofs.LookupLemmas.{row_set_here, row_set_else, row_beyond, row_set_again, all_at, get_push_here, get_push_else}
 use Rattle.ame_desk.proofs.LogLemmas.{log_along, new_not_owned, free_not_owned, nothing_logged, nothing_owned}
@@ -56,13 +55,13 @@ module _ {V : Type 0} where
       → IsConsistent (by_seat seat cells notes c)
   kept_by_seat c seat cells notes kept within log reads others le = record {
     logs = λ k. ⊎_elim
-      (λ (e : k ≡ seat). let row = ap (row_at (set c.rows seat notes)) e ∙ row_set_here c.rows seat notes within in rw (row, e) log)
-      (λ (n : k ≢ seat). rw (row_set_else c.rows seat k notes n) (log_along k c.cells cells (row_at c.rows k).undos (others k n) (kept.logs k)))
-      (cases_eq k seat);
+        (λ (e : k ≡ seat). let row = ap (row_at (set c.rows seat notes)) e ∙ row_set_here c.rows seat notes within in rw (row, e) log)
+        (λ (n : k ≢ seat). rw (row_set_else c.rows seat k notes n) (log_along k c.cells cells (row_at c.rows k).undos (others k n) (kept.logs k)))
+        (cases_eq k seat);
     reads = λ k. ⊎_elim
-      (λ (e : k ≡ seat). let row = ap (row_at (set c.rows seat notes)) e ∙ row_set_here c.rows seat notes within in rw row reads)
-      (λ (n : k ≢ seat). rw (row_set_else c.rows seat k notes n) (within_more c.cells cells (row_at c.rows k).reads le (kept.reads k)))
-      (cases_eq k seat);
+        (λ (e : k ≡ seat). let row = ap (row_at (set c.rows seat notes)) e ∙ row_set_here c.rows seat notes within in rw row reads)
+        (λ (n : k ≢ seat). rw (row_set_else c.rows seat k notes n) (within_more c.cells cells (row_at c.rows k).reads le (kept.reads k)))
+        (cases_eq k seat);
   }
 
   -- a call of no seat

@@ -1,9 +1,9 @@
 -- Releases and rollbacks: step by step, as a whole, and that cells and logs stay consistent.
-use Rattle.std.proofs.Common.{◌≡◌, ◌≢◌, ◌==◌, ℕ, ◌+◌, ◌-◌, ◌<◌, ◌≤◌, Bool, true, false, cond, List, [], ◌∷◌, ◌++◌, length, set, map, All, Option, Some, None, slice_get, sym, refl, ap, subst, ◌∙◌, arith, ⊎_elim}
+use Rattle.std.proofs.Common.{◌≡◌, ◌≢◌, ◌==◌, ℕ, ◌<◌, true, false, cond, List, [], ◌∷◌, ◌++◌, length, set, map, All, Option, Some, None, slice_get, sym, refl, ap, subst, ◌∙◌, arith, ⊎_elim}
 use Rattle.std.proofs.lemmas.List.{length-map}
 use Rattle.std.specs.Prelude.{option_map, nat_lt}
 use Rattle.std.specs.Option.{option_map_or}
-use Rattle.std.proofs.lemmas.Bool.{eqb-true, eq-eqb, cases_eq, false≢true}
+use Rattle.std.proofs.lemmas.Bool.{eqb-true, eq-eqb, false≢true}
 use Rattle.std.proofs.lemmas.List.Elements.{All-set, All-nil}
 use Rattle.std.proofs.lemmas.Option.{slice_get_within, slice_get-map}
 use Rattle.ame_store.specs.declared.cell.Cell.{Cell}
@@ -12,13 +12,13 @@ use Rattle.ame_store.specs.Changes.{released}
 use Rattle.ame_rows.specs.declared.notes.Undo.{Undo}
 use Rattle.ame_rows.specs.declared.notes.Undo.TheVariants.{Wrote, Made}
 use Rattle.ame_desk.specs.Contents.{Notes, Contents, no_notes, row_at, by_seat}
-use Rattle.ame_desk.specs.Entries.{named_by, entry_at, OwnsAsLogged, IsEntryFor, IsLogOf}
+use Rattle.ame_desk.specs.Entries.{named_by, OwnsAsLogged, IsLogOf}
 use Rattle.ame_desk.specs.Consistent.{IsConsistent}
 use Rattle.ame_desk.specs.Access.{changed_at, is_owned_by}
 use Rattle.ame_desk.specs.LettingGo.{released_by, released_all, undone_by, last_entry, but_last, cells_undone, notes_undone, undone_last}
-use Rattle.ame_desk.proofs.LookupLemmas.{map_set_same, map_same, all_at, changed_here, changed_else, changed_length, get_set_here, get_set_else}
+use Rattle.ame_desk.proofs.LookupLemmas.{map_set_same, map_same, changed_here, changed_else, changed_length, get_set_here, get_set_else}
 use Rattle.ame_desk.proofs.EntryLemmas.{last_is, but_last_is, undos_undone, split_last}
-use Rattle.ame_desk.proofs.LogLemmas.{entry_owned, first_cell, last_cell, nothing_owned, nothing_logged, neither_owned, not_of_another, free_not_owned, log_without_first, log_without_last}
+use Rattle.ame_desk.proofs.LogLemmas.{entry_owned, last_cell, nothing_owned, nothing_logged, neither_owned, not_of_another, free_not_owned, log_without_first, log_without_last}
 use Rattle.ame_desk.proofs.KeptLemmas.{AreWithin, within_more, StaysFor, stays_at, kept_by_seat}
 
 module _ {V : Type 0} where
@@ -96,7 +96,7 @@ module _ {V : Type 0} where
       let found : option_map (released_by seat) (slice_get c.cells l) ≡ Some cell = sym (slice_get-map (released_by seat) c.cells l) ∙ at in
       released_not_owned seat (slice_get c.cells l) cell found) in
       let others : (other : ℕ) → other ≢ seat → StaysFor other c.cells new = λ other n l e h.
-          rw (slice_get-map (released_by seat) c.cells l) (released_for_others seat other n (slice_get c.cells l) e h) in
+      rw (slice_get-map (released_by seat) c.cells l) (released_for_others seat other n (slice_get c.cells l) e h) in
       kept_by_seat c seat new no_notes kept within log (All-nil (λ note. note.loc.0 < length new)) others (omega (arith, length-map c.cells (released_by seat)))
 
   -- ---- a rollback
@@ -138,8 +138,8 @@ module _ {V : Type 0} where
       let left : (notes_undone row).undos ≡ front = undos_undone row ∙ ap but_last some.2 ∙ but_last_is front u in
       let after = log_without_last seat c.cells new front u (undone_by u cell.0) whole here (free_not_owned seat (undone_by u cell.0) (undone_free u cell.0)) (changed_else l (undone_by u) c.cells) in
       let others : (other : ℕ) → other ≢ seat → StaysFor other c.cells new = λ other n.
-          stays_at other c.cells new l cell.0 (undone_by u cell.0) cell.1 here (changed_else l (undone_by u) c.cells)
-          (neither_owned other cell.0 (undone_by u cell.0) (not_of_another seat other cell.0 (entry_owned seat u cell.0 cell.2) n) (free_not_owned other (undone_by u cell.0) (undone_free u cell.0))) in
+      stays_at other c.cells new l cell.0 (undone_by u cell.0) cell.1 here (changed_else l (undone_by u) c.cells)
+      (neither_owned other cell.0 (undone_by u cell.0) (not_of_another seat other cell.0 (entry_owned seat u cell.0 cell.2) n) (free_not_owned other (undone_by u cell.0) (undone_free u cell.0))) in
       subst (λ cells. IsConsistent (by_seat seat cells (notes_undone row) c)) (sym (cells_undone_is row.undos front u c.cells some.2))
       (kept_by_seat c seat new (notes_undone row) kept within (subst (IsLogOf seat new) (sym left) after)
       (within_more c.cells new (notes_undone row).reads (omega (arith, length_same)) (reads_undone c.cells row (kept.reads seat))) others (omega (arith, length_same))))

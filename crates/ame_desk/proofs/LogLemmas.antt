@@ -1,11 +1,10 @@
 -- A seat's undo log and the cells: after one cell changed, after one entry more, and after one entry less.
-use Rattle.std.proofs.Common.{◌≡◌, ◌≢◌, ℕ, ◌+◌, ◌<◌, List, [], ◌∷◌, ◌++◌, length, Option, Some, None, slice_get, sym, refl, ap, subst, ◌∙◌, arith, ⊎_elim}
+use Rattle.std.proofs.Common.{◌≡◌, ◌≢◌, ℕ, List, [], ◌∷◌, ◌++◌, Option, Some, None, slice_get, sym, refl, ap, subst, ◌∙◌, ⊎_elim}
 use Rattle.std.specs.Prelude.{nat_eq}
 use Rattle.std.specs.List.{IsDistinct}
 use Rattle.std.proofs.lemmas.Bool.{cases_eq}
-use Rattle.std.proofs.lemmas.Option.{slice_get_within}
 use Rattle.ame_store.specs.declared.cell.Cell.{Cell}
-use Rattle.ame_store.specs.Cells.{IsOwnedBy, IsFree, IsDead}
+use Rattle.ame_store.specs.Cells.{IsOwnedBy, IsFree}
 use Rattle.ame_rows.specs.declared.notes.Undo.{Undo}
 use Rattle.ame_rows.specs.declared.notes.Undo.TheVariants.{Wrote, Made}
 use Rattle.ame_desk.specs.Entries.{named_by, places, entry_at, IsEntryFor, OwnsAsLogged, IsLogOf}
@@ -74,9 +73,9 @@ module _ {V : Type 0} where
     log_more us u cell log none at fits others = record {
       once = once_push us u log.once none;
       owned = λ l. ⊎_elim
-        (λ (e : l ≡ named_by u). let was = ap (slice_get new) e ∙ at in let has = ap (entry_at (us ++ u ∷ [])) e ∙ entry_push_here us u none in rw (was, has) fits)
-        (λ (n : l ≢ named_by u). rw (others l n, entry_push_else us u l n) (log.owned l))
-        (cases_eq l (named_by u));
+          (λ (e : l ≡ named_by u). let was = ap (slice_get new) e ∙ at in let has = ap (entry_at (us ++ u ∷ [])) e ∙ entry_push_here us u none in rw (was, has) fits)
+          (λ (n : l ≢ named_by u). rw (others l n, entry_push_else us u l n) (log.owned l))
+          (cases_eq l (named_by u));
     }
 
     -- one entry less, whose cell the seat doesn't own any more
@@ -87,9 +86,9 @@ module _ {V : Type 0} where
     less us rest u cell log once none same at gone others = record {
       once = once;
       owned = λ l. ⊎_elim
-        (λ (e : l ≡ named_by u). let was = ap (slice_get new) e ∙ at in let has = ap (entry_at rest) e ∙ none in rw (was, has) gone)
-        (λ (n : l ≢ named_by u). rw (others l n, ← same l n) (log.owned l))
-        (cases_eq l (named_by u));
+          (λ (e : l ≡ named_by u). let was = ap (slice_get new) e ∙ at in let has = ap (entry_at rest) e ∙ none in rw (was, has) gone)
+          (λ (n : l ≢ named_by u). rw (others l n, ← same l n) (log.owned l))
+          (cases_eq l (named_by u));
     }
 
     pub log_without_last : (us : List (Undo V)) (u : Undo V) (cell : Cell V) → IsLogOf seat cells (us ++ u ∷ []) → slice_get new (named_by u) ≡ Some cell

@@ -1,5 +1,5 @@
 -- What reads, writes and allocations of a seat, and those of unprotected code, make of a desk.
-use Rattle.std.specs.Prelude.{◌≡◌, ◌==◌, ℕ, ◌+◌, List, [], ◌∷◌, ◌++◌, cond, length, Bool, false, Option, Some, None, slice_get, slice_set}
+use Rattle.std.specs.Prelude.{◌≡◌, ◌==◌, ℕ, List, [], ◌∷◌, ◌++◌, cond, length, Bool, false, Option, Some, None, slice_get, slice_set}
 use Rattle.std.specs.Option.{ForSome, option_map_or}
 use Rattle.ame_term.specs.declared.types.Loc.{Loc}
 use Rattle.ame_term.specs.declared.types.Sort.{Sort}
@@ -7,8 +7,6 @@ use Rattle.ame_term.specs.declared.types.TyNo.{TyNo}
 use Rattle.ame_store.specs.declared.cell.Cell.{Cell}
 use Rattle.ame_store.specs.Changes.{made, replaced}
 use Rattle.ame_store.specs.Writes.{taken_by}
-use Rattle.ame_rows.specs.declared.notes.ReadNote.{ReadNote}
-use Rattle.ame_rows.specs.declared.notes.Undo.{Undo}
 use Rattle.ame_rows.specs.declared.notes.Undo.TheVariants.{Wrote, Made}
 use Rattle.ame_desk.specs.declared.answer.WriteAnswer.{WriteAnswer}
 use Rattle.ame_desk.specs.declared.answer.WriteAnswer.TheVariants.{Done, Conflict}

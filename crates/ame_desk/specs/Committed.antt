@@ -1,6 +1,5 @@
 -- The committed value of a location.
 use Rattle.std.specs.Prelude.{ℕ, List, cond, Option, Some, None, option_and_then, slice_get}
-use Rattle.ame_store.specs.declared.cell.Cell.{Cell}
 use Rattle.ame_rows.specs.declared.notes.Undo.{Undo}
 use Rattle.ame_rows.specs.declared.notes.Undo.TheVariants.{Wrote, Made}
 use Rattle.ame_desk.specs.Contents.{Notes, Contents, row_at}

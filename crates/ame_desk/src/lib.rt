@@ -12,4 +12,6 @@ mod tests;
 
 pub use answer::WriteAnswer;
 pub use desk::Desk;
-pub use laws::{attempts_are_not_seen, releases_commit, rollbacks_are_not_seen, unprotected_code_commits};
+pub use laws::{
+    attempts_are_not_seen, releases_commit, rollbacks_are_not_seen, unprotected_code_commits,
+};

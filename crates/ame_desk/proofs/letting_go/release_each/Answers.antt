@@ -15,7 +15,7 @@ release-requires-clause-location g c =
     let u = c.undo-item.result in
     let rest = drop (c.loop-undo.undo-index + 1) c.args.undos.now in
     let split : drop c.loop-undo.undo-index c.args.undos.now ≡ u ∷ rest =
-        drop_more c.args.undos.now c.loop-undo.undo-index u c.loop-undo-test.true ∙ ap (λ x. x ∷ rest) (sym c.undo-item.is) in
+    drop_more c.args.undos.now c.loop-undo.undo-index u c.loop-undo-test.true ∙ ap (λ x. x ∷ rest) (sym c.undo-item.is) in
     let before = subst (Releasing c.args.seat c.args.store.now cells) split c.loop-undo.invariant in
     let cell = first_cell c.args.seat cells u rest before.log in
     rw c.location.ensures (slice_get_within cells (named_by u) cell.0 cell.1)
@@ -26,7 +26,7 @@ release-requires-clause-can_grow g c = λ x at.
     let u = c.undo-item.result in
     let rest = drop (c.loop-undo.undo-index + 1) c.args.undos.now in
     let split : drop c.loop-undo.undo-index c.args.undos.now ≡ u ∷ rest =
-        drop_more c.args.undos.now c.loop-undo.undo-index u c.loop-undo-test.true ∙ ap (λ y. y ∷ rest) (sym c.undo-item.is) in
+    drop_more c.args.undos.now c.loop-undo.undo-index u c.loop-undo-test.true ∙ ap (λ y. y ∷ rest) (sym c.undo-item.is) in
     let before = subst (Releasing c.args.seat c.args.store.now cells) split c.loop-undo.invariant in
     let cell = first_cell c.args.seat cells u rest before.log in
     let found : Some cell.0 ≡ Some x = sym cell.1 ∙ ap (slice_get cells) (sym c.location.ensures) ∙ at in
@@ -40,7 +40,7 @@ loop-undo-preserved g c =
     let u = c.undo-item.result in
     let rest = drop (c.loop-undo.undo-index + 1) c.args.undos.now in
     let split : drop c.loop-undo.undo-index c.args.undos.now ≡ u ∷ rest =
-        drop_more c.args.undos.now c.loop-undo.undo-index u c.loop-undo-test.true ∙ ap (λ x. x ∷ rest) (sym c.undo-item.is) in
+    drop_more c.args.undos.now c.loop-undo.undo-index u c.loop-undo-test.true ∙ ap (λ x. x ∷ rest) (sym c.undo-item.is) in
     let before = subst (Releasing c.args.seat c.args.store.now cells) split c.loop-undo.invariant in
     let cell = first_cell c.args.seat cells u rest before.log in
     let at = ap (slice_get cells) c.location.ensures ∙ cell.1 in

@@ -5,7 +5,6 @@ use Rattle.ame_desk.specs.Consistent.{IsConsistent}
 use Rattle.ame_desk.specs.Access.{put_at}
 use Rattle.ame_desk.proofs.LookupLemmas.{get_there, changed_is}
 use Rattle.ame_desk.proofs.AccessLemmas.{kept_put}
-use Rattle.ame_desk.proofs.FieldLemmas.{kept_view}
 use Rattle.ame_desk.proofs.desk.Desk.put.Goals as goal
 
 pub invariant_of-self : goal.invariant_of-self

@@ -1,10 +1,10 @@
-use Rattle.std.proofs.Common.{refl, sym, ap, subst, ◌∙◌, slice_get, set, map}
-use Rattle.ame_desk.specs.Contents.{Contents, Notes, without_room, row_at, by_seat}
+use Rattle.std.proofs.Common.{refl, sym, ap, subst, ◌∙◌, slice_get}
+use Rattle.ame_desk.specs.Contents.{Contents, Notes, row_at, by_seat}
 use Rattle.ame_desk.specs.Consistent.{IsConsistent}
-use Rattle.ame_desk.specs.Access.{IsRead, notes_read}
+use Rattle.ame_desk.specs.Access.{notes_read}
 use Rattle.ame_desk.proofs.LookupLemmas.{get_there, row_set_here}
 use Rattle.ame_desk.proofs.AccessLemmas.{kept_read}
-use Rattle.ame_desk.proofs.FieldLemmas.{on_err, kept_view, told, seen, seen_as_before}
+use Rattle.ame_desk.proofs.FieldLemmas.{on_err, kept_view, seen, seen_as_before}
 use Rattle.ame_desk.proofs.desk.Desk.read.Goals as goal
 
 pub invariant_of-self : goal.invariant_of-self
@@ -29,9 +29,9 @@ pub returns-clause-row : goal.returns-clause-row
 returns-clause-row g c =
     let input = c.in_ok-value.ensures.notes.input in
     let is = seen c.self.inside.store c.self.inside.rows.items c.args.self.now c.self.view_is c.self.invariant c.args.seat c.requires.seat c.index_mut-row.result.now c.index_mut-row.ensures.value c.self.inside.store c.read.new.row
-        (λ cells _. cells) (λ cells notes. notes_read c.args.seat c.args.l input cells notes) refl c.in_ok-value.ensures.notes.becomes in
+    (λ cells _. cells) (λ cells notes. notes_read c.args.seat c.args.l input cells notes) refl c.in_ok-value.ensures.notes.becomes in
     let here = ap (λ (x : Contents g.row.V.Denot). row_at x.rows c.args.seat) is
-        ∙ row_set_here c.args.self.now.rows c.args.seat (notes_read c.args.seat c.args.l input c.args.self.now.cells (row_at c.args.self.now.rows c.args.seat)) c.requires.seat in
+    ∙ row_set_here c.args.self.now.rows c.args.seat (notes_read c.args.seat c.args.l input c.args.self.now.cells (row_at c.args.self.now.rows c.args.seat)) c.requires.seat in
     record {
       input = input;
       copied = λ cell at. c.in_ok-value.ensures.notes.copied cell (ap (λ (x : Contents g.row.V.Denot). slice_get x.cells c.args.l.0) c.self.view_is ∙ at);
@@ -42,7 +42,7 @@ pub returns-clause-others : goal.returns-clause-others
 returns-clause-others g c =
     let input = c.in_ok-value.ensures.notes.input in
     let is = seen c.self.inside.store c.self.inside.rows.items c.args.self.now c.self.view_is c.self.invariant c.args.seat c.requires.seat c.index_mut-row.result.now c.index_mut-row.ensures.value c.self.inside.store c.read.new.row
-        (λ cells _. cells) (λ cells notes. notes_read c.args.seat c.args.l input cells notes) refl c.in_ok-value.ensures.notes.becomes in
+    (λ cells _. cells) (λ cells notes. notes_read c.args.seat c.args.l input cells notes) refl c.in_ok-value.ensures.notes.becomes in
     let here = ap (λ (x : Contents g.row.V.Denot). row_at x.rows c.args.seat) is
-        ∙ row_set_here c.args.self.now.rows c.args.seat (notes_read c.args.seat c.args.l input c.args.self.now.cells (row_at c.args.self.now.rows c.args.seat)) c.requires.seat in
+    ∙ row_set_here c.args.self.now.rows c.args.seat (notes_read c.args.seat c.args.l input c.args.self.now.cells (row_at c.args.self.now.rows c.args.seat)) c.requires.seat in
     is ∙ ap (λ (n : Notes g.row.V.Denot). by_seat c.args.seat c.args.self.now.cells n c.args.self.now) (sym here)

@@ -1,5 +1,6 @@
 -- What is committed at each location, after each call.
-use Rattle.std.proofs.Common.{◌≡◌, ◌≢◌, ◌==◌, ℕ, ◌<◌, true, false, cond, List, [], ◌∷◌, ◌++◌, length, set, map, Option, Some, None, slice_get, sym, refl, ap, subst, ◌∙◌, arith, ⊎_elim}
+use Rattle.std.proofs.Common.{◌≡◌, ◌≢◌, ◌==◌, ℕ, ◌<◌, true, false, cond, List, [], ◌∷◌, ◌++◌, length, set, map, Option, Some, None, slice_get, sym, refl, ap}
+use Rattle.std.proofs.Common.{subst, ◌∙◌, arith, ⊎_elim}
 use Rattle.std.specs.Prelude.{option_map, option_and_then, IsSome, is_some, nat_eq}
 use Rattle.std.specs.Option.{option_map_or}
 use Rattle.std.specs.List.{IsDistinct}
@@ -18,11 +19,13 @@ use Rattle.ame_desk.specs.Contents.{Notes, Contents, no_notes, row_at, by_seat}
 use Rattle.ame_desk.specs.Entries.{named_by, places, entry_at, OwnsAsLogged, IsEntryFor, IsLogOf}
 use Rattle.ame_desk.specs.Consistent.{IsConsistent}
 use Rattle.ame_desk.specs.Committed.{old_value, settled_value, committed}
-use Rattle.ame_desk.specs.Access.{changed_at, is_owned_by, notes_read, noted_read, overwritten, noted_write, written_by, next_place, notes_allocated, allocated_by, put_at, born}
+use Rattle.ame_desk.specs.Access.{changed_at, is_owned_by, notes_read, noted_read, overwritten, noted_write, written_by, next_place, notes_allocated}
+use Rattle.ame_desk.specs.Access.{allocated_by, put_at, born}
 use Rattle.ame_desk.specs.LettingGo.{released_by, released_all, undone_by, but_last, cells_undone, notes_undone, undone_last}
 use Rattle.ame_desk.specs.Rollback.{all_undone, rolled_back}
 use Rattle.ame_desk.proofs.LookupLemmas.{row_set_here, row_set_else, get_there, get_push_here, get_push_else, changed_here, changed_else}
-use Rattle.ame_desk.proofs.EntryLemmas.{entry_head, entry_tail, entry_push_here, entry_push_else, once_tail, once_front, but_last_is, undos_undone, split_last}
+use Rattle.ame_desk.proofs.EntryLemmas.{entry_head, entry_tail, entry_push_here, entry_push_else, once_tail, once_front, but_last_is, undos_undone}
+use Rattle.ame_desk.proofs.EntryLemmas.{split_last}
 use Rattle.ame_desk.proofs.LogLemmas.{no_entry, no_cell_no_entry, has_entry, free_not_owned, last_cell}
 use Rattle.ame_desk.proofs.AccessLemmas.{notes_at}
 use Rattle.ame_desk.proofs.LettingGoLemmas.{owned_is, is_owned, undone_free, cells_undone_is, cells_undone_none}
@@ -48,7 +51,8 @@ module _ {V : Type 0} where
       → (k : ℕ) → entry_at (row_at (set rows seat notes) k).undos l ≡ entry_at (row_at rows k).undos l
   entries_same rows seat l notes within same k =
       ⊎_elim
-      (λ (e : k ≡ seat). ap (λ (j : ℕ). entry_at (row_at (set rows seat notes) j).undos l) e ∙ ap (λ (n : Notes V). entry_at n.undos l) (row_set_here rows seat notes within)
+      (λ (e : k ≡ seat). ap (λ (j : ℕ). entry_at (row_at (set rows seat notes) j).undos l) e
+      ∙ ap (λ (n : Notes V). entry_at n.undos l) (row_set_here rows seat notes within)
       ∙ same ∙ ap (λ (j : ℕ). entry_at (row_at rows j).undos l) (sym e))
       (λ (n : k ≢ seat). ap (λ (m : Notes V). entry_at m.undos l) (row_set_else rows seat k notes n))
       (cases_eq k seat)
@@ -57,7 +61,8 @@ module _ {V : Type 0} where
   same_elsewhere : (c : Contents V) (seat l : ℕ) (cells : List (Cell V)) (notes : Notes V) → seat < length c.rows → slice_get cells l ≡ slice_get c.cells l
       → entry_at notes.undos l ≡ entry_at (row_at c.rows seat).undos l → committed (by_seat seat cells notes c) l ≡ committed c l
   same_elsewhere c seat l cells notes within cell entry =
-      ap (shown_at (set c.rows seat notes) l) cell ∙ shown_same c.rows (set c.rows seat notes) l (entries_same c.rows seat l notes within entry) (slice_get c.cells l)
+      ap (shown_at (set c.rows seat notes) l) cell ∙ shown_same c.rows (set c.rows seat notes) l (entries_same c.rows seat l notes within entry)
+      (slice_get c.cells l)
 
   -- what a location shows where a cell with this owner is
   shown_owned : (rows : List (Notes V)) (l : ℕ) (o : Option (Cell V)) (cell : Cell V) (owner : Option ℕ) → o ≡ Some cell → cell.owner ≡ owner
@@ -81,7 +86,8 @@ module _ {V : Type 0} where
   undone_shown : (seat : ℕ) (u : Undo V) (cell : Cell V) → IsEntryFor seat u cell
       → cond (undone_by u cell).live (Some (undone_by u cell).value) None ≡ cond cell.live (old_value u) None
   undone_shown seat (Wrote l number old) cell fits = refl
-  undone_shown seat (Made l) cell fits = let nothing : Option V = None in ap (λ b. cond b (Some cell.value) nothing) fits.1 ∙ ap (λ b. cond b nothing nothing) (sym fits.1)
+  undone_shown seat (Made l) cell fits = let nothing : Option V = None in ap (λ b. cond b (Some cell.value) nothing) fits.1
+      ∙ ap (λ b. cond b nothing nothing) (sym fits.1)
 
   owner_of : (seat : ℕ) (u : Undo V) (cell : Cell V) → IsEntryFor seat u cell → IsOwnedBy seat cell
   owner_of seat (Wrote l number old) cell fits = fits.0
@@ -94,7 +100,8 @@ module _ {V : Type 0} where
       ⊎_elim
       (λ (none : row.undos ≡ []).
       let left : (notes_undone row).undos ≡ row.undos = undos_undone row ∙ ap but_last none ∙ sym none in
-      same_elsewhere c seat l (cells_undone row.undos c.cells) (notes_undone row) within (ap (λ cs. slice_get cs l) (cells_undone_none row.undos c.cells none)) (ap (λ us. entry_at us l) left))
+      same_elsewhere c seat l (cells_undone row.undos c.cells) (notes_undone row) within (ap (λ cs. slice_get cs l)
+      (cells_undone_none row.undos c.cells none)) (ap (λ us. entry_at us l) left))
       (λ (some : (front : List (Undo V)) × (u : Undo V) × (row.undos ≡ front ++ u ∷ [])).
       let front = some.0 in let u = some.1 in
       let whole : IsLogOf seat c.cells (front ++ u ∷ []) = subst (IsLogOf seat c.cells) some.2 log in
@@ -106,9 +113,11 @@ module _ {V : Type 0} where
       ⊎_elim
       (λ (e : l ≡ p).
       let here = changed_here p (undone_by u) c.cells cell.0 (slice_get_within c.cells p cell.0 cell.1) cell.1 in
-      let now : slice_get (cells_undone row.undos c.cells) l ≡ Some (undone_by u cell.0) = ap (λ cs. slice_get cs l) cells_are ∙ ap (slice_get new) e ∙ here in
+      let now : slice_get (cells_undone row.undos c.cells) l ≡ Some (undone_by u cell.0) = ap (λ cs. slice_get cs l) cells_are ∙ ap (slice_get new) e
+      ∙ here in
       let was : slice_get c.cells l ≡ Some cell.0 = ap (slice_get c.cells) e ∙ cell.1 in
-      let entry : entry_at row.undos l ≡ Some u = ap (entry_at row.undos) e ∙ ap (λ us. entry_at us p) some.2 ∙ entry_push_here front u (once_front front u whole.once).1 in
+      let entry : entry_at row.undos l ≡ Some u = ap (entry_at row.undos) e ∙ ap (λ us. entry_at us p) some.2
+      ∙ entry_push_here front u (once_front front u whole.once).1 in
       let own = owner_of seat u cell.0 cell.2 in
       shown_owned (set c.rows seat (notes_undone row)) l (slice_get (cells_undone row.undos c.cells) l) (undone_by u cell.0) None now (undone_free u cell.0)
       ∙ undone_shown seat u cell.0 cell.2
@@ -116,11 +125,13 @@ module _ {V : Type 0} where
       (λ (n : l ≢ p).
       let entry : entry_at (notes_undone row).undos l ≡ entry_at row.undos l =
       ap (λ us. entry_at us l) left ∙ sym (entry_push_else front u l n) ∙ ap (λ us. entry_at us l) (sym some.2) in
-      same_elsewhere c seat l (cells_undone row.undos c.cells) (notes_undone row) within (ap (λ cs. slice_get cs l) cells_are ∙ changed_else p (undone_by u) c.cells l n) entry)
+      same_elsewhere c seat l (cells_undone row.undos c.cells) (notes_undone row) within (ap (λ cs. slice_get cs l) cells_are
+      ∙ changed_else p (undone_by u) c.cells l n) entry)
       (cases_eq l p))
       (split_last row.undos)
 
-  all_push : (us : List (Undo V)) (u : Undo V) (cells : List (Cell V)) → all_undone (us ++ u ∷ []) cells ≡ all_undone us (changed_at (named_by u) (undone_by u) cells)
+  all_push : (us : List (Undo V)) (u : Undo V) (cells : List (Cell V))
+      → all_undone (us ++ u ∷ []) cells ≡ all_undone us (changed_at (named_by u) (undone_by u) cells)
   all_push [] u cells = refl
   all_push (x ∷ us) u cells = ap (changed_at (named_by x) (undone_by x)) (all_push us u cells)
 
@@ -173,20 +184,23 @@ module _ {V : Type 0} where
   read_unseen seat l input j c within =
       let row = row_at c.rows seat in
       let undos : (notes_read seat l input c.cells row).undos ≡ row.undos =
-      elim (slice_get c.cells l.0) as (λ o. (option_map_or (λ cell. noted_read seat l input cell row) o row).undos ≡ row.undos) [ None ↦ refl | Some cell ↦ refl ] in
+      elim (slice_get c.cells l.0) as (λ o. (option_map_or (λ cell. noted_read seat l input cell row) o row).undos ≡ row.undos)
+      [ None ↦ refl | Some cell ↦ refl ] in
       same_elsewhere c seat j c.cells (notes_read seat l input c.cells row) within refl (ap (λ us. entry_at us j) undos)
 
   owned_shown : (rows : List (Notes V)) (seat owner j : ℕ) (value : V) (cell : Cell V) → cell.owner ≡ Some owner
       → shown_at rows j (Some (overwritten seat value (Some owner) cell)) ≡ cond cell.live (settled_value rows j cell.value (Some owner)) None
   owned_shown rows seat owner j value cell own =
-      elim (owner == seat) as (λ b. shown_at rows j (Some (cond b (record cell { value = value }) cell)) ≡ cond cell.live (settled_value rows j cell.value (Some owner)) None) [
+      elim (owner == seat) as (λ b. shown_at rows j (Some (cond b (record cell { value = value }) cell)) ≡ cond cell.live (settled_value rows j cell.value
+      (Some owner)) None) [
         | true ↦ ap (λ w. cond cell.live (settled_value rows j value w) None) own
         | false ↦ ap (λ w. cond cell.live (settled_value rows j cell.value w) None) own
       ]
 
   write_shown : (seat : ℕ) (l : Loc) (value input : V) (j : ℕ) (c : Contents V) → IsConsistent c → seat < length c.rows → l.0 < length c.cells
       → (cell : Cell V) → slice_get c.cells l.0 ≡ Some cell → (o : Option ℕ) → cell.owner ≡ o
-      → committed (by_seat seat (changed_at l.0 (λ x. overwritten seat value x.owner x) c.cells) (noted_write seat l input o cell (row_at c.rows seat)) c) j ≡ committed c j
+      → committed (by_seat seat (changed_at l.0 (λ x. overwritten seat value x.owner x) c.cells)
+      (noted_write seat l input o cell (row_at c.rows seat)) c) j ≡ committed c j
   write_shown seat l value input j c kept within below cell at None own =
       let row = row_at c.rows seat in
       let f : Cell V → Cell V = λ x. overwritten seat value x.owner x in
@@ -197,7 +211,8 @@ module _ {V : Type 0} where
       let none = no_entry seat cell (entry_at row.undos l.0) (free_not_owned seat cell own) (rw at at says) in
       ⊎_elim
       (λ (e : j ≡ l.0).
-      let now : slice_get new j ≡ Some (taken_by seat value cell) = ap (slice_get new) e ∙ changed_here l.0 f c.cells cell below at ∙ ap (λ q. Some (overwritten seat value q cell)) own in
+      let now : slice_get new j ≡ Some (taken_by seat value cell) = ap (slice_get new) e ∙ changed_here l.0 f c.cells cell below at
+      ∙ ap (λ q. Some (overwritten seat value q cell)) own in
       let was : slice_get c.cells j ≡ Some cell = ap (slice_get c.cells) e ∙ at in
       let entry : entry_at notes.undos j ≡ Some u = ap (entry_at notes.undos) e ∙ entry_push_here row.undos u none in
       shown_owned (set c.rows seat notes) j (slice_get new j) (taken_by seat value cell) (Some seat) now refl
@@ -216,7 +231,8 @@ module _ {V : Type 0} where
       let rows_same = entries_same c.rows seat j notes within entry in
       ⊎_elim
       (λ (e : j ≡ l.0).
-      let now : slice_get new j ≡ Some (overwritten seat value (Some owner) cell) = ap (slice_get new) e ∙ changed_here l.0 f c.cells cell below at ∙ ap (λ q. Some (overwritten seat value q cell)) own in
+      let now : slice_get new j ≡ Some (overwritten seat value (Some owner) cell) = ap (slice_get new) e ∙ changed_here l.0 f c.cells cell below at
+      ∙ ap (λ q. Some (overwritten seat value q cell)) own in
       let was : slice_get c.cells j ≡ Some cell = ap (slice_get c.cells) e ∙ at in
       ap (shown_at (set c.rows seat notes) j) now ∙ owned_shown (set c.rows seat notes) seat owner j value cell own
       ∙ ap (λ o. cond cell.live (option_and_then old_value o) None) (rows_same owner)
@@ -246,14 +262,16 @@ module _ {V : Type 0} where
       (λ (e : j ≡ length c.cells).
       let now : slice_get (c.cells ++ cell ∷ []) j ≡ Some cell = ap (slice_get (c.cells ++ cell ∷ [])) e ∙ get_push_here c.cells cell in
       ap (shown_at (set c.rows seat notes) j) now ∙ ap (shown_at c.rows j) (sym (slice_get_past c.cells j (omega (arith, e)))))
-      (λ (n : j ≢ length c.cells). same_elsewhere c seat j (c.cells ++ cell ∷ []) notes within (get_push_else c.cells cell j n) (entry_push_else row.undos (Made l) j n))
+      (λ (n : j ≢ length c.cells). same_elsewhere c seat j (c.cells ++ cell ∷ []) notes within (get_push_else c.cells cell j n)
+      (entry_push_else row.undos (Made l) j n))
       (cases_eq j (length c.cells))
 
   live_old : (seat : ℕ) (u : Undo V) (cell : Cell V) → IsEntryFor seat u cell → cell.live ≡ true → is_some (old_value u) ≡ true
   live_old seat (Wrote l number old) cell fits live = refl
   live_old seat (Made l) cell fits live = sym fits.1 ∙ live
 
-  live_shown : (c : Contents V) (l : ℕ) (cell : Cell V) → IsConsistent c → slice_get c.cells l ≡ Some cell → cell.live ≡ true → (o : Option ℕ) → cell.owner ≡ o
+  live_shown : (c : Contents V) (l : ℕ) (cell : Cell V) → IsConsistent c → slice_get c.cells l ≡ Some cell → cell.live ≡ true → (o : Option ℕ)
+      → cell.owner ≡ o
       → is_some (shown_at c.rows l (Some cell)) ≡ true
   live_shown c l cell kept at live None own =
       ap (λ w. is_some (cond cell.live (settled_value c.rows l cell.value w) None)) own ∙ ap (λ b. is_some (cond b (Some cell.value) None)) live
@@ -271,7 +289,8 @@ module _ {V : Type 0} where
       ap (λ o. is_some (shown_at c.rows l o)) at ∙ live_shown c l cell kept at live cell.owner refl
 
   -- a commit shows what the seat has in place, and nothing else changes
-  pub commit_owned : (seat l : ℕ) (c : Contents V) (cell : Cell V) → slice_get c.cells l ≡ Some cell → IsOwnedBy seat cell → committed (released_all seat c) l ≡ Some cell.value
+  pub commit_owned : (seat l : ℕ) (c : Contents V) (cell : Cell V) → slice_get c.cells l ≡ Some cell → IsOwnedBy seat cell
+      → committed (released_all seat c) l ≡ Some cell.value
   commit_owned seat l c cell at its =
       ap (shown_at (set c.rows seat no_notes) l) (slice_get-map (released_by seat) c.cells l ∙ ap (option_map (released_by seat)) at)
       ∙ ap (λ b. shown_at (set c.rows seat no_notes) l (Some (cond b (released cell) cell))) (owned_is seat cell its)
@@ -284,22 +303,27 @@ module _ {V : Type 0} where
         | false ↦ λ e. refl
       ] refl
 
-  unowned_no_entry : (seat : ℕ) (o : Option (Cell V)) (e : Option (Undo V)) → ((cell : Cell V) → o ≡ Some cell → IsOwnedBy seat cell → ⊥) → OwnsAsLogged seat o e → e ≡ None
+  unowned_no_entry : (seat : ℕ) (o : Option (Cell V)) (e : Option (Undo V)) → ((cell : Cell V) → o ≡ Some cell → IsOwnedBy seat cell → ⊥)
+      → OwnsAsLogged seat o e → e ≡ None
   unowned_no_entry seat None e none h = no_cell_no_entry seat e h
   unowned_no_entry seat (Some cell) e none h = no_entry seat cell e (none cell refl) h
 
-  pub commit_others : (seat l : ℕ) (c : Contents V) → IsConsistent c → seat < length c.rows → ((cell : Cell V) → slice_get c.cells l ≡ Some cell → IsOwnedBy seat cell → ⊥)
+  pub commit_others : (seat l : ℕ) (c : Contents V) → IsConsistent c → seat < length c.rows → ((cell : Cell V) → slice_get c.cells l ≡ Some cell
+      → IsOwnedBy seat cell → ⊥)
       → committed (released_all seat c) l ≡ committed c l
   commit_others seat l c kept within none =
       let row = row_at c.rows seat in
-      let cells : slice_get (map (released_by seat) c.cells) l ≡ slice_get c.cells l = slice_get-map (released_by seat) c.cells l ∙ unowned_stays seat (slice_get c.cells l) none in
+      let cells : slice_get (map (released_by seat) c.cells) l ≡ slice_get c.cells l = slice_get-map (released_by seat) c.cells l
+      ∙ unowned_stays seat (slice_get c.cells l) none in
       let entry : entry_at row.undos l ≡ None = unowned_no_entry seat (slice_get c.cells l) (entry_at row.undos l) none ((kept.logs seat).owned l) in
       same_elsewhere c seat l (map (released_by seat) c.cells) no_notes within cells (sym entry)
 
   -- unprotected code writes where nobody is, and nothing else changes
-  pub put_here : (l : ℕ) (value : V) (c : Contents V) (cell : Cell V) → slice_get c.cells l ≡ Some cell → IsFree cell → cell.live ≡ true → committed (put_at l value c) l ≡ Some value
+  pub put_here : (l : ℕ) (value : V) (c : Contents V) (cell : Cell V) → slice_get c.cells l ≡ Some cell → IsFree cell → cell.live ≡ true
+      → committed (put_at l value c) l ≡ Some value
   put_here l value c cell at free live =
-      shown_owned c.rows l (slice_get (changed_at l (replaced value) c.cells) l) (replaced value cell) None (changed_here l (replaced value) c.cells cell (slice_get_within c.cells l cell at) at) free
+      shown_owned c.rows l (slice_get (changed_at l (replaced value) c.cells) l)
+      (replaced value cell) None (changed_here l (replaced value) c.cells cell (slice_get_within c.cells l cell at) at) free
       ∙ ap (λ b. cond b (Some value) None) live
 
   pub put_elsewhere : (l j : ℕ) (value : V) (c : Contents V) → j ≢ l → committed (put_at l value c) j ≡ committed c j
@@ -308,5 +332,6 @@ module _ {V : Type 0} where
   pub born_here : (sort : Sort) (ty : TyNo) (value : V) (c : Contents V) → committed (born sort ty value c) (length c.cells) ≡ Some value
   born_here sort ty value c = ap (shown_at c.rows (length c.cells)) (get_push_here c.cells (made sort ty value None))
 
-  pub born_elsewhere : (sort : Sort) (ty : TyNo) (value : V) (j : ℕ) (c : Contents V) → j ≢ length c.cells → committed (born sort ty value c) j ≡ committed c j
+  pub born_elsewhere : (sort : Sort) (ty : TyNo) (value : V) (j : ℕ) (c : Contents V) → j ≢ length c.cells
+      → committed (born sort ty value c) j ≡ committed c j
   born_elsewhere sort ty value j c n = ap (shown_at c.rows j) (get_push_else c.cells (made sort ty value None) j n)

@@ -1,5 +1,6 @@
 -- The entries of an undo log: which location each names, and that none is named twice.
-use Rattle.std.proofs.Common.{◌≡◌, ◌≢◌, ◌==◌, ℕ, ◌-◌, true, false, cond, List, [], ◌∷◌, ◌++◌, length, take, Some, None, slice_get, sym, refl, ap, ◌∙◌, arith, length-append, inl, inr, ⊎_elim}
+use Rattle.std.proofs.Common.{◌≡◌, ◌≢◌, ◌==◌, ℕ, ◌-◌, true, false, cond, List, [], ◌∷◌, ◌++◌, length, take, Some, None, slice_get, sym, refl, ap, ◌∙◌, arith}
+use Rattle.std.proofs.Common.{length-append, inl, inr, ⊎_elim}
 use Rattle.std.specs.Prelude.{nat_eq, nat_lt, ◌⊎◌}
 use Rattle.std.specs.List.{IsDistinct, AllByRecursion}
 use Rattle.std.proofs.lemmas.Bool.{eqb-false, eq-eqb, ne_eqb, ltb-false}
@@ -26,7 +27,8 @@ module _ {V : Type 0} where
   pub entry_push_here : (us : List (Undo V)) (u : Undo V) → entry_at us (named_by u) ≡ None → entry_at (us ++ u ∷ []) (named_by u) ≡ Some u
   entry_push_here [] u = λ _. entry_head u []
   entry_push_here (x ∷ us) u =
-      elim (named_by x == named_by u) as (λ b. cond b (Some x) (entry_at us (named_by u)) ≡ None → cond b (Some x) (entry_at (us ++ u ∷ []) (named_by u)) ≡ Some u) [
+      elim (named_by x == named_by u) as (λ b. cond b (Some x) (entry_at us (named_by u)) ≡ None
+      → cond b (Some x) (entry_at (us ++ u ∷ []) (named_by u)) ≡ Some u) [
         | true ↦ λ e. cc
         | false ↦ λ e. entry_push_here us u e
       ]
@@ -41,7 +43,8 @@ module _ {V : Type 0} where
   entry_apart : (p : ℕ) (us : List (Undo V)) → entry_at us p ≡ None → AllByRecursion (λ q. nat_eq p q ≡ false) (places us)
   entry_apart p [] = λ _. tt
   entry_apart p (u ∷ us) =
-      elim (named_by u == p) as (λ b. (named_by u == p) ≡ b → cond b (Some u) (entry_at us p) ≡ None → AllByRecursion (λ q. nat_eq p q ≡ false) (places (u ∷ us))) [
+      elim (named_by u == p) as (λ b. (named_by u == p) ≡ b → cond b (Some u) (entry_at us p) ≡ None
+      → AllByRecursion (λ q. nat_eq p q ≡ false) (places (u ∷ us))) [
         | true ↦ λ t e. cc
         | false ↦ λ t e. (ne_eqb p (named_by u) (λ same. eqb-false (named_by u) p t (sym same)), entry_apart p us e)
       ] refl
@@ -60,7 +63,8 @@ module _ {V : Type 0} where
   apart_push p [] u h n = (ne_eqb p (named_by u) n, tt)
   apart_push p (x ∷ us) u h n = (h.0, apart_push p us u h.1 n)
 
-  pub once_front : (us : List (Undo V)) (u : Undo V) → IsDistinct nat_eq (places (us ++ u ∷ [])) → IsDistinct nat_eq (places us) × (entry_at us (named_by u) ≡ None)
+  pub once_front : (us : List (Undo V)) (u : Undo V) → IsDistinct nat_eq (places (us ++ u ∷ []))
+      → IsDistinct nat_eq (places us) × (entry_at us (named_by u) ≡ None)
   unfolding IsDistinct
   once_front [] u h = (tt, refl)
   once_front (x ∷ us) u h =
@@ -68,11 +72,13 @@ module _ {V : Type 0} where
       let rest = once_front us u h.1 in
       ((front.0, rest.0), entry_tail x us (named_by u) (λ e. front.1 (sym e)) ∙ rest.1)
 
-  pub once_push : (us : List (Undo V)) (u : Undo V) → IsDistinct nat_eq (places us) → entry_at us (named_by u) ≡ None → IsDistinct nat_eq (places (us ++ u ∷ []))
+  pub once_push : (us : List (Undo V)) (u : Undo V) → IsDistinct nat_eq (places us) → entry_at us (named_by u) ≡ None
+      → IsDistinct nat_eq (places (us ++ u ∷ []))
   unfolding IsDistinct
   once_push [] u h e = (tt, tt)
   once_push (x ∷ us) u h e =
-      elim (named_by x == named_by u) as (λ b. (named_by x == named_by u) ≡ b → cond b (Some x) (entry_at us (named_by u)) ≡ None → IsDistinct nat_eq (places ((x ∷ us) ++ u ∷ []))) [
+      elim (named_by x == named_by u) as (λ b. (named_by x == named_by u) ≡ b → cond b (Some x) (entry_at us (named_by u)) ≡ None
+      → IsDistinct nat_eq (places ((x ∷ us) ++ u ∷ []))) [
         | true ↦ λ t e. cc
         | false ↦ λ t e. (apart_push (named_by x) us u h.0 (eqb-false (named_by x) (named_by u) t), once_push us u h.1 e)
       ] refl e
@@ -88,7 +94,8 @@ module _ {V : Type 0} where
 
   pub undos_undone : (notes : Notes V) → (notes_undone notes).undos ≡ but_last notes.undos
   undos_undone notes =
-      elim (nat_lt 1 (length notes.undos)) as (λ b. nat_lt 1 (length notes.undos) ≡ b → (cond b (record notes { undos = but_last notes.undos }) (record { reads = []; inputs = []; undos = [] })).undos ≡ but_last notes.undos) [
+      elim (nat_lt 1 (length notes.undos)) as (λ b. nat_lt 1 (length notes.undos) ≡ b
+      → (cond b (record notes { undos = but_last notes.undos }) (record { reads = []; inputs = []; undos = [] })).undos ≡ but_last notes.undos) [
         | true ↦ λ t. refl
         | false ↦ λ t. let n : 0 ≡ length notes.undos - 1 = omega (arith, ltb-false 1 (length notes.undos) t) in ap (λ m. take m notes.undos) n
       ] refl

@@ -1,5 +1,6 @@
 -- Cells and logs stay consistent.
-use Rattle.std.proofs.Common.{◌≡◌, ◌≢◌, ℕ, zero, suc, ◌<◌, ◌≤◌, List, [], ◌∷◌, ◌++◌, length, map, set, replicate, get_or, All, Option, Some, None, slice_get, sym, refl, ap, ◌∙◌, arith, ⊎_elim}
+use Rattle.std.proofs.Common.{◌≡◌, ◌≢◌, ℕ, zero, suc, ◌<◌, ◌≤◌, List, [], ◌∷◌, ◌++◌, length, map, set, replicate, get_or, All, Option, Some, None, slice_get}
+use Rattle.std.proofs.Common.{sym, refl, ap, ◌∙◌, arith, ⊎_elim}
 use Rattle.std.proofs.lemmas.List.{length-map}
 use Rattle.std.proofs.lemmas.Bool.{cases_eq, cases_lt}
 use Rattle.std.proofs.lemmas.List.{map-set, get_or-map}
@@ -51,7 +52,8 @@ module _ {V : Type 0} where
 
   -- one seat's call
   pub kept_by_seat : (c : Contents V) (seat : ℕ) (cells : List (Cell V)) (notes : Notes V) → IsConsistent c → seat < length c.rows
-      → IsLogOf seat cells notes.undos → AreWithin cells notes.reads → ((other : ℕ) → other ≢ seat → StaysFor other c.cells cells) → length c.cells ≤ length cells
+      → IsLogOf seat cells notes.undos → AreWithin cells notes.reads → ((other : ℕ) → other ≢ seat → StaysFor other c.cells cells)
+      → length c.cells ≤ length cells
       → IsConsistent (by_seat seat cells notes c)
   kept_by_seat c seat cells notes kept within log reads others le = record {
     logs = λ k. ⊎_elim
@@ -80,12 +82,14 @@ module _ {V : Type 0} where
 
   pub kept_new : (cells : List (Cell V)) (seats : ℕ) → All IsFree cells → IsConsistent (record { cells = cells; rows = replicate seats no_notes })
   kept_new cells seats free = record {
-    logs = λ k. rw (new_row seats k) (nothing_logged k cells (λ l cell at. free_not_owned k cell (all_at IsFree cells l cell (slice_get_within cells l cell at) at free)));
+    logs = λ k. rw (new_row seats k) (nothing_logged k cells
+        (λ l cell at. free_not_owned k cell (all_at IsFree cells l cell (slice_get_within cells l cell at) at free)));
     reads = λ k. rw (new_row seats k) (All-nil (λ note. note.loc.0 < length cells));
   }
 
   -- an owner is a seat of the desk
-  pub owner_within : (c : Contents V) (l owner : ℕ) (cell : Cell V) → IsConsistent c → slice_get c.cells l ≡ Some cell → IsOwnedBy owner cell → owner < length c.rows
+  pub owner_within : (c : Contents V) (l owner : ℕ) (cell : Cell V) → IsConsistent c → slice_get c.cells l ≡ Some cell → IsOwnedBy owner cell
+      → owner < length c.rows
   owner_within c l owner cell kept at its =
       ⊎_elim (λ (h : owner < length c.rows). h)
       (λ (le : length c.rows ≤ owner).
@@ -107,8 +111,10 @@ module _ {V : Type 0} where
       ap (λ rs. let r : Contents V = record { cells = cells; rows = rs } in r) (map-set without_room rows seat row ∙ ap (set (map without_room rows) seat) e)
 
   -- nothing but room became another
-  pub seen_same : (cells : List (Cell V)) (rows : List (Logs V)) (seat : ℕ) (row d : Logs V) → seat < length rows → without_room row ≡ without_room (get_or rows seat d)
+  pub seen_same : (cells : List (Cell V)) (rows : List (Logs V)) (seat : ℕ) (row d : Logs V) → seat < length rows
+      → without_room row ≡ without_room (get_or rows seat d)
       → contents_of cells (set rows seat row) ≡ contents_of cells rows
   seen_same cells rows seat row d h e =
       ap (λ rs. let r : Contents V = record { cells = cells; rows = rs } in r)
-      (map-set without_room rows seat row ∙ ap (set (map without_room rows) seat) (e ∙ sym (row_read rows seat d h)) ∙ row_set_again (map without_room rows) seat (rw (length-map rows without_room) h))
+      (map-set without_room rows seat row ∙ ap (set (map without_room rows) seat) (e ∙ sym (row_read rows seat d h))
+      ∙ row_set_again (map without_room rows) seat (rw (length-map rows without_room) h))

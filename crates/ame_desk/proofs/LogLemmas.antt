@@ -33,7 +33,8 @@ module _ {V : Type 0} where
   no_cell_no_entry seat (Some u) h = absurd h
 
   -- a cell that the seat owns has one
-  pub has_entry : (seat : ℕ) (cell : Cell V) (e : Option (Undo V)) → IsOwnedBy seat cell → OwnsAsLogged seat (Some cell) e → (u : Undo V) × (e ≡ Some u) × IsEntryFor seat u cell
+  pub has_entry : (seat : ℕ) (cell : Cell V) (e : Option (Undo V)) → IsOwnedBy seat cell → OwnsAsLogged seat (Some cell) e
+      → (u : Undo V) × (e ≡ Some u) × IsEntryFor seat u cell
   has_entry seat cell None its h = absurd (h its)
   has_entry seat cell (Some u) its h = (u, refl, h)
 
@@ -47,7 +48,8 @@ module _ {V : Type 0} where
   new_not_owned seat new not_its e h = subst (OwnsAsLogged seat (Some new)) (sym (no_cell_no_entry seat e h)) not_its
 
   -- another value changes nothing of it
-  pub value_apart : (seat : ℕ) (cell : Cell V) (value : V) (e : Option (Undo V)) → OwnsAsLogged seat (Some cell) e → OwnsAsLogged seat (Some (record cell { value = value })) e
+  pub value_apart : (seat : ℕ) (cell : Cell V) (value : V) (e : Option (Undo V)) → OwnsAsLogged seat (Some cell) e
+      → OwnsAsLogged seat (Some (record cell { value = value })) e
   value_apart seat cell value None h = h
   value_apart seat cell value (Some (Wrote l number old)) h = h
   value_apart seat cell value (Some (Made l)) h = h
@@ -73,13 +75,15 @@ module _ {V : Type 0} where
     log_more us u cell log none at fits others = record {
       once = once_push us u log.once none;
       owned = λ l. ⊎_elim
-          (λ (e : l ≡ named_by u). let was = ap (slice_get new) e ∙ at in let has = ap (entry_at (us ++ u ∷ [])) e ∙ entry_push_here us u none in rw (was, has) fits)
+          (λ (e : l ≡ named_by u). let was = ap (slice_get new) e ∙ at in let has = ap (entry_at (us ++ u ∷ [])) e
+          ∙ entry_push_here us u none in rw (was, has) fits)
           (λ (n : l ≢ named_by u). rw (others l n, entry_push_else us u l n) (log.owned l))
           (cases_eq l (named_by u));
     }
 
     -- one entry less, whose cell the seat doesn't own any more
-    less : (us rest : List (Undo V)) (u : Undo V) (cell : Cell V) → IsLogOf seat cells us → IsDistinct nat_eq (places rest) → entry_at rest (named_by u) ≡ None
+    less : (us rest : List (Undo V)) (u : Undo V) (cell : Cell V) → IsLogOf seat cells us → IsDistinct nat_eq (places rest)
+        → entry_at rest (named_by u) ≡ None
         → ((l : ℕ) → l ≢ named_by u → entry_at us l ≡ entry_at rest l)
         → slice_get new (named_by u) ≡ Some cell → (IsOwnedBy seat cell → ⊥) → ((l : ℕ) → l ≢ named_by u → slice_get new l ≡ slice_get cells l)
         → IsLogOf seat new rest
@@ -108,7 +112,8 @@ module _ {V : Type 0} where
       → (cell : Cell V) × (slice_get cells (named_by u) ≡ Some cell) × IsEntryFor seat u cell
   last_cell seat cells us u log =
       let none = (once_front us u log.once).1 in
-      entry_cell seat u (slice_get cells (named_by u)) (subst (OwnsAsLogged seat (slice_get cells (named_by u))) (entry_push_here us u none) (log.owned (named_by u)))
+      entry_cell seat u (slice_get cells (named_by u)) (subst (OwnsAsLogged seat (slice_get cells (named_by u))) (entry_push_here us u none)
+      (log.owned (named_by u)))
 
   pub first_cell : (seat : ℕ) (cells : List (Cell V)) (u : Undo V) (us : List (Undo V)) → IsLogOf seat cells (u ∷ us)
       → (cell : Cell V) × (slice_get cells (named_by u) ≡ Some cell) × IsEntryFor seat u cell
@@ -116,10 +121,12 @@ module _ {V : Type 0} where
       entry_cell seat u (slice_get cells (named_by u)) (subst (OwnsAsLogged seat (slice_get cells (named_by u))) (entry_head u us) (log.owned (named_by u)))
 
   -- a seat without entries owns nothing, and the other way round
-  pub nothing_owned : (seat : ℕ) (cells : List (Cell V)) (l : ℕ) (cell : Cell V) → IsLogOf seat cells [] → slice_get cells l ≡ Some cell → IsOwnedBy seat cell → ⊥
+  pub nothing_owned : (seat : ℕ) (cells : List (Cell V)) (l : ℕ) (cell : Cell V) → IsLogOf seat cells [] → slice_get cells l ≡ Some cell
+      → IsOwnedBy seat cell → ⊥
   nothing_owned seat cells l cell log at = let says = log.owned l in rw at at says
 
-  pub nothing_logged : (seat : ℕ) (cells : List (Cell V)) → ((l : ℕ) (cell : Cell V) → slice_get cells l ≡ Some cell → IsOwnedBy seat cell → ⊥) → IsLogOf seat cells []
+  pub nothing_logged : (seat : ℕ) (cells : List (Cell V)) → ((l : ℕ) (cell : Cell V) → slice_get cells l ≡ Some cell → IsOwnedBy seat cell → ⊥)
+      → IsLogOf seat cells []
   unfolding IsDistinct
   nothing_logged seat cells none = record {
     once = tt;

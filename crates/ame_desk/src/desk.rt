@@ -1,6 +1,7 @@
 //! The desk.
 
-ghost use Rattle.std.specs.Prelude.{◌≡◌, ◌<◌, ◌↔◌, ℕ, [], IsNone, IsSome, IsTrue, IfOk, IfSome, OnOk, OnErr, All, length, map, replicate, slice_get, option_copied};
+ghost use Rattle.std.specs.Prelude.{◌≡◌, ◌<◌, ◌↔◌, ℕ, [], All, length, map, replicate, slice_get, option_copied};
+ghost use Rattle.std.specs.Prelude.{IsNone, IsSome, IsTrue, IfOk, IfSome, OnOk, OnErr};
 ghost use Rattle.std.specs.Option.{ForSome};
 ghost use Rattle.ame_store.specs.Cells.{CanGrow, IsFree};
 ghost use Rattle.ame_rows.specs.Valid.{IsValid, IsFirstBad};

@@ -8,4 +8,5 @@ pub returns-in-Owned-clause-cells : goal.returns-in-Owned-clause-cells
 returns-in-Owned-clause-cells g c =
     let there = get_there c.args.store.now c.args.l.0 c.requires.location in
     c.in-Owned.ensures.cells there.0 there.1
-    ∙ cells_written c.args.seat c.args.l.0 c.args.value (Owned c.in-Owned.owner c.in-Owned.value) c.args.store.now there.0 there.1 (c.in-Owned.ensures.answer there.0 there.1)
+    ∙ cells_written c.args.seat c.args.l.0 c.args.value (Owned c.in-Owned.owner c.in-Owned.value) c.args.store.now there.0 there.1
+    (c.in-Owned.ensures.answer there.0 there.1)

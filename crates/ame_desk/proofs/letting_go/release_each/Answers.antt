@@ -49,5 +49,6 @@ loop-undo-preserved g c =
 
 pub returns : goal.returns
 returns g c =
-    let done = subst (Releasing c.args.seat c.args.store.now c.loop-undo.store) (drop_all c.loop-undo.undo-index c.args.undos.now c.loop-undo-test.false) c.loop-undo.invariant in
+    let done = subst (Releasing c.args.seat c.args.store.now c.loop-undo.store)
+    (drop_all c.loop-undo.undo-index c.args.undos.now c.loop-undo-test.false) c.loop-undo.invariant in
     releasing_ends c.args.seat c.args.store.now c.loop-undo.store done

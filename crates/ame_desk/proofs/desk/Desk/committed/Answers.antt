@@ -5,7 +5,7 @@ use Rattle.ame_desk.specs.Entries.{entry_at}
 use Rattle.ame_desk.specs.Committed.{old_value, committed}
 use Rattle.ame_desk.proofs.KeptLemmas.{owner_within}
 use Rattle.ame_desk.proofs.CommittedLemmas.{committed_owned}
-use Rattle.ame_desk.proofs.FieldLemmas.{row_in}
+use Rattle.ame_desk.proofs.FieldLemmas.{opened, row_in}
 use Rattle.ame_desk.proofs.desk.Desk.committed.Goals as goal
 
 pub index-requires : goal.index-requires
@@ -19,7 +19,7 @@ returns-in-Some g c =
     let seen = contents_of c.self.inside.store c.self.inside.rows.items in
     let l = c.args.l.0 in
     let within = owner_within seen l c.in-Some.owner c.cell-cell.result.now c.self.invariant c.cell-cell.ensures c.in-Some.is in
-    let row = row_in c.self.inside.store c.self.inside.rows.items (contents_of c.self.inside.store c.self.inside.rows.items) refl c.self.invariant c.in-Some.owner within c.index.result.now c.index.ensures in
+    let row = row_in (opened c.self.inside.store c.self.inside.rows.items refl c.self.invariant within c.index.ensures) in
     c.old_value.ensures
     ∙ ap (λ us. option_and_then old_value (entry_at us l)) (c.undos.ensures ∙ ap (λ (n : Notes g.row.V.Denot). n.undos) (sym row))
     ∙ sym (committed_owned seen l c.cell-cell.result.now c.in-Some.owner c.cell-cell.ensures c.if-not-cell.false c.in-Some.is)

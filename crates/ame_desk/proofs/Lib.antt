@@ -6,3 +6,4 @@ pub mod CommittedLemmas
 pub mod AccessLemmas
 pub mod LettingGoLemmas
 pub mod FieldLemmas
+pub mod RisingLemmas

@@ -1,7 +1,8 @@
 //! The desk.
 
 ghost use Rattle.std.specs.Prelude.{◌≡◌, ◌<◌, ◌↔◌, ℕ, [], All, length, map, replicate, slice_get, option_copied};
-ghost use Rattle.std.specs.Prelude.{IsNone, IsSome, IsTrue, IfOk, IfSome, OnOk, OnErr};
+ghost use Rattle.std.specs.Prelude.{IsNone, IsPermutation, IsSome, IsTrue, IfOk, IfSome, OnOk, OnErr};
+ghost use Rattle.std.specs.List.Sorted.{IsStrictlyIncreasing};
 ghost use Rattle.std.specs.Option.{ForSome};
 ghost use Rattle.ame_store.specs.Cells.{CanGrow, IsFree};
 ghost use Rattle.ame_rows.specs.Valid.{IsValid, IsFirstBad};
@@ -15,7 +16,7 @@ ghost use Rattle.ame_desk.specs.LettingGo.{released_all, undone_last};
 use crate::access::{allocate, read, write};
 use crate::answer::WriteAnswer;
 use crate::letting_go::{release_all, undo_last};
-use crate::rows::{empty_rows, locations, old_value};
+use crate::rows::{empty_rows, old_value, sorted_locations};
 use ame_rows::{Bad, Row};
 use ame_store::Store;
 use ame_term::{Copied, Loc, NoMemory, Sort, TyNo};
@@ -79,12 +80,15 @@ impl<V> Desk<V> {
         &self.rows[seat as usize]
     }
 
-    /// The locations that a seat owns, from the first that it wrote or made on.
+    /// The locations that a seat owns, in rising order.
     pub fn owned(&self, alloc: Global, seat: u32) -> Result<Vec<Loc>, NoMemory>
         requires { seat < length self.now.rows }
-        ensures { IfOk result (λ locs. map (λ l. l.0) locs.items ≡ places (row_at self.now.rows seat).undos) }
+        ensures same { IfOk result (λ locs.
+            IsPermutation (places (row_at self.now.rows seat).undos) (map (λ l. l.0) locs.items)) }
+        ensures rising { IfOk result (λ locs. IsStrictlyIncreasing (map (λ l. l.0) locs.items)) }
     {
-        locations(alloc, self.rows[seat as usize].undos())
+        let locs = sorted_locations(alloc, self.rows[seat as usize].undos())?;
+        Ok(locs)
     }
 
     /// Whether each read that a seat logged is valid; else the first that isn't.

@@ -1,6 +1,7 @@
 //! The logs of each seat, as a desk begins, and one entry of them.
 
-ghost use Rattle.std.specs.Prelude.{◌≡◌, ◌==◌, Bool, IfOk, map, option_copied, option_and_then, replicate};
+ghost use Rattle.std.specs.Prelude.{◌≡◌, ◌==◌, Bool, IfOk, IsPermutation, map, option_copied, option_and_then, replicate};
+ghost use Rattle.std.specs.List.Sorted.{IsNonDecreasingBy};
 ghost use Rattle.ame_desk.specs.Contents.{no_notes, without_room};
 ghost use Rattle.ame_desk.specs.Entries.{named_by, places, entry_at};
 ghost use Rattle.ame_desk.specs.Committed.{old_value as old_of};
@@ -31,13 +32,34 @@ pub(crate) fn location<V>(undo: &Undo<V>) -> Loc
 }
 
 /// The locations that a log names, in its order.
-pub(crate) fn locations<V>(alloc: Global, undos: &[Undo<V>]) -> Result<Vec<Loc>, NoMemory>
+fn locations<V>(alloc: Global, undos: &[Undo<V>]) -> Result<Vec<Loc>, NoMemory>
     ensures { IfOk result (λ locs. map (λ l. l.0) locs.items ≡ places undos.now) }
 {
     let mut locs = Vec::new(alloc);
     for undo in undos {
         locs.push(location(undo))?;
     }
+    Ok(locs)
+}
+
+/// Puts locations into rising order.
+fn sort(locs: &mut Vec<Loc>)
+    ensures same { IsPermutation locs.old.items locs.new.items }
+    ensures rising { IsNonDecreasingBy (λ l. l.0) locs.new.items }
+{
+    locs.sort_unstable_by_key(|l| l.0);
+}
+
+/// The locations that a log names, in rising order.
+pub(crate) fn sorted_locations<V>(
+    alloc: Global,
+    undos: &[Undo<V>],
+) -> Result<Vec<Loc>, NoMemory>
+    ensures same { IfOk result (λ locs. IsPermutation (places undos.now) (map (λ l. l.0) locs.items)) }
+    ensures rising { IfOk result (λ locs. IsNonDecreasingBy (λ l. l.0) locs.items) }
+{
+    let mut locs = locations(alloc, undos)?;
+    sort(&mut locs);
     Ok(locs)
 }
 

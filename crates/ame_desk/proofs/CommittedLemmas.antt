@@ -1,7 +1,7 @@
 -- What is committed at each location, after each call.
 use Rattle.std.proofs.Common.{◌≡◌, ◌≢◌, ◌==◌, ℕ, ◌<◌, true, false, cond, List, [], ◌∷◌, ◌++◌, length, set, map, Option, Some, None, slice_get, sym, refl, ap}
 use Rattle.std.proofs.Common.{subst, ◌∙◌, arith, ⊎_elim}
-use Rattle.std.specs.Prelude.{option_map, option_and_then, IsSome, is_some, nat_eq}
+use Rattle.std.specs.Prelude.{◌+◌, option_map, option_and_then, IsSome, IsSomeAnd, is_some, nat_eq}
 use Rattle.std.specs.Option.{option_map_or}
 use Rattle.std.specs.List.{IsDistinct}
 use Rattle.std.proofs.lemmas.Bool.{cases_eq}
@@ -178,6 +178,35 @@ module _ {V : Type 0} where
       changed_else p (undone_by u) (all_undone us cells) l n ∙ rest ∙ ap (λ o. option_map (rolled_back o) (slice_get cells l)) (sym (entry_tail u us l n)))
       (cases_eq l p)
 
+  unowned_no_entry : (seat : ℕ) (o : Option (Cell V)) (e : Option (Undo V)) → ((cell : Cell V) → o ≡ Some cell → IsOwnedBy seat cell → ⊥)
+      → OwnsAsLogged seat o e → e ≡ None
+  unowned_no_entry seat None e none h = no_cell_no_entry seat e h
+  unowned_no_entry seat (Some cell) e none h = no_entry seat cell e (none cell refl) h
+
+  undone_number : (u : Undo V) (cell : Cell V) → (undone_by u cell).number ≡ cell.number + 1
+  undone_number (Wrote l number old) cell = refl
+  undone_number (Made l) cell = refl
+
+  -- a cell of the seat is nobody's after a whole rollback, and has the next number
+  pub rollback_back : (seat l : ℕ) (cell : Cell V) (us : List (Undo V)) (cells : List (Cell V)) → IsLogOf seat cells us
+      → slice_get cells l ≡ Some cell → IsOwnedBy seat cell
+      → IsSomeAnd (slice_get (all_undone us cells) l) (λ after. IsFree after × (after.number ≡ cell.number + 1))
+  rollback_back seat l cell us cells log at its =
+      let says = log.owned l in
+      let entry = has_entry seat cell (entry_at us l) its (rw at at says) in
+      let after : slice_get (all_undone us cells) l ≡ Some (undone_by entry.0 cell) =
+      rollback_whole us cells l log.once ∙ ap (λ o. option_map (rolled_back (entry_at us l)) o) at
+      ∙ ap (λ e. Some (rolled_back e cell)) entry.1 in
+      rw after (undone_free entry.0 cell, undone_number entry.0 cell)
+
+  -- every other cell stays
+  pub rollback_others : (seat l : ℕ) (us : List (Undo V)) (cells : List (Cell V)) → IsLogOf seat cells us
+      → ((cell : Cell V) → slice_get cells l ≡ Some cell → IsOwnedBy seat cell → ⊥) → slice_get (all_undone us cells) l ≡ slice_get cells l
+  rollback_others seat l us cells log none =
+      rollback_whole us cells l log.once
+      ∙ ap (λ e. option_map (rolled_back e) (slice_get cells l)) (unowned_no_entry seat (slice_get cells l) (entry_at us l) none (log.owned l))
+      ∙ unchanged (slice_get cells l)
+
   -- ---- reads, writes and allocations
   pub read_unseen : (seat : ℕ) (l : Loc) (input : V) (j : ℕ) (c : Contents V) → seat < length c.rows
       → committed (by_seat seat c.cells (notes_read seat l input c.cells (row_at c.rows seat)) c) j ≡ committed c j
@@ -302,11 +331,6 @@ module _ {V : Type 0} where
         | true ↦ λ e. absurd (none cell refl (is_owned seat cell e))
         | false ↦ λ e. refl
       ] refl
-
-  unowned_no_entry : (seat : ℕ) (o : Option (Cell V)) (e : Option (Undo V)) → ((cell : Cell V) → o ≡ Some cell → IsOwnedBy seat cell → ⊥)
-      → OwnsAsLogged seat o e → e ≡ None
-  unowned_no_entry seat None e none h = no_cell_no_entry seat e h
-  unowned_no_entry seat (Some cell) e none h = no_entry seat cell e (none cell refl) h
 
   pub commit_others : (seat l : ℕ) (c : Contents V) → IsConsistent c → seat < length c.rows → ((cell : Cell V) → slice_get c.cells l ≡ Some cell
       → IsOwnedBy seat cell → ⊥)

@@ -1,6 +1,6 @@
 //! Laws of what is committed, each the contract of a function that does nothing.
 
-ghost use Rattle.std.specs.Prelude.{◌≡◌, ◌≢◌, ◌<◌, ◌+◌, ℕ, List, Some, IsSome, length, true, nat_eq, map, option_map, slice_get};
+ghost use Rattle.std.specs.Prelude.{◌≡◌, ◌≢◌, ◌<◌, ◌+◌, ℕ, List, Some, IsSome, IsSomeAnd, length, true, nat_eq, map, option_map, slice_get};
 ghost use Rattle.std.specs.List.{IsDistinct};
 ghost use Rattle.ame_term.specs.declared.types.Loc.{Loc};
 ghost use Rattle.ame_term.specs.declared.types.Sort.{Sort};
@@ -9,7 +9,7 @@ ghost use Rattle.ame_store.specs.declared.cell.Cell.{Cell};
 ghost use Rattle.ame_store.specs.Cells.{IsFree, IsOwnedBy};
 ghost use Rattle.ame_rows.specs.declared.notes.Undo.{Undo};
 ghost use Rattle.ame_desk.specs.Contents.{Contents, row_at, by_seat};
-ghost use Rattle.ame_desk.specs.Entries.{places, entry_at};
+ghost use Rattle.ame_desk.specs.Entries.{places, entry_at, IsLogOf};
 ghost use Rattle.ame_desk.specs.Consistent.{IsConsistent};
 ghost use Rattle.ame_desk.specs.Committed.{committed};
 ghost use Rattle.ame_desk.specs.Access.{notes_read, written_by, allocated_by, put_at, born};
@@ -29,7 +29,8 @@ pub fn attempts_are_not_seen<V>()
 {}
 
 /// A step of a rollback changes nothing of what is committed. What is left of it does to the cells now what all of it did to
-/// those before, and as a whole it undoes at each location the entry that names it and leaves every other cell.
+/// those before. As a whole it undoes at each location the entry that names it: no cell is the seat's any more, the number of each
+/// that was has grown by one, and every other cell stays.
 pub fn rollbacks_are_not_seen<V>()
     ensures step { (seat j : ℕ) (c : Contents V) → IsConsistent c → seat < length c.rows
         → committed (undone_last seat c) j ≡ committed c j }
@@ -37,6 +38,12 @@ pub fn rollbacks_are_not_seen<V>()
         → all_undone (but_last undos) (cells_undone undos cells) ≡ all_undone undos cells }
     ensures whole { (j : ℕ) (undos : List (Undo V)) (cells : List (Cell V)) → IsDistinct nat_eq (places undos)
         → slice_get (all_undone undos cells) j ≡ option_map (rolled_back (entry_at undos j)) (slice_get cells j) }
+    ensures back { (seat j : ℕ) (cell : Cell V) (undos : List (Undo V)) (cells : List (Cell V)) → IsLogOf seat cells undos
+        → slice_get cells j ≡ Some cell → IsOwnedBy seat cell
+        → IsSomeAnd (slice_get (all_undone undos cells) j) (λ after. IsFree after × (after.number ≡ cell.number + 1)) }
+    ensures others { (seat j : ℕ) (undos : List (Undo V)) (cells : List (Cell V)) → IsLogOf seat cells undos
+        → ((cell : Cell V) → slice_get cells j ≡ Some cell → IsOwnedBy seat cell → ⊥)
+        → slice_get (all_undone undos cells) j ≡ slice_get cells j }
 {}
 
 /// A release commits what the seat has in place in the cells that it owns, and leaves every other cell and what is committed there.

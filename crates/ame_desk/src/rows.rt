@@ -51,10 +51,7 @@ fn sort(locs: &mut Vec<Loc>)
 }
 
 /// The locations that a log names, in rising order.
-pub(crate) fn sorted_locations<V>(
-    alloc: Global,
-    undos: &[Undo<V>],
-) -> Result<Vec<Loc>, NoMemory>
+pub(crate) fn sorted_locations<V>(alloc: Global, undos: &[Undo<V>]) -> Result<Vec<Loc>, NoMemory>
     ensures same { IfOk result (λ locs. IsPermutation (places undos.now) (map (λ l. l.0) locs.items)) }
     ensures rising { IfOk result (λ locs. IsNonDecreasingBy (λ l. l.0) locs.items) }
 {

@@ -23,7 +23,7 @@ use Rattle.ame_desk.specs.Entries.{entry_at, OwnsAsLogged, IsLogOf}
 use Rattle.ame_desk.specs.Consistent.{IsConsistent}
 use Rattle.ame_desk.specs.Access.{changed_at, is_owned_by, noted_read, notes_read, overwritten, noted_write, told_write, notes_written, written_by}
 use Rattle.ame_desk.specs.Access.{next_place, notes_allocated, allocated_by, put_at, born}
-use Rattle.ame_desk.proofs.LookupLemmas.{set_again, get_push_here, get_push_else, changed_is, changed_here, changed_else, changed_length}
+use Rattle.ame_desk.proofs.LookupLemmas.{set_again, row_set_again, get_push_here, get_push_else, changed_is, changed_here, changed_else, changed_length}
 use Rattle.ame_desk.proofs.LogLemmas.{no_entry, no_cell_no_entry, neither_owned, value_apart, not_of_another, free_not_owned, log_along, log_more}
 use Rattle.ame_desk.proofs.KeptLemmas.{AreWithin, within_more, StaysFor, stays_at, stays_push, kept_by_seat, kept_by_none}
 
@@ -78,6 +78,21 @@ module _ {V : Type 0} where
   notes_refused seat other l input cells notes cell at its n =
       notes_at seat l input cells notes cell at ∙ ap (λ o. noted_write seat l input o cell notes) its
       ∙ ap (λ b. cond b (record notes { inputs = notes.inputs ++ input ∷ [] }) notes) (ne_eqb other seat n)
+
+  -- a write that is refused changes nothing
+  pub written_refused : (seat owner : ℕ) (l : Loc) (value input : V) (c : Contents V) (cell : Cell V) → seat < length c.rows
+      → slice_get c.cells l.0 ≡ Some cell → IsOwnedBy owner cell → owner ≢ seat → written_by seat l value input c ≡ c
+  written_refused seat owner l value input c cell within at its n =
+      let row = row_at c.rows seat in
+      let notes = notes_written seat l input c.cells row in
+      let cells_same : changed_at l.0 (λ x. overwritten seat value x.owner x) c.cells ≡ c.cells =
+      changed_is l.0 (λ x. overwritten seat value x.owner x) c.cells cell at
+      ∙ ap (λ o. set c.cells l.0 (overwritten seat value o cell)) its
+      ∙ ap (λ b. set c.cells l.0 (cond b (record cell { value = value }) cell)) (ne_eqb owner seat n)
+      ∙ set_again c.cells l.0 cell at in
+      ap (λ cells. by_seat seat cells notes c) cells_same
+      ∙ ap (λ x. by_seat seat c.cells x c) (notes_refused seat owner l input c.cells row cell at its n)
+      ∙ ap (λ rows. record c { rows = rows }) (row_set_again c.rows seat within)
 
   -- ---- consistent still
   -- after a write

@@ -16,12 +16,15 @@ ghost use Rattle.ame_desk.specs.Access.{notes_read, written_by, allocated_by, pu
 ghost use Rattle.ame_desk.specs.LettingGo.{released_by, released_all, but_last, cells_undone, undone_last};
 ghost use Rattle.ame_desk.specs.Rollback.{all_undone, rolled_back};
 
-/// What a seat reads, writes and allocates changes nothing of what is committed, and a live cell has a committed value.
+/// What a seat reads, writes and allocates changes nothing of what is committed, and a live cell has a committed value. A write to
+/// the cell of another seat changes nothing at all.
 pub fn attempts_are_not_seen<V>()
     ensures read { (seat j : ℕ) (l : Loc) (input : V) (c : Contents V) → seat < length c.rows
         → committed (by_seat seat c.cells (notes_read seat l input c.cells (row_at c.rows seat)) c) j ≡ committed c j }
     ensures write { (seat j : ℕ) (l : Loc) (value input : V) (c : Contents V) → IsConsistent c → seat < length c.rows → l.0 < length c.cells
         → committed (written_by seat l value input c) j ≡ committed c j }
+    ensures refused { (seat owner : ℕ) (l : Loc) (value input : V) (cell : Cell V) (c : Contents V) → seat < length c.rows
+        → slice_get c.cells l.0 ≡ Some cell → IsOwnedBy owner cell → owner ≢ seat → written_by seat l value input c ≡ c }
     ensures allocate { (seat j : ℕ) (sort : Sort) (ty : TyNo) (value input : V) (c : Contents V) → seat < length c.rows
         → committed (allocated_by seat sort ty value input c) j ≡ committed c j }
     ensures live { (j : ℕ) (cell : Cell V) (c : Contents V) → IsConsistent c → slice_get c.cells j ≡ Some cell → cell.live ≡ true

@@ -68,7 +68,7 @@ after_token token rest tokens alone apart lexed front =
 
 abbrev pub laid : Bool → List Printed → Text → Text
 laid is_first [] after = after
-laid is_first (token ∷ rest) after = gap is_first token.kind ++ token.bytes ++ laid (is_open_kind token.kind) rest after
+laid is_first (token ∷ rest) after = gap is_first token.kind ++ (token.bytes ++ laid (is_open_kind token.kind) rest after)
 
 -- a closing parenthesis begins with no byte of a word
 closing_ends : {kind : Kind} {text spelling rest : Text} (more : Text) → IsToken text kind spelling rest → is_close_kind kind ≡ true → begins is_word_byte (spelling ++ more) ≡ false
@@ -79,7 +79,7 @@ closing_ends more (grammar.number n fit alone) is = (cc)
 closing_ends more (grammar.symbol e) is = (cc)
 closing_ends more (grammar.minus e alone) is = (cc)
 
-gap_ends : (none : Bool) (token : Printed) (more : Text) → IsAlone token → is_close_kind token.kind ≡ none → begins is_word_byte (cond none [] (32 ∷ []) ++ token.bytes ++ more) ≡ false
+gap_ends : (none : Bool) (token : Printed) (more : Text) → IsAlone token → is_close_kind token.kind ≡ none → begins is_word_byte (cond none [] (32 ∷ []) ++ (token.bytes ++ more)) ≡ false
 unfolding class_of
 gap_ends true token more alone is = closing_ends more (alone [] (λ e. refl)) is
 gap_ends false token more alone is = refl

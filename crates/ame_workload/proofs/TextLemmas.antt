@@ -45,6 +45,19 @@ zero_token = ap (literal 0) (decimal_digit 0 (omega arith))
 one_token : number_token (pos 1) ≡ literal 1 (codes "1")
 one_token = ap (literal 1) (decimal_digit 1 (omega arith))
 
+-- ---- joined texts, from the right
+
+module _ {X : Type 0} where
+  five : (a b c d e : List X) → a ++ b ++ c ++ d ++ e ≡ a ++ (b ++ (c ++ (d ++ e)))
+  five a b c d e = simp append_assoc
+
+  six : (a b c d e f : List X) → a ++ b ++ c ++ d ++ e ++ f ≡ a ++ (b ++ (c ++ (d ++ (e ++ f))))
+  six a b c d e f = simp append_assoc
+
+seventeen : (a b c d e f g h i j k l m n o p q : Text) → a ++ b ++ c ++ d ++ e ++ f ++ g ++ h ++ i ++ j ++ k ++ l ++ m ++ n ++ o ++ p ++ q
+    ≡ a ++ (b ++ (c ++ (d ++ (e ++ (f ++ (g ++ (h ++ (i ++ (j ++ (k ++ (l ++ (m ++ (n ++ (o ++ (p ++ q)))))))))))))))
+seventeen a b c d e f g h i j k l m n o p q = simp append_assoc
+
 -- ---- a transfer's line
 
 abbrev get_by : Text → List Printed
@@ -64,7 +77,12 @@ unfolding term_tokens
 transfer_tokens t = refl
 
 transfer_bytes : (t : Transfer) → transfer_line t ≡ laid true (transfer_by t.amount (97 ∷ decimal t.from) (97 ∷ decimal t.to) (literal 1 (codes "1"))) (10 ∷ [])
-transfer_bytes t = refl
+transfer_bytes t =
+    let from = decimal t.from in
+    let to = decimal t.to in
+    let amount = decimal t.amount in
+    seventeen (codes "(async (do (blockUntil (not (< (get a") from (codes ") ") amount (codes "))) (set a") from (codes " (- (get a") from (codes ") ") amount (codes ")) (set a") to
+    (codes " (+ (get a") to (codes ") ") amount (codes ")) (set done (+ (get done) 1))))\n")
 
 transfer_alike : (amount : ℕ) (f f' g g' : Text) (o o' : Printed) → f ≡ f' → g ≡ g' → o ≡ o' → transfer_by amount f' g' o' ≡ transfer_by amount f g o
 transfer_alike amount f f' g g' o o' p q r =
@@ -90,7 +108,7 @@ cell_alone start cell known small = (
 )
 
 account_bytes : (start account : ℕ) → account_line start account ≡ laid true (cell_by (97 ∷ decimal account) (number_token (pos start))) (10 ∷ [])
-account_bytes start account = refl
+account_bytes start account = five (codes "(let a") (decimal account) (codes " (ref p ") (decimal start) (codes ")\n")
 
 account_is_line : (start account : ℕ) → start < 2 ^ 63 → account < 8 → IsLine (account_line start account) (cell_tokens start account)
 account_is_line start account small below =
@@ -119,7 +137,7 @@ head_alone size small = (opening_alone, ((reserved w.Async).alone, (opening_alon
 
 report_bytes : (size : ℕ) (prints : Text) → codes "(async (do (blockUntil (= (get done) " ++ decimal size ++ codes "))" ++ prints ++ codes "))\n"
     ≡ laid true (report_head size) (prints ++ codes "))\n")
-report_bytes size prints = refl
+report_bytes size prints = five (codes "(async (do (blockUntil (= (get done) ") (decimal size) (codes "))") prints (codes "))\n")
 
 two_ends : (rest : List Printed) (later : List Printed) → ((rest ++ close_token ∷ []) ++ close_token ∷ []) ++ later ≡ rest ++ close_token ∷ close_token ∷ later
 two_ends rest later = append_assoc (rest ++ close_token ∷ []) (close_token ∷ []) later ∙ append_assoc rest (close_token ∷ []) (close_token ∷ later)
@@ -137,7 +155,8 @@ unfolding term_tokens
 print_tokens x = refl
 
 print_bytes : (x : ℕ) (after : Text) → print_of x ++ after ≡ laid false (print_by (97 ∷ decimal x)) after
-print_bytes x after = ap (λ z. codes " (print (get a" ++ z) (append_assoc (decimal x) (codes "))") after)
+print_bytes x after =
+    append_assoc (codes " (print (get a" ++ decimal x) (codes "))") after ∙ append_assoc (codes " (print (get a") (decimal x) (codes "))" ++ after)
 
 print_laid : (x : ℕ) (after : Text) → x < 8 → print_of x ++ after ≡ laid false (term_tokens workload_names (print_term x)) after
 print_laid x after below = print_bytes x after ∙ ap (λ z. laid false z after) (ap print_by (sym (spelled_account x below)) ∙ print_tokens x)
@@ -218,18 +237,21 @@ by_lines seed size =
 
 inside_flat : (parts : Trees) (front last : List Printed) → row_tokens workload_names parts ≡ front ++ last
     → term_tokens workload_names (with_cells 0 (counter ∷ []) (Tree.Do parts)) ++ closed accounts
-    ≡ cell_tokens 0 counter ++ (open_token ∷ word (codes "do") ∷ []) ++ front ++ last ++ ten_ends
+    ≡ cell_tokens 0 counter ++ ((open_token ∷ word (codes "do") ∷ []) ++ (front ++ (last ++ ten_ends)))
 unfolding term_tokens
 inside_flat parts front last e =
-    ap (λ z. cell_tokens 0 counter ++ (open_token ∷ word (codes "do") ∷ []) ++ z)
+    ap (λ z. cell_tokens 0 counter ++ ((open_token ∷ word (codes "do") ∷ []) ++ z))
     (two_ends (row_tokens workload_names parts) (closed accounts) ∙ ap (λ z. z ++ ten_ends) e ∙ append_assoc front last ten_ends)
 
 whole_flat : (seed size : ℕ) → term_tokens workload_names (workload_term seed size) ≡ by_lines seed size
 whole_flat seed size =
     let parts = row (map transfer_term (transfers seed size) ++ report_term size ∷ []) in
+    let cells = flat_map (cell_tokens (initial_balance size)) accounts in
+    let moves = flat_map transfer_tokens_of (transfers seed size) in
+    let report = term_tokens workload_names (report_term size) in
     cells_flat (initial_balance size) accounts (with_cells 0 (counter ∷ []) (members_term seed size))
-    ∙ ap (λ z. flat_map (cell_tokens (initial_balance size)) accounts ++ z)
-    (inside_flat parts (flat_map transfer_tokens_of (transfers seed size)) (term_tokens workload_names (report_term size)) (members_flat size (transfers seed size)))
+    ∙ ap (λ z. cells ++ z) (inside_flat parts moves report (members_flat size (transfers seed size)))
+    ∙ sym (six cells (cell_tokens 0 counter) (open_token ∷ word (codes "do") ∷ []) moves report ten_ends)
 
 -- ---- the whole text
 
@@ -245,10 +267,21 @@ whole_lines : (seed size : ℕ) → size ≤ 4000 → AllByRecursion IsTransfer 
 whole_lines seed size most all =
     let start = initial_balance size in
     let small : start < 2 ^ 63 = omega (arith, most) in
+    let a = account_lines start in
+    let b = codes "(let done (ref p 0)\n" in
+    let c = codes "(do\n" in
+    let d = transfer_lines seed size in
+    let s = flat_map (cell_tokens start) accounts in
+    let t = cell_tokens 0 counter in
+    let u = open_token ∷ word (codes "do") ∷ [] in
+    let v = flat_map transfer_tokens_of (transfers seed size) in
+    let w = term_tokens workload_names (report_term size) in
     let cells = lines (account_line start) (cell_tokens start) (λ x. x < 8) (λ x below. account_is_line start x small below) accounts accounts_are_cells in
     let moves = lines transfer_line transfer_tokens_of IsTransfer transfer_is_line (transfers seed size) all in
-    two_lines _ _ _ _ cells
-    (two_lines _ _ _ _ counter_is_line (two_lines _ _ _ _ do_is_line (two_lines _ _ _ _ moves (two_lines _ _ _ _ (report_is_line size (omega (arith, most))) end_is_line))))
+    two_lines (a ++ b ++ c ++ d ++ report_line size) (codes "))))))))))\n") (s ++ t ++ u ++ v ++ w) ten_ends
+    (two_lines (a ++ b ++ c ++ d) (report_line size) (s ++ t ++ u ++ v) w
+    (two_lines (a ++ b ++ c) d (s ++ t ++ u) v (two_lines (a ++ b) c (s ++ t) u (two_lines a b s t cells counter_is_line) do_is_line) moves) (report_is_line size (omega (arith, most))))
+    end_is_line
 
 pub text_lexed : (seed size : ℕ) → size ≤ 4000 → AllByRecursion IsTransfer (transfers seed size) → IsLexed (program_text seed size) (term_tokens workload_names (workload_term seed size))
 text_lexed seed size most all =

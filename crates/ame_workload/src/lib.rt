@@ -3,6 +3,4 @@
 
 mod laws;
 
-pub use laws::{
-    text_has_canonical_tokens, text_is_accepted, text_is_read, workload_is_typed,
-};
+pub use laws::{text_has_canonical_tokens, text_is_accepted, text_is_read, workload_is_typed};

@@ -18,12 +18,12 @@ use Rattle.ame_parse.specs.Names.{number_in, with_name}
 use Rattle.ame_parse.specs.Forms.{row}
 use Rattle.ame_parse.specs.Grammar as g
 use Rattle.ame_parse.specs.Grammar.{IsUnary, IsBinary, IsTerm, IsForm, AreParts}
-use Rattle.ame_print.specs.Layout.{Printed, open_token, close_token, word, number_token}
+use Rattle.ame_print.specs.Layout.{Printed, close_token, word, number_token}
 use Rattle.ame_print.specs.Tokens.{form, sort_token, unary_tokens, binary_token, term_tokens, row_tokens}
 use Rattle.ame_print.proofs.Canon.{IsLike}
 use Rattle.ame_print.proofs.Alone.{IsFixed, closing_fixed, reserved, word_text, unary_word, binary_fixed, sort_fixed, sort_read}
 use Rattle.ame_print.proofs.Numbers.{number_alone}
-use Rattle.ame_print.proofs.Parts.{Part, Moves, Begun, Both, Shut, begun, both, mapped, regrouped, within, atom, shut_part, form_part}
+use Rattle.ame_print.proofs.Parts.{Part, Moves, Shut, begun, both, mapped, regrouped, within, atom, shut_part, form_part}
 use Rattle.ame_workload.specs.Workload.{numeral}
 
 -- the tokens are read as the term, with at most so many parentheses open, between inputs like these

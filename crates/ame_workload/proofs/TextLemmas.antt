@@ -1,5 +1,5 @@
 -- The generated text is lines of the program's canonical tokens.
-use Rattle.std.proofs.Common.{◌≡◌, refl, sym, ap, subst, ◌∙◌, ℕ, zero, suc, ◌≤◌, ◌<◌, ◌^◌, ◌*◌, pos, Bool, true, false, List, [], ◌∷◌, ◌++◌, map, append_assoc, append-nil, decimal, arith}
+use Rattle.std.proofs.Common.{◌≡◌, refl, sym, ap, subst, ◌∙◌, ℕ, zero, suc, ◌≤◌, ◌<◌, ◌^◌, pos, true, false, List, [], ◌∷◌, ◌++◌, map, append_assoc, append-nil, decimal, arith}
 use Rattle.std.specs.Prelude.{codes}
 use Rattle.std.specs.List.{AllByRecursion, flat_map}
 use Rattle.std.proofs.lemmas.Fmt.{decimal_digit}

@@ -1,7 +1,6 @@
 -- What tokens that are lexed and read make of their text.
 use Rattle.std.proofs.Common.{◌≡◌, refl, sym, ap, ◌∙◌, true, List, [], ◌∷◌, map, append-nil}
 use Rattle.ame_lex.specs.Bytes.{Text}
-use Rattle.ame_term.specs.Tree.{Tree}
 use Rattle.ame_parse.specs.declared.ahead.Ahead.TheVariants as a
 use Rattle.ame_parse.specs.Fault.{lexeme_of}
 use Rattle.ame_parse.specs.Grammar as g

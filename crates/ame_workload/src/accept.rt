@@ -53,7 +53,12 @@ fn accepted_of(alloc: Global, program: Program, devices: u32) -> Result<Accepted
 }
 
 /// The generated program, read from its text and accepted on so many devices. No text has a fault; memory may be wanting.
-pub fn accepted_workload(alloc: Global, seed: u32, size: u32, devices: u32) -> Result<Accepted, NoMemory>
+pub fn accepted_workload(
+    alloc: Global,
+    seed: u32,
+    size: u32,
+    devices: u32,
+) -> Result<Accepted, NoMemory>
     requires seed { seed ≤ SEED_LIMIT }
     requires some { 1 ≤ size }
     requires most { size ≤ SIZE_LIMIT }

@@ -1,4 +1,4 @@
-use Rattle.std.proofs.Common.{◌≡◌, refl, [], map, Ok}
+use Rattle.std.proofs.Common.{refl, [], map, Ok}
 use Rattle.std.proofs.lemmas.List.Elements.{recursion_from_All}
 use Rattle.ame_parse.specs.Seen.{seen}
 use Rattle.ame_print.specs.Again.{source_text}

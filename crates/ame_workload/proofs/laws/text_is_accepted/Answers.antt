@@ -1,6 +1,5 @@
-use Rattle.std.proofs.Common.{◌≡◌, ◌≤◌, ◌+◌, ◌*◌, ◌∙◌, ap, length, Ok, arith}
+use Rattle.std.proofs.Common.{◌∙◌, ap, arith}
 use Rattle.ame_term.specs.Typing.{typing}
-use Rattle.ame_gen.specs.Template.{program_text}
 use Rattle.ame_workload.proofs.laws.text_is_accepted.Goals as goal
 
 pub returns : goal.returns

@@ -1,4 +1,4 @@
-use Rattle.std.proofs.Common.{[], ℕ, ◌≤◌}
+use Rattle.std.proofs.Common.{[]}
 use Rattle.std.proofs.lemmas.List.Elements.{recursion_from_All}
 use Rattle.ame_lex.specs.Bytes.{Text}
 use Rattle.ame_parse.specs.Text.{Source}

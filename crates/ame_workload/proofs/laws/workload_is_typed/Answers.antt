@@ -1,9 +1,9 @@
-use Rattle.std.proofs.Common.{◌≡◌, refl, ap, ◌∙◌, ℕ, List, Ok}
+use Rattle.std.proofs.Common.{◌≡◌, refl, ap, ◌∙◌, ℕ, Ok}
 use Rattle.std.specs.Prelude.{slice_index}
 use Rattle.std.proofs.lemmas.List.Elements.{recursion_from_All}
 use Rattle.ame_term.specs.Tree.{Typ}
 use Rattle.ame_term.specs.Scope.{unscoped}
-use Rattle.ame_term.specs.Typing.{no_cells, typed, typing, program_row, same_type}
+use Rattle.ame_term.specs.Typing.{no_cells, program_row, same_type}
 use Rattle.ame_term.specs.declared.types.Effect.{Effect}
 use Rattle.ame_gen.specs.Transfers.{transfers, IsTransfer}
 use Rattle.ame_workload.specs.Workload.{workload_term}

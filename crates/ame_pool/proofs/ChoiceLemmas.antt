@@ -1,6 +1,6 @@
 -- The front of the order and the counts decide who begins.
-use Rattle.std.proofs.Common.{◌≡◌, ◌<◌, ◌≤◌, ◌+◌, ◌==◌, ◌&&◌, ℕ, Bool, true, false, cond, not, List, [], ◌∷◌, length, Some, None, IsSomeAnd, IsTrue, refl, sym, ap, subst, ◌∙◌, arith, ◌++◌, Option}
-use Rattle.ame_pool.proofs.Words.{Member, Oldest, Counts, find, is_ready, is_busy, is_parked, Roster, Register, is_protected, is_worn, is_worn_protected, some_busy, may_begin_beside, may_begin, first_to_begin, members_of, oldest, oldest_or_wait, Queues, front, idle, is_inside_at, IsKept, false≢true, ◌||◌, nat_lt, filter, list_any, list_all, count_by, nat_tests, count_by-le-length, list_any-append}
+use Rattle.std.proofs.Common.{◌≡◌, ◌<◌, ◌≤◌, ◌+◌, ◌==◌, ◌&&◌, ℕ, Bool, true, false, cond, not, List, [], ◌∷◌, length, Some, None, IsSomeAnd, IsTrue, refl, sym, ap, ◌∙◌, arith, ◌++◌, Option}
+use Rattle.ame_pool.proofs.Words.{Member, Oldest, Counts, find, is_ready, is_busy, is_parked, Roster, Register, is_protected, is_worn, is_worn_protected, some_busy, may_begin_beside, may_begin, first_to_begin, members_of, oldest, oldest_or_wait, Queues, front, idle, is_inside_at, IsKept, ◌||◌, nat_lt, filter, list_any, list_all, count_by, nat_tests, count_by-le-length, list_any-append}
 use Rattle.ame_pool.proofs.MemberLemmas.{count_cons, find_number, tells}
 use Rattle.ame_pool.proofs.CountLemmas.{kinds}
 use Rattle.ame_pool.proofs.OrderLemmas.{order_ready}

@@ -1,5 +1,5 @@
 -- What a roll's fields keep after an edit of one member.
-use Rattle.std.proofs.Common.{◌≡◌, ◌<◌, ◌≤◌, ◌+◌, ◌-◌, ◌^◌, ◌==◌, ℕ, Bool, true, false, cond, List, [], ◌∷◌, ◌++◌, length, Option, Some, None, option_map, IsSome, IsSomeAnd, IsTrue, refl, sym, ap, subst, ◌∙◌, arith}
+use Rattle.std.proofs.Common.{◌≡◌, ◌<◌, ◌≤◌, ◌+◌, ◌-◌, ◌^◌, ℕ, Bool, true, false, cond, List, [], ◌∷◌, ◌++◌, length, Option, Some, None, option_map, IsSome, IsSomeAnd, IsTrue, refl, sym, ap, subst, ◌∙◌, arith}
 use Rattle.ame_pool.specs.Standings.{max_rollbacks}
 use Rattle.ame_pool.proofs.Words.{Member, Turn, Counts, find, altered, placed, except, is_ready, Register, Roster, Queues, HasPlace, pushed, taken, counted, IsAt, skipping, begun, turned, is_readied, is_readied_at, turned_at, IsOrderOf, is_inside_at, IsKept, false≢true, filter, nat_tests, count_by-le-length, length-filter}
 use Rattle.ame_pool.proofs.MemberLemmas.{count_all, find_passes, find_altered, length_altered, rising_altered, all_altered, length_placed, rising_placed, all_placed, length_except, rising_except, all_except}

@@ -1,8 +1,8 @@
 -- A line's numbers after an edit of its entries.
-use Rattle.std.proofs.Common.{◌≡◌, ◌<◌, ◌≤◌, ◌+◌, ◌==◌, ℕ, zero, suc, Bool, true, false, cond, not, List, [], ◌∷◌, ◌++◌, length, set, get_or, Option, Some, None, is_none, refl, sym, ap, ◌∙◌, arith}
+use Rattle.std.proofs.Common.{◌≡◌, ◌<◌, ◌≤◌, ◌+◌, ◌==◌, ℕ, zero, suc, true, false, cond, not, List, [], ◌∷◌, ◌++◌, length, set, get_or, Option, Some, None, refl, sym, ap, ◌∙◌, arith}
 use Rattle.std.specs.Option.{IfSome, IfNone}
 use Rattle.std.proofs.lemmas.List.Quantifiers.{position-Some}
-use Rattle.ame_pool.proofs.Words.{Entry, skipping, front, numbers_in, is_gap, is_of, StartsFull, IsPlaceOf, false≢true, count_by, filter, filter_map, position, position_or_len, nat_tests, filter_map-append}
+use Rattle.ame_pool.proofs.Words.{Entry, skipping, numbers_in, is_gap, is_of, StartsFull, IsPlaceOf, count_by, filter, position, position_or_len, nat_tests, filter_map-append}
 use Rattle.ame_pool.proofs.MemberLemmas.{count_cons, which}
 
 -- ---- one entry at the head

@@ -1,5 +1,5 @@
 -- A list with a member altered, with one more, and with one less: who has which number, how many pass a test, and that numbers still rise.
-use Rattle.std.proofs.Common.{◌≡◌, ◌≢◌, ◌<◌, ◌+◌, ◌==◌, ℕ, Bool, true, false, cond, List, [], ◌∷◌, length, map, Option, Some, None, option_map, refl, sym, ap, subst, ◌∙◌, inl, inr, arith}
+use Rattle.std.proofs.Common.{◌≡◌, ◌<◌, ◌+◌, ◌==◌, ℕ, Bool, true, false, cond, List, [], ◌∷◌, length, map, Option, Some, None, option_map, refl, sym, ap, subst, ◌∙◌, inl, inr, arith}
 use Rattle.std.specs.List.{All}
 use Rattle.ame_pool.proofs.Words.{Member, IsRising, find, altered, placed, except, IsFoundAfter, count_by, nat_tests, sum_by-cons, All-nil, All-cons, All-head, All-tail, All-weaker, nat_lt, Standing, Watch}
 use Rattle.std.specs.Prelude.{◌⊎◌}

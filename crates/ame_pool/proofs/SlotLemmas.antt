@@ -1,7 +1,6 @@
 -- The members that entries lead to, the slot that a number leads to, and what an edit of that slot makes of the members.
-use Rattle.std.proofs.Common.{◌≡◌, ◌≢◌, ◌<◌, ◌==◌, ℕ, suc, true, false, cond, List, [], ◌∷◌, All, Option, Some, None, IsSome, IsSomeAnd, is_some, option_map, refl, sym, ap, subst, ◌∙◌, inl, inr, arith}
-use Rattle.std.specs.Global.{Vec}
-use Rattle.ame_pool.proofs.Words.{Slab, get, ContainsKey, Updates, with_value, Member, Numbered, IsRising, find, altered, placed, except, Register, AreRising, IsNumbered, key_of, filed, only, behind, members_at, nat_lt, filter, cases_eq, nat_tests, All-nil, All-cons, All-head, All-tail}
+use Rattle.std.proofs.Common.{◌≡◌, ◌≢◌, ◌<◌, ◌==◌, ℕ, true, false, cond, List, [], ◌∷◌, All, Option, Some, None, IsSome, IsSomeAnd, is_some, option_map, refl, sym, ap, subst, ◌∙◌, inl, inr, arith}
+use Rattle.ame_pool.proofs.Words.{Slab, get, ContainsKey, Updates, with_value, Member, Numbered, IsRising, find, altered, placed, except, AreRising, IsSlotOf, key_of, filed, only, behind, members_at, filter, cases_eq, nat_tests, All-nil, All-cons, All-head, All-tail}
 use Rattle.slab.proofs.SlabLemmas.{Updates-with_value}
 use Rattle.ame_pool.proofs.MemberLemmas.{none_above, rising_same, find_altered, rising_altered, find_placed, rising_placed, find_except, rising_except, which}
 use Rattle.ame_pool.proofs.EntryLemmas.{key_filed, rising_filed}
@@ -99,14 +98,7 @@ module _ {M : Type 0} where
         ])
 
   -- ---- the number leads to a slot, and its member is there
-  pub record IsSlotOf (slots : Slab (Member M)) (es : List Numbered) (n key : ℕ) : Type 0 where
-    pub rising : AreRising es
-    pub keyed : key_of n es ≡ Some key
-    pub member : Member M
-    pub held : get slots key ≡ Some member
-    pub numbered : member.number ≡ n
-
-  module _ (slots : Slab (Member M)) (es : List Numbered) (n key : ℕ) (h : IsSlotOf slots es n key) where
+  module _ {slots : Slab (Member M)} {es : List Numbered} {n key : ℕ} (h : IsSlotOf slots es n key) where
     pub slot_contains : ContainsKey slots key
     slot_contains = subst (λ o. IsSome o) (sym h.held) refl
 
@@ -169,7 +161,7 @@ module _ {M : Type 0} where
   some_and P None h = absurd h
   some_and P (Some m) h = refl
 
-  -- ---- the members as contracts see them
+  -- ---- the slot of a number that finds a member
   there_key : (at : ℕ → Option (Member M)) (n : ℕ) (o : Option ℕ) → IsSome (held_at at n o) → (key : ℕ) × (o ≡ Some key) × (m : Member M) × (only n (at key) ≡ Some m)
   there_key at n None h = absurd cc
   there_key at n (Some key) h = go (only n (at key)) refl h
@@ -178,18 +170,15 @@ module _ {M : Type 0} where
       go None e s = absurd cc
       go (Some m) e s = (key, refl, m, e)
 
-  module _ (slots : Slab (Member M)) (numbers : Vec Numbered) (room : ℕ) (k : IsNumbered slots numbers room)
-      (s : Register M) (view : record { list = members_at (get slots) numbers.items; room = room } ≡ s) (n : ℕ) (there : IsSome (find n s.list))
-      (es : List Numbered) (read : es ≡ numbers.items) where
-    pub slot : (key : ℕ) × IsSlotOf slots numbers.items n key
+  module _ (slots : Slab (Member M)) (es : List Numbered) (rising : AreRising es) (n : ℕ) (there : IsSome (find n (members_at (get slots) es))) where
+    slot : (key : ℕ) × IsSlotOf slots es n key
     slot =
-        let h = subst (λ (q : Register M). IsSome (find n q.list)) (sym view) there in
-        let t = there_key (get slots) n (key_of n numbers.items) (subst (λ o. IsSome o) (find_held (get slots) numbers.items k.rising n) h) in
+        let t = there_key (get slots) n (key_of n es) (subst (λ o. IsSome o) (find_held (get slots) es rising n) there) in
         let is = only_is n (get slots t.0) t.2 t.3 in
-        (t.0, record { rising = k.rising; keyed = t.1; member = t.2; held = is.0; numbered = is.1 })
+        (t.0, record { rising = rising; keyed = t.1; member = t.2; held = is.0; numbered = is.1 })
 
     pub known : IsSome (key_of n es)
-    known = rw (read, slot.1.keyed) refl
+    known = rw slot.1.keyed refl
 
-    pub slot_at : (key : ℕ) → key_of n es ≡ Some key → IsSlotOf slots numbers.items n key
-    slot_at key keyed = let same : slot.0 ≡ key = cc (read, slot.1.keyed, keyed) in subst (IsSlotOf slots numbers.items n) same slot.1
+    pub slot_at : (key : ℕ) → key_of n es ≡ Some key → IsSlotOf slots es n key
+    slot_at key keyed = let same : slot.0 ≡ key = cc (slot.1.keyed, keyed) in subst (IsSlotOf slots es n) same slot.1

@@ -1,7 +1,7 @@
 -- What a write to a location changes.
-use Rattle.std.proofs.Common.{◌==◌, ◌≡◌, ◌<◌, ◌≤◌, ℕ, suc, Bool, true, false, cond, List, [], ◌∷◌, ◌++◌, length, get_or, map, Option, Some, None, IsSomeAnd, IsTrue, refl, sym, ap, subst, ◌∙◌, arith}
+use Rattle.std.proofs.Common.{◌==◌, ◌≡◌, ◌<◌, ◌≤◌, ℕ, Bool, true, false, cond, List, [], ◌∷◌, ◌++◌, map, Option, Some, None, IsSomeAnd, IsTrue, refl, sym, ap, ◌∙◌, arith}
 use Rattle.std.specs.List.{All}
-use Rattle.ame_pool.proofs.Words.{Member, Standing, Watch, IsRising, find, altered, untouched, lists, waits_for, has, touched_by, stirred, stirred_by, is_waiting_for, is_woken_by, woken_by, Roster, IsAt, woken, is_watching, is_woken_at, stirred_at, IsWatched, false≢true, count_by, filter, BTreeSet, nat_tests, append-nil, append_assoc, All-head, All-tail}
+use Rattle.ame_pool.proofs.Words.{Member, Standing, Watch, IsRising, find, altered, untouched, lists, waits_for, has, touched_by, stirred, stirred_by, is_waiting_for, is_woken_by, woken_by, Roster, IsAt, woken, is_watching, is_woken_at, stirred_at, IsWatched, false≢true, count_by, BTreeSet, nat_tests, append-nil, append_assoc, All-head, All-tail}
 use Rattle.ame_pool.proofs.KeptLemmas.{IsOpen, opened}
 use Rattle.ame_pool.proofs.MemberLemmas.{count_altered, find_number, find_passes, all_found, tells}
 

@@ -1,5 +1,5 @@
 -- A line of numbers, in which one that leaves makes a gap.
-use Rattle.std.specs.Prelude.{◌≡◌, ℕ, ◌<◌, ◌==◌, Bool, true, false, List, [], ◌∷◌, length, Option, Some, None, is_none}
+use Rattle.std.specs.Prelude.{◌≡◌, ℕ, ◌<◌, ◌==◌, Bool, true, false, List, [], ◌∷◌, length, Some, None, is_none}
 use Rattle.std.specs.List.{filter_map, HoldsAt}
 use Rattle.ame_pool.specs.declared.line.Entry.{Entry}
 

@@ -2,7 +2,7 @@
 use Rattle.std.specs.Prelude.{◌≡◌, ℕ, ◌<◌, ◌≤◌, ◌+◌, ◌==◌, cond, List, [], ◌∷◌, length, All, Option, Some, None, ⊤, nat_lt, vec_len, vec_capacity}
 use Rattle.std.specs.Global.{Vec}
 use Rattle.std.specs.List.{HoldsAt, AllWithin}
-use Rattle.slab.specs.Slab.{Slab, HasRoomFor}
+use Rattle.slab.specs.Slab.{Slab, HasRoomFor, get}
 use Rattle.ame_pool.specs.declared.member.Member.{Member}
 use Rattle.ame_pool.specs.declared.numbers.Numbered.{Numbered}
 
@@ -52,3 +52,11 @@ module _ {M : Type 0} where
     pub rising : AreRising numbers.items
     pub slots_fit : HasRoomFor slots room
     pub numbers_fit : vec_len numbers + room ≤ vec_capacity numbers
+
+  -- the number leads to this slot, and its member is there
+  pub record IsSlotOf (slots : Slab (Member M)) (es : List Numbered) (number key : ℕ) : Type 0 where
+    pub rising : AreRising es
+    pub keyed : key_of number es ≡ Some key
+    pub member : Member M
+    pub held : get slots key ≡ Some member
+    pub numbered : member.number ≡ number

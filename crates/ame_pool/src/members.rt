@@ -2,7 +2,8 @@
 
 ghost use Rattle.std.specs.Prelude.{◌≡◌, ◌-◌, ◌<◌, ◌≤◌, max, Some, None, IsSome, IsSomeAnd, OnOk, OnErr, is_some, option_copied, option_map, vec_len, vec_capacity};
 ghost use Rattle.slab.specs.Slab.{get};
-ghost use Rattle.ame_pool.specs.Numbered.{AreRising, only, members_at};
+ghost use Rattle.ame_pool.specs.Members.{find};
+ghost use Rattle.ame_pool.specs.Numbered.{AreRising, IsSlotOf, only, members_at};
 
 use crate::member::Member;
 use crate::numbers::{Numbered, enter, known_slot, slot_of};
@@ -60,6 +61,15 @@ fn is_live<M>(slots: &Slab<Member<M>>, entry: Numbered) -> bool
     ensures { result ≡ is_some (only entry.number (get slots.now entry.key)) }
 {
     member_in(slots, entry.number, entry.key).is_some()
+}
+
+/// The slot of the member with a number that is there.
+fn slot_in<M>(slots: &Slab<Member<M>>, numbers: &Vec<Numbered>, number: u64) -> usize
+    requires rising { AreRising numbers.now.items }
+    requires there { IsSome (find number (members_at (get slots.now) numbers.now.items)) }
+    ensures { IsSlotOf slots.now numbers.now.items number result }
+{
+    known_slot(numbers.as_slice(), number)
 }
 
 /// Drops the stale entries, once more than half of all are stale.
@@ -154,7 +164,7 @@ impl<M: Drop> Members<M> {
         ensures members { self.new ≡ record self.old { list = except number self.old.list } }
         ensures member { Some result ≡ find number self.old.list }
     {
-        let key = known_slot(self.numbers.as_slice(), number);
+        let key = slot_in(&self.slots, &self.numbers, number);
         self.slots.remove(key)
     }
 
@@ -164,7 +174,7 @@ impl<M: Drop> Members<M> {
         ensures members { self.new ≡ record self.old { list = altered number (turned to) self.old.list } }
         ensures readied { Some result ≡ option_map (is_readied to) (find number self.old.list) }
     {
-        let key = known_slot(self.numbers.as_slice(), number);
+        let key = slot_in(&self.slots, &self.numbers, number);
         self.slots[key].turn(to)
     }
 }

@@ -1,4 +1,4 @@
-use Rattle.std.proofs.Common.{◌≡◌, ◌∙◌, ◌++◌, [], ◌∷◌, length, refl, sym, ap, subst, arith}
+use Rattle.std.proofs.Common.{◌∙◌, [], ◌∷◌, length, refl, sym, ap, subst, arith}
 use Rattle.ame_pool.proofs.Words.{numbers_in, StartsFull, length-append}
 use Rattle.ame_pool.proofs.LineLemmas.{pushed_starts, pushed_numbers}
 use Rattle.ame_pool.proofs.line.Line.push.Goals as goal

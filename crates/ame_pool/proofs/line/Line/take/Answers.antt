@@ -1,4 +1,4 @@
-use Rattle.std.proofs.Common.{◌≡◌, ◌≤◌, ◌==◌, ◌∙◌, length, refl, sym, ap, subst, arith}
+use Rattle.std.proofs.Common.{◌≤◌, ◌==◌, ◌∙◌, length, refl, sym, ap, subst, arith}
 use Rattle.ame_pool.proofs.Words.{Row, numbers_in, count_by}
 use Rattle.ame_pool.proofs.LineLemmas.{has_number, gap_made, absent, shorter}
 use Rattle.ame_pool.proofs.line.Line.take.Goals as goal

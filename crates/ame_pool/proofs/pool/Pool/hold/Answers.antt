@@ -1,5 +1,5 @@
 use Rattle.std.proofs.Common.{◌≡◌, ◌∙◌, IsTrue, refl, ap}
-use Rattle.ame_pool.proofs.Words.{Turn, find, is_ready, machine_of, held}
+use Rattle.ame_pool.proofs.Words.{find, is_ready, machine_of, held}
 use Rattle.ame_pool.proofs.StandingLemmas.{ready_untouched}
 use Rattle.ame_pool.proofs.KeptLemmas.{machine_begun, machine_there, opened}
 use Rattle.ame_pool.proofs.FindLemmas.{watched_held}

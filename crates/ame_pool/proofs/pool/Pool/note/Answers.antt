@@ -1,4 +1,4 @@
-use Rattle.std.proofs.Common.{◌≡◌, ◌==◌, ◌&&◌, ◌++◌, ℕ, [], false, not, refl, sym, ap, subst, ◌∙◌}
+use Rattle.std.proofs.Common.{◌≡◌, ◌==◌, ◌&&◌, ℕ, false, not, refl, sym, ap, subst, ◌∙◌}
 use Rattle.ame_pool.proofs.Words.{Turn, is_busy, altered, Roster, lists, among, IsBetween, noted, noted_on, is_away, ◌||◌, append-nil}
 use Rattle.ame_pool.proofs.IndexLemmas.{on_err_at, on_ok_at}
 use Rattle.ame_pool.proofs.StandingLemmas.{busy_away}

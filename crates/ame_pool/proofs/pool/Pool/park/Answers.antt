@@ -1,4 +1,4 @@
-use Rattle.std.proofs.Common.{◌∙◌, refl, ap}
+use Rattle.std.proofs.Common.{◌∙◌, ap}
 use Rattle.ame_pool.proofs.Words.{Turn, is_noted, is_away, turned_at}
 use Rattle.ame_pool.proofs.StandingLemmas.{noted_away, rest_untouched}
 use Rattle.ame_pool.proofs.KeptLemmas.{opened, at_weaker}

@@ -1,7 +1,7 @@
-use Rattle.std.proofs.Common.{◌∙◌, true, IsTrue, refl, sym}
+use Rattle.std.proofs.Common.{◌∙◌, true, refl, sym}
 use Rattle.ame_pool.proofs.Words.{Turn, is_busy, is_away}
 use Rattle.ame_pool.proofs.StandingLemmas.{busy_away}
-use Rattle.ame_pool.proofs.KeptLemmas.{opened, at_weaker, turned_pool}
+use Rattle.ame_pool.proofs.KeptLemmas.{at_weaker, turned_pool}
 use Rattle.ame_pool.proofs.FindLemmas.{watched_cleared}
 use Rattle.ame_pool.proofs.pool.Pool.replace.Goals as goal
 

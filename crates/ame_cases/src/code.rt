@@ -102,8 +102,10 @@ const TEXTS: [(&[u8], &[&str]); 7] = [
 /// The code of a text without devices.
 fn code_of(alloc: Global, text: &[u8]) -> Result<Code, Fail> {
     let program = read(alloc, text)?;
-    let accepted = check(alloc, program, 0)?;
-    Ok(compile(alloc, accepted)?)
+    match check(alloc, program, 0) {
+        Ok(accepted) => Ok(compile(alloc, accepted)?),
+        Err(_) => Err("not typed".into()),
+    }
 }
 
 #[test]

@@ -6,7 +6,10 @@ use std::alloc::Global;
 use std::test::Fail;
 
 const TEXTS: [(&[u8], &[&str]); 7] = [
-    (b"(print 1)", &["Held(Int(1)) []", "One(Print, NodeNo(0)) []"]),
+    (
+        b"(print 1)",
+        &["Held(Int(1)) []", "One(Print, NodeNo(0)) []"],
+    ),
     (
         b"(let x 5 (print (- x 2)))",
         &[

@@ -1,62 +1,51 @@
 -- The front of the order and the counts decide who begins.
 use Rattle.std.proofs.Common.{◌≡◌, ◌<◌, ◌≤◌, ◌+◌, ◌==◌, ◌&&◌, ℕ, Bool, true, false, cond, not, List, [], ◌∷◌, length, Some, None, IsSomeAnd, IsTrue, refl, sym, ap, ◌∙◌, arith, ◌++◌, Option}
-use Rattle.ame_pool.proofs.Words.{Member, Oldest, Counts, find, is_ready, is_busy, is_parked, Roster, Register, is_protected, is_worn, is_worn_protected, some_busy, may_begin_beside, may_begin, first_to_begin, members_of, oldest, oldest_or_wait, Queues, front, idle, is_inside_at, IsKept, ◌||◌, nat_lt, filter, list_any, list_all, count_by, nat_tests, count_by-le-length, list_any-append}
-use Rattle.ame_pool.proofs.MemberLemmas.{count_cons, find_number, tells}
+use Rattle.ame_pool.proofs.Words.{cases_Bool, Member, Oldest, Counts, find, is_ready, is_busy, is_parked, Roster, Register, is_protected, is_worn, is_worn_protected, some_busy, may_begin_beside, may_begin, first_to_begin, members_of, oldest, oldest_or_wait, Queues, front, idle, is_inside_at, IsKept, ◌||◌, nat_lt, filter, list_any, list_all, count_by, nat_tests, count_by-le-length, list_any-append}
+use Rattle.ame_pool.proofs.MemberLemmas.{count_cons, find_number, which}
 use Rattle.ame_pool.proofs.CountLemmas.{kinds}
 use Rattle.ame_pool.proofs.OrderLemmas.{order_ready}
 
 -- ---- truth values: i stands inside, w is worn; p and b tell that a protected and a worn one are busy, o that a worn one is older
 -- beside a busy protected one, and a worn one that is busy or older, none begins but from inside
 blocked : (i w p b o : Bool) → p ≡ true → (b || o) ≡ true → cond i true (cond w (not p) (not b && not o)) ≡ i
-blocked i w p b o hp hb = grind (arith, hp, hb, tells i, tells w, tells b)
+blocked i w p b o hp hb = grind (arith, hp, hb, cases_Bool i, cases_Bool w, cases_Bool b)
 
 -- the first one may not begin only where a protected one is busy, and where it is worn or a worn one is busy
 first_waits : (i w p b : Bool) → (b ≡ true → p ≡ true) → cond i true (cond w (not p) (not b && not false)) ≡ false
     → (i ≡ false) × (p ≡ true) × ((b || ((not i && w) || false)) ≡ true)
-first_waits i w p b up h = (grind (arith, up, h, tells i, tells w, tells b), grind (arith, up, h, tells i, tells w, tells p, tells b), grind (arith, up, h, tells i, tells w, tells b))
+first_waits i w p b up h = (grind (arith, up, h, cases_Bool i, cases_Bool w, cases_Bool b), grind (arith, up, h, cases_Bool i, cases_Bool w, cases_Bool p, cases_Bool b), grind (arith, up, h, cases_Bool i, cases_Bool w, cases_Bool b))
 
 or_left : (b o x : Bool) → (b || o) ≡ true → (b || (o || x)) ≡ true
-or_left b o x h = grind (arith, h, tells b, tells o)
-
-some_of : (p q : Bool) (x y : Bool) → (y ≡ true → x ≡ true) → (q ≡ true → p ≡ true) → (q || y) ≡ true → (p || x) ≡ true
-some_of p q x y up here h = grind (arith, up, here, h, tells p, tells q)
-
-worn_part : (b i w : Bool) → (b && (not i && w)) ≡ true → (b && not i) ≡ true
-worn_part b i w h = grind (arith, h, tells b, tells i)
+or_left b o x h = grind (arith, h, cases_Bool b, cases_Bool o)
 
 module _ {M : Type 0} where
   -- who is worn and protected is protected
   worn_is_protected : (ms : List (Member M)) → some_busy is_worn_protected ms ≡ true → some_busy is_protected ms ≡ true
   worn_is_protected [] h = h
-  worn_is_protected (m ∷ ms) h =
-      some_of (is_busy m && is_protected m) (is_busy m && is_worn_protected m) (some_busy is_protected ms) (some_busy is_worn_protected ms)
-      (worn_is_protected ms) (worn_part (is_busy m) m.inside (is_worn m)) h
+  worn_is_protected (m ∷ ms) h = grind (arith, h, worn_is_protected ms, cases_Bool (is_busy m), cases_Bool m.inside)
+
+  -- the number of the first one inside
+  abbrev first_inside : List (Member M) → Option ℕ
+  first_inside [] = None
+  first_inside (m ∷ ms) = cond m.inside (Some m.number) (first_inside ms)
 
   module _ (ms : List (Member M)) where
     -- once a protected one may not begin, the first one inside begins
-    inside_only : some_busy is_protected ms ≡ true → (order : List ℕ) (older : List (Member M))
-        → (some_busy is_worn_protected ms || list_any is_worn_protected older) ≡ true
-        → first_to_begin ms older (members_of ms order) ≡ front (filter (is_inside_at ms) order)
-    inside_only busy [] older worn = refl
-    inside_only busy (n ∷ ns) older worn = go (λ o w. inside_only busy ns o w) (find n ms) refl
-      where
-        go : ((o : List (Member M)) → (some_busy is_worn_protected ms || list_any is_worn_protected o) ≡ true → first_to_begin ms o (members_of ms ns) ≡ front (filter (is_inside_at ms) ns))
-            → (o : Option (Member M)) → find n ms ≡ o
-            → first_to_begin ms older (elim o as (λ _. List (Member M)) [ None ↦ members_of ms ns | Some m ↦ m ∷ members_of ms ns ])
-            ≡ front (cond (elim o as (λ _. Bool) [ None ↦ false | Some m ↦ m.inside ]) (n ∷ filter (is_inside_at ms) ns) (filter (is_inside_at ms) ns))
-        go more None f = more older worn
-        go more (Some m) f =
-            let may : may_begin ms older m ≡ m.inside
-            = blocked m.inside (is_worn m) (some_busy is_protected ms) (some_busy is_worn_protected ms) (list_any is_worn_protected older) busy worn in
-            let still : (some_busy is_worn_protected ms || list_any is_worn_protected (older ++ m ∷ [])) ≡ true
-            = rw (list_any-append is_worn_protected older (m ∷ []))
-            (or_left (some_busy is_worn_protected ms) (list_any is_worn_protected older) (is_worn_protected m || false) worn) in
-            let rest = more (older ++ m ∷ []) still in
-            ap (λ b. cond b (Some m.number) (first_to_begin ms (older ++ m ∷ []) (members_of ms ns))) may
-            ∙ elim m.inside as (λ b. cond b (Some m.number) (first_to_begin ms (older ++ m ∷ []) (members_of ms ns)) ≡ front (cond b (n ∷ filter (is_inside_at ms) ns) (filter (is_inside_at ms) ns))) [
-              | true ↦ ap Some (find_number n ms m f)
-              | false ↦ rest
-            ]
+    inside_begins : some_busy is_protected ms ≡ true → (ready older : List (Member M)) → (some_busy is_worn_protected ms || list_any is_worn_protected older) ≡ true
+        → first_to_begin ms older ready ≡ first_inside ready
+    inside_begins busy [] older worn = refl
+    inside_begins busy (m ∷ ready) older worn =
+        let may : may_begin ms older m ≡ m.inside
+        = blocked m.inside (is_worn m) (some_busy is_protected ms) (some_busy is_worn_protected ms) (list_any is_worn_protected older) busy worn in
+        let still : (some_busy is_worn_protected ms || list_any is_worn_protected (older ++ m ∷ [])) ≡ true
+        = rw (list_any-append is_worn_protected older (m ∷ []))
+        (or_left (some_busy is_worn_protected ms) (list_any is_worn_protected older) (is_worn_protected m || false) worn) in
+        ap (λ b. cond b (Some m.number) (first_to_begin ms (older ++ m ∷ []) ready)) may
+        ∙ ap (λ o. cond m.inside (Some m.number) o) (inside_begins busy ready (older ++ m ∷ []) still)
+
+    inside_front : (order : List ℕ) → first_inside (members_of ms order) ≡ front (filter (is_inside_at ms) order)
+    inside_front [] = refl
+    inside_front (n ∷ ns) = grind (arith, which (find n ms), find_number n ms, inside_front ns)
 
     -- the oldest ready member begins, or else the oldest one inside
     pub front_begins : (n : ℕ) (ns : List ℕ) (m : Member M) → find n ms ≡ Some m
@@ -71,8 +60,17 @@ module _ {M : Type 0} where
               let w = first_waits m.inside (is_worn m) (some_busy is_protected ms) (some_busy is_worn_protected ms) (worn_is_protected ms) e in
               let out : is_inside_at ms n ≡ false = rw (f, is_inside_at) w.0 in
               let same : filter (is_inside_at ms) (n ∷ ns) ≡ filter (is_inside_at ms) ns = rw out refl in
-              inside_only w.1 ns (m ∷ []) w.2 ∙ ap front (sym same)
+              inside_begins w.1 (members_of ms ns) (m ∷ []) w.2 ∙ inside_front ns ∙ ap front (sym same)
         ] refl
+
+-- ---- the front of a list
+front_none : (ns : List ℕ) → front ns ≡ None → ns ≡ []
+front_none [] e = refl
+front_none (n ∷ ns) e = cc
+
+front_some : (ns : List ℕ) (n : ℕ) → front ns ≡ Some n → (rest : List ℕ) × (ns ≡ n ∷ rest)
+front_some [] n e = absurd cc
+front_some (k ∷ ns) n e = (ns, cc)
 
 -- ---- how many there are
 any_counts : {X : Type 0} (p : X → Bool) (xs : List X) → list_any p xs ≡ nat_lt 0 (count_by p xs)
@@ -102,27 +100,24 @@ module _ {M : Type 0} where
 
     -- nobody is ready
     pub idle_is : front q.order ≡ None → oldest roster ≡ idle c
-    idle_is e = go q.order refl
-      where
-        go : (order : List ℕ) → q.order ≡ order → oldest roster ≡ idle c
-        go [] at =
-            let law = oldest_counts reg.list q.order reg.room in
-            let wait = ap (λ ns. oldest_or_wait (first_to_begin reg.list [] (members_of reg.list ns))) at in
-            let none = h.sound.ordered (λ _. true) ∙ refl in
-            let empty = ap (count_by (λ _. true)) at in
-            let busy = h.counted.busy in
-            let parked = h.counted.parked in
-            law ∙ grind (arith, nat_tests, wait, none, empty, busy, parked, kinds reg.list)
-        go (n ∷ ns) at = let f : Some n ≡ None = ap front (sym at) ∙ e in cc
+    idle_is e =
+        let at = front_none q.order e in
+        let law = oldest_counts reg.list q.order reg.room in
+        let wait = ap (λ ns. oldest_or_wait (first_to_begin reg.list [] (members_of reg.list ns))) at in
+        let none = h.sound.ordered (λ _. true) ∙ refl in
+        let empty = ap (count_by (λ _. true)) at in
+        let busy = h.counted.busy in
+        let parked = h.counted.parked in
+        law ∙ grind (arith, nat_tests, wait, none, empty, busy, parked, kinds reg.list)
 
     -- somebody is busy where nobody is ready, and it is told to wait
     pub idle_waits : idle c ≡ Oldest.Wait → list_any is_busy reg.list ≡ true
-    idle_waits e = any_counts is_busy reg.list ∙ grind (arith, nat_tests, e, h.counted.busy, tells (nat_lt 0 c.busy), tells (nat_lt 0 c.parked))
+    idle_waits e = any_counts is_busy reg.list ∙ grind (arith, nat_tests, e, h.counted.busy, cases_Bool (nat_lt 0 c.busy), cases_Bool (nat_lt 0 c.parked))
 
     -- and where the front may not begin
     pub held_up : (m : Member M) → may_begin_beside (nat_lt 0 c.protected) (nat_lt 0 c.worn) false m ≡ false → list_any is_busy reg.list ≡ true
     held_up m e =
-        let some : 0 < c.protected + c.worn = grind (arith, nat_tests, e, tells m.inside, tells (is_worn m)) in
+        let some : 0 < c.protected + c.worn = grind (arith, nat_tests, e, cases_Bool m.inside, cases_Bool (is_worn m)) in
         any_counts is_busy reg.list ∙ grind (arith, nat_tests, some, h.counted.protected, h.counted.worn, kind_counts is_busy is_protected reg.list, kind_counts is_busy is_worn_protected reg.list)
 
     -- the oldest one inside is ready
@@ -131,7 +126,7 @@ module _ {M : Type 0} where
       where
         front_counts : (p : ℕ → Bool) (n : ℕ) (xs : List ℕ) → front (filter p xs) ≡ Some n → 1 ≤ count_by (λ k. k == n) xs
         front_counts p n [] e = cc
-        front_counts p n (x ∷ xs) e = grind (arith, nat_tests, tells (p x), e, count_cons (λ k. k == n) x xs, front_counts p n xs)
+        front_counts p n (x ∷ xs) e = grind (arith, nat_tests, cases_Bool (p x), e, count_cons (λ k. k == n) x xs, front_counts p n xs)
 
     module _ (n : ℕ) (first : front q.order ≡ Some n) (m : Member M) (found : find n reg.list ≡ Some m) where
       flags : may_begin reg.list [] m ≡ may_begin_beside (nat_lt 0 c.protected) (nat_lt 0 c.worn) false m
@@ -141,21 +136,18 @@ module _ {M : Type 0} where
           ap (λ b. may_begin_beside b (some_busy is_worn_protected reg.list) false m) p ∙ ap (λ b. may_begin_beside (nat_lt 0 c.protected) b false m) w
 
       -- the front decides
-      pub front_is : oldest roster ≡ oldest_or_wait (cond (may_begin_beside (nat_lt 0 c.protected) (nat_lt 0 c.worn) false m) (Some n) (front q.inside))
-      front_is = go q.order refl
-        where
-          go : (order : List ℕ) → q.order ≡ order → oldest roster ≡ oldest_or_wait (cond (may_begin_beside (nat_lt 0 c.protected) (nat_lt 0 c.worn) false m) (Some n) (front q.inside))
-          go [] at = let f : None ≡ Some n = ap front (sym at) ∙ first in cc
-          go (k ∷ ns) at =
-              let same : k ≡ n = let f : Some k ≡ Some n = ap front (sym at) ∙ first in cc in
-              let split : q.order ≡ n ∷ ns = at ∙ ap (λ x. x ∷ ns) same in
-              let some = h.sound.ordered (λ _. true) in
-              let count = ap (count_by (λ _. true)) split ∙ count_cons (λ _. true) n ns in
-              let one : ◌≡◌ {A = ℕ} (cond true 1 0) 1 = refl in
-              let back : front (filter (is_inside_at reg.list) (n ∷ ns)) ≡ front q.inside = ap (λ l. front (filter (is_inside_at reg.list) l)) (sym split) ∙ ap front (sym h.inside) in
-              let chosen : oldest roster ≡ oldest_or_wait (first_to_begin reg.list [] (members_of reg.list q.order))
-              = oldest_counts reg.list q.order reg.room ∙ grind (arith, nat_tests, some, count, one, kinds reg.list) in
-              chosen ∙ ap (λ l. oldest_or_wait (first_to_begin reg.list [] (members_of reg.list l))) split
-              ∙ ap oldest_or_wait (front_begins reg.list n ns m found)
-              ∙ ap (λ o. oldest_or_wait (cond (may_begin reg.list [] m) (Some n) o)) back
-              ∙ ap (λ b. oldest_or_wait (cond b (Some n) (front q.inside))) flags
+      pub front_is : (s : Roster M) → roster ≡ s → (b : Bool) → b ≡ may_begin_beside (nat_lt 0 c.protected) (nat_lt 0 c.worn) false m
+          → oldest_or_wait (cond b (Some n) (front q.inside)) ≡ oldest s
+      front_is s view b may =
+          let rest = front_some q.order n first in
+          let split = rest.1 in
+          let some = h.sound.ordered (λ _. true) in
+          let count = ap (count_by (λ _. true)) split ∙ count_cons (λ _. true) n rest.0 in
+          let one : ◌≡◌ {A = ℕ} (cond true 1 0) 1 = refl in
+          let back : front (filter (is_inside_at reg.list) (n ∷ rest.0)) ≡ front q.inside = ap (λ l. front (filter (is_inside_at reg.list) l)) (sym split) ∙ ap front (sym h.inside) in
+          let chosen : oldest roster ≡ oldest_or_wait (first_to_begin reg.list [] (members_of reg.list q.order))
+          = oldest_counts reg.list q.order reg.room ∙ grind (arith, nat_tests, some, count, one, kinds reg.list) in
+          sym (chosen ∙ ap (λ l. oldest_or_wait (first_to_begin reg.list [] (members_of reg.list l))) split
+          ∙ ap oldest_or_wait (front_begins reg.list n rest.0 m found)
+          ∙ ap (λ o. oldest_or_wait (cond (may_begin reg.list [] m) (Some n) o)) back
+          ∙ ap (λ b. oldest_or_wait (cond b (Some n) (front q.inside))) (flags ∙ sym may)) ∙ ap oldest view

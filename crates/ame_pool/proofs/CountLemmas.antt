@@ -1,6 +1,6 @@
 -- The counts after an edit of the list.
 use Rattle.std.proofs.Common.{◌≡◌, ◌+◌, ◌&&◌, ℕ, true, cond, List, [], ◌∷◌, length, Some, refl, ap, arith}
-use Rattle.ame_pool.proofs.Words.{Member, Counts, is_ready, is_busy, is_parked, find, altered, placed, except, is_busy_protected, is_busy_worn, counted, CountsIn, AreCounted, count_by}
+use Rattle.ame_pool.proofs.Words.{Member, Standing, Counts, is_ready, is_busy, is_parked, find, altered, placed, except, is_busy_protected, is_busy_worn, counted, CountsIn, AreCounted, count_by}
 use Rattle.ame_pool.proofs.MemberLemmas.{count_cons, count_altered, count_placed, count_except, standing_is}
 
 module _ {M : Type 0} where
@@ -11,36 +11,22 @@ module _ {M : Type 0} where
       grind (arith, standing_is m.standing, kinds ms, count_cons (λ (m : Member M). is_ready m && true) m ms, count_cons (λ (m : Member M). is_busy m) m ms, count_cons (λ (m : Member M). is_parked m) m ms)
 
   -- a ready member is in no count
-  record IsUncounted (m : Member M) : Type 0 where
-    pub busy : ◌≡◌ {A = ℕ} (cond (is_busy m) 1 0) 0
-    pub protected : ◌≡◌ {A = ℕ} (cond (is_busy_protected m) 1 0) 0
-    pub worn : ◌≡◌ {A = ℕ} (cond (is_busy_worn m) 1 0) 0
-    pub parked : ◌≡◌ {A = ℕ} (cond (is_parked m) 1 0) 0
-
-  ready_uncounted : (m : Member M) → is_ready m ≡ true → IsUncounted m
-  ready_uncounted m e = record {
-    busy = grind (arith, standing_is m.standing, e);
-    protected = grind (arith, standing_is m.standing, e);
-    worn = grind (arith, standing_is m.standing, e);
-    parked = grind (arith, standing_is m.standing, e);
-  }
-
   pub ready_counted : (m : Member M) → is_ready m ≡ true → (c : Counts) → c ≡ counted m c
   ready_counted m e c =
-      let u = ready_uncounted m e in
+      let ready : m.standing ≡ Standing.Ready = grind (arith, standing_is m.standing, e) in
       let z : (k : ℕ) → k + 0 ≡ k = λ k. omega arith in
-      rw (u.busy, u.protected, u.worn, u.parked, z c.busy, z c.protected, z c.worn, z c.parked) refl
+      rw (ready, z c.busy, z c.protected, z c.worn, z c.parked) refl
 
   module _ (ms : List (Member M)) (c : Counts) (h : AreCounted ms c) where
     -- ---- one member more
     pub counted_placed : (new : Member M) → is_ready new ≡ true → AreCounted (placed new ms) c
     counted_placed new e =
-        let u = ready_uncounted new e in
+        let none = ready_counted new e c in
         record {
-          busy = omega (arith, h.busy, count_placed new is_busy ms, u.busy);
-          protected = omega (arith, h.protected, count_placed new is_busy_protected ms, u.protected);
-          worn = omega (arith, h.worn, count_placed new is_busy_worn ms, u.worn);
-          parked = omega (arith, h.parked, count_placed new is_parked ms, u.parked);
+          busy = omega (arith, h.busy, count_placed new is_busy ms, ap (λ (x : Counts). x.busy) none);
+          protected = omega (arith, h.protected, count_placed new is_busy_protected ms, ap (λ (x : Counts). x.protected) none);
+          worn = omega (arith, h.worn, count_placed new is_busy_worn ms, ap (λ (x : Counts). x.worn) none);
+          parked = omega (arith, h.parked, count_placed new is_parked ms, ap (λ (x : Counts). x.parked) none);
         }
 
     module _ (n : ℕ) (m : Member M) (found : find n ms ≡ Some m) where

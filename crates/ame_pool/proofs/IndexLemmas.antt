@@ -1,12 +1,13 @@
 -- The index of watchers.
-use Rattle.std.proofs.Common.{OnOk, ◌≡◌, ◌≤◌, ◌==◌, ◌&&◌, ℕ, Bool, true, false, cond, not, ◌<◌, ◌+◌, Result, Ok, Err, OnErr, refl, sym, ap, ◌∙◌, arith}
+use Rattle.std.proofs.lemmas.Bool.{eqb-true, or_right}
+use Rattle.std.proofs.Common.{OnOk, ◌≡◌, ◌≢◌, ◌≤◌, ◌==◌, ◌&&◌, ℕ, Bool, true, false, cond, not, ◌<◌, ◌+◌, Result, Ok, Err, OnErr, refl, sym, ap, ◌∙◌, arith}
 use Rattle.std.specs.Prelude.{List, length}
 use lib.ListN.{get_or}
 use Rattle.std.specs.Result.{is_err}
+use Rattle.std.specs.BTreeSet.{contains}
 use Rattle.std.specs.BTreeMap.{is_at}
 use Rattle.std.specs.BTreeMap.Range.{IsLeBy}
-use Rattle.ame_pool.proofs.Words.{Loc, pair_cmp, lists, among, IsBetween, false≢true, ◌||◌, take, drop, take_all, take-append-drop, list_any_more, list_any-append, nat_tests, BTreeSet}
-use Rattle.ame_pool.proofs.MemberLemmas.{tells}
+use Rattle.ame_pool.proofs.Words.{cases_Bool, Loc, pair_cmp, lists, among, IsBetween, IsListedAfter, false≢true, ◌||◌, take, drop, take_all, take-append-drop, list_any_more, list_any-append, nat_tests, BTreeSet}
 
 pub on_err : {T E : Type 0} (r : Result T E) (P : Type 0) → P → OnErr r P
 on_err (Ok x) P h = tt
@@ -20,17 +21,6 @@ pub on_ok_at : {T E : Type 0} (r : Result T E) (P : Type 0) → false ≡ is_err
 on_ok_at (Ok x) P e h = h
 on_ok_at (Err x) P e h = absurd (false≢true e)
 
-pub pair_at : (l n k m : ℕ) → is_at (pair_cmp (l, n)) (k, m) ≡ ((m == n) && (l == k))
-pair_at l n k m = grind (arith, nat_tests)
-
-pub cond_or : (b x : Bool) → cond b true x ≡ (b || x)
-cond_or true x = refl
-cond_or false x = refl
-
-pub cond_and : (b x : Bool) → cond b false x ≡ (not b && x)
-cond_and true x = refl
-cond_and false x = refl
-
 -- pairs of one location come in order of their numbers
 pub pair_low : (l m : ℕ) → IsLeBy pair_cmp (l, 0) (l, m)
 pair_low l m = grind (arith, nat_tests)
@@ -41,77 +31,72 @@ pair_le k n l m e h = grind (arith, nat_tests, e, h)
 pub pair_le_at : (k n l m : ℕ) → IsLeBy pair_cmp (l, 0) (k, n) → IsLeBy pair_cmp (k, n) (l, m) → k ≡ l
 pair_le_at k n l m low h = grind (arith, nat_tests, low, h)
 
--- ---- tables of truth values: n is the number, a is listed so far, x is the next location, k is kept, l was listed
-then_table : (n a x k l : Bool) → (x ≡ true → k ≡ false) → (not (n && x) && (not ((n && a) && not k) && l)) ≡ (not ((n && (a || x)) && not k) && l)
-then_table n a x k l h = grind (arith, tells n, tells a, tells x, tells k)
+-- ---- one pair
+pair_here : (l n k : ℕ) → is_at (pair_cmp (l, n)) (k, n) ≡ (l == k)
+pair_here l n k = grind (arith, nat_tests)
 
-else_table : (n a x k l : Bool) → (x ≡ true → k ≡ true) → (not ((n && a) && not k) && l) ≡ (not ((n && (a || x)) && not k) && l)
-else_table n a x k l h = grind (arith, tells n, tells a, tells x, tells k)
+pair_other : (l n k m : ℕ) → m ≢ n → is_at (pair_cmp (l, n)) (k, m) ≡ false
+pair_other l n k m other = grind (arith, nat_tests, other)
 
-add_table : (n a x l : Bool) → ((n && x) || ((n && a) || l)) ≡ ((n && (a || x)) || l)
-add_table n a x l = grind (arith, tells n, tells a, tells x)
+pub paired : (l n : ℕ) (value : Bool) (old new : BTreeSet (ℕ × ℕ)) → ((p : ℕ × ℕ) → contains pair_cmp new p ≡ cond (is_at (pair_cmp (l, n)) p) value (contains pair_cmp old p))
+    → IsListedAfter n (λ k. cond (l == k) value (lists old k n)) old new
+paired l n value old new step = record {
+  here = λ k. step (k, n) ∙ ap (λ b. cond b value (lists old k n)) (pair_here l n k);
+  others = λ k m other. step (k, m) ∙ ap (λ b. cond b value (lists old k m)) (pair_other l n k m other);
+}
 
-part_table : (n a b l : Bool) → (b ≡ true → a ≡ true) → (n && a) ≡ false → ((n && b) || l) ≡ l
-part_table n a b l up e = grind (arith, e, tells n, tells a, tells b)
+-- ---- tables of truth values: a is listed so far, x is the next location, k is kept, l was listed
+add_table : (a x l : Bool) → cond x true (a || l) ≡ ((a || x) || l)
+add_table a x l = grind (arith, cases_Bool a, cases_Bool x)
 
-or_true : (b l : Bool) → l ≡ true → (b || l) ≡ true
-or_true b l e = grind (arith, e, tells b)
+then_table : (a x k l : Bool) → (x ≡ true → k ≡ false) → cond x false (not (a && not k) && l) ≡ (not ((a || x) && not k) && l)
+then_table a x k l h = grind (arith, h, cases_Bool a, cases_Bool x, cases_Bool k)
 
-eq_is : (a b : ℕ) → (a == b) ≡ true → a ≡ b
-eq_is a b e = grind (arith, nat_tests, e)
+else_table : (a x k l : Bool) → (x ≡ true → k ≡ true) → (not (a && not k) && l) ≡ (not ((a || x) && not k) && l)
+else_table a x k l h = grind (arith, h, cases_Bool a, cases_Bool x, cases_Bool k)
 
-among_more : (k : ℕ) (xs : List Loc) (i : ℕ) (d : Loc) → i < length xs → among k (take (i + 1) xs) ≡ (among k (take i xs) || ((get_or xs i d).0 == k))
-among_more k xs i d lt = list_any_more (λ l. l.0 == k) xs i d lt
-
-among_all : (k i : ℕ) (xs : List Loc) → among k (take i xs) ≡ true → among k xs ≡ true
-among_all k i xs h =
+among_none : (k i : ℕ) (xs : List Loc) → among k xs ≡ false → among k (take i xs) ≡ false
+among_none k i xs h =
     let e : among k xs ≡ (among k (take i xs) || among k (drop i xs)) = ap (among k) (sym (take-append-drop i xs)) ∙ list_any-append (λ l. l.0 == k) (take i xs) (drop i xs) in
-    rw (e, h) refl
+    grind (arith, e, h, cases_Bool (among k (take i xs)))
+
+-- ---- one change after another
+pub listed_as : {n : ℕ} {p q : ℕ → Bool} {old new : BTreeSet (ℕ × ℕ)} → IsListedAfter n p old new → ((k : ℕ) → p k ≡ q k) → IsListedAfter n q old new
+listed_as h same = record { here = λ k. h.here k ∙ same k; others = h.others }
+
+pub listed_then : {n : ℕ} {p q : ℕ → Bool} {old mid new : BTreeSet (ℕ × ℕ)} → IsListedAfter n p old mid → IsListedAfter n q mid new → IsListedAfter n q old new
+listed_then first then = record { here = then.here; others = λ k m other. then.others k m other ∙ first.others k m other }
 
 module _ (number : ℕ) (old : BTreeSet (ℕ × ℕ)) where
   -- the first i of these locations are watched too
   abbrev pub HasAdded : List Loc → ℕ → BTreeSet (ℕ × ℕ) → Type 0
-  HasAdded locs i new = (k n : ℕ) → lists new k n ≡ (((n == number) && among k (take i locs)) || lists old k n)
+  HasAdded locs i new = IsListedAfter number (λ k. among k (take i locs) || lists old k number) old new
 
   -- the first i of these locations are no longer watched, but for those that are kept
   abbrev pub HasDropped : List Loc → List Loc → ℕ → BTreeSet (ℕ × ℕ) → Type 0
-  HasDropped gone kept i new = (k n : ℕ) → lists new k n ≡ (not (((n == number) && among k (take i gone)) && not (among k kept)) && lists old k n)
+  HasDropped gone kept i new = IsListedAfter number (λ k. not (among k (take i gone) && not (among k kept)) && lists old k number) old new
 
-  pub added_none : (locs : List Loc) → HasAdded locs 0 old
-  added_none locs k n = elim (n == number) as (λ b. lists old k n ≡ ((b && false) || lists old k n)) [ true ↦ refl | false ↦ refl ]
-
-  pub dropped_none : (gone kept : List Loc) → HasDropped gone kept 0 old
-  dropped_none gone kept k n = elim (n == number) as (λ b. lists old k n ≡ (not ((b && false) && not (among k kept)) && lists old k n)) [ true ↦ refl | false ↦ refl ]
-
-  module _ (locs : List Loc) (i : ℕ) (x : Loc) (lt : i < length locs) (read : x ≡ get_or locs i x) (mid new : BTreeSet (ℕ × ℕ)) where
+  module _ (locs : List Loc) (i : ℕ) (x : Loc) (lt : i < length locs) (read : x ≡ get_or locs i x) where
     next_among : (k : ℕ) → among k (take (i + 1) locs) ≡ (among k (take i locs) || (x.0 == k))
-    next_among k = among_more k locs i x lt ∙ ap (λ (y : Loc). among k (take i locs) || (y.0 == k)) (sym read)
+    next_among k = list_any_more (λ (l : Loc). l.0 == k) locs i x lt ∙ ap (λ (y : Loc). among k (take i locs) || (y.0 == k)) (sym read)
 
-    pub added_more : HasAdded locs i mid → ((k n : ℕ) → lists new k n ≡ (((n == number) && (x.0 == k)) || lists mid k n)) → HasAdded locs (i + 1) new
-    added_more h step k n = rw (step k n, h k n, next_among k) (add_table (n == number) (among k (take i locs)) (x.0 == k) (lists old k n))
+    pub added_more : (mid new : BTreeSet (ℕ × ℕ)) → HasAdded locs i mid → IsListedAfter number (λ k. cond (x.0 == k) true (lists mid k number)) mid new → HasAdded locs (i + 1) new
+    added_more mid new h step = listed_as (listed_then h step) (λ k.
+        rw (h.here k, next_among k) (add_table (among k (take i locs)) (x.0 == k) (lists old k number)))
 
-    pub dropped_more : (kept : List Loc) → HasDropped locs kept i mid → among x.0 kept ≡ false
-        → ((k n : ℕ) → lists new k n ≡ (not ((n == number) && (x.0 == k)) && lists mid k n)) → HasDropped locs kept (i + 1) new
-    dropped_more kept h out step k n =
-        rw (step k n, h k n, next_among k)
-        (then_table (n == number) (among k (take i locs)) (x.0 == k) (among k kept) (lists old k n) (λ e. ap (λ q. among q kept) (sym (eq_is x.0 k e)) ∙ out))
+    module _ (kept : List Loc) (mid : BTreeSet (ℕ × ℕ)) (h : HasDropped locs kept i mid) where
+      pub dropped_more : among x.0 kept ≡ false → (new : BTreeSet (ℕ × ℕ)) → IsListedAfter number (λ k. cond (x.0 == k) false (lists mid k number)) mid new → HasDropped locs kept (i + 1) new
+      dropped_more out new step = listed_as (listed_then h step) (λ k.
+          rw (h.here k, next_among k) (then_table (among k (take i locs)) (x.0 == k) (among k kept) (lists old k number) (λ e. ap (λ q. among q kept) (sym (eqb-true x.0 k e)) ∙ out)))
 
-    pub dropped_kept : (kept : List Loc) → HasDropped locs kept i mid → among x.0 kept ≡ true → HasDropped locs kept (i + 1) mid
-    dropped_kept kept h «in» k n =
-        rw (h k n, next_among k)
-        (else_table (n == number) (among k (take i locs)) (x.0 == k) (among k kept) (lists old k n) (λ e. ap (λ q. among q kept) (sym (eq_is x.0 k e)) ∙ «in»))
-
-  pub added_all : (locs : List Loc) (i : ℕ) (new : BTreeSet (ℕ × ℕ)) → length locs ≤ i → HasAdded locs i new
-      → (k n : ℕ) → lists new k n ≡ (((n == number) && among k locs) || lists old k n)
-  added_all locs i new past h k n = h k n ∙ ap (λ (q : List Loc). ((n == number) && among k q) || lists old k n) (take_all i locs past)
-
-  pub dropped_all : (gone kept : List Loc) (i : ℕ) (new : BTreeSet (ℕ × ℕ)) → length gone ≤ i → HasDropped gone kept i new
-      → (k n : ℕ) → lists new k n ≡ (not (((n == number) && among k gone) && not (among k kept)) && lists old k n)
-  dropped_all gone kept i new past h k n = h k n ∙ ap (λ (q : List Loc). not (((n == number) && among k q) && not (among k kept)) && lists old k n) (take_all i gone past)
+      pub dropped_kept : among x.0 kept ≡ true → HasDropped locs kept (i + 1) mid
+      dropped_kept «in» = listed_as h (λ k.
+          rw (next_among k) (else_table (among k (take i locs)) (x.0 == k) (among k kept) (lists old k number) (λ e. ap (λ q. among q kept) (sym (eqb-true x.0 k e)) ∙ «in»)))
 
   pub added_part : (locs : List Loc) (i : ℕ) (mid new : BTreeSet (ℕ × ℕ)) → HasAdded locs i mid → ((k n : ℕ) → lists new k n ≡ lists mid k n)
       → IsBetween number locs old new
   added_part locs i mid new h same = record {
-    had = λ k n e. same k n ∙ h k n ∙ or_true ((n == number) && among k (take i locs)) (lists old k n) e;
-    others = λ k n e. same k n ∙ h k n ∙ part_table (n == number) (among k locs) (among k (take i locs)) (lists old k n) (among_all k i locs) e;
+    had = λ k e. same k number ∙ h.here k ∙ or_right (among k (take i locs)) (lists old k number) e;
+    elsewhere = λ k e. same k number ∙ h.here k ∙ ap (λ b. b || lists old k number) (among_none k i locs e);
+    others = λ k n other. same k n ∙ h.others k n other;
   }

@@ -1,14 +1,15 @@
 -- What a roll's fields keep after an edit of one member.
 use Rattle.std.proofs.Common.{◌≡◌, ◌<◌, ◌≤◌, ◌+◌, ◌-◌, ◌^◌, ℕ, Bool, true, false, cond, List, [], ◌∷◌, ◌++◌, length, Option, Some, None, option_map, IsSome, IsSomeAnd, IsTrue, refl, sym, ap, subst, ◌∙◌, arith}
+use Rattle.std.proofs.lemmas.Option.{none-some, same_Some}
 use Rattle.ame_pool.specs.Standings.{max_rollbacks}
-use Rattle.ame_pool.proofs.Words.{Member, Turn, Counts, find, altered, placed, except, is_ready, Register, Roster, Queues, HasPlace, pushed, taken, counted, IsAt, skipping, begun, turned, is_readied, is_readied_at, turned_at, IsOrderOf, is_inside_at, IsKept, false≢true, filter, nat_tests, count_by-le-length, length-filter}
-use Rattle.ame_pool.proofs.MemberLemmas.{count_all, find_passes, find_altered, length_altered, rising_altered, all_altered, length_placed, rising_placed, all_placed, length_except, rising_except, all_except}
-use Rattle.ame_pool.proofs.OrderLemmas.{filter_push, filter_skipping, absent, order_short, order_shorter, ordered_same, ordered_readied, ordered_held, ordered_placed, ordered_except, inside_same, inside_but, inside_now, inside_placed, inside_new, inside_except}
+use Rattle.ame_pool.proofs.Words.{IsFoundAfter, Member, Turn, Counts, find, altered, placed, except, is_ready, Register, Roster, Queues, HasPlace, pushed, taken, counted, IsAt, skipping, begun, turned, is_readied, is_readied_at, turned_at, IsOrderOf, is_inside_at, IsKept, false≢true, filter, nat_tests, count_by-le-length, length-filter}
+use Rattle.ame_pool.proofs.MemberLemmas.{count_all, find_passes, which, all_after, found_altered, length_altered, found_placed, length_placed, found_except, length_except}
+use Rattle.ame_pool.proofs.OrderLemmas.{filter_push, filter_skipping, absent, unready, order_short, order_shorter, ordered_same, ordered_readied, ordered_held, ordered_placed, ordered_except, inside_at, inside_same, inside_but}
 use Rattle.ame_pool.proofs.CountLemmas.{kinds, counted_altered, counted_placed, counted_except}
 use Rattle.ame_pool.proofs.StandingLemmas.{turned_number, turn_is}
 
 module _ {M : Type 0} where
-  one_there : (o : Option (Member M)) (P : Member M → Type 0) → IsSomeAnd o P → (m : Member M) × (o ≡ Some m) × P m
+  pub one_there : (o : Option (Member M)) (P : Member M → Type 0) → IsSomeAnd o P → (m : Member M) × (o ≡ Some m) × P m
   one_there None P h = absurd h
   one_there (Some m) P h = (m, refl, h)
 
@@ -41,7 +42,7 @@ module _ {M : Type 0} where
   -- the altered member is found
   module _ (n : ℕ) (to : Turn M) (ms : List (Member M)) (m : Member M) (found : find n ms ≡ Some m) where
     pub found_turned : find n (altered n (turned to) ms) ≡ Some (turned to m)
-    found_turned = let law = find_altered n (turned to) (turned_number to) ms n in grind (arith, nat_tests, law, found, ap (option_map (turned to)) found)
+    found_turned = (found_altered n (turned to) (turned_number to) ms).here ∙ ap (option_map (turned to)) found
 
     pub there_turned : IsSome (find n (altered n (turned to) ms))
     there_turned = rw found_turned refl
@@ -58,37 +59,39 @@ module _ {M : Type 0} {reg : Register M} {q : Queues} {c : Counts} (h : IsKept r
   pub sizes : length q.order + (c.busy + c.parked) ≡ length reg.list
   sizes = omega (arith, kinds reg.list, h.sound.ordered (λ _. true), count_all q.order, h.counted.busy, h.counted.parked)
 
-  pub length_small : length reg.list < 2 ^ 63
-  length_small = omega (arith, h.fits, h.small)
-
   pub free_place : 0 < reg.room → HasPlace q
   free_place room =
       let order : length q.order < q.places = omega (arith, room, order_short reg.list q.order h.sound.ordered, h.fits) in
       record { order = order; inside = omega (arith, order, inside_short) }
 
+  abbrev few : Member M → Type 0
+  few m = m.rollbacks ≤ max_rollbacks
+
   module _ (n : ℕ) (m : Member M) (found : find n reg.list ≡ Some m) where
     -- a member that isn't ready leaves a place in the order
-    module _ (was : is_ready m ≡ false) where
-      pub left_place : HasPlace q
-      left_place =
-          let order : length q.order < q.places = omega (arith, order_shorter reg.list q.order h.sound.ordered n m found was, h.fits) in
-          record { order = order; inside = omega (arith, order, inside_short) }
-
-      away : IsSomeAnd (find n reg.list) (λ m. IsTrue (is_ready m)) → ⊥
-      away s = false≢true (sym was ∙ subst (λ o. IsSomeAnd o (λ m. IsTrue (is_ready m))) found s)
-
-    pub few_at : IsSomeAnd (find n reg.list) (λ m. m.rollbacks ≤ max_rollbacks)
-    few_at = rw found (find_passes (λ (o : Member M). o.rollbacks ≤ max_rollbacks) n reg.list h.sound.rollbacks m found)
+    pub left_place : is_ready m ≡ false → HasPlace q
+    left_place was =
+        let order : length q.order < q.places = omega (arith, order_shorter reg.list q.order h.sound.ordered n m found was, h.fits) in
+        record { order = order; inside = omega (arith, order, inside_short) }
 
     -- ---- its turn
     module _ (to : Turn M) (d c' : Counts) (leave : c ≡ counted m d) (enter : c' ≡ counted (turned to m) d) where
-      turned_kept : (q' : Queues) → q'.places ≡ q.places → IsOrderOf (altered n (turned to) reg.list) q'.order
-          → q'.inside ≡ filter (is_inside_at (altered n (turned to) reg.list)) q'.order → IsKept (record reg { list = altered n (turned to) reg.list }) q' c'
+      abbrev new : List (Member M)
+      new = altered n (turned to) reg.list
+
+      edit : IsFoundAfter n (option_map (turned to)) reg.list new
+      edit = found_altered n (turned to) (turned_number to) reg.list
+
+      inside_new : is_inside_at new n ≡ (turned to m).inside
+      inside_new = inside_at n new (turned to m) (found_turned n to reg.list m found)
+
+      turned_kept : (q' : Queues) → q'.places ≡ q.places → IsOrderOf new q'.order → q'.inside ≡ filter (is_inside_at new) q'.order → IsKept (record reg { list = new }) q' c'
       turned_kept q' places ordered inside = record {
         sound = record {
-          rising = rising_altered n (turned to) (turned_number to) reg.list h.sound.rising;
+          rising = edit.rising h.sound.rising;
           ordered = ordered;
-          rollbacks = all_altered n (turned to) (λ m. m.rollbacks ≤ max_rollbacks) (λ o. (turn_is to o).few) reg.list h.sound.rollbacks;
+          rollbacks = all_after edit h.sound.rising few h.sound.rollbacks (λ o e.
+              subst few (same_Some (turned to m) o (ap (option_map (turned to)) (sym found) ∙ e)) ((turn_is to m).few (find_passes few n reg.list h.sound.rollbacks m found)));
         };
         inside = inside;
         counted = counted_altered reg.list c h.counted n m found (turned to) d c' leave enter;
@@ -96,22 +99,20 @@ module _ {M : Type 0} {reg : Register M} {q : Queues} {c : Counts} (h : IsKept r
         small = omega (arith, h.small, places);
       }
 
-      kept_same : is_ready m ≡ false → is_ready (turned to m) ≡ false → IsKept (record reg { list = altered n (turned to) reg.list }) q c'
-      kept_same was is =
+      kept_unready : (r : Bool) → is_ready m ≡ false → is_ready (turned to m) ≡ r → IsKept (record reg { list = new }) (cond r (pushed n (turned to m).inside q) q) c'
+      kept_unready false was is =
           turned_kept q refl (ordered_same reg.list q.order h.sound.ordered n (turned to) (turned_number to) m found (is ∙ sym was))
-          (h.inside ∙ inside_but reg.list n (turned to) (turned_number to) m found q.order (absent reg.list q.order h.sound n (away was)))
-
-      kept_readied : is_ready m ≡ false → is_ready (turned to m) ≡ true → IsKept (record reg { list = altered n (turned to) reg.list }) (pushed n (turned to m).inside q) c'
-      kept_readied was is =
+          (h.inside ∙ inside_but edit q.order (unready reg.list q.order h.sound n m found was))
+      kept_unready true was is =
           turned_kept (pushed n (turned to m).inside q) refl (ordered_readied reg.list q.order h.sound.ordered n (turned to) (turned_number to) m found was is)
-          (ap (λ l. cond (turned to m).inside (l ++ n ∷ []) l) (h.inside ∙ inside_but reg.list n (turned to) (turned_number to) m found q.order (absent reg.list q.order h.sound n (away was)))
-          ∙ filter_push (is_inside_at (altered n (turned to) reg.list)) q.order n (turned to m).inside (inside_now reg.list n (turned to) (turned_number to) m found))
+          (ap (λ l. cond (turned to m).inside (l ++ n ∷ []) l) (h.inside ∙ inside_but edit q.order (unready reg.list q.order h.sound n m found was))
+          ∙ filter_push (is_inside_at new) q.order n (turned to m).inside inside_new)
 
-      pub kept_held : is_ready m ≡ true → is_ready (turned to m) ≡ false → (turned to m).inside ≡ m.inside → IsKept (record reg { list = altered n (turned to) reg.list }) (taken n m.inside q) c'
+      pub kept_held : is_ready m ≡ true → is_ready (turned to m) ≡ false → (turned to m).inside ≡ m.inside → IsKept (record reg { list = new }) (taken n m.inside q) c'
       kept_held was is same =
           turned_kept (taken n m.inside q) refl (ordered_held reg.list q.order h.sound.ordered n (turned to) (turned_number to) m found was is)
-          (ap (λ l. cond m.inside (skipping n l) l) (h.inside ∙ inside_same reg.list n (turned to) (turned_number to) m found same q.order)
-          ∙ filter_skipping (is_inside_at (altered n (turned to) reg.list)) n q.order m.inside (inside_now reg.list n (turned to) (turned_number to) m found ∙ same))
+          (ap (λ l. cond m.inside (skipping n l) l) (h.inside ∙ inside_same edit (inside_at n reg.list m found ∙ sym same ∙ sym inside_new) q.order)
+          ∙ filter_skipping (is_inside_at new) n q.order m.inside (inside_new ∙ same))
 
     pub kept_turn : is_ready m ≡ false → (to : Turn M) (reg' : Register M) → reg' ≡ record reg { list = altered n (turned to) reg.list }
         → (r : Bool) → Some r ≡ option_map (is_readied to) (find n reg.list) → (d c' : Counts) → c ≡ counted m d → (o : Member M) → Some o ≡ find n reg'.list → c' ≡ counted o d
@@ -122,24 +123,23 @@ module _ {M : Type 0} {reg : Register M} {q : Queues} {c : Counts} (h : IsKept r
         let is : is_ready (turned to m) ≡ r = (turn_is to m).ready was ∙ (let e : is_readied to m ≡ r = cc in e) in
         let entered = enter ∙ ap (λ x. counted x d) same in
         let line : q' ≡ cond r (pushed n (turned to m).inside q) q = queue ∙ ap (λ (x : Member M). cond r (pushed n x.inside q) q) same in
-        rw (new, line) (elim r as (λ b. is_ready (turned to m) ≡ b → IsKept (record reg { list = altered n (turned to) reg.list }) (cond b (pushed n (turned to m).inside q) q) c') [
-          | true ↦ kept_readied to d c' leave entered was
-          | false ↦ kept_same to d c' leave entered was
-        ] is)
+        rw (new, line) (kept_unready to d c' leave entered r was is)
 
     -- ---- it leaves
     pub kept_except : is_ready m ≡ false → (c' : Counts) → c ≡ counted m c' → IsKept (record reg { list = except n reg.list }) q c'
-    kept_except was c' counts = record {
-      sound = record {
-        rising = rising_except n reg.list h.sound.rising;
-        ordered = ordered_except reg.list q.order h.sound.ordered n m found was;
-        rollbacks = all_except n (λ m. m.rollbacks ≤ max_rollbacks) reg.list h.sound.rollbacks;
-      };
-      inside = h.inside ∙ inside_except reg.list n h.sound.rising q.order (absent reg.list q.order h.sound n (away was));
-      counted = counted_except reg.list c h.counted n m found c' counts;
-      fits = omega (arith, h.fits, length_except n reg.list m found);
-      small = h.small;
-    }
+    kept_except was c' counts =
+        let edit = found_except n reg.list h.sound.rising in
+        record {
+          sound = record {
+            rising = edit.rising h.sound.rising;
+            ordered = ordered_except reg.list q.order h.sound.ordered n m found was;
+            rollbacks = all_after edit h.sound.rising few h.sound.rollbacks (λ o e. absurd (none-some o e));
+          };
+          inside = h.inside ∙ inside_but edit q.order (unready reg.list q.order h.sound n m found was);
+          counted = counted_except reg.list c h.counted n m found c' counts;
+          fits = omega (arith, h.fits, length_except n reg.list m found);
+          small = h.small;
+        }
 
   -- ---- more room
   pub kept_roomy : (q' : Queues) → q'.order ≡ q.order → q'.inside ≡ q.inside → q'.places < 2 ^ 63 → (room : ℕ) → length reg.list + room ≤ q'.places → IsKept (record reg { room = room }) q' c
@@ -154,17 +154,17 @@ module _ {M : Type 0} {reg : Register M} {q : Queues} {c : Counts} (h : IsKept r
   -- ---- one joins
   pub kept_placed : (new : Member M) → find new.number reg.list ≡ None → is_ready new ≡ true → new.rollbacks ≤ max_rollbacks → 0 < reg.room
       → IsKept (record { list = placed new reg.list; room = reg.room - 1 }) (pushed new.number new.inside q) c
-  kept_placed new fresh is few room =
-      let none = absent reg.list q.order h.sound new.number (λ s. subst (λ o. IsSomeAnd o (λ m. IsTrue (is_ready m))) fresh s) in
+  kept_placed new fresh is low room =
+      let edit = found_placed new reg.list fresh in
       record {
         sound = record {
-          rising = rising_placed new reg.list fresh h.sound.rising;
+          rising = edit.rising h.sound.rising;
           ordered = ordered_placed reg.list q.order h.sound.ordered new is;
-          rollbacks = all_placed new (λ m. m.rollbacks ≤ max_rollbacks) few reg.list h.sound.rollbacks;
+          rollbacks = all_after edit h.sound.rising few h.sound.rollbacks (λ o e. subst few (same_Some new o e) low);
         };
         inside =
-            ap (λ l. cond new.inside (l ++ new.number ∷ []) l) (h.inside ∙ inside_placed reg.list new fresh q.order none)
-            ∙ filter_push (is_inside_at (placed new reg.list)) q.order new.number new.inside (inside_new reg.list new fresh);
+            ap (λ l. cond new.inside (l ++ new.number ∷ []) l) (h.inside ∙ inside_but edit q.order (absent reg.list q.order h.sound new.number fresh))
+            ∙ filter_push (is_inside_at (placed new reg.list)) q.order new.number new.inside (inside_at new.number (placed new reg.list) new edit.here);
         counted = counted_placed reg.list c h.counted new is;
         fits = omega (arith, h.fits, room, length_placed new reg.list);
         small = h.small;
@@ -173,7 +173,7 @@ module _ {M : Type 0} {reg : Register M} {q : Queues} {c : Counts} (h : IsKept r
 module _ {M : Type 0} where
   -- its machine
   pub machine_begun : (n : ℕ) (ms : List (Member M)) → option_map (λ m. m.machine) (find n (altered n begun ms)) ≡ option_map (λ m. m.machine) (find n ms)
-  machine_begun n ms = rw (find_altered n begun (λ _. refl) ms n) (grind (arith, nat_tests))
+  machine_begun n ms = rw (found_altered n begun (λ _. refl) ms).here (grind (arith, which (find n ms)))
 
   -- a member that is there has a machine
   pub machine_there : (o : Option (Member M)) (P : Member M → Type 0) → IsSomeAnd o P → None ≡ option_map (λ m. m.machine) o → ⊥

@@ -16,16 +16,8 @@ of_number : (n : ℕ) (e : Entry) → is_of n e ≡ true → e.number ≡ Some n
 of_number n e h = grind (arith, nat_tests, which e.number, h)
 
 -- ---- counts
-pub numbers_fewer : (es : List Entry) → length (numbers_in es) ≤ length es
-numbers_fewer [] = omega arith
-numbers_fewer (e ∷ es) = grind (arith, which e.number, numbers_fewer es)
-
 numbers_count : (n : ℕ) (e : Entry) (es : List Entry) → count_by (λ k. k == n) (numbers_in (e ∷ es)) ≡ cond (is_of n e) 1 0 + count_by (λ k. k == n) (numbers_in es)
-numbers_count n e es =
-    elim e.number as (λ o. count_by (λ k. k == n) (numbers_in (record e { number = o } ∷ es)) ≡ cond (is_of n (record e { number = o })) 1 0 + count_by (λ k. k == n) (numbers_in es)) [
-      | None ↦ omega arith
-      | Some k ↦ count_cons (λ k. k == n) k (numbers_in es)
-    ]
+numbers_count n e es = grind (arith, which e.number, λ (k : ℕ). count_cons (λ j. j == n) k (numbers_in es))
 
 pub has_number : (n : ℕ) (es : List Entry) (i : ℕ) (d : Entry) → i < length es → is_of n (get_or es i d) ≡ true → 1 ≤ count_by (λ k. k == n) (numbers_in es)
 has_number n [] i d lt is = absurd (omega arith)
@@ -75,9 +67,6 @@ packed_starts [] = refl
 packed_starts (e ∷ es) = grind (arith, which e.number, packed_starts es)
 
 -- ---- the front
-pub trimmed : (e : Entry) (es : List Entry) → is_gap e ≡ true → numbers_in es ≡ numbers_in (e ∷ es)
-trimmed e es h = sym (gap_head e es h)
-
 pub pushed_starts : (es : List Entry) (e : Entry) → StartsFull es → is_gap e ≡ false → StartsFull (es ++ e ∷ [])
 pushed_starts [] e s h = h
 pushed_starts (o ∷ es) e s h = s

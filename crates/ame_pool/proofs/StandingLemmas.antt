@@ -12,22 +12,13 @@ rolled_le b r h = elim b as (λ v. rolled v r ≤ 8) [ true ↦ omega arith | fa
 
 -- ---- a turn of one that isn't ready
 settled_ready : (s : Standing) → ready s ≡ false → ready (settled s) ≡ is_touched s
-settled_ready Standing.Ready h = absurd (false≢true (sym h))
-settled_ready (Standing.Busy None) h = refl
-settled_ready (Standing.Busy (Some w)) h = elim w.touched as (λ b. ready (cond b Standing.Ready (Standing.Parked w.locs)) ≡ b) [ true ↦ refl | false ↦ refl ]
-settled_ready (Standing.Parked locs) h = refl
+settled_ready s h = grind (arith, standing_is s, h)
 
 stirred_ready : (l : ℕ) (s : Standing) → ready s ≡ false → ready (stirred l s) ≡ is_waiting_for l s
-stirred_ready l Standing.Ready h = absurd (false≢true (sym h))
-stirred_ready l (Standing.Busy None) h = refl
-stirred_ready l (Standing.Busy (Some w)) h = refl
-stirred_ready l (Standing.Parked locs) h = elim (has l locs) as (λ b. ready (cond b Standing.Ready (Standing.Parked locs)) ≡ b) [ true ↦ refl | false ↦ refl ]
+stirred_ready l s h = grind (arith, standing_is s, h)
 
 settled_untouched : (s : Standing) → untouched (settled s) ≡ untouched s
-settled_untouched Standing.Ready = refl
-settled_untouched (Standing.Busy None) = refl
-settled_untouched (Standing.Busy (Some w)) = elim w.touched as (λ b. untouched (cond b Standing.Ready (Standing.Parked w.locs)) ≡ cond b [] w.locs) [ true ↦ refl | false ↦ refl ]
-settled_untouched (Standing.Parked locs) = refl
+settled_untouched s = grind (arith, standing_is s)
 
 module _ {M : Type 0} where
   -- a turn keeps the number and no more than eight rollbacks, and who isn't ready is ready then where the turn says so
@@ -53,15 +44,6 @@ module _ {M : Type 0} where
 
   pub busy_away : (m : Member M) → is_busy m ≡ true → is_away m ≡ true
   busy_away m h = grind (arith, standing_is m.standing, h)
-
-  pub running_away : (m : Member M) → is_running m ≡ true → is_away m ≡ true
-  running_away m h = grind (arith, standing_is m.standing, h)
-
-  pub noted_away : (m : Member M) → is_noted m ≡ true → is_away m ≡ true
-  noted_away m h = grind (arith, standing_is m.standing, h)
-
-  pub watching_away : (l : ℕ) (m : Member M) → has l (untouched m.standing) ≡ true → is_away m ≡ true
-  watching_away l m h = grind (arith, standing_is m.standing, h)
 
   -- ---- what is watched
   pub ready_untouched : (m : Member M) → is_ready m ≡ true → untouched m.standing ≡ []

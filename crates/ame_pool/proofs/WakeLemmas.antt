@@ -1,16 +1,14 @@
 -- What a write to a location changes.
 use Rattle.std.proofs.Common.{◌==◌, ◌≡◌, ◌<◌, ◌≤◌, ℕ, Bool, true, false, cond, List, [], ◌∷◌, ◌++◌, map, Option, Some, None, IsSomeAnd, IsTrue, refl, sym, ap, ◌∙◌, arith}
 use Rattle.std.specs.List.{All}
-use Rattle.ame_pool.proofs.Words.{Member, Standing, Watch, IsRising, find, altered, untouched, lists, waits_for, has, touched_by, stirred, stirred_by, is_waiting_for, is_woken_by, woken_by, Roster, IsAt, woken, is_watching, is_woken_at, stirred_at, IsWatched, false≢true, count_by, BTreeSet, nat_tests, append-nil, append_assoc, All-head, All-tail}
+use Rattle.ame_pool.proofs.Words.{cases_Bool, Member, Standing, Watch, IsRising, find, altered, untouched, lists, waits_for, has, touched_by, stirred, stirred_by, is_waiting_for, is_woken_by, woken_by, Roster, IsAt, woken, is_watching, is_woken_at, stirred_at, IsWatched, false≢true, count_by, BTreeSet, nat_tests, append-nil, append_assoc, All-head, All-tail}
 use Rattle.ame_pool.proofs.KeptLemmas.{IsOpen, opened}
-use Rattle.ame_pool.proofs.MemberLemmas.{count_altered, find_number, find_passes, all_found, tells}
+use Rattle.ame_pool.proofs.MemberLemmas.{count_altered, find_number, find_passes, all_found, standing_is}
 
 module _ (l : ℕ) where
   -- ---- a standing and a write
   not_waiting : (s : Standing) → has l (untouched s) ≡ false → is_waiting_for l s ≡ false
-  not_waiting Standing.Ready e = refl
-  not_waiting (Standing.Busy w) e = refl
-  not_waiting (Standing.Parked locs) e = e
+  not_waiting s e = grind (arith, standing_is s, e)
 
   watch_once : (w : Watch) (b : Bool) → w.touched ≡ b → has l (cond b [] w.locs) ≡ false → touched_by l w ≡ w
   watch_once w true t e =
@@ -24,15 +22,8 @@ module _ (l : ℕ) where
   stirred_once (Standing.Busy (Some w)) e = ap (λ (q : Watch). Standing.Busy (Some q)) (watch_once w w.touched refl e)
   stirred_once (Standing.Parked locs) e = rw e refl
 
-  watch_clears : (w : Watch) (b : Bool) → w.touched ≡ b → has l (cond b [] w.locs) ≡ true → untouched (Standing.Busy (Some (touched_by l w))) ≡ []
-  watch_clears w true t e = absurd (false≢true e)
-  watch_clears w false t e = rw e refl
-
   stirred_clears : (s : Standing) → has l (untouched s) ≡ true → untouched (stirred l s) ≡ []
-  stirred_clears Standing.Ready e = refl
-  stirred_clears (Standing.Busy None) e = refl
-  stirred_clears (Standing.Busy (Some w)) e = watch_clears w w.touched refl e
-  stirred_clears (Standing.Parked locs) e = rw e refl
+  stirred_clears s e = grind (arith, standing_is s, e)
 
   stirred_twice : (s : Standing) → has l (untouched s) ≡ true → stirred l (stirred l s) ≡ stirred l s
   stirred_twice s e = stirred_once (stirred l s) (ap (has l) (stirred_clears s e))
@@ -57,7 +48,7 @@ module _ {M : Type 0} (l : ℕ) where
       grind (arith, nat_tests, found, twice, map_altered n ms m)
 
   woken_cons : (m : Member M) (ms : List (Member M)) → woken_by l (m ∷ ms) ≡ cond (is_woken_by l m) (m.number ∷ []) [] ++ woken_by l ms
-  woken_cons m ms = grind (arith, tells (is_woken_by l m))
+  woken_cons m ms = grind (arith, cases_Bool (is_woken_by l m))
 
   woken_altered : (n : ℕ) (ms : List (Member M)) → IsRising ms → (m : Member M) → find n ms ≡ Some m → is_watching l m ≡ true
       → All (λ o. o.number < n → is_watching l o ≡ false) ms
@@ -115,7 +106,7 @@ module _ {M : Type 0} (l : ℕ) where
 
       before : All (λ o. o.number < n → is_watching l o ≡ false) s.members
       before = all_found (λ (o : Member M). o.number < n → is_watching l o ≡ false) s.members h.rising (λ k o at lt.
-          grind (arith, tells (is_watching l o), find_number k s.members o at, least k, h.indexed l k, ap (waits_for l) at, lt))
+          grind (arith, cases_Bool (is_watching l o), find_number k s.members o at, least k, h.indexed l k, ap (waits_for l) at, lt))
 
       pub waking_more : woken l (stirred_at l n s) ≡ woken l s
       waking_more =

@@ -3,7 +3,7 @@ pub use Rattle.ame_pool.specs.Begin.{first_to_begin, is_protected, is_worn, is_w
 pub use Rattle.ame_pool.specs.Calls.{IsAt, at_home, at_rest, begun, held, is_noted, is_running, joined, machine_of, newcomer, noted, noted_on, removed, renewed, skipping, woken}
 pub use Rattle.ame_pool.specs.Counts.{AreCounted, CountsIn, counted, idle, is_busy_protected, is_busy_worn}
 pub use Rattle.ame_pool.specs.Found.{IsFoundAfter}
-pub use Rattle.ame_pool.specs.Index.{IsBetween, among, lists, pair_cmp, untouched, waits_for}
+pub use Rattle.ame_pool.specs.Index.{IsBetween, IsListedAfter, among, lists, pair_cmp, untouched, waits_for}
 pub use Rattle.ame_pool.specs.Keeps.{IsKept, IsOrderOf, IsSound, IsWatched, is_inside_at}
 pub use Rattle.ame_pool.specs.Line.{IsPlaceOf, Row, StartsFull, is_gap, is_of, numbers_in}
 pub use Rattle.ame_pool.specs.Members.{IsRising, altered, except, find, is_busy, is_parked, is_ready, placed}
@@ -25,7 +25,7 @@ pub use Rattle.ame_pool.specs.declared.oldest.Oldest.{Oldest}
 pub use Rattle.ame_pool.specs.declared.turn.Turn.{Turn}
 pub use Rattle.ame_term.specs.declared.types.Loc.{Loc}
 pub use Rattle.slab.specs.Slab.{ContainsKey, Slab, Updates, get, with_value}
-pub use Rattle.std.proofs.lemmas.Bool.{cases_eq, cases_lt}
+pub use Rattle.std.proofs.lemmas.Bool.{cases_Bool, cases_eq, cases_lt, cond_both}
 pub use Rattle.std.proofs.lemmas.Bool.Decides.{nat_tests}
 pub use Rattle.std.proofs.lemmas.Fn.{filter_same}
 pub use Rattle.std.proofs.lemmas.List.{append-nil, append_assoc, get_or_default, length-append, take-append-drop, take_all}

@@ -1,5 +1,5 @@
 -- Who watches which location.
-use Rattle.std.specs.Prelude.{◌≡◌, ℕ, ◌==◌, ◌&&◌, Bool, true, false, cond, List, [], Option, Some, None}
+use Rattle.std.specs.Prelude.{◌≡◌, ◌≢◌, ℕ, ◌==◌, Bool, true, false, cond, List, [], Option, Some, None}
 use Rattle.std.specs.BTreeSet.{BTreeSet}
 use Rattle.std.specs.BTreeSet.{contains}
 use Rattle.std.specs.List.{list_any}
@@ -23,10 +23,16 @@ lists index l n = contains pair_cmp index (l, n)
 abbrev pub among : ℕ → List Loc → Bool
 among k locs = list_any (λ l. l.0 == k) locs
 
+-- the index lists the number at the locations that pass, and each other number where it did
+pub record IsListedAfter (number : ℕ) (test : ℕ → Bool) (old new : BTreeSet (ℕ × ℕ)) : Type 0 where
+  pub here : (k : ℕ) → lists new k number ≡ test k
+  pub others : (k n : ℕ) → n ≢ number → lists new k n ≡ lists old k n
+
 -- the index has what it had, and for the number perhaps some of these locations too
 pub record IsBetween (number : ℕ) (locs : List Loc) (old new : BTreeSet (ℕ × ℕ)) : Type 0 where
-  pub had : (k n : ℕ) → lists old k n ≡ true → lists new k n ≡ true
-  pub others : (k n : ℕ) → ((n == number) && among k locs) ≡ false → lists new k n ≡ lists old k n
+  pub had : (k : ℕ) → lists old k number ≡ true → lists new k number ≡ true
+  pub elsewhere : (k : ℕ) → among k locs ≡ false → lists new k number ≡ lists old k number
+  pub others : (k n : ℕ) → n ≢ number → lists new k n ≡ lists old k n
 
 -- the locations whose write changes a standing: a list that isn't touched yet
 abbrev pub untouched : Standing → List ℕ

@@ -2,8 +2,9 @@
 use Rattle.std.specs.Prelude.{◌≡◌, ℕ, ◌<◌, ◌≤◌, ◌+◌, ◌==◌, cond, List, [], ◌∷◌, length, All, Option, Some, None, ⊤, nat_lt, vec_len, vec_capacity}
 use Rattle.std.specs.Global.{Vec}
 use Rattle.std.specs.List.{HoldsAt, AllWithin}
-use Rattle.slab.specs.Slab.{Slab, HasRoomFor, get}
+use Rattle.slab.specs.Slab.{Slab, ContainsKey, HasRoomFor, get}
 use Rattle.ame_pool.specs.declared.member.Member.{Member}
+use Rattle.ame_pool.specs.Members.{find}
 use Rattle.ame_pool.specs.declared.numbers.Numbered.{Numbered}
 
 -- each entry's number is below those after it
@@ -57,6 +58,5 @@ module _ {M : Type 0} where
   pub record IsSlotOf (slots : Slab (Member M)) (es : List Numbered) (number key : ℕ) : Type 0 where
     pub rising : AreRising es
     pub keyed : key_of number es ≡ Some key
-    pub member : Member M
-    pub held : get slots key ≡ Some member
-    pub numbered : member.number ≡ number
+    pub found : find number (members_at (get slots) es) ≡ get slots key
+    pub there : ContainsKey slots key

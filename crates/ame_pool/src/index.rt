@@ -1,7 +1,7 @@
 //! Who watches which location: the index, a set of pairs of a location and the number of a member that watches it.
 
-ghost use Rattle.std.specs.Prelude.{◌≡◌, ◌≤◌, ◌==◌, ◌&&◌, ◌||◌, ℕ, false, not, IsTrue, IfSome, IfNone, OnOk, OnErr};
-ghost use Rattle.ame_pool.specs.Index.{lists, among, IsBetween};
+ghost use Rattle.std.specs.Prelude.{◌≡◌, ◌≤◌, ◌==◌, ◌&&◌, ◌||◌, ℕ, true, false, not, cond, IsTrue, IfSome, IfNone, OnOk, OnErr};
+ghost use Rattle.ame_pool.specs.Index.{lists, among, IsListedAfter, IsBetween};
 
 use crate::member::is_among;
 use ame_term::{Loc, NoMemory};
@@ -21,7 +21,7 @@ pub fn first(index: &BTreeSet<(u32, u64)>, l: Loc) -> Option<u64>
 
 /// One more watcher. A refusal changes nothing.
 fn add(index: &mut BTreeSet<(u32, u64)>, l: Loc, number: u64) -> Result<(), NoMemory>
-    ensures ok { OnOk result ((k n : ℕ) → lists index.new k n ≡ (((n == number) && (l.0 == k)) || lists index.old k n)) }
+    ensures ok { OnOk result (IsListedAfter number (λ k. cond (l.0 == k) true (lists index.old k number)) index.old index.new) }
     ensures err { OnErr result ((k n : ℕ) → lists index.new k n ≡ lists index.old k n) }
 {
     match index.insert((l.0, number)) {
@@ -32,14 +32,14 @@ fn add(index: &mut BTreeSet<(u32, u64)>, l: Loc, number: u64) -> Result<(), NoMe
 
 /// One watcher less.
 fn drop_one(index: &mut BTreeSet<(u32, u64)>, l: Loc, number: u64)
-    ensures { (k n : ℕ) → lists index.new k n ≡ (not ((n == number) && (l.0 == k)) && lists index.old k n) }
+    ensures { IsListedAfter number (λ k. cond (l.0 == k) false (lists index.old k number)) index.old index.new }
 {
     index.remove(&(l.0, number));
 }
 
 /// The member with this number watches these locations too. Where memory is wanted, some of them may have been added.
 pub fn watch(index: &mut BTreeSet<(u32, u64)>, number: u64, locs: &[Loc]) -> Result<(), NoMemory>
-    ensures ok { OnOk result ((k n : ℕ) → lists index.new k n ≡ (((n == number) && among k locs.now) || lists index.old k n)) }
+    ensures ok { OnOk result (IsListedAfter number (λ k. among k locs.now || lists index.old k number) index.old index.new) }
     ensures err { OnErr result (IsBetween number locs.now index.old index.new) }
 {
     for l in locs {
@@ -50,7 +50,7 @@ pub fn watch(index: &mut BTreeSet<(u32, u64)>, number: u64, locs: &[Loc]) -> Res
 
 /// The member with this number no longer watches these locations, but for those that are kept.
 pub fn unwatch(index: &mut BTreeSet<(u32, u64)>, number: u64, gone: &[Loc], kept: &[Loc])
-    ensures { (k n : ℕ) → lists index.new k n ≡ (not (((n == number) && among k gone.now) && not (among k kept.now)) && lists index.old k n) }
+    ensures { IsListedAfter number (λ k. not (among k gone.now && not (among k kept.now)) && lists index.old k number) index.old index.new }
 {
     for l in gone {
         if !is_among(kept, *l) {

@@ -1,9 +1,9 @@
 //! A member of the pool, and what it does alone.
 
-ghost use Rattle.std.specs.Prelude.{◌≡◌, ◌≤◌, ◌==◌, map};
+ghost use Rattle.std.specs.Prelude.{◌≡◌, ◌==◌, map};
 ghost use Rattle.std.specs.List.{list_any};
 ghost use Rattle.ame_pool.specs.Waking.{has};
-ghost use Rattle.ame_pool.specs.Standings.{max_rollbacks, rolled};
+ghost use Rattle.ame_pool.specs.Standings.{rolled};
 
 use ame_term::{Loc, Locs};
 use std::mem;
@@ -44,13 +44,14 @@ pub struct Watch {
 
 /// Rollbacks after a way home.
 fn rolled_on(rolled_back: bool, rollbacks: u8) -> u8
-    requires { rollbacks ≤ max_rollbacks }
     ensures { result ≡ rolled rolled_back rollbacks }
 {
-    if rolled_back && rollbacks < ROLLBACK_LIMIT {
+    if !rolled_back {
+        rollbacks
+    } else if rollbacks < ROLLBACK_LIMIT {
         rollbacks + 1
     } else {
-        rollbacks
+        ROLLBACK_LIMIT
     }
 }
 
@@ -150,7 +151,6 @@ impl<M: Drop> Member<M> {
 
     /// Ready again.
     pub fn go_home(&mut self, rolled_back: bool)
-        requires { self.old.rollbacks ≤ max_rollbacks }
         ensures { self.new ≡ at_home rolled_back self.old }
     {
         self.rollbacks = rolled_on(rolled_back, self.rollbacks);

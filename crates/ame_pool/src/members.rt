@@ -1,6 +1,6 @@
 //! The members, found by their numbers.
 
-ghost use Rattle.std.specs.Prelude.{◌≡◌, ◌-◌, ◌<◌, ◌≤◌, max, Some, None, IsSome, IsSomeAnd, OnOk, OnErr, is_some, option_copied, option_map, vec_len, vec_capacity};
+ghost use Rattle.std.specs.Prelude.{◌≡◌, ◌-◌, ◌<◌, ◌≤◌, max, Some, None, IsSome, OnOk, OnErr, is_some, option_copied, option_map, vec_len, vec_capacity};
 ghost use Rattle.slab.specs.Slab.{get};
 ghost use Rattle.ame_pool.specs.Members.{find};
 ghost use Rattle.ame_pool.specs.Numbered.{AreRising, IsSlotOf, only, members_at};
@@ -87,7 +87,6 @@ fn drop_stale<M>(numbers: &mut Vec<Numbered>, slots: &Slab<Member<M>>)
 
 impl<M: Drop> Members<M> {
     ghost use Rattle.ame_pool.specs.Members.{find, altered, placed, except};
-    ghost use Rattle.ame_pool.specs.Standings.{max_rollbacks};
     ghost use Rattle.ame_pool.specs.Turns.{turned, is_readied};
     ghost use Rattle.ame_pool.specs.Register.{vacant};
 
@@ -170,7 +169,7 @@ impl<M: Drop> Members<M> {
 
     /// A member's turn; the answer tells whether this makes it ready.
     pub fn turn(&mut self, number: u64, to: Turn<M>) -> bool
-        requires { IsSomeAnd (find number self.old.list) (λ m. m.rollbacks ≤ max_rollbacks) }
+        requires { IsSome (find number self.old.list) }
         ensures members { self.new ≡ record self.old { list = altered number (turned to) self.old.list } }
         ensures readied { Some result ≡ option_map (is_readied to) (find number self.old.list) }
     {

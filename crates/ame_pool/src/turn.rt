@@ -1,7 +1,6 @@
 //! What becomes of a member.
 
-ghost use Rattle.std.specs.Prelude.{◌≡◌, ◌≤◌};
-ghost use Rattle.ame_pool.specs.Standings.{max_rollbacks};
+ghost use Rattle.std.specs.Prelude.{◌≡◌};
 ghost use Rattle.ame_pool.specs.Turns.{turned, is_readied};
 
 use crate::member::Member;
@@ -27,7 +26,6 @@ pub enum Turn<M> {
 impl<M: Drop> Member<M> {
     /// The answer tells whether this makes it ready.
     pub fn turn(&mut self, to: Turn<M>) -> bool
-        requires { self.old.rollbacks ≤ max_rollbacks }
         ensures member { self.new ≡ turned to self.old }
         ensures readied { result ≡ is_readied to self.old }
     {

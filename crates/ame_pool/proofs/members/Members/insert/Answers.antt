@@ -17,5 +17,5 @@ pub returns : goal.returns
 returns g c =
     let fresh = subst (λ s. find c.args.member.number s.list ≡ None) (sym c.self.view_is) c.requires.fresh in
     let filled = slot_filled c.self.inside.slots c.insert_reserved-key.new.self c.self.inside.numbers.items c.self.invariant.rising c.args.member
-    (record { number = c.args.member.number; key = c.insert_reserved-key.result }) refl c.insert_reserved-key.ensures.was_vacant c.insert_reserved-key.ensures.updates fresh in
+    c.insert_reserved-key.result c.insert_reserved-key.ensures.was_vacant c.insert_reserved-key.ensures.updates fresh in
     rw (← c.self.view_is, c.enter.ensures.items, filled) refl

@@ -1,12 +1,13 @@
-use Rattle.std.proofs.Common.{◌∙◌, true, refl, sym}
+use Rattle.std.proofs.Common.{◌∙◌, true, refl, sym, arith}
 use Rattle.ame_pool.proofs.Words.{Turn, is_running, is_away}
-use Rattle.ame_pool.proofs.StandingLemmas.{running_away, running_untouched}
+use Rattle.ame_pool.proofs.MemberLemmas.{standing_is}
+use Rattle.ame_pool.proofs.StandingLemmas.{running_untouched}
 use Rattle.ame_pool.proofs.KeptLemmas.{opened, at_weaker, turned_pool}
 use Rattle.ame_pool.proofs.FindLemmas.{watched_same}
 use Rattle.ame_pool.proofs.pool.Pool.home.Goals as goal
 
 pub turn-requires : goal.turn-requires
-turn-requires g c = at_weaker is_running is_away running_away c.args.number _ c.args.self.now c.self.view_is c.requires
+turn-requires g c = at_weaker is_running is_away (λ m h. grind (arith, standing_is m.standing, h)) c.args.number _ c.args.self.now c.self.view_is c.requires
 
 pub invariant_of-self : goal.invariant_of-self
 invariant_of-self g c =

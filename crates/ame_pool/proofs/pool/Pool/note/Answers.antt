@@ -1,5 +1,5 @@
-use Rattle.std.proofs.Common.{◌≡◌, ◌==◌, ◌&&◌, ℕ, false, not, refl, sym, ap, subst, ◌∙◌}
-use Rattle.ame_pool.proofs.Words.{Turn, is_busy, altered, Roster, lists, among, IsBetween, noted, noted_on, is_away, ◌||◌, append-nil}
+use Rattle.std.proofs.Common.{◌&&◌, false, not, refl, sym, ap, subst, ◌∙◌}
+use Rattle.ame_pool.proofs.Words.{Turn, is_busy, altered, Roster, lists, among, IsBetween, IsListedAfter, noted, noted_on, is_away, ◌||◌, append-nil}
 use Rattle.ame_pool.proofs.IndexLemmas.{on_err_at, on_ok_at}
 use Rattle.ame_pool.proofs.StandingLemmas.{busy_away}
 use Rattle.ame_pool.proofs.KeptLemmas.{at_weaker, turned_pool}
@@ -10,12 +10,12 @@ pub invariant_of-self : goal.invariant_of-self
 invariant_of-self g c =
     let n = c.args.number in
     let ix = c.self.inside.index in
-    let between = subst (λ q. IsBetween n q ix c.watch-noted.new.index) c.as_slice.ensures.value
-    (on_err_at c.watch-noted.result (IsBetween n c.as_slice.result.now ix c.watch-noted.new.index) c.if-is_err.ensures.value c.watch-noted.ensures.err) in
-    let then = subst (λ q. (k j : ℕ) → lists c.unwatch.new.index k j ≡ (not (((j == n) && among k q) && not (among k c.untouched.result.now)) && lists c.watch-noted.new.index k j))
+    let mid = c.watch-noted.new.index in
+    let between = subst (λ q. IsBetween n q ix mid) c.as_slice.ensures.value
+    (on_err_at c.watch-noted.result (IsBetween n c.as_slice.result.now ix mid) c.if-is_err.ensures.value c.watch-noted.ensures.err) in
+    let then = subst (λ q. IsListedAfter n (λ k. not (among k q && not (among k c.untouched.result.now)) && lists mid k n) mid c.unwatch.new.index)
     c.as_slice-then-is_err.ensures.value c.unwatch.ensures in
-    watched_refused c.self.invariant n c.member-member.result.now (sym c.member-member.ensures) c.untouched.result.now c.untouched.ensures
-    c.args.locs.items c.watch-noted.new.index c.unwatch.new.index between then
+    watched_refused c.self.invariant n c.member-member.result.now (sym c.member-member.ensures) c.untouched.result.now c.untouched.ensures c.args.locs.items between then
 
 pub turn-requires : goal.turn-requires
 turn-requires g c = at_weaker is_busy is_away busy_away c.args.number _ c.args.self.now c.self.view_is c.requires
@@ -24,13 +24,13 @@ pub invariant_of-self-2 : goal.invariant_of-self-2
 invariant_of-self-2 g c =
     let n = c.args.number in
     let ix = c.self.inside.index in
-    let first = subst (λ q. (k j : ℕ) → lists c.watch-noted.new.index k j ≡ (((j == n) && among k q) || lists ix k j)) c.as_slice.ensures.value
-    (on_ok_at c.watch-noted.result ((k j : ℕ) → lists c.watch-noted.new.index k j ≡ (((j == n) && among k c.as_slice.result.now) || lists ix k j))
-    c.if-is_err.ensures.value c.watch-noted.ensures.ok) in
-    let then = subst (λ q. (k j : ℕ) → lists c.unwatch-2.new.index k j ≡ (not (((j == n) && among k c.untouched-2.result.now) && not (among k q)) && lists c.watch-noted.new.index k j))
+    let mid = c.watch-noted.new.index in
+    let first = subst (λ q. IsListedAfter n (λ k. among k q || lists ix k n) ix mid) c.as_slice.ensures.value
+    (on_ok_at c.watch-noted.result (IsListedAfter n (λ k. among k c.as_slice.result.now || lists ix k n) ix mid) c.if-is_err.ensures.value c.watch-noted.ensures.ok) in
+    let then = subst (λ q. IsListedAfter n (λ k. not (among k c.untouched-2.result.now && not (among k q)) && lists mid k n) mid c.unwatch-2.new.index)
     c.as_slice-2.ensures.value c.unwatch-2.ensures in
     rw c.turn.ensures (watched_noted c.self.invariant n c.member-member.result.now (sym c.member-member.ensures) c.untouched-2.result.now c.untouched-2.ensures
-    (Turn.Watch c.from_vec.result) c.args.locs.items c.from_vec.ensures c.watch-noted.new.index c.unwatch-2.new.index first then)
+    (Turn.Watch c.from_vec.result) c.args.locs.items c.from_vec.ensures first then)
 
 pub returns-clause-ok : goal.returns-clause-ok
 returns-clause-ok g c =

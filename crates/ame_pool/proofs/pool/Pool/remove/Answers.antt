@@ -11,4 +11,4 @@ remove-requires g c = at_weaker is_busy is_away busy_away c.args.number _ c.args
 pub invariant_of-self : goal.invariant_of-self
 invariant_of-self g c =
     rw c.remove.ensures.roll (watched_except c.self.invariant c.args.number c.member-member.result.now (sym c.member-member.ensures) c.untouched.result.now c.untouched.ensures
-    c.unwatch.new.index c.unwatch.ensures)
+    c.unwatch.ensures)

@@ -11,7 +11,7 @@ turn-requires g c = at_weaker is_busy is_away busy_away c.args.number _ c.args.s
 pub invariant_of-self : goal.invariant_of-self
 invariant_of-self g c =
     rw c.turn.ensures (watched_cleared c.self.invariant c.args.number c.member-member.result.now (sym c.member-member.ensures) c.untouched.result.now c.untouched.ensures
-    (Turn.Renew c.args.machine c.args.inside) refl c.unwatch.new.index c.unwatch.ensures)
+    c.unwatch.ensures (Turn.Renew c.args.machine c.args.inside) refl)
 
 pub returns : goal.returns
 returns g c =

@@ -1,12 +1,13 @@
-use Rattle.std.proofs.Common.{◌==◌, refl, ap, ◌∙◌, arith}
+use Rattle.std.proofs.Common.{◌==◌, cond, not, refl, ap, ◌∙◌, arith}
+use Rattle.std.proofs.lemmas.List.Filters.{sum_by-filter_both}
 use Rattle.ame_pool.proofs.Words.{Turn, is_ready, counted, taken, is_inside_at, count_by}
-use Rattle.ame_pool.proofs.OrderLemmas.{order_once, count_filter}
+use Rattle.ame_pool.proofs.OrderLemmas.{order_once}
 use Rattle.ame_pool.proofs.CountLemmas.{ready_counted}
-use Rattle.ame_pool.proofs.KeptLemmas.{opened, few_at, there_turned, read_turned, kept_held}
+use Rattle.ame_pool.proofs.KeptLemmas.{opened, there_turned, read_turned, kept_held}
 use Rattle.ame_pool.proofs.roll.Roll.begin.Goals as goal
 
 pub turn-requires : goal.turn-requires
-turn-requires g c = let o = opened is_ready c.args.number _ c.args.self.now c.self.view_is c.requires in few_at c.self.invariant c.args.number o.member o.found
+turn-requires g c = rw (opened is_ready c.args.number _ c.args.self.now c.self.view_is c.requires).found refl
 
 pub member-member-requires : goal.member-member-requires
 member-member-requires g c =
@@ -32,5 +33,5 @@ take-requires-clause-inside g c =
       arith,
       order_once c.self.inside.members.list c.self.inside.ready.order c.self.invariant.sound n,
       ap (count_by (λ k. k == n)) c.self.invariant.inside,
-      count_filter (λ k. k == n) (is_inside_at c.self.inside.members.list) c.self.inside.ready.order,
+      sum_by-filter_both (is_inside_at c.self.inside.members.list) (λ k. not (is_inside_at c.self.inside.members.list k)) (λ _. refl) (λ k. cond (k == n) 1 0) c.self.inside.ready.order,
     )

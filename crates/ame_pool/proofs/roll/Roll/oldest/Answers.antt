@@ -1,14 +1,14 @@
-use Rattle.std.proofs.Common.{◌≡◌, ◌∙◌, Some, cond, IsTrue, sym, ap, subst}
-use Rattle.ame_pool.proofs.Words.{find, is_ready, is_busy, front, oldest, oldest_or_wait, IsAt, list_any}
+use Rattle.std.proofs.Common.{◌≡◌, ◌∙◌, Some, true, false, IsTrue, refl, sym, ap, subst}
+use Rattle.ame_pool.proofs.Words.{find, is_ready, is_busy, oldest, oldest_or_wait, IsAt, list_any}
 use Rattle.ame_pool.proofs.OrderLemmas.{front_ready}
 use Rattle.ame_pool.proofs.ChoiceLemmas.{idle_is, idle_waits, held_up, inside_ready, front_is}
-use Rattle.ame_pool.proofs.SlotLemmas.{some_and}
+use Rattle.ame_pool.proofs.KeptLemmas.{one_there}
 use Rattle.ame_pool.proofs.roll.Roll.oldest.Goals as goal
 
 pub member-requires : goal.member-requires
 member-requires g c =
     let n = c.in-Some.number in
-    some_and (λ m. IsTrue (is_ready m)) (find n c.self.inside.members.list) (front_ready c.self.inside.members.list c.self.inside.ready.order c.self.invariant.sound n (sym c.in-Some.ensures))
+    rw (one_there (find n c.self.inside.members.list) (λ m. IsTrue (is_ready m)) (front_ready c.self.inside.members.list c.self.inside.ready.order c.self.invariant.sound n (sym c.in-Some.ensures))).1 refl
 
 pub returns-in_default-clause-oldest : goal.returns-in_default-clause-oldest
 returns-in_default-clause-oldest g c = c.idle.ensures ∙ sym (idle_is c.self.invariant (sym c.in_default.ensures)) ∙ ap oldest c.self.view_is
@@ -18,8 +18,7 @@ returns-in_default-clause-waits g c e = subst (λ s. IsTrue (list_any is_busy s.
 
 pub returns-then-may_begin-clause-oldest : goal.returns-then-may_begin-clause-oldest
 returns-then-may_begin-clause-oldest g c =
-    let law = front_is c.self.invariant c.in-Some.number (sym c.in-Some.ensures) c.member.result.now (sym c.member.ensures) in
-    ap (λ b. oldest_or_wait (cond b (Some c.in-Some.number) (front c.self.inside.ready.inside))) c.if-may_begin.ensures ∙ sym law ∙ ap oldest c.self.view_is
+    front_is c.self.invariant c.in-Some.number (sym c.in-Some.ensures) c.member.result.now (sym c.member.ensures) _ c.self.view_is true c.if-may_begin.ensures
 
 pub returns-then-may_begin-clause-ready : goal.returns-then-may_begin-clause-ready
 returns-then-may_begin-clause-ready g c n e =
@@ -28,9 +27,8 @@ returns-then-may_begin-clause-ready g c n e =
 
 pub returns-in-Some-first_inside-clause-oldest : goal.returns-in-Some-first_inside-clause-oldest
 returns-in-Some-first_inside-clause-oldest g c =
-    let law = front_is c.self.invariant c.in-Some.number (sym c.in-Some.ensures) c.member.result.now (sym c.member.ensures) in
-    ap oldest_or_wait c.in-Some-first_inside.ensures ∙ ap (λ b. oldest_or_wait (cond b (Some c.in-Some.number) (front c.self.inside.ready.inside))) c.if-may_begin.ensures
-    ∙ sym law ∙ ap oldest c.self.view_is
+    ap oldest_or_wait c.in-Some-first_inside.ensures
+    ∙ front_is c.self.invariant c.in-Some.number (sym c.in-Some.ensures) c.member.result.now (sym c.member.ensures) _ c.self.view_is false c.if-may_begin.ensures
 
 pub returns-in-Some-first_inside-clause-ready : goal.returns-in-Some-first_inside-clause-ready
 returns-in-Some-first_inside-clause-ready g c n e =
@@ -39,9 +37,8 @@ returns-in-Some-first_inside-clause-ready g c n e =
 
 pub returns-in-None-clause-oldest : goal.returns-in-None-clause-oldest
 returns-in-None-clause-oldest g c =
-    let law = front_is c.self.invariant c.in-Some.number (sym c.in-Some.ensures) c.member.result.now (sym c.member.ensures) in
-    ap oldest_or_wait c.in-None.ensures ∙ ap (λ b. oldest_or_wait (cond b (Some c.in-Some.number) (front c.self.inside.ready.inside))) c.if-may_begin.ensures
-    ∙ sym law ∙ ap oldest c.self.view_is
+    ap oldest_or_wait c.in-None.ensures
+    ∙ front_is c.self.invariant c.in-Some.number (sym c.in-Some.ensures) c.member.result.now (sym c.member.ensures) _ c.self.view_is false c.if-may_begin.ensures
 
 pub returns-in-None-clause-waits : goal.returns-in-None-clause-waits
 returns-in-None-clause-waits g c e = subst (λ s. IsTrue (list_any is_busy s.members)) c.self.view_is (held_up c.self.invariant c.member.result.now (sym c.if-may_begin.ensures))

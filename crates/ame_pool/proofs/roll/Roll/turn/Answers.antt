@@ -1,15 +1,15 @@
-use Rattle.std.proofs.Common.{◌∙◌, cond, sym, ap}
+use Rattle.std.proofs.Common.{◌∙◌, IsSome, cond, refl, sym, ap, subst}
 use Rattle.ame_pool.proofs.Words.{pushed, is_away}
 use Rattle.ame_pool.proofs.StandingLemmas.{away_unready}
 use Rattle.ame_pool.proofs.CountLemmas.{counts_in}
-use Rattle.ame_pool.proofs.KeptLemmas.{passes, few_at, there_turned, left_place, kept_turn}
+use Rattle.ame_pool.proofs.KeptLemmas.{passes, there_turned, left_place, kept_turn}
 use Rattle.ame_pool.proofs.roll.Roll.turn.Goals as goal
 
 pub leave-requires : goal.leave-requires
 leave-requires g c = counts_in c.self.inside.members.list c.self.inside.counts c.self.invariant.counted c.args.number c.member.result.now (sym c.member.ensures)
 
 pub turn-is_readied-requires : goal.turn-is_readied-requires
-turn-is_readied-requires g c = few_at c.self.invariant c.args.number c.member.result.now (sym c.member.ensures)
+turn-is_readied-requires g c = subst (λ o. IsSome o) c.member.ensures refl
 
 pub member-member-requires : goal.member-member-requires
 member-member-requires g c = rw c.turn-is_readied.ensures.members (there_turned c.args.number c.args.to c.self.inside.members.list c.member.result.now (sym c.member.ensures))

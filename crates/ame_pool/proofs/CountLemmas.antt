@@ -1,5 +1,5 @@
 -- The counts after an edit of the list.
-use Rattle.std.proofs.Common.{◌≡◌, ◌+◌, ◌&&◌, ℕ, true, cond, List, [], ◌∷◌, length, Some, refl, ap, arith}
+use Rattle.std.proofs.Common.{◌≡◌, ◌+◌, ◌&&◌, ℕ, true, List, [], ◌∷◌, length, Some, refl, ap, arith}
 use Rattle.ame_pool.proofs.Words.{Member, Standing, Counts, is_ready, is_busy, is_parked, find, altered, placed, except, is_busy_protected, is_busy_worn, counted, CountsIn, AreCounted, count_by}
 use Rattle.ame_pool.proofs.MemberLemmas.{count_cons, count_altered, count_placed, count_except, standing_is}
 

@@ -1,5 +1,5 @@
 -- Whom the index names, after an edit of the members and of the index.
-use Rattle.std.proofs.Common.{◌≡◌, ◌≢◌, ◌==◌, ◌&&◌, ℕ, Bool, true, false, not, List, [], map, Option, Some, None, option_map, refl, sym, ap, subst, ◌∙◌, inl, inr, arith, ◌∷◌}
+use Rattle.std.proofs.Common.{◌≡◌, ◌==◌, ◌&&◌, ℕ, Bool, true, false, not, List, [], map, Option, Some, None, option_map, refl, sym, ap, subst, ◌∙◌, inl, inr, arith, ◌∷◌}
 use Rattle.ame_pool.proofs.Words.{cases_Bool, cases_eq, Loc, Member, Turn, find, IsFoundAfter, Roster, begun, joined, held, removed, turned, turned_at, has, lists, among, untouched, waits_for, IsBetween, IsListedAfter, IsWatched, ◌||◌, BTreeSet, list_any}
 use Rattle.ame_pool.proofs.MemberLemmas.{found_altered, found_placed, found_except}
 use Rattle.ame_pool.proofs.StandingLemmas.{turned_number}

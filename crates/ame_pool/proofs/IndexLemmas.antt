@@ -1,13 +1,13 @@
 -- The index of watchers.
 use Rattle.std.proofs.lemmas.Bool.{eqb-true, or_right}
-use Rattle.std.proofs.Common.{OnOk, ◌≡◌, ◌≢◌, ◌≤◌, ◌==◌, ◌&&◌, ℕ, Bool, true, false, cond, not, ◌<◌, ◌+◌, Result, Ok, Err, OnErr, refl, sym, ap, ◌∙◌, arith}
+use Rattle.std.proofs.Common.{OnOk, ◌≡◌, ◌≢◌, ◌≤◌, ◌==◌, ◌&&◌, ℕ, Bool, true, false, cond, not, ◌<◌, ◌+◌, Result, Ok, Err, OnErr, sym, ap, ◌∙◌, arith}
 use Rattle.std.specs.Prelude.{List, length}
 use lib.ListN.{get_or}
 use Rattle.std.specs.Result.{is_err}
 use Rattle.std.specs.BTreeSet.{contains}
 use Rattle.std.specs.BTreeMap.{is_at}
 use Rattle.std.specs.BTreeMap.Range.{IsLeBy}
-use Rattle.ame_pool.proofs.Words.{cases_Bool, Loc, pair_cmp, lists, among, IsBetween, IsListedAfter, false≢true, ◌||◌, take, drop, take_all, take-append-drop, list_any_more, list_any-append, nat_tests, BTreeSet}
+use Rattle.ame_pool.proofs.Words.{cases_Bool, Loc, pair_cmp, lists, among, IsBetween, IsListedAfter, false≢true, ◌||◌, take, drop, take-append-drop, list_any_more, list_any-append, nat_tests, BTreeSet}
 
 pub on_err : {T E : Type 0} (r : Result T E) (P : Type 0) → P → OnErr r P
 on_err (Ok x) P h = tt

@@ -2,7 +2,7 @@
 use Rattle.std.proofs.Common.{◌≡◌, ◌<◌, ◌≤◌, ◌+◌, ◌-◌, ◌^◌, ℕ, Bool, true, false, cond, List, [], ◌∷◌, ◌++◌, length, Option, Some, None, option_map, IsSome, IsSomeAnd, IsTrue, refl, sym, ap, subst, ◌∙◌, arith}
 use Rattle.std.proofs.lemmas.Option.{none-some, same_Some}
 use Rattle.ame_pool.specs.Standings.{max_rollbacks}
-use Rattle.ame_pool.proofs.Words.{IsFoundAfter, Member, Turn, Counts, find, altered, placed, except, is_ready, Register, Roster, Queues, HasPlace, pushed, taken, counted, IsAt, skipping, begun, turned, is_readied, is_readied_at, turned_at, IsOrderOf, is_inside_at, IsKept, false≢true, filter, nat_tests, count_by-le-length, length-filter}
+use Rattle.ame_pool.proofs.Words.{IsFoundAfter, Member, Turn, Counts, find, altered, placed, except, is_ready, Register, Roster, Queues, HasPlace, pushed, taken, counted, IsAt, skipping, begun, turned, is_readied, is_readied_at, turned_at, IsOrderOf, is_inside_at, IsKept, filter, count_by-le-length, length-filter}
 use Rattle.ame_pool.proofs.MemberLemmas.{count_all, find_passes, which, all_after, found_altered, length_altered, found_placed, length_placed, found_except, length_except}
 use Rattle.ame_pool.proofs.OrderLemmas.{filter_push, filter_skipping, absent, unready, order_short, order_shorter, ordered_same, ordered_readied, ordered_held, ordered_placed, ordered_except, inside_at, inside_same, inside_but}
 use Rattle.ame_pool.proofs.CountLemmas.{kinds, counted_altered, counted_placed, counted_except}

@@ -1,6 +1,5 @@
 -- The order of the ready members, and of those inside, after an edit of the list.
 use Rattle.std.proofs.Common.{◌≡◌, ◌≢◌, ◌<◌, ◌≤◌, ◌+◌, ◌==◌, ◌&&◌, ℕ, Bool, true, false, cond, List, [], ◌∷◌, ◌++◌, length, Option, Some, None, IsSomeAnd, IsTrue, refl, sym, ap, subst, ◌∙◌, inl, inr, arith}
-use Rattle.std.specs.List.{All}
 use Rattle.ame_pool.proofs.Words.{cases_Bool, Member, Standing, IsRising, IsFoundAfter, is_ready, find, altered, placed, except, skipping, front, IsOrderOf, IsSound, is_inside_at, count_by, filter, nat_tests, cases_eq, length-append, append-nil, filter_agree, filter-append, sum_by_push, count_by-le-length}
 use Rattle.ame_pool.proofs.MemberLemmas.{count_cons, count_all, none_above, find_number, count_altered, length_altered, count_placed, count_except}
 

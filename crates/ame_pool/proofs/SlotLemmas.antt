@@ -1,5 +1,5 @@
 -- The members that entries lead to, the slot that a number leads to, and what an edit of that slot makes of the members.
-use Rattle.std.proofs.Common.{◌≡◌, ◌≢◌, ◌<◌, ◌==◌, ℕ, true, false, cond, List, [], ◌∷◌, All, Option, Some, None, IsSome, is_some, option_map, refl, sym, ap, subst, ◌∙◌, inl, inr, arith}
+use Rattle.std.proofs.Common.{◌≡◌, ◌≢◌, ◌<◌, ◌==◌, ℕ, cond, List, [], ◌∷◌, All, Option, Some, None, IsSome, is_some, option_map, refl, sym, ap, subst, ◌∙◌, inl, inr, arith}
 use Rattle.ame_pool.proofs.Words.{Slab, get, Updates, with_value, Member, Numbered, IsRising, IsFoundAfter, find, altered, placed, except, AreRising, IsSlotOf, key_of, filed, only, behind, members_at, filter, cases_eq, nat_tests, cases_Bool, All-nil, All-cons, All-head, All-tail}
 use Rattle.slab.proofs.SlabLemmas.{Updates-with_value}
 use Rattle.ame_pool.proofs.MemberLemmas.{find_number, none_above, rising_same, found_altered, found_placed, found_except, which}

@@ -1,9 +1,8 @@
 -- The index of watchers.
 use Rattle.std.proofs.lemmas.Bool.{eqb-true, or_right}
-use Rattle.std.proofs.Common.{OnOk, ◌≡◌, ◌≢◌, ◌≤◌, ◌==◌, ◌&&◌, ℕ, Bool, true, false, cond, not, ◌<◌, ◌+◌, Result, Ok, Err, OnErr, sym, ap, ◌∙◌, arith}
+use Rattle.std.proofs.Common.{◌≡◌, ◌≢◌, ◌≤◌, ◌==◌, ◌&&◌, ℕ, Bool, true, false, cond, not, ◌<◌, ◌+◌, Result, Ok, Err, OnErr, sym, ap, ◌∙◌, arith}
 use Rattle.std.specs.Prelude.{List, length}
 use lib.ListN.{get_or}
-use Rattle.std.specs.Result.{is_err}
 use Rattle.std.specs.BTreeSet.{contains}
 use Rattle.std.specs.BTreeMap.{is_at}
 use Rattle.std.specs.BTreeMap.Range.{IsLeBy}
@@ -12,14 +11,6 @@ use Rattle.ame_pool.proofs.Words.{cases_Bool, Loc, pair_cmp, lists, among, IsBet
 pub on_err : {T E : Type 0} (r : Result T E) (P : Type 0) → P → OnErr r P
 on_err (Ok x) P h = tt
 on_err (Err e) P h = h
-
-pub on_err_at : {T E : Type 0} (r : Result T E) (P : Type 0) → true ≡ is_err r → OnErr r P → P
-on_err_at (Ok x) P e h = absurd (false≢true (sym e))
-on_err_at (Err x) P e h = h
-
-pub on_ok_at : {T E : Type 0} (r : Result T E) (P : Type 0) → false ≡ is_err r → OnOk r P → P
-on_ok_at (Ok x) P e h = h
-on_ok_at (Err x) P e h = absurd (false≢true e)
 
 -- pairs of one location come in order of their numbers
 pub pair_low : (l m : ℕ) → IsLeBy pair_cmp (l, 0) (l, m)

@@ -148,11 +148,10 @@ impl<M: Drop> Pool<M> {
         ensures ok { OnOk result (self.new ≡ noted number (map (λ l. l.0) locs.items) self.old) }
         ensures err { OnErr result (self.new ≡ self.old) }
     {
-        let noted = watch(&mut self.index, number, locs.as_slice());
         let member = self.roll.member(number);
-        if noted.is_err() {
+        if let Err(refusal) = watch(&mut self.index, number, locs.as_slice()) {
             unwatch(&mut self.index, number, locs.as_slice(), member.untouched());
-            return noted;
+            return Err(refusal);
         }
         unwatch(&mut self.index, number, member.untouched(), locs.as_slice());
         self.roll.turn(number, Turn::Watch(Locs::from_vec(locs)));

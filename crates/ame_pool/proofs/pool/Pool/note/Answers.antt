@@ -1,6 +1,5 @@
 use Rattle.std.proofs.Common.{◌&&◌, false, not, refl, sym, ap, subst, ◌∙◌}
 use Rattle.ame_pool.proofs.Words.{Turn, is_busy, altered, Roster, lists, among, IsBetween, IsListedAfter, noted, noted_on, is_away, ◌||◌, append-nil}
-use Rattle.ame_pool.proofs.IndexLemmas.{on_err_at, on_ok_at}
 use Rattle.ame_pool.proofs.StandingLemmas.{busy_away}
 use Rattle.ame_pool.proofs.KeptLemmas.{at_weaker, turned_pool}
 use Rattle.ame_pool.proofs.FindLemmas.{watched_noted, watched_refused}
@@ -9,12 +8,10 @@ use Rattle.ame_pool.proofs.pool.Pool.note.Goals as goal
 pub invariant_of-self : goal.invariant_of-self
 invariant_of-self g c =
     let n = c.args.number in
-    let ix = c.self.inside.index in
-    let mid = c.watch-noted.new.index in
-    let between = subst (λ q. IsBetween n q ix mid) c.as_slice.ensures.value
-    (on_err_at c.watch-noted.result (IsBetween n c.as_slice.result.now ix mid) c.if-is_err.ensures.value c.watch-noted.ensures.err) in
+    let mid = c.watch.new.index in
+    let between = subst (λ q. IsBetween n q c.self.inside.index mid) c.as_slice.ensures.value c.in-Err.ensures.err in
     let then = subst (λ q. IsListedAfter n (λ k. not (among k q && not (among k c.untouched.result.now)) && lists mid k n) mid c.unwatch.new.index)
-    c.as_slice-then-is_err.ensures.value c.unwatch.ensures in
+    c.as_slice-in-Err.ensures.value c.unwatch.ensures in
     watched_refused c.self.invariant n c.member-member.result.now (sym c.member-member.ensures) c.untouched.result.now c.untouched.ensures c.args.locs.items between then
 
 pub turn-requires : goal.turn-requires
@@ -24,9 +21,8 @@ pub invariant_of-self-2 : goal.invariant_of-self-2
 invariant_of-self-2 g c =
     let n = c.args.number in
     let ix = c.self.inside.index in
-    let mid = c.watch-noted.new.index in
-    let first = subst (λ q. IsListedAfter n (λ k. among k q || lists ix k n) ix mid) c.as_slice.ensures.value
-    (on_ok_at c.watch-noted.result (IsListedAfter n (λ k. among k c.as_slice.result.now || lists ix k n) ix mid) c.if-is_err.ensures.value c.watch-noted.ensures.ok) in
+    let mid = c.watch.new.index in
+    let first = subst (λ q. IsListedAfter n (λ k. among k q || lists ix k n) ix mid) c.as_slice.ensures.value c.in_default.ensures.ok in
     let then = subst (λ q. IsListedAfter n (λ k. not (among k c.untouched-2.result.now && not (among k q)) && lists mid k n) mid c.unwatch-2.new.index)
     c.as_slice-2.ensures.value c.unwatch-2.ensures in
     rw c.turn.ensures (watched_noted c.self.invariant n c.member-member.result.now (sym c.member-member.ensures) c.untouched-2.result.now c.untouched-2.ensures

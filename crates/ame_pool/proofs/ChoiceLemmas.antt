@@ -13,7 +13,11 @@ blocked i w p b o hp hb = grind (arith, hp, hb, cases_Bool i, cases_Bool w, case
 -- the first one may not begin only where a protected one is busy, and where it is worn or a worn one is busy
 first_waits : (i w p b : Bool) → (b ≡ true → p ≡ true) → cond i true (cond w (not p) (not b && not false)) ≡ false
     → (i ≡ false) × (p ≡ true) × ((b || ((not i && w) || false)) ≡ true)
-first_waits i w p b up h = (grind (arith, up, h, cases_Bool i, cases_Bool w, cases_Bool b), grind (arith, up, h, cases_Bool i, cases_Bool w, cases_Bool p, cases_Bool b), grind (arith, up, h, cases_Bool i, cases_Bool w, cases_Bool b))
+first_waits i w p b up h = (
+  grind (arith, up, h, cases_Bool i, cases_Bool w, cases_Bool b),
+  grind (arith, up, h, cases_Bool i, cases_Bool w, cases_Bool p, cases_Bool b),
+  grind (arith, up, h, cases_Bool i, cases_Bool w, cases_Bool b),
+)
 
 or_left : (b o x : Bool) → (b || o) ≡ true → (b || (o || x)) ≡ true
 or_left b o x h = grind (arith, h, cases_Bool b, cases_Bool o)
@@ -31,7 +35,8 @@ module _ {M : Type 0} where
 
   module _ (ms : List (Member M)) where
     -- once a protected one may not begin, the first one inside begins
-    inside_begins : some_busy is_protected ms ≡ true → (ready older : List (Member M)) → (some_busy is_worn_protected ms || list_any is_worn_protected older) ≡ true
+    inside_begins : some_busy is_protected ms ≡ true → (ready older : List (Member M))
+        → (some_busy is_worn_protected ms || list_any is_worn_protected older) ≡ true
         → first_to_begin ms older ready ≡ first_inside ready
     inside_begins busy [] older worn = refl
     inside_begins busy (m ∷ ready) older worn =
@@ -144,7 +149,8 @@ module _ {M : Type 0} where
           let some = h.sound.ordered (λ _. true) in
           let count = ap (count_by (λ _. true)) split ∙ count_cons (λ _. true) n rest.0 in
           let one : ◌≡◌ {A = ℕ} (cond true 1 0) 1 = refl in
-          let back : front (filter (is_inside_at reg.list) (n ∷ rest.0)) ≡ front q.inside = ap (λ l. front (filter (is_inside_at reg.list) l)) (sym split) ∙ ap front (sym h.inside) in
+          let back : front (filter (is_inside_at reg.list) (n ∷ rest.0)) ≡ front q.inside
+          = ap (λ l. front (filter (is_inside_at reg.list) l)) (sym split) ∙ ap front (sym h.inside) in
           let chosen : oldest roster ≡ oldest_or_wait (first_to_begin reg.list [] (members_of reg.list q.order))
           = oldest_counts reg.list q.order reg.room ∙ grind (arith, nat_tests, some, count, one, kinds reg.list) in
           sym (chosen ∙ ap (λ l. oldest_or_wait (first_to_begin reg.list [] (members_of reg.list l))) split

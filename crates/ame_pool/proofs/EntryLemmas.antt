@@ -51,7 +51,11 @@ at_gap [] new zero gap = (refl, refl)
 at_gap [] new (suc i) gap = absurd (omega (arith, gap.within))
 at_gap (e ∷ es) new zero gap =
     let h = gap.after 0 e (omega arith) (omega arith) in
-    let rest = at_gap es new zero (record { within = omega arith; before = λ k d low high. absurd (omega arith); after = λ k d low high. gap.after (suc k) d (omega arith) (omega arith) }) in
+    let rest = at_gap es new zero (record {
+      within = omega arith;
+      before = λ k d low high. absurd (omega arith);
+      after = λ k d low high. gap.after (suc k) d (omega arith) (omega arith);
+    }) in
     (grind (arith, nat_tests, h, rest.0), grind (arith, nat_tests, h))
 at_gap (e ∷ es) new (suc i) gap =
     let h = gap.before 0 e (omega arith) (omega arith) in

@@ -22,7 +22,8 @@ refused_table a k l m h had elsewhere = grind (arith, h, had, elsewhere, cases_B
 -- ---- the index
 module _ {M : Type 0} {s : Roster M} {ix : BTreeSet (ℕ × ℕ)} (h : IsWatched s ix) where
   -- the members and the index were edited at a number, and it is listed where whoever has it then watches
-  watched_after : (t : Roster M) {n : ℕ} {f : Option (Member M) → Option (Member M)} → IsFoundAfter n f s.members t.members → (new : Option (Member M)) → f (find n s.members) ≡ new
+  watched_after : (t : Roster M) {n : ℕ} {f : Option (Member M) → Option (Member M)} → IsFoundAfter n f s.members t.members
+      → (new : Option (Member M)) → f (find n s.members) ≡ new
       → {test : ℕ → Bool} {ix' : BTreeSet (ℕ × ℕ)} → IsListedAfter n test ix ix' → ((k : ℕ) → test k ≡ waits_for k new) → IsWatched t ix'
   watched_after t {n} edit new e {test} {ix'} listed told = record {
     rising = edit.rising h.rising;
@@ -47,7 +48,8 @@ module _ {M : Type 0} {s : Roster M} {ix : BTreeSet (ℕ × ℕ)} (h : IsWatched
     listed_at k = h.indexed k n ∙ ap (waits_for k) found
 
     -- it is altered, and the index is as it was
-    still : (t : Roster M) (f : Member M → Member M) → IsFoundAfter n (option_map f) s.members t.members → untouched (f m).standing ≡ untouched m.standing → IsWatched t ix
+    still : (t : Roster M) (f : Member M → Member M) → IsFoundAfter n (option_map f) s.members t.members
+        → untouched (f m).standing ≡ untouched m.standing → IsWatched t ix
     still t f edit u = watched_after t edit (Some (f m)) (ap (option_map f) found) (listed_still n) (λ k. listed_at k ∙ sym (ap (has k) u))
 
     -- it watches what it watched
@@ -77,9 +79,11 @@ module _ {M : Type 0} {s : Roster M} {ix : BTreeSet (ℕ × ℕ)} (h : IsWatched
 
       -- a new list in place of that one
       pub watched_noted : (to : Turn M) (list : List Loc) → untouched (turned to m).standing ≡ map (λ (l : Loc). l.0) list → {mid ix' : BTreeSet (ℕ × ℕ)}
-          → IsListedAfter n (λ k. among k list || lists ix k n) ix mid → IsListedAfter n (λ k. not (among k locs && not (among k list)) && lists mid k n) mid ix' → IsWatched (turned_at n to s) ix'
+          → IsListedAfter n (λ k. among k list || lists ix k n) ix mid
+          → IsListedAfter n (λ k. not (among k locs && not (among k list)) && lists mid k n) mid ix' → IsWatched (turned_at n to s) ix'
       watched_noted to list u {mid} first then =
-          watched_after (turned_at n to s) (found_altered n (turned to) (turned_number to) s.members) (Some (turned to m)) (ap (option_map (turned to)) found) (listed_then first then)
+          watched_after (turned_at n to s) (found_altered n (turned to) (turned_number to) s.members) (Some (turned to m))
+          (ap (option_map (turned to)) found) (listed_then first then)
           (λ k. noted_table (among k list) (among k locs) (lists ix k n) (lists mid k n) (listed_here k) (first.here k)
           ∙ sym (ap (has k) u ∙ list_any-map (λ (l : Loc). l.0) (λ q. q == k) list))
 

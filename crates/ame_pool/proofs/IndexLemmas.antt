@@ -29,7 +29,8 @@ pair_here l n k = grind (arith, nat_tests)
 pair_other : (l n k m : ℕ) → m ≢ n → is_at (pair_cmp (l, n)) (k, m) ≡ false
 pair_other l n k m other = grind (arith, nat_tests, other)
 
-pub paired : (l n : ℕ) (value : Bool) (old new : BTreeSet (ℕ × ℕ)) → ((p : ℕ × ℕ) → contains pair_cmp new p ≡ cond (is_at (pair_cmp (l, n)) p) value (contains pair_cmp old p))
+pub paired : (l n : ℕ) (value : Bool) (old new : BTreeSet (ℕ × ℕ))
+    → ((p : ℕ × ℕ) → contains pair_cmp new p ≡ cond (is_at (pair_cmp (l, n)) p) value (contains pair_cmp old p))
     → IsListedAfter n (λ k. cond (l == k) value (lists old k n)) old new
 paired l n value old new step = record {
   here = λ k. step (k, n) ∙ ap (λ b. cond b value (lists old k n)) (pair_here l n k);
@@ -71,18 +72,22 @@ module _ (number : ℕ) (old : BTreeSet (ℕ × ℕ)) where
     next_among : (k : ℕ) → among k (take (i + 1) locs) ≡ (among k (take i locs) || (x.0 == k))
     next_among k = list_any_more (λ (l : Loc). l.0 == k) locs i x lt ∙ ap (λ (y : Loc). among k (take i locs) || (y.0 == k)) (sym read)
 
-    pub added_more : (mid new : BTreeSet (ℕ × ℕ)) → HasAdded locs i mid → IsListedAfter number (λ k. cond (x.0 == k) true (lists mid k number)) mid new → HasAdded locs (i + 1) new
+    pub added_more : (mid new : BTreeSet (ℕ × ℕ)) → HasAdded locs i mid
+        → IsListedAfter number (λ k. cond (x.0 == k) true (lists mid k number)) mid new → HasAdded locs (i + 1) new
     added_more mid new h step = listed_as (listed_then h step) (λ k.
         rw (h.here k, next_among k) (add_table (among k (take i locs)) (x.0 == k) (lists old k number)))
 
     module _ (kept : List Loc) (mid : BTreeSet (ℕ × ℕ)) (h : HasDropped locs kept i mid) where
-      pub dropped_more : among x.0 kept ≡ false → (new : BTreeSet (ℕ × ℕ)) → IsListedAfter number (λ k. cond (x.0 == k) false (lists mid k number)) mid new → HasDropped locs kept (i + 1) new
+      pub dropped_more : among x.0 kept ≡ false → (new : BTreeSet (ℕ × ℕ))
+          → IsListedAfter number (λ k. cond (x.0 == k) false (lists mid k number)) mid new → HasDropped locs kept (i + 1) new
       dropped_more out new step = listed_as (listed_then h step) (λ k.
-          rw (h.here k, next_among k) (then_table (among k (take i locs)) (x.0 == k) (among k kept) (lists old k number) (λ e. ap (λ q. among q kept) (sym (eqb-true x.0 k e)) ∙ out)))
+          rw (h.here k, next_among k) (then_table (among k (take i locs)) (x.0 == k) (among k kept) (lists old k number)
+          (λ e. ap (λ q. among q kept) (sym (eqb-true x.0 k e)) ∙ out)))
 
       pub dropped_kept : among x.0 kept ≡ true → HasDropped locs kept (i + 1) mid
       dropped_kept «in» = listed_as h (λ k.
-          rw (next_among k) (else_table (among k (take i locs)) (x.0 == k) (among k kept) (lists old k number) (λ e. ap (λ q. among q kept) (sym (eqb-true x.0 k e)) ∙ «in»)))
+          rw (next_among k) (else_table (among k (take i locs)) (x.0 == k) (among k kept) (lists old k number)
+          (λ e. ap (λ q. among q kept) (sym (eqb-true x.0 k e)) ∙ «in»)))
 
   pub added_part : (locs : List Loc) (i : ℕ) (mid new : BTreeSet (ℕ × ℕ)) → HasAdded locs i mid → ((k n : ℕ) → lists new k n ≡ lists mid k n)
       → IsBetween number locs old new

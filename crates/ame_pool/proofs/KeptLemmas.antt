@@ -85,13 +85,15 @@ module _ {M : Type 0} {reg : Register M} {q : Queues} {c : Counts} (h : IsKept r
       inside_new : is_inside_at new n ≡ (turned to m).inside
       inside_new = inside_at n new (turned to m) (found_turned n to reg.list m found)
 
-      turned_kept : (q' : Queues) → q'.places ≡ q.places → IsOrderOf new q'.order → q'.inside ≡ filter (is_inside_at new) q'.order → IsKept (record reg { list = new }) q' c'
+      turned_kept : (q' : Queues) → q'.places ≡ q.places → IsOrderOf new q'.order → q'.inside ≡ filter (is_inside_at new) q'.order
+          → IsKept (record reg { list = new }) q' c'
       turned_kept q' places ordered inside = record {
         sound = record {
           rising = edit.rising h.sound.rising;
           ordered = ordered;
           rollbacks = all_after edit h.sound.rising few h.sound.rollbacks (λ o e.
-              subst few (same_Some (turned to m) o (ap (option_map (turned to)) (sym found) ∙ e)) ((turn_is to m).few (find_passes few n reg.list h.sound.rollbacks m found)));
+              subst few (same_Some (turned to m) o (ap (option_map (turned to)) (sym found) ∙ e))
+              ((turn_is to m).few (find_passes few n reg.list h.sound.rollbacks m found)));
         };
         inside = inside;
         counted = counted_altered reg.list c h.counted n m found (turned to) d c' leave enter;
@@ -99,7 +101,8 @@ module _ {M : Type 0} {reg : Register M} {q : Queues} {c : Counts} (h : IsKept r
         small = omega (arith, h.small, places);
       }
 
-      kept_unready : (r : Bool) → is_ready m ≡ false → is_ready (turned to m) ≡ r → IsKept (record reg { list = new }) (cond r (pushed n (turned to m).inside q) q) c'
+      kept_unready : (r : Bool) → is_ready m ≡ false → is_ready (turned to m) ≡ r
+          → IsKept (record reg { list = new }) (cond r (pushed n (turned to m).inside q) q) c'
       kept_unready false was is =
           turned_kept q refl (ordered_same reg.list q.order h.sound.ordered n (turned to) (turned_number to) m found (is ∙ sym was))
           (h.inside ∙ inside_but edit q.order (unready reg.list q.order h.sound n m found was))
@@ -108,7 +111,8 @@ module _ {M : Type 0} {reg : Register M} {q : Queues} {c : Counts} (h : IsKept r
           (ap (λ l. cond (turned to m).inside (l ++ n ∷ []) l) (h.inside ∙ inside_but edit q.order (unready reg.list q.order h.sound n m found was))
           ∙ filter_push (is_inside_at new) q.order n (turned to m).inside inside_new)
 
-      pub kept_held : is_ready m ≡ true → is_ready (turned to m) ≡ false → (turned to m).inside ≡ m.inside → IsKept (record reg { list = new }) (taken n m.inside q) c'
+      pub kept_held : is_ready m ≡ true → is_ready (turned to m) ≡ false → (turned to m).inside ≡ m.inside
+          → IsKept (record reg { list = new }) (taken n m.inside q) c'
       kept_held was is same =
           turned_kept (taken n m.inside q) refl (ordered_held reg.list q.order h.sound.ordered n (turned to) (turned_number to) m found was is)
           (ap (λ l. cond m.inside (skipping n l) l) (h.inside ∙ inside_same edit (inside_at n reg.list m found ∙ sym same ∙ sym inside_new) q.order)

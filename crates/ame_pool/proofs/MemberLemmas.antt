@@ -57,7 +57,8 @@ module _ {M : Type 0} where
       → ((k : ℕ) → k ≤ n → find k old ≡ None → find k new ≡ None) → All (λ q. n < q.number) new
   still_above n old new above r fewer =
       all_found (λ (q : Member M). n < q.number) new r (λ k q e.
-      let none : k ≤ n → find k old ≡ None = λ le. none_above k old (All-weaker (λ (q : Member M). n < q.number) (λ q. k < q.number) (λ q lt. omega (arith, lt, le)) old above) in
+      let none : k ≤ n → find k old ≡ None
+      = λ le. none_above k old (All-weaker (λ (q : Member M). n < q.number) (λ q. k < q.number) (λ q lt. omega (arith, lt, le)) old above) in
       grind (arith, find_number k new q e, e, none, fewer k))
 
   -- look-ups tell a rising list

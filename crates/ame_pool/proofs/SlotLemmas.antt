@@ -20,9 +20,9 @@ module _ {M : Type 0} where
   only_found n k ms other = grind (arith, nat_tests, which (find n ms), find_number n ms, other)
 
   -- a number is sought in a list with the member of an entry at its head
-  find_behind : (k n : ℕ) (o : Option (Member M)) (ms : List (Member M)) → find k ms ≡ None → find n (behind (only k o) ms) ≡ cond (k == n) (only n o) (find n ms)
-  find_behind k n None ms none = grind (arith, nat_tests, none)
-  find_behind k n (Some m) ms none = grind (arith, nat_tests, none)
+  find_past : (k n : ℕ) (o : Option (Member M)) (ms : List (Member M)) → find k ms ≡ None → find n (behind (only k o) ms) ≡ cond (k == n) (only n o) (find n ms)
+  find_past k n None ms none = grind (arith, nat_tests, none)
+  find_past k n (Some m) ms none = grind (arith, nat_tests, none)
 
   -- ---- the members
   module _ (at : ℕ → Option (Member M)) where
@@ -61,7 +61,7 @@ module _ {M : Type 0} where
     find_held [] r n = refl
     find_held (e ∷ es) r n =
         let lone = none_above e.number (members_at at es) (above_members e.number es r.0) in
-        find_behind e.number n (at e.key) (members_at at es) lone ∙ grind (arith, cases_Bool (e.number == n), find_held es r.1 n)
+        find_past e.number n (at e.key) (members_at at es) lone ∙ grind (arith, cases_Bool (e.number == n), find_held es r.1 n)
 
     -- to drop stale entries changes no member
     pub kept_members : (es : List Numbered) → members_at at (filter (λ e. is_some (only e.number (at e.key))) es) ≡ members_at at es
@@ -88,7 +88,7 @@ module _ {M : Type 0} where
         → {f : Option (Member M) → Option (Member M)} {ms : List (Member M)} → IsFoundAfter n f (members_at at es) ms
         → held_at at' n (key_of n es') ≡ f (find n (members_at at es)) → members_at at' es' ≡ ms
     edited es es' r r' keys {f} {ms} found here =
-        rising_same (members_at at' es') ms (rising_members at' es' r') (found.rising (rising_members at es r)) (λ k. find_held at' es' r' k ∙ elim (cases_eq k n) [
+        rising_same _ ms (rising_members at' es' r') (found.rising (rising_members at es r)) (λ k. find_held at' es' r' k ∙ elim (cases_eq k n) [
           | inl same ↦ subst (λ q. held_at at' q (key_of q es') ≡ find q ms) (sym same) (here ∙ sym found.here)
           | inr other ↦ ap (held_at at' k) (keys k other) ∙ held_same k other (key_of k es) ∙ sym (find_held at es r k) ∙ sym (found.others k other)
         ])

@@ -17,7 +17,7 @@ settled_ready s h = grind (arith, standing_is s, h)
 stirred_ready : (l : ℕ) (s : Standing) → ready s ≡ false → ready (stirred l s) ≡ is_waiting_for l s
 stirred_ready l s h = grind (arith, standing_is s, h)
 
-settled_untouched : (s : Standing) → untouched (settled s) ≡ untouched s
+pub settled_untouched : (s : Standing) → untouched (settled s) ≡ untouched s
 settled_untouched s = grind (arith, standing_is s)
 
 module _ {M : Type 0} where
@@ -44,13 +44,3 @@ module _ {M : Type 0} where
 
   pub busy_away : (m : Member M) → is_busy m ≡ true → is_away m ≡ true
   busy_away m h = grind (arith, standing_is m.standing, h)
-
-  -- ---- what is watched
-  pub ready_untouched : (m : Member M) → is_ready m ≡ true → untouched m.standing ≡ []
-  ready_untouched m h = grind (arith, standing_is m.standing, h)
-
-  pub running_untouched : (m : Member M) → is_running m ≡ true → untouched m.standing ≡ []
-  running_untouched m h = grind (arith, standing_is m.standing, h)
-
-  pub rest_untouched : (m : Member M) → untouched (at_rest m).standing ≡ untouched m.standing
-  rest_untouched m = settled_untouched m.standing

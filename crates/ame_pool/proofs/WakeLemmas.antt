@@ -22,23 +22,13 @@ module _ (l : ℕ) where
   stirred_once (Standing.Busy (Some w)) e = ap (λ (q : Watch). Standing.Busy (Some q)) (watch_once w w.touched refl e)
   stirred_once (Standing.Parked locs) e = rw e refl
 
-  stirred_clears : (s : Standing) → has l (untouched s) ≡ true → untouched (stirred l s) ≡ []
+  pub stirred_clears : (s : Standing) → has l (untouched s) ≡ true → untouched (stirred l s) ≡ []
   stirred_clears s e = grind (arith, standing_is s, e)
 
   stirred_twice : (s : Standing) → has l (untouched s) ≡ true → stirred l (stirred l s) ≡ stirred l s
   stirred_twice s e = stirred_once (stirred l s) (ap (has l) (stirred_clears s e))
 
-  stirred_waits_not : (s : Standing) → has l (untouched s) ≡ true → is_waiting_for l (stirred l s) ≡ false
-  stirred_waits_not s e = not_waiting (stirred l s) (ap (has l) (stirred_clears s e))
-
 module _ {M : Type 0} (l : ℕ) where
-  -- it watches nothing once it is stirred
-  pub stirred_untouched : (m : Member M) → is_watching l m ≡ true → untouched (stirred_by l m).standing ≡ []
-  stirred_untouched m e = stirred_clears l m.standing e
-
-  calm_not_woken : (m : Member M) → is_watching l m ≡ false → is_woken_by l m ≡ false
-  calm_not_woken m e = not_waiting l m.standing e
-
   -- ---- one turn
   map_altered : (n : ℕ) (ms : List (Member M)) (m : Member M) → find n ms ≡ Some m → is_watching l m ≡ true
       → map (stirred_by l) (altered n (stirred_by l) ms) ≡ map (stirred_by l) ms
@@ -60,12 +50,14 @@ module _ {M : Type 0} (l : ℕ) where
         | true ↦ λ t h.
             let same : o ≡ m = cc in
             let at : o.number ≡ n = grind (arith, nat_tests, t) in
-            let calm : is_woken_by l (stirred_by l o) ≡ false = stirred_waits_not l o.standing (ap (is_watching l) same ∙ watched) in
+            let calm : is_woken_by l (stirred_by l o) ≡ false
+            = not_waiting l (stirred l o.standing) (ap (has l) (stirred_clears l o.standing (ap (is_watching l) same ∙ watched))) in
             let rest : woken_by l (stirred_by l o ∷ ms) ≡ woken_by l ms = rw calm refl in
             woken_cons o ms ∙ grind (arith, same, at, rest)
         | false ↦ λ t h.
             let lt : o.number < n = omega (arith, find_passes (λ (q : Member M). o.number < q.number) n ms r.0 m h, find_number n ms m h) in
-            let calm = calm_not_woken o (All-head (λ (q : Member M). q.number < n → is_watching l q ≡ false) o ms before lt) in
+            let calm : is_woken_by l o ≡ false
+            = not_waiting l o.standing (All-head (λ (q : Member M). q.number < n → is_watching l q ≡ false) o ms before lt) in
             let rest = woken_altered n ms r.1 m h watched (All-tail (λ (q : Member M). q.number < n → is_watching l q ≡ false) o ms before) in
             let both : (xs : List (Member M)) → woken_by l (o ∷ xs) ≡ woken_by l xs = λ xs. rw calm refl in
             both ms ∙ rest ∙ ap (λ q. cond (is_woken_by l m) (n ∷ []) [] ++ q) (sym (both (altered n (stirred_by l) ms)))
@@ -78,7 +70,7 @@ module _ {M : Type 0} (l : ℕ) where
       let calm = All-head (λ (m : Member M). is_watching l m ≡ false) m ms h in
       let same : stirred_by l m ≡ m = ap (λ (s : Standing). let x : Member M = record m { standing = s } in x) (stirred_once l m.standing calm) in
       let rest = calm_all ms (All-tail (λ (m : Member M). is_watching l m ≡ false) m ms h) in
-      (ap (λ q. q ∷ map (stirred_by l) ms) same ∙ ap (λ q. m ∷ q) rest.0, rw (calm_not_woken m calm) rest.1)
+      (ap (λ q. q ∷ map (stirred_by l) ms) same ∙ ap (λ q. m ∷ q) rest.0, rw (not_waiting l m.standing calm) rest.1)
 
   -- ---- the loop
   -- how many members the write still changes

@@ -11,8 +11,10 @@ pub loop-l-preserved : goal.loop-l-preserved
 loop-l-preserved c =
     let x : Loc = get_or c.args.gone.now c.loop-l.l-index (record { 0 = 0 }) in
     let read = get_or_default c.args.gone.now c.loop-l.l-index (record { 0 = 0 }) x c.loop-l-test.true in
-    let more = dropped_more c.args.number c.args.index.now c.args.gone.now c.loop-l.l-index x c.loop-l-test.true read c.args.kept.now c.loop-l.index c.loop-l.invariant in
-    let same = dropped_kept c.args.number c.args.index.now c.args.gone.now c.loop-l.l-index x c.loop-l-test.true read c.args.kept.now c.loop-l.index c.loop-l.invariant in
+    let more = dropped_more c.args.number c.args.index.now c.args.gone.now c.loop-l.l-index x c.loop-l-test.true read
+    c.args.kept.now c.loop-l.index c.loop-l.invariant in
+    let same = dropped_kept c.args.number c.args.index.now c.args.gone.now c.loop-l.l-index x c.loop-l-test.true read
+    c.args.kept.now c.loop-l.index c.loop-l.invariant in
     elim c.if-not-is_among.branch [
       | then-not-is_among w ↦ rw w.index-is (more (sym w.if-not-is_among.ensures) w.drop_one.new.index w.drop_one.ensures)
       | else-not-is_among w ↦ rw w.index-is (same (sym w.if-not-is_among.ensures))

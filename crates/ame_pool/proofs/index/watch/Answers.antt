@@ -19,4 +19,5 @@ loop-l-preserved c =
 
 pub returns-clause-ok : goal.returns-clause-ok
 returns-clause-ok c =
-    listed_as c.loop-l.invariant (λ k. ap (λ q. among k q || lists c.args.index.now k c.args.number) (take_all c.loop-l.l-index c.args.locs.now c.loop-l-test.false))
+    listed_as c.loop-l.invariant (λ k. ap (λ q. among k q || lists c.args.index.now k c.args.number)
+    (take_all c.loop-l.l-index c.args.locs.now c.loop-l-test.false))

@@ -1,6 +1,6 @@
-use Rattle.std.proofs.Common.{◌≡◌, ◌∙◌, IsTrue, refl, ap}
+use Rattle.std.proofs.Common.{◌≡◌, ◌∙◌, IsTrue, refl, ap, arith}
 use Rattle.ame_pool.proofs.Words.{find, is_ready, machine_of, held}
-use Rattle.ame_pool.proofs.StandingLemmas.{ready_untouched}
+use Rattle.ame_pool.proofs.MemberLemmas.{standing_is}
 use Rattle.ame_pool.proofs.KeptLemmas.{machine_begun, machine_there, opened}
 use Rattle.ame_pool.proofs.FindLemmas.{watched_held}
 use Rattle.ame_pool.proofs.pool.Pool.hold.Goals as goal
@@ -8,7 +8,7 @@ use Rattle.ame_pool.proofs.pool.Pool.hold.Goals as goal
 pub invariant_of-self : goal.invariant_of-self
 invariant_of-self g c =
     let o = opened is_ready c.args.number _ c.args.self.now c.self.view_is c.requires in
-    rw c.begin.ensures (watched_held c.self.invariant c.args.number o.member o.found (ready_untouched o.member o.passes))
+    rw c.begin.ensures (watched_held c.self.invariant c.args.number o.member o.found (grind (arith, standing_is o.member.standing, o.passes)))
 
 pub unreachable-requires : goal.unreachable-requires
 unreachable-requires g c =

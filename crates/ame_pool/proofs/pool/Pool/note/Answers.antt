@@ -12,7 +12,8 @@ invariant_of-self g c =
     let between = subst (λ q. IsBetween n q c.self.inside.index mid) c.as_slice.ensures.value c.in-Err.ensures.err in
     let then = subst (λ q. IsListedAfter n (λ k. not (among k q && not (among k c.untouched.result.now)) && lists mid k n) mid c.unwatch.new.index)
     c.as_slice-in-Err.ensures.value c.unwatch.ensures in
-    watched_refused c.self.invariant n c.member-member.result.now (sym c.member-member.ensures) c.untouched.result.now c.untouched.ensures c.args.locs.items between then
+    watched_refused c.self.invariant n c.member-member.result.now (sym c.member-member.ensures) c.untouched.result.now c.untouched.ensures
+    c.args.locs.items between then
 
 pub turn-requires : goal.turn-requires
 turn-requires g c = at_weaker is_busy is_away busy_away c.args.number _ c.args.self.now c.self.view_is c.requires

@@ -29,9 +29,10 @@ take-requires-clause-order g c = order_once c.self.inside.members.list c.self.in
 pub take-requires-clause-inside : goal.take-requires-clause-inside
 take-requires-clause-inside g c =
     let n = c.args.number in
+    let inside = is_inside_at c.self.inside.members.list in
     omega (
       arith,
       order_once c.self.inside.members.list c.self.inside.ready.order c.self.invariant.sound n,
       ap (count_by (λ k. k == n)) c.self.invariant.inside,
-      sum_by-filter_both (is_inside_at c.self.inside.members.list) (λ k. not (is_inside_at c.self.inside.members.list k)) (λ _. refl) (λ k. cond (k == n) 1 0) c.self.inside.ready.order,
+      sum_by-filter_both inside (λ k. not (inside k)) (λ _. refl) (λ k. cond (k == n) 1 0) c.self.inside.ready.order,
     )

@@ -8,7 +8,8 @@ use Rattle.ame_pool.proofs.roll.Roll.oldest.Goals as goal
 pub member-requires : goal.member-requires
 member-requires g c =
     let n = c.in-Some.number in
-    rw (one_there (find n c.self.inside.members.list) (λ m. IsTrue (is_ready m)) (front_ready c.self.inside.members.list c.self.inside.ready.order c.self.invariant.sound n (sym c.in-Some.ensures))).1 refl
+    rw (one_there (find n c.self.inside.members.list) (λ m. IsTrue (is_ready m))
+    (front_ready c.self.inside.members.list c.self.inside.ready.order c.self.invariant.sound n (sym c.in-Some.ensures))).1 refl
 
 pub returns-in_default-clause-oldest : goal.returns-in_default-clause-oldest
 returns-in_default-clause-oldest g c = c.idle.ensures ∙ sym (idle_is c.self.invariant (sym c.in_default.ensures)) ∙ ap oldest c.self.view_is
@@ -28,7 +29,7 @@ returns-then-may_begin-clause-ready g c n e =
 pub returns-in-Some-first_inside-clause-oldest : goal.returns-in-Some-first_inside-clause-oldest
 returns-in-Some-first_inside-clause-oldest g c =
     ap oldest_or_wait c.in-Some-first_inside.ensures
-    ∙ front_is c.self.invariant c.in-Some.number (sym c.in-Some.ensures) c.member.result.now (sym c.member.ensures) _ c.self.view_is false c.if-may_begin.ensures
+    ∙ front_is c.self.invariant _ (sym c.in-Some.ensures) c.member.result.now (sym c.member.ensures) _ c.self.view_is false c.if-may_begin.ensures
 
 pub returns-in-Some-first_inside-clause-ready : goal.returns-in-Some-first_inside-clause-ready
 returns-in-Some-first_inside-clause-ready g c n e =
@@ -38,7 +39,7 @@ returns-in-Some-first_inside-clause-ready g c n e =
 pub returns-in-None-clause-oldest : goal.returns-in-None-clause-oldest
 returns-in-None-clause-oldest g c =
     ap oldest_or_wait c.in-None.ensures
-    ∙ front_is c.self.invariant c.in-Some.number (sym c.in-Some.ensures) c.member.result.now (sym c.member.ensures) _ c.self.view_is false c.if-may_begin.ensures
+    ∙ front_is c.self.invariant _ (sym c.in-Some.ensures) c.member.result.now (sym c.member.ensures) _ c.self.view_is false c.if-may_begin.ensures
 
 pub returns-in-None-clause-waits : goal.returns-in-None-clause-waits
 returns-in-None-clause-waits g c e = subst (λ s. IsTrue (list_any is_busy s.members)) c.self.view_is (held_up c.self.invariant c.member.result.now (sym c.if-may_begin.ensures))

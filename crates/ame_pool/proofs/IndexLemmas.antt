@@ -6,7 +6,7 @@ use lib.ListN.{get_or}
 use Rattle.std.specs.BTreeSet.{contains}
 use Rattle.std.specs.BTreeMap.{is_at}
 use Rattle.std.specs.BTreeMap.Range.{IsLeBy}
-use Rattle.ame_pool.proofs.Words.{cases_Bool, Loc, pair_cmp, lists, among, IsBetween, IsListedAfter, false≢true, ◌||◌, take, drop, take-append-drop, list_any_more, list_any-append, nat_tests, BTreeSet}
+use Rattle.ame_pool.proofs.Words.{cases_Bool, Loc, pair_cmp, lists, among, IsBetween, IsListedAfter, ◌||◌, take, drop, take-append-drop, list_any_more, list_any-append, nat_tests, BTreeSet}
 
 pub on_err : {T E : Type 0} (r : Result T E) (P : Type 0) → P → OnErr r P
 on_err (Ok x) P h = tt

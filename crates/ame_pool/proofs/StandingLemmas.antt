@@ -1,6 +1,6 @@
 -- What a member's standing tells, and what a turn makes of it.
-use Rattle.std.proofs.Common.{◌≡◌, ◌≤◌, ℕ, Bool, true, false, [], refl, arith}
-use Rattle.ame_pool.proofs.Words.{Member, Standing, Turn, is_ready, is_busy, rolled, settled, is_touched, stirred, is_waiting_for, untouched, is_running, at_rest, is_away, turned, is_readied}
+use Rattle.std.proofs.Common.{◌≡◌, ◌≤◌, ℕ, Bool, true, false, refl, arith}
+use Rattle.ame_pool.proofs.Words.{Member, Standing, Turn, is_ready, is_busy, rolled, settled, is_touched, stirred, is_waiting_for, untouched, is_away, turned, is_readied}
 use Rattle.ame_pool.proofs.MemberLemmas.{standing_is}
 
 abbrev ready : Standing → Bool

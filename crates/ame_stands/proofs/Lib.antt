@@ -1,0 +1,10 @@
+pub mod DeskLemmas
+pub mod DeskEvents
+pub mod CarryLemmas
+pub mod StepLemmas
+pub mod AccessLemmas
+pub mod PoolLemmas
+pub mod TurnLemmas
+pub mod UndoLemmas
+pub mod HomeLemmas
+pub mod StartLemmas

@@ -8,3 +8,5 @@ pub mod TurnLemmas
 pub mod UndoLemmas
 pub mod HomeLemmas
 pub mod StartLemmas
+pub mod GrowthLemmas
+pub mod CommitLemmas

@@ -61,7 +61,7 @@ no-step p e =
     same true = refl
     same false = refl
 
-no-run : (p : LocalState) (k : ℕ) → at_unprotected (focus p.term) ≡ true → goes Side.Protected p (suc k) ≡ None
+pub no-run : (p : LocalState) (k : ℕ) → at_unprotected (focus p.term) ≡ true → goes Side.Protected p (suc k) ≡ None
 no-run p zero e = no-step p e
 no-run p (suc k) e = ap (option_and_then (one_step Side.Protected)) (no-run p k e)
 

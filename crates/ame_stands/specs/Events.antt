@@ -1,13 +1,15 @@
 -- What each event of a seat makes of an engine.
-use Rattle.std.specs.Prelude.{ℕ, ◌+◌, ℤ, Bool, true, false, List, [], ◌∷◌, ◌++◌, length, replicate, slice_set, if◌then◌else◌}
+use Rattle.std.specs.Prelude.{ℕ, ◌+◌, Bool, true, false, List, [], ◌∷◌, ◌++◌, None, length, replicate, slice_set, if◌then◌else◌}
 use Rattle.ame_term.specs.Tree.{Val, Tree}
 use Rattle.ame_term.specs.declared.types.Loc.{Loc}
 use Rattle.ame_term.specs.declared.types.Sort.{Sort}
 use Rattle.ame_term.specs.declared.types.TyNo.{TyNo}
 use Rattle.ame_journal.specs.declared.entry.Entry.{Entry}
+use Rattle.ame_journal.specs.declared.entry.EntryKind.{EntryKind}
 use Rattle.ame_pool.specs.Roster.{Roster}
 use Rattle.ame_pool.specs.Calls.{newcomer, joined, held, home, exchanged, removed, parked, woken}
 use Rattle.ame_pool.specs.Keeps.{is_inside_at}
+use Rattle.ame_local.specs.Local.{LocalState}
 use Rattle.ame_desk.specs.Contents.{Contents, no_notes}
 use Rattle.ame_desk.specs.Access.{written_by, allocated_by}
 use Rattle.ame_desk.specs.LettingGo.{undone_last, released_all}
@@ -130,25 +132,30 @@ abbrev pub with_newcomers : ℕ → List Tree → Roster Tree → Roster Tree
 with_newcomers next [] pool = pool
 with_newcomers next (body ∷ bodies) pool = with_newcomers (next + 1) bodies (joined (newcomer next body false) pool)
 
--- A seat's row is committed: its cells, at these locations, are released and those that watch them woken; the prints join
--- the output, the entry the journal, and the new members the pool.
-abbrev pub with_commit : ℕ → List ℕ → List ℤ → Entry → List Tree → Parts → Parts
-with_commit seat ls prints entry bodies parts = record parts {
+-- the entry of a row that has come to a place
+abbrev pub ran_entry : ℕ → ℕ → ℕ → LocalState → Entry
+ran_entry seat number steps p =
+    record { kind = EntryKind.Ran; seat = seat; number = number; steps = steps; fresh = p.fresh; answer = None }
+
+-- A seat's row is committed at a place of its run: its cells are released and those that watch these locations woken; the
+-- prints join the output, an entry the journal, and the new members the pool.
+abbrev pub with_commit : ℕ → ℕ → ℕ → LocalState → List ℕ → Parts → Parts
+with_commit seat number steps p ls parts = record parts {
   desk = released_all seat parts.desk;
-  pool = with_newcomers parts.next bodies (woken_for ls parts.pool);
-  output = parts.output ++ prints;
-  entries = parts.entries ++ entry ∷ [];
-  next = parts.next + length bodies;
+  pool = with_newcomers parts.next p.spawns (woken_for ls parts.pool);
+  output = parts.output ++ p.prints;
+  entries = parts.entries ++ ran_entry seat number steps p ∷ [];
+  next = parts.next + length p.spawns;
 }
 
 -- its member has ended
-abbrev pub has_ended : ℕ → List ℕ → List ℤ → Entry → List Tree → Parts → Parts
-has_ended seat ls prints entry bodies parts =
-    let later = with_commit seat ls prints entry bodies parts in
-    one_turn (with_task seat Task.Idle (record later { pool = removed entry.number later.pool }))
+abbrev pub has_ended : ℕ → ℕ → ℕ → LocalState → List ℕ → Parts → Parts
+has_ended seat number steps p ls parts =
+    let later = with_commit seat number steps p ls parts in
+    one_turn (with_task seat Task.Idle (record later { pool = removed number later.pool }))
 
--- or has come to `unprotected` as this term
-abbrev pub has_left : ℕ → List ℕ → List ℤ → Entry → List Tree → Tree → Parts → Parts
-has_left seat ls prints entry bodies term parts =
-    let later = with_commit seat ls prints entry bodies parts in
-    one_turn (with_task seat Task.Idle (record later { pool = exchanged entry.number term true later.pool }))
+-- or has come to `unprotected`
+abbrev pub has_left : ℕ → ℕ → ℕ → LocalState → List ℕ → Parts → Parts
+has_left seat number steps p ls parts =
+    let later = with_commit seat number steps p ls parts in
+    one_turn (with_task seat Task.Idle (record later { pool = exchanged number p.term true later.pool }))

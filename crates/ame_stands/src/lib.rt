@@ -3,6 +3,7 @@
 #![tactic(auto)]
 
 mod access;
+mod commits;
 mod desk;
 mod turns;
 mod types;
@@ -10,6 +11,7 @@ mod types;
 pub use access::{
     engines_stand_after_allocations, engines_stand_after_reads, engines_stand_after_writes,
 };
+pub use commits::engines_stand_after_commits;
 pub use desk::{
     desk_allocations_are_events, desk_reads_are_events, desk_releases_are_events,
     desk_undos_are_events, desk_writes_are_events, desks_find_reads_valid_alike,

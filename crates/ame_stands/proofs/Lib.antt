@@ -10,3 +10,4 @@ pub mod HomeLemmas
 pub mod StartLemmas
 pub mod GrowthLemmas
 pub mod CommitLemmas
+pub mod ToldLemmas

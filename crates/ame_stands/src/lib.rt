@@ -5,6 +5,7 @@
 mod access;
 mod commits;
 mod desk;
+mod told;
 mod turns;
 mod types;
 
@@ -16,6 +17,9 @@ pub use desk::{
     desk_allocations_are_events, desk_reads_are_events, desk_releases_are_events,
     desk_undos_are_events, desk_writes_are_events, desks_find_reads_valid_alike,
     desks_say_what_is_owed, other_rows_stay,
+};
+pub use told::{
+    engines_stand_after_stops, standing_engines_are_calm, standing_engines_are_small,
 };
 pub use turns::{
     engines_stand_after_begins, engines_stand_after_checks, engines_stand_after_undos,

@@ -1,0 +1,89 @@
+-- What an engine that stands tells, and a stop.
+use Rattle.std.proofs.Common.{◌≡◌, ℕ, ◌+◌, ◌*◌, ◌^◌, ◌<◌, ◌≤◌, true, All, List, [], Option, Some, None, IsSome, length, MatchOption, refl, sym, ap, ◌∙◌, subst, arith}
+use Rattle.std.specs.Prelude.{is_some}
+use Rattle.std.proofs.lemmas.List.{append-nil}
+use Rattle.std.proofs.lemmas.List.Elements.{All-from_get_or}
+use Rattle.ame_term.specs.Tree.{Val}
+use Rattle.ame_laws.specs.Orderly.{IsOrderly}
+use Rattle.ame_journal.specs.Replayed.{is_inside, is_at_unprotected}
+use Rattle.ame_journal.proofs.ReachedLemmas.{IsCalm, calm-replayed}
+use Rattle.ame_pool.specs.Members.{find}
+use Rattle.ame_store.specs.declared.cell.Cell.{Cell}
+use Rattle.ame_store.specs.Cells.{CanGrow}
+use Rattle.ame_desk.proofs.CommittedLemmas.{live_committed}
+use Rattle.ame_owed.specs.Heap.{cell_at, no_cell, IsLive}
+use Rattle.ame_owed.specs.Framed.{IsFramedAt, IsFramed}
+use Rattle.ame_owed.proofs.CellLemmas.{live_cell}
+use Rattle.ame_stands.specs.declared.types.Task.{Task}
+use Rattle.ame_stands.specs.Parts.{Parts, whole_journal, heap_in, task_at}
+use Rattle.ame_stands.specs.Tasks.{MeetsTask}
+use Rattle.ame_stands.specs.Stands.{HasFewChanges, most_opened, Stands}
+use Rattle.ame_stands.specs.Events.{has_stopped}
+use Rattle.ame_stands.proofs.DeskLemmas.{there}
+use Rattle.ame_stands.proofs.CarryLemmas.{GoesOn, StaysBusy, carried, tries-on}
+use Rattle.ame_stands.proofs.CommitLemmas.{free-next}
+
+module _ (parts : Parts) (s : Stands parts) where
+  pub calm-now : IsCalm s.r
+  calm-now = calm-replayed parts.program (whole_journal parts) s.r s.stands.replayed
+
+  pub next-free : (i : ℕ) → parts.next ≤ i → find i parts.pool.members ≡ None
+  next-free = free-next parts s
+
+  pub live-told : (l : ℕ) → IsLive (cell_at (heap_in parts) l) → IsSome ((heap_in parts).committed l)
+  live-told l live =
+      live_committed parts.desk l (cell_at (heap_in parts) l) s.consistent (there parts.desk l (live_cell (heap_in parts) l live)) live
+
+  few-number : (turns : ℕ) (cell : Cell Val) → turns < 2 ^ 32 → HasFewChanges turns cell → CanGrow cell
+  few-number turns cell small h = by cell.owner h
+    where
+      by : (o : Option ℕ) → MatchOption o (cell.number ≤ 2 * turns) (λ _. cell.number + 1 ≤ 2 * turns) → CanGrow cell
+      by None h = let e : cell.number < 2 ^ 62 = omega arith in e
+      by (Some owner) h = let e : cell.number < 2 ^ 62 = omega arith in e
+
+  pub cells-grow : parts.limits.turns < 2 ^ 32 → All CanGrow parts.desk.cells
+  cells-grow small =
+      All-from_get_or CanGrow parts.desk.cells no_cell
+      (λ l below. few-number parts.turns (cell_at (heap_in parts) l) (let h = s.bounded.turns in omega arith) (s.bounded.numbers l))
+
+  pub cells-few : parts.limits.turns ≤ 4000000 → length parts.desk.cells < 4294967295
+  cells-few small = let h = s.bounded.cells in let t = s.bounded.turns in omega arith
+
+  -- A stop
+
+  abbrev stopped_parts : Parts
+  stopped_parts = has_stopped parts
+
+  goes : GoesOn parts stopped_parts
+  goes = record { program = refl; devices = refl; limits = refl; more = []; journal = sym (append-nil (whole_journal parts)); turns = omega arith }
+
+  stays : (seat : ℕ) → MeetsTask stopped_parts s.types seat (task_at parts.tasks seat)
+  stays seat =
+      carried parts stopped_parts s.types s.types seat goes (λ m c e. e) (record { places = λ m. IsFramedAt.stays refl refl; longer = omega arith }) refl
+      (task_at parts.tasks seat) (λ i e. record { machine = refl; inside = refl; busy = λ noted h. h }) (s.seats seat)
+
+  pub stopped_stands : Stands stopped_parts
+  stopped_stands = record {
+    r = s.r;
+    types = s.types;
+    stands = record {
+      replayed = s.stands.replayed;
+      store = s.stands.store;
+      members = s.stands.members;
+      inside = s.stands.inside;
+      output = s.stands.output;
+      next = s.stands.next;
+    };
+    typed = record { heap = s.typed.heap; now = s.typed.now; shared = s.typed.shared };
+    consistent = s.consistent;
+    seats = stays;
+    apart = s.apart;
+    bounded = record {
+      turns = s.bounded.turns;
+      numbers = s.bounded.numbers;
+      cells = s.bounded.cells;
+      rows = s.bounded.rows;
+      tasks = s.bounded.tasks;
+    };
+    sound = tries-on parts stopped_parts goes parts.tried s.sound;
+  }

@@ -64,8 +64,8 @@ one-woken l pool i = record {
   inside = ap (option_map (λ (m : Member Tree). m.inside)) (found-woken l i pool) ∙ tells-stirred l (λ m. m.inside) (λ _. refl) (find i pool.members);
   busy =
       λ noted h.
-          let m = found-at pool i (is_busy_as noted) h in
-          at-found (woken l pool) i (is_busy_as noted) (stirred_by l m.0) (found-woken l i pool ∙ ap (option_map (stirred_by l)) m.1) (stirred-busy l noted m.0 m.2);
+      let m = found-at pool i (is_busy_as noted) h in
+      at-found (woken l pool) i (is_busy_as noted) (stirred_by l m.0) (found-woken l i pool ∙ ap (option_map (stirred_by l)) m.1) (stirred-busy l noted m.0 m.2);
 }
 
 pub woken-keeps : (ls : List ℕ) (pool : Roster Tree) (i : ℕ) → Keeps pool (woken_for ls pool) i

@@ -11,3 +11,5 @@ pub mod StartLemmas
 pub mod GrowthLemmas
 pub mod CommitLemmas
 pub mod ToldLemmas
+pub mod ShownDeskLemmas
+pub mod ShownPoolLemmas

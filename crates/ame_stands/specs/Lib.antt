@@ -4,3 +4,4 @@ pub mod StandsFor
 pub mod Tasks
 pub mod Stands
 pub mod Events
+pub mod Shown

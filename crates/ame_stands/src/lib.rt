@@ -5,6 +5,7 @@
 mod access;
 mod commits;
 mod desk;
+mod shown;
 mod told;
 mod turns;
 mod types;
@@ -18,9 +19,10 @@ pub use desk::{
     desk_undos_are_events, desk_writes_are_events, desks_find_reads_valid_alike,
     desks_say_what_is_owed, other_rows_stay,
 };
-pub use told::{
-    engines_stand_after_stops, standing_engines_are_calm, standing_engines_are_small,
+pub use shown::{
+    desk_calls_are_shown, desk_reads_are_shown, desks_are_shown, pool_calls_are_shown,
 };
+pub use told::{engines_stand_after_stops, standing_engines_are_calm, standing_engines_are_small};
 pub use turns::{
     engines_stand_after_begins, engines_stand_after_checks, engines_stand_after_undos,
     engines_start,

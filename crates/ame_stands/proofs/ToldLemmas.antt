@@ -3,24 +3,36 @@ use Rattle.std.proofs.Common.{◌≡◌, ℕ, ◌+◌, ◌*◌, ◌^◌, ◌<◌
 use Rattle.std.specs.Prelude.{is_some}
 use Rattle.std.proofs.lemmas.List.{append-nil}
 use Rattle.std.proofs.lemmas.List.Elements.{All-from_get_or}
-use Rattle.ame_term.specs.Tree.{Val}
+use Rattle.ame_term.specs.Tree.{Typ, Val}
+use Rattle.ame_term.specs.declared.types.Effect.{Effect}
+use Rattle.ame_laws.proofs.MapLemmas.{each-at}
 use Rattle.ame_laws.specs.Orderly.{IsOrderly}
 use Rattle.ame_journal.specs.Replayed.{is_inside, is_at_unprotected}
 use Rattle.ame_journal.proofs.ReachedLemmas.{IsCalm, calm-replayed}
+use Rattle.ame_soundness.specs.TypedState.{IsMember}
+use Rattle.ame_local.specs.Local.{LocalState}
+use Rattle.ame_local.specs.Fit.{IsTypedPlace}
 use Rattle.ame_pool.specs.Members.{find}
 use Rattle.ame_store.specs.declared.cell.Cell.{Cell}
 use Rattle.ame_store.specs.Cells.{CanGrow}
 use Rattle.ame_desk.proofs.CommittedLemmas.{live_committed}
 use Rattle.ame_owed.specs.Heap.{cell_at, no_cell, IsLive}
 use Rattle.ame_owed.specs.Framed.{IsFramedAt, IsFramed}
+use Rattle.ame_owed.specs.SeatRun.{HasUsed}
+use Rattle.ame_owed.specs.Scoped.{live_types}
 use Rattle.ame_owed.proofs.CellLemmas.{live_cell}
+use Rattle.ame_owed.proofs.ReachLemmas.{where-within, fragment-grown}
+use Rattle.ame_stands.specs.declared.types.Attempt.{Attempt}
 use Rattle.ame_stands.specs.declared.types.Task.{Task}
-use Rattle.ame_stands.specs.Parts.{Parts, whole_journal, heap_in, task_at}
+use Rattle.ame_stands.specs.Parts.{Parts, whole_journal, heap_in, task_at, member_of, term_at, run_in}
 use Rattle.ame_stands.specs.Tasks.{MeetsTask}
 use Rattle.ame_stands.specs.Stands.{HasFewChanges, most_opened, Stands}
 use Rattle.ame_stands.specs.Events.{has_stopped}
 use Rattle.ame_stands.proofs.DeskLemmas.{there}
 use Rattle.ame_stands.proofs.CarryLemmas.{GoesOn, StaysBusy, carried, tries-on}
+use Rattle.ame_stands.proofs.PoolLemmas.{found-machine}
+use Rattle.ame_stands.proofs.AccessLemmas.{runs}
+use Rattle.ame_stands.proofs.HomeLemmas.{busy-of}
 use Rattle.ame_stands.proofs.CommitLemmas.{free-next}
 
 module _ (parts : Parts) (s : Stands parts) where
@@ -87,3 +99,18 @@ module _ (parts : Parts) (s : Stands parts) where
     };
     sound = tries-on parts stopped_parts goes parts.tried s.sound;
   }
+
+  -- Types
+
+  pub member-typed : (seat i : ℕ) → member_of (task_at parts.tasks seat) ≡ Some i → IsMember parts.devices s.types (term_at parts.pool i)
+  member-typed seat i has =
+      let b = busy-of parts s.types seat i (task_at parts.tasks seat) (s.seats seat) has in
+      let live = live_types (heap_in parts) s.types in
+      let term = term_at parts.pool i in
+      let member = s.stands.members i ∙ found-machine parts.pool i b.0 b.1 in
+      fragment-grown parts.devices live s.types (where-within (λ l. (cell_at (heap_in parts) l).live) s.types) Effect.Protected term Typ.Unit
+      (each-at (IsMember parts.devices live) s.r.state.members i term member s.typed.now.members)
+
+  pub place-typed : (seat : ℕ) (attempt : Attempt) (n : ℕ) (p : LocalState) → task_at parts.tasks seat ≡ Task.Running attempt
+      → HasUsed (run_in parts seat attempt.tried.number) n p → IsTypedPlace parts.devices s.types Typ.Unit p
+  place-typed seat attempt n p task place = (runs parts s seat attempt task).typed.places n p place.ran place.used

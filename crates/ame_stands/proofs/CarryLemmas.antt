@@ -93,6 +93,7 @@ module _ (old new : Parts) (types later : StoreTyping) (seat : ℕ) (on : GoesOn
   undoes-on : (attempt : Attempt) (reason : Reason) → StaysBusy old new attempt.tried.number → Undoes old types seat attempt reason → Undoes new later seat attempt reason
   undoes-on attempt reason stays h = record {
     work = work-on old new (is_noted_for reason) attempt on stays h.work;
+    outside = stays.inside ∙ h.outside;
     undos =
         subst (λ (d : ℕ). All (IsTypedUndo d later) (row_at new.desk.rows seat).undos) (sym on.devices)
         (subst (λ (n : Notes Val). All (IsTypedUndo old.devices later) n.undos) (sym row)

@@ -130,7 +130,7 @@ module _ (parts : Parts) (s : Stands parts) (seat : ℕ) (attempt : Attempt) (ta
   committed_parts pool = record (with_commit seat number n p ls parts) { pool = pool; tasks = tasks; turns = turns }
 
   -- who is busy is below the next number
-  below-next : (other i : ℕ) → member_of (task_at parts.tasks other) ≡ Some i → i < parts.next
+  pub below-next : (other i : ℕ) → member_of (task_at parts.tasks other) ≡ Some i → i < parts.next
   below-next other i has =
       let b = busy-of parts s.types other i (task_at parts.tasks other) (s.seats other) has in
       let x = found-at parts.pool i (is_busy_as b.0) b.1 in by (cases_lt i parts.next) x.0 x.1

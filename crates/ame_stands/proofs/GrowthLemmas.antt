@@ -19,19 +19,25 @@ use Rattle.ame_stands.specs.Tasks.{is_busy_as}
 use Rattle.ame_stands.specs.Events.{woken_for, with_newcomers}
 use Rattle.ame_stands.proofs.PoolLemmas.{found-at, at-found, inside-same}
 
+-- how often the member with a number was rolled back
+abbrev pub rollbacks_of : ℕ → Roster Tree → Option ℕ
+rollbacks_of i pool = option_map (λ (m : Member Tree). m.rollbacks) (find i pool.members)
+
 -- a member stays as a seat has it
 pub record Keeps (old new : Roster Tree) (i : ℕ) : Type 0 where
   pub machine : machine_of i new ≡ machine_of i old
   pub inside : inside_of i new ≡ inside_of i old
+  pub rollbacks : rollbacks_of i new ≡ rollbacks_of i old
   pub busy : (noted : Bool) → IsAt (is_busy_as noted) i old → IsAt (is_busy_as noted) i new
 
 pub keeps-on : (old mid new : Roster Tree) (i : ℕ) → Keeps old mid i → Keeps mid new i → Keeps old new i
-keeps-on old mid new i a b = record { machine = b.machine ∙ a.machine; inside = b.inside ∙ a.inside; busy = λ noted h. b.busy noted (a.busy noted h) }
+keeps-on old mid new i a b = record { machine = b.machine ∙ a.machine; inside = b.inside ∙ a.inside; rollbacks = b.rollbacks ∙ a.rollbacks; busy = λ noted h. b.busy noted (a.busy noted h) }
 
 pub keeps-same : (old new : Roster Tree) (i : ℕ) → find i new.members ≡ find i old.members → Keeps old new i
 keeps-same old new i same = record {
   machine = ap (option_map (λ (m : Member Tree). m.machine)) same;
   inside = ap (option_map (λ (m : Member Tree). m.inside)) same;
+  rollbacks = ap (option_map (λ (m : Member Tree). m.rollbacks)) same;
   busy = λ noted h. let m = found-at old i (is_busy_as noted) h in at-found new i (is_busy_as noted) m.0 (same ∙ m.1) m.2;
 }
 
@@ -62,6 +68,7 @@ one-woken : (l : ℕ) (pool : Roster Tree) (i : ℕ) → Keeps pool (woken l poo
 one-woken l pool i = record {
   machine = ap (option_map (λ (m : Member Tree). m.machine)) (found-woken l i pool) ∙ tells-stirred l (λ m. m.machine) (λ _. refl) (find i pool.members);
   inside = ap (option_map (λ (m : Member Tree). m.inside)) (found-woken l i pool) ∙ tells-stirred l (λ m. m.inside) (λ _. refl) (find i pool.members);
+  rollbacks = ap (option_map (λ (m : Member Tree). m.rollbacks)) (found-woken l i pool) ∙ tells-stirred l (λ m. m.rollbacks) (λ _. refl) (find i pool.members);
   busy =
       λ noted h.
       let m = found-at pool i (is_busy_as noted) h in

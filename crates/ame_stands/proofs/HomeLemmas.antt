@@ -246,7 +246,7 @@ module _ (parts : Parts) (s : Stands parts) (seat number : ℕ) (idle : task_at 
 
 -- The member goes home
 
-abbrev gone_parts : ℕ → Attempt → Reason → ℕ → Parts → Parts
+abbrev pub gone_parts : ℕ → Attempt → Reason → ℕ → Parts → Parts
 gone_parts seat attempt reason turns parts = record parts {
   desk = undone_last seat parts.desk;
   tasks = set parts.tasks seat Task.Idle;
@@ -255,7 +255,7 @@ gone_parts seat attempt reason turns parts = record parts {
   turns = turns;
 }
 
-home-found : (reason : Reason) (n : ℕ) (pool : Roster Tree) → (f : Member Tree → Member Tree) × IsFoundAfter n (option_map f) pool.members (brought_home reason n pool).members
+pub home-found : (reason : Reason) (n : ℕ) (pool : Roster Tree) → (f : Member Tree → Member Tree) × IsFoundAfter n (option_map f) pool.members (brought_home reason n pool).members
     × ((m : Member Tree) → (f m).machine ≡ m.machine) × ((m : Member Tree) → (f m).inside ≡ m.inside)
 home-found Reason.RolledBack n pool = (at_home true, found_altered n (at_home true) (λ _. refl) pool.members, λ _. refl, λ _. refl)
 home-found Reason.Noted n pool = (at_rest, found_altered n at_rest (λ _. refl) pool.members, λ _. refl, λ _. refl)
@@ -372,7 +372,7 @@ module _ (parts : Parts) (seat : ℕ) (attempt : Attempt) where
     its-undoes = subst (MeetsTask parts s.types seat) task (s.seats seat)
 
     pub undoing_more : 1 < length (row_at parts.desk.rows seat).undos → Stands (has_undone seat attempt reason parts)
-    undoing_more more = undo_counted parts s seat (has-rows s (ap attempt_of task)) its-undoes.undos attempt reason (ap attempt_of task) its-undoes.work left more
+    undoing_more more = undo_counted parts s seat (has-rows s (ap attempt_of task)) its-undoes.undos attempt reason (ap attempt_of task) its-undoes.work its-undoes.outside left more
 
     pub undoing_home : length (row_at parts.desk.rows seat).undos ≤ 1 → Stands (has_gone_home seat attempt reason parts)
     undoing_home few = gone_counted parts s seat (has-rows s (ap attempt_of task)) its-undoes.undos attempt reason (ap attempt_of task) its-undoes.work.sound left few
@@ -383,7 +383,7 @@ module _ (parts : Parts) (seat : ℕ) (attempt : Attempt) where
 
     pub running_more : 1 < length (row_at parts.desk.rows seat).undos → Stands (has_undone seat attempt Reason.Stopped parts)
     running_more more =
-        undo_counted parts s seat (has-rows s (ap attempt_of task)) its-runs.typed.undos attempt Reason.Stopped (ap attempt_of task) its-runs.work left more
+        undo_counted parts s seat (has-rows s (ap attempt_of task)) its-runs.typed.undos attempt Reason.Stopped (ap attempt_of task) its-runs.work its-runs.outside left more
 
     pub running_home : length (row_at parts.desk.rows seat).undos ≤ 1 → Stands (has_gone_home seat attempt Reason.Stopped parts)
     running_home few =

@@ -13,3 +13,6 @@ pub mod CommitLemmas
 pub mod ToldLemmas
 pub mod ShownDeskLemmas
 pub mod ShownPoolLemmas
+pub mod AloneLemmas
+pub mod BeginLemmas
+pub mod AloneEvents

@@ -28,7 +28,7 @@ use Rattle.ame_stands.specs.Tasks.{IsSoundIn, MeetsTask}
 use Rattle.ame_stands.specs.Stands.{Stands}
 use Rattle.ame_stands.specs.Events.{started}
 
-task-idle : (n seat : ℕ) → task_at (replicate n Task.Idle) seat ≡ Task.Idle
+pub task-idle : (n seat : ℕ) → task_at (replicate n Task.Idle) seat ≡ Task.Idle
 task-idle zero seat = refl
 task-idle (suc n) zero = refl
 task-idle (suc n) (suc seat) = task-idle n seat

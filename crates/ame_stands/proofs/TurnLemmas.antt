@@ -123,7 +123,7 @@ module _ (parts : Parts) (s : Stands parts) (seat : ℕ) (attempt : Attempt) (ta
   pub turned_back : Stands (has_turned_back seat attempt parts)
   turned_back =
       let next = Task.Undoing attempt Reason.RolledBack in
-      retask next refl (record { work = its-work (tasks_with next); undos = its-runs.typed.undos })
+      retask next refl (record { work = its-work (tasks_with next); outside = its-runs.outside; undos = its-runs.typed.undos })
 
   module _ (n : ℕ) (p : LocalState) (place : HasUsed (run_in parts seat attempt.tried.number) n p) (some : 0 < n)
       (few : n ≤ attempt.tried.steps + parts.limits.slice) (valid : AreValid (heap_in parts) seat (run_in parts seat attempt.tried.number).reads) where

@@ -5,3 +5,4 @@ pub mod Tasks
 pub mod Stands
 pub mod Events
 pub mod Shown
+pub mod Alone

@@ -51,9 +51,10 @@ module _ (parts : Parts) (types : StoreTyping) (seat : ℕ) where
     pub inside : inside_of attempt.tried.number parts.pool ≡ Some true
     pub clear : row_at parts.desk.rows seat ≡ no_notes
 
-  -- what is left to undo is typed
+  -- protected code is undone: what is left to undo is typed
   pub record Undoes (attempt : Attempt) (reason : Reason) : Type 0 where
     pub work : HasAtWork parts (is_noted_for reason) attempt
+    pub outside : inside_of attempt.tried.number parts.pool ≡ Some false
     pub undos : All (IsTypedUndo parts.devices types) (row_at parts.desk.rows seat).undos
 
   -- so it is by the task

@@ -3,6 +3,7 @@
 #![tactic(auto)]
 
 mod access;
+mod alone;
 mod commits;
 mod desk;
 mod shown;
@@ -12,6 +13,10 @@ mod types;
 
 pub use access::{
     engines_stand_after_allocations, engines_stand_after_reads, engines_stand_after_writes,
+};
+pub use alone::{
+    worn_members_access_alone, worn_members_are_undisturbed, worn_members_begin_alone,
+    worn_members_commit_alone, worn_members_stay_alone,
 };
 pub use commits::engines_stand_after_commits;
 pub use desk::{

@@ -1,5 +1,5 @@
 -- A worn member runs alone: the events that change tasks.
-use Rattle.std.proofs.Common.{◌≡◌, ℕ, ◌+◌, ◌<◌, ◌≤◌, ◌==◌, ◌⊎◌, ◌||◌, inl, inr, Bool, true, false, List, [], ◌∷◌, set, length, replicate, All, Option, Some, None, IsTrue, refl, sym, ap, ◌∙◌, subst, arith}
+use Rattle.std.proofs.Common.{◌≡◌, ℕ, ◌+◌, ◌<◌, ◌==◌, ◌⊎◌, ◌||◌, inl, inr, Bool, true, false, List, set, length, replicate, Option, Some, None, IsTrue, refl, sym, ap, ◌∙◌, subst, arith}
 use Rattle.std.specs.Prelude.{option_map, unwrap_or, if◌then◌else◌}
 use Rattle.std.proofs.lemmas.List.Elements.{All-nil}
 use Rattle.ame_term.specs.Tree.{Val, Tree}
@@ -13,23 +13,20 @@ use Rattle.ame_pool.specs.Begin.{is_worn, oldest}
 use Rattle.ame_pool.specs.Calls.{IsAt, begun, held, inside_of, removed, renewed, exchanged}
 use Rattle.ame_pool.specs.Keeps.{is_inside_at}
 use Rattle.ame_pool.proofs.MemberLemmas.{found_altered, found_except}
-use Rattle.ame_rows.specs.declared.notes.ReadNote.{ReadNote}
 use Rattle.ame_desk.specs.Contents.{Contents, Notes, no_notes, row_at}
 use Rattle.ame_local.specs.Local.{LocalState}
-use Rattle.ame_owed.specs.Heap.{Heap}
 use Rattle.ame_desk.specs.LettingGo.{undone_last}
-use Rattle.ame_owed.specs.SeatRun.{SeatRun, HasUsed, AreValid, IsValidNote}
+use Rattle.ame_owed.specs.SeatRun.{HasUsed, AreValid, IsValidNote}
 use Rattle.ame_owed.proofs.CellLemmas.{which}
 use Rattle.ame_stands.specs.declared.types.Limits.{Limits}
 use Rattle.ame_stands.specs.declared.types.Attempt.{Attempt}
 use Rattle.ame_stands.specs.declared.types.Reason.{Reason}
 use Rattle.ame_stands.specs.declared.types.Task.{Task}
-use Rattle.ame_stands.specs.Logged.{heap_of, logged_run}
-use Rattle.ame_stands.specs.Parts.{Parts, heap_in, task_at, attempt_of, member_of, term_at, run_in}
+use Rattle.ame_stands.specs.Parts.{Parts, heap_in, task_at, attempt_of, member_of, run_in}
 use Rattle.ame_stands.specs.Tasks.{is_busy_as, is_noted_for, MeetsTask}
 use Rattle.ame_stands.specs.Stands.{Stands}
 use Rattle.ame_stands.specs.Alone.{is_of_protected, HasWorn, RunsAlone}
-use Rattle.ame_stands.specs.Events.{started, fresh_attempt, begun_task, checked_attempt, has_begun, has_checked, has_turned_back, has_stopped, has_undone, has_gone_home, brought_home}
+use Rattle.ame_stands.specs.Events.{started, fresh_attempt, begun_task, checked_attempt, has_begun, has_checked, has_stopped, has_undone, has_gone_home, brought_home}
 use Rattle.ame_stands.specs.Events.{woken_for, with_newcomers, with_commit, has_ended, has_left}
 use Rattle.ame_stands.proofs.PoolLemmas.{found-at, at-found, inside-told}
 use Rattle.ame_stands.proofs.StepLemmas.{seat_within, task_here, task_else}

@@ -1,9 +1,6 @@
 -- A member that was rolled back as often as it may be runs alone.
-use Rattle.std.proofs.Common.{◌≡◌, ℕ, zero, suc, ◌+◌, ◌%◌, ◌<◌, ◌≤◌, ◌==◌, ◌&&◌, ◌||◌, ◌⊎◌, inl, inr, Bool, true, false, not, cond, List, [], ◌∷◌, ◌++◌, map, set, length, All, Option, Some, None, MatchOption, IsTrue, Contains, refl, sym, ap, ◌∙◌, subst, arith}
-use Rattle.std.specs.Prelude.{option_map, slice_get}
-use Rattle.std.specs.List.{list_any}
-use Rattle.std.proofs.lemmas.Bool.{eqb-true}
-use Rattle.ame_term.specs.Tree.{Val, Tree}
+use Rattle.std.proofs.Common.{◌≡◌, ℕ, ◌+◌, ◌%◌, ◌<◌, ◌⊎◌, inl, inr, true, false, map, length, Option, Some, MatchOption, Contains, refl, sym, ap, ◌∙◌, subst, arith}
+use Rattle.ame_term.specs.Tree.{Val}
 use Rattle.ame_term.specs.Act.{Act}
 use Rattle.ame_term.specs.declared.types.Loc.{Loc}
 use Rattle.ame_term.specs.declared.types.Sort.{Sort}
@@ -11,31 +8,24 @@ use Rattle.ame_term.specs.declared.types.TyNo.{TyNo}
 use Rattle.ame_store.specs.declared.cell.Cell.{Cell}
 use Rattle.ame_store.specs.Cells.{HasItsParity, IsFree, IsOwnedBy}
 use Rattle.ame_store.specs.Changes.{made}
-use Rattle.ame_rows.specs.declared.notes.ReadNote.{ReadNote}
 use Rattle.ame_local.specs.Local.{LocalState}
-use Rattle.ame_pool.specs.declared.member.Member.{Member}
-use Rattle.ame_pool.specs.declared.member.Standing.{Standing}
-use Rattle.ame_pool.specs.Members.{find, is_busy}
-use Rattle.ame_pool.specs.Begin.{is_worn}
-use Rattle.ame_pool.specs.Calls.{IsAt}
 use Rattle.ame_desk.specs.Contents.{Contents, Notes, no_notes, row_at}
-use Rattle.ame_owed.specs.Heap.{Heap, cell_at, IsCell}
+use Rattle.ame_owed.specs.Heap.{Heap, cell_at}
 use Rattle.ame_owed.specs.SeatRun.{SeatRun, ComesTo, AreValid}
 use Rattle.ame_owed.specs.UndoLog.{undo_place}
-use Rattle.ame_owed.proofs.CellLemmas.{which, free_or_owned}
+use Rattle.ame_owed.proofs.CellLemmas.{free_or_owned}
 use Rattle.ame_owed.proofs.LoneLemmas.{read-valid, valid-taken, valid-again, valid-new}
 use Rattle.ame_stands.specs.declared.types.Attempt.{Attempt}
-use Rattle.ame_stands.specs.declared.types.Reason.{Reason}
 use Rattle.ame_stands.specs.declared.types.Task.{Task}
 use Rattle.ame_stands.specs.Logged.{heap_of, logged_run, read_by}
-use Rattle.ame_stands.specs.Parts.{Parts, heap_in, task_at, attempt_of, member_of, term_at, run_in}
-use Rattle.ame_stands.specs.Tasks.{MeetsTask, Runs}
+use Rattle.ame_stands.specs.Parts.{Parts, heap_in, task_at, attempt_of, term_at, run_in}
+use Rattle.ame_stands.specs.Tasks.{MeetsTask}
 use Rattle.ame_stands.specs.Stands.{Stands}
 use Rattle.ame_stands.specs.Alone.{is_of_protected, HasWorn, RunsAlone}
-use Rattle.ame_stands.specs.Events.{has_read, has_written, has_allocated, has_checked, has_turned_back, has_stopped}
+use Rattle.ame_stands.specs.Events.{has_read, has_written, has_allocated}
 use Rattle.ame_stands.proofs.DeskLemmas.{desk-undo_log}
 use Rattle.ame_stands.proofs.DeskEvents.{read-heap, read-outside, read-own, write-first, write-later, first-run, later-run, allocation-becomes, allocation-run}
-use Rattle.ame_stands.proofs.StepLemmas.{owned_or_not, task_here, task_else, seat_within}
+use Rattle.ame_stands.proofs.StepLemmas.{owned_or_not}
 use Rattle.ame_stands.proofs.AccessLemmas.{runs, within, read-there, write-there}
 
 module _ (parts : Parts) (s : Stands parts) where

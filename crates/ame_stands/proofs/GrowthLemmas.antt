@@ -1,5 +1,5 @@
 -- Members that are woken, and new ones.
-use Rattle.std.proofs.Common.{◌≡◌, ℕ, suc, ◌+◌, ◌<◌, ◌≤◌, ◌⊎◌, inl, inr, Bool, true, false, List, [], ◌∷◌, Option, Some, None, IsTrue, refl, sym, ap, ◌∙◌, subst, arith}
+use Rattle.std.proofs.Common.{◌≡◌, ℕ, ◌+◌, ◌<◌, ◌≤◌, ◌⊎◌, inl, inr, Bool, true, false, List, [], ◌∷◌, Option, Some, None, IsTrue, refl, sym, ap, ◌∙◌, subst, arith}
 use Rattle.std.specs.Prelude.{option_map}
 use Rattle.ame_term.specs.Tree.{Tree}
 use Rattle.ame_term.specs.Maps.{at, put}
@@ -10,7 +10,7 @@ use Rattle.ame_pool.specs.Members.{IsRising, find}
 use Rattle.ame_pool.specs.Found.{IsFoundAfter}
 use Rattle.ame_pool.specs.Roster.{Roster}
 use Rattle.ame_pool.specs.Waking.{stirred, stirred_by}
-use Rattle.ame_pool.specs.Calls.{IsAt, is_running, is_noted, newcomer, joined, woken, machine_of, inside_of}
+use Rattle.ame_pool.specs.Calls.{IsAt, newcomer, joined, woken, machine_of, inside_of}
 use Rattle.ame_pool.specs.Keeps.{is_inside_at}
 use Rattle.ame_pool.proofs.MemberLemmas.{find_map, rising_map, found_placed}
 use Rattle.ame_local.specs.AgreesWith.{with_members}
@@ -64,7 +64,7 @@ tells-stirred l tell stays (Some m) = ap Some (stays m)
 found-woken : (l i : ℕ) (pool : Roster Tree) → find i (woken l pool).members ≡ option_map (stirred_by l) (find i pool.members)
 found-woken l i pool = find_map (stirred_by l) (λ _. refl) i pool.members
 
-one-woken : (l : ℕ) (pool : Roster Tree) (i : ℕ) → Keeps pool (woken l pool) i
+pub one-woken : (l : ℕ) (pool : Roster Tree) (i : ℕ) → Keeps pool (woken l pool) i
 one-woken l pool i = record {
   machine = ap (option_map (λ (m : Member Tree). m.machine)) (found-woken l i pool) ∙ tells-stirred l (λ m. m.machine) (λ _. refl) (find i pool.members);
   inside = ap (option_map (λ (m : Member Tree). m.inside)) (found-woken l i pool) ∙ tells-stirred l (λ m. m.inside) (λ _. refl) (find i pool.members);
@@ -100,10 +100,10 @@ module _ (next : ℕ) (body : Tree) (pool : Roster Tree) (free : IsFreeFrom next
   abbrev larger : Roster Tree
   larger = joined (newcomer next body false) pool
 
-  found-new : IsFoundAfter next (λ _. Some (newcomer next body false)) pool.members larger.members
+  pub found-new : IsFoundAfter next (λ _. Some (newcomer next body false)) pool.members larger.members
   found-new = found_placed (newcomer next body false) pool.members (free next (omega arith))
 
-  joined-free : IsFreeFrom (next + 1) larger
+  pub joined-free : IsFreeFrom (next + 1) larger
   joined-free k above = found-new.others k (λ same. absurd (omega arith)) ∙ free k (omega arith)
 
   joined-keeps : (i : ℕ) → (i ≡ next → ⊥) → Keeps pool larger i

@@ -1,5 +1,5 @@
 -- A seat begins a member, and its member goes home.
-use Rattle.std.proofs.Common.{◌≡◌, ℕ, suc, ◌+◌, ◌*◌, ◌<◌, ◌≤◌, ◌⊎◌, inl, inr, Bool, true, false, List, [], ◌∷◌, ◌++◌, set, length, All, Option, Some, None, IsTrue, length-set, refl, sym, ap, ◌∙◌, subst, arith}
+use Rattle.std.proofs.Common.{◌≡◌, ℕ, suc, ◌+◌, ◌<◌, ◌≤◌, ◌⊎◌, inl, inr, Bool, true, false, List, [], ◌∷◌, ◌++◌, set, length, All, Option, Some, None, length-set, refl, sym, ap, ◌∙◌, subst, arith}
 use Rattle.std.specs.Prelude.{option_map, unwrap_or, if◌then◌else◌}
 use Rattle.std.proofs.lemmas.List.{append-nil}
 use Rattle.std.proofs.lemmas.List.Elements.{All-push, All-nil}
@@ -7,27 +7,24 @@ use Rattle.ame_term.specs.Tree.{Typ, Val, Tree, unit_tree}
 use Rattle.ame_term.specs.Maps.{at}
 use Rattle.ame_term.specs.declared.types.Effect.{Effect}
 use Rattle.ame_laws.proofs.MapLemmas.{each-at}
-use Rattle.ame_journal.specs.declared.entry.Entry.{Entry}
 use Rattle.ame_pool.specs.declared.member.Member.{Member}
-use Rattle.ame_pool.specs.declared.member.Standing.{Standing}
 use Rattle.ame_pool.specs.Members.{find, is_ready}
 use Rattle.ame_pool.specs.Found.{IsFoundAfter}
 use Rattle.ame_pool.specs.Roster.{Roster}
-use Rattle.ame_pool.specs.Calls.{IsAt, is_running, begun, at_home, at_rest, held, home, parked, machine_of, inside_of}
+use Rattle.ame_pool.specs.Calls.{IsAt, begun, at_home, at_rest, held, machine_of, inside_of}
 use Rattle.ame_pool.specs.Keeps.{is_inside_at}
 use Rattle.ame_pool.proofs.MemberLemmas.{found_altered}
-use Rattle.ame_soundness.specs.StoreTyping.{StoreTyping, Grows}
+use Rattle.ame_soundness.specs.StoreTyping.{StoreTyping}
 use Rattle.ame_soundness.specs.TypedState.{IsMember}
 use Rattle.ame_rows.specs.declared.notes.Undo.{Undo}
 use Rattle.ame_store.specs.Cells.{IsOwnedBy}
 use Rattle.ame_desk.specs.Contents.{Contents, Notes, no_notes, row_at}
 use Rattle.ame_desk.specs.LettingGo.{notes_undone, undone_last}
 use Rattle.ame_desk.proofs.LookupLemmas.{row_set_else}
-use Rattle.ame_owed.specs.Heap.{Heap, cell_at}
-use Rattle.ame_owed.specs.SeatRun.{SeatRun}
+use Rattle.ame_owed.specs.Heap.{cell_at}
 use Rattle.ame_owed.specs.Owes.{Owes}
 use Rattle.ame_owed.specs.UndoLog.{IsUndoLog}
-use Rattle.ame_owed.specs.Framed.{IsFramedAt, IsFramed}
+use Rattle.ame_owed.specs.Framed.{IsFramedAt}
 use Rattle.ame_owed.specs.Own.{begun_seat}
 use Rattle.ame_owed.specs.TypedHeap.{IsTypedUndo, IsTypedRun}
 use Rattle.ame_owed.specs.Scoped.{live_types, IsScoped}
@@ -39,21 +36,20 @@ use Rattle.ame_owed.proofs.TypedRunLemmas.{run-begun}
 use Rattle.ame_owed.proofs.ScopedLemmas.{scoped-begun}
 use Rattle.ame_owed.proofs.CommitLemmas.{typed-still}
 use Rattle.ame_owed.proofs.TryLemmas.{try-begun}
-use Rattle.ame_stands.specs.declared.types.Tried.{Tried}
 use Rattle.ame_stands.specs.declared.types.Attempt.{Attempt}
 use Rattle.ame_stands.specs.declared.types.Reason.{Reason}
 use Rattle.ame_stands.specs.declared.types.Task.{Task}
 use Rattle.ame_stands.specs.Logged.{heap_of, logged_run}
 use Rattle.ame_stands.specs.Parts.{Parts, whole_journal, heap_in, task_at, attempt_of, member_of, term_at, run_in}
 use Rattle.ame_stands.specs.Tasks.{is_busy_as, is_noted_for, IsSoundIn, HasAtWork, Runs, Visits, Undoes, MeetsTask}
-use Rattle.ame_stands.specs.Stands.{HasFewChanges, IsBounded, Stands}
+use Rattle.ame_stands.specs.Stands.{Stands}
 use Rattle.ame_stands.specs.Events.{fresh_attempt, begun_task, has_begun, brought_home, with_try, has_undone, has_gone_home}
 use Rattle.ame_stands.proofs.DeskLemmas.{desk-undo_log}
 use Rattle.ame_stands.proofs.DeskEvents.{undo-committed, undo-kept, last-row}
-use Rattle.ame_stands.proofs.CarryLemmas.{GoesOn, StaysBusy, sound-on, work-on, tries-on}
-use Rattle.ame_stands.proofs.PoolLemmas.{found-machine, machines-stay, sides-stay, inside-same, found-at, at-found, busy-apart}
-use Rattle.ame_stands.proofs.StepLemmas.{Step, step, seat_within, few-later, task_here, task_else}
-use Rattle.ame_stands.proofs.UndoLemmas.{UndoneDesk, undone-desk, undo_counted}
+use Rattle.ame_stands.proofs.CarryLemmas.{GoesOn, StaysBusy, sound-on, tries-on}
+use Rattle.ame_stands.proofs.PoolLemmas.{machines-stay, sides-stay, inside-same, found-at, at-found, busy-apart}
+use Rattle.ame_stands.proofs.StepLemmas.{step, seat_within, few-later, task_here, task_else}
+use Rattle.ame_stands.proofs.UndoLemmas.{undone-desk, undo_counted}
 
 -- what a seat has at work is busy
 pub busy-of : (parts : Parts) (types : StoreTyping) (seat i : ℕ) (task : Task) → MeetsTask parts types seat task → member_of task ≡ Some i

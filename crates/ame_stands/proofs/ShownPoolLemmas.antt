@@ -1,6 +1,6 @@
 -- A pool's calls on machines of any kind are those on terms.
 use Rattle.std.proofs.Common.{◌≡◌, ℕ, ◌==◌, Bool, true, false, cond, List, [], ◌∷◌, ◌++◌, map, Option, Some, None, refl, sym, ap, ◌∙◌}
-use Rattle.std.specs.Prelude.{◌-◌, nat_lt, option_map}
+use Rattle.std.specs.Prelude.{nat_lt, option_map}
 use Rattle.std.specs.List.{filter}
 use Rattle.ame_term.specs.Tree.{Tree}
 use Rattle.ame_pool.specs.declared.member.Member.{Member}

@@ -1,13 +1,10 @@
 -- What an engine that stands tells, and a stop.
-use Rattle.std.proofs.Common.{◌≡◌, ℕ, ◌+◌, ◌*◌, ◌^◌, ◌<◌, ◌≤◌, true, All, List, [], Option, Some, None, IsSome, length, MatchOption, refl, sym, ap, ◌∙◌, subst, arith}
-use Rattle.std.specs.Prelude.{is_some}
+use Rattle.std.proofs.Common.{◌≡◌, ℕ, ◌+◌, ◌*◌, ◌^◌, ◌<◌, ◌≤◌, All, [], Option, Some, None, IsSome, length, MatchOption, refl, sym, ◌∙◌, arith}
 use Rattle.std.proofs.lemmas.List.{append-nil}
 use Rattle.std.proofs.lemmas.List.Elements.{All-from_get_or}
 use Rattle.ame_term.specs.Tree.{Typ, Val}
 use Rattle.ame_term.specs.declared.types.Effect.{Effect}
 use Rattle.ame_laws.proofs.MapLemmas.{each-at}
-use Rattle.ame_laws.specs.Orderly.{IsOrderly}
-use Rattle.ame_journal.specs.Replayed.{is_inside, is_at_unprotected}
 use Rattle.ame_journal.proofs.ReachedLemmas.{IsCalm, calm-replayed}
 use Rattle.ame_soundness.specs.TypedState.{IsMember}
 use Rattle.ame_local.specs.Local.{LocalState}
@@ -17,7 +14,7 @@ use Rattle.ame_store.specs.declared.cell.Cell.{Cell}
 use Rattle.ame_store.specs.Cells.{CanGrow}
 use Rattle.ame_desk.proofs.CommittedLemmas.{live_committed}
 use Rattle.ame_owed.specs.Heap.{cell_at, no_cell, IsLive}
-use Rattle.ame_owed.specs.Framed.{IsFramedAt, IsFramed}
+use Rattle.ame_owed.specs.Framed.{IsFramedAt}
 use Rattle.ame_owed.specs.SeatRun.{HasUsed}
 use Rattle.ame_owed.specs.Scoped.{live_types}
 use Rattle.ame_owed.proofs.CellLemmas.{live_cell}
@@ -26,10 +23,10 @@ use Rattle.ame_stands.specs.declared.types.Attempt.{Attempt}
 use Rattle.ame_stands.specs.declared.types.Task.{Task}
 use Rattle.ame_stands.specs.Parts.{Parts, whole_journal, heap_in, task_at, member_of, term_at, run_in}
 use Rattle.ame_stands.specs.Tasks.{MeetsTask}
-use Rattle.ame_stands.specs.Stands.{HasFewChanges, most_opened, Stands}
+use Rattle.ame_stands.specs.Stands.{HasFewChanges, Stands}
 use Rattle.ame_stands.specs.Events.{has_stopped}
 use Rattle.ame_stands.proofs.DeskLemmas.{there}
-use Rattle.ame_stands.proofs.CarryLemmas.{GoesOn, StaysBusy, carried, tries-on}
+use Rattle.ame_stands.proofs.CarryLemmas.{GoesOn, carried, tries-on}
 use Rattle.ame_stands.proofs.PoolLemmas.{found-machine}
 use Rattle.ame_stands.proofs.AccessLemmas.{runs}
 use Rattle.ame_stands.proofs.HomeLemmas.{busy-of}

@@ -1,9 +1,9 @@
 -- One undo of a seat.
-use Rattle.std.proofs.Common.{◌≡◌, ℕ, ◌+◌, ◌*◌, ◌<◌, ◌≤◌, ◌⊎◌, inl, inr, Bool, true, false, List, [], ◌∷◌, ◌++◌, set, length, All, Option, Some, None, length-set, refl, sym, ap, ◌∙◌, subst, arith}
+use Rattle.std.proofs.Common.{◌≡◌, ℕ, ◌+◌, ◌*◌, ◌<◌, ◌≤◌, ◌⊎◌, inl, inr, Bool, true, false, List, [], ◌∷◌, ◌++◌, set, length, All, Option, Some, length-set, refl, sym, ap, ◌∙◌, subst, arith}
 use Rattle.std.specs.Prelude.{option_map, if◌then◌else◌}
 use Rattle.std.specs.List.{AllByRecursion}
 use Rattle.std.proofs.lemmas.List.Elements.{All-contains, Contains-push, recursion_from_All, All-from_recursion}
-use Rattle.ame_term.specs.Tree.{Typ, Val}
+use Rattle.ame_term.specs.Tree.{Val}
 use Rattle.ame_term.specs.declared.types.Sort.{Sort}
 use Rattle.ame_pool.specs.Calls.{inside_of}
 use Rattle.ame_soundness.specs.StoreTyping.{StoreTyping}
@@ -19,7 +19,7 @@ use Rattle.ame_desk.proofs.LookupLemmas.{row_set_else}
 use Rattle.ame_owed.specs.Heap.{Heap, cell_at, IsCell, IsLive}
 use Rattle.ame_owed.specs.Changed.{BecomesAt, KeepsCommitted}
 use Rattle.ame_owed.specs.Framed.{IsFramedAt, IsFramed}
-use Rattle.ame_owed.specs.UndoLog.{undo_place, IsUndo, IsUndoLog}
+use Rattle.ame_owed.specs.UndoLog.{undo_place, IsUndo}
 use Rattle.ame_owed.specs.TypedHeap.{IsTypedHeap, IsTypedUndo}
 use Rattle.ame_owed.proofs.CellLemmas.{owned_cell}
 use Rattle.ame_owed.proofs.EventLemmas.{restored-framed, killed-framed}

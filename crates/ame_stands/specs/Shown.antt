@@ -1,5 +1,5 @@
 -- Desks and pools with values and machines of any kind, seen as plain data.
-use Rattle.std.specs.Prelude.{ℕ, List, map}
+use Rattle.std.specs.Prelude.{map}
 use Rattle.ame_term.specs.Tree.{Val, Tree}
 use Rattle.ame_pool.specs.declared.member.Member.{Member}
 use Rattle.ame_pool.specs.Roster.{Roster}

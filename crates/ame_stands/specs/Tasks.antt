@@ -4,7 +4,7 @@ use Rattle.ame_term.specs.Tree.{Tree}
 use Rattle.ame_pool.specs.declared.member.Member.{Member}
 use Rattle.ame_pool.specs.Calls.{IsAt, is_running, is_noted, inside_of}
 use Rattle.ame_soundness.specs.StoreTyping.{StoreTyping}
-use Rattle.ame_desk.specs.Contents.{Notes, no_notes, row_at}
+use Rattle.ame_desk.specs.Contents.{no_notes, row_at}
 use Rattle.ame_owed.specs.Owes.{Owes}
 use Rattle.ame_owed.specs.TypedHeap.{IsTypedUndo, IsTypedRun}
 use Rattle.ame_owed.specs.Scoped.{IsScoped}

@@ -1,0 +1,10 @@
+pub mod Stage
+pub mod Need
+pub mod Move
+pub mod Input
+pub mod Sound
+pub mod Comes
+pub mod Acting
+pub mod Ahead
+pub mod TermStage
+pub mod AcceptedProgram

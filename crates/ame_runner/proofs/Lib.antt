@@ -1,0 +1,4 @@
+pub mod NeedLemmas
+pub mod MoveLemmas
+pub mod RunnableLemmas
+pub mod LowLemmas

@@ -1,0 +1,7 @@
+pub mod PlainLemmas
+pub mod WorkLemmas
+pub mod StartLemmas
+pub mod ReadLemmas
+pub mod RunLemmas
+pub mod BeginLemmas
+pub mod ReadingLemmas

@@ -1,0 +1,6 @@
+pub mod Core
+pub mod Plain
+pub mod Seen
+pub mod Whole
+pub mod AtWork
+pub mod Begins

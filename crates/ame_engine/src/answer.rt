@@ -1,0 +1,18 @@
+//! What the calls of a seat answer.
+
+/// What a seat is answered that begins.
+#[derive(Drop)]
+pub enum Begin<M> {
+    /// It runs this machine, of the oldest ready member that may begin.
+    Begun(M),
+    /// No ready member may begin, and some member is busy.
+    Idle,
+    /// A stop is kept.
+    Stopped,
+    /// No member is left.
+    Finished,
+    /// All members are parked.
+    Blocked,
+    /// Members are left, and the turns are used up.
+    Spent,
+}

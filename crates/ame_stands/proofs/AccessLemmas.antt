@@ -1,11 +1,11 @@
 -- Reads, writes and allocations of a seat that runs protected code.
-use Rattle.std.proofs.Common.{◌≡◌, ℕ, ◌+◌, ◌*◌, ◌<◌, ◌≤◌, ◌⊎◌, inl, inr, List, [], ◌∷◌, ◌++◌, Option, Some, None, true, false, length, length-set, refl, sym, ap, ◌∙◌, subst, arith}
-use Rattle.ame_term.specs.Tree.{Typ, Val, Tree}
+use Rattle.std.proofs.Common.{◌≡◌, ℕ, ◌+◌, ◌*◌, ◌<◌, ◌≤◌, ◌⊎◌, inl, inr, Option, Some, true, false, length, length-set, refl, sym, ap, ◌∙◌, subst, arith}
+use Rattle.ame_term.specs.Tree.{Typ, Val}
 use Rattle.ame_term.specs.Act.{Act}
 use Rattle.ame_term.specs.declared.types.Loc.{Loc}
 use Rattle.ame_term.specs.declared.types.Sort.{Sort}
 use Rattle.ame_term.specs.declared.types.TyNo.{TyNo}
-use Rattle.ame_soundness.specs.StoreTyping.{StoreTyping, Grows}
+use Rattle.ame_soundness.specs.StoreTyping.{StoreTyping}
 use Rattle.ame_soundness.specs.Fragment.{IsValueOf}
 use Rattle.ame_soundness.specs.TypedState.{IsStored}
 use Rattle.ame_store.specs.declared.cell.Cell.{Cell}
@@ -17,15 +17,14 @@ use Rattle.ame_local.specs.Local.{LocalState}
 use Rattle.ame_desk.specs.Contents.{Contents, row_at}
 use Rattle.ame_desk.specs.Access.{notes_read, notes_written, notes_allocated, written_by, next_place, allocated_by}
 use Rattle.ame_desk.proofs.LookupLemmas.{row_set_else}
-use Rattle.ame_owed.specs.Heap.{Heap, cell_at, IsCell, IsLive}
+use Rattle.ame_owed.specs.Heap.{Heap, cell_at, IsCell}
 use Rattle.ame_owed.specs.SeatRun.{SeatRun, ComesTo}
 use Rattle.ame_owed.specs.Owes.{Owes}
-use Rattle.ame_owed.specs.Changed.{BecomesAt, KeepsCommitted}
+use Rattle.ame_owed.specs.Changed.{BecomesAt}
 use Rattle.ame_owed.specs.Framed.{IsFramedAt, IsFramed}
 use Rattle.ame_owed.specs.Own.{given_one, given_outside, given_undo}
 use Rattle.ame_owed.specs.TypedHeap.{types_with, IsTypedHeap, IsTypedRun}
 use Rattle.ame_owed.specs.Scoped.{IsScoped}
-use Rattle.ame_owed.proofs.CellLemmas.{owned_cell}
 use Rattle.ame_owed.proofs.OwnLemmas.{outside, own_read, first_write, second_write, allocation}
 use Rattle.ame_owed.proofs.EventLemmas.{taken-framed, again-framed, new-framed}
 use Rattle.ame_owed.proofs.TypedRunLemmas.{read-typed, run-read, write-typed, run-first, run-write, heap-stays, allocated-typed, types-grow, new-fit, heap-grows, run-made}
@@ -34,7 +33,7 @@ use Rattle.ame_stands.specs.declared.types.Attempt.{Attempt}
 use Rattle.ame_stands.specs.declared.types.Task.{Task}
 use Rattle.ame_stands.specs.Logged.{heap_of, logged_run, read_by}
 use Rattle.ame_stands.specs.Parts.{Parts, heap_in, task_at, attempt_of, term_at, run_in}
-use Rattle.ame_stands.specs.Tasks.{HasAtWork, Runs, MeetsTask}
+use Rattle.ame_stands.specs.Tasks.{Runs, MeetsTask}
 use Rattle.ame_stands.specs.Stands.{HasFewChanges, Stands}
 use Rattle.ame_stands.specs.Events.{has_read, has_written, has_allocated}
 use Rattle.ame_stands.proofs.DeskLemmas.{desk-committed}

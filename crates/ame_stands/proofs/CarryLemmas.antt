@@ -1,5 +1,5 @@
 -- What a seat owes under the events of another one.
-use Rattle.std.proofs.Common.{◌≡◌, ℕ, ◌*◌, ◌≤◌, Bool, true, false, List, ◌++◌, All, Option, Some, None, refl, sym, ap, ◌∙◌, subst, arith}
+use Rattle.std.proofs.Common.{◌≡◌, ℕ, ◌*◌, ◌≤◌, Bool, false, List, ◌++◌, All, Some, refl, sym, ap, ◌∙◌, subst, arith}
 use Rattle.std.specs.Prelude.{unwrap_or}
 use Rattle.std.proofs.Math.Nat.{mul-le-mul_left}
 use Rattle.std.proofs.lemmas.List.Elements.{All-weaker}
@@ -9,11 +9,9 @@ use Rattle.ame_pool.specs.Calls.{IsAt, machine_of, inside_of}
 use Rattle.ame_soundness.specs.StoreTyping.{StoreTyping, Grows}
 use Rattle.ame_rows.specs.declared.notes.Undo.{Undo}
 use Rattle.ame_rows.specs.declared.notes.Undo.TheVariants.{Wrote, Made}
-use Rattle.ame_desk.specs.Contents.{Notes, no_notes, row_at}
-use Rattle.ame_owed.specs.Heap.{Heap}
+use Rattle.ame_desk.specs.Contents.{Notes, row_at}
 use Rattle.ame_owed.specs.Framed.{IsFramed}
 use Rattle.ame_owed.specs.Owes.{Owes}
-use Rattle.ame_owed.specs.SeatRun.{SeatRun}
 use Rattle.ame_owed.specs.TypedHeap.{IsTypedUndo, IsTypedRun}
 use Rattle.ame_owed.specs.Scoped.{IsScoped}
 use Rattle.ame_owed.specs.Tries.{IsSoundTry}
@@ -29,7 +27,7 @@ use Rattle.ame_stands.specs.declared.types.Reason.{Reason}
 use Rattle.ame_stands.specs.declared.types.Task.{Task}
 use Rattle.ame_stands.specs.Logged.{logged_run}
 use Rattle.ame_stands.specs.Parts.{Parts, whole_journal, heap_in, member_of, run_in}
-use Rattle.ame_stands.specs.Tasks.{is_busy_as, is_noted_for, IsSoundIn, HasAtWork, Runs, Visits, Undoes, MeetsTask}
+use Rattle.ame_stands.specs.Tasks.{is_busy_as, is_noted_for, IsSoundIn, HasAtWork, Runs, Undoes, MeetsTask}
 
 -- the engine goes on: what stays of it, and what grows
 pub record GoesOn (old new : Parts) : Type 0 where
@@ -93,6 +91,7 @@ module _ (old new : Parts) (types later : StoreTyping) (seat : ℕ) (on : GoesOn
   undoes-on : (attempt : Attempt) (reason : Reason) → StaysBusy old new attempt.tried.number → Undoes old types seat attempt reason → Undoes new later seat attempt reason
   undoes-on attempt reason stays h = record {
     work = work-on old new (is_noted_for reason) attempt on stays h.work;
+    outside = stays.inside ∙ h.outside;
     undos =
         subst (λ (d : ℕ). All (IsTypedUndo d later) (row_at new.desk.rows seat).undos) (sym on.devices)
         (subst (λ (n : Notes Val). All (IsTypedUndo old.devices later) n.undos) (sym row)

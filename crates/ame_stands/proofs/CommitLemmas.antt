@@ -1,10 +1,10 @@
 -- The commit of a row: its member has ended, or has come to `unprotected`.
-use Rattle.std.proofs.Common.{◌≡◌, ℕ, zero, suc, ◌+◌, ◌*◌, ◌<◌, ◌≤◌, ◌==◌, ◌||◌, ◌⊎◌, inl, inr, Bool, true, false, List, [], ◌∷◌, ◌++◌, set, length, Option, Some, None, MatchOption, length-set, append_assoc, refl, sym, ap, ◌∙◌, subst, arith}
+use Rattle.std.proofs.Common.{◌≡◌, ℕ, zero, suc, ◌+◌, ◌*◌, ◌<◌, ◌≤◌, ◌||◌, ◌⊎◌, inl, inr, Bool, true, false, List, [], ◌∷◌, ◌++◌, set, length, Option, Some, None, length-set, append_assoc, refl, sym, ap, ◌∙◌, subst, arith}
 use Rattle.std.specs.Prelude.{ℤ, option_map, option_and_then, is_some, unwrap_or, if◌then◌else◌}
 use Rattle.std.proofs.lemmas.List.{append-nil}
 use Rattle.std.specs.Option.{ForSome}
 use Rattle.std.proofs.lemmas.Bool.{eq-eqb, ne_eqb, cases_lt}
-use Rattle.ame_term.specs.Tree.{Val, Tree, unit_tree}
+use Rattle.ame_term.specs.Tree.{Val, Tree}
 use Rattle.ame_term.specs.Frame.{Side, side_told}
 use Rattle.ame_term.specs.Context.{Focus, focus}
 use Rattle.ame_term.specs.Maps.{at}
@@ -12,16 +12,15 @@ use Rattle.ame_term.specs.State.{State, at_value, at_unprotected}
 use Rattle.ame_term.specs.declared.types.Sort.{Sort}
 use Rattle.ame_laws.proofs.MapLemmas.{numbers-at}
 use Rattle.ame_journal.specs.declared.entry.Entry.{Entry}
-use Rattle.ame_journal.specs.declared.entry.EntryKind.{EntryKind}
 use Rattle.ame_journal.specs.Replayed.{Replayed, begun_at, is_inside, has_such, side_at, is_at_unprotected, staying, entering}
-use Rattle.ame_journal.specs.Replay.{or_else, replay, replay_entry, replay_from, left_or_ended, fragment}
+use Rattle.ame_journal.specs.Replay.{or_else, replay, replay_entry, left_or_ended, fragment}
 use Rattle.ame_journal.proofs.ReplayLemmas.{replay_from-one}
 use Rattle.ame_journal.proofs.ReachedLemmas.{calm-replayed}
 use Rattle.ame_pool.specs.declared.member.Member.{Member}
 use Rattle.ame_pool.specs.Members.{IsRising, find}
 use Rattle.ame_pool.specs.Found.{IsFoundAfter}
 use Rattle.ame_pool.specs.Roster.{Roster}
-use Rattle.ame_pool.specs.Calls.{machine_of, inside_of, removed, renewed, exchanged}
+use Rattle.ame_pool.specs.Calls.{machine_of, removed, renewed, exchanged}
 use Rattle.ame_pool.specs.Keeps.{is_inside_at}
 use Rattle.ame_pool.proofs.MemberLemmas.{found_altered, found_except}
 use Rattle.ame_store.specs.declared.cell.Cell.{Cell}
@@ -32,11 +31,11 @@ use Rattle.ame_local.specs.AgreesWith.{IsAfterRun, with_members}
 use Rattle.ame_local.specs.Told.{TellsRun}
 use Rattle.ame_local.proofs.ReplayLemmas.{active_run}
 use Rattle.ame_local.proofs.EntryLemmas.{run-ended, run-left}
-use Rattle.ame_desk.specs.Contents.{Contents, no_notes, row_at}
+use Rattle.ame_desk.specs.Contents.{Contents, no_notes}
 use Rattle.ame_desk.specs.LettingGo.{released_all}
 use Rattle.ame_desk.proofs.LookupLemmas.{row_set_else}
 use Rattle.ame_desk.proofs.LettingGoLemmas.{kept_released}
-use Rattle.ame_owed.specs.Heap.{Heap, cell_at, IsLive, ShowsStore}
+use Rattle.ame_owed.specs.Heap.{cell_at, IsLive, ShowsStore}
 use Rattle.ame_owed.specs.SeatRun.{SeatRun, HasUsed, AreValid}
 use Rattle.ame_owed.specs.Given.{IsHeld}
 use Rattle.ame_owed.specs.Commits.{StandsAfterCommit}
@@ -55,8 +54,8 @@ use Rattle.ame_stands.proofs.DeskLemmas.{desk-committed}
 use Rattle.ame_stands.proofs.DeskEvents.{release-cells, release-count, release-own, release-others, release-row}
 use Rattle.ame_stands.proofs.CarryLemmas.{GoesOn, StaysBusy, tries-on}
 use Rattle.ame_stands.proofs.PoolLemmas.{found-machine, found-at, inside-told}
-use Rattle.ame_stands.proofs.GrowthLemmas.{Keeps, keeps-on, keeps-same, woken-keeps, IsFreeFrom, free-told, woken-free, newcomers-keep, newcomers-told, newcomers-inside, woken-rising, newcomers-rising}
-use Rattle.ame_stands.proofs.StepLemmas.{Step, step, seat_within, few-later, few-gone, owned_or_not, task_here, task_else}
+use Rattle.ame_stands.proofs.GrowthLemmas.{keeps-on, keeps-same, woken-keeps, IsFreeFrom, free-told, woken-free, newcomers-keep, newcomers-told, newcomers-inside, woken-rising, newcomers-rising}
+use Rattle.ame_stands.proofs.StepLemmas.{step, seat_within, few-later, few-gone, owned_or_not, task_here, task_else}
 use Rattle.ame_stands.proofs.AccessLemmas.{runs, within}
 use Rattle.ame_stands.proofs.TurnLemmas.{no-run}
 use Rattle.ame_stands.proofs.HomeLemmas.{busy-of}
@@ -130,7 +129,7 @@ module _ (parts : Parts) (s : Stands parts) (seat : ℕ) (attempt : Attempt) (ta
   committed_parts pool = record (with_commit seat number n p ls parts) { pool = pool; tasks = tasks; turns = turns }
 
   -- who is busy is below the next number
-  below-next : (other i : ℕ) → member_of (task_at parts.tasks other) ≡ Some i → i < parts.next
+  pub below-next : (other i : ℕ) → member_of (task_at parts.tasks other) ≡ Some i → i < parts.next
   below-next other i has =
       let b = busy-of parts s.types other i (task_at parts.tasks other) (s.seats other) has in
       let x = found-at parts.pool i (is_busy_as b.0) b.1 in by (cases_lt i parts.next) x.0 x.1

@@ -1,6 +1,6 @@
 -- The calls of a desk are events of what a row owes.
-use Rattle.std.proofs.Common.{◌≡◌, ◌≢◌, ℕ, zero, suc, ◌+◌, ◌<◌, ◌≤◌, true, false, cond, List, [], ◌∷◌, ◌++◌, length, map, set, get_or, All, Option, Some, None, IsSomeAnd, slice_get, length-append, refl, sym, ap, ◌∙◌, subst, arith}
-use Rattle.std.specs.Prelude.{Bool, ◌==◌, nat_lt, unwrap_or, option_map}
+use Rattle.std.proofs.Common.{◌≡◌, ℕ, zero, suc, ◌+◌, ◌<◌, ◌≤◌, true, false, cond, List, [], ◌∷◌, ◌++◌, length, map, get_or, Option, Some, IsSomeAnd, slice_get, length-append, refl, sym, ap, ◌∙◌, subst, arith}
+use Rattle.std.specs.Prelude.{Bool, unwrap_or}
 use Rattle.std.specs.Option.{option_map_or}
 use Rattle.std.proofs.lemmas.Bool.{eq-eqb, lt-ltb, le-ltb}
 use Rattle.std.proofs.lemmas.List.{length-map}
@@ -21,17 +21,15 @@ use Rattle.ame_rows.specs.Valid.{IsValidAt, IsValidRead, IsValid}
 use Rattle.ame_desk.specs.Contents.{Notes, Contents, no_notes, row_at, by_seat}
 use Rattle.ame_desk.specs.Entries.{named_by, IsLogOf}
 use Rattle.ame_desk.specs.Consistent.{IsConsistent}
-use Rattle.ame_desk.specs.Committed.{committed}
 use Rattle.ame_desk.specs.Access.{changed_at, is_owned_by, noted_read, notes_read, overwritten, notes_written, written_by, next_place, notes_allocated, allocated_by}
 use Rattle.ame_desk.specs.LettingGo.{released_by, released_all, undone_by, but_last, cells_undone, notes_undone, undone_last}
 use Rattle.ame_desk.proofs.LookupLemmas.{row_set_here, row_set_else, get_push_here, get_push_else, changed_here, changed_else, changed_length}
-use Rattle.ame_desk.proofs.EntryLemmas.{but_last_is}
 use Rattle.ame_desk.proofs.LogLemmas.{last_cell}
 use Rattle.ame_desk.proofs.AccessLemmas.{notes_first, notes_again, kept_written, kept_allocated, kept_read}
-use Rattle.ame_desk.proofs.LettingGoLemmas.{owned_is, is_owned, cells_undone_is, cells_undone_none, kept_undone, kept_released}
+use Rattle.ame_desk.proofs.LettingGoLemmas.{owned_is, is_owned, cells_undone_is, cells_undone_none, kept_undone}
 use Rattle.ame_desk.proofs.CommittedLemmas.{read_unseen, write_unseen, allocation_unseen, rollback_unseen, commit_others, commit_owned}
-use Rattle.ame_owed.specs.Heap.{Heap, no_cell, cell_at, IsCell}
-use Rattle.ame_owed.specs.SeatRun.{SeatRun, IsValidNote, AreValid}
+use Rattle.ame_owed.specs.Heap.{no_cell, cell_at, IsCell}
+use Rattle.ame_owed.specs.SeatRun.{IsValidNote, AreValid}
 use Rattle.ame_owed.specs.Changed.{BecomesAt, KeepsCommitted, ReleasesAll}
 use Rattle.ame_owed.specs.Own.{given_one, given_outside, given_undo}
 use Rattle.ame_owed.specs.UndoLog.{undo_place}

@@ -1,5 +1,5 @@
 -- A desk's words in those of what a row owes.
-use Rattle.std.proofs.Common.{◌≡◌, ℕ, zero, suc, ◌<◌, ◌⊎◌, inl, inr, true, false, cond, List, [], ◌∷◌, length, map, get_or, All, Contains, Option, Some, None, slice_get, refl, sym, ap, ◌∙◌, subst, arith}
+use Rattle.std.proofs.Common.{◌≡◌, ℕ, zero, suc, ◌<◌, true, false, cond, List, [], ◌∷◌, length, map, get_or, Contains, Option, Some, None, slice_get, refl, sym, ap, ◌∙◌, subst, arith}
 use Rattle.std.specs.Prelude.{◌==◌, Bool, nat_eq, option_and_then}
 use Rattle.std.specs.List.{AllByRecursion, IsDistinct}
 use Rattle.std.proofs.lemmas.Bool.{eqb-true}
@@ -8,12 +8,10 @@ use Rattle.std.proofs.lemmas.List.Elements.{All-from_recursion, Contains-append_
 use Rattle.ame_term.specs.Tree.{Val}
 use Rattle.ame_store.specs.declared.cell.Cell.{Cell}
 use Rattle.ame_store.specs.Cells.{IsOwnedBy, IsFree, IsDead}
-use Rattle.ame_rows.specs.declared.notes.ReadNote.{ReadNote}
 use Rattle.ame_rows.specs.declared.notes.Undo.{Undo}
 use Rattle.ame_rows.specs.declared.notes.Undo.TheVariants.{Wrote, Made}
-use Rattle.ame_rows.specs.Valid.{IsValid}
 use Rattle.ame_desk.specs.Contents.{Contents, row_at}
-use Rattle.ame_desk.specs.Entries.{named_by, places, entry_at, IsEntryFor, OwnsAsLogged, IsLogOf}
+use Rattle.ame_desk.specs.Entries.{named_by, places, entry_at, IsEntryFor, OwnsAsLogged}
 use Rattle.ame_desk.specs.Consistent.{IsConsistent}
 use Rattle.ame_desk.specs.Committed.{old_value, settled_value, committed}
 use Rattle.ame_desk.proofs.EntryLemmas.{entry_head, entry_tail, once_tail}

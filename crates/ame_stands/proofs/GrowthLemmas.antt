@@ -1,5 +1,5 @@
 -- Members that are woken, and new ones.
-use Rattle.std.proofs.Common.{◌≡◌, ℕ, suc, ◌+◌, ◌<◌, ◌≤◌, ◌⊎◌, inl, inr, Bool, true, false, List, [], ◌∷◌, Option, Some, None, IsTrue, refl, sym, ap, ◌∙◌, subst, arith}
+use Rattle.std.proofs.Common.{◌≡◌, ℕ, ◌+◌, ◌<◌, ◌≤◌, ◌⊎◌, inl, inr, Bool, true, false, List, [], ◌∷◌, Option, Some, None, IsTrue, refl, sym, ap, ◌∙◌, subst, arith}
 use Rattle.std.specs.Prelude.{option_map}
 use Rattle.ame_term.specs.Tree.{Tree}
 use Rattle.ame_term.specs.Maps.{at, put}
@@ -10,7 +10,7 @@ use Rattle.ame_pool.specs.Members.{IsRising, find}
 use Rattle.ame_pool.specs.Found.{IsFoundAfter}
 use Rattle.ame_pool.specs.Roster.{Roster}
 use Rattle.ame_pool.specs.Waking.{stirred, stirred_by}
-use Rattle.ame_pool.specs.Calls.{IsAt, is_running, is_noted, newcomer, joined, woken, machine_of, inside_of}
+use Rattle.ame_pool.specs.Calls.{IsAt, newcomer, joined, woken, machine_of, inside_of}
 use Rattle.ame_pool.specs.Keeps.{is_inside_at}
 use Rattle.ame_pool.proofs.MemberLemmas.{find_map, rising_map, found_placed}
 use Rattle.ame_local.specs.AgreesWith.{with_members}
@@ -19,19 +19,25 @@ use Rattle.ame_stands.specs.Tasks.{is_busy_as}
 use Rattle.ame_stands.specs.Events.{woken_for, with_newcomers}
 use Rattle.ame_stands.proofs.PoolLemmas.{found-at, at-found, inside-same}
 
+-- how often the member with a number was rolled back
+abbrev pub rollbacks_of : ℕ → Roster Tree → Option ℕ
+rollbacks_of i pool = option_map (λ (m : Member Tree). m.rollbacks) (find i pool.members)
+
 -- a member stays as a seat has it
 pub record Keeps (old new : Roster Tree) (i : ℕ) : Type 0 where
   pub machine : machine_of i new ≡ machine_of i old
   pub inside : inside_of i new ≡ inside_of i old
+  pub rollbacks : rollbacks_of i new ≡ rollbacks_of i old
   pub busy : (noted : Bool) → IsAt (is_busy_as noted) i old → IsAt (is_busy_as noted) i new
 
 pub keeps-on : (old mid new : Roster Tree) (i : ℕ) → Keeps old mid i → Keeps mid new i → Keeps old new i
-keeps-on old mid new i a b = record { machine = b.machine ∙ a.machine; inside = b.inside ∙ a.inside; busy = λ noted h. b.busy noted (a.busy noted h) }
+keeps-on old mid new i a b = record { machine = b.machine ∙ a.machine; inside = b.inside ∙ a.inside; rollbacks = b.rollbacks ∙ a.rollbacks; busy = λ noted h. b.busy noted (a.busy noted h) }
 
 pub keeps-same : (old new : Roster Tree) (i : ℕ) → find i new.members ≡ find i old.members → Keeps old new i
 keeps-same old new i same = record {
   machine = ap (option_map (λ (m : Member Tree). m.machine)) same;
   inside = ap (option_map (λ (m : Member Tree). m.inside)) same;
+  rollbacks = ap (option_map (λ (m : Member Tree). m.rollbacks)) same;
   busy = λ noted h. let m = found-at old i (is_busy_as noted) h in at-found new i (is_busy_as noted) m.0 (same ∙ m.1) m.2;
 }
 
@@ -58,14 +64,15 @@ tells-stirred l tell stays (Some m) = ap Some (stays m)
 found-woken : (l i : ℕ) (pool : Roster Tree) → find i (woken l pool).members ≡ option_map (stirred_by l) (find i pool.members)
 found-woken l i pool = find_map (stirred_by l) (λ _. refl) i pool.members
 
-one-woken : (l : ℕ) (pool : Roster Tree) (i : ℕ) → Keeps pool (woken l pool) i
+pub one-woken : (l : ℕ) (pool : Roster Tree) (i : ℕ) → Keeps pool (woken l pool) i
 one-woken l pool i = record {
   machine = ap (option_map (λ (m : Member Tree). m.machine)) (found-woken l i pool) ∙ tells-stirred l (λ m. m.machine) (λ _. refl) (find i pool.members);
   inside = ap (option_map (λ (m : Member Tree). m.inside)) (found-woken l i pool) ∙ tells-stirred l (λ m. m.inside) (λ _. refl) (find i pool.members);
+  rollbacks = ap (option_map (λ (m : Member Tree). m.rollbacks)) (found-woken l i pool) ∙ tells-stirred l (λ m. m.rollbacks) (λ _. refl) (find i pool.members);
   busy =
       λ noted h.
-          let m = found-at pool i (is_busy_as noted) h in
-          at-found (woken l pool) i (is_busy_as noted) (stirred_by l m.0) (found-woken l i pool ∙ ap (option_map (stirred_by l)) m.1) (stirred-busy l noted m.0 m.2);
+      let m = found-at pool i (is_busy_as noted) h in
+      at-found (woken l pool) i (is_busy_as noted) (stirred_by l m.0) (found-woken l i pool ∙ ap (option_map (stirred_by l)) m.1) (stirred-busy l noted m.0 m.2);
 }
 
 pub woken-keeps : (ls : List ℕ) (pool : Roster Tree) (i : ℕ) → Keeps pool (woken_for ls pool) i
@@ -93,10 +100,10 @@ module _ (next : ℕ) (body : Tree) (pool : Roster Tree) (free : IsFreeFrom next
   abbrev larger : Roster Tree
   larger = joined (newcomer next body false) pool
 
-  found-new : IsFoundAfter next (λ _. Some (newcomer next body false)) pool.members larger.members
+  pub found-new : IsFoundAfter next (λ _. Some (newcomer next body false)) pool.members larger.members
   found-new = found_placed (newcomer next body false) pool.members (free next (omega arith))
 
-  joined-free : IsFreeFrom (next + 1) larger
+  pub joined-free : IsFreeFrom (next + 1) larger
   joined-free k above = found-new.others k (λ same. absurd (omega arith)) ∙ free k (omega arith)
 
   joined-keeps : (i : ℕ) → (i ≡ next → ⊥) → Keeps pool larger i

@@ -1,5 +1,5 @@
 -- A seat begins a member, and its member goes home.
-use Rattle.std.proofs.Common.{◌≡◌, ℕ, suc, ◌+◌, ◌*◌, ◌<◌, ◌≤◌, ◌⊎◌, inl, inr, Bool, true, false, List, [], ◌∷◌, ◌++◌, set, length, All, Option, Some, None, IsTrue, length-set, refl, sym, ap, ◌∙◌, subst, arith}
+use Rattle.std.proofs.Common.{◌≡◌, ℕ, suc, ◌+◌, ◌<◌, ◌≤◌, ◌⊎◌, inl, inr, Bool, true, false, List, [], ◌∷◌, ◌++◌, set, length, All, Option, Some, None, length-set, refl, sym, ap, ◌∙◌, subst, arith}
 use Rattle.std.specs.Prelude.{option_map, unwrap_or, if◌then◌else◌}
 use Rattle.std.proofs.lemmas.List.{append-nil}
 use Rattle.std.proofs.lemmas.List.Elements.{All-push, All-nil}
@@ -7,27 +7,24 @@ use Rattle.ame_term.specs.Tree.{Typ, Val, Tree, unit_tree}
 use Rattle.ame_term.specs.Maps.{at}
 use Rattle.ame_term.specs.declared.types.Effect.{Effect}
 use Rattle.ame_laws.proofs.MapLemmas.{each-at}
-use Rattle.ame_journal.specs.declared.entry.Entry.{Entry}
 use Rattle.ame_pool.specs.declared.member.Member.{Member}
-use Rattle.ame_pool.specs.declared.member.Standing.{Standing}
 use Rattle.ame_pool.specs.Members.{find, is_ready}
 use Rattle.ame_pool.specs.Found.{IsFoundAfter}
 use Rattle.ame_pool.specs.Roster.{Roster}
-use Rattle.ame_pool.specs.Calls.{IsAt, is_running, begun, at_home, at_rest, held, home, parked, machine_of, inside_of}
+use Rattle.ame_pool.specs.Calls.{IsAt, begun, at_home, at_rest, held, machine_of, inside_of}
 use Rattle.ame_pool.specs.Keeps.{is_inside_at}
 use Rattle.ame_pool.proofs.MemberLemmas.{found_altered}
-use Rattle.ame_soundness.specs.StoreTyping.{StoreTyping, Grows}
+use Rattle.ame_soundness.specs.StoreTyping.{StoreTyping}
 use Rattle.ame_soundness.specs.TypedState.{IsMember}
 use Rattle.ame_rows.specs.declared.notes.Undo.{Undo}
 use Rattle.ame_store.specs.Cells.{IsOwnedBy}
 use Rattle.ame_desk.specs.Contents.{Contents, Notes, no_notes, row_at}
 use Rattle.ame_desk.specs.LettingGo.{notes_undone, undone_last}
 use Rattle.ame_desk.proofs.LookupLemmas.{row_set_else}
-use Rattle.ame_owed.specs.Heap.{Heap, cell_at}
-use Rattle.ame_owed.specs.SeatRun.{SeatRun}
+use Rattle.ame_owed.specs.Heap.{cell_at}
 use Rattle.ame_owed.specs.Owes.{Owes}
 use Rattle.ame_owed.specs.UndoLog.{IsUndoLog}
-use Rattle.ame_owed.specs.Framed.{IsFramedAt, IsFramed}
+use Rattle.ame_owed.specs.Framed.{IsFramedAt}
 use Rattle.ame_owed.specs.Own.{begun_seat}
 use Rattle.ame_owed.specs.TypedHeap.{IsTypedUndo, IsTypedRun}
 use Rattle.ame_owed.specs.Scoped.{live_types, IsScoped}
@@ -39,21 +36,20 @@ use Rattle.ame_owed.proofs.TypedRunLemmas.{run-begun}
 use Rattle.ame_owed.proofs.ScopedLemmas.{scoped-begun}
 use Rattle.ame_owed.proofs.CommitLemmas.{typed-still}
 use Rattle.ame_owed.proofs.TryLemmas.{try-begun}
-use Rattle.ame_stands.specs.declared.types.Tried.{Tried}
 use Rattle.ame_stands.specs.declared.types.Attempt.{Attempt}
 use Rattle.ame_stands.specs.declared.types.Reason.{Reason}
 use Rattle.ame_stands.specs.declared.types.Task.{Task}
 use Rattle.ame_stands.specs.Logged.{heap_of, logged_run}
 use Rattle.ame_stands.specs.Parts.{Parts, whole_journal, heap_in, task_at, attempt_of, member_of, term_at, run_in}
 use Rattle.ame_stands.specs.Tasks.{is_busy_as, is_noted_for, IsSoundIn, HasAtWork, Runs, Visits, Undoes, MeetsTask}
-use Rattle.ame_stands.specs.Stands.{HasFewChanges, IsBounded, Stands}
+use Rattle.ame_stands.specs.Stands.{Stands}
 use Rattle.ame_stands.specs.Events.{fresh_attempt, begun_task, has_begun, brought_home, with_try, has_undone, has_gone_home}
 use Rattle.ame_stands.proofs.DeskLemmas.{desk-undo_log}
 use Rattle.ame_stands.proofs.DeskEvents.{undo-committed, undo-kept, last-row}
-use Rattle.ame_stands.proofs.CarryLemmas.{GoesOn, StaysBusy, sound-on, work-on, tries-on}
-use Rattle.ame_stands.proofs.PoolLemmas.{found-machine, machines-stay, sides-stay, inside-same, found-at, at-found, busy-apart}
-use Rattle.ame_stands.proofs.StepLemmas.{Step, step, seat_within, few-later, task_here, task_else}
-use Rattle.ame_stands.proofs.UndoLemmas.{UndoneDesk, undone-desk, undo_counted}
+use Rattle.ame_stands.proofs.CarryLemmas.{GoesOn, StaysBusy, sound-on, tries-on}
+use Rattle.ame_stands.proofs.PoolLemmas.{machines-stay, sides-stay, inside-same, found-at, at-found, busy-apart}
+use Rattle.ame_stands.proofs.StepLemmas.{step, seat_within, few-later, task_here, task_else}
+use Rattle.ame_stands.proofs.UndoLemmas.{undone-desk, undo_counted}
 
 -- what a seat has at work is busy
 pub busy-of : (parts : Parts) (types : StoreTyping) (seat i : ℕ) (task : Task) → MeetsTask parts types seat task → member_of task ≡ Some i
@@ -246,7 +242,7 @@ module _ (parts : Parts) (s : Stands parts) (seat number : ℕ) (idle : task_at 
 
 -- The member goes home
 
-abbrev gone_parts : ℕ → Attempt → Reason → ℕ → Parts → Parts
+abbrev pub gone_parts : ℕ → Attempt → Reason → ℕ → Parts → Parts
 gone_parts seat attempt reason turns parts = record parts {
   desk = undone_last seat parts.desk;
   tasks = set parts.tasks seat Task.Idle;
@@ -255,7 +251,7 @@ gone_parts seat attempt reason turns parts = record parts {
   turns = turns;
 }
 
-home-found : (reason : Reason) (n : ℕ) (pool : Roster Tree) → (f : Member Tree → Member Tree) × IsFoundAfter n (option_map f) pool.members (brought_home reason n pool).members
+pub home-found : (reason : Reason) (n : ℕ) (pool : Roster Tree) → (f : Member Tree → Member Tree) × IsFoundAfter n (option_map f) pool.members (brought_home reason n pool).members
     × ((m : Member Tree) → (f m).machine ≡ m.machine) × ((m : Member Tree) → (f m).inside ≡ m.inside)
 home-found Reason.RolledBack n pool = (at_home true, found_altered n (at_home true) (λ _. refl) pool.members, λ _. refl, λ _. refl)
 home-found Reason.Noted n pool = (at_rest, found_altered n at_rest (λ _. refl) pool.members, λ _. refl, λ _. refl)
@@ -372,7 +368,7 @@ module _ (parts : Parts) (seat : ℕ) (attempt : Attempt) where
     its-undoes = subst (MeetsTask parts s.types seat) task (s.seats seat)
 
     pub undoing_more : 1 < length (row_at parts.desk.rows seat).undos → Stands (has_undone seat attempt reason parts)
-    undoing_more more = undo_counted parts s seat (has-rows s (ap attempt_of task)) its-undoes.undos attempt reason (ap attempt_of task) its-undoes.work left more
+    undoing_more more = undo_counted parts s seat (has-rows s (ap attempt_of task)) its-undoes.undos attempt reason (ap attempt_of task) its-undoes.work its-undoes.outside left more
 
     pub undoing_home : length (row_at parts.desk.rows seat).undos ≤ 1 → Stands (has_gone_home seat attempt reason parts)
     undoing_home few = gone_counted parts s seat (has-rows s (ap attempt_of task)) its-undoes.undos attempt reason (ap attempt_of task) its-undoes.work.sound left few
@@ -383,7 +379,7 @@ module _ (parts : Parts) (seat : ℕ) (attempt : Attempt) where
 
     pub running_more : 1 < length (row_at parts.desk.rows seat).undos → Stands (has_undone seat attempt Reason.Stopped parts)
     running_more more =
-        undo_counted parts s seat (has-rows s (ap attempt_of task)) its-runs.typed.undos attempt Reason.Stopped (ap attempt_of task) its-runs.work left more
+        undo_counted parts s seat (has-rows s (ap attempt_of task)) its-runs.typed.undos attempt Reason.Stopped (ap attempt_of task) its-runs.work its-runs.outside left more
 
     pub running_home : length (row_at parts.desk.rows seat).undos ≤ 1 → Stands (has_gone_home seat attempt Reason.Stopped parts)
     running_home few =

@@ -10,3 +10,9 @@ pub mod HomeLemmas
 pub mod StartLemmas
 pub mod GrowthLemmas
 pub mod CommitLemmas
+pub mod ToldLemmas
+pub mod ShownDeskLemmas
+pub mod ShownPoolLemmas
+pub mod AloneLemmas
+pub mod BeginLemmas
+pub mod AloneEvents

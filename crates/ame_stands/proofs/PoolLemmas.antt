@@ -1,5 +1,5 @@
 -- Members of a pool by number.
-use Rattle.std.proofs.Common.{◌≡◌, ℕ, ◌⊎◌, inl, inr, Bool, true, false, List, [], ◌∷◌, Option, Some, None, IsSomeAnd, IsTrue, refl, sym, ap, ◌∙◌, subst}
+use Rattle.std.proofs.Common.{◌≡◌, ℕ, ◌⊎◌, inl, inr, Bool, true, false, List, Option, Some, None, IsSomeAnd, IsTrue, refl, sym, ap, ◌∙◌, subst}
 use Rattle.std.specs.Prelude.{option_map, unwrap_or, is_some, is_none, if◌then◌else◌}
 use Rattle.ame_term.specs.Tree.{Tree, unit_tree}
 use Rattle.ame_pool.specs.declared.member.Member.{Member}
@@ -7,7 +7,7 @@ use Rattle.ame_pool.specs.declared.member.Standing.{Standing}
 use Rattle.ame_pool.specs.Members.{find, is_ready}
 use Rattle.ame_pool.specs.Found.{IsFoundAfter}
 use Rattle.ame_pool.specs.Roster.{Roster}
-use Rattle.ame_pool.specs.Calls.{IsAt, is_running, is_noted, machine_of, inside_of}
+use Rattle.ame_pool.specs.Calls.{IsAt, machine_of}
 use Rattle.ame_pool.specs.Keeps.{is_inside_at}
 use Rattle.ame_owed.proofs.CellLemmas.{which}
 use Rattle.ame_stands.specs.Parts.{term_at}

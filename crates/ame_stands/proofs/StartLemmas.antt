@@ -1,7 +1,7 @@
 -- An engine that has just started.
-use Rattle.std.proofs.Common.{◌≡◌, ℕ, zero, suc, ◌+◌, ◌*◌, ◌<◌, ◌≤◌, ◌==◌, ◌⊎◌, inl, inr, Bool, true, false, cond, List, [], ◌∷◌, replicate, length, Option, Some, None, refl, sym, ap, ◌∙◌, subst, arith}
+use Rattle.std.proofs.Common.{◌≡◌, ℕ, zero, suc, ◌<◌, ◌==◌, ◌⊎◌, inl, inr, Bool, true, false, cond, List, [], ◌∷◌, replicate, Option, Some, None, refl, sym, ap, ◌∙◌, subst, arith}
 use Rattle.std.specs.Prelude.{option_map}
-use Rattle.std.proofs.lemmas.Bool.{eq-eqb, ne_eqb}
+use Rattle.std.proofs.lemmas.Bool.{ne_eqb}
 use Rattle.std.proofs.lemmas.List.{length-replicate}
 use Rattle.std.proofs.lemmas.List.Elements.{All-nil}
 use Rattle.ame_term.specs.Tree.{Typ, Val, Tree}
@@ -9,7 +9,7 @@ use Rattle.ame_term.specs.Maps.{at}
 use Rattle.ame_term.specs.State.{start}
 use Rattle.ame_term.specs.SourceTerm.{IsSourceTerm}
 use Rattle.ame_term.specs.Typing.{no_cells, Accepts}
-use Rattle.ame_laws.proofs.MapLemmas.{is_at-here, is_at-apart}
+use Rattle.ame_laws.proofs.MapLemmas.{is_at-apart}
 use Rattle.ame_journal.specs.Replayed.{begun_at}
 use Rattle.ame_soundness.proofs.Started as soundness
 use Rattle.ame_soundness.proofs.Preserved.{grown}
@@ -28,7 +28,7 @@ use Rattle.ame_stands.specs.Tasks.{IsSoundIn, MeetsTask}
 use Rattle.ame_stands.specs.Stands.{Stands}
 use Rattle.ame_stands.specs.Events.{started}
 
-task-idle : (n seat : ℕ) → task_at (replicate n Task.Idle) seat ≡ Task.Idle
+pub task-idle : (n seat : ℕ) → task_at (replicate n Task.Idle) seat ≡ Task.Idle
 task-idle zero seat = refl
 task-idle (suc n) zero = refl
 task-idle (suc n) (suc seat) = task-idle n seat

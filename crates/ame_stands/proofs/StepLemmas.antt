@@ -1,9 +1,8 @@
 -- An event of a seat, as what it owes the others.
-use Rattle.std.proofs.Common.{◌≡◌, ℕ, zero, suc, ◌+◌, ◌*◌, ◌<◌, ◌≤◌, ◌⊎◌, inl, inr, List, [], ◌∷◌, ◌++◌, All, Option, Some, None, MatchOption, length, set, get_or, length-set, refl, sym, ap, ◌∙◌, subst, arith}
+use Rattle.std.proofs.Common.{◌≡◌, ℕ, zero, suc, ◌+◌, ◌*◌, ◌<◌, ◌≤◌, ◌⊎◌, inl, inr, List, [], ◌∷◌, All, Option, Some, None, MatchOption, length, set, refl, sym, ap, ◌∙◌, subst, arith}
 use Rattle.std.proofs.lemmas.List.{append-nil, get_or-set_same, get_or-set_other}
 use Rattle.ame_term.specs.Tree.{Val}
 use Rattle.ame_term.specs.declared.types.Sort.{Sort}
-use Rattle.ame_journal.specs.declared.entry.Entry.{Entry}
 use Rattle.ame_journal.specs.Replayed.{Replayed}
 use Rattle.ame_soundness.specs.StoreTyping.{StoreTyping, Grows}
 use Rattle.ame_store.specs.declared.cell.Cell.{Cell}
@@ -22,7 +21,7 @@ use Rattle.ame_stands.specs.declared.types.Task.{Task}
 use Rattle.ame_stands.specs.Logged.{heap_of}
 use Rattle.ame_stands.specs.Parts.{Parts, whole_journal, heap_in, task_at, attempt_of, member_of}
 use Rattle.ame_stands.specs.StandsFor.{StandsFor}
-use Rattle.ame_stands.specs.Tasks.{IsSoundIn, HasAtWork, MeetsTask}
+use Rattle.ame_stands.specs.Tasks.{IsSoundIn, MeetsTask}
 use Rattle.ame_stands.specs.Stands.{IsTypedIn, HasFewChanges, most_opened, IsBounded, AreApart, Stands}
 use Rattle.ame_stands.proofs.CarryLemmas.{GoesOn, StaysBusy, carried, tries-on}
 

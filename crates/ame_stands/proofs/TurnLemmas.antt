@@ -11,11 +11,10 @@ use Rattle.ame_term.specs.Maps.{at}
 use Rattle.ame_term.specs.State.{at_unprotected}
 use Rattle.ame_journal.specs.Replay.{or_else}
 use Rattle.ame_journal.proofs.ReachedLemmas.{calm-replayed}
-use Rattle.ame_pool.specs.Calls.{machine_of}
 use Rattle.ame_local.specs.Local.{LocalState, begun_with, acts_alone, fed_next, acted, acted_at, refilled_in, one_step, goes, local}
-use Rattle.ame_owed.specs.Heap.{Heap, cell_at}
-use Rattle.ame_owed.specs.SeatRun.{SeatRun, HasUsed, AreValid}
-use Rattle.ame_owed.specs.Framed.{IsFramedAt, IsFramed}
+use Rattle.ame_owed.specs.Heap.{cell_at}
+use Rattle.ame_owed.specs.SeatRun.{HasUsed, AreValid}
+use Rattle.ame_owed.specs.Framed.{IsFramedAt}
 use Rattle.ame_owed.proofs.TryLemmas.{try-checked}
 use Rattle.ame_stands.specs.declared.types.Attempt.{Attempt}
 use Rattle.ame_stands.specs.declared.types.Reason.{Reason}
@@ -27,7 +26,7 @@ use Rattle.ame_stands.specs.Events.{checked_attempt, has_checked, has_turned_bac
 use Rattle.ame_stands.proofs.DeskLemmas.{desk-committed}
 use Rattle.ame_stands.proofs.PoolLemmas.{found-machine}
 use Rattle.ame_stands.proofs.CarryLemmas.{work-on}
-use Rattle.ame_stands.proofs.StepLemmas.{seat_within, few-later, acted as acted_on, goes_on, stays_busy, Acts, act, task_here, task_else}
+use Rattle.ame_stands.proofs.StepLemmas.{seat_within, few-later, acted as acted_on, goes_on, stays_busy, act, task_here, task_else}
 use Rattle.ame_stands.proofs.AccessLemmas.{runs}
 
 -- A member that stands at `unprotected` makes no step as protected code
@@ -123,7 +122,7 @@ module _ (parts : Parts) (s : Stands parts) (seat : ℕ) (attempt : Attempt) (ta
   pub turned_back : Stands (has_turned_back seat attempt parts)
   turned_back =
       let next = Task.Undoing attempt Reason.RolledBack in
-      retask next refl (record { work = its-work (tasks_with next); undos = its-runs.typed.undos })
+      retask next refl (record { work = its-work (tasks_with next); outside = its-runs.outside; undos = its-runs.typed.undos })
 
   module _ (n : ℕ) (p : LocalState) (place : HasUsed (run_in parts seat attempt.tried.number) n p) (some : 0 < n)
       (few : n ≤ attempt.tried.steps + parts.limits.slice) (valid : AreValid (heap_in parts) seat (run_in parts seat attempt.tried.number).reads) where

@@ -1,10 +1,11 @@
 -- One undo of a seat.
-use Rattle.std.proofs.Common.{◌≡◌, ℕ, ◌+◌, ◌*◌, ◌<◌, ◌≤◌, ◌⊎◌, inl, inr, Bool, true, false, List, [], ◌∷◌, ◌++◌, set, length, All, Option, Some, None, length-set, refl, sym, ap, ◌∙◌, subst, arith}
+use Rattle.std.proofs.Common.{◌≡◌, ℕ, ◌+◌, ◌*◌, ◌<◌, ◌≤◌, ◌⊎◌, inl, inr, Bool, true, false, List, [], ◌∷◌, ◌++◌, set, length, All, Option, Some, length-set, refl, sym, ap, ◌∙◌, subst, arith}
 use Rattle.std.specs.Prelude.{option_map, if◌then◌else◌}
 use Rattle.std.specs.List.{AllByRecursion}
 use Rattle.std.proofs.lemmas.List.Elements.{All-contains, Contains-push, recursion_from_All, All-from_recursion}
-use Rattle.ame_term.specs.Tree.{Typ, Val}
+use Rattle.ame_term.specs.Tree.{Val}
 use Rattle.ame_term.specs.declared.types.Sort.{Sort}
+use Rattle.ame_pool.specs.Calls.{inside_of}
 use Rattle.ame_soundness.specs.StoreTyping.{StoreTyping}
 use Rattle.ame_soundness.specs.TypedState.{IsStored}
 use Rattle.ame_store.specs.declared.cell.Cell.{Cell}
@@ -18,7 +19,7 @@ use Rattle.ame_desk.proofs.LookupLemmas.{row_set_else}
 use Rattle.ame_owed.specs.Heap.{Heap, cell_at, IsCell, IsLive}
 use Rattle.ame_owed.specs.Changed.{BecomesAt, KeepsCommitted}
 use Rattle.ame_owed.specs.Framed.{IsFramedAt, IsFramed}
-use Rattle.ame_owed.specs.UndoLog.{undo_place, IsUndo, IsUndoLog}
+use Rattle.ame_owed.specs.UndoLog.{undo_place, IsUndo}
 use Rattle.ame_owed.specs.TypedHeap.{IsTypedHeap, IsTypedUndo}
 use Rattle.ame_owed.proofs.CellLemmas.{owned_cell}
 use Rattle.ame_owed.proofs.EventLemmas.{restored-framed, killed-framed}
@@ -156,7 +157,7 @@ module _ (parts : Parts) (s : Stands parts) (seat : ℕ) (within : seat < length
       by (inr x) = front-typed x.0 x.1 x.2
 
   -- others are left
-  module _ (attempt : Attempt) (reason : Reason) (has : attempt_of (task_at parts.tasks seat) ≡ Some attempt) (work : HasAtWork parts (is_noted_for reason) attempt)
+  module _ (attempt : Attempt) (reason : Reason) (has : attempt_of (task_at parts.tasks seat) ≡ Some attempt) (work : HasAtWork parts (is_noted_for reason) attempt) (outside : inside_of attempt.tried.number parts.pool ≡ Some false)
       (left : turns ≤ parts.limits.turns) (more : 1 < length row.undos) where
     abbrev tasks : List Task
     tasks = set parts.tasks seat (Task.Undoing attempt reason)
@@ -188,6 +189,7 @@ module _ (parts : Parts) (s : Stands parts) (seat : ℕ) (within : seat < length
           own =
               subst (MeetsTask (acted undone tasks turns parts) s.types seat) (sym here) (record {
                 work = work-on parts (acted undone tasks turns parts) (is_noted_for reason) attempt (goes_on parts undone tasks turns later) (stays_busy parts undone tasks turns attempt.tried.number) work;
+                outside = outside;
                 undos = subst (λ (n : Notes Val). All (IsTypedUndo parts.devices s.types) n.undos) (sym (more-row parts.desk seat s.consistent within more)) rest-typed;
               });
         }
@@ -197,14 +199,14 @@ module _ (parts : Parts) (s : Stands parts) (seat : ℕ) (within : seat < length
 
 -- an undo counts as a turn while no stop is kept
 pub undo_counted : (parts : Parts) (s : Stands parts) (seat : ℕ) → seat < length parts.desk.rows → All (IsTypedUndo parts.devices s.types) (row_at parts.desk.rows seat).undos
-    → (attempt : Attempt) (reason : Reason) → attempt_of (task_at parts.tasks seat) ≡ Some attempt → HasAtWork parts (is_noted_for reason) attempt
+    → (attempt : Attempt) (reason : Reason) → attempt_of (task_at parts.tasks seat) ≡ Some attempt → HasAtWork parts (is_noted_for reason) attempt → inside_of attempt.tried.number parts.pool ≡ Some false
     → (parts.stopped ≡ false → parts.turns < parts.limits.turns) → 1 < length (row_at parts.desk.rows seat).undos → Stands (has_undone seat attempt reason parts)
-undo_counted parts s seat within undos attempt reason has work left more = by parts.stopped refl
+undo_counted parts s seat within undos attempt reason has work outside left more = by parts.stopped refl
   where
     by : (b : Bool) → parts.stopped ≡ b
         → Stands (if b then acted (undone_last seat parts.desk) (set parts.tasks seat (Task.Undoing attempt reason)) parts.turns parts
         else acted (undone_last seat parts.desk) (set parts.tasks seat (Task.Undoing attempt reason)) (parts.turns + 1) parts)
-    by true e = undone_stands parts s seat within undos parts.turns (omega arith) attempt reason has work s.bounded.turns more
+    by true e = undone_stands parts s seat within undos parts.turns (omega arith) attempt reason has work outside s.bounded.turns more
     by false e =
         let h = left e in
-        undone_stands parts s seat within undos (parts.turns + 1) (omega arith) attempt reason has work (omega arith) more
+        undone_stands parts s seat within undos (parts.turns + 1) (omega arith) attempt reason has work outside (omega arith) more

@@ -93,6 +93,10 @@ has_checked seat steps attempt parts = one_turn (with_task seat (Task.Running (c
 abbrev pub has_turned_back : ℕ → Attempt → Parts → Parts
 has_turned_back seat attempt parts = one_turn (with_task seat (Task.Undoing attempt Reason.RolledBack) parts)
 
+-- a stop is kept
+abbrev pub has_stopped : Parts → Parts
+has_stopped parts = record parts { stopped = true }
+
 -- an undo counts while no stop is kept
 abbrev pub undo_turn : Parts → Parts
 undo_turn parts = if parts.stopped then parts else one_turn parts

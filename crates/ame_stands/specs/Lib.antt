@@ -4,3 +4,5 @@ pub mod StandsFor
 pub mod Tasks
 pub mod Stands
 pub mod Events
+pub mod Shown
+pub mod Alone

@@ -8,7 +8,7 @@ use Rattle.ame_store.specs.declared.cell.Cell.{Cell}
 use Rattle.ame_store.specs.Cells.{IsFree}
 use Rattle.ame_journal.specs.Replayed.{Replayed}
 use Rattle.ame_desk.specs.Consistent.{IsConsistent}
-use Rattle.ame_owed.specs.Heap.{Heap, cell_at, IsLive}
+use Rattle.ame_owed.specs.Heap.{cell_at, IsLive}
 use Rattle.ame_owed.specs.TypedHeap.{IsTypedHeap}
 use Rattle.ame_owed.specs.Scoped.{IsTypedNow}
 use Rattle.ame_stands.specs.Parts.{Parts, heap_in, task_at, member_of}

@@ -1,5 +1,5 @@
 -- An engine stands for the state to which its journal leads.
-use Rattle.std.specs.Prelude.{◌≡◌, ℕ, ◌++◌, Some}
+use Rattle.std.specs.Prelude.{◌≡◌, ℕ, Some}
 use Rattle.ame_term.specs.Maps.{at}
 use Rattle.ame_journal.specs.Replayed.{Replayed, is_inside}
 use Rattle.ame_journal.specs.Replay.{replay}

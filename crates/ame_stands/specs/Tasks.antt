@@ -4,7 +4,7 @@ use Rattle.ame_term.specs.Tree.{Tree}
 use Rattle.ame_pool.specs.declared.member.Member.{Member}
 use Rattle.ame_pool.specs.Calls.{IsAt, is_running, is_noted, inside_of}
 use Rattle.ame_soundness.specs.StoreTyping.{StoreTyping}
-use Rattle.ame_desk.specs.Contents.{Notes, no_notes, row_at}
+use Rattle.ame_desk.specs.Contents.{no_notes, row_at}
 use Rattle.ame_owed.specs.Owes.{Owes}
 use Rattle.ame_owed.specs.TypedHeap.{IsTypedUndo, IsTypedRun}
 use Rattle.ame_owed.specs.Scoped.{IsScoped}
@@ -51,9 +51,10 @@ module _ (parts : Parts) (types : StoreTyping) (seat : ℕ) where
     pub inside : inside_of attempt.tried.number parts.pool ≡ Some true
     pub clear : row_at parts.desk.rows seat ≡ no_notes
 
-  -- what is left to undo is typed
+  -- protected code is undone: what is left to undo is typed
   pub record Undoes (attempt : Attempt) (reason : Reason) : Type 0 where
     pub work : HasAtWork parts (is_noted_for reason) attempt
+    pub outside : inside_of attempt.tried.number parts.pool ≡ Some false
     pub undos : All (IsTypedUndo parts.devices types) (row_at parts.desk.rows seat).undos
 
   -- so it is by the task

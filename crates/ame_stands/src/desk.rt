@@ -17,7 +17,7 @@ ghost use Rattle.ame_desk.specs.Contents.{Notes, Contents, no_notes, row_at, by_
 ghost use Rattle.ame_desk.specs.Consistent.{IsConsistent};
 ghost use Rattle.ame_desk.specs.Access.{written_by, next_place, allocated_by};
 ghost use Rattle.ame_desk.specs.LettingGo.{undone_by, but_last, undone_last, released_all};
-ghost use Rattle.ame_owed.specs.Heap.{Heap, cell_at, IsCell, IsCommitted};
+ghost use Rattle.ame_owed.specs.Heap.{cell_at, IsCell, IsCommitted};
 ghost use Rattle.ame_owed.specs.SeatRun.{AreValid};
 ghost use Rattle.ame_owed.specs.UndoLog.{undo_place, IsUndoLog};
 ghost use Rattle.ame_owed.specs.Changed.{BecomesAt, KeepsCommitted, ReleasesAll};

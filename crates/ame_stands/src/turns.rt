@@ -1,6 +1,6 @@
 //! Start, begin, checks, and the way back.
 
-ghost use Rattle.std.specs.Prelude.{◌≡◌, ◌+◌, ◌<◌, ◌≤◌, ℕ, List, false, Some, length};
+ghost use Rattle.std.specs.Prelude.{◌≡◌, ◌+◌, ◌<◌, ◌≤◌, ℕ, List, false, length};
 ghost use Rattle.ame_term.specs.Tree.{Typ, Tree};
 ghost use Rattle.ame_term.specs.SourceTerm.{IsSourceTerm};
 ghost use Rattle.ame_term.specs.Typing.{Accepts};

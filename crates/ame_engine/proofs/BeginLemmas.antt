@@ -1,5 +1,5 @@
 -- A seat begins a member.
-use Rattle.std.proofs.Common.{◌≡◌, ℕ, ◌+◌, ◌<◌, Bool, true, false, List, ◌++◌, length, Option, Some, None, IsTrue, IsSomeAnd, option_map, refl, sym, ap, ◌∙◌, subst, arith}
+use Rattle.std.proofs.Common.{◌≡◌, ℕ, ◌+◌, ◌<◌, Bool, true, false, List, ◌++◌, length, Option, Some, None, option_map, refl, sym, ap, ◌∙◌, subst, arith}
 use Rattle.std.specs.Prelude.{unwrap_or, slice_set}
 use Rattle.std.specs.Option.{ForSome}
 use Rattle.ame_term.specs.Tree.{Val, Tree, unit_tree}
@@ -20,7 +20,7 @@ use Rattle.ame_stands.specs.Events.{begun_task, has_begun, one_turn, with_task}
 use Rattle.ame_stands.proofs.StepLemmas.{task_here}
 use Rattle.ame_stands.proofs.HomeLemmas.{begun_stands}
 use Rattle.ame_engine.specs.Core.{Core}
-use Rattle.ame_engine.specs.Plain.{plain_pool}
+use Rattle.ame_stands.specs.Shown.{shown_pool}
 use Rattle.ame_engine.specs.Seen.{parts_of, term_of, Makes}
 use Rattle.ame_engine.specs.Whole.{resting_at, IsAtRest, IsWhole}
 use Rattle.ame_engine.specs.AtWork.{IsOn}
@@ -29,7 +29,8 @@ use Rattle.ame_engine.specs.declared.chance.Chance.{Chance}
 use Rattle.ame_pool.specs.declared.oldest.Oldest.{Oldest}
 use Rattle.ame_journal.specs.declared.entry.Entry.{Entry}
 use Rattle.ame_runner.specs.Sound.{CanRun}
-use Rattle.ame_engine.proofs.PlainLemmas.{inside-told, held-plain, inside-plain, ready-plain, machine-plain}
+use Rattle.ame_stands.proofs.ShownPoolLemmas.{machine-shown, held-shown}
+use Rattle.ame_engine.proofs.MemberLemmas.{inside-told, ready-machine, inside-same, ready-same}
 use Rattle.ame_engine.proofs.WorkLemmas.{on-begun}
 use Rattle.ame_engine.proofs.RunLemmas.{rest-runs}
 
@@ -44,9 +45,9 @@ module _ {C V M : Type 0} (program : C → Tree) (devices : C → ℕ) (is_value
       → parts_of program devices value_of stage (begun_by seat number core) ≡ has_begun seat number (parts_of program devices value_of stage core)
   unfolding parts-with
   begun-parts seat number core =
-      let pool = plain_pool (term_of stage core.code) core.pool in
-      ap (parts-with seat number core (is_inside_at core.pool.members number)) (held-plain (term_of stage core.code) number core.pool)
-      ∙ ap (λ b. parts-with seat number core b (held number pool)) (sym (inside-plain (term_of stage core.code) number core.pool.members))
+      let pool = shown_pool (term_of stage core.code) core.pool in
+      ap (parts-with seat number core (is_inside_at core.pool.members number)) (held-shown (term_of stage core.code) number core.pool)
+      ∙ ap (λ b. parts-with seat number core b (held number pool)) (sym (inside-same (term_of stage core.code) number core.pool))
 
   module _ (core : Core C V M) (whole : IsWhole program devices is_value value_of is_machine stage core) (seat number : ℕ)
       (within : seat < core.limits.seats) (idle : task_at core.tasks seat ≡ Task.Idle) (ready : IsAt is_ready number core.pool)
@@ -54,7 +55,7 @@ module _ {C V M : Type 0} (program : C → Tree) (devices : C → ℕ) (is_value
     pub begun-stands : Stands (has_begun seat number (parts_of program devices value_of stage core))
     begun-stands =
         begun_stands (parts_of program devices value_of stage core) whole.stands seat number idle within
-        (ready-plain (term_of stage core.code) number core.pool ready) left
+        (ready-same (term_of stage core.code) number core.pool ready) left
 
     pub begun-whole : IsWhole program devices is_value value_of is_machine stage (begun_by seat number core)
     begun-whole = record {
@@ -87,10 +88,10 @@ module _ {C V M : Type 0} (program : C → Tree) (devices : C → ℕ) (is_value
       same-machine None = refl
       same-machine (Some m) = refl
 
-      begun-starts : term_at (plain_pool (term_of stage core.code) (held number core.pool)) number ≡ (stage core.code held_machine).term
+      begun-starts : term_at (shown_pool (term_of stage core.code) (held number core.pool)) number ≡ (stage core.code held_machine).term
       begun-starts =
           ap (λ (o : Option Tree). unwrap_or o unit_tree)
-          (machine-plain (term_of stage core.code) number (held number core.pool)
+          (machine-shown (term_of stage core.code) number (held number core.pool)
           ∙ ap (option_map (term_of stage core.code))
           (ap (option_map (λ (m : Member M). m.machine)) (found_altered number begun (λ m. refl) core.pool.members).here
           ∙ same-machine (find number core.pool.members) ∙ found))
@@ -117,8 +118,8 @@ module _ {C V M : Type 0} (program : C → Tree) (devices : C → ℕ) (is_value
       begun-runs m same =
           subst CanRun (sym (same ∙ rest-by (find number core.pool.members) refl))
           (rest-runs (parts_of program devices value_of stage core) whole.stands number (stage core.code held_machine).term (is_inside_at core.pool.members number)
-          (machine-plain (term_of stage core.code) number core.pool ∙ ap (option_map (term_of stage core.code)) found)
-          (inside-plain (term_of stage core.code) number core.pool.members))
+          (machine-shown (term_of stage core.code) number core.pool ∙ ap (option_map (term_of stage core.code)) found)
+          (inside-same (term_of stage core.code) number core.pool))
 
 -- what a seat meets that may begin a member
 pub chance_member : (spent : Bool) (o : Oldest) (n : ℕ) → chance_by spent o ≡ Chance.Member n → (spent ≡ false) × (o ≡ Oldest.Member n)
@@ -134,14 +135,6 @@ chance_member false (Oldest.Member k) n e = (refl, ap Oldest.Member (ap number-i
 chance_member false Oldest.Wait n e = absurd (cc)
 chance_member false Oldest.Parked n e = absurd (cc)
 chance_member false Oldest.Empty n e = absurd (cc)
-
--- a ready member has a machine
-ready-machine : {M : Type 0} (n : ℕ) (pool : Roster M) → IsAt is_ready n pool → (x : M) × (machine_of n pool ≡ Some x)
-ready-machine {M} n pool ready = by (find n pool.members) ready
-  where
-    by : (o : Option (Member M)) → IsSomeAnd o (λ m. IsTrue (is_ready m)) → (x : M) × (option_map (λ (m : Member M). m.machine) o ≡ Some x)
-    by None h = absurd h
-    by (Some m) h = (m.machine, refl)
 
 module _ {C V M : Type 0} (program : C → Tree) (devices : C → ℕ) (is_value : C → V → Type 0) (value_of : C → V → Val)
     (is_machine : C → M → Type 0) (stage : C → M → Stage) (same : M → M → Type 0)

@@ -1,4 +1,4 @@
-pub mod PlainLemmas
+pub mod MemberLemmas
 pub mod WorkLemmas
 pub mod StartLemmas
 pub mod ReadLemmas

@@ -5,8 +5,8 @@ use Rattle.std.specs.Option.{ForSome}
 use Rattle.ame_term.specs.Tree.{Val, Tree}
 use Rattle.ame_term.specs.declared.types.Loc.{Loc}
 use Rattle.ame_store.specs.declared.cell.Cell.{Cell}
-use Rattle.ame_desk.specs.Contents.{Notes, Contents, row_at, by_seat}
-use Rattle.ame_desk.specs.Access.{IsRead, notes_read}
+use Rattle.ame_desk.specs.Contents.{Contents, row_at, by_seat}
+use Rattle.ame_desk.specs.Access.{IsRead}
 use Rattle.ame_desk.proofs.LookupLemmas.{get_there, all_at}
 use Rattle.ame_owed.specs.Heap.{cell_at}
 use Rattle.ame_runner.specs.declared.wants.Wants.{Wants}
@@ -20,7 +20,7 @@ use Rattle.ame_engine.specs.Core.{Core}
 use Rattle.ame_engine.specs.Seen.{parts_of, Makes}
 use Rattle.ame_engine.specs.Whole.{IsWhole}
 use Rattle.ame_engine.specs.AtWork.{IsOnSeat, IsOn}
-use Rattle.ame_engine.proofs.ReadLemmas.{read_with, read-within, in-place, read-parts, read-whole}
+use Rattle.ame_engine.proofs.ReadLemmas.{read-within, in-place, read-parts, read-whole}
 use Rattle.ame_engine.proofs.RunLemmas.{can-run}
 
 -- the location that is wanted to be read
@@ -62,27 +62,18 @@ module _ {C V M : Type 0} (program : C → Tree) (devices : C → ℕ) (is_value
     there : (cell : Cell V) × (slice_get core.desk.cells l.0 ≡ Some cell)
     there = get_there core.desk.cells l.0 read-location
 
-    good-cell : is_value core.code there.0.value
-    good-cell = all_at (λ (cell : Cell V). is_value core.code cell.value) core.desk.cells l.0 there.0 read-location there.1 whole.desk.cells
-
-    desk-is : desk ≡ by_seat seat core.desk.cells (notes_read seat l row.input core.desk.cells (row_at core.desk.rows seat)) core.desk
-    desk-is = others ∙ ap (λ (n : Notes V). by_seat seat core.desk.cells n core.desk) row.becomes
-
-    after-is : after ≡ read_with seat l row.input core
-    after-is = λ i. record core { desk = desk-is i; turns = core.turns + 1 }
+    after-is : after ≡ record core { desk = by_seat seat core.desk.cells (row_at desk.rows seat) core.desk; turns = core.turns + 1 }
+    after-is = λ i. record core { desk = others i; turns = core.turns + 1 }
 
     left' : core.turns < core.limits.turns
     left' = subst (λ (x : Core C V M). x.turns < x.limits.turns) (sym view) left
 
-    shown : value_of core.code row.input ≡ value_of core.code there.0.value
-    shown = sym (shows core.code there.0.value row.input (row.copied there.0 there.1))
-
-    good-input : is_value core.code row.input
-    good-input = keeps core.code there.0.value row.input (row.copied there.0 there.1) good-cell
+    shows' : (v w : V) → same v w → value_of core.code w ≡ value_of core.code v
+    shows' v w h = sym (shows core.code v w h)
 
     pub whole-read : IsWhole program devices is_value value_of is_machine stage after
     whole-read = subst (IsWhole program devices is_value value_of is_machine stage) (sym after-is)
-        (read-whole program devices is_value value_of is_machine stage core whole seat m l on' outside' need' left' there.0 there.1 row.input shown good-input)
+        (read-whole program devices is_value value_of is_machine stage core whole seat m l on' outside' need' left' same shows' (keeps core.code) (row_at desk.rows seat) row)
 
     pub makes-read : (k : Loc) → (stage now.code m).want ≡ Some (wants.Read k) → Makes program devices value_of stage (has_read seat k) now after
     makes-read k e =
@@ -91,13 +82,18 @@ module _ {C V M : Type 0} (program : C → Tree) (devices : C → ℕ) (is_value
         (subst (Makes program devices value_of stage (has_read seat l) core) (sym after-is)
         (record {
           code = refl;
-          parts = read-parts program devices is_value value_of is_machine stage core whole seat m l on' outside' need' left' there.0 there.1 row.input shown good-input;
+          parts = read-parts program devices is_value value_of is_machine stage core whole seat m l on' outside' need' left' same shows' (keeps core.code)
+              (row_at desk.rows seat) row;
         })))
+
+    good-value : is_value core.code value
+    good-value = keeps core.code there.0.value value (gives there.0 there.1)
+        (all_at (λ (cell : Cell V). is_value core.code cell.value) core.desk.cells l.0 there.0 read-location there.1 whole.desk.cells)
 
     in-core : value_of core.code value ≡ (cell_at (heap_in (parts_of program devices value_of stage core)) l.0).value
     in-core =
-        sym (shows core.code there.0.value value (gives there.0 there.1))
-        ∙ sym (in-place program devices is_value value_of is_machine stage core whole seat m l on' outside' need' left' there.0 there.1 there.0.value refl good-cell)
+        shows' there.0.value value (gives there.0 there.1)
+        ∙ sym (in-place program devices is_value value_of is_machine stage core whole seat m l on' outside' need' there.0 there.1)
 
     pub value-read : (k : Loc) → (stage now.code m).want ≡ Some (wants.Read k)
         → value_of now.code value ≡ (cell_at (heap_in (parts_of program devices value_of stage now)) k.0).value
@@ -107,7 +103,7 @@ module _ {C V M : Type 0} (program : C → Tree) (devices : C → ℕ) (is_value
         (subst (λ (x : Core C V M). value_of x.code value ≡ (cell_at (heap_in (parts_of program devices value_of stage x)) l.0).value) view in-core)
 
     pub good-read : is_value now.code value
-    good-read = subst (λ (x : Core C V M). is_value x.code value) view (keeps core.code there.0.value value (gives there.0 there.1) good-cell)
+    good-read = subst (λ (x : Core C V M). is_value x.code value) view good-value
 
     pub runs-read : (s : Stage) → IsOnSeat (parts_of program devices value_of stage after) seat s → s.inside ≡ false → CanRun s
     runs-read s stands out = can-run (parts_of program devices value_of stage after) whole-read.stands seat s stands out

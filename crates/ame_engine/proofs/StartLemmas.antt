@@ -15,16 +15,16 @@ use Rattle.ame_stands.specs.declared.types.Tried.{Tried}
 use Rattle.ame_stands.specs.declared.types.Task.{Task}
 use Rattle.ame_stands.specs.Parts.{Parts}
 use Rattle.ame_stands.specs.Stands.{Stands}
+use Rattle.ame_stands.specs.Shown.{shown_notes}
 use Rattle.ame_stands.specs.Events.{started}
 use Rattle.ame_stands.proofs.StartLemmas.{started_stands}
 use Rattle.ame_engine.specs.Core.{Core}
-use Rattle.ame_engine.specs.Plain.{plain_notes}
 use Rattle.ame_engine.specs.Seen.{parts_of}
 use Rattle.ame_engine.specs.Whole.{IsInRange, AreGoodNotes, IsGoodUndo, IsAtRest, IsWhole}
 
-rows-plain : {A B : Type 0} (f : A → B) (n : ℕ) → map (plain_notes f) (replicate n no_notes) ≡ replicate n no_notes
-rows-plain f zero = refl
-rows-plain {A} {B} f (suc n) = ap (λ (rows : List (Notes B)). no_notes ∷ rows) (rows-plain f n)
+rows-shown : {V : Type 0} (view : V → Val) (n : ℕ) → map (shown_notes view) (replicate n no_notes) ≡ replicate n no_notes
+rows-shown view zero = refl
+rows-shown view (suc n) = ap (λ (rows : List (Notes Val)). no_notes ∷ rows) (rows-shown view n)
 
 module _ {C V M : Type 0} (program : C → Tree) (devices : C → ℕ) (is_value : C → V → Type 0) (value_of : C → V → Val)
     (is_machine : C → M → Type 0) (stage : C → M → Stage) (code : C) (limits : Limits) (machine : M) where
@@ -54,8 +54,8 @@ module _ {C V M : Type 0} (program : C → Tree) (devices : C → ℕ) (is_value
     pub started-parts : parts_of program devices value_of stage started_with ≡ started (program code) (devices code) limits 0
     unfolding parts-with
     started-parts =
-        ap (λ term. parts-with term (map (plain_notes (value_of code)) (replicate limits.seats no_notes))) (ap (λ (s : Stage). s.term) rests)
-        ∙ ap (parts-with (program code)) (rows-plain (value_of code) limits.seats)
+        ap (λ term. parts-with term (map (shown_notes (value_of code)) (replicate limits.seats no_notes))) (ap (λ (s : Stage). s.term) rests)
+        ∙ ap (parts-with (program code)) (rows-shown (value_of code) limits.seats)
 
     module _ (in_range : IsInRange limits) (good : is_machine code machine) (accepted : IsAccepted (devices code) (program code)) where
       started-whole : IsWhole program devices is_value value_of is_machine stage started_with

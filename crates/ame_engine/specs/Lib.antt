@@ -1,5 +1,4 @@
 pub mod Core
-pub mod Plain
 pub mod Seen
 pub mod Whole
 pub mod AtWork

@@ -3,8 +3,8 @@ use Rattle.std.specs.Prelude.{◌≡◌, ℕ, is_some}
 use Rattle.ame_term.specs.Tree.{Val, Tree}
 use Rattle.ame_runner.specs.Stage.{Stage}
 use Rattle.ame_stands.specs.Parts.{Parts}
+use Rattle.ame_stands.specs.Shown.{shown_desk, shown_pool}
 use Rattle.ame_engine.specs.Core.{Core}
-use Rattle.ame_engine.specs.Plain.{plain_desk, plain_pool}
 
 -- the term for which a machine stands
 abbrev pub term_of : {C M : Type 0} → (C → M → Stage) → C → M → Tree
@@ -19,9 +19,9 @@ module _ {C V M : Type 0} (program : C → Tree) (devices : C → ℕ) (value_of
     limits = core.limits;
     base = core.base;
     entries = core.entries;
-    desk = plain_desk (value_of core.code) core.desk;
+    desk = shown_desk (value_of core.code) core.desk;
     tasks = core.tasks;
-    pool = plain_pool (term_of stage core.code) core.pool;
+    pool = shown_pool (term_of stage core.code) core.pool;
     output = core.output;
     next = core.next;
     turns = core.turns;

@@ -5,3 +5,4 @@ pub mod ReadLemmas
 pub mod RunLemmas
 pub mod BeginLemmas
 pub mod ReadingLemmas
+pub mod CheckLemmas

@@ -52,7 +52,7 @@ module _ {V : Type 0} (IsGood : V → Type 0) where
 
 -- Where the run stands
 
-place-by : (o : Option LocalState) (s : Stage) → option_map without_footprint o ≡ Some (with_answer None (place_shown s))
+pub place-by : (o : Option LocalState) (s : Stage) → option_map without_footprint o ≡ Some (with_answer None (place_shown s))
     → (p : LocalState) × (o ≡ Some p) × (p.term ≡ s.term) × (p.inputs ≡ [])
 place-by None s e = absurd (none-some e)
   where

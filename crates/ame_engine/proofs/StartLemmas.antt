@@ -71,9 +71,10 @@ module _ {C V M : Type 0} (program : C → Tree) (devices : C → ℕ) (is_value
             (record { machine = good; rests = rests ∙ sym (ap (λ (s : Stage). starting_at s.term) rests) }) (All-nil (IsAtRest is_machine stage code));
       }
 
-      module _ (base entries : List Entry) (store : List (Cell V)) (desk : Contents V) (tasks : List Task) (pool : Roster M) (output : List ℤ) (tried : List Tried)
+      module _ (base entries : List Entry) (store : List (Cell V)) (desk : Contents V) (tasks : List Task) (empty roomy pool : Roster M) (output : List ℤ) (tried : List Tried)
           (no_base : base ≡ []) (no_entries : entries ≡ []) (no_cells : store ≡ []) (fresh : desk ≡ record { cells = store; rows = replicate limits.seats no_notes })
-          (idle : tasks ≡ replicate limits.seats Task.Idle) (one : pool ≡ joined (newcomer 0 machine false) (with_room 1 nobody))
+          (idle : tasks ≡ replicate limits.seats Task.Idle) (is_empty : empty ≡ nobody) (is_roomy : roomy ≡ with_room 1 empty)
+          (one : pool ≡ joined (newcomer 0 machine false) roomy)
           (no_output : output ≡ []) (no_tries : tried ≡ []) where
         abbrev found_core : Core C V M
         found_core = record {
@@ -98,6 +99,9 @@ module _ {C V M : Type 0} (program : C → Tree) (devices : C → ℕ) (is_value
         unfolding desk-with
         desk-is = fresh ∙ ap desk-with no_cells
 
+        pool-is : pool ≡ joined (newcomer 0 machine false) (with_room 1 nobody)
+        pool-is = one ∙ ap (joined (newcomer 0 machine false)) (is_roomy ∙ ap (with_room 1) is_empty)
+
         same : found_core ≡ started_with
         same = λ i. record {
           code = code;
@@ -106,7 +110,7 @@ module _ {C V M : Type 0} (program : C → Tree) (devices : C → ℕ) (is_value
           entries = no_entries i;
           desk = desk-is i;
           tasks = idle i;
-          pool = one i;
+          pool = pool-is i;
           output = no_output i;
           next = 1;
           turns = 0;

@@ -3,3 +3,4 @@ pub mod Seen
 pub mod Whole
 pub mod AtWork
 pub mod Begins
+pub mod Stops

@@ -1,5 +1,7 @@
 //! What the calls of a seat answer.
 
+use ame_rows::Bad;
+
 /// What a seat is answered that begins.
 #[derive(Drop)]
 pub enum Begin<M> {
@@ -15,4 +17,13 @@ pub enum Begin<M> {
     Blocked,
     /// Members are left, and the turns are used up.
     Spent,
+}
+
+/// What a check answers.
+#[derive(Clone, Copy, PartialEq, Eq, Debug)]
+pub enum Checked {
+    /// Each read is valid.
+    Valid,
+    /// This read is the first that isn't.
+    Invalid(Bad),
 }

@@ -1,6 +1,5 @@
-use Rattle.std.proofs.Common.{rules, ◌≡◌, [], ap, ◌∙◌, false}
+use Rattle.std.proofs.Common.{rules, ◌≡◌, []}
 use Rattle.std.specs.Arc.{arc_value}
-use Rattle.ame_pool.specs.Calls.{newcomer, joined, with_room}
 use Rattle.ame_runner.specs.Stage.{starting_at}
 use Rattle.ame_engine.proofs.StartLemmas.{whole-started, parts-started}
 use Rattle.ame_engine.proofs.engine.Engine.start.Goals as goal
@@ -15,8 +14,8 @@ invariant_of-result g c =
     let tried : c.new-6.result.items ≡ [] = search rules in
     whole-started g.M.Runner.program g.M.Runner.devices g.M.Runner.is_value g.M.Runner.value_of g.M.Runner.is_machine g.M.Runner.stage
     code c.args.limits m rests c.requires good (g.met.M.Runner.accepted (arc_value c.args.code))
-    _ _ _ _ _ _ _ _ c.new-3.ensures c.new-4.ensures c.new.ensures c.in_ok-desk.ensures c.in_ok-tasks.ensures
-    (c.add.ensures ∙ ap (joined (newcomer 0 m false)) (c.in_ok-room.ensures.ok ∙ ap (with_room 1) c.new-pool.ensures)) output tried
+    _ _ _ _ _ _ _ _ _ _ c.new-3.ensures c.new-4.ensures c.new.ensures c.in_ok-desk.ensures c.in_ok-tasks.ensures
+    c.new-pool.ensures c.in_ok-room.ensures.ok c.add.ensures output tried
 
 pub returns-clause-parts : goal.returns-clause-parts
 returns-clause-parts g c =
@@ -28,5 +27,5 @@ returns-clause-parts g c =
     let tried : c.new-6.result.items ≡ [] = search rules in
     parts-started g.M.Runner.program g.M.Runner.devices g.M.Runner.is_value g.M.Runner.value_of g.M.Runner.is_machine g.M.Runner.stage
     code c.args.limits m rests c.requires good (g.met.M.Runner.accepted (arc_value c.args.code))
-    _ _ _ _ _ _ _ _ c.new-3.ensures c.new-4.ensures c.new.ensures c.in_ok-desk.ensures c.in_ok-tasks.ensures
-    (c.add.ensures ∙ ap (joined (newcomer 0 m false)) (c.in_ok-room.ensures.ok ∙ ap (with_room 1) c.new-pool.ensures)) output tried
+    _ _ _ _ _ _ _ _ _ _ c.new-3.ensures c.new-4.ensures c.new.ensures c.in_ok-desk.ensures c.in_ok-tasks.ensures
+    c.new-pool.ensures c.in_ok-room.ensures.ok c.add.ensures output tried

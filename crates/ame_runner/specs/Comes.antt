@@ -1,5 +1,5 @@
 -- What is so where a machine has a need.
-use Rattle.std.specs.Prelude.{◌≡◌, ℕ, ◌<◌, true, false, Some}
+use Rattle.std.specs.Prelude.{◌≡◌, ◌<◌, true, false, Some}
 use Rattle.ame_term.specs.Tree.{Val, Tree}
 use Rattle.ame_term.specs.Context.{Focus, focus}
 use Rattle.ame_term.specs.Act.{Act, act_of}

@@ -4,3 +4,7 @@ pub mod Move
 pub mod Input
 pub mod Sound
 pub mod Comes
+pub mod Acting
+pub mod Ahead
+pub mod TermStage
+pub mod AcceptedProgram

@@ -1,8 +1,16 @@
 //! What an engine needs of a machine that runs fragments, and such a machine over terms.
 #![tactic(auto)]
 
+mod act;
+mod ahead;
+mod copies;
+mod feeding;
+mod forms;
 mod laws;
+mod moves;
 mod runner;
+mod term_machine;
+mod term_runner;
 mod wants;
 
 pub use laws::{
@@ -11,4 +19,5 @@ pub use laws::{
     tall_values_are_too_high_by_one,
 };
 pub use runner::Runner;
+pub use term_machine::TermMachine;
 pub use wants::{Input, Wants};

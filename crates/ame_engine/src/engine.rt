@@ -23,7 +23,10 @@ mod stop;
 
 /// The engine that seats share: cells that they write in place, with what each would undo; the members and their machines;
 /// and the journal of what was committed. A seat's own machine is not in it, so that seats can run beside each other.
-pub struct Engine<M: Runner> {
+pub struct Engine<M: Runner>
+where
+    M::Code: Drop,
+{
     code: Arc<M::Code>,
     limits: Limits,
     base: Journal,
@@ -38,7 +41,32 @@ pub struct Engine<M: Runner> {
     stop: Option<Stop>,
 }
 
-impl<M: Runner> Model for Engine<M> {
+impl<M: Runner> Drop for Engine<M>
+where
+    M::Code: Drop,
+{
+    fn drop(self) {
+        let Engine {
+            code: _,
+            limits: _,
+            base: _,
+            journal: _,
+            desk: _,
+            tasks: _,
+            pool: _,
+            output: _,
+            next: _,
+            turns: _,
+            tried: _,
+            stop: _,
+        } = self;
+    }
+}
+
+impl<M: Runner> Model for Engine<M>
+where
+    M::Code: Drop,
+{
     ghost use Rattle.std.specs.Arc.{arc_value};
     ghost use Rattle.ame_engine.specs.Core.{Core};
 
@@ -77,7 +105,10 @@ impl<M: Runner> Model for Engine<M> {
     }) };
 }
 
-impl<M: Runner> Engine<M> {
+impl<M: Runner> Engine<M>
+where
+    M::Code: Drop,
+{
     /// The limits.
     pub fn limits(&self) -> &Limits
         ensures { result.now ≡ self.now.limits }

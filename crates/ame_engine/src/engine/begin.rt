@@ -76,7 +76,10 @@ fn copy_machine<M: Runner>(alloc: Global, pool: &Pool<M>, number: u64) -> Result
     }
 }
 
-impl<M: Runner> Engine<M> {
+impl<M: Runner> Engine<M>
+where
+    M::Code: Drop,
+{
     /// What a seat would meet that begins now.
     fn chance(&self) -> Chance
         ensures chance { result ≡ chance_of self.now }

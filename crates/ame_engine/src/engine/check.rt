@@ -30,7 +30,10 @@ fn checked_attempt(attempt: Attempt, steps: u64, base: &[Entry], entries: &[Entr
     }
 }
 
-impl<M: Runner> Engine<M> {
+impl<M: Runner> Engine<M>
+where
+    M::Code: Drop,
+{
     /// Whether each read of a seat that runs protected code is valid, once its machine has made a slice of steps. The seat keeps
     /// the steps and the number of entries where it is; else it turns back. Counts a turn, and takes no memory.
     pub fn check(&mut self, seat: u32, at: &M) -> Checked

@@ -15,7 +15,10 @@ use super::Engine;
 use ame_runner::{Runner, Wants};
 use ame_term::NoMemory;
 
-impl<M: Runner> Engine<M> {
+impl<M: Runner> Engine<M>
+where
+    M::Code: Drop,
+{
     /// The value in place where the machine of a seat wants to read, whoever owns the cell. A cell that the seat doesn't own
     /// is logged with its number. Counts a turn. Takes memory for the logs and the copy of a value.
     pub fn read(&mut self, seat: u32, at: &M) -> Result<M::Value, NoMemory>

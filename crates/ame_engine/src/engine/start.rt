@@ -28,11 +28,12 @@ fn idle_tasks(alloc: Global, seats: u32) -> Result<Vec<Task>, NoMemory>
     Ok(tasks)
 }
 
-impl<M: Runner> Engine<M> {
+impl<M: Runner> Engine<M>
+where
+    M::Code: Drop,
+{
     /// An engine whose one member is the program at its beginning. Nothing is committed, and all seats are idle.
     pub fn start(alloc: Global, code: Arc<M::Code>, limits: Limits) -> Result<Engine<M>, NoMemory>
-    where
-        M::Code: Drop,
         requires { IsInRange limits }
         ensures code { IfOk result (λ engine. engine.code ≡ arc_value code) }
         ensures parts { IfOk result (λ engine. parts_of M.program M.devices M.value_of M.stage engine

@@ -7,7 +7,10 @@ use super::Engine;
 use crate::stop::Stop;
 use ame_runner::Runner;
 
-impl<M: Runner> Engine<M> {
+impl<M: Runner> Engine<M>
+where
+    M::Code: Drop,
+{
     /// Keeps a stop, if none is kept. Takes no memory, and counts no turn.
     pub fn stop(&mut self, why: Stop)
         ensures { self.new ≡ stopped_by why self.old }

@@ -1,0 +1,210 @@
+-- A seat begins a member.
+use Rattle.std.proofs.Common.{◌≡◌, ℕ, ◌+◌, ◌<◌, Bool, true, false, List, ◌++◌, length, Option, Some, None, option_map, refl, sym, ap, ◌∙◌, subst, arith}
+use Rattle.std.specs.Prelude.{unwrap_or, slice_set}
+use Rattle.std.specs.Option.{ForSome}
+use Rattle.ame_term.specs.Tree.{Val, Tree, unit_tree}
+use Rattle.ame_pool.specs.declared.member.Member.{Member}
+use Rattle.ame_pool.specs.Members.{find, is_ready}
+use Rattle.ame_pool.specs.Roster.{Roster}
+use Rattle.ame_pool.specs.Calls.{IsAt, begun, held, machine_of}
+use Rattle.ame_pool.specs.Keeps.{is_inside_at}
+use Rattle.ame_pool.proofs.MemberLemmas.{find_passes, all_altered, found_altered}
+use Rattle.ame_desk.specs.Contents.{Notes, no_notes, row_at}
+use Rattle.ame_runner.specs.Stage.{Stage}
+use Rattle.ame_stands.specs.declared.types.Attempt.{Attempt}
+use Rattle.ame_stands.specs.declared.types.Task.{Task}
+use Rattle.ame_stands.specs.Parts.{Parts, task_at, term_at}
+use Rattle.ame_stands.specs.Tasks.{MeetsTask}
+use Rattle.ame_stands.specs.Stands.{Stands}
+use Rattle.ame_stands.specs.Events.{begun_task, has_begun, one_turn, with_task}
+use Rattle.ame_stands.proofs.StepLemmas.{task_here}
+use Rattle.ame_stands.proofs.HomeLemmas.{begun_stands}
+use Rattle.ame_engine.specs.Core.{Core}
+use Rattle.ame_stands.specs.Shown.{shown_pool}
+use Rattle.ame_engine.specs.Seen.{parts_of, term_of, Makes}
+use Rattle.ame_engine.specs.Whole.{resting_at, IsAtRest, IsWhole}
+use Rattle.ame_engine.specs.AtWork.{IsOn}
+use Rattle.ame_engine.specs.Begins.{chance_by, attempt_now, begun_by}
+use Rattle.ame_engine.specs.declared.chance.Chance.{Chance}
+use Rattle.ame_pool.specs.declared.oldest.Oldest.{Oldest}
+use Rattle.ame_journal.specs.declared.entry.Entry.{Entry}
+use Rattle.ame_runner.specs.Sound.{CanRun}
+use Rattle.ame_stands.proofs.ShownPoolLemmas.{machine-shown, held-shown}
+use Rattle.ame_engine.proofs.MemberLemmas.{inside-told, ready-machine, inside-same, ready-same}
+use Rattle.ame_engine.proofs.WorkLemmas.{on-begun}
+use Rattle.ame_engine.proofs.RunLemmas.{rest-runs}
+
+module _ {C V M : Type 0} (program : C → Tree) (devices : C → ℕ) (is_value : C → V → Type 0) (value_of : C → V → Val)
+    (is_machine : C → M → Type 0) (stage : C → M → Stage) where
+  -- the plain parts, once a seat has begun a member that is inside or not, with this pool
+  parts-with : ℕ → ℕ → Core C V M → Bool → Roster Tree → Parts
+  parts-with seat number core inside pool =
+      one_turn (with_task seat (begun_task inside (attempt_now number core)) (record (parts_of program devices value_of stage core) { pool = pool }))
+
+  pub begun-parts : (seat number : ℕ) (core : Core C V M)
+      → parts_of program devices value_of stage (begun_by seat number core) ≡ has_begun seat number (parts_of program devices value_of stage core)
+  unfolding parts-with
+  begun-parts seat number core =
+      let pool = shown_pool (term_of stage core.code) core.pool in
+      ap (parts-with seat number core (is_inside_at core.pool.members number)) (held-shown (term_of stage core.code) number core.pool)
+      ∙ ap (λ b. parts-with seat number core b (held number pool)) (sym (inside-same (term_of stage core.code) number core.pool))
+
+  module _ (core : Core C V M) (whole : IsWhole program devices is_value value_of is_machine stage core) (seat number : ℕ)
+      (within : seat < core.limits.seats) (idle : task_at core.tasks seat ≡ Task.Idle) (ready : IsAt is_ready number core.pool)
+      (left : core.turns < core.limits.turns) where
+    pub begun-stands : Stands (has_begun seat number (parts_of program devices value_of stage core))
+    begun-stands =
+        begun_stands (parts_of program devices value_of stage core) whole.stands seat number idle within
+        (ready-same (term_of stage core.code) number core.pool ready) left
+
+    pub begun-whole : IsWhole program devices is_value value_of is_machine stage (begun_by seat number core)
+    begun-whole = record {
+      stands = subst Stands (sym (begun-parts seat number core)) begun-stands;
+      limits = whole.limits;
+      desk = whole.desk;
+      members = all_altered number begun (IsAtRest is_machine stage core.code)
+          (λ m rests. record { machine = rests.machine; rests = rests.rests }) core.pool.members whole.members;
+    }
+
+    pub begun-makes : Makes program devices value_of stage (has_begun seat number) core (begun_by seat number core)
+    begun-makes = record { code = refl; parts = begun-parts seat number core }
+
+    -- the machine of the member that begins
+    module _ (held_machine : M) (found : machine_of number core.pool ≡ Some held_machine) where
+      rest-by : (o : Option (Member M)) → find number core.pool.members ≡ o
+          → stage core.code held_machine ≡ resting_at (stage core.code held_machine).term (is_inside_at core.pool.members number)
+      rest-by None e = absurd (some-none (sym found ∙ ap (option_map (λ (m : Member M). m.machine)) e))
+        where
+          some-none : ◌≡◌ {A = Option M} (Some held_machine) None → ⊥
+          some-none h = cc
+      rest-by (Some m) e =
+          let rests = (find_passes (IsAtRest is_machine stage core.code) number core.pool.members whole.members m e).rests in
+          let same : m.machine ≡ held_machine = ap (λ (o : Option M). unwrap_or o held_machine) (sym (ap (option_map (λ (x : Member M). x.machine)) e) ∙ found) in
+          let inside : is_inside_at core.pool.members number ≡ m.inside = inside-told core.pool.members number ∙ ap (λ (o : Option (Member M)). unwrap_or (option_map (λ (x : Member M). x.inside) o) false) e in
+          subst (λ (b : Bool). stage core.code held_machine ≡ resting_at (stage core.code held_machine).term b) (sym inside)
+          (subst (λ (x : M). stage core.code x ≡ resting_at (stage core.code x).term m.inside) same rests)
+
+      same-machine : (o : Option (Member M)) → option_map (λ (m : Member M). m.machine) (option_map begun o) ≡ option_map (λ (m : Member M). m.machine) o
+      same-machine None = refl
+      same-machine (Some m) = refl
+
+      begun-starts : term_at (shown_pool (term_of stage core.code) (held number core.pool)) number ≡ (stage core.code held_machine).term
+      begun-starts =
+          ap (λ (o : Option Tree). unwrap_or o unit_tree)
+          (machine-shown (term_of stage core.code) number (held number core.pool)
+          ∙ ap (option_map (term_of stage core.code))
+          (ap (option_map (λ (m : Member M). m.machine)) (found_altered number begun (λ m. refl) core.pool.members).here
+          ∙ same-machine (find number core.pool.members) ∙ found))
+
+      -- a copy of it is where the seat's run stands
+      pub begun-on : (m : M) → stage core.code m ≡ stage core.code held_machine → is_machine core.code m
+          → IsOn program devices value_of is_machine stage (begun_by seat number core) seat m
+      begun-on m same good = record {
+        machine = good;
+        stands = on-begun (parts_of program devices value_of stage (begun_by seat number core)) seat (attempt_now number core)
+            (is_inside_at core.pool.members number) (stage core.code held_machine).term (stage core.code m)
+            (task_here core.tasks seat (begun_task (is_inside_at core.pool.members number) (attempt_now number core)) there)
+            (same ∙ rest-by (find number core.pool.members) refl) begun-starts (ap (λ (notes : Notes Val). notes.inputs) clear) refl;
+      }
+        where
+          there : seat < length core.tasks
+          there = let seats : length core.tasks ≡ core.limits.seats = whole.stands.bounded.tasks in omega (arith, seats, within)
+
+          clear : row_at (parts_of program devices value_of stage core).desk.rows seat ≡ no_notes
+          clear = subst (MeetsTask (parts_of program devices value_of stage core) whole.stands.types seat) idle (whole.stands.seats seat)
+
+      -- and can run
+      pub begun-runs : (m : M) → stage core.code m ≡ stage core.code held_machine → CanRun (stage core.code m)
+      begun-runs m same =
+          subst CanRun (sym (same ∙ rest-by (find number core.pool.members) refl))
+          (rest-runs (parts_of program devices value_of stage core) whole.stands number (stage core.code held_machine).term (is_inside_at core.pool.members number)
+          (machine-shown (term_of stage core.code) number core.pool ∙ ap (option_map (term_of stage core.code)) found)
+          (inside-same (term_of stage core.code) number core.pool))
+
+-- what a seat meets that may begin a member
+pub chance_member : (spent : Bool) (o : Oldest) (n : ℕ) → chance_by spent o ≡ Chance.Member n → (spent ≡ false) × (o ≡ Oldest.Member n)
+chance_member true (Oldest.Member k) n e = absurd (cc)
+chance_member true Oldest.Wait n e = absurd (cc)
+chance_member true Oldest.Parked n e = absurd (cc)
+chance_member true Oldest.Empty n e = absurd (cc)
+chance_member false (Oldest.Member k) n e = (refl, ap Oldest.Member (ap number-in e))
+  where
+    number-in : Chance → ℕ
+    number-in (Chance.Member k) = k
+    number-in _ = 0
+chance_member false Oldest.Wait n e = absurd (cc)
+chance_member false Oldest.Parked n e = absurd (cc)
+chance_member false Oldest.Empty n e = absurd (cc)
+
+module _ {C V M : Type 0} (program : C → Tree) (devices : C → ℕ) (is_value : C → V → Type 0) (value_of : C → V → Val)
+    (is_machine : C → M → Type 0) (stage : C → M → Stage) (same : M → M → Type 0)
+    (keeps : (code : C) (m n : M) → same m n → is_machine code m → is_machine code n)
+    (shows : (code : C) (m n : M) → same m n → stage code m ≡ stage code n)
+    (core now : Core C V M) (view : core ≡ now) (whole : IsWhole program devices is_value value_of is_machine stage core) (seat number : ℕ)
+    (within : seat < now.limits.seats) (idle : task_at now.tasks seat ≡ Task.Idle) (ready : IsAt is_ready number now.pool) (left : now.turns < now.limits.turns)
+    (task : Task) (inside : Bool) (attempt : Attempt) (base entries : List Entry) (pool : Roster M)
+    (task_is : task ≡ begun_task inside attempt) (inside_is : inside ≡ is_inside_at core.pool.members number)
+    (attempt_is : attempt ≡ record { tried = record { number = number; at = length (base ++ entries); steps = 0 }; told = false })
+    (base_is : base ≡ core.base) (entries_are : entries ≡ core.entries) (pool_is : pool ≡ held number core.pool) where
+  abbrev after : Core C V M
+  after = record core { tasks = slice_set core.tasks seat task; pool = pool; turns = core.turns + 1 }
+
+  attempt-after : List Entry → Attempt
+  attempt-after all = record { tried = record { number = number; at = length all; steps = 0 }; told = false }
+
+  attempt-so : attempt ≡ attempt_now number core
+  unfolding attempt-after
+  attempt-so = attempt_is ∙ ap (λ (xs : List Entry). attempt-after (xs ++ entries)) base_is ∙ ap (λ (xs : List Entry). attempt-after (core.base ++ xs)) entries_are
+
+  task-so : task ≡ begun_task (is_inside_at core.pool.members number) (attempt_now number core)
+  task-so = task_is ∙ ap (λ (b : Bool). begun_task b attempt) inside_is ∙ ap (begun_task (is_inside_at core.pool.members number)) attempt-so
+
+  after-is : after ≡ begun_by seat number core
+  after-is = λ i. record core { tasks = slice_set core.tasks seat (task-so i); pool = pool_is i; turns = core.turns + 1 }
+
+  within' : seat < core.limits.seats
+  within' = subst (λ (x : Core C V M). seat < x.limits.seats) (sym view) within
+
+  idle' : task_at core.tasks seat ≡ Task.Idle
+  idle' = subst (λ (x : Core C V M). task_at x.tasks seat ≡ Task.Idle) (sym view) idle
+
+  ready' : IsAt is_ready number core.pool
+  ready' = subst (λ (x : Core C V M). IsAt is_ready number x.pool) (sym view) ready
+
+  left' : core.turns < core.limits.turns
+  left' = subst (λ (x : Core C V M). x.turns < x.limits.turns) (sym view) left
+
+  pub whole-begun : IsWhole program devices is_value value_of is_machine stage after
+  whole-begun = subst (IsWhole program devices is_value value_of is_machine stage) (sym after-is)
+      (begun-whole program devices is_value value_of is_machine stage core whole seat number within' idle' ready' left')
+
+  pub makes-begun : Makes program devices value_of stage (has_begun seat number) now after
+  makes-begun = subst (λ (x : Core C V M). Makes program devices value_of stage (has_begun seat number) x after) view
+      (subst (Makes program devices value_of stage (has_begun seat number) core) (sym after-is)
+      (begun-makes program devices is_value value_of is_machine stage core whole seat number within' idle' ready' left'))
+
+  module _ (m : M) (copied : ForSome (machine_of number core.pool) (λ resting. same resting m)) where
+    resting : (x : M) × (machine_of number core.pool ≡ Some x)
+    resting = ready-machine number core.pool ready'
+
+    good : is_machine core.code m
+    good = keeps core.code resting.0 m (copied resting.0 resting.1) (good-rests (find number core.pool.members) refl)
+      where
+        good-rests : (o : Option (Member M)) → find number core.pool.members ≡ o → is_machine core.code resting.0
+        good-rests None e = absurd (none-some (sym (ap (option_map (λ (x : Member M). x.machine)) e) ∙ resting.1))
+          where
+            none-some : ◌≡◌ {A = Option M} None (Some resting.0) → ⊥
+            none-some h = cc
+        good-rests (Some x) e =
+            let same-one : x.machine ≡ resting.0 = ap (λ (o : Option M). unwrap_or o resting.0) (sym (ap (option_map (λ (y : Member M). y.machine)) e) ∙ resting.1) in
+            subst (is_machine core.code) same-one
+            (find_passes (IsAtRest is_machine stage core.code) number core.pool.members whole.members x e).machine
+
+    pub on-after : IsOn program devices value_of is_machine stage after seat m
+    on-after = subst (λ (x : Core C V M). IsOn program devices value_of is_machine stage x seat m) (sym after-is)
+        (begun-on program devices is_value value_of is_machine stage core whole seat number within' idle' ready' left'
+        resting.0 resting.1 m (sym (shows core.code resting.0 m (copied resting.0 resting.1))) good)
+
+    pub runs-after : CanRun (stage core.code m)
+    runs-after = begun-runs program devices is_value value_of is_machine stage core whole seat number within' idle' ready' left'
+        resting.0 resting.1 m (sym (shows core.code resting.0 m (copied resting.0 resting.1)))

@@ -1,0 +1,180 @@
+-- The reads of a seat are checked.
+use Rattle.std.proofs.Common.{◌≡◌, ℕ, zero, suc, ◌+◌, ◌<◌, false, List, [], ◌∷◌, ◌++◌, map, get_or, length, Option, Some, None, option_map, IsSomeAnd, refl, sym, ap, ◌∙◌, subst, arith}
+use Rattle.std.specs.Prelude.{slice_get, slice_set, unwrap_or}
+use Rattle.std.proofs.lemmas.Option.{slice_get-map}
+use Rattle.std.proofs.lemmas.List.Elements.{All-weaker}
+use Rattle.ame_term.specs.Tree.{Val, Tree}
+use Rattle.ame_term.specs.Frame.{Side, side_told}
+use Rattle.ame_store.specs.declared.cell.Cell.{Cell}
+use Rattle.ame_rows.specs.declared.notes.ReadNote.{ReadNote}
+use Rattle.ame_rows.specs.Valid.{IsValidAt, IsValidRead, IsValid}
+use Rattle.ame_journal.specs.declared.entry.Entry.{Entry}
+use Rattle.ame_local.specs.Local.{LocalState, local}
+use Rattle.ame_desk.specs.Contents.{Notes, row_at}
+use Rattle.ame_owed.specs.Shown.{shown_cell}
+use Rattle.ame_owed.specs.SeatRun.{HasUsed, AreValid}
+use Rattle.ame_runner.specs.Stage.{Stage, running_side}
+use Rattle.ame_stands.specs.declared.types.Attempt.{Attempt}
+use Rattle.ame_stands.specs.declared.types.Reason.{Reason}
+use Rattle.ame_stands.specs.declared.types.Task.{Task}
+use Rattle.ame_stands.specs.Parts.{Parts, heap_in, task_at, term_at, run_in}
+use Rattle.ame_stands.specs.Stands.{Stands}
+use Rattle.ame_stands.specs.Events.{has_checked}
+use Rattle.ame_stands.proofs.ShownDeskLemmas.{row-shown}
+use Rattle.ame_stands.proofs.DeskEvents.{desk-valid}
+use Rattle.ame_stands.proofs.TurnLemmas.{checked_stands, turned_back}
+use Rattle.ame_stands.proofs.ToldLemmas.{stopped_stands}
+use Rattle.ame_engine.specs.declared.stop.Stop.{Stop}
+use Rattle.ame_engine.specs.Core.{Core}
+use Rattle.ame_engine.specs.Seen.{parts_of, Makes}
+use Rattle.ame_engine.specs.Whole.{IsWhole}
+use Rattle.ame_engine.specs.AtWork.{working, IsOnSeat, IsOn}
+use Rattle.ame_engine.proofs.ReadLemmas.{place-by, runs-as}
+
+-- Valid reads are so at the shown cells.
+
+module _ {V : Type 0} (view : V → Val) (cells : List (Cell V)) (seat : ℕ) where
+  valid-by : (n : ℕ) (o : Option (Cell V)) → IsSomeAnd o (IsValidAt seat n) → IsSomeAnd (option_map (shown_cell view) o) (IsValidAt seat n)
+  valid-by n None h = h
+  valid-by n (Some cell) h = record { unowned = h.unowned; live = h.live; same = h.same }
+
+  valid-one : (note : ReadNote) → IsValidRead cells seat note → IsValidRead (map (shown_cell view) cells) seat note
+  valid-one note h =
+      subst (λ (o : Option (Cell Val)). IsSomeAnd o (IsValidAt seat note.number)) (sym (slice_get-map (shown_cell view) cells note.loc.0))
+      (valid-by note.number (slice_get cells note.loc.0) h)
+
+  pub valid-shown : (reads : List ReadNote) → IsValid cells seat reads → IsValid (map (shown_cell view) cells) seat reads
+  valid-shown reads h = All-weaker (IsValidRead cells seat) (IsValidRead (map (shown_cell view) cells) seat) valid-one reads h
+
+working-within : (tasks : List Task) (seat : ℕ) (a : Attempt) → working (task_at tasks seat) ≡ Some a → seat < length tasks
+working-within [] seat a e = cc
+working-within (t ∷ tasks) zero a e = omega arith
+working-within (t ∷ tasks) (suc seat) a e = let rest = working-within tasks seat a e in omega arith
+
+task-read : (tasks : List Task) (seat : ℕ) (t : Task) → seat < length tasks → t ≡ get_or tasks seat t → task_at tasks seat ≡ t
+task-read [] seat t within e = absurd (omega (arith, within))
+task-read (x ∷ tasks) zero t within e = sym e
+task-read (x ∷ tasks) (suc seat) t within e = task-read tasks seat t (omega (arith, within)) e
+
+-- the task of a seat that has an attempt at work, by what is in its place
+pub its-task : {C V M : Type 0} (core now : Core C V M) → core ≡ now → (seat : ℕ) (held : Attempt) → working (task_at now.tasks seat) ≡ Some held
+    → (t : Task) (a : Attempt) → t ≡ get_or core.tasks seat t → t ≡ Task.Running a → task_at core.tasks seat ≡ Task.Running a
+its-task {C} {V} {M} core now view seat held has t a e f =
+    task-read core.tasks seat t
+    (working-within core.tasks seat held (subst (λ (x : Core C V M). working (task_at x.tasks seat) ≡ Some held) (sym view) has)) e ∙ f
+
+-- where the run has used all inputs
+has-used : (parts : Parts) (seat : ℕ) (s : Stage) (on : IsOnSeat parts seat s) → s.inside ≡ false
+    → (p : LocalState) × HasUsed (run_in parts seat on.attempt.tried.number) s.steps p
+has-used parts seat s on outside =
+    let start = term_at parts.pool on.attempt.tried.number in
+    let inputs = (row_at parts.desk.rows seat).inputs in
+    let place = place-by (local (running_side s) start inputs s.steps) s on.run in
+    (place.0, record { ran = subst (λ (x : Side). local x start inputs s.steps ≡ Some place.0) (ap side_told outside) place.1; used = place.3 })
+
+module _ {C V M : Type 0} (program : C → Tree) (devices : C → ℕ) (is_value : C → V → Type 0) (value_of : C → V → Val)
+    (is_machine : C → M → Type 0) (stage : C → M → Stage) where
+  -- a stop is kept
+  pub whole-stopped : (core : Core C V M) (why : Stop) → IsWhole program devices is_value value_of is_machine stage core
+      → IsWhole program devices is_value value_of is_machine stage (record core { stop = Some why })
+  whole-stopped core why whole = record {
+    stands = stopped_stands (parts_of program devices value_of stage core) whole.stands;
+    limits = whole.limits;
+    desk = whole.desk;
+    members = whole.members;
+  }
+
+  module _ (core now : Core C V M) (view : core ≡ now) (whole : IsWhole program devices is_value value_of is_machine stage core) (seat : ℕ) (m : M)
+      (on : IsOn program devices value_of is_machine stage now seat m) (outside : (stage now.code m).inside ≡ false)
+      (left : now.turns < now.limits.turns) (attempt : Attempt) (is : task_at core.tasks seat ≡ Task.Running attempt) where
+    abbrev parts : Parts
+    parts = parts_of program devices value_of stage core
+
+    left' : core.turns < core.limits.turns
+    left' = subst (λ (x : Core C V M). x.turns < x.limits.turns) (sym view) left
+
+    its-attempt : (a : Attempt) → task_at now.tasks seat ≡ Task.Running a → attempt ≡ a
+    its-attempt a e =
+        ap (λ (t : Task). unwrap_or (working t) attempt) (sym is ∙ subst (λ (x : Core C V M). task_at x.tasks seat ≡ Task.Running a) (sym view) e)
+
+    -- it turns back
+    abbrev after-bad : Core C V M
+    after-bad = record core { tasks = slice_set core.tasks seat (Task.Undoing attempt Reason.RolledBack); turns = core.turns + 1 }
+
+    pub whole-back : IsWhole program devices is_value value_of is_machine stage after-bad
+    whole-back = record {
+      stands = turned_back parts whole.stands seat attempt is left';
+      limits = whole.limits;
+      desk = whole.desk;
+      members = whole.members;
+    }
+
+    -- or its row is valid
+    module _ (full : (stage now.code m).since ≡ now.limits.slice) (steps : ℕ) (steps_are : steps ≡ (stage now.code m).steps)
+        (valid : IsValid core.desk.cells seat (row_at core.desk.rows seat).reads) (later : Attempt) (base entries : List Entry)
+        (later_is : later ≡ record attempt { tried = record attempt.tried { at = length (base ++ entries); steps = steps } })
+        (base_is : base ≡ core.base) (entries_are : entries ≡ core.entries) where
+      abbrev s : Stage
+      s = stage core.code m
+
+      on' : IsOnSeat parts seat s
+      on' = subst (λ (x : Core C V M). IsOnSeat (parts_of program devices value_of stage x) seat (stage x.code m)) (sym view) on.stands
+
+      outside' : s.inside ≡ false
+      outside' = subst (λ (x : Core C V M). (stage x.code m).inside ≡ false) (sym view) outside
+
+      full' : s.since ≡ core.limits.slice
+      full' = subst (λ (x : Core C V M). (stage x.code m).since ≡ x.limits.slice) (sym view) full
+
+      steps-are : steps ≡ s.steps
+      steps-are = subst (λ (x : Core C V M). steps ≡ (stage x.code m).steps) (sym view) steps_are
+
+      one-attempt : on'.attempt ≡ attempt
+      one-attempt = ap (λ (t : Task). unwrap_or (working t) attempt) (sym (runs-as parts seat s on' outside') ∙ is)
+
+      used : (p : LocalState) × HasUsed (run_in parts seat attempt.tried.number) s.steps p
+      used = subst (λ (a : Attempt). (p : LocalState) × HasUsed (run_in parts seat a.tried.number) s.steps p) one-attempt (has-used parts seat s on' outside')
+
+      since : s.steps ≡ s.since + attempt.tried.steps
+      since = subst (λ (a : Attempt). s.steps ≡ s.since + a.tried.steps) one-attempt on'.since
+
+      are-valid : AreValid (heap_in parts) seat (run_in parts seat attempt.tried.number).reads
+      are-valid =
+          desk-valid parts.desk seat (row_at parts.desk.rows seat).reads
+          (subst (IsValid parts.desk.cells seat) (sym (ap (λ (n : Notes Val). n.reads) (row-shown (value_of core.code) core.desk.rows seat)))
+          (valid-shown (value_of core.code) core.desk.cells seat (row_at core.desk.rows seat).reads valid))
+
+      checked-core : Stands (has_checked seat s.steps attempt parts)
+      checked-core =
+          checked_stands parts whole.stands seat attempt is left' s.steps used.0 used.1
+          (let a = whole.limits.some_slice in let b = since in let d = full' in omega arith)
+          (let b = since in let d = full' in omega arith) are-valid
+
+      later-with : List Entry → ℕ → Attempt
+      later-with all n = record attempt { tried = record attempt.tried { at = length all; steps = n } }
+
+      later-so : later ≡ later-with (core.base ++ core.entries) s.steps
+      unfolding later-with
+      later-so =
+          later_is ∙ ap (λ (xs : List Entry). later-with (xs ++ entries) steps) base_is
+          ∙ ap (λ (xs : List Entry). later-with (core.base ++ xs) steps) entries_are ∙ ap (later-with (core.base ++ core.entries)) steps-are
+
+      with-later : Attempt → Core C V M
+      with-later a = record core { tasks = slice_set core.tasks seat (Task.Running a); turns = core.turns + 1 }
+
+      abbrev after-valid : Core C V M
+      after-valid = record core { tasks = slice_set core.tasks seat (Task.Running later); turns = core.turns + 1 }
+
+      parts-valid : parts_of program devices value_of stage after-valid ≡ has_checked seat s.steps attempt parts
+      unfolding with-later later-with
+      parts-valid = ap (λ (a : Attempt). parts_of program devices value_of stage (with-later a)) later-so
+
+      pub whole-valid : IsWhole program devices is_value value_of is_machine stage after-valid
+      whole-valid = record { stands = subst Stands (sym parts-valid) checked-core; limits = whole.limits; desk = whole.desk; members = whole.members }
+
+      pub makes-valid : (a : Attempt) → task_at now.tasks seat ≡ Task.Running a
+          → Makes program devices value_of stage (has_checked seat (stage now.code m).steps a) now after-valid
+      makes-valid a e =
+          subst (λ (x : Attempt). Makes program devices value_of stage (has_checked seat (stage now.code m).steps x) now after-valid) (its-attempt a e)
+          (subst (λ (x : Core C V M). Makes program devices value_of stage (has_checked seat (stage x.code m).steps attempt) x after-valid) view
+          (record { code = refl; parts = parts-valid }))

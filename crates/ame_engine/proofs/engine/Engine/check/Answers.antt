@@ -1,0 +1,34 @@
+use Rattle.std.proofs.Common.{rules, ◌≡◌}
+use Rattle.ame_rows.specs.Valid.{IsValid}
+use Rattle.ame_desk.specs.Contents.{row_at}
+use Rattle.ame_stands.specs.declared.types.Task.{Task}
+use Rattle.ame_stands.specs.Parts.{task_at}
+use Rattle.ame_engine.proofs.CheckLemmas.{its-task, whole-back, whole-valid, makes-valid}
+use Rattle.ame_engine.proofs.engine.Engine.check.Goals as goal
+
+pub invariant_of-self : goal.invariant_of-self
+invariant_of-self g c =
+    let is : task_at c.self.inside.tasks.items c.args.seat ≡ Task.Running c.in-Running.attempt =
+    its-task _ c.args.self.now c.self.view_is c.args.seat c.requires.on.stands.attempt c.requires.on.stands.has _ c.in-Running.attempt c.index.ensures c.in-Running.is in
+    let valid : IsValid c.self.inside.desk.cells c.args.seat (row_at c.self.inside.desk.rows c.args.seat).reads = search rules in
+    whole-valid g.M.Runner.program g.M.Runner.devices g.M.Runner.is_value g.M.Runner.value_of g.M.Runner.is_machine g.M.Runner.stage
+    _ c.args.self.now c.self.view_is c.self.invariant c.args.seat c.args.at.now c.requires.on c.requires.outside c.requires.left c.in-Running.attempt is
+    c.requires.full c.steps-steps.result (c.steps-steps.ensures c.args.self.now.code) valid c.checked_attempt-later.result _ _ c.checked_attempt-later.ensures
+    c.entries.ensures.entries c.entries-in-None.ensures.entries
+
+pub invariant_of-self-in-Some : goal.invariant_of-self-in-Some
+invariant_of-self-in-Some g c =
+    let is : task_at c.self.inside.tasks.items c.args.seat ≡ Task.Running c.in-Running.attempt =
+    its-task _ c.args.self.now c.self.view_is c.args.seat c.requires.on.stands.attempt c.requires.on.stands.has _ c.in-Running.attempt c.index.ensures c.in-Running.is in
+    whole-back g.M.Runner.program g.M.Runner.devices g.M.Runner.is_value g.M.Runner.value_of g.M.Runner.is_machine g.M.Runner.stage
+    _ c.args.self.now c.self.view_is c.self.invariant c.args.seat c.args.at.now c.requires.on c.requires.outside c.requires.left c.in-Running.attempt is
+
+pub returns-in-None-clause-valid : goal.returns-in-None-clause-valid
+returns-in-None-clause-valid g c =
+    let is : task_at c.self.inside.tasks.items c.args.seat ≡ Task.Running c.in-Running.attempt =
+    its-task _ c.args.self.now c.self.view_is c.args.seat c.requires.on.stands.attempt c.requires.on.stands.has _ c.in-Running.attempt c.index.ensures c.in-Running.is in
+    let valid : IsValid c.self.inside.desk.cells c.args.seat (row_at c.self.inside.desk.rows c.args.seat).reads = search rules in
+    (λ attempt task _. makes-valid g.M.Runner.program g.M.Runner.devices g.M.Runner.is_value g.M.Runner.value_of g.M.Runner.is_machine g.M.Runner.stage
+    _ c.args.self.now c.self.view_is c.self.invariant c.args.seat c.args.at.now c.requires.on c.requires.outside c.requires.left c.in-Running.attempt is
+    c.requires.full c.steps-steps.result (c.steps-steps.ensures c.args.self.now.code) valid c.checked_attempt-later.result _ _ c.checked_attempt-later.ensures
+    c.entries.ensures.entries c.entries-in-None.ensures.entries attempt task)

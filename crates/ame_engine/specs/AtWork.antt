@@ -1,0 +1,44 @@
+-- A machine that is where the run of a seat stands.
+use Rattle.std.specs.Prelude.{◌≡◌, ℕ, ◌+◌, Bool, true, false, Option, Some, None}
+use Rattle.ame_term.specs.Tree.{Val, Tree}
+use Rattle.ame_term.specs.declared.types.Loc.{Loc}
+use Rattle.ame_desk.specs.Contents.{row_at}
+use Rattle.ame_runner.specs.declared.wants.Wants.TheVariants as wants
+use Rattle.ame_runner.specs.Stage.{Stage, OnRun}
+use Rattle.ame_stands.specs.declared.types.Attempt.{Attempt}
+use Rattle.ame_stands.specs.declared.types.Task.{Task}
+use Rattle.ame_stands.specs.Parts.{Parts, task_at, term_at}
+use Rattle.ame_engine.specs.Core.{Core}
+use Rattle.ame_engine.specs.Seen.{parts_of}
+
+-- the attempt of a seat that runs code
+abbrev pub working : Task → Option Attempt
+working (Task.Running attempt) = Some attempt
+working (Task.Free attempt) = Some attempt
+working _ = None
+
+-- whether a task is that of unprotected code
+abbrev pub is_free : Task → Bool
+is_free (Task.Free attempt) = true
+is_free _ = false
+
+-- A stage is where the run of this seat's member has used all inputs; it counts the steps from the last valid check on.
+pub record IsOnSeat (parts : Parts) (seat : ℕ) (s : Stage) : Type 0 where
+  pub attempt : Attempt
+  pub has : working (task_at parts.tasks seat) ≡ Some attempt
+  pub side : s.inside ≡ is_free (task_at parts.tasks seat)
+  pub run : OnRun (term_at parts.pool attempt.tried.number) (row_at parts.desk.rows seat).inputs s
+  pub since : s.steps ≡ s.since + attempt.tried.steps
+
+-- protected code has come to a read
+pub record IsReading (s : Stage) : Type 0 where
+  pub l : Loc
+  pub wants : s.want ≡ Some (wants.Read l)
+  pub outside : s.inside ≡ false
+
+module _ {C V M : Type 0} (program : C → Tree) (devices : C → ℕ) (value_of : C → V → Val) (is_machine : C → M → Type 0)
+    (stage : C → M → Stage) where
+  -- a machine of the code is there
+  pub record IsOn (core : Core C V M) (seat : ℕ) (m : M) : Type 0 where
+    pub machine : is_machine core.code m
+    pub stands : IsOnSeat (parts_of program devices value_of stage core) seat (stage core.code m)

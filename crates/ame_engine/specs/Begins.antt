@@ -1,0 +1,54 @@
+-- What a seat meets that begins.
+use Rattle.std.specs.Prelude.{ℕ, ◌+◌, Bool, true, false, nat_lt, ◌++◌, length, slice_set, is_some, if◌then◌else◌}
+use Rattle.ame_pool.specs.declared.oldest.Oldest.{Oldest}
+use Rattle.ame_pool.specs.Begin.{oldest}
+use Rattle.ame_pool.specs.Calls.{held}
+use Rattle.ame_pool.specs.Keeps.{is_inside_at}
+use Rattle.ame_stands.specs.declared.types.Attempt.{Attempt}
+use Rattle.ame_stands.specs.Events.{begun_task}
+use Rattle.ame_engine.specs.declared.answer.Begin.{Begin}
+use Rattle.ame_engine.specs.declared.answer.Begin.TheVariants as answer
+use Rattle.ame_engine.specs.declared.chance.Chance.{Chance}
+use Rattle.ame_engine.specs.Core.{Core}
+
+-- where members are left: the turns may be used up, or none may begin
+abbrev pub chance_left : Bool → Oldest → Chance
+chance_left true oldest = Chance.Spent
+chance_left false (Oldest.Member number) = Chance.Member number
+chance_left false _ = Chance.Idle
+
+-- where no stop is kept: no member is left, or all are parked
+abbrev pub chance_by : Bool → Oldest → Chance
+chance_by spent Oldest.Empty = Chance.Finished
+chance_by spent Oldest.Parked = Chance.Blocked
+chance_by spent oldest = chance_left spent oldest
+
+module _ {C V M : Type 0} where
+  -- the first of these that is met: a kept stop, no member, all members parked, no turn left, none may begin, or the oldest that may
+  abbrev pub chance_of : Core C V M → Chance
+  chance_of core =
+      if is_some core.stop then Chance.Stopped else chance_by (if nat_lt core.turns core.limits.turns then false else true) (oldest core.pool)
+
+  -- an attempt of a member that begins now
+  abbrev pub attempt_now : ℕ → Core C V M → Attempt
+  attempt_now number core =
+      record { tried = record { number = number; at = length (core.base ++ core.entries); steps = 0 }; told = false }
+
+  -- a seat begins a member
+  abbrev pub begun_by : ℕ → ℕ → Core C V M → Core C V M
+  begun_by seat number core = record core {
+    tasks = slice_set core.tasks seat (begun_task (is_inside_at core.pool.members number) (attempt_now number core));
+    pool = held number core.pool;
+    turns = core.turns + 1;
+  }
+
+module _ {M : Type 0} (begins : ℕ → M → Type 0) (stays : Type 0) where
+  -- an answer is that of what the seat met; where it begins a member the first fact is so, and else the second
+  abbrev pub Answers : Chance → Begin M → Type 0
+  Answers (Chance.Member number) (answer.Begun m) = begins number m
+  Answers Chance.Idle answer.Idle = stays
+  Answers Chance.Stopped answer.Stopped = stays
+  Answers Chance.Finished answer.Finished = stays
+  Answers Chance.Blocked answer.Blocked = stays
+  Answers Chance.Spent answer.Spent = stays
+  Answers _ _ = ⊥

@@ -1,0 +1,26 @@
+-- What contracts see of an engine.
+use Rattle.std.specs.Prelude.{ℕ, ℤ, List, Option}
+use Rattle.ame_journal.specs.declared.entry.Entry.{Entry}
+use Rattle.ame_pool.specs.Roster.{Roster}
+use Rattle.ame_desk.specs.Contents.{Contents}
+use Rattle.ame_stands.specs.declared.types.Limits.{Limits}
+use Rattle.ame_stands.specs.declared.types.Tried.{Tried}
+use Rattle.ame_stands.specs.declared.types.Task.{Task}
+use Rattle.ame_engine.specs.declared.stop.Stop.{Stop}
+
+-- The code, the limits and the entries from which it was opened stay. The rest are the journal, the desk with its cells and
+-- the logs of each seat, what each seat is at, the members with their machines, the output, the next member's number, the
+-- events that counted, the tries that left no entry, and the stop that is kept.
+pub record Core (C V M : Type 0) : Type 0 where
+  pub code : C
+  pub limits : Limits
+  pub base : List Entry
+  pub entries : List Entry
+  pub desk : Contents V
+  pub tasks : List Task
+  pub pool : Roster M
+  pub output : List ℤ
+  pub next : ℕ
+  pub turns : ℕ
+  pub tried : List Tried
+  pub stop : Option Stop

@@ -1,0 +1,6 @@
+pub mod Core
+pub mod Seen
+pub mod Whole
+pub mod AtWork
+pub mod Begins
+pub mod Stops

@@ -1,0 +1,35 @@
+-- The parts of an engine as plain data, by what its code's values and machines stand for.
+use Rattle.std.specs.Prelude.{◌≡◌, ℕ, is_some}
+use Rattle.ame_term.specs.Tree.{Val, Tree}
+use Rattle.ame_runner.specs.Stage.{Stage}
+use Rattle.ame_stands.specs.Parts.{Parts}
+use Rattle.ame_stands.specs.Shown.{shown_desk, shown_pool}
+use Rattle.ame_engine.specs.Core.{Core}
+
+-- the term for which a machine stands
+abbrev pub term_of : {C M : Type 0} → (C → M → Stage) → C → M → Tree
+term_of stage code m = (stage code m).term
+
+module _ {C V M : Type 0} (program : C → Tree) (devices : C → ℕ) (value_of : C → V → Val) (stage : C → M → Stage) where
+  -- the plain parts
+  abbrev pub parts_of : Core C V M → Parts
+  parts_of core = record {
+    program = program core.code;
+    devices = devices core.code;
+    limits = core.limits;
+    base = core.base;
+    entries = core.entries;
+    desk = shown_desk (value_of core.code) core.desk;
+    tasks = core.tasks;
+    pool = shown_pool (term_of stage core.code) core.pool;
+    output = core.output;
+    next = core.next;
+    turns = core.turns;
+    tried = core.tried;
+    stopped = is_some core.stop;
+  }
+
+  -- An event: the code stays, and the plain parts become what it makes of them.
+  pub record Makes (event : Parts → Parts) (old new : Core C V M) : Type 0 where
+    pub code : new.code ≡ old.code
+    pub parts : parts_of new ≡ event (parts_of old)

@@ -1,0 +1,8 @@
+-- How an engine stops.
+use Rattle.std.specs.Prelude.{Some, unwrap_or}
+use Rattle.ame_engine.specs.declared.stop.Stop.{Stop}
+use Rattle.ame_engine.specs.Core.{Core}
+
+-- the first stop stays
+abbrev pub stopped_by : {C V M : Type 0} → Stop → Core C V M → Core C V M
+stopped_by why core = record core { stop = Some (unwrap_or core.stop why) }

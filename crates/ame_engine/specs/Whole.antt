@@ -1,0 +1,57 @@
+-- What each engine keeps.
+use Rattle.std.specs.Prelude.{◌≡◌, ℕ, ◌≤◌, Bool, All}
+use Rattle.ame_term.specs.Tree.{Val, Tree}
+use Rattle.ame_rows.specs.declared.notes.Undo.{Undo}
+use Rattle.ame_rows.specs.declared.notes.Undo.TheVariants.{Wrote, Made}
+use Rattle.ame_pool.specs.declared.member.Member.{Member}
+use Rattle.ame_desk.specs.Contents.{Notes, Contents}
+use Rattle.ame_runner.specs.Stage.{Stage, starting_at}
+use Rattle.ame_stands.specs.declared.types.Limits.{Limits}
+use Rattle.ame_stands.specs.Stands.{Stands}
+use Rattle.ame_engine.specs.Core.{Core}
+use Rattle.ame_engine.specs.Seen.{parts_of}
+
+-- the limits of an engine
+pub record IsInRange (limits : Limits) : Type 0 where
+  pub some_turns : 1 ≤ limits.turns
+  pub turns : limits.turns ≤ 4000000
+  pub some_slice : 1 ≤ limits.slice
+  pub slice : limits.slice ≤ 1000
+  pub some_seats : 1 ≤ limits.seats
+  pub seats : limits.seats ≤ 32
+
+module _ {V : Type 0} (IsGood : V → Type 0) where
+  -- each value that an entry would put back is good
+  abbrev pub IsGoodUndo : Undo V → Type 0
+  IsGoodUndo (Wrote l number old) = IsGood old
+  IsGoodUndo (Made l) = Unit {0}
+
+  -- each value of the logs
+  pub record AreGoodNotes (notes : Notes V) : Type 0 where
+    pub inputs : All IsGood notes.inputs
+    pub undos : All IsGoodUndo notes.undos
+
+  -- each value at a desk
+  pub record IsGoodDesk (desk : Contents V) : Type 0 where
+    pub cells : All (λ cell. IsGood cell.value) desk.cells
+    pub rows : All AreGoodNotes desk.rows
+
+-- a machine that has made no step, and holds nothing back
+abbrev pub resting_at : Tree → Bool → Stage
+resting_at term inside = record (starting_at term) { inside = inside }
+
+module _ {C M : Type 0} (is_machine : C → M → Type 0) (stage : C → M → Stage) where
+  -- a member's machine is one of the code, and rests
+  pub record IsAtRest (code : C) (m : Member M) : Type 0 where
+    pub machine : is_machine code m.machine
+    pub rests : stage code m.machine ≡ resting_at (stage code m.machine).term m.inside
+
+module _ {C V M : Type 0} (program : C → Tree) (devices : C → ℕ) (is_value : C → V → Type 0) (value_of : C → V → Val)
+    (is_machine : C → M → Type 0) (stage : C → M → Stage) where
+  -- The plain parts stand for the state to which the journal leads, the limits are in range, each value at the desk is one of
+  -- the code, and the members' machines are at rest.
+  pub record IsWhole (core : Core C V M) : Type 0 where
+    pub stands : Stands (parts_of program devices value_of stage core)
+    pub limits : IsInRange core.limits
+    pub desk : IsGoodDesk (is_value core.code) core.desk
+    pub members : All (IsAtRest is_machine stage core.code) core.pool.members

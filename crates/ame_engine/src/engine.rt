@@ -1,0 +1,190 @@
+//! The engine.
+
+ghost use Rattle.std.specs.Prelude.{◌≡◌, ◌<◌, length, slice_get, option_copied, Some};
+ghost use Rattle.ame_desk.specs.Committed.{committed as committed_at};
+ghost use Rattle.ame_stands.specs.Parts.{task_at};
+
+use crate::stop::Stop;
+use ame_desk::Desk;
+use ame_journal::{Entry, Journal};
+use ame_pool::Pool;
+use ame_runner::Runner;
+use ame_stands::{Limits, Task, Tried};
+use ame_store::Cell;
+use ame_term::Loc;
+use std::marker::Model;
+use std::sync::Arc;
+
+mod begin;
+mod check;
+mod read;
+mod start;
+mod stop;
+
+/// The engine that seats share: cells that they write in place, with what each would undo; the members and their machines;
+/// and the journal of what was committed. A seat's own machine is not in it, so that seats can run beside each other.
+pub struct Engine<M: Runner>
+where
+    M::Code: Drop,
+{
+    code: Arc<M::Code>,
+    limits: Limits,
+    base: Journal,
+    journal: Journal,
+    desk: Desk<M::Value>,
+    tasks: Vec<Task>,
+    pool: Pool<M>,
+    output: Vec<i64>,
+    next: u64,
+    turns: u32,
+    tried: Vec<Tried>,
+    stop: Option<Stop>,
+}
+
+impl<M: Runner> Drop for Engine<M>
+where
+    M::Code: Drop,
+{
+    fn drop(self) {
+        let Engine {
+            code: _,
+            limits: _,
+            base: _,
+            journal: _,
+            desk: _,
+            tasks: _,
+            pool: _,
+            output: _,
+            next: _,
+            turns: _,
+            tried: _,
+            stop: _,
+        } = self;
+    }
+}
+
+impl<M: Runner> Model for Engine<M>
+where
+    M::Code: Drop,
+{
+    ghost use Rattle.std.specs.Arc.{arc_value};
+    ghost use Rattle.ame_engine.specs.Core.{Core};
+
+    ghost Value = { Core M.Code M.Value M };
+
+    ghost use Rattle.ame_engine.specs.Whole.{IsWhole};
+
+    ghost view = { λ e. record {
+      code = arc_value e.code;
+      limits = e.limits;
+      base = e.base.entries;
+      entries = e.journal.entries;
+      desk = e.desk;
+      tasks = e.tasks.items;
+      pool = e.pool;
+      output = e.output.items;
+      next = e.next;
+      turns = e.turns;
+      tried = e.tried.items;
+      stop = e.stop;
+    } };
+
+    ghost invariant = { λ e. IsWhole M.program M.devices M.is_value M.value_of M.is_machine M.stage (record {
+      code = arc_value e.code;
+      limits = e.limits;
+      base = e.base.entries;
+      entries = e.journal.entries;
+      desk = e.desk;
+      tasks = e.tasks.items;
+      pool = e.pool;
+      output = e.output.items;
+      next = e.next;
+      turns = e.turns;
+      tried = e.tried.items;
+      stop = e.stop;
+    }) };
+}
+
+impl<M: Runner> Engine<M>
+where
+    M::Code: Drop,
+{
+    /// The limits.
+    pub fn limits(&self) -> &Limits
+        ensures { result.now ≡ self.now.limits }
+    {
+        &self.limits
+    }
+
+    /// The events that counted.
+    pub fn turns(&self) -> u32
+        ensures { result ≡ self.now.turns }
+    {
+        self.turns
+    }
+
+    /// The stop that is kept.
+    pub fn stopped(&self) -> Option<Stop>
+        ensures { result ≡ self.now.stop }
+    {
+        self.stop
+    }
+
+    /// The entries from which it was opened.
+    pub fn base(&self) -> &[Entry]
+        ensures { result.now ≡ self.now.base }
+    {
+        self.base.entries()
+    }
+
+    /// The entries that it added.
+    pub fn journal(&self) -> &[Entry]
+        ensures { result.now ≡ self.now.entries }
+    {
+        self.journal.entries()
+    }
+
+    /// What was printed by what was committed.
+    pub fn output(&self) -> &[i64]
+        ensures { result.now ≡ self.now.output }
+    {
+        self.output.as_slice()
+    }
+
+    /// The tries that left no entry.
+    pub fn tried(&self) -> &[Tried]
+        ensures { result.now ≡ self.now.tried }
+    {
+        self.tried.as_slice()
+    }
+
+    /// What a seat is at.
+    pub fn task(&self, seat: u32) -> Task
+        requires { seat < self.now.limits.seats }
+        ensures { result ≡ task_at self.now.tasks seat }
+    {
+        self.tasks[seat as usize]
+    }
+
+    /// The number of cells.
+    pub fn cells(&self) -> u32
+        ensures { result ≡ length self.now.desk.cells }
+    {
+        self.desk.cells().len()
+    }
+
+    /// The cell at a location.
+    pub fn cell(&self, l: Loc) -> &Cell<M::Value>
+        requires { l.0 < length self.now.desk.cells }
+        ensures { Some result.now ≡ slice_get self.now.desk.cells l.0 }
+    {
+        self.desk.cells().cell(l)
+    }
+
+    /// The committed value of a location: where a seat owns the cell, the one that it found there.
+    pub fn committed(&self, l: Loc) -> Option<&M::Value>
+        ensures { option_copied result ≡ committed_at self.now.desk l.0 }
+    {
+        self.desk.committed(l)
+    }
+}

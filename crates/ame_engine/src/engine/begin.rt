@@ -1,0 +1,137 @@
+//! How a seat begins a member.
+
+ghost use Rattle.std.specs.Prelude.{◌≡◌, ◌<◌, ◌++◌, ℕ, false, length, IfOk, OnOk, OnErr};
+ghost use Rattle.std.specs.Option.{ForSome};
+ghost use Rattle.ame_pool.specs.Members.{is_ready};
+ghost use Rattle.ame_pool.specs.Calls.{IsAt, held, machine_of};
+ghost use Rattle.ame_pool.specs.Keeps.{is_inside_at};
+ghost use Rattle.ame_runner.specs.Sound.{CanRun};
+ghost use Rattle.ame_stands.specs.Parts.{task_at};
+ghost use Rattle.ame_stands.specs.Events.{begun_task as task_begun, has_begun};
+ghost use Rattle.ame_engine.specs.Seen.{Makes};
+ghost use Rattle.ame_engine.specs.AtWork.{IsOn};
+ghost use Rattle.ame_engine.specs.Begins.{chance_of, Answers};
+
+use super::Engine;
+use crate::answer::Begin;
+use crate::chance::{Chance, chance_by};
+use ame_journal::Entry;
+use ame_pool::Pool;
+use ame_runner::Runner;
+use ame_stands::{Attempt, Task, Tried};
+use ame_term::NoMemory;
+use std::alloc::Global;
+
+/// An attempt of a member that begins after these entries.
+fn attempt_now(number: u64, base: &[Entry], entries: &[Entry]) -> Attempt
+    ensures { result ≡ record { tried = record { number = number; at = length (base.now ++ entries.now); steps = 0 }; told = false } }
+{
+    Attempt {
+        tried: Tried {
+            number,
+            at: base.len() as u64 + entries.len() as u64,
+            steps: 0,
+        },
+        told: false,
+    }
+}
+
+/// The task of a seat that begins a member, which is inside or not.
+fn begun_task(inside: bool, attempt: Attempt) -> Task
+    ensures { result ≡ task_begun inside attempt }
+{
+    if inside {
+        Task::Free(attempt)
+    } else {
+        Task::Running(attempt)
+    }
+}
+
+/// Whether a member is inside.
+fn is_inside<M: Drop>(pool: &Pool<M>, number: u64) -> bool
+    ensures { result ≡ is_inside_at pool.now.members number }
+{
+    match pool.inside(number) {
+        Some(inside) => inside,
+        None => false,
+    }
+}
+
+/// A ready member is busy.
+fn hold<M: Drop>(pool: &mut Pool<M>, number: u64)
+    requires { IsAt is_ready number pool.old }
+    ensures { pool.new ≡ held number pool.old }
+{
+    pool.hold(number);
+}
+
+/// A copy of a ready member's machine.
+fn copy_machine<M: Runner>(alloc: Global, pool: &Pool<M>, number: u64) -> Result<M, NoMemory>
+    requires { IsAt is_ready number pool.now }
+    ensures { IfOk result (λ m. ForSome (machine_of number pool.now) (λ resting. M.same resting m)) }
+{
+    match pool.machine(number) {
+        Some(resting) => resting.copy(alloc),
+        None => Err(NoMemory),
+    }
+}
+
+impl<M: Runner> Engine<M>
+where
+    M::Code: Drop,
+{
+    /// What a seat would meet that begins now.
+    fn chance(&self) -> Chance
+        ensures chance { result ≡ chance_of self.now }
+        ensures ready { (number : ℕ) → result ≡ Chance.Member number → IsAt is_ready number self.now.pool }
+        ensures left { (number : ℕ) → result ≡ Chance.Member number → self.now.turns < self.now.limits.turns }
+    {
+        if self.stop.is_some() {
+            return Chance::Stopped;
+        }
+        chance_by(self.turns >= self.limits.turns, self.pool.oldest())
+    }
+
+    /// A seat begins a ready member, and runs a copy of its machine.
+    fn begin_member(&mut self, seat: u32, number: u64) -> Result<M, NoMemory>
+        requires seat { seat < self.old.limits.seats }
+        requires idle { task_at self.old.tasks seat ≡ Task.Idle }
+        requires ready { IsAt is_ready number self.old.pool }
+        requires left { self.old.turns < self.old.limits.turns }
+        ensures event { OnOk result (Makes M.program M.devices M.value_of M.stage (has_begun seat number) self.old self.new) }
+        ensures machine { IfOk result (IsOn M.program M.devices M.value_of M.is_machine M.stage self.new seat) }
+        ensures runs { IfOk result (λ m. CanRun (M.stage self.new.code m)) }
+        ensures err { OnErr result (self.new ≡ self.old) }
+    {
+        let machine = copy_machine(*self.tasks.allocator(), &self.pool, number)?;
+        let attempt = attempt_now(number, self.base.entries(), self.journal.entries());
+        let task = begun_task(is_inside(&self.pool, number), attempt);
+        hold(&mut self.pool, number);
+        self.tasks[seat as usize] = task;
+        self.turns += 1;
+        Ok(machine)
+    }
+
+    /// A seat begins the oldest ready member that may begin, and runs the machine that it is given. A turn is counted where a
+    /// member begins. Takes memory for the copy of a machine.
+    pub fn begin(&mut self, seat: u32) -> Result<Begin<M>, NoMemory>
+        requires seat { seat < self.old.limits.seats }
+        requires idle { task_at self.old.tasks seat ≡ Task.Idle }
+        ensures answer { IfOk result (Answers (λ number m. Makes M.program M.devices M.value_of M.stage (has_begun seat number) self.old self.new
+            × IsOn M.program M.devices M.value_of M.is_machine M.stage self.new seat m × CanRun (M.stage self.new.code m))
+            (self.new ≡ self.old) (chance_of self.old)) }
+        ensures err { OnErr result (self.new ≡ self.old) }
+    {
+        match self.chance() {
+            Chance::Member(number) => {
+                let machine = self.begin_member(seat, number)?;
+                Ok(Begin::Begun(machine))
+            }
+            Chance::Idle => Ok(Begin::Idle),
+            Chance::Stopped => Ok(Begin::Stopped),
+            Chance::Finished => Ok(Begin::Finished),
+            Chance::Blocked => Ok(Begin::Blocked),
+            Chance::Spent => Ok(Begin::Spent),
+        }
+    }
+}

@@ -1,0 +1,74 @@
+//! How the reads of a seat are checked.
+
+ghost use Rattle.std.specs.Prelude.{◌≡◌, ◌<◌, ◌++◌, ◌↔◌, length, false};
+ghost use Rattle.ame_rows.specs.declared.notes.Bad.{Bad};
+ghost use Rattle.ame_rows.specs.Valid.{IsValid, IsFirstBad};
+ghost use Rattle.ame_desk.specs.Contents.{row_at};
+ghost use Rattle.ame_stands.specs.declared.types.Attempt.{Attempt};
+ghost use Rattle.ame_stands.specs.Parts.{task_at};
+ghost use Rattle.ame_stands.specs.Events.{has_checked, has_turned_back};
+ghost use Rattle.ame_engine.specs.Seen.{Makes};
+ghost use Rattle.ame_engine.specs.AtWork.{IsOn};
+
+use super::Engine;
+use crate::answer::Checked;
+use ame_journal::Entry;
+use ame_runner::Runner;
+use ame_stands::{Attempt, Reason, Task, Tried};
+
+/// An attempt whose row was found valid after so many steps and these entries.
+fn checked_attempt(attempt: Attempt, steps: u64, base: &[Entry], entries: &[Entry]) -> Attempt
+    ensures { result ≡ record attempt { tried = record attempt.tried { at = length (base.now ++ entries.now); steps = steps } } }
+{
+    Attempt {
+        tried: Tried {
+            number: attempt.tried.number,
+            at: base.len() as u64 + entries.len() as u64,
+            steps,
+        },
+        told: attempt.told,
+    }
+}
+
+impl<M: Runner> Engine<M>
+where
+    M::Code: Drop,
+{
+    /// Whether each read of a seat that runs protected code is valid, once its machine has made a slice of steps. The seat keeps
+    /// the steps and the number of entries where it is; else it turns back. Counts a turn, and takes no memory.
+    pub fn check(&mut self, seat: u32, at: &M) -> Checked
+        requires on { IsOn M.program M.devices M.value_of M.is_machine M.stage self.old seat at.now }
+        requires outside { (M.stage self.old.code at.now).inside ≡ false }
+        requires full { (M.stage self.old.code at.now).since ≡ self.old.limits.slice }
+        requires left { self.old.turns < self.old.limits.turns }
+        ensures valid { (attempt : Attempt) → task_at self.old.tasks seat ≡ Task.Running attempt → result ≡ Checked.Valid
+            → Makes M.program M.devices M.value_of M.stage (has_checked seat (M.stage self.old.code at.now).steps attempt) self.old self.new }
+        ensures back { (attempt : Attempt) (bad : Bad) → task_at self.old.tasks seat ≡ Task.Running attempt → result ≡ Checked.Invalid bad
+            → Makes M.program M.devices M.value_of M.stage (has_turned_back seat attempt) self.old self.new }
+        ensures exact { (result ≡ Checked.Valid) ↔ IsValid self.old.desk.cells seat (row_at self.old.desk.rows seat).reads }
+        ensures bad { (bad : Bad) → result ≡ Checked.Invalid bad → IsFirstBad self.old.desk.cells seat (row_at self.old.desk.rows seat).reads bad }
+    {
+        let Task::Running(attempt) = self.tasks[seat as usize] else {
+            unreachable!();
+        };
+        let steps = at.steps();
+        match self.desk.valid(seat) {
+            None => {
+                let later = checked_attempt(
+                    attempt,
+                    steps,
+                    self.base.entries(),
+                    self.journal.entries(),
+                );
+                self.tasks[seat as usize] = Task::Running(later);
+                self.turns += 1;
+                Checked::Valid
+            }
+            Some(bad) => {
+                self.tasks[seat as usize] = Task::Undoing(attempt, Reason::RolledBack);
+                self.turns += 1;
+                Checked::Invalid(bad)
+            }
+        }
+    }
+}

@@ -1,0 +1,43 @@
+//! How a seat reads.
+
+ghost use Rattle.std.specs.Prelude.{◌≡◌, ◌<◌, IfOk, OnOk, OnErr, Some, false};
+ghost use Rattle.ame_term.specs.declared.types.Loc.{Loc};
+ghost use Rattle.ame_owed.specs.Heap.{cell_at};
+ghost use Rattle.ame_runner.specs.declared.wants.Wants.{Wants};
+ghost use Rattle.ame_runner.specs.Stage.{Stage};
+ghost use Rattle.ame_runner.specs.Sound.{CanRun};
+ghost use Rattle.ame_stands.specs.Parts.{heap_in};
+ghost use Rattle.ame_stands.specs.Events.{has_read};
+ghost use Rattle.ame_engine.specs.Seen.{parts_of, Makes};
+ghost use Rattle.ame_engine.specs.AtWork.{IsOn, IsOnSeat, IsReading};
+
+use super::Engine;
+use ame_runner::{Runner, Wants};
+use ame_term::NoMemory;
+
+impl<M: Runner> Engine<M>
+where
+    M::Code: Drop,
+{
+    /// The value in place where the machine of a seat wants to read, whoever owns the cell. A cell that the seat doesn't own
+    /// is logged with its number. Counts a turn. Takes memory for the logs and the copy of a value.
+    pub fn read(&mut self, seat: u32, at: &M) -> Result<M::Value, NoMemory>
+        requires on { IsOn M.program M.devices M.value_of M.is_machine M.stage self.old seat at.now }
+        requires reads { IsReading (M.stage self.old.code at.now) }
+        requires left { self.old.turns < self.old.limits.turns }
+        ensures event { (l : Loc) → (M.stage self.old.code at.now).want ≡ Some (Wants.Read l)
+            → OnOk result (Makes M.program M.devices M.value_of M.stage (has_read seat l) self.old self.new) }
+        ensures value { (l : Loc) → (M.stage self.old.code at.now).want ≡ Some (Wants.Read l) → IfOk result (λ value.
+            M.value_of self.old.code value ≡ (cell_at (heap_in (parts_of M.program M.devices M.value_of M.stage self.old)) l.0).value) }
+        ensures good { IfOk result (M.is_value self.old.code) }
+        ensures runs { OnOk result ((s : Stage) → IsOnSeat (parts_of M.program M.devices M.value_of M.stage self.new) seat s → s.inside ≡ false → CanRun s) }
+        ensures err { OnErr result (self.new ≡ self.old) }
+    {
+        let Some(Wants::Read(l)) = at.want() else {
+            unreachable!();
+        };
+        let value = self.desk.read(seat, l)?;
+        self.turns += 1;
+        Ok(value)
+    }
+}

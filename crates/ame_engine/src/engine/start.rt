@@ -1,0 +1,63 @@
+//! How an engine starts.
+
+ghost use Rattle.std.specs.Prelude.{◌≡◌, IfOk, replicate};
+ghost use Rattle.std.specs.Arc.{arc_value};
+ghost use Rattle.ame_stands.specs.Events.{started};
+ghost use Rattle.ame_engine.specs.Seen.{parts_of};
+ghost use Rattle.ame_engine.specs.Whole.{IsInRange};
+
+use super::Engine;
+use ame_desk::Desk;
+use ame_journal::Journal;
+use ame_pool::Pool;
+use ame_runner::Runner;
+use ame_stands::{Limits, Task};
+use ame_store::Store;
+use ame_term::NoMemory;
+use std::alloc::Global;
+use std::sync::Arc;
+
+/// So many seats that are idle.
+fn idle_tasks(alloc: Global, seats: u32) -> Result<Vec<Task>, NoMemory>
+    ensures { IfOk result (λ tasks. tasks.items ≡ replicate seats Task.Idle) }
+{
+    let mut tasks = Vec::new(alloc);
+    for _ in 0..seats {
+        tasks.push(Task::Idle)?;
+    }
+    Ok(tasks)
+}
+
+impl<M: Runner> Engine<M>
+where
+    M::Code: Drop,
+{
+    /// An engine whose one member is the program at its beginning. Nothing is committed, and all seats are idle.
+    pub fn start(alloc: Global, code: Arc<M::Code>, limits: Limits) -> Result<Engine<M>, NoMemory>
+        requires { IsInRange limits }
+        ensures code { IfOk result (λ engine. engine.code ≡ arc_value code) }
+        ensures parts { IfOk result (λ engine. parts_of M.program M.devices M.value_of M.stage engine
+            ≡ started (M.program (arc_value code)) (M.devices (arc_value code)) limits 0) }
+    {
+        let machine = M::start(alloc, &code)?;
+        let desk = Desk::new(alloc, Store::new(alloc), limits.seats)?;
+        let tasks = idle_tasks(alloc, limits.seats)?;
+        let mut pool = Pool::new(alloc);
+        pool.room(1)?;
+        pool.add(0, machine, false);
+        Ok(Engine {
+            code,
+            limits,
+            base: Journal::new(alloc),
+            journal: Journal::new(alloc),
+            desk,
+            tasks,
+            pool,
+            output: Vec::new(alloc),
+            next: 1,
+            turns: 0,
+            tried: Vec::new(alloc),
+            stop: None,
+        })
+    }
+}

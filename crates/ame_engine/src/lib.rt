@@ -1,0 +1,11 @@
+//! The speculating engine for many seats.
+#![tactic(auto)]
+
+mod answer;
+mod chance;
+mod engine;
+mod stop;
+
+pub use answer::{Begin, Checked};
+pub use engine::Engine;
+pub use stop::Stop;

@@ -21,7 +21,7 @@ use Rattle.ame_stands.proofs.StepLemmas.{task_here}
 use Rattle.ame_stands.proofs.HomeLemmas.{begun_stands}
 use Rattle.ame_engine.specs.Core.{Core}
 use Rattle.ame_stands.specs.Shown.{shown_pool}
-use Rattle.ame_engine.specs.Seen.{parts_of, term_of, Makes}
+use Rattle.ame_engine.specs.Seen.{parts_of, term_shown, Makes}
 use Rattle.ame_engine.specs.Whole.{resting_at, IsAtRest, IsWhole}
 use Rattle.ame_engine.specs.AtWork.{IsOn}
 use Rattle.ame_engine.specs.Begins.{chance_by, attempt_now, begun_by}
@@ -45,9 +45,9 @@ module _ {C V M : Type 0} (program : C → Tree) (devices : C → ℕ) (is_value
       → parts_of program devices value_of stage (begun_by seat number core) ≡ has_begun seat number (parts_of program devices value_of stage core)
   unfolding parts-with
   begun-parts seat number core =
-      let pool = shown_pool (term_of stage core.code) core.pool in
-      ap (parts-with seat number core (is_inside_at core.pool.members number)) (held-shown (term_of stage core.code) number core.pool)
-      ∙ ap (λ b. parts-with seat number core b (held number pool)) (sym (inside-same (term_of stage core.code) number core.pool))
+      let pool = shown_pool (term_shown stage core.code) core.pool in
+      ap (parts-with seat number core (is_inside_at core.pool.members number)) (held-shown (term_shown stage core.code) number core.pool)
+      ∙ ap (λ b. parts-with seat number core b (held number pool)) (sym (inside-same (term_shown stage core.code) number core.pool))
 
   module _ (core : Core C V M) (whole : IsWhole program devices is_value value_of is_machine stage core) (seat number : ℕ)
       (within : seat < core.limits.seats) (idle : task_at core.tasks seat ≡ Task.Idle) (ready : IsAt is_ready number core.pool)
@@ -55,7 +55,7 @@ module _ {C V M : Type 0} (program : C → Tree) (devices : C → ℕ) (is_value
     pub begun-stands : Stands (has_begun seat number (parts_of program devices value_of stage core))
     begun-stands =
         begun_stands (parts_of program devices value_of stage core) whole.stands seat number idle within
-        (ready-same (term_of stage core.code) number core.pool ready) left
+        (ready-same (term_shown stage core.code) number core.pool ready) left
 
     pub begun-whole : IsWhole program devices is_value value_of is_machine stage (begun_by seat number core)
     begun-whole = record {
@@ -88,11 +88,11 @@ module _ {C V M : Type 0} (program : C → Tree) (devices : C → ℕ) (is_value
       same-machine None = refl
       same-machine (Some m) = refl
 
-      begun-starts : term_at (shown_pool (term_of stage core.code) (held number core.pool)) number ≡ (stage core.code held_machine).term
+      begun-starts : term_at (shown_pool (term_shown stage core.code) (held number core.pool)) number ≡ (stage core.code held_machine).term
       begun-starts =
           ap (λ (o : Option Tree). unwrap_or o unit_tree)
-          (machine-shown (term_of stage core.code) number (held number core.pool)
-          ∙ ap (option_map (term_of stage core.code))
+          (machine-shown (term_shown stage core.code) number (held number core.pool)
+          ∙ ap (option_map (term_shown stage core.code))
           (ap (option_map (λ (m : Member M). m.machine)) (found_altered number begun (λ m. refl) core.pool.members).here
           ∙ same-machine (find number core.pool.members) ∙ found))
 
@@ -118,8 +118,8 @@ module _ {C V M : Type 0} (program : C → Tree) (devices : C → ℕ) (is_value
       begun-runs m same =
           subst CanRun (sym (same ∙ rest-by (find number core.pool.members) refl))
           (rest-runs (parts_of program devices value_of stage core) whole.stands number (stage core.code held_machine).term (is_inside_at core.pool.members number)
-          (machine-shown (term_of stage core.code) number core.pool ∙ ap (option_map (term_of stage core.code)) found)
-          (inside-same (term_of stage core.code) number core.pool))
+          (machine-shown (term_shown stage core.code) number core.pool ∙ ap (option_map (term_shown stage core.code)) found)
+          (inside-same (term_shown stage core.code) number core.pool))
 
 -- what a seat meets that may begin a member
 pub chance_member : (spent : Bool) (o : Oldest) (n : ℕ) → chance_by spent o ≡ Chance.Member n → (spent ≡ false) × (o ≡ Oldest.Member n)

@@ -20,7 +20,7 @@ use Rattle.ame_stands.specs.Events.{started}
 use Rattle.ame_stands.proofs.StartLemmas.{started_stands}
 use Rattle.ame_engine.specs.Core.{Core}
 use Rattle.ame_engine.specs.Seen.{parts_of}
-use Rattle.ame_engine.specs.Whole.{IsInRange, AreGoodNotes, IsGoodUndo, IsAtRest, IsWhole}
+use Rattle.ame_engine.specs.Whole.{AreLimits, AreGoodNotes, IsGoodUndo, IsAtRest, IsWhole}
 
 rows-shown : {V : Type 0} (view : V → Val) (n : ℕ) → map (shown_notes view) (replicate n no_notes) ≡ replicate n no_notes
 rows-shown view zero = refl
@@ -57,7 +57,7 @@ module _ {C V M : Type 0} (program : C → Tree) (devices : C → ℕ) (is_value
         ap (λ term. parts-with term (map (shown_notes (value_of code)) (replicate limits.seats no_notes))) (ap (λ (s : Stage). s.term) rests)
         ∙ ap (parts-with (program code)) (rows-shown (value_of code) limits.seats)
 
-    module _ (in_range : IsInRange limits) (good : is_machine code machine) (accepted : IsAccepted (devices code) (program code)) where
+    module _ (in_range : AreLimits limits) (good : is_machine code machine) (accepted : IsAccepted (devices code) (program code)) where
       started-whole : IsWhole program devices is_value value_of is_machine stage started_with
       started-whole = record {
         stands = subst Stands (sym started-parts) (started_stands (program code) (devices code) limits 0 accepted.places accepted.refs accepted.accepts accepted.source);

@@ -7,8 +7,8 @@ use Rattle.ame_stands.specs.Shown.{shown_desk, shown_pool}
 use Rattle.ame_engine.specs.Core.{Core}
 
 -- the term for which a machine stands
-abbrev pub term_of : {C M : Type 0} → (C → M → Stage) → C → M → Tree
-term_of stage code m = (stage code m).term
+abbrev pub term_shown : {C M : Type 0} → (C → M → Stage) → C → M → Tree
+term_shown stage code m = (stage code m).term
 
 module _ {C V M : Type 0} (program : C → Tree) (devices : C → ℕ) (value_of : C → V → Val) (stage : C → M → Stage) where
   -- the plain parts
@@ -21,7 +21,7 @@ module _ {C V M : Type 0} (program : C → Tree) (devices : C → ℕ) (value_of
     entries = core.entries;
     desk = shown_desk (value_of core.code) core.desk;
     tasks = core.tasks;
-    pool = shown_pool (term_of stage core.code) core.pool;
+    pool = shown_pool (term_shown stage core.code) core.pool;
     output = core.output;
     next = core.next;
     turns = core.turns;

@@ -12,7 +12,7 @@ use Rattle.ame_engine.specs.Core.{Core}
 use Rattle.ame_engine.specs.Seen.{parts_of}
 
 -- the limits of an engine
-pub record IsInRange (limits : Limits) : Type 0 where
+pub record AreLimits (limits : Limits) : Type 0 where
   pub some_turns : 1 ≤ limits.turns
   pub turns : limits.turns ≤ 4000000
   pub some_slice : 1 ≤ limits.slice
@@ -52,6 +52,6 @@ module _ {C V M : Type 0} (program : C → Tree) (devices : C → ℕ) (is_value
   -- the code, and the members' machines are at rest.
   pub record IsWhole (core : Core C V M) : Type 0 where
     pub stands : Stands (parts_of program devices value_of stage core)
-    pub limits : IsInRange core.limits
+    pub limits : AreLimits core.limits
     pub desk : IsGoodDesk (is_value core.code) core.desk
     pub members : All (IsAtRest is_machine stage core.code) core.pool.members

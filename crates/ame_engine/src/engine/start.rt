@@ -4,7 +4,7 @@ ghost use Rattle.std.specs.Prelude.{◌≡◌, IfOk, replicate};
 ghost use Rattle.std.specs.Arc.{arc_value};
 ghost use Rattle.ame_stands.specs.Events.{started};
 ghost use Rattle.ame_engine.specs.Seen.{parts_of};
-ghost use Rattle.ame_engine.specs.Whole.{IsInRange};
+ghost use Rattle.ame_engine.specs.Whole.{AreLimits};
 
 use super::Engine;
 use ame_desk::Desk;
@@ -34,7 +34,7 @@ where
 {
     /// An engine whose one member is the program at its beginning. Nothing is committed, and all seats are idle.
     pub fn start(alloc: Global, code: Arc<M::Code>, limits: Limits) -> Result<Engine<M>, NoMemory>
-        requires { IsInRange limits }
+        requires { AreLimits limits }
         ensures code { IfOk result (λ engine. engine.code ≡ arc_value code) }
         ensures parts { IfOk result (λ engine. parts_of M.program M.devices M.value_of M.stage engine
             ≡ started (M.program (arc_value code)) (M.devices (arc_value code)) limits 0) }

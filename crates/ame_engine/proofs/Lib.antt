@@ -6,3 +6,4 @@ pub mod RunLemmas
 pub mod BeginLemmas
 pub mod ReadingLemmas
 pub mod CheckLemmas
+pub mod WriteLemmas

@@ -18,6 +18,7 @@ use Rattle.ame_owed.specs.Heap.{no_cell, cell_at, IsCell}
 use Rattle.ame_owed.specs.SeatRun.{ComesTo}
 use Rattle.ame_runner.specs.Stage.{Stage, place_shown, running_side, without_footprint, with_answer}
 use Rattle.ame_runner.specs.Need.{Need, need_of}
+use Rattle.ame_runner.specs.Comes.{HasNextAct}
 use Rattle.ame_runner.proofs.NeedLemmas.{comes_as}
 use Rattle.ame_stands.specs.declared.types.Attempt.{Attempt}
 use Rattle.ame_stands.specs.declared.types.Task.{Task}
@@ -72,15 +73,14 @@ running-attempt (Task.Undoing b reason) a e free = cc
 pub runs-as : (parts : Parts) (seat : ℕ) (s : Stage) (on : IsOnSeat parts seat s) → s.inside ≡ false → task_at parts.tasks seat ≡ Task.Running on.attempt
 runs-as parts seat s on outside = running-attempt (task_at parts.tasks seat) on.attempt on.has (sym on.side ∙ outside)
 
--- where the run has come to a read
-pub comes-to-read : (parts : Parts) (seat : ℕ) (s : Stage) (on : IsOnSeat parts seat s) (l : ℕ) → s.inside ≡ false → Need.Read l ≡ need_of s
-    → (p : LocalState) × ComesTo (run_in parts seat on.attempt.tried.number) (Act.Reads l) s.steps p
-comes-to-read parts seat s on l outside need =
+-- where the run has come to an act
+pub comes-to : (parts : Parts) (seat : ℕ) (s : Stage) (on : IsOnSeat parts seat s) (act : Act) → s.inside ≡ false → HasNextAct s act
+    → (p : LocalState) × ComesTo (run_in parts seat on.attempt.tried.number) act s.steps p
+comes-to parts seat s on act outside there =
     let start = term_at parts.pool on.attempt.tried.number in
     let inputs = (row_at parts.desk.rows seat).inputs in
     let place = place-by (local (running_side s) start inputs s.steps) s on.run in
-    let side : running_side s ≡ Side.Protected = ap side_told outside in
-    let there = comes_as s (Need.Read l) need in (
+    let side : running_side s ≡ Side.Protected = ap side_told outside in (
       place.0,
       record {
         place = record { ran = subst (λ (x : Side). local x start inputs s.steps ≡ Some place.0) side place.1; used = place.3 };
@@ -103,7 +103,7 @@ module _ {C V M : Type 0} (program : C → Tree) (devices : C → ℕ) (is_value
     parts = parts_of program devices value_of stage core
 
     comes : (p : LocalState) × ComesTo (run_in parts seat on.attempt.tried.number) (Act.Reads l.0) (stage core.code m).steps p
-    comes = comes-to-read parts seat (stage core.code m) on l.0 outside need
+    comes = comes-to parts seat (stage core.code m) on (Act.Reads l.0) outside (comes_as (stage core.code m) (Need.Read l.0) need)
 
     task : task_at parts.tasks seat ≡ Task.Running on.attempt
     task = runs-as parts seat (stage core.code m) on outside

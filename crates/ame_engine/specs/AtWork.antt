@@ -36,6 +36,12 @@ pub record IsReading (s : Stage) : Type 0 where
   pub wants : s.want ≡ Some (wants.Read l)
   pub outside : s.inside ≡ false
 
+-- or to a write
+pub record IsWriting (s : Stage) : Type 0 where
+  pub l : Loc
+  pub wants : s.want ≡ Some (wants.Write l)
+  pub outside : s.inside ≡ false
+
 module _ {C V M : Type 0} (program : C → Tree) (devices : C → ℕ) (value_of : C → V → Val) (is_machine : C → M → Type 0)
     (stage : C → M → Stage) where
   -- a machine of the code is there

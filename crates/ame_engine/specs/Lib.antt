@@ -4,3 +4,4 @@ pub mod Whole
 pub mod AtWork
 pub mod Begins
 pub mod Stops
+pub mod Writing

@@ -27,3 +27,12 @@ pub enum Checked {
     /// This read is the first that isn't.
     Invalid(Bad),
 }
+
+/// What a write answers.
+#[derive(Clone, Copy, PartialEq, Eq, Debug)]
+pub enum Wrote {
+    /// The value is in place.
+    Wrote,
+    /// This other seat owns the cell, and the seat turns back.
+    Conflict(u32),
+}

@@ -20,6 +20,7 @@ mod check;
 mod read;
 mod start;
 mod stop;
+mod write;
 
 /// The engine that seats share: cells that they write in place, with what each would undo; the members and their machines;
 /// and the journal of what was committed. A seat's own machine is not in it, so that seats can run beside each other.

@@ -6,6 +6,6 @@ mod chance;
 mod engine;
 mod stop;
 
-pub use answer::{Begin, Checked};
+pub use answer::{Begin, Checked, Wrote};
 pub use engine::Engine;
 pub use stop::Stop;

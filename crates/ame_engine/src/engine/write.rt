@@ -1,0 +1,75 @@
+//! How a seat writes.
+
+ghost use Rattle.std.specs.Prelude.{◌≡◌, ◌<◌, ℕ, IfOk, OnOk, OnErr, Ok, Some, false};
+ghost use Rattle.ame_term.specs.Tree.{Val};
+ghost use Rattle.ame_term.specs.declared.types.Loc.{Loc};
+ghost use Rattle.ame_owed.specs.Heap.{cell_at};
+ghost use Rattle.ame_runner.specs.declared.wants.Wants.{Wants};
+ghost use Rattle.ame_runner.specs.Stage.{Stage};
+ghost use Rattle.ame_runner.specs.Input.{value_to_set};
+ghost use Rattle.ame_runner.specs.Sound.{CanRun};
+ghost use Rattle.ame_stands.specs.declared.types.Attempt.{Attempt};
+ghost use Rattle.ame_stands.specs.Parts.{heap_in, task_at};
+ghost use Rattle.ame_stands.specs.Events.{has_written, has_turned_back};
+ghost use Rattle.ame_engine.specs.Seen.{parts_of, Makes};
+ghost use Rattle.ame_engine.specs.AtWork.{IsOn, IsOnSeat, IsWriting};
+ghost use Rattle.ame_engine.specs.Writing.{answer_to_write, refused_by};
+
+use super::Engine;
+use crate::answer::Wrote;
+use ame_desk::WriteAnswer;
+use ame_runner::{Runner, Wants};
+use ame_stands::{Reason, Task};
+use ame_term::{Copied, NoMemory};
+
+/// The seat that owns the cell, where a write was refused.
+fn refusal<V: Drop>(answer: WriteAnswer<V>) -> Option<u32>
+    ensures { result ≡ refused_by answer }
+{
+    match answer {
+        WriteAnswer::Done => None,
+        WriteAnswer::Conflict(owner, _) => Some(owner),
+    }
+}
+
+impl<M: Runner> Engine<M>
+where
+    M::Code: Drop,
+{
+    /// Writes in place what the machine of a seat lends, with an entry to undo at the first write of a cell. Where another seat
+    /// owns the cell it is a conflict, and the seat turns back. Counts a turn. Takes memory for the logs and the copy of a value.
+    pub fn write(&mut self, seat: u32, at: &M) -> Result<Wrote, NoMemory>
+        requires on { IsOn M.program M.devices M.value_of M.is_machine M.stage self.old seat at.now }
+        requires writes { IsWriting (M.stage self.old.code at.now) }
+        requires left { self.old.turns < self.old.limits.turns }
+        ensures answer { (l : Loc) → (M.stage self.old.code at.now).want ≡ Some (Wants.Write l) → IfOk result (λ answer.
+            answer ≡ answer_to_write seat (cell_at (heap_in (parts_of M.program M.devices M.value_of M.stage self.old)) l.0).owner) }
+        ensures event { (l : Loc) (v : Val) → (M.stage self.old.code at.now).want ≡ Some (Wants.Write l)
+            → value_to_set (M.stage self.old.code at.now) ≡ Some v → result ≡ Ok Wrote.Wrote
+            → Makes M.program M.devices M.value_of M.stage (has_written seat l v) self.old self.new }
+        ensures back { (attempt : Attempt) (owner : ℕ) → task_at self.old.tasks seat ≡ Task.Running attempt → result ≡ Ok (Wrote.Conflict owner)
+            → Makes M.program M.devices M.value_of M.stage (has_turned_back seat attempt) self.old self.new }
+        ensures runs { OnOk result ((s : Stage) → IsOnSeat (parts_of M.program M.devices M.value_of M.stage self.new) seat s → s.inside ≡ false → CanRun s) }
+        ensures err { OnErr result (self.new ≡ self.old) }
+    {
+        let Some(Wants::Write(l)) = at.want() else {
+            unreachable!();
+        };
+        let Task::Running(attempt) = self.tasks[seat as usize] else {
+            unreachable!();
+        };
+        let value = at.wanted(&self.code).copy(*self.tasks.allocator())?;
+        let written = self.desk.write(seat, l, value, M::unit_value())?;
+        match refusal(written) {
+            None => {
+                self.turns += 1;
+                Ok(Wrote::Wrote)
+            }
+            Some(owner) => {
+                self.tasks[seat as usize] = Task::Undoing(attempt, Reason::RolledBack);
+                self.turns += 1;
+                Ok(Wrote::Conflict(owner))
+            }
+        }
+    }
+}

@@ -8,7 +8,7 @@ use Rattle.ame_pool.specs.Members.{find, is_ready}
 use Rattle.ame_pool.specs.Roster.{Roster}
 use Rattle.ame_pool.specs.Calls.{IsAt, begun, held, machine_of}
 use Rattle.ame_pool.specs.Keeps.{is_inside_at}
-use Rattle.ame_pool.proofs.MemberLemmas.{find_passes, all_altered, found_altered}
+use Rattle.ame_pool.proofs.MemberLemmas.{find_passes, found_altered}
 use Rattle.ame_desk.specs.Contents.{Notes, no_notes, row_at}
 use Rattle.ame_runner.specs.Stage.{Stage}
 use Rattle.ame_stands.specs.declared.types.Attempt.{Attempt}
@@ -30,7 +30,7 @@ use Rattle.ame_pool.specs.declared.oldest.Oldest.{Oldest}
 use Rattle.ame_journal.specs.declared.entry.Entry.{Entry}
 use Rattle.ame_runner.specs.Sound.{CanRun}
 use Rattle.ame_stands.proofs.ShownPoolLemmas.{machine-shown, held-shown}
-use Rattle.ame_engine.proofs.MemberLemmas.{inside-told, ready-machine, inside-same, ready-same}
+use Rattle.ame_engine.proofs.MemberLemmas.{all_altered, inside-told, ready-machine, inside-same, ready-same}
 use Rattle.ame_engine.proofs.WorkLemmas.{on-begun}
 use Rattle.ame_engine.proofs.RunLemmas.{rest-runs}
 

@@ -8,7 +8,7 @@ use Rattle.ame_pool.specs.Members.{find, is_ready}
 use Rattle.ame_pool.specs.Roster.{Roster}
 use Rattle.ame_pool.specs.Calls.{IsAt, begun, held, machine_of}
 use Rattle.ame_pool.specs.Keeps.{is_inside_at}
-use Rattle.ame_pool.proofs.MemberLemmas.{find_passes, all_altered, found_altered}
+use Rattle.ame_pool.proofs.MemberLemmas.{find_passes, found_altered}
 use Rattle.ame_desk.specs.Contents.{Notes, no_notes, row_at}
 use Rattle.ame_runner.specs.Stage.{Stage}
 use Rattle.ame_stands.specs.declared.types.Attempt.{Attempt}
@@ -21,7 +21,7 @@ use Rattle.ame_stands.proofs.StepLemmas.{task_here}
 use Rattle.ame_stands.proofs.HomeLemmas.{begun_stands}
 use Rattle.ame_engine.specs.Core.{Core}
 use Rattle.ame_stands.specs.Shown.{shown_pool}
-use Rattle.ame_engine.specs.Seen.{parts_of, term_shown, Makes}
+use Rattle.ame_engine.specs.Seen.{parts_of, term_shown, MakesEvent}
 use Rattle.ame_engine.specs.Whole.{resting_at, IsAtRest, IsWhole}
 use Rattle.ame_engine.specs.AtWork.{IsOn}
 use Rattle.ame_engine.specs.Begins.{chance_by, attempt_now, begun_by}
@@ -30,7 +30,7 @@ use Rattle.ame_pool.specs.declared.oldest.Oldest.{Oldest}
 use Rattle.ame_journal.specs.declared.entry.Entry.{Entry}
 use Rattle.ame_runner.specs.Sound.{CanRun}
 use Rattle.ame_stands.proofs.ShownPoolLemmas.{machine-shown, held-shown}
-use Rattle.ame_engine.proofs.MemberLemmas.{inside-told, ready-machine, inside-same, ready-same}
+use Rattle.ame_engine.proofs.MemberLemmas.{all_altered, inside-told, ready-machine, inside-same, ready-same}
 use Rattle.ame_engine.proofs.WorkLemmas.{on-begun}
 use Rattle.ame_engine.proofs.RunLemmas.{rest-runs}
 
@@ -66,7 +66,7 @@ module _ {C V M : Type 0} (program : C → Tree) (devices : C → ℕ) (is_value
           (λ m rests. record { machine = rests.machine; rests = rests.rests }) core.pool.members whole.members;
     }
 
-    pub begun-makes : Makes program devices value_of stage (has_begun seat number) core (begun_by seat number core)
+    pub begun-makes : MakesEvent program devices value_of stage (has_begun seat number) core (begun_by seat number core)
     begun-makes = record { code = refl; parts = begun-parts seat number core }
 
     -- the machine of the member that begins
@@ -178,9 +178,9 @@ module _ {C V M : Type 0} (program : C → Tree) (devices : C → ℕ) (is_value
   whole-begun = subst (IsWhole program devices is_value value_of is_machine stage) (sym after-is)
       (begun-whole program devices is_value value_of is_machine stage core whole seat number within' idle' ready' left')
 
-  pub makes-begun : Makes program devices value_of stage (has_begun seat number) now after
-  makes-begun = subst (λ (x : Core C V M). Makes program devices value_of stage (has_begun seat number) x after) view
-      (subst (Makes program devices value_of stage (has_begun seat number) core) (sym after-is)
+  pub makes-begun : MakesEvent program devices value_of stage (has_begun seat number) now after
+  makes-begun = subst (λ (x : Core C V M). MakesEvent program devices value_of stage (has_begun seat number) x after) view
+      (subst (MakesEvent program devices value_of stage (has_begun seat number) core) (sym after-is)
       (begun-makes program devices is_value value_of is_machine stage core whole seat number within' idle' ready' left'))
 
   module _ (m : M) (copied : ForSome (machine_of number core.pool) (λ resting. same resting m)) where

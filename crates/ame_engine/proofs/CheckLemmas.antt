@@ -26,7 +26,7 @@ use Rattle.ame_stands.proofs.TurnLemmas.{checked_stands, turned_back}
 use Rattle.ame_stands.proofs.ToldLemmas.{stopped_stands}
 use Rattle.ame_engine.specs.declared.stop.Stop.{Stop}
 use Rattle.ame_engine.specs.Core.{Core}
-use Rattle.ame_engine.specs.Seen.{parts_of, Makes}
+use Rattle.ame_engine.specs.Seen.{parts_of, MakesEvent}
 use Rattle.ame_engine.specs.Whole.{IsWhole}
 use Rattle.ame_engine.specs.AtWork.{working, IsOnSeat, IsOn}
 use Rattle.ame_engine.proofs.ReadLemmas.{place-by, runs-as}
@@ -173,8 +173,8 @@ module _ {C V M : Type 0} (program : C → Tree) (devices : C → ℕ) (is_value
       whole-valid = record { stands = subst Stands (sym parts-valid) checked-core; limits = whole.limits; desk = whole.desk; members = whole.members }
 
       pub makes-valid : (a : Attempt) → task_at now.tasks seat ≡ Task.Running a
-          → Makes program devices value_of stage (has_checked seat (stage now.code m).steps a) now after-valid
+          → MakesEvent program devices value_of stage (has_checked seat (stage now.code m).steps a) now after-valid
       makes-valid a e =
-          subst (λ (x : Attempt). Makes program devices value_of stage (has_checked seat (stage now.code m).steps x) now after-valid) (its-attempt a e)
-          (subst (λ (x : Core C V M). Makes program devices value_of stage (has_checked seat (stage x.code m).steps attempt) x after-valid) view
+          subst (λ (x : Attempt). MakesEvent program devices value_of stage (has_checked seat (stage now.code m).steps x) now after-valid) (its-attempt a e)
+          (subst (λ (x : Core C V M). MakesEvent program devices value_of stage (has_checked seat (stage x.code m).steps attempt) x after-valid) view
           (record { code = refl; parts = parts-valid }))

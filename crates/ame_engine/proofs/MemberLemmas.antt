@@ -1,9 +1,11 @@
 -- Members of a pool, by the terms for which their machines stand.
-use Rattle.std.proofs.Common.{◌≡◌, ℕ, Bool, false, List, Option, Some, None, IsTrue, IsSomeAnd, option_map, refl, sym, ap, ◌∙◌, subst}
+use Rattle.std.proofs.Common.{◌≡◌, ℕ, ◌==◌, Bool, true, false, cond, List, [], ◌∷◌, Option, Some, None, IsTrue, IsSomeAnd, option_map, refl, sym, ap, ◌∙◌, subst}
 use Rattle.std.specs.Prelude.{unwrap_or}
+use Rattle.std.specs.List.{All}
+use Rattle.std.proofs.lemmas.List.Elements.{All-cons, All-head, All-tail}
 use Rattle.ame_term.specs.Tree.{Tree}
 use Rattle.ame_pool.specs.declared.member.Member.{Member}
-use Rattle.ame_pool.specs.Members.{find, is_ready}
+use Rattle.ame_pool.specs.Members.{find, altered, is_ready}
 use Rattle.ame_pool.specs.Roster.{Roster}
 use Rattle.ame_pool.specs.Calls.{IsAt, machine_of}
 use Rattle.ame_pool.specs.Keeps.{is_inside_at}
@@ -11,6 +13,17 @@ use Rattle.ame_stands.specs.Shown.{shown_member, shown_pool}
 use Rattle.ame_stands.proofs.ShownPoolLemmas.{found-shown, inside-shown}
 
 module _ {M : Type 0} where
+  -- what all members pass, all pass once one is altered, if that one does then
+  pub all_altered : (n : ℕ) (f : Member M → Member M) (P : Member M → Type 0) → ((m : Member M) → P m → P (f m)) → (ms : List (Member M))
+      → All P ms → All P (altered n f ms)
+  all_altered n f P keeps [] all = all
+  all_altered n f P keeps (o ∷ ms) all =
+      let head = All-head P o ms all in let tail = All-tail P o ms all in
+      elim (o.number == n) as (λ b. All P (cond b (f o ∷ ms) (o ∷ altered n f ms))) [
+        | true ↦ All-cons P (f o) ms (keeps o head) tail
+        | false ↦ All-cons P o (altered n f ms) head (all_altered n f P keeps ms tail)
+      ]
+
   -- whether a member is inside, by what is told of it
   pub inside-told : (ms : List (Member M)) (n : ℕ) → is_inside_at ms n ≡ unwrap_or (option_map (λ (m : Member M). m.inside) (find n ms)) false
   inside-told ms n = by (find n ms)

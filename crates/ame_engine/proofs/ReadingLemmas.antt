@@ -17,7 +17,7 @@ use Rattle.ame_runner.specs.Sound.{IsSoundStage, CanRun}
 use Rattle.ame_stands.specs.Parts.{heap_in}
 use Rattle.ame_stands.specs.Events.{has_read}
 use Rattle.ame_engine.specs.Core.{Core}
-use Rattle.ame_engine.specs.Seen.{parts_of, Makes}
+use Rattle.ame_engine.specs.Seen.{parts_of, MakesEvent}
 use Rattle.ame_engine.specs.Whole.{IsWhole}
 use Rattle.ame_engine.specs.AtWork.{IsOnSeat, IsOn}
 use Rattle.ame_engine.proofs.ReadLemmas.{read-within, in-place, read-parts, read-whole}
@@ -75,11 +75,11 @@ module _ {C V M : Type 0} (program : C → Tree) (devices : C → ℕ) (is_value
     whole-read = subst (IsWhole program devices is_value value_of is_machine stage) (sym after-is)
         (read-whole program devices is_value value_of is_machine stage core whole seat m l on' outside' need' left' same shows' (keeps core.code) (row_at desk.rows seat) row)
 
-    pub makes-read : (k : Loc) → (stage now.code m).want ≡ Some (wants.Read k) → Makes program devices value_of stage (has_read seat k) now after
+    pub makes-read : (k : Loc) → (stage now.code m).want ≡ Some (wants.Read k) → MakesEvent program devices value_of stage (has_read seat k) now after
     makes-read k e =
-        subst (λ (x : Loc). Makes program devices value_of stage (has_read seat x) now after) (read-same l k (stage now.code m).want told e)
-        (subst (λ (x : Core C V M). Makes program devices value_of stage (has_read seat l) x after) view
-        (subst (Makes program devices value_of stage (has_read seat l) core) (sym after-is)
+        subst (λ (x : Loc). MakesEvent program devices value_of stage (has_read seat x) now after) (read-same l k (stage now.code m).want told e)
+        (subst (λ (x : Core C V M). MakesEvent program devices value_of stage (has_read seat l) x after) view
+        (subst (MakesEvent program devices value_of stage (has_read seat l) core) (sym after-is)
         (record {
           code = refl;
           parts = read-parts program devices is_value value_of is_machine stage core whole seat m l on' outside' need' left' same shows' (keeps core.code)

@@ -18,7 +18,7 @@ use Rattle.ame_runner.specs.Stage.{Stage}
 use Rattle.ame_runner.specs.Sound.{CanRun}
 use Rattle.ame_runner.proofs.RunnableLemmas.{runs-typed}
 use Rattle.ame_stands.specs.Parts.{Parts, whole_journal, heap_in, term_at}
-use Rattle.ame_stands.specs.Tasks.{Runs, MeetsTask}
+use Rattle.ame_stands.specs.Tasks.{RunsProtected, MeetsTask}
 use Rattle.ame_stands.specs.Stands.{Stands}
 use Rattle.ame_engine.specs.Whole.{resting_at}
 use Rattle.ame_engine.specs.AtWork.{IsOnSeat}
@@ -29,7 +29,7 @@ pub can-run : (parts : Parts) (s : Stands parts) (seat : ℕ) (m : Stage) → Is
 can-run parts s seat m on outside =
     let start = term_at parts.pool on.attempt.tried.number in
     let inputs = (row_at parts.desk.rows seat).inputs in
-    let runs : Runs parts s.types seat on.attempt = subst (MeetsTask parts s.types seat) (runs-as parts seat m on outside) (s.seats seat) in
+    let runs : RunsProtected parts s.types seat on.attempt = subst (MeetsTask parts s.types seat) (runs-as parts seat m on outside) (s.seats seat) in
     let typed = subst (λ (x : Side). IsTypedThroughout parts.devices s.types x start inputs Typ.Unit) (sym (ap side_told outside)) runs.typed.places in
     (parts.devices, s.types, runs-typed parts.devices s.types start inputs m typed on.run (λ inside. absurd (both inside)))
   where

@@ -30,6 +30,6 @@ module _ {C V M : Type 0} (program : C → Tree) (devices : C → ℕ) (value_of
   }
 
   -- An event: the code stays, and the plain parts become what it makes of them.
-  pub record Makes (event : Parts → Parts) (old new : Core C V M) : Type 0 where
+  pub record MakesEvent (event : Parts → Parts) (old new : Core C V M) : Type 0 where
     pub code : new.code ≡ old.code
     pub parts : parts_of new ≡ event (parts_of old)

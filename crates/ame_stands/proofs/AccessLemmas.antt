@@ -33,7 +33,7 @@ use Rattle.ame_stands.specs.declared.types.Attempt.{Attempt}
 use Rattle.ame_stands.specs.declared.types.Task.{Task}
 use Rattle.ame_stands.specs.Logged.{heap_of, logged_run, read_by}
 use Rattle.ame_stands.specs.Parts.{Parts, heap_in, task_at, attempt_of, term_at, run_in}
-use Rattle.ame_stands.specs.Tasks.{Runs, MeetsTask}
+use Rattle.ame_stands.specs.Tasks.{RunsProtected, MeetsTask}
 use Rattle.ame_stands.specs.Stands.{HasFewChanges, Stands}
 use Rattle.ame_stands.specs.Events.{has_read, has_written, has_allocated}
 use Rattle.ame_stands.proofs.DeskLemmas.{desk-committed}
@@ -49,7 +49,7 @@ module _ (parts : Parts) (s : Stands parts) (seat : ℕ) (attempt : Attempt) (ta
   abbrev run : SeatRun
   run = run_in parts seat attempt.tried.number
 
-  pub runs : Runs parts s.types seat attempt
+  pub runs : RunsProtected parts s.types seat attempt
   runs = subst (MeetsTask parts s.types seat) task (s.seats seat)
 
   pub within : seat < length parts.desk.rows
@@ -61,7 +61,7 @@ module _ (parts : Parts) (s : Stands parts) (seat : ℕ) (attempt : Attempt) (ta
       → IsScoped parts.devices types (heap_of desk) seat next → MeetsTask (acted desk parts.tasks turns parts) types seat (task_at parts.tasks seat)
   runs-acted desk turns types next later is owes typed scoped =
       let new = acted desk parts.tasks turns parts in
-      let h : Runs new types seat attempt = record {
+      let h : RunsProtected new types seat attempt = record {
         work = work-on parts new false attempt (goes_on parts desk parts.tasks turns later) (stays_busy parts desk parts.tasks turns attempt.tried.number) runs.work;
         outside = runs.outside;
         owes = subst (Owes (heap_of desk) seat) (sym is) owes;

@@ -27,7 +27,7 @@ use Rattle.ame_stands.specs.declared.types.Reason.{Reason}
 use Rattle.ame_stands.specs.declared.types.Task.{Task}
 use Rattle.ame_stands.specs.Logged.{logged_run}
 use Rattle.ame_stands.specs.Parts.{Parts, whole_journal, heap_in, member_of, run_in}
-use Rattle.ame_stands.specs.Tasks.{is_busy_as, is_noted_for, IsSoundIn, HasAtWork, Runs, Undoes, MeetsTask}
+use Rattle.ame_stands.specs.Tasks.{is_busy_as, is_noted_for, IsSoundIn, HasAtWork, RunsProtected, Undoes, MeetsTask}
 
 -- the engine goes on: what stays of it, and what grows
 pub record GoesOn (old new : Parts) : Type 0 where
@@ -71,7 +71,7 @@ module _ (old new : Parts) (types later : StoreTyping) (seat : ℕ) (on : GoesOn
   run-same : (i : ℕ) → StaysBusy old new i → run_in new seat i ≡ run_in old seat i
   run-same i stays = λ k. logged_run (unwrap_or (stays.machine k) unit_tree) (row k)
 
-  runs-on : (attempt : Attempt) → StaysBusy old new attempt.tried.number → Runs old types seat attempt → Runs new later seat attempt
+  runs-on : (attempt : Attempt) → StaysBusy old new attempt.tried.number → RunsProtected old types seat attempt → RunsProtected new later seat attempt
   runs-on attempt stays h =
       let i = attempt.tried.number in
       let same = run-same i stays in

@@ -47,7 +47,7 @@ use Rattle.ame_stands.specs.declared.types.Attempt.{Attempt}
 use Rattle.ame_stands.specs.declared.types.Task.{Task}
 use Rattle.ame_stands.specs.Logged.{heap_of}
 use Rattle.ame_stands.specs.Parts.{Parts, whole_journal, heap_in, task_at, attempt_of, member_of, term_at, run_in}
-use Rattle.ame_stands.specs.Tasks.{is_busy_as, Runs, MeetsTask}
+use Rattle.ame_stands.specs.Tasks.{is_busy_as, RunsProtected, MeetsTask}
 use Rattle.ame_stands.specs.Stands.{HasFewChanges, Stands}
 use Rattle.ame_stands.specs.Events.{woken_for, with_newcomers, ran_entry, with_commit, has_ended, has_left}
 use Rattle.ame_stands.proofs.DeskLemmas.{desk-committed}
@@ -116,7 +116,7 @@ module _ (parts : Parts) (s : Stands parts) (seat : ℕ) (attempt : Attempt) (ta
   abbrev tasks : List Task
   tasks = set parts.tasks seat Task.Idle
 
-  its-runs : Runs parts s.types seat attempt
+  its-runs : RunsProtected parts s.types seat attempt
   its-runs = runs parts s seat attempt task
 
   in_rows : seat < length parts.desk.rows

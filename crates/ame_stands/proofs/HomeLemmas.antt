@@ -41,7 +41,7 @@ use Rattle.ame_stands.specs.declared.types.Reason.{Reason}
 use Rattle.ame_stands.specs.declared.types.Task.{Task}
 use Rattle.ame_stands.specs.Logged.{heap_of, logged_run}
 use Rattle.ame_stands.specs.Parts.{Parts, whole_journal, heap_in, task_at, attempt_of, member_of, term_at, run_in}
-use Rattle.ame_stands.specs.Tasks.{is_busy_as, is_noted_for, IsSoundIn, HasAtWork, Runs, Visits, Undoes, MeetsTask}
+use Rattle.ame_stands.specs.Tasks.{is_busy_as, is_noted_for, IsSoundIn, HasAtWork, RunsProtected, Visits, Undoes, MeetsTask}
 use Rattle.ame_stands.specs.Stands.{Stands}
 use Rattle.ame_stands.specs.Events.{fresh_attempt, begun_task, has_begun, brought_home, with_try, has_undone, has_gone_home}
 use Rattle.ame_stands.proofs.DeskLemmas.{desk-undo_log}
@@ -374,7 +374,7 @@ module _ (parts : Parts) (seat : ℕ) (attempt : Attempt) where
     undoing_home few = gone_counted parts s seat (has-rows s (ap attempt_of task)) its-undoes.undos attempt reason (ap attempt_of task) its-undoes.work.sound left few
 
   module _ (s : Stands parts) (task : task_at parts.tasks seat ≡ Task.Running attempt) (left : parts.stopped ≡ false → parts.turns < parts.limits.turns) where
-    its-runs : Runs parts s.types seat attempt
+    its-runs : RunsProtected parts s.types seat attempt
     its-runs = subst (MeetsTask parts s.types seat) task (s.seats seat)
 
     pub running_more : 1 < length (row_at parts.desk.rows seat).undos → Stands (has_undone seat attempt Reason.Stopped parts)

@@ -20,7 +20,7 @@ use Rattle.ame_stands.specs.declared.types.Attempt.{Attempt}
 use Rattle.ame_stands.specs.declared.types.Reason.{Reason}
 use Rattle.ame_stands.specs.declared.types.Task.{Task}
 use Rattle.ame_stands.specs.Parts.{Parts, whole_journal, heap_in, task_at, attempt_of, member_of, term_at, run_in}
-use Rattle.ame_stands.specs.Tasks.{HasAtWork, Runs, MeetsTask}
+use Rattle.ame_stands.specs.Tasks.{HasAtWork, RunsProtected, MeetsTask}
 use Rattle.ame_stands.specs.Stands.{Stands}
 use Rattle.ame_stands.specs.Events.{checked_attempt, has_checked, has_turned_back}
 use Rattle.ame_stands.proofs.DeskLemmas.{desk-committed}
@@ -111,7 +111,7 @@ module _ (parts : Parts) (s : Stands parts) (seat : ℕ) (attempt : Attempt) (ta
         own = subst (MeetsTask (acted_on parts.desk (tasks_with next) later parts) s.types seat) (sym (task_here parts.tasks seat next at_seat)) meets;
       })
 
-  its-runs : Runs parts s.types seat attempt
+  its-runs : RunsProtected parts s.types seat attempt
   its-runs = runs parts s seat attempt task
 
   its-work : (tasks : List Task) → HasAtWork (acted_on parts.desk tasks later parts) false attempt

@@ -38,7 +38,7 @@ pub record HasAtWork (parts : Parts) (noted : Bool) (attempt : Attempt) : Type 0
 module _ (parts : Parts) (types : StoreTyping) (seat : ℕ) where
   -- Protected code is run: the member isn't inside, and its run owes what it owes, is typed by all cells and, while its
   -- reads are valid, by what it reaches.
-  pub record Runs (attempt : Attempt) : Type 0 where
+  pub record RunsProtected (attempt : Attempt) : Type 0 where
     pub work : HasAtWork parts false attempt
     pub outside : inside_of attempt.tried.number parts.pool ≡ Some false
     pub owes : Owes (heap_in parts) seat (run_in parts seat attempt.tried.number)
@@ -60,6 +60,6 @@ module _ (parts : Parts) (types : StoreTyping) (seat : ℕ) where
   -- so it is by the task
   abbrev pub MeetsTask : Task → Type 0
   MeetsTask Task.Idle = row_at parts.desk.rows seat ≡ no_notes
-  MeetsTask (Task.Running attempt) = Runs attempt
+  MeetsTask (Task.Running attempt) = RunsProtected attempt
   MeetsTask (Task.Free attempt) = Visits attempt
   MeetsTask (Task.Undoing attempt reason) = Undoes attempt reason

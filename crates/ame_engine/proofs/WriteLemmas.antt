@@ -46,7 +46,7 @@ use Rattle.ame_stands.proofs.ShownDeskLemmas.{write-shown}
 use Rattle.ame_engine.specs.declared.answer.Wrote.{Wrote as Answer}
 use Rattle.ame_engine.specs.declared.answer.Wrote.TheVariants as answer
 use Rattle.ame_engine.specs.Core.{Core}
-use Rattle.ame_engine.specs.Seen.{parts_of, Makes}
+use Rattle.ame_engine.specs.Seen.{parts_of, MakesEvent}
 use Rattle.ame_engine.specs.Whole.{IsGoodUndo, AreGoodNotes, IsGoodDesk, IsWhole}
 use Rattle.ame_engine.specs.AtWork.{IsOnSeat, IsOn}
 use Rattle.ame_engine.specs.Writing.{answer_to_write, refused_by}
@@ -274,14 +274,14 @@ module _ {C V M : Type 0} (program : C → Tree) (devices : C → ℕ) (is_value
       }
 
       pub makes-written : (k : Loc) (v : Val) → (stage now.code m).want ≡ Some (wants.Write k) → value_to_set (stage now.code m) ≡ Some v
-          → Makes program devices value_of stage (has_written seat k v) now after
+          → MakesEvent program devices value_of stage (has_written seat k v) now after
       makes-written k v e set =
           let sets-now : value_to_set (stage now.code m) ≡ Some (value_of core.code value) =
           subst (λ (x : Core C V M). value_to_set (stage x.code m) ≡ Some (value_of core.code value)) view (sets ∙ ap Some (shows core.code lent value copied)) in
           let one : value_of core.code value ≡ v = ap (λ (o : Option Val). unwrap_or o v) (sym sets-now ∙ set) in
-          subst (λ (x : Val). Makes program devices value_of stage (has_written seat k x) now after) one
-          (subst (λ (x : Loc). Makes program devices value_of stage (has_written seat x (value_of core.code value)) now after) (write-same l k (stage now.code m).want wants-it e)
-          (subst (λ (x : Core C V M). Makes program devices value_of stage (has_written seat l (value_of core.code value)) x after) view
+          subst (λ (x : Val). MakesEvent program devices value_of stage (has_written seat k x) now after) one
+          (subst (λ (x : Loc). MakesEvent program devices value_of stage (has_written seat x (value_of core.code value)) now after) (write-same l k (stage now.code m).want wants-it e)
+          (subst (λ (x : Core C V M). MakesEvent program devices value_of stage (has_written seat l (value_of core.code value)) x after) view
           (record { code = refl; parts = parts-written })))
 
       pub runs-written : (t : Stage) → IsOnSeat (parts_of program devices value_of stage after) seat t → t.inside ≡ false → CanRun t
@@ -320,12 +320,12 @@ module _ {C V M : Type 0} (program : C → Tree) (devices : C → ℕ) (is_value
       its-attempt a e =
           ap (λ (t : Task). unwrap_or (attempt_of t) attempt) (sym runs ∙ subst (λ (x : Core C V M). task_at x.tasks seat ≡ Task.Running a) (sym view) e)
 
-      pub makes-conflict : (a : Attempt) → task_at now.tasks seat ≡ Task.Running a → Makes program devices value_of stage (has_turned_back seat a) now after-conflict
+      pub makes-conflict : (a : Attempt) → task_at now.tasks seat ≡ Task.Running a → MakesEvent program devices value_of stage (has_turned_back seat a) now after-conflict
       unfolding with-desk
       makes-conflict a e =
-          subst (λ (x : Attempt). Makes program devices value_of stage (has_turned_back seat x) now after-conflict) (its-attempt a e)
-          (subst (λ (x : Core C V M). Makes program devices value_of stage (has_turned_back seat attempt) x after-conflict) view
-          (subst (λ (d : Contents V). Makes program devices value_of stage (has_turned_back seat attempt) core (with-desk d)) (sym desk-stays)
+          subst (λ (x : Attempt). MakesEvent program devices value_of stage (has_turned_back seat x) now after-conflict) (its-attempt a e)
+          (subst (λ (x : Core C V M). MakesEvent program devices value_of stage (has_turned_back seat attempt) x after-conflict) view
+          (subst (λ (d : Contents V). MakesEvent program devices value_of stage (has_turned_back seat attempt) core (with-desk d)) (sym desk-stays)
           (record { code = refl; parts = refl })))
 
       pub runs-conflict : (t : Stage) → IsOnSeat (parts_of program devices value_of stage after-conflict) seat t → t.inside ≡ false → CanRun t

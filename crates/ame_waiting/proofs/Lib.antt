@@ -1,0 +1,9 @@
+pub mod NotedLemmas
+pub mod WatchLemmas
+pub mod KeepLemmas
+pub mod TaskLemmas
+pub mod UndoLemmas
+pub mod CommitLemmas
+pub mod CertificateLemmas
+pub mod OnceLemmas
+pub mod OnceEvents

@@ -1,0 +1,4 @@
+pub mod Noted
+pub mod Waiting
+pub mod Once
+pub mod Certificates

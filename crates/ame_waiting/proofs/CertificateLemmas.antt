@@ -1,11 +1,13 @@
 -- What waiting members tell: certificates in the state for which the engine stands.
-use Rattle.std.proofs.Common.{◌≡◌, ℕ, zero, suc, ◌==◌, ◌&&◌, ◌⊎◌, inl, inr, Bool, true, false, cond, List, [], ◌∷◌, All, Option, Some, None, refl, sym, ap, ◌∙◌, subst}
+use Rattle.std.proofs.Common.{◌≡◌, ℕ, zero, suc, ◌==◌, ◌&&◌, ◌⊎◌, inl, inr, Bool, true, false, cond, List, [], ◌∷◌, All, Contains, Option, Some, None, refl, sym, ap, ◌∙◌, subst}
 use Rattle.std.specs.List.{list_all}
+use Rattle.std.proofs.lemmas.List.Elements.{All-contains}
 use Rattle.ame_term.specs.Tree.{Tree}
 use Rattle.ame_term.specs.Frame.{Side, side_told}
 use Rattle.ame_term.specs.Context.{focus}
 use Rattle.ame_term.specs.Maps.{at}
 use Rattle.ame_term.specs.State.{State, at_unprotected}
+use Rattle.ame_term.specs.declared.types.Sort.{Sort}
 use Rattle.ame_journal.specs.declared.entry.Entry.{Entry}
 use Rattle.ame_journal.specs.declared.entry.EntryKind.{EntryKind}
 use Rattle.ame_journal.specs.Replayed.{has_such, is_failing, side_at, is_false_condition}
@@ -23,6 +25,7 @@ use Rattle.ame_pool.specs.Roster.{Roster}
 use Rattle.ame_pool.proofs.MemberLemmas.{find_number, all_found}
 use Rattle.ame_local.specs.Told.{TellsRun}
 use Rattle.ame_local.proofs.ReplayLemmas.{IsActiveRun, active_run}
+use Rattle.ame_owed.specs.Heap.{cell_at, IsCell}
 use Rattle.ame_owed.specs.Waiting.{IsWaiting}
 use Rattle.ame_owed.proofs.WaitingLemmas.{waiting-told}
 use Rattle.ame_owed.proofs.CellLemmas.{which}
@@ -125,6 +128,14 @@ pub waiting-certificate : (parts : Parts) (s : Stands parts) → AreWaiting part
     → HasCertificate (whole_journal parts) s.r.state i
 waiting-certificate parts s a i watched e =
     let seat = seat-for parts s i in has-certificate parts s i watched (a.failed i watched e) seat.0 seat.1
+
+-- what a member watches is of protected code
+pub watched-protected : (parts : Parts) → Stands parts → AreWaiting parts → (i : ℕ) (watched : List ℕ) → watched_by i parts.pool ≡ Some watched
+    → (l : ℕ) → Contains watched l → IsCell (heap_in parts) l × ((cell_at (heap_in parts) l).sort ≡ Sort.Protected)
+watched-protected parts s a i watched e l there =
+    let seat = seat-for parts s i in
+    All-contains (λ m. IsCell (heap_in parts) m × ((cell_at (heap_in parts) m).sort ≡ Sort.Protected)) watched l
+    ((a.failed i watched e).waits seat.0 seat.1).sorts there
 
 -- All members are parked
 

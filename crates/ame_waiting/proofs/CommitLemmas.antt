@@ -119,7 +119,7 @@ module _ (parts : Parts) (s : Stands parts) (a : AreWaiting parts) (seat : ℕ) 
                 last = ap (last_stuck i) journal ∙ last-same i entry (whole_journal parts) refl;
                 committed = unwoken-stays ws x.1;
               };
-              its = not-had parts seat number (ap member_of task) its-runs.work.busy i ws x.0;
+              apart = not-had parts seat number (ap member_of task) its-runs.work.busy i ws x.0;
             }) a
 
   pub ended-waiting : IsRising parts.pool.members → AreWaiting (has_ended seat number n p ls parts)

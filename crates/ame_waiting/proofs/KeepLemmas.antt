@@ -1,19 +1,18 @@
 -- Members that wait, under the events of seats that don't have them.
-use Rattle.std.proofs.Common.{◌≡◌, ℕ, suc, ◌≤◌, ◌⊎◌, inl, inr, List, [], ◌∷◌, Contains, Option, Some, None, sym, ap, ◌∙◌, subst, arith}
+use Rattle.std.proofs.Common.{◌≡◌, ℕ, suc, ◌≤◌, ◌⊎◌, inl, inr, List, [], ◌∷◌, Option, Some, None, sym, ap, ◌∙◌, subst, arith}
 use Rattle.std.specs.List.{AllByRecursion}
 use Rattle.ame_term.specs.Tree.{Val}
-use Rattle.ame_pool.specs.Calls.{machine_of}
 use Rattle.ame_store.specs.declared.cell.Cell.{Cell}
 use Rattle.ame_store.specs.Cells.{IsOwnedBy}
 use Rattle.ame_local.specs.Local.{LocalState}
 use Rattle.ame_owed.specs.Heap.{Heap, cell_at}
 use Rattle.ame_owed.specs.SeatRun.{SeatRun}
-use Rattle.ame_owed.specs.Framed.{IsFramed}
 use Rattle.ame_owed.specs.Waiting.{IsGone, IsWaiting}
 use Rattle.ame_owed.proofs.CellLemmas.{which}
 use Rattle.ame_owed.proofs.WaitingLemmas.{waits-on}
-use Rattle.ame_stands.specs.Parts.{Parts, whole_journal, heap_in, task_at, member_of}
-use Rattle.ame_waiting.specs.Waiting.{watched_by, last_stuck, MayHave, HasFailed, AreWaiting}
+use Rattle.ame_stands.specs.Parts.{Parts, heap_in, task_at, member_of}
+use Rattle.ame_waiting.specs.Left.{LeavesOthers, StaysNoted, HasWaited}
+use Rattle.ame_waiting.specs.Waiting.{watched_by, MayHave, HasFailed, AreWaiting}
 
 all-both : {X : Type 0} (P Q R : X → Type 0) → ((x : X) → P x → Q x → R x) → (xs : List X) → AllByRecursion P xs → AllByRecursion Q xs → AllByRecursion R xs
 all-both P Q R f [] ps qs = tt
@@ -44,18 +43,8 @@ module _ (heap : Heap) (one other seat : ℕ) (apart : one ≡ other → ⊥) wh
     sorts = a.sorts;
   }
 
--- what an event of a seat leaves to the others
-pub record Leaves (old new : Parts) (seat : ℕ) : Type 0 where
-  pub framed : (other : ℕ) → (other ≡ seat → ⊥) → IsFramed other (heap_in old) (heap_in new)
-  pub tasks : (other : ℕ) → (other ≡ seat → ⊥) → task_at new.tasks other ≡ task_at old.tasks other
-
--- what it leaves of a member that waits
-pub record StaysNoted (old new : Parts) (number : ℕ) (watched : List ℕ) : Type 0 where
-  pub machine : machine_of number new.pool ≡ machine_of number old.pool
-  pub last : last_stuck number (whole_journal new) ≡ last_stuck number (whole_journal old)
-  pub committed : (l : ℕ) → Contains watched l → (heap_in new).committed l ≡ (heap_in old).committed l
-
-module _ (old new : Parts) (seat : ℕ) (leaves : Leaves old new seat) (i : ℕ) (watched : List ℕ) (not-its : member_of (task_at old.tasks seat) ≡ Some i → ⊥)
+module _ (old new : Parts) (seat : ℕ) (leaves : LeavesOthers old new seat) (i : ℕ) (watched : List ℕ) (not-its : member_of (task_at old.tasks seat) ≡ Some i
+    → ⊥)
     (st : StaysNoted old new i watched) (h : HasFailed old i watched) where
   had-by : (k : ℕ) → MayHave new.tasks k i → (other : ℕ) → member_of (task_at old.tasks other) ≡ Some i → ((other ≡ seat) → ⊥) × (other ≡ k)
   had-by k may other e = by (which other seat)
@@ -92,11 +81,10 @@ module _ (old new : Parts) (seat : ℕ) (leaves : Leaves old new seat) (i : ℕ)
   }
 
 -- who waits after an event waited before, and not by the seat of the event
-pub record Waited (old new : Parts) (seat number : ℕ) (watched : List ℕ) : Type 0 where
-  pub before : watched_by number old.pool ≡ Some watched
-  pub stays : StaysNoted old new number watched
-  pub its : member_of (task_at old.tasks seat) ≡ Some number → ⊥
-
-pub waited : (old new : Parts) (seat : ℕ) → Leaves old new seat → (i : ℕ) (watched : List ℕ) → Waited old new seat i watched → AreWaiting old
+pub waited : (old new : Parts) (seat : ℕ) → LeavesOthers old new seat → (i : ℕ) (watched : List ℕ) → HasWaited old new seat i watched → AreWaiting old
     → HasFailed new i watched
-waited old new seat leaves i watched w a = failed-still old new seat leaves i watched w.its w.stays (a.failed i watched w.before)
+waited old new seat leaves i watched w a = failed-still old new seat leaves i watched w.apart w.stays (a.failed i watched w.before)
+
+pub all-waited : (old new : Parts) (seat : ℕ) → LeavesOthers old new seat
+    → ((i : ℕ) (watched : List ℕ) → watched_by i new.pool ≡ Some watched → HasWaited old new seat i watched) → AreWaiting old → AreWaiting new
+all-waited old new seat leaves was a = record { failed = λ i watched e. waited old new seat leaves i watched (was i watched e) a }

@@ -110,6 +110,42 @@ once-ran old new e journal kind a = record {
         by (inr x) y = absurd (not-stuck note x.1 h.its)
         by (inl x) (inr y) = absurd (not-stuck next y.1 k.its)
 
+-- An entry of another kind
+
+pub once-other : (old new : Parts) (e : Entry) → whole_journal new ≡ whole_journal old ++ e ∷ [] → (e.kind ≡ EntryKind.Stuck → ⊥)
+    → ((i : ℕ) → IsSome (watched_by i old.pool) → IsSome (watched_by i new.pool)) → AreNotedOnce old → AreNotedOnce new
+once-other old new e journal kind keeps a = record {
+  recent =
+      λ place note h.
+      subst (λ (j : List Entry). HasRanBetween j place (length j) ⊎ IsSome (watched_by note.number new.pool)) (sym journal)
+      (recent place note (subst (λ (j : List Entry). HasEntryAt j EntryKind.Stuck place note) journal h));
+  once = subst IsNotedOnce (sym journal) once;
+}
+  where
+    older : (place : ℕ) (note : Entry) → HasEntryAt (whole_journal old ++ e ∷ []) EntryKind.Stuck place note
+        → HasEntryAt (whole_journal old) EntryKind.Stuck place note
+    older place note h = by (at-longer (whole_journal old) e EntryKind.Stuck place note h)
+      where
+        by : HasEntryAt (whole_journal old) EntryKind.Stuck place note ⊎ ((place ≡ length (whole_journal old)) × (e ≡ note))
+            → HasEntryAt (whole_journal old) EntryKind.Stuck place note
+        by (inl was) = was
+        by (inr x) = absurd (kind (ap (λ (y : Entry). y.kind) x.1 ∙ h.its))
+
+    recent : (place : ℕ) (note : Entry) → HasEntryAt (whole_journal old ++ e ∷ []) EntryKind.Stuck place note
+        → HasRanBetween (whole_journal old ++ e ∷ []) place (length (whole_journal old ++ e ∷ [])) ⊎ IsSome (watched_by note.number new.pool)
+    recent place note h = by (a.recent place note (older place note h))
+      where
+        by : HasRanBetween (whole_journal old) place (length (whole_journal old)) ⊎ IsSome (watched_by note.number old.pool)
+            → HasRanBetween (whole_journal old ++ e ∷ []) place (length (whole_journal old ++ e ∷ [])) ⊎ IsSome (watched_by note.number new.pool)
+        by (inl b) =
+            inl (between-older (whole_journal old) e place (length (whole_journal old)) (length (whole_journal old ++ e ∷ []))
+            (let l = longer-length (whole_journal old) e in omega arith) b)
+        by (inr some) = inr (keeps note.number some)
+
+    once : IsNotedOnce (whole_journal old ++ e ∷ [])
+    once first later note next below h k same =
+        between-older (whole_journal old) e first later later (omega arith) (a.once first later note next below (older first note h) (older later next k) same)
+
 -- A note of a member that didn't wait, and waits now
 
 pub once-noted : (old new : Parts) (e : Entry) → whole_journal new ≡ whole_journal old ++ e ∷ [] → watched_by e.number old.pool ≡ None

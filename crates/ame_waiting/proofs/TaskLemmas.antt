@@ -44,9 +44,10 @@ use Rattle.ame_stands.proofs.PoolLemmas.{found-machine, found-at, machines-stay}
 use Rattle.ame_stands.proofs.StepLemmas.{seat_within, task_here, task_else}
 use Rattle.ame_stands.proofs.AccessLemmas.{runs, within, write-there}
 use Rattle.ame_waiting.specs.Noted.{stuck_entry, told_attempt, has_noted}
+use Rattle.ame_waiting.specs.Left.{LeavesOthers}
 use Rattle.ame_waiting.specs.Waiting.{watched_by, last_stuck, HasFailed, AreWaiting}
 use Rattle.ame_waiting.proofs.WatchLemmas.{watched-of, unwatched, running-unwatched, last-same, last-here}
-use Rattle.ame_waiting.proofs.KeepLemmas.{Leaves, waited}
+use Rattle.ame_waiting.proofs.KeepLemmas.{waited}
 
 -- Start and stop
 
@@ -88,11 +89,11 @@ module _ (parts : Parts) (seat number : ℕ) (has : member_of (task_at parts.tas
     failed =
         λ i ws e.
         let new : Parts = record parts { desk = desk; tasks = tasks; turns = turns } in
-        let leaves : Leaves parts new seat = record { framed = framed; tasks = elsewhere } in
+        let leaves : LeavesOthers parts new seat = record { framed = framed; tasks = elsewhere } in
         waited parts new seat leaves i ws (record {
           before = e;
           stays = record { machine = refl; last = refl; committed = λ l there. committed l };
-          its = not-had i ws e;
+          apart = not-had i ws e;
         }) a;
   }
 
@@ -239,7 +240,7 @@ module _ (parts : Parts) (s : Stands parts) (seat : ℕ) (attempt : Attempt) (ta
         by i ws e (inr apart) =
             let told = found.others i apart in
             let was : watched_by i parts.pool ≡ Some ws = sym (ap watched-of told) ∙ e in
-            let leaves : Leaves parts new seat = record { framed = λ other _. same-framed heap other; tasks = task_else parts.tasks seat noted-task } in
+            let leaves : LeavesOthers parts new seat = record { framed = λ other _. same-framed heap other; tasks = task_else parts.tasks seat noted-task } in
             waited parts new seat leaves i ws (record {
               before = was;
               stays = record {
@@ -249,7 +250,7 @@ module _ (parts : Parts) (s : Stands parts) (seat : ℕ) (attempt : Attempt) (ta
                     ∙ last-same i (stuck_entry seat number n p) (whole_journal parts) (ne_eqb number i (λ same. apart (sym same)));
                 committed = λ l there. refl;
               };
-              its = not-had parts seat number (ap member_of task) its-runs.work.busy i ws was;
+              apart = not-had parts seat number (ap member_of task) its-runs.work.busy i ws was;
             }) a
 
 -- Begin
@@ -267,7 +268,7 @@ module _ (parts : Parts) (a : AreWaiting parts) (seat number : ℕ) (idle : task
   found_begun : IsFoundAfter number (option_map begun) parts.pool.members begun_pool.members
   found_begun = found_altered number begun (λ _. refl) parts.pool.members
 
-  leaves : Leaves parts begun_parts seat
+  leaves : LeavesOthers parts begun_parts seat
   leaves = record {
     framed = λ other _. same-framed (heap_in parts) other;
     tasks = task_else parts.tasks seat first_task;
@@ -286,5 +287,5 @@ module _ (parts : Parts) (a : AreWaiting parts) (seat number : ℕ) (idle : task
           waited parts begun_parts seat leaves i ws (record {
             before = sym (ap watched-of told) ∙ e;
             stays = record { machine = ap (option_map (λ (m : Member Tree). m.machine)) told; last = refl; committed = λ l there. refl };
-            its = λ its. let clash : ◌≡◌ {A = Option ℕ} None (Some i) = sym (ap member_of idle) ∙ its in cc;
+            apart = λ its. let clash : ◌≡◌ {A = Option ℕ} None (Some i) = sym (ap member_of idle) ∙ its in cc;
           }) a

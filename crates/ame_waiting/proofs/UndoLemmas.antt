@@ -131,7 +131,7 @@ module _ (parts : Parts) (s : Stands parts) (seat : ℕ) (attempt : Attempt) (ha
             waited parts new seat (record { framed = framed; tasks = task_else parts.tasks seat next }) i ws (record {
               before = e;
               stays = record { machine = refl; last = refl; committed = λ l there. committed l };
-              its = λ its. apart (let both : ◌≡◌ {A = Option ℕ} (Some number) (Some i) = sym its-number ∙ its in let one : number ≡ i = cc in sym one);
+              apart = λ its. apart (let both : ◌≡◌ {A = Option ℕ} (Some number) (Some i) = sym its-number ∙ its in let one : number ≡ i = cc in sym one);
             }) a
 
   -- The member goes home
@@ -194,7 +194,7 @@ module _ (parts : Parts) (s : Stands parts) (seat : ℕ) (attempt : Attempt) (ha
             waited parts gone seat (record { framed = framed; tasks = task_else parts.tasks seat Task.Idle }) i ws (record {
               before = sym (ap watched-of told) ∙ e;
               stays = record { machine = home-same i; last = refl; committed = λ l there. committed l };
-              its = λ its. apart (let both : ◌≡◌ {A = Option ℕ} (Some number) (Some i) = sym its-number ∙ its in let one : number ≡ i = cc in sym one);
+              apart = λ its. apart (let both : ◌≡◌ {A = Option ℕ} (Some number) (Some i) = sym its-number ∙ its in let one : number ≡ i = cc in sym one);
             }) a
 
 -- Each task that is undone

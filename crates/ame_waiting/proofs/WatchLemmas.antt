@@ -151,3 +151,7 @@ module _ (i : ℕ) (e : Entry) where
 
   pub last-here : (es : List Entry) → (is_stuck e.kind && (e.number == i)) ≡ true → last_stuck i (es ++ e ∷ []) ≡ Some e
   last-here es its = last-push es ∙ ap (λ (b : Bool). or_else (cond b (Some e) None) (last_stuck i es)) its
+
+-- an entry of another kind is no note
+pub last-other : (i : ℕ) (es : List Entry) (e : Entry) → is_stuck e.kind ≡ false → last_stuck i (es ++ e ∷ []) ≡ last_stuck i es
+last-other i es e other = last-same i e es (ap (λ (b : Bool). b && (e.number == i)) other)

@@ -1,4 +1,5 @@
 pub mod Noted
 pub mod Waiting
+pub mod Left
 pub mod Once
 pub mod Certificates

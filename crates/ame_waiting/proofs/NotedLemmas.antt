@@ -42,7 +42,11 @@ use Rattle.ame_stands.proofs.GrowthLemmas.{keeps-same}
 use Rattle.ame_stands.proofs.StepLemmas.{step, seat_within, few-later, task_here, task_else}
 use Rattle.ame_stands.proofs.AccessLemmas.{runs}
 use Rattle.ame_stands.proofs.TurnLemmas.{no-run}
-use Rattle.ame_waiting.specs.Noted.{stuck_entry, told_attempt, has_noted}
+use Rattle.ame_waiting.specs.Noted.{stuck_entry, has_noted}
+
+-- the attempt of a member that is noted
+abbrev pub noted_attempt : Attempt → Attempt
+noted_attempt attempt = record attempt { told = true }
 
 -- Who stands at a false condition doesn't stand at `unprotected`
 
@@ -89,7 +93,7 @@ module _ (parts : Parts) (s : Stands parts) (seat : ℕ) (attempt : Attempt) (ta
   pool = noted number locs parts.pool
 
   abbrev next : Task
-  next = Task.Undoing (told_attempt attempt) Reason.Noted
+  next = Task.Undoing (noted_attempt attempt) Reason.Noted
 
   abbrev tasks : List Task
   tasks = set parts.tasks seat next
@@ -175,7 +179,7 @@ module _ (parts : Parts) (s : Stands parts) (seat : ℕ) (attempt : Attempt) (ta
   its-member : (m : Member Tree) × (find number parts.pool.members ≡ Some m)
   its-member = let m = found-at parts.pool number (is_busy_as false) its-runs.work.busy in (m.0, m.1)
 
-  work : HasAtWork new true (told_attempt attempt)
+  work : HasAtWork new true (noted_attempt attempt)
   work = record {
     busy = at-found pool number (is_busy_as true) (noted_on locs its-member.0) (found.here ∙ ap (option_map (noted_on locs)) its-member.1) refl;
     sound = sound-on parts new goes attempt.tried its-runs.work.sound;

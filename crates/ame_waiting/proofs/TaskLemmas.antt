@@ -43,10 +43,11 @@ use Rattle.ame_stands.proofs.DeskEvents.{read-heap, write-first, write-later, wr
 use Rattle.ame_stands.proofs.PoolLemmas.{found-machine, found-at, machines-stay}
 use Rattle.ame_stands.proofs.StepLemmas.{seat_within, task_here, task_else}
 use Rattle.ame_stands.proofs.AccessLemmas.{runs, within, write-there}
-use Rattle.ame_waiting.specs.Noted.{stuck_entry, told_attempt, has_noted}
+use Rattle.ame_waiting.specs.Noted.{stuck_entry, has_noted}
 use Rattle.ame_waiting.specs.Left.{LeavesOthers}
 use Rattle.ame_waiting.specs.Waiting.{watched_by, last_stuck, HasFailed, AreWaiting}
 use Rattle.ame_waiting.proofs.WatchLemmas.{watched-of, unwatched, running-unwatched, last-same, last-here}
+use Rattle.ame_waiting.proofs.NotedLemmas.{noted_attempt}
 use Rattle.ame_waiting.proofs.KeepLemmas.{waited}
 
 -- Start and stop
@@ -202,7 +203,7 @@ module _ (parts : Parts) (s : Stands parts) (seat : ℕ) (attempt : Attempt) (ta
     journal = sym (append_assoc parts.base parts.entries (stuck_entry seat number n p ∷ []))
 
     abbrev noted-task : Task
-    noted-task = Task.Undoing (told_attempt attempt) Reason.Noted
+    noted-task = Task.Undoing (noted_attempt attempt) Reason.Noted
 
     next-task : task_at new.tasks seat ≡ noted-task
     next-task = task_here parts.tasks seat noted-task (seat_within parts.tasks seat attempt (ap attempt_of task))

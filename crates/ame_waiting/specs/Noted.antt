@@ -17,14 +17,10 @@ abbrev pub stuck_entry : ℕ → ℕ → ℕ → LocalState → Entry
 stuck_entry seat number steps p =
     record { kind = EntryKind.Stuck; seat = seat; number = number; steps = steps; fresh = p.fresh; answer = None }
 
--- an attempt that an entry tells
-abbrev pub told_attempt : Attempt → Attempt
-told_attempt attempt = record attempt { told = true }
-
--- The note joins the journal, the member watches the locations that its row read, and the row is to be undone.
+-- The note joins the journal and tells the attempt, the member watches the locations that its row read, and the row is to be undone.
 abbrev pub has_noted : ℕ → Attempt → ℕ → LocalState → Parts → Parts
 has_noted seat attempt steps p parts =
-    one_turn (with_task seat (Task.Undoing (told_attempt attempt) Reason.Noted) (record parts {
+    one_turn (with_task seat (Task.Undoing (record attempt { told = true }) Reason.Noted) (record parts {
       entries = parts.entries ++ stuck_entry seat attempt.tried.number steps p ∷ [];
       pool = noted attempt.tried.number (read_places (row_at parts.desk.rows seat).reads) parts.pool;
     }))

@@ -1,5 +1,5 @@
 -- A member has come to a condition that is false, and is noted.
-use Rattle.std.proofs.Common.{◌≡◌, ℕ, zero, suc, ◌+◌, ◌*◌, ◌<◌, ◌≤◌, ◌⊎◌, inl, inr, Bool, true, false, List, [], ◌∷◌, ◌++◌, set, length, Option, Some, None, length-set, append_assoc, refl, sym, ap, ◌∙◌, subst, arith}
+use Rattle.std.proofs.Common.{◌≡◌, ℕ, zero, suc, ◌+◌, ◌*◌, ◌<◌, ◌≤◌, ◌⊎◌, inl, inr, Bool, true, false, List, [], ◌∷◌, ◌++◌, set, length, Option, Some, None, IsSomeAnd, IsTrue, length-set, append_assoc, refl, sym, ap, ◌∙◌, subst, arith}
 use Rattle.std.specs.Prelude.{option_map, option_and_then}
 use Rattle.std.proofs.Math.Nat.{mul-le-mul_left}
 use Rattle.ame_term.specs.Tree.{Val, Tree}
@@ -16,7 +16,8 @@ use Rattle.ame_pool.specs.declared.member.Member.{Member}
 use Rattle.ame_pool.specs.Members.{find}
 use Rattle.ame_pool.specs.Found.{IsFoundAfter}
 use Rattle.ame_pool.specs.Roster.{Roster}
-use Rattle.ame_pool.specs.Calls.{noted_on, noted, machine_of, inside_of}
+use Rattle.ame_pool.specs.Begin.{is_worn}
+use Rattle.ame_pool.specs.Calls.{IsAt, noted_on, noted, machine_of, inside_of}
 use Rattle.ame_pool.proofs.MemberLemmas.{found_altered}
 use Rattle.ame_local.specs.Local.{LocalState, begun_with, local}
 use Rattle.ame_local.specs.Told.{TellsRun}
@@ -35,6 +36,7 @@ use Rattle.ame_stands.specs.declared.types.Task.{Task}
 use Rattle.ame_stands.specs.Parts.{Parts, whole_journal, heap_in, task_at, attempt_of, member_of, term_at, run_in}
 use Rattle.ame_stands.specs.Tasks.{is_busy_as, HasAtWork, RunsProtected, MeetsTask}
 use Rattle.ame_stands.specs.Stands.{Stands}
+use Rattle.ame_stands.specs.Alone.{is_of_protected, HasWorn, RunsAlone}
 use Rattle.ame_stands.proofs.DeskLemmas.{desk-committed}
 use Rattle.ame_stands.proofs.CarryLemmas.{GoesOn, StaysBusy, sound-on, tries-on}
 use Rattle.ame_stands.proofs.PoolLemmas.{machines-stay, sides-stay, inside-same, found-machine, found-at, at-found}
@@ -229,3 +231,66 @@ module _ (parts : Parts) (s : Stands parts) (seat : ℕ) (attempt : Attempt) (ta
         };
         sound = tries-on parts new goes parts.tried s.sound;
       })
+
+-- A member that was rolled back as often as it may be runs alone still
+
+module _ (parts : Parts) (s : Stands parts) (a : RunsAlone parts) (seat : ℕ) (attempt : Attempt) (task : task_at parts.tasks seat ≡ Task.Running attempt)
+    (n : ℕ) (p : LocalState) where
+  abbrev watched : List ℕ
+  watched = read_places (row_at parts.desk.rows seat).reads
+
+  abbrev later_pool : Roster Tree
+  later_pool = noted attempt.tried.number watched parts.pool
+
+  abbrev later : Parts
+  later = has_noted seat attempt n p parts
+
+  abbrev later_task : Task
+  later_task = Task.Undoing (noted_attempt attempt) Reason.Noted
+
+  found-later : IsFoundAfter attempt.tried.number (option_map (noted_on watched)) parts.pool.members later_pool.members
+  found-later = found_altered attempt.tried.number (noted_on watched) (λ _. refl) parts.pool.members
+
+  stands-there : task_at later.tasks seat ≡ later_task
+  stands-there = task_here parts.tasks seat later_task (seat_within parts.tasks seat attempt (ap attempt_of task))
+
+  -- who is noted has no rollbacks
+  not-worn : (o : Option (Member Tree)) → IsSomeAnd (option_map (noted_on watched) o) (λ m. IsTrue (is_worn m)) → ⊥
+  not-worn None h = h
+  not-worn (Some m) h = let clash : false ≡ true = h in cc
+
+  not-itself : (k : ℕ) (t : Attempt) → HasWorn later k t → k ≡ seat → ⊥
+  not-itself k t worn same =
+      let both : ◌≡◌ {A = Option Attempt} (Some (noted_attempt attempt)) (Some t) =
+      sym (ap attempt_of stands-there) ∙ ap (λ (m : ℕ). attempt_of (task_at later.tasks m)) (sym same) ∙ worn.has in
+      let is : noted_attempt attempt ≡ t = cc in
+      not-worn (find attempt.tried.number parts.pool.members)
+      (subst (λ (o : Option (Member Tree)). IsSomeAnd o (λ m. IsTrue (is_worn m))) found-later.here
+      (subst (λ (x : Attempt). IsAt is_worn x.tried.number later_pool) (sym is) worn.worn))
+
+  was-worn : (k : ℕ) (t : Attempt) → HasWorn later k t → HasWorn parts k t
+  was-worn k t worn =
+      let apart = not-itself k t worn in
+      let same = task_else parts.tasks seat later_task k apart in
+      let has = sym (ap attempt_of same) ∙ worn.has in
+      let other : t.tried.number ≡ attempt.tried.number → ⊥ =
+      (λ e. apart (s.apart k seat t.tried.number (ap (option_map (λ (x : Attempt). x.tried.number)) has) (ap member_of task ∙ ap Some (sym e)))) in
+      record {
+        task = sym (ap is_of_protected same) ∙ worn.task;
+        has = has;
+        worn = subst (λ (o : Option (Member Tree)). IsSomeAnd o (λ m. IsTrue (is_worn m))) (found-later.others t.tried.number other) worn.worn;
+      }
+
+  pub noted-alone : RunsAlone later
+  noted-alone = record {
+    alone = λ k other t worn e. a.alone k other t (was-worn k t worn) (by other e (which other seat));
+    running =
+        λ going k t worn.
+        task_else parts.tasks seat later_task k (not-itself k t worn) ∙ a.running going k t (was-worn k t worn);
+    valid = λ going k t worn. a.valid going k t (was-worn k t worn);
+  }
+    where
+      by : (other : ℕ) → is_of_protected (task_at later.tasks other) ≡ true → (other ≡ seat) ⊎ ((other ≡ seat) → ⊥)
+          → is_of_protected (task_at parts.tasks other) ≡ true
+      by other e (inl same) = ap (λ (m : ℕ). is_of_protected (task_at parts.tasks m)) same ∙ ap is_of_protected task
+      by other e (inr apart) = sym (ap is_of_protected (task_else parts.tasks seat later_task other apart)) ∙ e

@@ -1,6 +1,7 @@
 -- Between two notes of one member somebody commits: what each event keeps of it.
-use Rattle.std.proofs.Common.{◌≡◌, ℕ, ◌+◌, ◌⊎◌, inl, inr, Bool, true, false, List, [], ◌∷◌, ◌++◌, set, Option, Some, None, IsSome, IsTrue, append_assoc, refl, sym, ap, ◌∙◌, subst}
+use Rattle.std.proofs.Common.{◌≡◌, ℕ, ◌+◌, ◌⊎◌, inl, inr, Bool, true, false, List, [], ◌∷◌, ◌++◌, set, All, Option, Some, None, IsSome, IsTrue, append_assoc, refl, sym, ap, ◌∙◌, subst}
 use Rattle.std.specs.Prelude.{option_map, if◌then◌else◌}
+use Rattle.std.proofs.lemmas.Option.{slice_get_within}
 use Rattle.ame_term.specs.Tree.{Tree}
 use Rattle.ame_journal.specs.declared.entry.Entry.{Entry}
 use Rattle.ame_journal.specs.declared.entry.EntryKind.{EntryKind}
@@ -13,6 +14,7 @@ use Rattle.ame_pool.specs.Calls.{IsAt, begun, at_home, at_rest, noted_on, noted}
 use Rattle.ame_pool.proofs.MemberLemmas.{found_altered}
 use Rattle.ame_local.specs.Local.{LocalState}
 use Rattle.ame_desk.specs.Contents.{row_at}
+use Rattle.ame_desk.proofs.LookupLemmas.{all_at}
 use Rattle.ame_desk.specs.LettingGo.{undone_last}
 use Rattle.ame_owed.specs.Waiting.{read_places}
 use Rattle.ame_owed.proofs.CellLemmas.{which}
@@ -29,12 +31,24 @@ use Rattle.ame_stands.proofs.AccessLemmas.{runs}
 use Rattle.ame_stands.proofs.HomeLemmas.{gone_parts}
 use Rattle.ame_stands.proofs.StepLemmas.{acted}
 use Rattle.ame_waiting.specs.Noted.{stuck_entry, has_noted}
-use Rattle.ame_waiting.specs.Waiting.{watch_list, watched_by}
+use Rattle.ame_waiting.specs.Waiting.{watch_list, watched_by, is_stuck}
 use Rattle.ame_waiting.specs.Once.{HasEntryAt, AreNotedOnce}
 use Rattle.ame_waiting.proofs.WatchLemmas.{watched-of, running-unwatched, rest-waits}
 use Rattle.ame_waiting.proofs.OnceLemmas.{once-on, once-ran, once-noted, altered-keeps}
 
 -- Start and stop
+
+pub nobody-once : (parts : Parts) → All (λ entry. is_stuck entry.kind ≡ false) (whole_journal parts) → AreNotedOnce parts
+nobody-once parts none = record {
+  recent = λ place note h. absurd (clash place note h);
+  once = λ first later note next below h k same. absurd (clash first note h);
+}
+  where
+    clash : (place : ℕ) (note : Entry) → HasEntryAt (whole_journal parts) EntryKind.Stuck place note → ⊥
+    clash place note h =
+        let within = slice_get_within (whole_journal parts) place note h.there in
+        let other : is_stuck note.kind ≡ false = all_at (λ entry. is_stuck entry.kind ≡ false) (whole_journal parts) place note within h.there none in
+        let both : true ≡ false = sym (ap is_stuck h.its) ∙ other in cc
 
 pub start-once : (program : Tree) (devices : ℕ) (limits : Limits) (room : ℕ) → AreNotedOnce (started program devices limits room)
 start-once program devices limits room = record {

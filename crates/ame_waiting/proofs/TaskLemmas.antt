@@ -52,6 +52,11 @@ use Rattle.ame_waiting.proofs.KeepLemmas.{waited}
 
 -- Start and stop
 
+pub nobody-waiting : (parts : Parts) → ((i : ℕ) → watched_by i parts.pool ≡ None) → AreWaiting parts
+nobody-waiting parts none = record {
+  failed = λ i ws e. absurd (let clash : ◌≡◌ {A = Option (List ℕ)} None (Some ws) = sym (none i) ∙ e in cc);
+}
+
 pub start-waiting : (program : Tree) (devices : ℕ) (limits : Limits) (room : ℕ) → AreWaiting (started program devices limits room)
 start-waiting program devices limits room = record { failed = λ i ws e. absurd (by i ws (0 == i) e) }
   where

@@ -9,7 +9,7 @@ mod others;
 mod waiting;
 
 pub use certificates::{certificates_are_computed, waiting_members_have_certificates};
-pub use notes::engines_stand_after_notes;
+pub use notes::{engines_stand_after_notes, worn_members_are_noted_alone};
 pub use once::{
     members_are_noted_once_after_access, members_are_noted_once_after_begins,
     members_are_noted_once_after_commits, members_are_noted_once_after_notes,

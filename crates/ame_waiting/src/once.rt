@@ -1,6 +1,6 @@
 //! Between two notes of one member, each of which tells that it came to a condition that is false, somebody commits.
 
-ghost use Rattle.std.specs.Prelude.{◌≡◌, ℕ, List};
+ghost use Rattle.std.specs.Prelude.{◌≡◌, ℕ, List, All, false};
 ghost use Rattle.ame_term.specs.Tree.{Val, Tree};
 ghost use Rattle.ame_term.specs.declared.types.Loc.{Loc};
 ghost use Rattle.ame_term.specs.declared.types.Sort.{Sort};
@@ -12,15 +12,18 @@ ghost use Rattle.ame_stands.specs.declared.types.Limits.{Limits};
 ghost use Rattle.ame_stands.specs.declared.types.Attempt.{Attempt};
 ghost use Rattle.ame_stands.specs.declared.types.Reason.{Reason};
 ghost use Rattle.ame_stands.specs.declared.types.Task.{Task};
-ghost use Rattle.ame_stands.specs.Parts.{Parts, task_at};
+ghost use Rattle.ame_stands.specs.Parts.{Parts, whole_journal, task_at};
 ghost use Rattle.ame_stands.specs.Stands.{Stands};
 ghost use Rattle.ame_stands.specs.Events.{started, has_begun, has_read, has_written, has_allocated, has_checked, has_turned_back, has_undone};
 ghost use Rattle.ame_stands.specs.Events.{has_gone_home, has_ended, has_left, has_stopped};
 ghost use Rattle.ame_waiting.specs.Noted.{has_noted};
+ghost use Rattle.ame_waiting.specs.Waiting.{is_stuck};
 ghost use Rattle.ame_waiting.specs.Once.{AreNotedOnce};
 
-/// So it is in an engine that has just started, once a stop is kept, and after a seat has begun a ready member.
+/// So it is where nobody was noted, as in an engine that has just started, once a stop is kept, and after a seat has begun a ready
+/// member.
 pub fn members_are_noted_once_after_begins()
+    ensures nobody { (parts : Parts) → All (λ entry. is_stuck entry.kind ≡ false) (whole_journal parts) → AreNotedOnce parts }
     ensures start { (program : Tree) (devices : ℕ) (limits : Limits) (room : ℕ) → AreNotedOnce (started program devices limits room) }
     ensures stop { (parts : Parts) → AreNotedOnce parts → AreNotedOnce (has_stopped parts) }
     ensures begin { (parts : Parts) (seat number : ℕ) → AreNotedOnce parts → IsAt is_ready number parts.pool → AreNotedOnce (has_begun seat number parts) }

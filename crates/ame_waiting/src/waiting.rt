@@ -1,6 +1,6 @@
 //! Members that wait go on waiting, until somebody commits what they watch.
 
-ghost use Rattle.std.specs.Prelude.{◌≡◌, ◌≤◌, ℕ, List, Contains, true, length};
+ghost use Rattle.std.specs.Prelude.{◌≡◌, ◌≤◌, ℕ, List, Contains, None, true, length};
 ghost use Rattle.std.specs.List.Sorted.{IsPermutation};
 ghost use Rattle.ame_term.specs.Tree.{Val, Tree};
 ghost use Rattle.ame_term.specs.Act.{Act};
@@ -25,11 +25,12 @@ ghost use Rattle.ame_stands.specs.Stands.{Stands};
 ghost use Rattle.ame_stands.specs.Events.{started, has_begun, has_read, has_written, has_allocated, has_checked, has_turned_back, has_undone};
 ghost use Rattle.ame_stands.specs.Events.{has_gone_home, has_ended, has_left, has_stopped};
 ghost use Rattle.ame_waiting.specs.Noted.{has_noted};
-ghost use Rattle.ame_waiting.specs.Waiting.{AreWaiting};
+ghost use Rattle.ame_waiting.specs.Waiting.{watched_by, AreWaiting};
 
-/// Nobody waits in an engine that has just started. Who waits goes on once a stop is kept, and after a seat that is idle has
-/// begun a member.
+/// So it is where nobody waits, as in an engine that has just started. Who waits goes on once a stop is kept, and after a seat that
+/// is idle has begun a member.
 pub fn members_wait_after_begins()
+    ensures nobody { (parts : Parts) → ((number : ℕ) → watched_by number parts.pool ≡ None) → AreWaiting parts }
     ensures start { (program : Tree) (devices : ℕ) (limits : Limits) (room : ℕ) → AreWaiting (started program devices limits room) }
     ensures stop { (parts : Parts) → AreWaiting parts → AreWaiting (has_stopped parts) }
     ensures begin { (parts : Parts) (seat number : ℕ) → AreWaiting parts → task_at parts.tasks seat ≡ Task.Idle → AreWaiting (has_begun seat number parts) }

@@ -1,5 +1,8 @@
-use Rattle.ame_waiting.proofs.OnceEvents.{start-once, stop-once, begin-once}
+use Rattle.ame_waiting.proofs.OnceEvents.{nobody-once, start-once, stop-once, begin-once}
 use Rattle.ame_waiting.proofs.once.members_are_noted_once_after_begins.Goals as goal
+
+pub returns-clause-nobody : goal.returns-clause-nobody
+returns-clause-nobody c = nobody-once
 
 pub returns-clause-start : goal.returns-clause-start
 returns-clause-start c = start-once

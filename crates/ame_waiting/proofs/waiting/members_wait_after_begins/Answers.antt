@@ -1,5 +1,8 @@
-use Rattle.ame_waiting.proofs.TaskLemmas.{start-waiting, stop-waiting, begin-waiting}
+use Rattle.ame_waiting.proofs.TaskLemmas.{nobody-waiting, start-waiting, stop-waiting, begin-waiting}
 use Rattle.ame_waiting.proofs.waiting.members_wait_after_begins.Goals as goal
+
+pub returns-clause-nobody : goal.returns-clause-nobody
+returns-clause-nobody c = nobody-waiting
 
 pub returns-clause-start : goal.returns-clause-start
 returns-clause-start c = start-waiting

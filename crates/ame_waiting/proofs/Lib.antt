@@ -7,3 +7,4 @@ pub mod CommitLemmas
 pub mod CertificateLemmas
 pub mod OnceLemmas
 pub mod OnceEvents
+pub mod VisitLemmas

@@ -6,6 +6,7 @@ mod certificates;
 mod notes;
 mod once;
 mod others;
+mod visits;
 mod waiting;
 
 pub use certificates::{certificates_are_computed, waiting_members_have_certificates};
@@ -16,6 +17,7 @@ pub use once::{
     members_are_noted_once_after_undos,
 };
 pub use others::{members_are_noted_once_after_others, members_wait_after_others};
+pub use visits::{members_are_noted_once_after_visits, members_wait_after_visits};
 pub use waiting::{
     members_wait_after_access, members_wait_after_begins, members_wait_after_checks,
     members_wait_after_commits, members_wait_after_notes, members_wait_after_undos,

@@ -1,0 +1,3 @@
+pub mod ByAct
+pub mod Visit
+pub mod Stops

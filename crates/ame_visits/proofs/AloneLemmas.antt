@@ -75,8 +75,8 @@ module _ (parts new : Parts) (s : Stands parts) (a : RunsAlone parts) (seat : �
         (valid k t (a.running still k t was) (a.valid still k t was));
   }
 
-module _ (parts : Parts) (s : Stands parts) (a : RunsAlone parts) (seat : ℕ) (attempt : Attempt) (task : task_at parts.tasks seat ≡ Task.Free attempt) (n : ℕ) (q : LocalState)
-    (inside : Bool) (desk : Contents Val) (v : Visited parts s seat attempt.tried.number n q inside desk) where
+module _ (parts : Parts) (s : Stands parts) (a : RunsAlone parts) (seat : ℕ) (attempt : Attempt) (task : task_at parts.tasks seat ≡ Task.Free attempt)
+    (n : ℕ) (q : LocalState) (inside : Bool) (desk : Contents Val) (v : Visited parts s seat attempt.tried.number n q inside desk) where
   abbrev new : Parts
   new = has_visited seat attempt.tried.number n q inside desk parts
 
@@ -92,6 +92,7 @@ module _ (parts : Parts) (s : Stands parts) (a : RunsAlone parts) (seat : ℕ) (
 
   pub visit-alone : RunsAlone new
   visit-alone =
-      visited-alone parts new s a seat attempt task (idle-here parts s seat attempt (ap attempt_of task)) refl (task_else parts.tasks seat Task.Idle) worn-before
+      visited-alone parts new s a seat attempt task (idle-here parts s seat attempt (ap attempt_of task)) refl (task_else parts.tasks seat Task.Idle)
+      worn-before
       v.settles.rows
       (λ k t running valid. v.settles.valid k (row_at parts.desk.rows k).reads (runs parts s k t running).owes.notes valid)

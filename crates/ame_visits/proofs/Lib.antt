@@ -6,3 +6,4 @@ pub mod StandLemmas
 pub mod AloneLemmas
 pub mod RefuseLemmas
 pub mod NoteLemmas
+pub mod OpenLemmas

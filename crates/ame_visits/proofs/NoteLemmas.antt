@@ -119,7 +119,8 @@ module _ (parts : Parts) (s : Stands parts) (seat : ℕ) (attempt : Attempt) whe
         by : (b : Bool) → at_unprotected (focus run.start) ≡ b → replay_entry s.r (note_entry EntryKind.Cut seat number n p) ≡ Some s.r
         by true at_it = first-cut at_it
         by false elsewhere =
-            either-cut s.r (note_entry EntryKind.Cut seat number n p) n p Side.Protected (tells elsewhere (note_entry EntryKind.Cut seat number n p) refl refl refl) refl refl (quiet elsewhere)
+            let entry = note_entry EntryKind.Cut seat number n p in
+            either-cut s.r entry n p Side.Protected (tells elsewhere entry refl refl refl) refl refl (quiet elsewhere)
 
     pub running-tall : IsTooHigh Side.Protected p → replay_entry s.r (note_entry EntryKind.Tall seat number n p) ≡ Some s.r
     running-tall high = by (at_unprotected (focus run.start)) refl
@@ -131,8 +132,8 @@ module _ (parts : Parts) (s : Stands parts) (seat : ℕ) (attempt : Attempt) whe
             ap (λ (z : LocalState). coming_height Side.Protected (focus z.term)) first ∙ low-there (focus run.start) at_it in
             absurd (let clash : false ≡ true = sym (ap (λ (h : ℕ). h == max_height + 1) low) ∙ high in cc)
         by false elsewhere =
-            either-tall s.r (note_entry EntryKind.Tall seat number n p) n p Side.Protected (tells elsewhere (note_entry EntryKind.Tall seat number n p) refl refl refl) refl refl (quiet elsewhere)
-            high
+            let entry = note_entry EntryKind.Tall seat number n p in
+            either-tall s.r entry n p Side.Protected (tells elsewhere entry refl refl refl) refl refl (quiet elsewhere) high
 
   -- Unprotected code
 
@@ -194,7 +195,8 @@ told-meets parts types seat Task.Idle h = h
 told-meets parts types seat (Task.Running attempt) h =
     record { work = told-work parts false attempt h.work; outside = h.outside; owes = h.owes; typed = h.typed; scoped = h.scoped }
 told-meets parts types seat (Task.Free attempt) h = record { work = told-work parts false attempt h.work; inside = h.inside; clear = h.clear }
-told-meets parts types seat (Task.Undoing attempt reason) h = record { work = told-work parts (is_noted_for reason) attempt h.work; outside = h.outside; undos = h.undos }
+told-meets parts types seat (Task.Undoing attempt reason) h =
+    record { work = told-work parts (is_noted_for reason) attempt h.work; outside = h.outside; undos = h.undos }
 
 same-member : (task : Task) → member_of (told_task task) ≡ member_of task
 same-member Task.Idle = refl
@@ -208,7 +210,8 @@ same-side (Task.Running attempt) = refl
 same-side (Task.Free attempt) = refl
 same-side (Task.Undoing attempt reason) = refl
 
-module _ (parts : Parts) (seat : ℕ) (task : Task) (attempt : Attempt) (at_it : task_at parts.tasks seat ≡ task) (has : attempt_of task ≡ Some attempt) (entry : Entry) (turns : ℕ) where
+module _ (parts : Parts) (seat : ℕ) (task : Task) (attempt : Attempt) (at_it : task_at parts.tasks seat ≡ task)
+    (has : attempt_of task ≡ Some attempt) (entry : Entry) (turns : ℕ) where
   abbrev tasks : List Task
   tasks = set parts.tasks seat (told_task task)
 

@@ -128,7 +128,8 @@ module _ (parts : Parts) (s : Stands parts) where
 
     few : HasFewChanges parts.turns cell → HasFewChanges turns (replaced v cell)
     few h =
-        let low : cell.number ≤ 2 * parts.turns = subst (λ (o : Option ℕ). MatchOption o (cell.number ≤ 2 * parts.turns) (λ _. cell.number + 1 ≤ 2 * parts.turns)) free h in
+        let low : cell.number ≤ 2 * parts.turns =
+        subst (λ (o : Option ℕ). MatchOption o (cell.number ≤ 2 * parts.turns) (λ _. cell.number + 1 ≤ 2 * parts.turns)) free h in
         let more : cell.number + 2 ≤ 2 * turns = omega arith in
         subst (λ (o : Option ℕ). MatchOption o (cell.number + 2 ≤ 2 * turns) (λ _. cell.number + 2 + 1 ≤ 2 * turns)) (sym free) more
 

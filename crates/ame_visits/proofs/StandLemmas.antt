@@ -77,8 +77,8 @@ module _ (parts : Parts) (s : Stands parts) (seat : ℕ) (attempt : Attempt) (ha
           absurd (let clash : ◌≡◌ {A = Option ℕ} None (Some i) = sym none ∙ e in cc)
       by (inr apart) = sym (ap member_of (task_else parts.tasks seat Task.Idle k apart)) ∙ e
 
-module _ (parts : Parts) (s : Stands parts) (seat : ℕ) (attempt : Attempt) (task : task_at parts.tasks seat ≡ Task.Free attempt) (n : ℕ) (q : LocalState) (inside : Bool)
-    (desk : Contents Val) (v : Visited parts s seat attempt.tried.number n q inside desk) where
+module _ (parts : Parts) (s : Stands parts) (seat : ℕ) (attempt : Attempt) (task : task_at parts.tasks seat ≡ Task.Free attempt) (n : ℕ)
+    (q : LocalState) (inside : Bool) (desk : Contents Val) (v : Visited parts s seat attempt.tried.number n q inside desk) where
   abbrev number : ℕ
   number = attempt.tried.number
 

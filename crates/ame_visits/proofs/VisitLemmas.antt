@@ -77,7 +77,8 @@ left-others i k (x ∷ xs) apart = by (x == i) refl (left-others i k xs apart)
 
 -- the value at which a term closes stands in its frames
 closing-form : (f : Focus) (v : Val) → closed_value f ≡ Some v → f ≡ Focus.AtRedex Side.Protected (Tree.Unprotected (Tree.Held v))
-closing-form (Focus.AtRedex Side.Protected (Tree.Unprotected (Tree.Held w))) v e = let same : w ≡ v = cc in ap (λ (z : Val). Focus.AtRedex Side.Protected (Tree.Unprotected (Tree.Held z))) same
+closing-form (Focus.AtRedex Side.Protected (Tree.Unprotected (Tree.Held w))) v e =
+    let same : w ≡ v = cc in ap (λ (z : Val). Focus.AtRedex Side.Protected (Tree.Unprotected (Tree.Held z))) same
 closing-form _ v e = cc
 
 -- a member that closes is a member still
@@ -158,7 +159,8 @@ module _ (parts : Parts) (s : Stands parts) (seat : ℕ) (attempt : Attempt) (ta
         one-more Side.Unprotected (begun_with first []) p at_it.redex v n made ran refl refl at_it.stands gives_redex in
         let agrees : AgreesWith s.r.state.store q = record { seen = m.agrees.seen; own = m.agrees.own; made = m.agrees.made } in
         let entry = free_entry seat number (n + 1) q in
-        let x = run-free s.r entry (n + 1) q (tells entry (v ∷ []) (n + 1) q refl goes agrees refl refl) refl refl (is-inside parts s seat attempt task) (omega arith) in
+        let told = tells entry (v ∷ []) (n + 1) q refl goes agrees refl refl in
+        let x = run-free s.r entry (n + 1) q told refl refl (is-inside parts s seat attempt task) (omega arith) in
         let fit : IsFitFor parts.devices cells (act_of at_it.redex) v = subst (λ (a : Act). IsFitFor parts.devices cells a v) (sym at_it.acts) m.fit in
         let used : q.inputs ≡ [] = feeds-inputs p Side.Unprotected act v made.0 made.1 feeds in
         let grown = place-grown parts.devices live cells (live-grows parts s desk made.1.sets m.types m.settles) Typ.Unit p typed in
@@ -202,7 +204,8 @@ module _ (parts : Parts) (s : Stands parts) (seat : ℕ) (attempt : Attempt) (ta
         }
 
   -- each visit
-  pub visited : (n : ℕ) (q : LocalState) (inside : Bool) (desk : Contents Val) → IsVisit parts number n q inside desk → Visited parts s seat number n q inside desk
+  pub visited : (n : ℕ) (q : LocalState) (inside : Bool) (desk : Contents Val) → IsVisit parts number n q inside desk
+      → Visited parts s seat number n q inside desk
   visited _ _ _ _ (IsVisit.stepped n p some ran) =
       let is = alone first n p ran in
       let ran_bare : StepsTo parts number n (begun_with p.term []) = ran ∙ ap Some is in

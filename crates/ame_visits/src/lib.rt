@@ -1,12 +1,14 @@
-//! What an engine stands for after visits of unprotected code, and once it notes the rows at work as it stops.
-//! Each law is the contract of a function that does nothing: a caller that wants a law calls its function.
+//! What an engine stands for after visits of unprotected code, once it notes the rows at work as it stops, and where it is opened
+//! from a base. Each law is the contract of a function that does nothing: a caller that wants a law calls its function.
 #![tactic(auto)]
 
 mod meets;
+mod opens;
 mod stops;
 mod visits;
 
 pub use meets::{visits_hold_nothing_before, visits_meet_what_lives};
+pub use opens::{engines_open, worn_members_open_alone};
 pub use stops::{
     engines_stand_after_cuts, engines_stand_after_tall_values, worn_members_stay_alone_after_notes,
 };

@@ -7,3 +7,4 @@ pub mod AloneLemmas
 pub mod RefuseLemmas
 pub mod NoteLemmas
 pub mod OpenLemmas
+pub mod CallLemmas

@@ -4,18 +4,19 @@ use Rattle.std.specs.Prelude.{ℤ, unwrap_or, Option, Bool, false}
 use Rattle.std.proofs.lemmas.Option.{option_and_then_some}
 use Rattle.ame_term.specs.Tree.{Typ, Val, Tree}
 use Rattle.ame_term.specs.Frame.{Side, side_told}
-use Rattle.ame_term.specs.Context.{fill}
+use Rattle.ame_term.specs.Context.{focus, fill}
 use Rattle.ame_term.specs.Act.{Act, act_of}
 use Rattle.ame_term.specs.Maps.{at}
+use Rattle.ame_term.specs.State.{at_unprotected}
 use Rattle.ame_term.specs.declared.types.Sort.{Sort}
 use Rattle.ame_laws.proofs.MapLemmas.{each-at}
-use Rattle.ame_journal.specs.Replayed.{is_inside, is_at_unprotected, side_at}
+use Rattle.ame_journal.specs.Replayed.{has_such, is_inside, is_at_unprotected, side_at}
 use Rattle.ame_journal.proofs.ReachedLemmas.{IsCalm, calm-replayed}
 use Rattle.ame_soundness.specs.StoreTyping.{StoreTyping}
 use Rattle.ame_soundness.specs.TypedState.{IsStored, IsMember}
 use Rattle.ame_store.specs.Cells.{IsFree}
 use Rattle.ame_local.specs.Local.{LocalState, begun_with, local}
-use Rattle.ame_local.specs.Fit.{IsTypedPlace}
+use Rattle.ame_local.specs.Fit.{IsTypedPlace, IsTypedThroughout}
 use Rattle.ame_local.proofs.RunLemmas.{Acts, step-is}
 use Rattle.ame_local.proofs.TypedLemmas.{typed-begun}
 use Rattle.ame_desk.specs.Committed.{committed}
@@ -80,11 +81,16 @@ module _ (parts : Parts) (s : Stands parts) (seat : ℕ) (attempt : Attempt) (ta
   pub on-side : side_at number s.r.state ≡ Side.Unprotected
   on-side = ap side_told is-under
 
-  pub place-typed : (n : ℕ) (p : LocalState) → StepsTo parts number n p → IsTypedPlace parts.devices live Typ.Unit p
-  place-typed n p ran =
+  pub begins-under : at_unprotected (focus (term_at parts.pool number)) ≡ true
+  begins-under = sym (ap (has_such (λ term. at_unprotected (focus term))) term-there) ∙ is-under
+
+  pub throughout : IsTypedThroughout parts.devices live Side.Unprotected (term_at parts.pool number) [] Typ.Unit
+  throughout =
       typed-begun parts.devices live Side.Unprotected (term_at parts.pool number) Typ.Unit
       (each-at (IsMember parts.devices live) s.r.state.members number (term_at parts.pool number) term-there s.typed.now.members)
-      n p ran (ap (λ (z : LocalState). z.inputs) (alone (term_at parts.pool number) n p ran))
+
+  pub place-typed : (n : ℕ) (p : LocalState) → StepsTo parts number n p → IsTypedPlace parts.devices live Typ.Unit p
+  place-typed n p ran = throughout n p ran (ap (λ (z : LocalState). z.inputs) (alone (term_at parts.pool number) n p ran))
 
   -- What it meets
 

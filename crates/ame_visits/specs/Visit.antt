@@ -1,5 +1,5 @@
 -- A visit of a member that is inside, and what it makes of an engine.
-use Rattle.std.specs.Prelude.{◌≡◌, ◌<◌, ℕ, ◌+◌, Bool, true, false, [], ◌∷◌, ◌++◌, length, Some}
+use Rattle.std.specs.Prelude.{◌≡◌, ◌<◌, ℕ, ◌+◌, ℤ, Bool, true, false, [], ◌∷◌, ◌++◌, length, Some}
 use Rattle.ame_term.specs.Tree.{Val, Tree}
 use Rattle.ame_term.specs.Frame.{Side}
 use Rattle.ame_term.specs.Context.{focus, fill}
@@ -20,6 +20,10 @@ use Rattle.ame_visits.specs.ByAct.{IsGivenBy, desk_after}
 -- the same place of a run, once the value there has taken the place of `unprotected`
 abbrev pub closed_at : Val → LocalState → LocalState
 closed_at v p = record p { term = fill p.term (Tree.Held v) }
+
+-- the place after a call of a device that was given this answer
+abbrev pub answered_at : ℤ → LocalState → LocalState
+answered_at answer p = refilled_in p.term (Tree.Held (Val.Int answer), record p { answer = Some answer })
 
 -- so many steps alone of a member, from the term that the pool has of it, lead to a place
 abbrev pub StepsTo : Parts → ℕ → ℕ → LocalState → Type 0

@@ -2,12 +2,14 @@
 //! from a base. Each law is the contract of a function that does nothing: a caller that wants a law calls its function.
 #![tactic(auto)]
 
+mod calls;
 mod meets;
 mod opens;
 mod stops;
 mod visits;
 
-pub use meets::{visits_hold_nothing_before, visits_meet_what_lives};
+pub use calls::journals_tell_the_calls_of_visits;
+pub use meets::{visits_can_run, visits_hold_nothing_before, visits_meet_what_lives};
 pub use opens::{engines_open, worn_members_open_alone};
 pub use stops::{
     engines_stand_after_cuts, engines_stand_after_tall_values, worn_members_stay_alone_after_notes,

@@ -8,3 +8,4 @@ pub mod RefuseLemmas
 pub mod NoteLemmas
 pub mod OpenLemmas
 pub mod CallLemmas
+pub mod LeaveLemmas

@@ -51,6 +51,7 @@ pub record Settles (parts : Parts) (s : Stands parts) (desk : Contents Val) (set
   pub grows : Grows s.types types
   pub heap : IsTypedHeap parts.devices types (heap_of desk)
   pub shows : (l : ℕ) → (heap_of desk).committed l ≡ or_else (at sets l) ((heap_in parts).committed l)
+  pub keeps : (l : ℕ) → IsCell (heap_in parts) l → (cell_at (heap_in parts) l).sort ≡ Sort.Protected → (heap_of desk).committed l ≡ (heap_in parts).committed l
   pub framed : (other : ℕ) → IsFramed other (heap_in parts) (heap_of desk)
   pub consistent : IsConsistent desk
   pub rows : desk.rows ≡ parts.desk.rows
@@ -93,6 +94,7 @@ module _ (parts : Parts) (s : Stands parts) where
     grows = λ m c e. e;
     heap = s.typed.heap;
     shows = λ l. refl;
+    keeps = λ l there sort. refl;
     framed = λ other. record { places = λ m. IsFramedAt.stays refl refl; longer = omega arith };
     consistent = s.consistent;
     rows = refl;
@@ -126,6 +128,11 @@ module _ (parts : Parts) (s : Stands parts) where
     others-stay : (m : ℕ) → (m ≡ l → ⊥) → (heap_of wrote).committed m ≡ heap.committed m
     others-stay m apart = put_elsewhere l m v parts.desk apart
 
+    protected-stays : (m : ℕ) → (cell_at heap m).sort ≡ Sort.Protected → (heap_of wrote).committed m ≡ heap.committed m
+    protected-stays m sort =
+        others-stay m
+        (λ same. absurd (let clash : Sort.Protected ≡ Sort.Unprotected = sym sort ∙ ap (λ (k : ℕ). (cell_at heap k).sort) same ∙ met.sort in cc))
+
     few : HasFewChanges parts.turns cell → HasFewChanges turns (replaced v cell)
     few h =
         let low : cell.number ≤ 2 * parts.turns =
@@ -138,6 +145,7 @@ module _ (parts : Parts) (s : Stands parts) where
       grows = λ m c e. e;
       heap = heap-stays parts.devices s.types heap (heap_of wrote) l (replaced v cell) s.typed.heap becomes count refl stored;
       shows = sets-one heap.committed (heap_of wrote).committed l v (put_here l v parts.desk cell (there parts.desk l met.there) free met.live) others-stay;
+      keeps = λ m there sort. protected-stays m sort;
       framed = λ other. put-framed other heap (heap_of wrote) l v free becomes others-stay;
       consistent = kept_put parts.desk l v cell s.consistent (there parts.desk l met.there) free;
       rows = refl;
@@ -186,6 +194,7 @@ module _ (parts : Parts) (s : Stands parts) where
       grows = types-grow parts.devices s.types heap place (sort, content) s.typed.heap refl;
       heap = heap-grows parts.devices s.types heap (heap_of larger) place new_cell content s.typed.heap born-becomes refl born-count typed-value;
       shows = sets-one heap.committed (heap_of larger).committed place v (born_here sort ty v parts.desk) born-others;
+      keeps = λ m there sort. born-others m (λ same. not_there (subst (IsCell heap) same there));
       framed = λ other. new-framed other heap (heap_of larger) place new_cell not_there (free-apart other new_cell refl) born-becomes born-others;
       consistent = kept_born parts.desk sort ty v s.consistent;
       rows = refl;

@@ -1,0 +1,4 @@
+pub mod ByAct
+pub mod Visit
+pub mod Stops
+pub mod Opened

@@ -1,6 +1,6 @@
-//! An engine whose seats are all idle, as at its end.
+//! An engine at its end.
 
-ghost use Rattle.std.specs.Prelude.{◌≡◌, ℕ};
+ghost use Rattle.std.specs.Prelude.{◌≡◌, ℕ, []};
 ghost use Rattle.ame_term.specs.Maps.{at};
 ghost use Rattle.ame_store.specs.Cells.{IsFree};
 ghost use Rattle.ame_desk.specs.Contents.{no_notes, row_at};
@@ -17,4 +17,10 @@ pub fn idle_engines_are_settled()
     ensures free { (parts : Parts) (l : ℕ) → Stands parts → ((seat : ℕ) → task_at parts.tasks seat ≡ Task.Idle) → IsFree (cell_at (heap_in parts) l) }
     ensures store { (parts : Parts) (s : Stands parts) (l : ℕ) → ((seat : ℕ) → task_at parts.tasks seat ≡ Task.Idle)
         → at s.r.state.store l ≡ stored_in (cell_at (heap_in parts) l) }
+{}
+
+/// The state has no member exactly where the pool has none.
+pub fn pools_are_empty_where_states_are()
+    ensures pool { (parts : Parts) (s : Stands parts) → parts.pool.members ≡ [] → s.r.state.members ≡ [] }
+    ensures state { (parts : Parts) (s : Stands parts) → s.r.state.members ≡ [] → parts.pool.members ≡ [] }
 {}

@@ -71,7 +71,8 @@ module _ (parts : Parts) (s : Stands parts) (k : ℕ) where
         → last_call k number (n + 1) [] (Some answer) s.r.state ≡ the_call
     bare-call u ran at_it =
         let state = s.r.state in
-        let a = free_run state number (term_at parts.pool number) [] (term-there parts s seat attempt task) (calm parts s seat attempt task).idle n (begun_with u []) ran
+        let first = term_at parts.pool number in
+        let a = free_run state number first [] (term-there parts s seat attempt task) (calm parts s seat attempt task).idle n (begun_with u []) ran
         (record { seen = tt; own = tt; made = tt }) in
         let here : steps (Label.Free number) number n (locations []) state ≡ Some a.behind = free-back number a.kinds n [] None state a.behind a.are a.made in
         let count : n + 1 ≡ suc n = omega arith in

@@ -38,7 +38,8 @@ newcomers-ready first next (body ∷ bodies) pool later free ready =
     newcomers-ready first (next + 1) bodies (joined (newcomer next body false) pool) (omega arith) (joined-free next body pool free)
     (λ i m above found. by i m above found (which i next))
   where
-    by : (i : ℕ) (m : Member Tree) → first ≤ i → find i (joined (newcomer next body false) pool).members ≡ Some m → (i ≡ next) ⊎ ((i ≡ next) → ⊥) → m.standing ≡ Standing.Ready
+    by : (i : ℕ) (m : Member Tree) → first ≤ i → find i (joined (newcomer next body false) pool).members ≡ Some m
+        → (i ≡ next) ⊎ ((i ≡ next) → ⊥) → m.standing ≡ Standing.Ready
     by i m above found (inl same) =
         let both : ◌≡◌ {A = Option (Member Tree)} (Some (newcomer next body false)) (Some m) = sym (found-new next body pool free).here
         ∙ ap (λ (k : ℕ). find k (joined (newcomer next body false) pool).members) (sym same) ∙ found in

@@ -9,3 +9,4 @@ pub mod NoteLemmas
 pub mod OpenLemmas
 pub mod CallLemmas
 pub mod LeaveLemmas
+pub mod EndLemmas

@@ -64,14 +64,15 @@ module _ (types : StoreTyping) (cells : List (Cell Val)) (copied : ℕ) where
       by true is e = ltb-true l (length cells) is
       by false is e = absurd (let clash : ◌≡◌ {A = Option (Sort × Typ)} None (Some cell) = e in cc)
 
-stored-live : (cell : Cell Val) → IsLive cell → stored_in cell ≡ Some cell.value
+pub stored-live : (cell : Cell Val) → IsLive cell → stored_in cell ≡ Some cell.value
 stored-live cell live = ap (λ (b : Bool). if b then Some cell.value else None) live
 
-stored-dead : (cell : Cell Val) → IsDead cell → stored_in cell ≡ None
+pub stored-dead : (cell : Cell Val) → IsDead cell → stored_in cell ≡ None
 stored-dead cell dead = ap (λ (b : Bool). if b then Some cell.value else None) dead
 
 module _ (program : Tree) (devices : ℕ) (limits : Limits) (base : List Entry) (cells : List (Cell Val)) (pool : Roster Tree) (r : Replayed)
-    (types : StoreTyping) (replayed : replay program base ≡ Some r) (typed : IsTyped devices types r.state) (o : AreOpened types cells r.state) (m : HasMembersOf r pool) where
+    (types : StoreTyping) (replayed : replay program base ≡ Some r) (typed : IsTyped devices types r.state) (o : AreOpened types cells r.state)
+    (m : HasMembersOf r pool) where
   abbrev parts : Parts
   parts = opened program devices limits base cells pool r.state.output r.state.next
 

@@ -3,6 +3,7 @@
 #![tactic(auto)]
 
 mod calls;
+mod ends;
 mod leaves;
 mod meets;
 mod opens;
@@ -10,6 +11,7 @@ mod stops;
 mod visits;
 
 pub use calls::journals_tell_the_calls_of_visits;
+pub use ends::{idle_engines_are_settled, pools_are_empty_where_states_are};
 pub use leaves::{members_rise_after_visits, visits_leave_the_others};
 pub use meets::{visits_can_run, visits_hold_nothing_before, visits_meet_what_lives};
 pub use opens::{engines_open, worn_members_open_alone};

@@ -1,3 +1,4 @@
+pub mod CountLemmas
 pub mod MemberLemmas
 pub mod WorkLemmas
 pub mod StartLemmas

@@ -8,3 +8,4 @@ pub mod BeginLemmas
 pub mod ReadingLemmas
 pub mod CheckLemmas
 pub mod WriteLemmas
+pub mod AllocLemmas

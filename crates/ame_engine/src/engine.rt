@@ -17,6 +17,7 @@ use ame_term::Loc;
 use std::marker::Model;
 use std::sync::Arc;
 
+mod alloc;
 mod begin;
 mod check;
 mod read;

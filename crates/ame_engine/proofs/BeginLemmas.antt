@@ -20,6 +20,7 @@ use Rattle.ame_stands.specs.Events.{begun_task, has_begun, one_turn, with_task}
 use Rattle.ame_stands.proofs.StepLemmas.{task_here}
 use Rattle.ame_stands.proofs.HomeLemmas.{begun_stands}
 use Rattle.ame_engine.specs.Core.{Core}
+use Rattle.ame_engine.specs.Counting.{Counted, one_counted}
 use Rattle.ame_stands.specs.Shown.{shown_pool}
 use Rattle.ame_engine.specs.Seen.{parts_of, term_shown, MakesEvent}
 use Rattle.ame_engine.specs.Whole.{resting_at, IsAtRest, IsWhole}
@@ -33,6 +34,7 @@ use Rattle.ame_stands.proofs.ShownPoolLemmas.{machine-shown, held-shown}
 use Rattle.ame_engine.proofs.MemberLemmas.{all_altered, inside-told, ready-machine, inside-same, ready-same}
 use Rattle.ame_engine.proofs.WorkLemmas.{on-begun}
 use Rattle.ame_engine.proofs.RunLemmas.{rest-runs}
+use Rattle.ame_engine.proofs.CountLemmas.{one-counts}
 
 module _ {C V M : Type 0} (program : C → Tree) (devices : C → ℕ) (is_value : C → V → Type 0) (value_of : C → V → Val)
     (is_machine : C → M → Type 0) (stage : C → M → Stage) where
@@ -64,10 +66,12 @@ module _ {C V M : Type 0} (program : C → Tree) (devices : C → ℕ) (is_value
       desk = whole.desk;
       members = all_altered number begun (IsAtRest is_machine stage core.code)
           (λ m rests. record { machine = rests.machine; rests = rests.rests }) core.pool.members whole.members;
+      counters = one-counts core.turns core.counters whole.counters Counted.Begin;
+      text = whole.text;
     }
 
-    pub begun-makes : MakesEvent program devices value_of stage (has_begun seat number) core (begun_by seat number core)
-    begun-makes = record { code = refl; parts = begun-parts seat number core }
+    pub begun-makes : MakesEvent program devices value_of stage (one_counted Counted.Begin) (has_begun seat number) core (begun_by seat number core)
+    begun-makes = record { code = refl; parts = begun-parts seat number core; counted = refl }
 
     -- the machine of the member that begins
     module _ (held_machine : M) (found : machine_of number core.pool ≡ Some held_machine) where
@@ -147,7 +151,7 @@ module _ {C V M : Type 0} (program : C → Tree) (devices : C → ℕ) (is_value
     (attempt_is : attempt ≡ record { tried = record { number = number; at = length (base ++ entries); steps = 0 }; told = false })
     (base_is : base ≡ core.base) (entries_are : entries ≡ core.entries) (pool_is : pool ≡ held number core.pool) where
   abbrev after : Core C V M
-  after = record core { tasks = slice_set core.tasks seat task; pool = pool; turns = core.turns + 1 }
+  after = record core { tasks = slice_set core.tasks seat task; pool = pool; turns = core.turns + 1; counters = one_counted Counted.Begin core.counters }
 
   attempt-after : List Entry → Attempt
   attempt-after all = record { tried = record { number = number; at = length all; steps = 0 }; told = false }
@@ -160,7 +164,7 @@ module _ {C V M : Type 0} (program : C → Tree) (devices : C → ℕ) (is_value
   task-so = task_is ∙ ap (λ (b : Bool). begun_task b attempt) inside_is ∙ ap (begun_task (is_inside_at core.pool.members number)) attempt-so
 
   after-is : after ≡ begun_by seat number core
-  after-is = λ i. record core { tasks = slice_set core.tasks seat (task-so i); pool = pool_is i; turns = core.turns + 1 }
+  after-is = λ i. record core { tasks = slice_set core.tasks seat (task-so i); pool = pool_is i; turns = core.turns + 1; counters = one_counted Counted.Begin core.counters }
 
   within' : seat < core.limits.seats
   within' = subst (λ (x : Core C V M). seat < x.limits.seats) (sym view) within
@@ -178,9 +182,9 @@ module _ {C V M : Type 0} (program : C → Tree) (devices : C → ℕ) (is_value
   whole-begun = subst (IsWhole program devices is_value value_of is_machine stage) (sym after-is)
       (begun-whole program devices is_value value_of is_machine stage core whole seat number within' idle' ready' left')
 
-  pub makes-begun : MakesEvent program devices value_of stage (has_begun seat number) now after
-  makes-begun = subst (λ (x : Core C V M). MakesEvent program devices value_of stage (has_begun seat number) x after) view
-      (subst (MakesEvent program devices value_of stage (has_begun seat number) core) (sym after-is)
+  pub makes-begun : MakesEvent program devices value_of stage (one_counted Counted.Begin) (has_begun seat number) now after
+  makes-begun = subst (λ (x : Core C V M). MakesEvent program devices value_of stage (one_counted Counted.Begin) (has_begun seat number) x after) view
+      (subst (MakesEvent program devices value_of stage (one_counted Counted.Begin) (has_begun seat number) core) (sym after-is)
       (begun-makes program devices is_value value_of is_machine stage core whole seat number within' idle' ready' left'))
 
   module _ (m : M) (copied : ForSome (machine_of number core.pool) (λ resting. same resting m)) where

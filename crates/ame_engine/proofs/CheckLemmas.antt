@@ -25,11 +25,14 @@ use Rattle.ame_stands.proofs.DeskEvents.{desk-valid}
 use Rattle.ame_stands.proofs.TurnLemmas.{checked_stands, turned_back}
 use Rattle.ame_stands.proofs.ToldLemmas.{stopped_stands}
 use Rattle.ame_engine.specs.declared.stop.Stop.{Stop}
+use Rattle.ame_engine.specs.declared.counters.Counters.{Counters}
 use Rattle.ame_engine.specs.Core.{Core}
+use Rattle.ame_engine.specs.Counting.{Counted, one_counted, CountsTurns}
 use Rattle.ame_engine.specs.Seen.{parts_of, MakesEvent}
 use Rattle.ame_engine.specs.Whole.{IsWhole}
 use Rattle.ame_engine.specs.AtWork.{working, IsOnSeat, IsOn}
 use Rattle.ame_engine.proofs.ReadLemmas.{place-by, runs-as}
+use Rattle.ame_engine.proofs.CountLemmas.{one-counts}
 
 -- Valid reads are so at the shown cells.
 
@@ -82,6 +85,8 @@ module _ {C V M : Type 0} (program : C → Tree) (devices : C → ℕ) (is_value
     limits = whole.limits;
     desk = whole.desk;
     members = whole.members;
+    counters = whole.counters;
+    text = whole.text;
   }
 
   module _ (core now : Core C V M) (view : core ≡ now) (whole : IsWhole program devices is_value value_of is_machine stage core) (seat : ℕ) (m : M)
@@ -97,16 +102,20 @@ module _ {C V M : Type 0} (program : C → Tree) (devices : C → ℕ) (is_value
     its-attempt a e =
         ap (λ (t : Task). unwrap_or (working t) attempt) (sym is ∙ subst (λ (x : Core C V M). task_at x.tasks seat ≡ Task.Running a) (sym view) e)
 
-    -- it turns back
-    abbrev after-bad : Core C V M
-    after-bad = record core { tasks = slice_set core.tasks seat (Task.Undoing attempt Reason.RolledBack); turns = core.turns + 1 }
+    -- it turns back, and is counted so
+    abbrev after-bad : Counters → Core C V M
+    after-bad counters =
+        record core { tasks = slice_set core.tasks seat (Task.Undoing attempt Reason.RolledBack); turns = core.turns + 1; counters = counters }
 
-    pub whole-back : IsWhole program devices is_value value_of is_machine stage after-bad
-    whole-back = record {
+    pub whole-back : (counters : Counters) → CountsTurns (core.turns + 1) counters
+        → IsWhole program devices is_value value_of is_machine stage (after-bad counters)
+    whole-back counters counts = record {
       stands = turned_back parts whole.stands seat attempt is left';
       limits = whole.limits;
       desk = whole.desk;
       members = whole.members;
+      counters = counts;
+      text = whole.text;
     }
 
     -- or its row is valid
@@ -160,21 +169,30 @@ module _ {C V M : Type 0} (program : C → Tree) (devices : C → ℕ) (is_value
           ∙ ap (λ (xs : List Entry). later-with (core.base ++ xs) steps) entries_are ∙ ap (later-with (core.base ++ core.entries)) steps-are
 
       with-later : Attempt → Core C V M
-      with-later a = record core { tasks = slice_set core.tasks seat (Task.Running a); turns = core.turns + 1 }
+      with-later a =
+          record core { tasks = slice_set core.tasks seat (Task.Running a); turns = core.turns + 1; counters = one_counted Counted.Check core.counters }
 
       abbrev after-valid : Core C V M
-      after-valid = record core { tasks = slice_set core.tasks seat (Task.Running later); turns = core.turns + 1 }
+      after-valid =
+          record core { tasks = slice_set core.tasks seat (Task.Running later); turns = core.turns + 1; counters = one_counted Counted.Check core.counters }
 
       parts-valid : parts_of program devices value_of stage after-valid ≡ has_checked seat s.steps attempt parts
       unfolding with-later later-with
       parts-valid = ap (λ (a : Attempt). parts_of program devices value_of stage (with-later a)) later-so
 
       pub whole-valid : IsWhole program devices is_value value_of is_machine stage after-valid
-      whole-valid = record { stands = subst Stands (sym parts-valid) checked-core; limits = whole.limits; desk = whole.desk; members = whole.members }
+      whole-valid = record {
+        stands = subst Stands (sym parts-valid) checked-core;
+        limits = whole.limits;
+        desk = whole.desk;
+        members = whole.members;
+        counters = one-counts core.turns core.counters whole.counters Counted.Check;
+        text = whole.text;
+      }
 
       pub makes-valid : (a : Attempt) → task_at now.tasks seat ≡ Task.Running a
-          → MakesEvent program devices value_of stage (has_checked seat (stage now.code m).steps a) now after-valid
+          → MakesEvent program devices value_of stage (one_counted Counted.Check) (has_checked seat (stage now.code m).steps a) now after-valid
       makes-valid a e =
-          subst (λ (x : Attempt). MakesEvent program devices value_of stage (has_checked seat (stage now.code m).steps x) now after-valid) (its-attempt a e)
-          (subst (λ (x : Core C V M). MakesEvent program devices value_of stage (has_checked seat (stage x.code m).steps attempt) x after-valid) view
-          (record { code = refl; parts = parts-valid }))
+          subst (λ (x : Attempt). MakesEvent program devices value_of stage (one_counted Counted.Check) (has_checked seat (stage now.code m).steps x) now after-valid) (its-attempt a e)
+          (subst (λ (x : Core C V M). MakesEvent program devices value_of stage (one_counted Counted.Check) (has_checked seat (stage x.code m).steps attempt) x after-valid) view
+          (record { code = refl; parts = parts-valid; counted = refl }))

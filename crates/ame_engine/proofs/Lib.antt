@@ -1,3 +1,4 @@
+pub mod CountLemmas
 pub mod MemberLemmas
 pub mod WorkLemmas
 pub mod StartLemmas
@@ -7,3 +8,4 @@ pub mod BeginLemmas
 pub mod ReadingLemmas
 pub mod CheckLemmas
 pub mod WriteLemmas
+pub mod AllocLemmas

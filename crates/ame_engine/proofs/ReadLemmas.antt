@@ -1,5 +1,5 @@
 -- A seat reads.
-use Rattle.std.proofs.Common.{◌≡◌, ℕ, zero, suc, ◌+◌, ◌<◌, false, List, [], ◌∷◌, length, All, Option, Some, None, option_map, refl, sym, ap, ◌∙◌, subst, arith}
+use Rattle.std.proofs.Common.{◌≡◌, ℕ, zero, suc, ◌+◌, ◌<◌, false, List, [], ◌∷◌, map, length, All, Option, Some, None, option_map, refl, sym, ap, ◌∙◌, subst, arith}
 use Rattle.std.specs.Prelude.{slice_get}
 use Rattle.std.specs.Option.{option_map_or}
 use Rattle.std.proofs.lemmas.List.{length-map}
@@ -28,6 +28,7 @@ use Rattle.ame_stands.specs.Events.{has_read}
 use Rattle.ame_stands.proofs.StepLemmas.{seat_within}
 use Rattle.ame_stands.proofs.AccessLemmas.{read-there, read-stands}
 use Rattle.ame_engine.specs.Core.{Core}
+use Rattle.ame_engine.specs.Counting.{Counted, one_counted}
 use Rattle.ame_owed.specs.Shown.{shown_cell}
 use Rattle.ame_stands.specs.Shown.{shown_notes}
 use Rattle.ame_stands.proofs.ShownDeskLemmas.{read-shown}
@@ -36,6 +37,7 @@ use Rattle.ame_desk.proofs.LookupLemmas.{get_there, all_at}
 use Rattle.ame_engine.specs.Seen.{parts_of}
 use Rattle.ame_engine.specs.Whole.{IsGoodUndo, AreGoodNotes, IsWhole}
 use Rattle.ame_engine.specs.AtWork.{IsOnSeat, is_free, working}
+use Rattle.ame_engine.proofs.CountLemmas.{one-counts}
 
 -- Good values
 
@@ -96,6 +98,16 @@ comes-to parts seat s on act outside there =
 
 module _ {C V M : Type 0} (program : C → Tree) (devices : C → ℕ) (is_value : C → V → Type 0) (value_of : C → V → Val)
     (is_machine : C → M → Type 0) (stage : C → M → Stage) where
+  -- a seat that runs code is one of the desk
+  pub seat-in_rows : (core : Core C V M) → IsWhole program devices is_value value_of is_machine stage core → (seat : ℕ) (attempt : Attempt)
+      → task_at core.tasks seat ≡ Task.Running attempt → seat < length core.desk.rows
+  seat-in_rows core whole seat attempt task =
+      let within : seat < length core.tasks = seat_within core.tasks seat attempt (ap attempt_of task) in
+      let tasks : length core.tasks ≡ core.limits.seats = whole.stands.bounded.tasks in
+      let rows : length (map (shown_notes (value_of core.code)) core.desk.rows) ≡ core.limits.seats = whole.stands.bounded.rows in
+      let plain = length-map core.desk.rows (shown_notes (value_of core.code)) in
+      omega (arith, within, tasks, rows, plain)
+
   module _ (core : Core C V M) (whole : IsWhole program devices is_value value_of is_machine stage core) (seat : ℕ) (m : M) (l : Loc)
       (on : IsOnSeat (parts_of program devices value_of stage core) seat (stage core.code m)) (outside : (stage core.code m).inside ≡ false)
       (need : Need.Read l.0 ≡ need_of (stage core.code m)) where
@@ -114,14 +126,6 @@ module _ {C V M : Type 0} (program : C → Tree) (devices : C → ℕ) (is_value
         let there : IsCell (heap_in parts) l.0 = (read-there parts whole.stands seat on.attempt task (stage core.code m).steps comes.0 l comes.1).0 in
         subst (λ (n : ℕ). l.0 < n) (length-map core.desk.cells (shown_cell (value_of core.code))) there
 
-    pub seat-within : seat < length core.desk.rows
-    seat-within =
-        let within : seat < length core.tasks = seat_within core.tasks seat on.attempt (ap attempt_of task) in
-        let tasks : length core.tasks ≡ core.limits.seats = whole.stands.bounded.tasks in
-        let rows : length parts.desk.rows ≡ core.limits.seats = whole.stands.bounded.rows in
-        let plain : length parts.desk.rows ≡ length core.desk.rows = length-map core.desk.rows (shown_notes (value_of core.code)) in
-        omega (arith, within, tasks, rows, plain)
-
     -- what is in place there, as plain data
     pub in-place : (cell : Cell V) → slice_get core.desk.cells l.0 ≡ Some cell → (cell_at (heap_in parts) l.0).value ≡ value_of core.code cell.value
     in-place cell there =
@@ -134,7 +138,7 @@ module _ {C V M : Type 0} (program : C → Tree) (devices : C → ℕ) (is_value
         (row : IsRead same seat l core.desk.cells (row_at core.desk.rows seat) notes) where
       -- the engine after the read
       abbrev pub read_with : Core C V M
-      read_with = record core { desk = by_seat seat core.desk.cells notes core.desk; turns = core.turns + 1 }
+      read_with = record core { desk = by_seat seat core.desk.cells notes core.desk; turns = core.turns + 1; counters = one_counted Counted.Read core.counters }
 
       turned : Contents Val → Parts
       turned desk = record parts { desk = desk; turns = parts.turns + 1 }
@@ -166,4 +170,6 @@ module _ {C V M : Type 0} (program : C → Tree) (devices : C → ℕ) (is_value
           rows = All-set (AreGoodNotes (is_value core.code)) core.desk.rows seat notes good-row whole.desk.rows;
         };
         members = whole.members;
+        counters = one-counts core.turns core.counters whole.counters Counted.Read;
+        text = whole.text;
       }

@@ -17,6 +17,7 @@ use Rattle.ame_runner.specs.Sound.{IsSoundStage, CanRun}
 use Rattle.ame_stands.specs.Parts.{heap_in}
 use Rattle.ame_stands.specs.Events.{has_read}
 use Rattle.ame_engine.specs.Core.{Core}
+use Rattle.ame_engine.specs.Counting.{Counted, one_counted}
 use Rattle.ame_engine.specs.Seen.{parts_of, MakesEvent}
 use Rattle.ame_engine.specs.Whole.{IsWhole}
 use Rattle.ame_engine.specs.AtWork.{IsOnSeat, IsOn}
@@ -57,13 +58,13 @@ module _ {C V M : Type 0} (program : C → Tree) (devices : C → ℕ) (is_value
       (row : IsRead same seat l core.desk.cells (row_at core.desk.rows seat) (row_at desk.rows seat))
       (others : desk ≡ by_seat seat core.desk.cells (row_at desk.rows seat) core.desk) where
     abbrev after : Core C V M
-    after = record core { desk = desk; turns = core.turns + 1 }
+    after = record core { desk = desk; turns = core.turns + 1; counters = one_counted Counted.Read core.counters }
 
     there : (cell : Cell V) × (slice_get core.desk.cells l.0 ≡ Some cell)
     there = get_there core.desk.cells l.0 read-location
 
-    after-is : after ≡ record core { desk = by_seat seat core.desk.cells (row_at desk.rows seat) core.desk; turns = core.turns + 1 }
-    after-is = λ i. record core { desk = others i; turns = core.turns + 1 }
+    after-is : after ≡ record core { desk = by_seat seat core.desk.cells (row_at desk.rows seat) core.desk; turns = core.turns + 1; counters = one_counted Counted.Read core.counters }
+    after-is = λ i. record core { desk = others i; turns = core.turns + 1; counters = one_counted Counted.Read core.counters }
 
     left' : core.turns < core.limits.turns
     left' = subst (λ (x : Core C V M). x.turns < x.limits.turns) (sym view) left
@@ -75,15 +76,16 @@ module _ {C V M : Type 0} (program : C → Tree) (devices : C → ℕ) (is_value
     whole-read = subst (IsWhole program devices is_value value_of is_machine stage) (sym after-is)
         (read-whole program devices is_value value_of is_machine stage core whole seat m l on' outside' need' left' same shows' (keeps core.code) (row_at desk.rows seat) row)
 
-    pub makes-read : (k : Loc) → (stage now.code m).want ≡ Some (wants.Read k) → MakesEvent program devices value_of stage (has_read seat k) now after
+    pub makes-read : (k : Loc) → (stage now.code m).want ≡ Some (wants.Read k) → MakesEvent program devices value_of stage (one_counted Counted.Read) (has_read seat k) now after
     makes-read k e =
-        subst (λ (x : Loc). MakesEvent program devices value_of stage (has_read seat x) now after) (read-same l k (stage now.code m).want told e)
-        (subst (λ (x : Core C V M). MakesEvent program devices value_of stage (has_read seat l) x after) view
-        (subst (MakesEvent program devices value_of stage (has_read seat l) core) (sym after-is)
+        subst (λ (x : Loc). MakesEvent program devices value_of stage (one_counted Counted.Read) (has_read seat x) now after) (read-same l k (stage now.code m).want told e)
+        (subst (λ (x : Core C V M). MakesEvent program devices value_of stage (one_counted Counted.Read) (has_read seat l) x after) view
+        (subst (MakesEvent program devices value_of stage (one_counted Counted.Read) (has_read seat l) core) (sym after-is)
         (record {
           code = refl;
           parts = read-parts program devices is_value value_of is_machine stage core whole seat m l on' outside' need' left' same shows' (keeps core.code)
               (row_at desk.rows seat) row;
+          counted = refl;
         })))
 
     good-value : is_value core.code value

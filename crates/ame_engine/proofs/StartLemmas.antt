@@ -19,8 +19,11 @@ use Rattle.ame_stands.specs.Shown.{shown_notes}
 use Rattle.ame_stands.specs.Events.{started}
 use Rattle.ame_stands.proofs.StartLemmas.{started_stands}
 use Rattle.ame_engine.specs.Core.{Core}
+use Rattle.ame_engine.specs.declared.counters.Counters.{Counters}
+use Rattle.ame_engine.specs.Counting.{nothing_counted}
 use Rattle.ame_engine.specs.Seen.{parts_of}
 use Rattle.ame_engine.specs.Whole.{AreLimits, AreGoodNotes, IsGoodUndo, IsAtRest, IsWhole}
+use Rattle.ame_engine.proofs.CountLemmas.{none-counted}
 
 rows-shown : {V : Type 0} (view : V → Val) (n : ℕ) → map (shown_notes view) (replicate n no_notes) ≡ replicate n no_notes
 rows-shown view zero = refl
@@ -38,8 +41,10 @@ module _ {C V M : Type 0} (program : C → Tree) (devices : C → ℕ) (is_value
     tasks = replicate limits.seats Task.Idle;
     pool = joined (newcomer 0 machine false) (with_room 1 nobody);
     output = [];
+    text = [];
     next = 1;
     turns = 0;
+    counters = nothing_counted;
     tried = [];
     stop = None;
   }
@@ -69,13 +74,15 @@ module _ {C V M : Type 0} (program : C → Tree) (devices : C → ℕ) (is_value
         };
         members = All-cons (IsAtRest is_machine stage code) (newcomer 0 machine false) []
             (record { machine = good; rests = rests ∙ sym (ap (λ (s : Stage). starting_at s.term) rests) }) (All-nil (IsAtRest is_machine stage code));
+        counters = none-counted;
+        text = refl;
       }
 
-      module _ (base entries : List Entry) (store : List (Cell V)) (desk : Contents V) (tasks : List Task) (empty roomy pool : Roster M) (output : List ℤ) (tried : List Tried)
+      module _ (base entries : List Entry) (store : List (Cell V)) (desk : Contents V) (tasks : List Task) (empty roomy pool : Roster M) (output : List ℤ) (text : List ℕ) (counters : Counters) (tried : List Tried)
           (no_base : base ≡ []) (no_entries : entries ≡ []) (no_cells : store ≡ []) (fresh : desk ≡ record { cells = store; rows = replicate limits.seats no_notes })
           (idle : tasks ≡ replicate limits.seats Task.Idle) (is_empty : empty ≡ nobody) (is_roomy : roomy ≡ with_room 1 empty)
           (one : pool ≡ joined (newcomer 0 machine false) roomy)
-          (no_output : output ≡ []) (no_tries : tried ≡ []) where
+          (no_output : output ≡ []) (no_text : text ≡ []) (no_counts : counters ≡ nothing_counted) (no_tries : tried ≡ []) where
         abbrev found_core : Core C V M
         found_core = record {
           code = code;
@@ -86,8 +93,10 @@ module _ {C V M : Type 0} (program : C → Tree) (devices : C → ℕ) (is_value
           tasks = tasks;
           pool = pool;
           output = output;
+          text = text;
           next = 1;
           turns = 0;
+          counters = counters;
           tried = tried;
           stop = None;
         }
@@ -112,8 +121,10 @@ module _ {C V M : Type 0} (program : C → Tree) (devices : C → ℕ) (is_value
           tasks = idle i;
           pool = pool-is i;
           output = no_output i;
+          text = no_text i;
           next = 1;
           turns = 0;
+          counters = no_counts i;
           tried = no_tries i;
           stop = None;
         }

@@ -36,23 +36,24 @@ use Rattle.ame_stands.specs.declared.types.Attempt.{Attempt}
 use Rattle.ame_stands.specs.declared.types.Reason.{Reason}
 use Rattle.ame_stands.specs.declared.types.Task.{Task}
 use Rattle.ame_stands.specs.Parts.{Parts, heap_in, task_at, attempt_of, run_in}
-use Rattle.ame_stands.specs.Shown.{shown_desk, shown_notes}
+use Rattle.ame_stands.specs.Shown.{shown_desk}
 use Rattle.ame_stands.specs.Stands.{Stands}
 use Rattle.ame_stands.specs.Events.{has_written, has_turned_back}
-use Rattle.ame_stands.proofs.StepLemmas.{seat_within}
 use Rattle.ame_stands.proofs.AccessLemmas.{write-there, write-first_stands, write-later_stands}
 use Rattle.ame_stands.proofs.ToldLemmas.{cells-grow}
 use Rattle.ame_stands.proofs.ShownDeskLemmas.{write-shown}
 use Rattle.ame_engine.specs.declared.answer.Wrote.{Wrote as Answer}
 use Rattle.ame_engine.specs.declared.answer.Wrote.TheVariants as answer
 use Rattle.ame_engine.specs.Core.{Core}
+use Rattle.ame_engine.specs.Counting.{Counted, one_counted}
 use Rattle.ame_engine.specs.Seen.{parts_of, MakesEvent}
 use Rattle.ame_engine.specs.Whole.{IsGoodUndo, AreGoodNotes, IsGoodDesk, IsWhole}
 use Rattle.ame_engine.specs.AtWork.{IsOnSeat, IsOn}
 use Rattle.ame_engine.specs.Writing.{answer_to_write, refused_by}
-use Rattle.ame_engine.proofs.ReadLemmas.{row-good, runs-as, comes-to}
+use Rattle.ame_engine.proofs.ReadLemmas.{row-good, runs-as, comes-to, seat-in_rows}
 use Rattle.ame_engine.proofs.CheckLemmas.{whole-back}
 use Rattle.ame_engine.proofs.RunLemmas.{can-run}
+use Rattle.ame_engine.proofs.CountLemmas.{one-counts}
 
 -- The location that is wanted
 
@@ -199,12 +200,7 @@ module _ {C V M : Type 0} (program : C → Tree) (devices : C → ℕ) (is_value
   write-location = subst (λ (n : ℕ). l.0 < n) (length-map core.desk.cells (shown_cell (value_of core.code))) there
 
   pub write-seat : seat < length core.desk.rows
-  write-seat =
-      let within : seat < length core.tasks = seat_within core.tasks seat on'.attempt (ap attempt_of task) in
-      let tasks : length core.tasks ≡ core.limits.seats = whole.stands.bounded.tasks in
-      let rows : length parts.desk.rows ≡ core.limits.seats = whole.stands.bounded.rows in
-      let plain : length parts.desk.rows ≡ length core.desk.rows = length-map core.desk.rows (shown_notes (value_of core.code)) in
-      omega (arith, within, tasks, rows, plain)
+  write-seat = seat-in_rows program devices is_value value_of is_machine stage core whole seat on'.attempt task
 
   shown-there : (cell : Cell V) → slice_get core.desk.cells l.0 ≡ Some cell → slice_get parts.desk.cells l.0 ≡ Some (shown_cell (value_of core.code) cell)
   shown-there cell e = slice_get-map (shown_cell (value_of core.code)) core.desk.cells l.0 ∙ ap (option_map (shown_cell (value_of core.code))) e
@@ -235,7 +231,7 @@ module _ {C V M : Type 0} (program : C → Tree) (devices : C → ℕ) (is_value
     value-good = keeps core.code lent value copied lent-good
 
     abbrev after : Core C V M
-    after = record core { desk = desk; turns = core.turns + 1 }
+    after = record core { desk = desk; turns = core.turns + 1; counters = one_counted Counted.Write core.counters }
 
     turned : Contents Val → Parts
     turned d = record parts { desk = d; turns = parts.turns + 1 }
@@ -271,18 +267,20 @@ module _ {C V M : Type 0} (program : C → Tree) (devices : C → ℕ) (is_value
         limits = whole.limits;
         desk = subst (IsGoodDesk (is_value core.code)) (sym is) (desk-good (is_value core.code) seat l value input value-good input-good core.desk write-location whole.desk);
         members = whole.members;
+        counters = one-counts core.turns core.counters whole.counters Counted.Write;
+        text = whole.text;
       }
 
       pub makes-written : (k : Loc) (v : Val) → (stage now.code m).want ≡ Some (wants.Write k) → value_to_set (stage now.code m) ≡ Some v
-          → MakesEvent program devices value_of stage (has_written seat k v) now after
+          → MakesEvent program devices value_of stage (one_counted Counted.Write) (has_written seat k v) now after
       makes-written k v e set =
           let sets-now : value_to_set (stage now.code m) ≡ Some (value_of core.code value) =
           subst (λ (x : Core C V M). value_to_set (stage x.code m) ≡ Some (value_of core.code value)) view (sets ∙ ap Some (shows core.code lent value copied)) in
           let one : value_of core.code value ≡ v = ap (λ (o : Option Val). unwrap_or o v) (sym sets-now ∙ set) in
-          subst (λ (x : Val). MakesEvent program devices value_of stage (has_written seat k x) now after) one
-          (subst (λ (x : Loc). MakesEvent program devices value_of stage (has_written seat x (value_of core.code value)) now after) (write-same l k (stage now.code m).want wants-it e)
-          (subst (λ (x : Core C V M). MakesEvent program devices value_of stage (has_written seat l (value_of core.code value)) x after) view
-          (record { code = refl; parts = parts-written })))
+          subst (λ (x : Val). MakesEvent program devices value_of stage (one_counted Counted.Write) (has_written seat k x) now after) one
+          (subst (λ (x : Loc). MakesEvent program devices value_of stage (one_counted Counted.Write) (has_written seat x (value_of core.code value)) now after) (write-same l k (stage now.code m).want wants-it e)
+          (subst (λ (x : Core C V M). MakesEvent program devices value_of stage (one_counted Counted.Write) (has_written seat l (value_of core.code value)) x after) view
+          (record { code = refl; parts = parts-written; counted = refl })))
 
       pub runs-written : (t : Stage) → IsOnSeat (parts_of program devices value_of stage after) seat t → t.inside ≡ false → CanRun t
       runs-written t stands out = can-run (parts_of program devices value_of stage after) whole-written.stands seat t stands out
@@ -306,27 +304,38 @@ module _ {C V M : Type 0} (program : C → Tree) (devices : C → ℕ) (is_value
           is ∙ written_refused seat other.0 l value input core.desk found.0 write-seat found.1 other.1 other.2
 
       abbrev after-conflict : Core C V M
-      after-conflict = record core { desk = desk; tasks = slice_set core.tasks seat (Task.Undoing attempt Reason.RolledBack); turns = core.turns + 1 }
+      after-conflict = record core {
+        desk = desk;
+        tasks = slice_set core.tasks seat (Task.Undoing attempt Reason.RolledBack);
+        turns = core.turns + 1;
+        counters = one_counted Counted.Conflict core.counters;
+      }
 
       with-desk : Contents V → Core C V M
-      with-desk d = record core { desk = d; tasks = slice_set core.tasks seat (Task.Undoing attempt Reason.RolledBack); turns = core.turns + 1 }
+      with-desk d = record core {
+        desk = d;
+        tasks = slice_set core.tasks seat (Task.Undoing attempt Reason.RolledBack);
+        turns = core.turns + 1;
+        counters = one_counted Counted.Conflict core.counters;
+      }
 
       pub whole-conflict : IsWhole program devices is_value value_of is_machine stage after-conflict
       unfolding with-desk
       whole-conflict = subst (λ (d : Contents V). IsWhole program devices is_value value_of is_machine stage (with-desk d)) (sym desk-stays)
-          (whole-back program devices is_value value_of is_machine stage core now view whole seat m on outside left attempt runs)
+          (whole-back program devices is_value value_of is_machine stage core now view whole seat m on outside left attempt runs
+          (one_counted Counted.Conflict core.counters) (one-counts core.turns core.counters whole.counters Counted.Conflict))
 
       its-attempt : (a : Attempt) → task_at now.tasks seat ≡ Task.Running a → attempt ≡ a
       its-attempt a e =
           ap (λ (t : Task). unwrap_or (attempt_of t) attempt) (sym runs ∙ subst (λ (x : Core C V M). task_at x.tasks seat ≡ Task.Running a) (sym view) e)
 
-      pub makes-conflict : (a : Attempt) → task_at now.tasks seat ≡ Task.Running a → MakesEvent program devices value_of stage (has_turned_back seat a) now after-conflict
+      pub makes-conflict : (a : Attempt) → task_at now.tasks seat ≡ Task.Running a → MakesEvent program devices value_of stage (one_counted Counted.Conflict) (has_turned_back seat a) now after-conflict
       unfolding with-desk
       makes-conflict a e =
-          subst (λ (x : Attempt). MakesEvent program devices value_of stage (has_turned_back seat x) now after-conflict) (its-attempt a e)
-          (subst (λ (x : Core C V M). MakesEvent program devices value_of stage (has_turned_back seat attempt) x after-conflict) view
-          (subst (λ (d : Contents V). MakesEvent program devices value_of stage (has_turned_back seat attempt) core (with-desk d)) (sym desk-stays)
-          (record { code = refl; parts = refl })))
+          subst (λ (x : Attempt). MakesEvent program devices value_of stage (one_counted Counted.Conflict) (has_turned_back seat x) now after-conflict) (its-attempt a e)
+          (subst (λ (x : Core C V M). MakesEvent program devices value_of stage (one_counted Counted.Conflict) (has_turned_back seat attempt) x after-conflict) view
+          (subst (λ (d : Contents V). MakesEvent program devices value_of stage (one_counted Counted.Conflict) (has_turned_back seat attempt) core (with-desk d)) (sym desk-stays)
+          (record { code = refl; parts = refl; counted = refl })))
 
       pub runs-conflict : (t : Stage) → IsOnSeat (parts_of program devices value_of stage after-conflict) seat t → t.inside ≡ false → CanRun t
       runs-conflict t stands out = can-run (parts_of program devices value_of stage after-conflict) whole-conflict.stands seat t stands out

@@ -2,6 +2,8 @@
 use Rattle.std.specs.Prelude.{◌≡◌, ℕ, ◌+◌, Bool, true, false, Option, Some, None}
 use Rattle.ame_term.specs.Tree.{Val, Tree}
 use Rattle.ame_term.specs.declared.types.Loc.{Loc}
+use Rattle.ame_term.specs.declared.types.Sort.{Sort}
+use Rattle.ame_term.specs.declared.types.TyNo.{TyNo}
 use Rattle.ame_desk.specs.Contents.{row_at}
 use Rattle.ame_runner.specs.declared.wants.Wants.TheVariants as wants
 use Rattle.ame_runner.specs.Stage.{Stage, OnRun}
@@ -40,6 +42,13 @@ pub record IsReading (s : Stage) : Type 0 where
 pub record IsWriting (s : Stage) : Type 0 where
   pub l : Loc
   pub wants : s.want ≡ Some (wants.Write l)
+  pub outside : s.inside ≡ false
+
+-- or to an allocation
+pub record IsAllocating (s : Stage) : Type 0 where
+  pub sort : Sort
+  pub number : TyNo
+  pub wants : s.want ≡ Some (wants.Alloc sort number)
   pub outside : s.inside ≡ false
 
 module _ {C V M : Type 0} (program : C → Tree) (devices : C → ℕ) (value_of : C → V → Val) (is_machine : C → M → Type 0)

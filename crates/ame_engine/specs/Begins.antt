@@ -9,6 +9,7 @@ use Rattle.ame_stands.specs.Events.{begun_task}
 use Rattle.ame_engine.specs.declared.answer.Begin.{Begin}
 use Rattle.ame_engine.specs.declared.answer.Begin.TheVariants as answer
 use Rattle.ame_engine.specs.declared.chance.Chance.{Chance}
+use Rattle.ame_engine.specs.Counting.{Counted, one_counted}
 use Rattle.ame_engine.specs.Core.{Core}
 
 -- where members are left: the turns may be used up, or none may begin
@@ -40,6 +41,7 @@ module _ {C V M : Type 0} where
     tasks = slice_set core.tasks seat (begun_task (is_inside_at core.pool.members number) (attempt_now number core));
     pool = held number core.pool;
     turns = core.turns + 1;
+    counters = one_counted Counted.Begin core.counters;
   }
 
 module _ {M : Type 0} (begins : ℕ → M → Type 0) (stays : Type 0) where

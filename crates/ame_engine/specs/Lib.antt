@@ -1,3 +1,4 @@
+pub mod Counting
 pub mod Core
 pub mod Seen
 pub mod Whole

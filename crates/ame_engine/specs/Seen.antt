@@ -4,6 +4,7 @@ use Rattle.ame_term.specs.Tree.{Val, Tree}
 use Rattle.ame_runner.specs.Stage.{Stage}
 use Rattle.ame_stands.specs.Parts.{Parts}
 use Rattle.ame_stands.specs.Shown.{shown_desk, shown_pool}
+use Rattle.ame_engine.specs.declared.counters.Counters.{Counters}
 use Rattle.ame_engine.specs.Core.{Core}
 
 -- the term for which a machine stands
@@ -29,7 +30,8 @@ module _ {C V M : Type 0} (program : C → Tree) (devices : C → ℕ) (value_of
     stopped = is_some core.stop;
   }
 
-  -- An event: the code stays, and the plain parts become what it makes of them.
-  pub record MakesEvent (event : Parts → Parts) (old new : Core C V M) : Type 0 where
+  -- An event: the code stays, the plain parts become what it makes of them, and it is counted.
+  pub record MakesEvent (counts : Counters → Counters) (event : Parts → Parts) (old new : Core C V M) : Type 0 where
     pub code : new.code ≡ old.code
     pub parts : parts_of new ≡ event (parts_of old)
+    pub counted : new.counters ≡ counts old.counters

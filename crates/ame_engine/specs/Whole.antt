@@ -1,5 +1,6 @@
 -- What each engine keeps.
 use Rattle.std.specs.Prelude.{◌≡◌, ℕ, ◌≤◌, Bool, All}
+use Rattle.ame_io.specs.Lines.{lines}
 use Rattle.ame_term.specs.Tree.{Val, Tree}
 use Rattle.ame_rows.specs.declared.notes.Undo.{Undo}
 use Rattle.ame_rows.specs.declared.notes.Undo.TheVariants.{Wrote, Made}
@@ -8,6 +9,7 @@ use Rattle.ame_desk.specs.Contents.{Notes, Contents}
 use Rattle.ame_runner.specs.Stage.{Stage, starting_at}
 use Rattle.ame_stands.specs.declared.types.Limits.{Limits}
 use Rattle.ame_stands.specs.Stands.{Stands}
+use Rattle.ame_engine.specs.Counting.{CountsTurns}
 use Rattle.ame_engine.specs.Core.{Core}
 use Rattle.ame_engine.specs.Seen.{parts_of}
 
@@ -49,9 +51,11 @@ module _ {C M : Type 0} (is_machine : C → M → Type 0) (stage : C → M → S
 module _ {C V M : Type 0} (program : C → Tree) (devices : C → ℕ) (is_value : C → V → Type 0) (value_of : C → V → Val)
     (is_machine : C → M → Type 0) (stage : C → M → Stage) where
   -- The plain parts stand for the state to which the journal leads, the limits are in range, each value at the desk is one of
-  -- the code, and the members' machines are at rest.
+  -- the code, and the members' machines are at rest. Each turn is counted by its kind, and the text is the lines of the output.
   pub record IsWhole (core : Core C V M) : Type 0 where
     pub stands : Stands (parts_of program devices value_of stage core)
     pub limits : AreLimits core.limits
     pub desk : IsGoodDesk (is_value core.code) core.desk
     pub members : All (IsAtRest is_machine stage core.code) core.pool.members
+    pub counters : CountsTurns core.turns core.counters
+    pub text : core.text ≡ lines core.output

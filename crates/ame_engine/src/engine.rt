@@ -1,9 +1,11 @@
 //! The engine.
 
 ghost use Rattle.std.specs.Prelude.{◌≡◌, ◌<◌, length, slice_get, option_copied, Some};
+ghost use Rattle.ame_io.specs.Lines.{lines};
 ghost use Rattle.ame_desk.specs.Committed.{committed as committed_at};
 ghost use Rattle.ame_stands.specs.Parts.{task_at};
 
+use crate::counters::Counters;
 use crate::stop::Stop;
 use ame_desk::Desk;
 use ame_journal::{Entry, Journal};
@@ -15,6 +17,7 @@ use ame_term::Loc;
 use std::marker::Model;
 use std::sync::Arc;
 
+mod alloc;
 mod begin;
 mod check;
 mod read;
@@ -36,8 +39,10 @@ where
     tasks: Vec<Task>,
     pool: Pool<M>,
     output: Vec<i64>,
+    text: Vec<u8>,
     next: u64,
     turns: u32,
+    counters: Counters,
     tried: Vec<Tried>,
     stop: Option<Stop>,
 }
@@ -56,8 +61,10 @@ where
             tasks: _,
             pool: _,
             output: _,
+            text: _,
             next: _,
             turns: _,
+            counters: _,
             tried: _,
             stop: _,
         } = self;
@@ -84,8 +91,10 @@ where
       tasks = e.tasks.items;
       pool = e.pool;
       output = e.output.items;
+      text = e.text.items;
       next = e.next;
       turns = e.turns;
+      counters = e.counters;
       tried = e.tried.items;
       stop = e.stop;
     } };
@@ -99,8 +108,10 @@ where
       tasks = e.tasks.items;
       pool = e.pool;
       output = e.output.items;
+      text = e.text.items;
       next = e.next;
       turns = e.turns;
+      counters = e.counters;
       tried = e.tried.items;
       stop = e.stop;
     }) };
@@ -122,6 +133,13 @@ where
         ensures { result ≡ self.now.turns }
     {
         self.turns
+    }
+
+    /// The events that counted, by their kinds.
+    pub fn counters(&self) -> &Counters
+        ensures { result.now ≡ self.now.counters }
+    {
+        &self.counters
     }
 
     /// The stop that is kept.
@@ -150,6 +168,14 @@ where
         ensures { result.now ≡ self.now.output }
     {
         self.output.as_slice()
+    }
+
+    /// The lines of the output.
+    pub fn text(&self) -> &[u8]
+        ensures text { result.now ≡ self.now.text }
+        ensures lines { result.now ≡ lines self.now.output }
+    {
+        self.text.as_slice()
     }
 
     /// The tries that left no entry.

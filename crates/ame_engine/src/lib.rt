@@ -3,9 +3,11 @@
 
 mod answer;
 mod chance;
+mod counters;
 mod engine;
 mod stop;
 
 pub use answer::{Begin, Checked, Wrote};
+pub use counters::Counters;
 pub use engine::Engine;
 pub use stop::Stop;

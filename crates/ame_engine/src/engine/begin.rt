@@ -8,6 +8,7 @@ ghost use Rattle.ame_pool.specs.Keeps.{is_inside_at};
 ghost use Rattle.ame_runner.specs.Sound.{CanRun};
 ghost use Rattle.ame_stands.specs.Parts.{task_at};
 ghost use Rattle.ame_stands.specs.Events.{begun_task as task_begun, has_begun};
+ghost use Rattle.ame_engine.specs.Counting.{Counted, one_counted};
 ghost use Rattle.ame_engine.specs.Seen.{MakesEvent};
 ghost use Rattle.ame_engine.specs.AtWork.{IsOn};
 ghost use Rattle.ame_engine.specs.Begins.{chance_of, Answers};
@@ -98,7 +99,7 @@ where
         requires idle { task_at self.old.tasks seat ≡ Task.Idle }
         requires ready { IsAt is_ready number self.old.pool }
         requires left { self.old.turns < self.old.limits.turns }
-        ensures event { OnOk result (MakesEvent M.program M.devices M.value_of M.stage (has_begun seat number) self.old self.new) }
+        ensures event { OnOk result (MakesEvent M.program M.devices M.value_of M.stage (one_counted Counted.Begin) (has_begun seat number) self.old self.new) }
         ensures machine { IfOk result (IsOn M.program M.devices M.value_of M.is_machine M.stage self.new seat) }
         ensures runs { IfOk result (λ m. CanRun (M.stage self.new.code m)) }
         ensures err { OnErr result (self.new ≡ self.old) }
@@ -109,6 +110,7 @@ where
         hold(&mut self.pool, number);
         self.tasks[seat as usize] = task;
         self.turns += 1;
+        self.counters.begins += 1;
         Ok(machine)
     }
 
@@ -117,7 +119,8 @@ where
     pub fn begin(&mut self, seat: u32) -> Result<Begin<M>, NoMemory>
         requires seat { seat < self.old.limits.seats }
         requires idle { task_at self.old.tasks seat ≡ Task.Idle }
-        ensures answer { IfOk result (Answers (λ number m. MakesEvent M.program M.devices M.value_of M.stage (has_begun seat number) self.old self.new
+        ensures answer { IfOk result (Answers (λ number m.
+            MakesEvent M.program M.devices M.value_of M.stage (one_counted Counted.Begin) (has_begun seat number) self.old self.new
             × IsOn M.program M.devices M.value_of M.is_machine M.stage self.new seat m × CanRun (M.stage self.new.code m))
             (self.new ≡ self.old) (chance_of self.old)) }
         ensures err { OnErr result (self.new ≡ self.old) }

@@ -7,6 +7,7 @@ ghost use Rattle.ame_desk.specs.Contents.{row_at};
 ghost use Rattle.ame_stands.specs.declared.types.Attempt.{Attempt};
 ghost use Rattle.ame_stands.specs.Parts.{task_at};
 ghost use Rattle.ame_stands.specs.Events.{has_checked, has_turned_back};
+ghost use Rattle.ame_engine.specs.Counting.{Counted, one_counted, one_invalid};
 ghost use Rattle.ame_engine.specs.Seen.{MakesEvent};
 ghost use Rattle.ame_engine.specs.AtWork.{IsOn};
 
@@ -42,9 +43,10 @@ where
         requires full { (M.stage self.old.code at.now).since ≡ self.old.limits.slice }
         requires left { self.old.turns < self.old.limits.turns }
         ensures valid { (attempt : Attempt) → task_at self.old.tasks seat ≡ Task.Running attempt → result ≡ Checked.Valid
-            → MakesEvent M.program M.devices M.value_of M.stage (has_checked seat (M.stage self.old.code at.now).steps attempt) self.old self.new }
+            → MakesEvent M.program M.devices M.value_of M.stage (one_counted Counted.Check)
+            (has_checked seat (M.stage self.old.code at.now).steps attempt) self.old self.new }
         ensures back { (attempt : Attempt) (bad : Bad) → task_at self.old.tasks seat ≡ Task.Running attempt → result ≡ Checked.Invalid bad
-            → MakesEvent M.program M.devices M.value_of M.stage (has_turned_back seat attempt) self.old self.new }
+            → MakesEvent M.program M.devices M.value_of M.stage (one_invalid Counted.Check) (has_turned_back seat attempt) self.old self.new }
         ensures exact { (result ≡ Checked.Valid) ↔ IsValid self.old.desk.cells seat (row_at self.old.desk.rows seat).reads }
         ensures bad { (bad : Bad) → result ≡ Checked.Invalid bad → IsFirstBad self.old.desk.cells seat (row_at self.old.desk.rows seat).reads bad }
     {
@@ -62,11 +64,14 @@ where
                 );
                 self.tasks[seat as usize] = Task::Running(later);
                 self.turns += 1;
+                self.counters.checks += 1;
                 Checked::Valid
             }
             Some(bad) => {
                 self.tasks[seat as usize] = Task::Undoing(attempt, Reason::RolledBack);
                 self.turns += 1;
+                self.counters.checks += 1;
+                self.counters.invalids += 1;
                 Checked::Invalid(bad)
             }
         }

@@ -8,6 +8,7 @@ ghost use Rattle.ame_runner.specs.Stage.{Stage};
 ghost use Rattle.ame_runner.specs.Sound.{CanRun};
 ghost use Rattle.ame_stands.specs.Parts.{heap_in};
 ghost use Rattle.ame_stands.specs.Events.{has_read};
+ghost use Rattle.ame_engine.specs.Counting.{Counted, one_counted};
 ghost use Rattle.ame_engine.specs.Seen.{parts_of, MakesEvent};
 ghost use Rattle.ame_engine.specs.AtWork.{IsOn, IsOnSeat, IsReading};
 
@@ -26,7 +27,7 @@ where
         requires reads { IsReading (M.stage self.old.code at.now) }
         requires left { self.old.turns < self.old.limits.turns }
         ensures event { (l : Loc) → (M.stage self.old.code at.now).want ≡ Some (Wants.Read l)
-            → OnOk result (MakesEvent M.program M.devices M.value_of M.stage (has_read seat l) self.old self.new) }
+            → OnOk result (MakesEvent M.program M.devices M.value_of M.stage (one_counted Counted.Read) (has_read seat l) self.old self.new) }
         ensures value { (l : Loc) → (M.stage self.old.code at.now).want ≡ Some (Wants.Read l) → IfOk result (λ value.
             M.value_of self.old.code value ≡ (cell_at (heap_in (parts_of M.program M.devices M.value_of M.stage self.old)) l.0).value) }
         ensures good { IfOk result (M.is_value self.old.code) }
@@ -38,6 +39,7 @@ where
         };
         let value = self.desk.read(seat, l)?;
         self.turns += 1;
+        self.counters.reads += 1;
         Ok(value)
     }
 }

@@ -3,10 +3,12 @@
 ghost use Rattle.std.specs.Prelude.{◌≡◌, IfOk, replicate};
 ghost use Rattle.std.specs.Arc.{arc_value};
 ghost use Rattle.ame_stands.specs.Events.{started};
+ghost use Rattle.ame_engine.specs.Counting.{nothing_counted};
 ghost use Rattle.ame_engine.specs.Seen.{parts_of};
 ghost use Rattle.ame_engine.specs.Whole.{AreLimits};
 
 use super::Engine;
+use crate::counters::Counters;
 use ame_desk::Desk;
 use ame_journal::Journal;
 use ame_pool::Pool;
@@ -38,6 +40,7 @@ where
         ensures code { IfOk result (λ engine. engine.code ≡ arc_value code) }
         ensures parts { IfOk result (λ engine. parts_of M.program M.devices M.value_of M.stage engine
             ≡ started (M.program (arc_value code)) (M.devices (arc_value code)) limits 0) }
+        ensures counters { IfOk result (λ engine. engine.counters ≡ nothing_counted) }
     {
         let machine = M::start(alloc, &code)?;
         let desk = Desk::new(alloc, Store::new(alloc), limits.seats)?;
@@ -54,8 +57,10 @@ where
             tasks,
             pool,
             output: Vec::new(alloc),
+            text: Vec::new(alloc),
             next: 1,
             turns: 0,
+            counters: Counters::new(),
             tried: Vec::new(alloc),
             stop: None,
         })

@@ -11,6 +11,7 @@ ghost use Rattle.ame_runner.specs.Sound.{CanRun};
 ghost use Rattle.ame_stands.specs.declared.types.Attempt.{Attempt};
 ghost use Rattle.ame_stands.specs.Parts.{heap_in, task_at};
 ghost use Rattle.ame_stands.specs.Events.{has_written, has_turned_back};
+ghost use Rattle.ame_engine.specs.Counting.{Counted, one_counted};
 ghost use Rattle.ame_engine.specs.Seen.{parts_of, MakesEvent};
 ghost use Rattle.ame_engine.specs.AtWork.{IsOn, IsOnSeat, IsWriting};
 ghost use Rattle.ame_engine.specs.Writing.{answer_to_write, refused_by};
@@ -46,9 +47,9 @@ where
             answer ≡ answer_to_write seat (cell_at (heap_in (parts_of M.program M.devices M.value_of M.stage self.old)) l.0).owner) }
         ensures event { (l : Loc) (v : Val) → (M.stage self.old.code at.now).want ≡ Some (Wants.Write l)
             → value_to_set (M.stage self.old.code at.now) ≡ Some v → result ≡ Ok Wrote.Wrote
-            → MakesEvent M.program M.devices M.value_of M.stage (has_written seat l v) self.old self.new }
+            → MakesEvent M.program M.devices M.value_of M.stage (one_counted Counted.Write) (has_written seat l v) self.old self.new }
         ensures back { (attempt : Attempt) (owner : ℕ) → task_at self.old.tasks seat ≡ Task.Running attempt → result ≡ Ok (Wrote.Conflict owner)
-            → MakesEvent M.program M.devices M.value_of M.stage (has_turned_back seat attempt) self.old self.new }
+            → MakesEvent M.program M.devices M.value_of M.stage (one_counted Counted.Conflict) (has_turned_back seat attempt) self.old self.new }
         ensures runs { OnOk result ((s : Stage) → IsOnSeat (parts_of M.program M.devices M.value_of M.stage self.new) seat s → s.inside ≡ false → CanRun s) }
         ensures err { OnErr result (self.new ≡ self.old) }
     {
@@ -63,11 +64,13 @@ where
         match refusal(written) {
             None => {
                 self.turns += 1;
+                self.counters.writes += 1;
                 Ok(Wrote::Wrote)
             }
             Some(owner) => {
                 self.tasks[seat as usize] = Task::Undoing(attempt, Reason::RolledBack);
                 self.turns += 1;
+                self.counters.conflicts += 1;
                 Ok(Wrote::Conflict(owner))
             }
         }

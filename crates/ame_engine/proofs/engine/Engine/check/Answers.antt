@@ -3,6 +3,8 @@ use Rattle.ame_rows.specs.Valid.{IsValid}
 use Rattle.ame_desk.specs.Contents.{row_at}
 use Rattle.ame_stands.specs.declared.types.Task.{Task}
 use Rattle.ame_stands.specs.Parts.{task_at}
+use Rattle.ame_engine.specs.Counting.{Counted, one_invalid}
+use Rattle.ame_engine.proofs.CountLemmas.{invalid-counts}
 use Rattle.ame_engine.proofs.CheckLemmas.{its-task, whole-back, whole-valid, makes-valid}
 use Rattle.ame_engine.proofs.engine.Engine.check.Goals as goal
 
@@ -22,6 +24,7 @@ invariant_of-self-in-Some g c =
     its-task _ c.args.self.now c.self.view_is c.args.seat c.requires.on.stands.attempt c.requires.on.stands.has _ c.in-Running.attempt c.index.ensures c.in-Running.is in
     whole-back g.M.Runner.program g.M.Runner.devices g.M.Runner.is_value g.M.Runner.value_of g.M.Runner.is_machine g.M.Runner.stage
     _ c.args.self.now c.self.view_is c.self.invariant c.args.seat c.args.at.now c.requires.on c.requires.outside c.requires.left c.in-Running.attempt is
+    (one_invalid Counted.Check (c.self.inside.counters)) (invalid-counts c.self.inside.turns c.self.inside.counters c.self.invariant.counters Counted.Check)
 
 pub returns-in-None-clause-valid : goal.returns-in-None-clause-valid
 returns-in-None-clause-valid g c =

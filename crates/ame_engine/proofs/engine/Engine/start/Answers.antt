@@ -11,11 +11,12 @@ invariant_of-result g c =
     let good : g.M.Runner.is_machine (arc_value c.args.code) m = search rules in
     let rests : g.M.Runner.stage (arc_value c.args.code) m ≡ starting_at (g.M.Runner.program (arc_value c.args.code)) = search rules in
     let output : c.new-5.result.items ≡ [] = search rules in
-    let tried : c.new-6.result.items ≡ [] = search rules in
+    let text : c.new-6.result.items ≡ [] = search rules in
+    let tried : c.new-8.result.items ≡ [] = search rules in
     whole-started g.M.Runner.program g.M.Runner.devices g.M.Runner.is_value g.M.Runner.value_of g.M.Runner.is_machine g.M.Runner.stage
     code c.args.limits m rests c.requires good (g.met.M.Runner.accepted (arc_value c.args.code))
-    _ _ _ _ _ _ _ _ _ _ c.new-3.ensures c.new-4.ensures c.new.ensures c.in_ok-desk.ensures c.in_ok-tasks.ensures
-    c.new-pool.ensures c.in_ok-room.ensures.ok c.add.ensures output tried
+    _ _ _ _ _ _ _ _ _ _ _ _ c.new-3.ensures c.new-4.ensures c.new.ensures c.in_ok-desk.ensures c.in_ok-tasks.ensures
+    c.new-pool.ensures c.in_ok-room.ensures.ok c.add.ensures output text c.new-7.ensures tried
 
 pub returns-clause-parts : goal.returns-clause-parts
 returns-clause-parts g c =
@@ -24,8 +25,9 @@ returns-clause-parts g c =
     let good : g.M.Runner.is_machine (arc_value c.args.code) m = search rules in
     let rests : g.M.Runner.stage (arc_value c.args.code) m ≡ starting_at (g.M.Runner.program (arc_value c.args.code)) = search rules in
     let output : c.new-5.result.items ≡ [] = search rules in
-    let tried : c.new-6.result.items ≡ [] = search rules in
+    let text : c.new-6.result.items ≡ [] = search rules in
+    let tried : c.new-8.result.items ≡ [] = search rules in
     parts-started g.M.Runner.program g.M.Runner.devices g.M.Runner.is_value g.M.Runner.value_of g.M.Runner.is_machine g.M.Runner.stage
     code c.args.limits m rests c.requires good (g.met.M.Runner.accepted (arc_value c.args.code))
-    _ _ _ _ _ _ _ _ _ _ c.new-3.ensures c.new-4.ensures c.new.ensures c.in_ok-desk.ensures c.in_ok-tasks.ensures
-    c.new-pool.ensures c.in_ok-room.ensures.ok c.add.ensures output tried
+    _ _ _ _ _ _ _ _ _ _ _ _ c.new-3.ensures c.new-4.ensures c.new.ensures c.in_ok-desk.ensures c.in_ok-tasks.ensures
+    c.new-pool.ensures c.in_ok-room.ensures.ok c.add.ensures output text c.new-7.ensures tried

@@ -1,0 +1,168 @@
+-- A seat makes a cell.
+use Rattle.std.proofs.Common.{◌≡◌, ℕ, ◌+◌, ◌<◌, false, length, Option, Some, refl, sym, ap, ◌∙◌, subst}
+use Rattle.std.specs.Prelude.{unwrap_or}
+use Rattle.std.proofs.lemmas.List.{length-map}
+use Rattle.std.proofs.lemmas.List.Elements.{All-push, All-set}
+use Rattle.ame_term.specs.Tree.{Val, Tree}
+use Rattle.ame_term.specs.Act.{Act}
+use Rattle.ame_term.specs.Context.{focus}
+use Rattle.ame_term.specs.declared.types.Loc.{Loc}
+use Rattle.ame_term.specs.declared.types.Sort.{Sort}
+use Rattle.ame_term.specs.declared.types.TyNo.{TyNo}
+use Rattle.ame_journal.specs.Replay.{redex_act}
+use Rattle.ame_store.specs.declared.cell.Cell.{Cell}
+use Rattle.ame_store.specs.Changes.{made}
+use Rattle.ame_rows.specs.declared.notes.Undo.TheVariants.{Made}
+use Rattle.ame_local.specs.Local.{LocalState}
+use Rattle.ame_desk.specs.Contents.{Contents, row_at}
+use Rattle.ame_desk.specs.Access.{next_place, allocated_by}
+use Rattle.ame_owed.specs.Shown.{shown_cell}
+use Rattle.ame_owed.specs.SeatRun.{ComesTo}
+use Rattle.ame_runner.specs.declared.wants.Wants.{Wants}
+use Rattle.ame_runner.specs.declared.wants.Wants.TheVariants as wants
+use Rattle.ame_runner.specs.Stage.{Stage}
+use Rattle.ame_runner.specs.Need.{Need, need_of}
+use Rattle.ame_runner.specs.Input.{value_set, value_to_set}
+use Rattle.ame_runner.specs.Comes.{HasNextAct}
+use Rattle.ame_runner.specs.Sound.{IsSoundStage, CanRun}
+use Rattle.ame_runner.proofs.NeedLemmas.{comes_as}
+use Rattle.ame_stands.specs.declared.types.Task.{Task}
+use Rattle.ame_stands.specs.Parts.{Parts, task_at, run_in}
+use Rattle.ame_stands.specs.Shown.{shown_desk}
+use Rattle.ame_stands.specs.Stands.{Stands}
+use Rattle.ame_stands.specs.Events.{has_allocated}
+use Rattle.ame_stands.proofs.AccessLemmas.{allocation-stands}
+use Rattle.ame_stands.proofs.ShownDeskLemmas.{allocation-shown}
+use Rattle.ame_engine.specs.Core.{Core}
+use Rattle.ame_engine.specs.Counting.{Counted, one_counted}
+use Rattle.ame_engine.specs.Seen.{parts_of, MakesEvent}
+use Rattle.ame_engine.specs.Whole.{IsGoodUndo, AreGoodNotes, IsGoodDesk, IsWhole}
+use Rattle.ame_engine.specs.AtWork.{IsOnSeat, IsOn}
+use Rattle.ame_engine.proofs.CountLemmas.{one-counts}
+use Rattle.ame_engine.proofs.ReadLemmas.{row-good, runs-as, comes-to}
+use Rattle.ame_engine.proofs.RunLemmas.{can-run}
+
+-- The sort and the form of the cell that is wanted
+
+sort-wanted : Option Wants → Sort → Sort
+sort-wanted (Some (wants.Alloc sort number)) d = sort
+sort-wanted _ d = d
+
+number-wanted : Option Wants → TyNo → TyNo
+number-wanted (Some (wants.Alloc sort number)) d = number
+number-wanted _ d = d
+
+-- Good values
+
+module _ {V : Type 0} (IsGood : V → Type 0) (seat : ℕ) (sort : Sort) (number : TyNo) (value input : V) (good : IsGood value) (good-input : IsGood input) where
+  desk-good : (c : Contents V) → IsGoodDesk IsGood c → IsGoodDesk IsGood (allocated_by seat sort number value input c)
+  desk-good c whole =
+      let row = row_at c.rows seat in
+      let its = row-good IsGood c.rows seat whole.rows in
+      record {
+        cells = All-push (λ (cell : Cell V). IsGood cell.value) c.cells (made sort number value (Some seat)) whole.cells good;
+        rows = All-set (AreGoodNotes IsGood) c.rows seat _ (record {
+          inputs = All-push IsGood row.inputs input its.inputs good-input;
+          undos = All-push (IsGoodUndo IsGood) row.undos (Made (next_place c.cells)) its.undos tt;
+        }) whole.rows;
+      }
+
+-- The whole engine
+
+module _ {C V M : Type 0} (program : C → Tree) (devices : C → ℕ) (is_value : C → V → Type 0) (value_of : C → V → Val)
+    (is_machine : C → M → Type 0) (stage : C → M → Stage) (same : V → V → Type 0)
+    (keeps : (code : C) (v w : V) → same v w → is_value code v → is_value code w)
+    (shows : (code : C) (v w : V) → same v w → value_of code v ≡ value_of code w)
+    (core now : Core C V M) (view : core ≡ now) (whole : IsWhole program devices is_value value_of is_machine stage core)
+    (seat : ℕ) (m : M) (sort : Sort) (number : TyNo) (on : IsOn program devices value_of is_machine stage now seat m)
+    (outside : (stage now.code m).inside ≡ false) (wants-it : (stage now.code m).want ≡ Some (wants.Alloc sort number))
+    (sound : IsSoundStage (stage now.code m)) where
+  abbrev parts : Parts
+  parts = parts_of program devices value_of stage core
+
+  abbrev s : Stage
+  s = stage core.code m
+
+  on' : IsOnSeat parts seat s
+  on' = subst (λ (x : Core C V M). IsOnSeat (parts_of program devices value_of stage x) seat (stage x.code m)) (sym view) on.stands
+
+  outside' : s.inside ≡ false
+  outside' = subst (λ (x : Core C V M). (stage x.code m).inside ≡ false) (sym view) outside
+
+  need' : Need.Alloc sort ≡ need_of s
+  need' = subst (λ (x : Core C V M). Need.Alloc sort ≡ need_of (stage x.code m)) (sym view) (sound.told (wants.Alloc sort number) wants-it)
+
+  next-act : (v : Val) × HasNextAct s (Act.Allocates sort v)
+  next-act = comes_as s (Need.Alloc sort) need'
+
+  comes : (p : LocalState) × ComesTo (run_in parts seat on'.attempt.tried.number) (Act.Allocates sort next-act.0) s.steps p
+  comes = comes-to parts seat s on' (Act.Allocates sort next-act.0) outside' next-act.1
+
+  task : task_at parts.tasks seat ≡ Task.Running on'.attempt
+  task = runs-as parts seat s on' outside'
+
+  same-count : length parts.desk.cells ≡ length core.desk.cells
+  same-count = length-map core.desk.cells (shown_cell (value_of core.code))
+
+  module _ (left : now.turns < now.limits.turns) (lent value input : V) (lent-good : is_value core.code lent) (sets : value_to_set s ≡ Some (value_of core.code lent))
+      (copied : same lent value) (input-good : is_value core.code input) (place : ℕ) (stands-for : value_of core.code input ≡ Val.Loc place)
+      (place-is : place ≡ length core.desk.cells) (desk : Contents V) (is : desk ≡ allocated_by seat sort number value input core.desk) where
+    left' : core.turns < core.limits.turns
+    left' = subst (λ (x : Core C V M). x.turns < x.limits.turns) (sym view) left
+
+    value-is : next-act.0 ≡ value_of core.code value
+    value-is =
+        let next : value_to_set s ≡ Some next-act.0 = ap value_set (ap redex_act next-act.1.1 ∙ ap (λ (a : Act). Some a) next-act.1.2) in
+        ap (λ (o : Option Val). unwrap_or o next-act.0) (sym next ∙ sets) ∙ shows core.code lent value copied
+
+    input-is : value_of core.code input ≡ Val.Loc (length parts.desk.cells)
+    input-is = stands-for ∙ ap Val.Loc (place-is ∙ sym same-count)
+
+    abbrev after : Core C V M
+    after = record core { desk = desk; turns = core.turns + 1; counters = one_counted Counted.Alloc core.counters }
+
+    turned : Contents Val → Parts
+    turned d = record parts { desk = d; turns = parts.turns + 1 }
+
+    parts-allocated : parts_of program devices value_of stage after ≡ has_allocated seat sort number (value_of core.code value) parts
+    unfolding turned
+    parts-allocated =
+        ap turned
+        (ap (shown_desk (value_of core.code)) is ∙ allocation-shown (value_of core.code) seat sort number value input core.desk
+        ∙ ap (λ (u : Val). allocated_by seat sort number (value_of core.code value) u parts.desk) input-is)
+
+    stands-allocated : Stands (has_allocated seat sort number (value_of core.code value) parts)
+    stands-allocated =
+        subst (λ (v : Val). Stands (has_allocated seat sort number v parts)) value-is
+        (allocation-stands parts whole.stands seat on'.attempt task s.steps comes.0 left' sort number next-act.0 comes.1)
+
+    pub whole-allocated : IsWhole program devices is_value value_of is_machine stage after
+    whole-allocated = record {
+      stands = subst Stands (sym parts-allocated) stands-allocated;
+      limits = whole.limits;
+      desk =
+          subst (IsGoodDesk (is_value core.code)) (sym is)
+          (desk-good (is_value core.code) seat sort number value input (keeps core.code lent value copied lent-good) input-good core.desk whole.desk);
+      members = whole.members;
+      counters = one-counts core.turns core.counters whole.counters Counted.Alloc;
+      text = whole.text;
+    }
+
+    -- whatever is told of what is wanted
+    pub makes-allocated : (t : Sort) (n : TyNo) (v : Val) → (stage now.code m).want ≡ Some (wants.Alloc t n) → value_to_set (stage now.code m) ≡ Some v
+        → MakesEvent program devices value_of stage (one_counted Counted.Alloc) (has_allocated seat t n v) now after
+    unfolding sort-wanted number-wanted
+    makes-allocated t n v e set =
+        let sets-now : value_to_set (stage now.code m) ≡ Some (value_of core.code value) =
+        subst (λ (x : Core C V M). value_to_set (stage x.code m) ≡ Some (value_of core.code value)) view (sets ∙ ap Some (shows core.code lent value copied)) in
+        let one-value : value_of core.code value ≡ v = ap (λ (o : Option Val). unwrap_or o v) (sym sets-now ∙ set) in
+        let one-sort : sort ≡ t = ap (λ (w : Option Wants). sort-wanted w sort) (sym wants-it ∙ e) in
+        let one-number : number ≡ n = ap (λ (w : Option Wants). number-wanted w number) (sym wants-it ∙ e) in
+        subst (λ (x : Val). MakesEvent program devices value_of stage (one_counted Counted.Alloc) (has_allocated seat t n x) now after) one-value
+        (subst (λ (x : Sort). MakesEvent program devices value_of stage (one_counted Counted.Alloc) (has_allocated seat x n (value_of core.code value)) now after) one-sort
+        (subst (λ (x : TyNo). MakesEvent program devices value_of stage (one_counted Counted.Alloc) (has_allocated seat sort x (value_of core.code value)) now after) one-number
+        (subst (λ (x : Core C V M). MakesEvent program devices value_of stage (one_counted Counted.Alloc) (has_allocated seat sort number (value_of core.code value)) x after) view
+        (record { code = refl; parts = parts-allocated; counted = refl }))))
+
+    pub runs-allocated : (t : Stage) → IsOnSeat (parts_of program devices value_of stage after) seat t → t.inside ≡ false → CanRun t
+    runs-allocated t stands out = can-run (parts_of program devices value_of stage after) whole-allocated.stands seat t stands out

@@ -30,7 +30,9 @@ use Rattle.ame_stands.specs.declared.types.Task.{Task}
 use Rattle.ame_stands.specs.Parts.{Parts, task_at, run_in}
 use Rattle.ame_stands.specs.Shown.{shown_desk}
 use Rattle.ame_stands.specs.Stands.{Stands}
+use Rattle.ame_stands.specs.Alone.{RunsAlone}
 use Rattle.ame_stands.specs.Events.{has_allocated}
+use Rattle.ame_stands.proofs.AloneLemmas.{allocation-alone}
 use Rattle.ame_stands.proofs.AccessLemmas.{allocation-stands}
 use Rattle.ame_stands.proofs.ShownDeskLemmas.{allocation-shown}
 use Rattle.ame_engine.specs.Core.{Core}
@@ -136,6 +138,11 @@ module _ {C V M : Type 0} (program : C → Tree) (devices : C → ℕ) (is_value
         subst (λ (v : Val). Stands (has_allocated seat sort number v parts)) value-is
         (allocation-stands parts whole.stands seat on'.attempt task s.steps comes.0 left' sort number next-act.0 comes.1)
 
+    alone-allocated : RunsAlone (has_allocated seat sort number (value_of core.code value) parts)
+    alone-allocated =
+        subst (λ (v : Val). RunsAlone (has_allocated seat sort number v parts)) value-is
+        (allocation-alone parts whole.stands whole.alone seat on'.attempt task s.steps comes.0 sort number next-act.0 comes.1)
+
     pub whole-allocated : IsWhole program devices is_value value_of is_machine stage after
     whole-allocated = record {
       stands = subst Stands (sym parts-allocated) stands-allocated;
@@ -144,6 +151,8 @@ module _ {C V M : Type 0} (program : C → Tree) (devices : C → ℕ) (is_value
           subst (IsGoodDesk (is_value core.code)) (sym is)
           (desk-good (is_value core.code) seat sort number value input (keeps core.code lent value copied lent-good) input-good core.desk whole.desk);
       members = whole.members;
+      pool = whole.pool;
+      alone = subst RunsAlone (sym parts-allocated) alone-allocated;
       counters = one-counts core.turns core.counters whole.counters Counted.Alloc;
       text = whole.text;
     }

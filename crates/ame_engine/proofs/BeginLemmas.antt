@@ -8,17 +8,21 @@ use Rattle.ame_pool.specs.Members.{find, is_ready}
 use Rattle.ame_pool.specs.Roster.{Roster}
 use Rattle.ame_pool.specs.Calls.{IsAt, begun, held, machine_of}
 use Rattle.ame_pool.specs.Keeps.{is_inside_at}
+use Rattle.ame_pool.specs.Begin.{oldest}
 use Rattle.ame_pool.proofs.MemberLemmas.{find_passes, found_altered}
 use Rattle.ame_desk.specs.Contents.{Notes, no_notes, row_at}
 use Rattle.ame_runner.specs.Stage.{Stage}
 use Rattle.ame_stands.specs.declared.types.Attempt.{Attempt}
 use Rattle.ame_stands.specs.declared.types.Task.{Task}
+use Rattle.ame_stands.specs.declared.types.Tried.{Tried}
 use Rattle.ame_stands.specs.Parts.{Parts, task_at, term_at}
 use Rattle.ame_stands.specs.Tasks.{MeetsTask}
 use Rattle.ame_stands.specs.Stands.{Stands}
+use Rattle.ame_stands.specs.Alone.{RunsAlone}
 use Rattle.ame_stands.specs.Events.{begun_task, has_begun, one_turn, with_task}
 use Rattle.ame_stands.proofs.StepLemmas.{task_here}
 use Rattle.ame_stands.proofs.HomeLemmas.{begun_stands}
+use Rattle.ame_stands.proofs.AloneEvents.{begun-alone}
 use Rattle.ame_engine.specs.Core.{Core}
 use Rattle.ame_engine.specs.Counting.{Counted, one_counted}
 use Rattle.ame_stands.specs.Shown.{shown_pool}
@@ -35,6 +39,8 @@ use Rattle.ame_engine.proofs.MemberLemmas.{all_altered, inside-told, ready-machi
 use Rattle.ame_engine.proofs.WorkLemmas.{on-begun}
 use Rattle.ame_engine.proofs.RunLemmas.{rest-runs}
 use Rattle.ame_engine.proofs.CountLemmas.{one-counts}
+use Rattle.ame_engine.proofs.RollbackLemmas.{good-held}
+use Rattle.ame_engine.proofs.OldestLemmas.{oldest-shown}
 
 module _ {C V M : Type 0} (program : C → Tree) (devices : C → ℕ) (is_value : C → V → Type 0) (value_of : C → V → Val)
     (is_machine : C → M → Type 0) (stage : C → M → Stage) where
@@ -52,8 +58,8 @@ module _ {C V M : Type 0} (program : C → Tree) (devices : C → ℕ) (is_value
       ∙ ap (λ b. parts-with seat number core b (held number pool)) (sym (inside-same (term_shown stage core.code) number core.pool))
 
   module _ (core : Core C V M) (whole : IsWhole program devices is_value value_of is_machine stage core) (seat number : ℕ)
-      (within : seat < core.limits.seats) (idle : task_at core.tasks seat ≡ Task.Idle) (ready : IsAt is_ready number core.pool)
-      (left : core.turns < core.limits.turns) where
+      (within : seat < core.limits.seats) (idle : task_at core.tasks seat ≡ Task.Idle) (first : oldest core.pool ≡ Oldest.Member number)
+      (ready : IsAt is_ready number core.pool) (left : core.turns < core.limits.turns) where
     pub begun-stands : Stands (has_begun seat number (parts_of program devices value_of stage core))
     begun-stands =
         begun_stands (parts_of program devices value_of stage core) whole.stands seat number idle within
@@ -66,6 +72,10 @@ module _ {C V M : Type 0} (program : C → Tree) (devices : C → ℕ) (is_value
       desk = whole.desk;
       members = all_altered number begun (IsAtRest is_machine stage core.code)
           (λ m rests. record { machine = rests.machine; rests = rests.rests }) core.pool.members whole.members;
+      pool = good-held number core.pool whole.pool;
+      alone = subst RunsAlone (sym (begun-parts seat number core))
+          (begun-alone (parts_of program devices value_of stage core) whole.stands whole.alone seat number idle within
+          (oldest-shown (term_shown stage core.code) core.pool ∙ first) (ready-same (term_shown stage core.code) number core.pool ready));
       counters = one-counts core.turns core.counters whole.counters Counted.Begin;
       text = whole.text;
     }
@@ -125,6 +135,14 @@ module _ {C V M : Type 0} (program : C → Tree) (devices : C → ℕ) (is_value
           (machine-shown (term_shown stage core.code) number core.pool ∙ ap (option_map (term_shown stage core.code)) found)
           (inside-same (term_shown stage core.code) number core.pool))
 
+-- room isn't seen
+module _ {C V M : Type 0} (program : C → Tree) (devices : C → ℕ) (is_value : C → V → Type 0) (value_of : C → V → Val)
+    (is_machine : C → M → Type 0) (stage : C → M → Stage) where
+  pub whole-roomy : (core : Core C V M) → IsWhole program devices is_value value_of is_machine stage core → (tried : List Tried) → tried ≡ core.tried
+      → IsWhole program devices is_value value_of is_machine stage (record core { tried = tried })
+  whole-roomy core whole tried e =
+      subst (λ (tries : List Tried). IsWhole program devices is_value value_of is_machine stage (record core { tried = tries })) (sym e) whole
+
 -- what a seat meets that may begin a member
 pub chance_member : (spent : Bool) (o : Oldest) (n : ℕ) → chance_by spent o ≡ Chance.Member n → (spent ≡ false) × (o ≡ Oldest.Member n)
 chance_member true (Oldest.Member k) n e = absurd (cc)
@@ -145,13 +163,21 @@ module _ {C V M : Type 0} (program : C → Tree) (devices : C → ℕ) (is_value
     (keeps : (code : C) (m n : M) → same m n → is_machine code m → is_machine code n)
     (shows : (code : C) (m n : M) → same m n → stage code m ≡ stage code n)
     (core now : Core C V M) (view : core ≡ now) (whole : IsWhole program devices is_value value_of is_machine stage core) (seat number : ℕ)
-    (within : seat < now.limits.seats) (idle : task_at now.tasks seat ≡ Task.Idle) (ready : IsAt is_ready number now.pool) (left : now.turns < now.limits.turns)
+    (within : seat < now.limits.seats) (idle : task_at now.tasks seat ≡ Task.Idle) (first : oldest now.pool ≡ Oldest.Member number)
+    (ready : IsAt is_ready number now.pool) (left : now.turns < now.limits.turns)
     (task : Task) (inside : Bool) (attempt : Attempt) (base entries : List Entry) (pool : Roster M)
     (task_is : task ≡ begun_task inside attempt) (inside_is : inside ≡ is_inside_at core.pool.members number)
     (attempt_is : attempt ≡ record { tried = record { number = number; at = length (base ++ entries); steps = 0 }; told = false })
-    (base_is : base ≡ core.base) (entries_are : entries ≡ core.entries) (pool_is : pool ≡ held number core.pool) where
+    (base_is : base ≡ core.base) (entries_are : entries ≡ core.entries) (pool_is : pool ≡ held number core.pool)
+    (tried : List Tried) (tried_is : tried ≡ core.tried) where
   abbrev after : Core C V M
-  after = record core { tasks = slice_set core.tasks seat task; pool = pool; turns = core.turns + 1; counters = one_counted Counted.Begin core.counters }
+  after = record core {
+    tasks = slice_set core.tasks seat task;
+    pool = pool;
+    turns = core.turns + 1;
+    counters = one_counted Counted.Begin core.counters;
+    tried = tried;
+  }
 
   attempt-after : List Entry → Attempt
   attempt-after all = record { tried = record { number = number; at = length all; steps = 0 }; told = false }
@@ -164,13 +190,22 @@ module _ {C V M : Type 0} (program : C → Tree) (devices : C → ℕ) (is_value
   task-so = task_is ∙ ap (λ (b : Bool). begun_task b attempt) inside_is ∙ ap (begun_task (is_inside_at core.pool.members number)) attempt-so
 
   after-is : after ≡ begun_by seat number core
-  after-is = λ i. record core { tasks = slice_set core.tasks seat (task-so i); pool = pool_is i; turns = core.turns + 1; counters = one_counted Counted.Begin core.counters }
+  after-is = λ i. record core {
+    tasks = slice_set core.tasks seat (task-so i);
+    pool = pool_is i;
+    turns = core.turns + 1;
+    counters = one_counted Counted.Begin core.counters;
+    tried = tried_is i;
+  }
 
   within' : seat < core.limits.seats
   within' = subst (λ (x : Core C V M). seat < x.limits.seats) (sym view) within
 
   idle' : task_at core.tasks seat ≡ Task.Idle
   idle' = subst (λ (x : Core C V M). task_at x.tasks seat ≡ Task.Idle) (sym view) idle
+
+  first' : oldest core.pool ≡ Oldest.Member number
+  first' = subst (λ (x : Core C V M). oldest x.pool ≡ Oldest.Member number) (sym view) first
 
   ready' : IsAt is_ready number core.pool
   ready' = subst (λ (x : Core C V M). IsAt is_ready number x.pool) (sym view) ready
@@ -180,12 +215,12 @@ module _ {C V M : Type 0} (program : C → Tree) (devices : C → ℕ) (is_value
 
   pub whole-begun : IsWhole program devices is_value value_of is_machine stage after
   whole-begun = subst (IsWhole program devices is_value value_of is_machine stage) (sym after-is)
-      (begun-whole program devices is_value value_of is_machine stage core whole seat number within' idle' ready' left')
+      (begun-whole program devices is_value value_of is_machine stage core whole seat number within' idle' first' ready' left')
 
   pub makes-begun : MakesEvent program devices value_of stage (one_counted Counted.Begin) (has_begun seat number) now after
   makes-begun = subst (λ (x : Core C V M). MakesEvent program devices value_of stage (one_counted Counted.Begin) (has_begun seat number) x after) view
       (subst (MakesEvent program devices value_of stage (one_counted Counted.Begin) (has_begun seat number) core) (sym after-is)
-      (begun-makes program devices is_value value_of is_machine stage core whole seat number within' idle' ready' left'))
+      (begun-makes program devices is_value value_of is_machine stage core whole seat number within' idle' first' ready' left'))
 
   module _ (m : M) (copied : ForSome (machine_of number core.pool) (λ resting. same resting m)) where
     resting : (x : M) × (machine_of number core.pool ≡ Some x)
@@ -206,9 +241,9 @@ module _ {C V M : Type 0} (program : C → Tree) (devices : C → ℕ) (is_value
 
     pub on-after : IsOn program devices value_of is_machine stage after seat m
     on-after = subst (λ (x : Core C V M). IsOn program devices value_of is_machine stage x seat m) (sym after-is)
-        (begun-on program devices is_value value_of is_machine stage core whole seat number within' idle' ready' left'
+        (begun-on program devices is_value value_of is_machine stage core whole seat number within' idle' first' ready' left'
         resting.0 resting.1 m (sym (shows core.code resting.0 m (copied resting.0 resting.1))) good)
 
     pub runs-after : CanRun (stage core.code m)
-    runs-after = begun-runs program devices is_value value_of is_machine stage core whole seat number within' idle' ready' left'
+    runs-after = begun-runs program devices is_value value_of is_machine stage core whole seat number within' idle' first' ready' left'
         resting.0 resting.1 m (sym (shows core.code resting.0 m (copied resting.0 resting.1)))

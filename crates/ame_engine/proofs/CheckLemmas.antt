@@ -1,38 +1,52 @@
 -- The reads of a seat are checked.
-use Rattle.std.proofs.Common.{◌≡◌, ℕ, zero, suc, ◌+◌, ◌<◌, false, List, [], ◌∷◌, ◌++◌, map, get_or, length, Option, Some, None, option_map, IsSomeAnd, refl, sym, ap, ◌∙◌, subst, arith}
-use Rattle.std.specs.Prelude.{slice_get, slice_set, unwrap_or}
+use Rattle.std.proofs.Common.{◌≡◌, ℕ, zero, suc, ◌+◌, ◌<◌, false, List, [], ◌∷◌, ◌++◌, map, get_or, length, Option, Some, None, option_map, IsSomeAnd, IsTrue, refl, sym, ap, ◌∙◌, subst, arith}
+use Rattle.std.specs.Prelude.{slice_get, slice_set, unwrap_or, is_some}
 use Rattle.std.proofs.lemmas.Option.{slice_get-map}
 use Rattle.std.proofs.lemmas.List.Elements.{All-weaker}
 use Rattle.ame_term.specs.Tree.{Val, Tree}
 use Rattle.ame_term.specs.Frame.{Side, side_told}
 use Rattle.ame_store.specs.declared.cell.Cell.{Cell}
+use Rattle.ame_store.specs.Cells.{IsOwnedBy}
 use Rattle.ame_rows.specs.declared.notes.ReadNote.{ReadNote}
 use Rattle.ame_rows.specs.Valid.{IsValidAt, IsValidRead, IsValid}
 use Rattle.ame_journal.specs.declared.entry.Entry.{Entry}
 use Rattle.ame_local.specs.Local.{LocalState, local}
+use Rattle.ame_pool.specs.declared.member.Member.{Member}
+use Rattle.ame_pool.specs.Members.{find}
+use Rattle.ame_pool.specs.Begin.{is_worn}
+use Rattle.ame_pool.specs.Calls.{IsAt}
 use Rattle.ame_desk.specs.Contents.{Notes, row_at}
+use Rattle.ame_owed.specs.Heap.{cell_at}
 use Rattle.ame_owed.specs.Shown.{shown_cell}
 use Rattle.ame_owed.specs.SeatRun.{HasUsed, AreValid}
 use Rattle.ame_runner.specs.Stage.{Stage, running_side}
 use Rattle.ame_stands.specs.declared.types.Attempt.{Attempt}
 use Rattle.ame_stands.specs.declared.types.Reason.{Reason}
 use Rattle.ame_stands.specs.declared.types.Task.{Task}
-use Rattle.ame_stands.specs.Parts.{Parts, heap_in, task_at, term_at, run_in}
+use Rattle.ame_stands.specs.Parts.{Parts, heap_in, task_at, attempt_of, term_at, run_in}
+use Rattle.ame_stands.specs.Tasks.{is_busy_as, RunsProtected, MeetsTask}
 use Rattle.ame_stands.specs.Stands.{Stands}
+use Rattle.ame_stands.specs.Alone.{is_of_protected, HasWorn, RunsAlone}
 use Rattle.ame_stands.specs.Events.{has_checked}
+use Rattle.ame_stands.proofs.PoolLemmas.{found-at}
+use Rattle.ame_stands.proofs.AloneLemmas.{no-other-owner}
+use Rattle.ame_stands.proofs.AloneEvents.{stop-alone, checked_alone}
 use Rattle.ame_stands.proofs.ShownDeskLemmas.{row-shown}
-use Rattle.ame_stands.proofs.DeskEvents.{desk-valid}
+use Rattle.ame_stands.proofs.DeskEvents.{desk-valid, valid-desk}
 use Rattle.ame_stands.proofs.TurnLemmas.{checked_stands, turned_back}
 use Rattle.ame_stands.proofs.ToldLemmas.{stopped_stands}
 use Rattle.ame_engine.specs.declared.stop.Stop.{Stop}
 use Rattle.ame_engine.specs.declared.counters.Counters.{Counters}
 use Rattle.ame_engine.specs.Core.{Core}
 use Rattle.ame_engine.specs.Counting.{Counted, one_counted, CountsTurns}
-use Rattle.ame_engine.specs.Seen.{parts_of, MakesEvent}
+use Rattle.ame_engine.specs.Seen.{parts_of, term_shown, MakesEvent}
+use Rattle.ame_engine.specs.Rollbacks.{MayBeRolledBack}
 use Rattle.ame_engine.specs.Whole.{IsWhole}
 use Rattle.ame_engine.specs.AtWork.{working, IsOnSeat, IsOn}
 use Rattle.ame_engine.proofs.ReadLemmas.{place-by, runs-as}
 use Rattle.ame_engine.proofs.CountLemmas.{one-counts}
+use Rattle.ame_engine.proofs.RollbackLemmas.{may-roll}
+use Rattle.ame_engine.proofs.AloneLemmas.{turned_alone}
 
 -- Valid reads are so at the shown cells.
 
@@ -46,6 +60,18 @@ module _ {V : Type 0} (view : V → Val) (cells : List (Cell V)) (seat : ℕ) wh
       subst (λ (o : Option (Cell Val)). IsSomeAnd o (IsValidAt seat note.number)) (sym (slice_get-map (shown_cell view) cells note.loc.0))
       (valid-by note.number (slice_get cells note.loc.0) h)
 
+  by-valid : (n : ℕ) (o : Option (Cell V)) → IsSomeAnd (option_map (shown_cell view) o) (IsValidAt seat n) → IsSomeAnd o (IsValidAt seat n)
+  by-valid n None h = h
+  by-valid n (Some cell) h = record { unowned = h.unowned; live = h.live; same = h.same }
+
+  one-valid : (note : ReadNote) → IsValidRead (map (shown_cell view) cells) seat note → IsValidRead cells seat note
+  one-valid note h =
+      by-valid note.number (slice_get cells note.loc.0)
+      (subst (λ (o : Option (Cell Val)). IsSomeAnd o (IsValidAt seat note.number)) (slice_get-map (shown_cell view) cells note.loc.0) h)
+
+  pub shown-valid : (reads : List ReadNote) → IsValid (map (shown_cell view) cells) seat reads → IsValid cells seat reads
+  shown-valid reads h = All-weaker (IsValidRead (map (shown_cell view) cells) seat) (IsValidRead cells seat) one-valid reads h
+
   pub valid-shown : (reads : List ReadNote) → IsValid cells seat reads → IsValid (map (shown_cell view) cells) seat reads
   valid-shown reads h = All-weaker (IsValidRead cells seat) (IsValidRead (map (shown_cell view) cells) seat) valid-one reads h
 
@@ -54,7 +80,7 @@ working-within [] seat a e = cc
 working-within (t ∷ tasks) zero a e = omega arith
 working-within (t ∷ tasks) (suc seat) a e = let rest = working-within tasks seat a e in omega arith
 
-task-read : (tasks : List Task) (seat : ℕ) (t : Task) → seat < length tasks → t ≡ get_or tasks seat t → task_at tasks seat ≡ t
+pub task-read : (tasks : List Task) (seat : ℕ) (t : Task) → seat < length tasks → t ≡ get_or tasks seat t → task_at tasks seat ≡ t
 task-read [] seat t within e = absurd (omega (arith, within))
 task-read (x ∷ tasks) zero t within e = sym e
 task-read (x ∷ tasks) (suc seat) t within e = task-read tasks seat t (omega (arith, within)) e
@@ -85,6 +111,8 @@ module _ {C V M : Type 0} (program : C → Tree) (devices : C → ℕ) (is_value
     limits = whole.limits;
     desk = whole.desk;
     members = whole.members;
+    pool = whole.pool;
+    alone = stop-alone (parts_of program devices value_of stage core) whole.alone;
     counters = whole.counters;
     text = whole.text;
   }
@@ -108,15 +136,54 @@ module _ {C V M : Type 0} (program : C → Tree) (devices : C → ℕ) (is_value
         record core { tasks = slice_set core.tasks seat (Task.Undoing attempt Reason.RolledBack); turns = core.turns + 1; counters = counters }
 
     pub whole-back : (counters : Counters) → CountsTurns (core.turns + 1) counters
+        → (is_some core.stop ≡ false → IsAt is_worn attempt.tried.number parts.pool → ⊥)
         → IsWhole program devices is_value value_of is_machine stage (after-bad counters)
-    whole-back counters counts = record {
+    whole-back counters counts fresh = record {
       stands = turned_back parts whole.stands seat attempt is left';
       limits = whole.limits;
       desk = whole.desk;
       members = whole.members;
+      pool = whole.pool;
+      alone = turned_alone parts whole.alone seat attempt is fresh;
       counters = counts;
       text = whole.text;
     }
+
+    -- the member that it has at work is there
+    abbrev pub its-number : ℕ
+    its-number = attempt.tried.number
+
+    there : (x : Member Tree) × (find its-number parts.pool.members ≡ Some x) × IsTrue (is_busy_as false x)
+    there =
+        let runs : RunsProtected parts whole.stands.types seat attempt = subst (MeetsTask parts whole.stands.types seat) is (whole.stands.seats seat) in
+        found-at parts.pool its-number (is_busy_as false) runs.work.busy
+
+    pub still-rolls : (IsAt is_worn its-number parts.pool → ⊥) → MayBeRolledBack its-number now.pool
+    still-rolls fresh =
+        subst (λ (x : Core C V M). MayBeRolledBack its-number x.pool) view
+        (may-roll (term_shown stage core.code) its-number core.pool whole.pool there.0 there.1 fresh)
+
+    worn-there : IsAt is_worn its-number parts.pool → HasWorn parts seat attempt
+    worn-there worn = record { task = ap is_of_protected is; has = ap attempt_of is; worn = worn }
+
+    -- a worn one meets no cell of another seat
+    pub unworn-apart : (l owner : ℕ) → IsOwnedBy owner (cell_at (heap_in parts) l) → (owner ≡ seat → ⊥) → IsAt is_worn its-number parts.pool → ⊥
+    unworn-apart l owner own apart worn = apart (no-other-owner parts whole.stands whole.alone seat attempt (worn-there worn) l owner own)
+
+    -- and its reads are valid until a stop is kept
+    pub unworn-invalid : (IsValid core.desk.cells seat (row_at core.desk.rows seat).reads → ⊥) → is_some core.stop ≡ false
+        → IsAt is_worn its-number parts.pool → ⊥
+    unworn-invalid invalid going worn =
+        invalid
+        (shown-valid (value_of core.code) core.desk.cells seat (row_at core.desk.rows seat).reads
+        (subst (IsValid parts.desk.cells seat) (ap (λ (n : Notes Val). n.reads) (row-shown (value_of core.code) core.desk.rows seat))
+        (valid-desk parts.desk seat (row_at parts.desk.rows seat).reads (whole.alone.valid going seat attempt (worn-there worn)))))
+
+    pub rolls-invalid : (IsValid core.desk.cells seat (row_at core.desk.rows seat).reads → ⊥) → (a : Attempt) → now.stop ≡ None → task_at now.tasks seat ≡ Task.Running a
+        → MayBeRolledBack a.tried.number now.pool
+    rolls-invalid invalid a none e =
+        subst (λ (x : Attempt). MayBeRolledBack x.tried.number now.pool) (its-attempt a e)
+        (still-rolls (unworn-invalid invalid (ap (λ (o : Option Stop). is_some o) (subst (λ (x : Core C V M). x.stop ≡ None) (sym view) none))))
 
     -- or its row is valid
     module _ (full : (stage now.code m).since ≡ now.limits.slice) (steps : ℕ) (steps_are : steps ≡ (stage now.code m).steps)
@@ -186,6 +253,8 @@ module _ {C V M : Type 0} (program : C → Tree) (devices : C → ℕ) (is_value
         limits = whole.limits;
         desk = whole.desk;
         members = whole.members;
+        pool = whole.pool;
+        alone = subst RunsAlone (sym parts-valid) (checked_alone parts whole.alone seat s.steps attempt is are-valid);
         counters = one-counts core.turns core.counters whole.counters Counted.Check;
         text = whole.text;
       }

@@ -1,5 +1,9 @@
 pub mod CountLemmas
 pub mod MemberLemmas
+pub mod RollbackLemmas
+pub mod OldestLemmas
+pub mod AloneLemmas
+pub mod PlaceLemmas
 pub mod WorkLemmas
 pub mod StartLemmas
 pub mod ReadLemmas
@@ -9,3 +13,5 @@ pub mod ReadingLemmas
 pub mod CheckLemmas
 pub mod WriteLemmas
 pub mod AllocLemmas
+pub mod UndoLemmas
+pub mod UndoingLemmas

@@ -11,6 +11,7 @@ use Rattle.ame_term.specs.Context.{Focus, focus}
 use Rattle.ame_term.specs.Act.{Act}
 use Rattle.ame_term.specs.declared.types.Loc.{Loc}
 use Rattle.ame_store.specs.declared.cell.Cell.{Cell}
+use Rattle.ame_store.specs.Cells.{HasItsParity}
 use Rattle.ame_local.specs.Local.{LocalState, local}
 use Rattle.ame_desk.specs.Contents.{Notes, Contents, row_at, by_seat}
 use Rattle.ame_desk.specs.Access.{noted_read}
@@ -24,9 +25,11 @@ use Rattle.ame_stands.specs.declared.types.Attempt.{Attempt}
 use Rattle.ame_stands.specs.declared.types.Task.{Task}
 use Rattle.ame_stands.specs.Parts.{Parts, heap_in, task_at, attempt_of, run_in, term_at}
 use Rattle.ame_stands.specs.Stands.{Stands}
+use Rattle.ame_stands.specs.Alone.{RunsAlone}
 use Rattle.ame_stands.specs.Events.{has_read}
 use Rattle.ame_stands.proofs.StepLemmas.{seat_within}
 use Rattle.ame_stands.proofs.AccessLemmas.{read-there, read-stands}
+use Rattle.ame_stands.proofs.AloneLemmas.{read-alone}
 use Rattle.ame_engine.specs.Core.{Core}
 use Rattle.ame_engine.specs.Counting.{Counted, one_counted}
 use Rattle.ame_owed.specs.Shown.{shown_cell}
@@ -161,8 +164,16 @@ module _ {C V M : Type 0} (program : C → Tree) (devices : C → ℕ) (is_value
           (read-good (is_value core.code) seat l row.input (good-same row.input (row.copied there.0 there.1)) (slice_get core.desk.cells l.0)
           (row_at core.desk.rows seat) (row-good (is_value core.code) core.desk.rows seat whole.desk.rows))
 
-      pub read-whole : IsWhole program devices is_value value_of is_machine stage read_with
-      read-whole = record {
+      -- its number is even exactly where it has no owner
+      its-parity : All HasItsParity core.desk.cells → HasItsParity (cell_at (heap_in parts) l.0)
+      its-parity parity =
+          subst HasItsParity
+          (sym (get_or_from_slice_get parts.desk.cells l.0 (shown_cell (value_of core.code) there.0) no_cell
+          (slice_get-map (shown_cell (value_of core.code)) core.desk.cells l.0 ∙ ap (option_map (shown_cell (value_of core.code))) there.1)))
+          (all_at HasItsParity core.desk.cells l.0 there.0 read-within there.1 parity)
+
+      pub read-whole : All HasItsParity core.desk.cells → IsWhole program devices is_value value_of is_machine stage read_with
+      read-whole parity = record {
         stands = subst Stands (sym read-parts) (read-stands parts whole.stands seat on.attempt task (stage core.code m).steps comes.0 left l comes.1);
         limits = whole.limits;
         desk = record {
@@ -170,6 +181,9 @@ module _ {C V M : Type 0} (program : C → Tree) (devices : C → ℕ) (is_value
           rows = All-set (AreGoodNotes (is_value core.code)) core.desk.rows seat notes good-row whole.desk.rows;
         };
         members = whole.members;
+        pool = whole.pool;
+        alone = subst RunsAlone (sym read-parts)
+            (read-alone parts whole.stands whole.alone seat on.attempt task (stage core.code m).steps comes.0 l comes.1 (its-parity parity));
         counters = one-counts core.turns core.counters whole.counters Counted.Read;
         text = whole.text;
       }

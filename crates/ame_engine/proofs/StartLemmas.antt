@@ -1,10 +1,12 @@
 -- An engine that has just started.
-use Rattle.std.proofs.Common.{◌≡◌, ℕ, zero, suc, List, [], ◌∷◌, map, replicate, None, refl, sym, ap, ◌∙◌, subst}
+use Rattle.std.proofs.Common.{◌≡◌, ℕ, zero, suc, ◌<◌, ◌≤◌, List, [], ◌∷◌, map, replicate, None, refl, sym, ap, ◌∙◌, subst, arith}
 use Rattle.std.specs.Prelude.{ℤ, false}
 use Rattle.std.proofs.lemmas.List.Elements.{All-nil, All-cons, All-replicate}
 use Rattle.ame_term.specs.Tree.{Val, Tree}
 use Rattle.ame_store.specs.declared.cell.Cell.{Cell}
 use Rattle.ame_journal.specs.declared.entry.Entry.{Entry}
+use Rattle.ame_pool.specs.declared.member.Member.{Member}
+use Rattle.ame_pool.specs.Standings.{max_rollbacks}
 use Rattle.ame_pool.specs.Roster.{Roster, nobody}
 use Rattle.ame_pool.specs.Calls.{newcomer, joined, with_room}
 use Rattle.ame_desk.specs.Contents.{Notes, Contents, no_notes}
@@ -15,9 +17,11 @@ use Rattle.ame_stands.specs.declared.types.Tried.{Tried}
 use Rattle.ame_stands.specs.declared.types.Task.{Task}
 use Rattle.ame_stands.specs.Parts.{Parts}
 use Rattle.ame_stands.specs.Stands.{Stands}
+use Rattle.ame_stands.specs.Alone.{RunsAlone}
 use Rattle.ame_stands.specs.Shown.{shown_notes}
 use Rattle.ame_stands.specs.Events.{started}
 use Rattle.ame_stands.proofs.StartLemmas.{started_stands}
+use Rattle.ame_stands.proofs.AloneEvents.{start-alone}
 use Rattle.ame_engine.specs.Core.{Core}
 use Rattle.ame_engine.specs.declared.counters.Counters.{Counters}
 use Rattle.ame_engine.specs.Counting.{nothing_counted}
@@ -74,6 +78,11 @@ module _ {C V M : Type 0} (program : C → Tree) (devices : C → ℕ) (is_value
         };
         members = All-cons (IsAtRest is_machine stage code) (newcomer 0 machine false) []
             (record { machine = good; rests = rests ∙ sym (ap (λ (s : Stage). starting_at s.term) rests) }) (All-nil (IsAtRest is_machine stage code));
+        pool = record {
+          rising = (All-nil (λ (m : Member M). 0 < m.number), tt);
+          few = All-cons (λ m. m.rollbacks ≤ max_rollbacks) (newcomer 0 machine false) [] (omega arith) (All-nil (λ (m : Member M). m.rollbacks ≤ max_rollbacks));
+        };
+        alone = subst RunsAlone (sym started-parts) (start-alone (program code) (devices code) limits 0);
         counters = none-counted;
         text = refl;
       }

@@ -13,6 +13,8 @@ use Rattle.ame_journal.specs.Replay.{redex_act}
 use Rattle.ame_store.specs.declared.cell.Cell.{Cell}
 use Rattle.ame_store.specs.Cells.{IsFree, IsOwnedBy, CanGrow}
 use Rattle.ame_rows.specs.declared.notes.Undo.TheVariants.{Wrote}
+use Rattle.ame_pool.specs.Begin.{is_worn}
+use Rattle.ame_pool.specs.Calls.{IsAt}
 use Rattle.ame_local.specs.Local.{LocalState}
 use Rattle.ame_desk.specs.declared.answer.WriteAnswer.{WriteAnswer}
 use Rattle.ame_desk.specs.declared.answer.WriteAnswer.TheVariants as told
@@ -38,9 +40,11 @@ use Rattle.ame_stands.specs.declared.types.Task.{Task}
 use Rattle.ame_stands.specs.Parts.{Parts, heap_in, task_at, attempt_of, run_in}
 use Rattle.ame_stands.specs.Shown.{shown_desk}
 use Rattle.ame_stands.specs.Stands.{Stands}
+use Rattle.ame_stands.specs.Alone.{RunsAlone}
 use Rattle.ame_stands.specs.Events.{has_written, has_turned_back}
 use Rattle.ame_stands.proofs.AccessLemmas.{write-there, write-first_stands, write-later_stands}
 use Rattle.ame_stands.proofs.ToldLemmas.{cells-grow}
+use Rattle.ame_stands.proofs.AloneLemmas.{write-first_alone, write-later_alone}
 use Rattle.ame_stands.proofs.ShownDeskLemmas.{write-shown}
 use Rattle.ame_engine.specs.declared.answer.Wrote.{Wrote as Answer}
 use Rattle.ame_engine.specs.declared.answer.Wrote.TheVariants as answer
@@ -50,8 +54,9 @@ use Rattle.ame_engine.specs.Seen.{parts_of, MakesEvent}
 use Rattle.ame_engine.specs.Whole.{IsGoodUndo, AreGoodNotes, IsGoodDesk, IsWhole}
 use Rattle.ame_engine.specs.AtWork.{IsOnSeat, IsOn}
 use Rattle.ame_engine.specs.Writing.{answer_to_write, refused_by}
+use Rattle.ame_engine.specs.Rollbacks.{MayBeRolledBack}
 use Rattle.ame_engine.proofs.ReadLemmas.{row-good, runs-as, comes-to, seat-in_rows}
-use Rattle.ame_engine.proofs.CheckLemmas.{whole-back}
+use Rattle.ame_engine.proofs.CheckLemmas.{whole-back, unworn-apart, still-rolls}
 use Rattle.ame_engine.proofs.RunLemmas.{can-run}
 use Rattle.ame_engine.proofs.CountLemmas.{one-counts}
 
@@ -261,12 +266,18 @@ module _ {C V M : Type 0} (program : C → Tree) (devices : C → ℕ) (is_value
       stands-by (inl free) = write-first_stands parts whole.stands seat on'.attempt task s.steps comes.0 left' l next-act.0 comes.1 free
       stands-by (inr own) = write-later_stands parts whole.stands seat on'.attempt task s.steps comes.0 left' l next-act.0 comes.1 own
 
+      alone-by : IsFree (cell_at (heap_in parts) l.0) ⊎ IsOwnedBy seat (cell_at (heap_in parts) l.0) → RunsAlone (has_written seat l next-act.0 parts)
+      alone-by (inl free) = write-first_alone parts whole.stands whole.alone seat on'.attempt task s.steps comes.0 l next-act.0 comes.1 free
+      alone-by (inr own) = write-later_alone parts whole.stands whole.alone seat on'.attempt task s.steps comes.0 l next-act.0 comes.1 own
+
       pub whole-written : IsWhole program devices is_value value_of is_machine stage after
       whole-written = record {
         stands = subst Stands (sym parts-written) (subst (λ (v : Val). Stands (has_written seat l v parts)) value-is (stands-by owned));
         limits = whole.limits;
         desk = subst (IsGoodDesk (is_value core.code)) (sym is) (desk-good (is_value core.code) seat l value input value-good input-good core.desk write-location whole.desk);
         members = whole.members;
+        pool = whole.pool;
+        alone = subst RunsAlone (sym parts-written) (subst (λ (v : Val). RunsAlone (has_written seat l v parts)) value-is (alone-by owned));
         counters = one-counts core.turns core.counters whole.counters Counted.Write;
         text = whole.text;
       }
@@ -303,6 +314,22 @@ module _ {C V M : Type 0} (program : C → Tree) (devices : C → ℕ) (is_value
           let other = conflict-cell seat value found.0 owner refused in
           is ∙ written_refused seat other.0 l value input core.desk found.0 write-seat found.1 other.1 other.2
 
+      its-attempt : (a : Attempt) → task_at now.tasks seat ≡ Task.Running a → attempt ≡ a
+      its-attempt a e =
+          ap (λ (t : Task). unwrap_or (attempt_of t) attempt) (sym runs ∙ subst (λ (x : Core C V M). task_at x.tasks seat ≡ Task.Running a) (sym view) e)
+
+      -- so its member isn't worn
+      unworn : IsAt is_worn attempt.tried.number parts.pool → ⊥
+      unworn =
+          let other = conflict-cell seat value found.0 owner refused in
+          unworn-apart program devices is_value value_of is_machine stage core now view whole seat m on outside left attempt runs l.0 other.0
+          (ap (λ (c : Cell Val). c.owner) found-is ∙ other.1) other.2
+
+      pub rolls-conflict : (a : Attempt) → task_at now.tasks seat ≡ Task.Running a → MayBeRolledBack a.tried.number now.pool
+      rolls-conflict a e =
+          subst (λ (x : Attempt). MayBeRolledBack x.tried.number now.pool) (its-attempt a e)
+          (still-rolls program devices is_value value_of is_machine stage core now view whole seat m on outside left attempt runs unworn)
+
       abbrev after-conflict : Core C V M
       after-conflict = record core {
         desk = desk;
@@ -323,11 +350,7 @@ module _ {C V M : Type 0} (program : C → Tree) (devices : C → ℕ) (is_value
       unfolding with-desk
       whole-conflict = subst (λ (d : Contents V). IsWhole program devices is_value value_of is_machine stage (with-desk d)) (sym desk-stays)
           (whole-back program devices is_value value_of is_machine stage core now view whole seat m on outside left attempt runs
-          (one_counted Counted.Conflict core.counters) (one-counts core.turns core.counters whole.counters Counted.Conflict))
-
-      its-attempt : (a : Attempt) → task_at now.tasks seat ≡ Task.Running a → attempt ≡ a
-      its-attempt a e =
-          ap (λ (t : Task). unwrap_or (attempt_of t) attempt) (sym runs ∙ subst (λ (x : Core C V M). task_at x.tasks seat ≡ Task.Running a) (sym view) e)
+          (one_counted Counted.Conflict core.counters) (one-counts core.turns core.counters whole.counters Counted.Conflict) (λ going worn. unworn worn))
 
       pub makes-conflict : (a : Attempt) → task_at now.tasks seat ≡ Task.Running a → MakesEvent program devices value_of stage (one_counted Counted.Conflict) (has_turned_back seat a) now after-conflict
       unfolding with-desk

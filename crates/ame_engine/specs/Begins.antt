@@ -9,6 +9,7 @@ use Rattle.ame_stands.specs.Events.{begun_task}
 use Rattle.ame_engine.specs.declared.answer.Begin.{Begin}
 use Rattle.ame_engine.specs.declared.answer.Begin.TheVariants as answer
 use Rattle.ame_engine.specs.declared.chance.Chance.{Chance}
+use Rattle.ame_engine.specs.declared.stop.Stop.{Stop}
 use Rattle.ame_engine.specs.Counting.{Counted, one_counted}
 use Rattle.ame_engine.specs.Core.{Core}
 
@@ -23,6 +24,11 @@ abbrev pub chance_by : Bool → Oldest → Chance
 chance_by spent Oldest.Empty = Chance.Finished
 chance_by spent Oldest.Parked = Chance.Blocked
 chance_by spent oldest = chance_left spent oldest
+
+-- whether a seat meets a member that may begin
+abbrev pub gives_member : Chance → Bool
+gives_member (Chance.Member number) = true
+gives_member _ = false
 
 module _ {C V M : Type 0} where
   -- the first of these that is met: a kept stop, no member, all members parked, no turn left, none may begin, or the oldest that may
@@ -44,13 +50,14 @@ module _ {C V M : Type 0} where
     counters = one_counted Counted.Begin core.counters;
   }
 
-module _ {M : Type 0} (begins : ℕ → M → Type 0) (stays : Type 0) where
-  -- an answer is that of what the seat met; where it begins a member the first fact is so, and else the second
+module _ {M : Type 0} (begins : ℕ → M → Type 0) (keeps : Stop → Type 0) (stays : Type 0) where
+  -- an answer is that of what the seat met; where it begins a member the first fact is so, where a stop is met that wasn't kept
+  -- the second, and else the third
   abbrev pub Answers : Chance → Begin M → Type 0
   Answers (Chance.Member number) (answer.Begun m) = begins number m
-  Answers Chance.Idle answer.Idle = stays
+  Answers Chance.Finished answer.Stopped = keeps Stop.Finished
+  Answers Chance.Spent answer.Stopped = keeps Stop.Spent
   Answers Chance.Stopped answer.Stopped = stays
-  Answers Chance.Finished answer.Finished = stays
   Answers Chance.Blocked answer.Blocked = stays
-  Answers Chance.Spent answer.Spent = stays
+  Answers Chance.Idle answer.Idle = stays
   Answers _ _ = ⊥

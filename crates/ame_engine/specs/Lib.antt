@@ -1,8 +1,11 @@
 pub mod Counting
 pub mod Core
 pub mod Seen
+pub mod Rollbacks
+pub mod Places
 pub mod Whole
 pub mod AtWork
 pub mod Begins
+pub mod Undoing
 pub mod Stops
 pub mod Writing

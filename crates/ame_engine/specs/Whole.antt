@@ -9,9 +9,12 @@ use Rattle.ame_desk.specs.Contents.{Notes, Contents}
 use Rattle.ame_runner.specs.Stage.{Stage, starting_at}
 use Rattle.ame_stands.specs.declared.types.Limits.{Limits}
 use Rattle.ame_stands.specs.Stands.{Stands}
+use Rattle.ame_stands.specs.Alone.{RunsAlone}
 use Rattle.ame_engine.specs.Counting.{CountsTurns}
 use Rattle.ame_engine.specs.Core.{Core}
 use Rattle.ame_engine.specs.Seen.{parts_of}
+use Rattle.ame_engine.specs.Rollbacks.{IsGoodPool}
+use Rattle.ame_engine.specs.Places.{HasPlacesFor}
 
 -- the limits of an engine
 pub record AreLimits (limits : Limits) : Type 0 where
@@ -51,11 +54,19 @@ module _ {C M : Type 0} (is_machine : C → M → Type 0) (stage : C → M → S
 module _ {C V M : Type 0} (program : C → Tree) (devices : C → ℕ) (is_value : C → V → Type 0) (value_of : C → V → Val)
     (is_machine : C → M → Type 0) (stage : C → M → Stage) where
   -- The plain parts stand for the state to which the journal leads, the limits are in range, each value at the desk is one of
-  -- the code, and the members' machines are at rest. Each turn is counted by its kind, and the text is the lines of the output.
+  -- the code, and the members' machines are at rest. No member was rolled back more often than it may be, and one that was so
+  -- as often runs alone. Each turn is counted by its kind, and the text is the lines of the output.
   pub record IsWhole (core : Core C V M) : Type 0 where
     pub stands : Stands (parts_of program devices value_of stage core)
     pub limits : AreLimits core.limits
     pub desk : IsGoodDesk (is_value core.code) core.desk
     pub members : All (IsAtRest is_machine stage core.code) core.pool.members
+    pub pool : IsGoodPool core.pool
+    pub alone : RunsAlone (parts_of program devices value_of stage core)
     pub counters : CountsTurns core.turns core.counters
     pub text : core.text ≡ lines core.output
+
+  -- What each engine keeps besides, which contracts don't see: the list of so many tries has free places for those that may follow.
+  pub record IsEngine (core : Core C V M) (tries capacity : ℕ) : Type 0 where
+    pub whole : IsWhole core
+    pub places : HasPlacesFor core.tasks tries capacity

@@ -9,14 +9,10 @@ pub enum Begin<M> {
     Begun(M),
     /// No ready member may begin, and some member is busy.
     Idle,
-    /// A stop is kept.
+    /// A stop is kept, maybe since this call.
     Stopped,
-    /// No member is left.
-    Finished,
     /// All members are parked.
     Blocked,
-    /// Members are left, and the turns are used up.
-    Spent,
 }
 
 /// What a check answers.
@@ -26,6 +22,15 @@ pub enum Checked {
     Valid,
     /// This read is the first that isn't.
     Invalid(Bad),
+}
+
+/// What an undo answers.
+#[derive(Clone, Copy, PartialEq, Eq, Debug)]
+pub enum Undone {
+    /// Entries are left.
+    More,
+    /// None is left: the seat is idle, and its member is home.
+    Home,
 }
 
 /// What a write answers.

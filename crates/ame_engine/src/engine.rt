@@ -20,9 +20,11 @@ use std::sync::Arc;
 mod alloc;
 mod begin;
 mod check;
+mod laws;
 mod read;
 mod start;
 mod stop;
+mod undo;
 mod write;
 
 /// The engine that seats share: cells that they write in place, with what each would undo; the members and their machines;
@@ -80,7 +82,8 @@ where
 
     ghost Value = { Core M.Code M.Value M };
 
-    ghost use Rattle.ame_engine.specs.Whole.{IsWhole};
+    ghost use Rattle.std.specs.Prelude.{vec_len, vec_capacity};
+    ghost use Rattle.ame_engine.specs.Whole.{IsEngine};
 
     ghost view = { λ e. record {
       code = arc_value e.code;
@@ -99,7 +102,7 @@ where
       stop = e.stop;
     } };
 
-    ghost invariant = { λ e. IsWhole M.program M.devices M.is_value M.value_of M.is_machine M.stage (record {
+    ghost invariant = { λ e. IsEngine M.program M.devices M.is_value M.value_of M.is_machine M.stage (record {
       code = arc_value e.code;
       limits = e.limits;
       base = e.base.entries;
@@ -114,7 +117,7 @@ where
       counters = e.counters;
       tried = e.tried.items;
       stop = e.stop;
-    }) };
+    }) (vec_len e.tried) (vec_capacity e.tried) };
 }
 
 impl<M: Runner> Engine<M>

@@ -1,21 +1,25 @@
 //! How a seat begins a member.
 
-ghost use Rattle.std.specs.Prelude.{◌≡◌, ◌<◌, ◌++◌, ℕ, false, length, IfOk, OnOk, OnErr};
+ghost use Rattle.std.specs.Prelude.{◌≡◌, ◌<◌, ◌++◌, ℕ, false, length, IfOk, OnOk, OnErr, IsTrue};
 ghost use Rattle.std.specs.Option.{ForSome};
 ghost use Rattle.ame_pool.specs.Members.{is_ready};
 ghost use Rattle.ame_pool.specs.Calls.{IsAt, held, machine_of};
 ghost use Rattle.ame_pool.specs.Keeps.{is_inside_at};
+ghost use Rattle.ame_pool.specs.declared.oldest.Oldest.{Oldest};
+ghost use Rattle.ame_pool.specs.Begin.{oldest as oldest_of};
 ghost use Rattle.ame_runner.specs.Sound.{CanRun};
 ghost use Rattle.ame_stands.specs.Parts.{task_at};
 ghost use Rattle.ame_stands.specs.Events.{begun_task as task_begun, has_begun};
 ghost use Rattle.ame_engine.specs.Counting.{Counted, one_counted};
 ghost use Rattle.ame_engine.specs.Seen.{MakesEvent};
 ghost use Rattle.ame_engine.specs.AtWork.{IsOn};
-ghost use Rattle.ame_engine.specs.Begins.{chance_of, Answers};
+ghost use Rattle.ame_engine.specs.Begins.{chance_of, gives_member, Answers};
+ghost use Rattle.ame_engine.specs.Stops.{stopped_by};
 
 use super::Engine;
 use crate::answer::Begin;
 use crate::chance::{Chance, chance_by};
+use crate::stop::Stop;
 use ame_journal::Entry;
 use ame_pool::Pool;
 use ame_runner::Runner;
@@ -84,6 +88,7 @@ where
     /// What a seat would meet that begins now.
     fn chance(&self) -> Chance
         ensures chance { result ≡ chance_of self.now }
+        ensures oldest { (number : ℕ) → result ≡ Chance.Member number → oldest_of self.now.pool ≡ Oldest.Member number }
         ensures ready { (number : ℕ) → result ≡ Chance.Member number → IsAt is_ready number self.now.pool }
         ensures left { (number : ℕ) → result ≡ Chance.Member number → self.now.turns < self.now.limits.turns }
     {
@@ -93,10 +98,11 @@ where
         chance_by(self.turns >= self.limits.turns, self.pool.oldest())
     }
 
-    /// A seat begins a ready member, and runs a copy of its machine.
+    /// A seat begins a ready member, and runs a copy of its machine. There is a place then for the try of each seat.
     fn begin_member(&mut self, seat: u32, number: u64) -> Result<M, NoMemory>
         requires seat { seat < self.old.limits.seats }
         requires idle { task_at self.old.tasks seat ≡ Task.Idle }
+        requires oldest { oldest_of self.old.pool ≡ Oldest.Member number }
         requires ready { IsAt is_ready number self.old.pool }
         requires left { self.old.turns < self.old.limits.turns }
         ensures event { OnOk result (MakesEvent M.program M.devices M.value_of M.stage (one_counted Counted.Begin) (has_begun seat number) self.old self.new) }
@@ -104,6 +110,7 @@ where
         ensures runs { IfOk result (λ m. CanRun (M.stage self.new.code m)) }
         ensures err { OnErr result (self.new ≡ self.old) }
     {
+        self.tried.reserve(self.limits.seats as usize)?;
         let machine = copy_machine(*self.tasks.allocator(), &self.pool, number)?;
         let attempt = attempt_now(number, self.base.entries(), self.journal.entries());
         let task = begun_task(is_inside(&self.pool, number), attempt);
@@ -115,15 +122,17 @@ where
     }
 
     /// A seat begins the oldest ready member that may begin, and runs the machine that it is given. A turn is counted where a
-    /// member begins. Takes memory for the copy of a machine.
+    /// member begins. Where no member is left, or the turns are used up, that stop is kept. Takes memory for the copy of a machine
+    /// and for places in the tries, where a member begins.
     pub fn begin(&mut self, seat: u32) -> Result<Begin<M>, NoMemory>
         requires seat { seat < self.old.limits.seats }
         requires idle { task_at self.old.tasks seat ≡ Task.Idle }
         ensures answer { IfOk result (Answers (λ number m.
             MakesEvent M.program M.devices M.value_of M.stage (one_counted Counted.Begin) (has_begun seat number) self.old self.new
             × IsOn M.program M.devices M.value_of M.is_machine M.stage self.new seat m × CanRun (M.stage self.new.code m))
-            (self.new ≡ self.old) (chance_of self.old)) }
+            (λ why. self.new ≡ stopped_by why self.old) (self.new ≡ self.old) (chance_of self.old)) }
         ensures err { OnErr result (self.new ≡ self.old) }
+        ensures wants { OnErr result (IsTrue (gives_member (chance_of self.old))) }
     {
         match self.chance() {
             Chance::Member(number) => {
@@ -131,10 +140,16 @@ where
                 Ok(Begin::Begun(machine))
             }
             Chance::Idle => Ok(Begin::Idle),
-            Chance::Stopped => Ok(Begin::Stopped),
-            Chance::Finished => Ok(Begin::Finished),
             Chance::Blocked => Ok(Begin::Blocked),
-            Chance::Spent => Ok(Begin::Spent),
+            Chance::Stopped => Ok(Begin::Stopped),
+            Chance::Finished => {
+                self.keep(Stop::Finished);
+                Ok(Begin::Stopped)
+            }
+            Chance::Spent => {
+                self.keep(Stop::Spent);
+                Ok(Begin::Stopped)
+            }
         }
     }
 }

@@ -1,6 +1,6 @@
 //! How the reads of a seat are checked.
 
-ghost use Rattle.std.specs.Prelude.{◌≡◌, ◌<◌, ◌++◌, ◌↔◌, length, false};
+ghost use Rattle.std.specs.Prelude.{◌≡◌, ◌<◌, ◌++◌, ◌↔◌, None, length, false};
 ghost use Rattle.ame_rows.specs.declared.notes.Bad.{Bad};
 ghost use Rattle.ame_rows.specs.Valid.{IsValid, IsFirstBad};
 ghost use Rattle.ame_desk.specs.Contents.{row_at};
@@ -10,6 +10,7 @@ ghost use Rattle.ame_stands.specs.Events.{has_checked, has_turned_back};
 ghost use Rattle.ame_engine.specs.Counting.{Counted, one_counted, one_invalid};
 ghost use Rattle.ame_engine.specs.Seen.{MakesEvent};
 ghost use Rattle.ame_engine.specs.AtWork.{IsOn};
+ghost use Rattle.ame_engine.specs.Rollbacks.{MayBeRolledBack};
 
 use super::Engine;
 use crate::answer::Checked;
@@ -47,6 +48,8 @@ where
             (has_checked seat (M.stage self.old.code at.now).steps attempt) self.old self.new }
         ensures back { (attempt : Attempt) (bad : Bad) → task_at self.old.tasks seat ≡ Task.Running attempt → result ≡ Checked.Invalid bad
             → MakesEvent M.program M.devices M.value_of M.stage (one_invalid Counted.Check) (has_turned_back seat attempt) self.old self.new }
+        ensures rolls { (attempt : Attempt) (bad : Bad) → self.old.stop ≡ None → task_at self.old.tasks seat ≡ Task.Running attempt
+            → result ≡ Checked.Invalid bad → MayBeRolledBack attempt.tried.number self.old.pool }
         ensures exact { (result ≡ Checked.Valid) ↔ IsValid self.old.desk.cells seat (row_at self.old.desk.rows seat).reads }
         ensures bad { (bad : Bad) → result ≡ Checked.Invalid bad → IsFirstBad self.old.desk.cells seat (row_at self.old.desk.rows seat).reads bad }
     {

@@ -1,7 +1,8 @@
 //! How a seat reads.
 
-ghost use Rattle.std.specs.Prelude.{◌≡◌, ◌<◌, IfOk, OnOk, OnErr, Some, false};
+ghost use Rattle.std.specs.Prelude.{◌≡◌, ◌<◌, All, IfOk, OnOk, OnErr, Some, false};
 ghost use Rattle.ame_term.specs.declared.types.Loc.{Loc};
+ghost use Rattle.ame_store.specs.Cells.{HasItsParity};
 ghost use Rattle.ame_owed.specs.Heap.{cell_at};
 ghost use Rattle.ame_runner.specs.declared.wants.Wants.{Wants};
 ghost use Rattle.ame_runner.specs.Stage.{Stage};
@@ -13,8 +14,16 @@ ghost use Rattle.ame_engine.specs.Seen.{parts_of, MakesEvent};
 ghost use Rattle.ame_engine.specs.AtWork.{IsOn, IsOnSeat, IsReading};
 
 use super::Engine;
+use ame_desk::Desk;
 use ame_runner::{Runner, Wants};
 use ame_term::NoMemory;
+
+/// Each cell's number is even exactly where it has no owner.
+fn numbers_tell_owners<V>(desk: &Desk<V>)
+    ensures { All HasItsParity desk.now.cells }
+{
+    let _ = desk.cells().len();
+}
 
 impl<M: Runner> Engine<M>
 where
@@ -37,6 +46,7 @@ where
         let Some(Wants::Read(l)) = at.want() else {
             unreachable!();
         };
+        numbers_tell_owners(&self.desk);
         let value = self.desk.read(seat, l)?;
         self.turns += 1;
         self.counters.reads += 1;

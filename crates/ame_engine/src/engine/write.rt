@@ -15,6 +15,7 @@ ghost use Rattle.ame_engine.specs.Counting.{Counted, one_counted};
 ghost use Rattle.ame_engine.specs.Seen.{parts_of, MakesEvent};
 ghost use Rattle.ame_engine.specs.AtWork.{IsOn, IsOnSeat, IsWriting};
 ghost use Rattle.ame_engine.specs.Writing.{answer_to_write, refused_by};
+ghost use Rattle.ame_engine.specs.Rollbacks.{MayBeRolledBack};
 
 use super::Engine;
 use crate::answer::Wrote;
@@ -50,6 +51,8 @@ where
             → MakesEvent M.program M.devices M.value_of M.stage (one_counted Counted.Write) (has_written seat l v) self.old self.new }
         ensures back { (attempt : Attempt) (owner : ℕ) → task_at self.old.tasks seat ≡ Task.Running attempt → result ≡ Ok (Wrote.Conflict owner)
             → MakesEvent M.program M.devices M.value_of M.stage (one_counted Counted.Conflict) (has_turned_back seat attempt) self.old self.new }
+        ensures rolls { (attempt : Attempt) (owner : ℕ) → task_at self.old.tasks seat ≡ Task.Running attempt → result ≡ Ok (Wrote.Conflict owner)
+            → MayBeRolledBack attempt.tried.number self.old.pool }
         ensures runs { OnOk result ((s : Stage) → IsOnSeat (parts_of M.program M.devices M.value_of M.stage self.new) seat s → s.inside ≡ false → CanRun s) }
         ensures err { OnErr result (self.new ≡ self.old) }
     {

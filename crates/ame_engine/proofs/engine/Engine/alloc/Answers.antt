@@ -12,13 +12,16 @@ invariant_of-self-2 g c =
     ≡ Some (g.M.Runner.value_of (arc_value c.self.inside.code) c.wanted.result.now) = search rules in
     let good : g.M.Runner.is_value (arc_value c.self.inside.code) c.wanted.result.now = search rules in
     let place : c.len.result ≡ length c.self.inside.desk.cells = search rules in
-    whole-allocated g.M.Runner.program g.M.Runner.devices g.M.Runner.is_value g.M.Runner.value_of g.M.Runner.is_machine g.M.Runner.stage
-    g.M.Value.Copied.same g.met.M.Runner.same_values g.met.M.Runner.value_shown _ c.args.self.now c.self.view_is c.self.invariant c.args.seat c.args.at.now
-    c.in-Some-Alloc.sort c.in-Some-Alloc.number c.requires.on c.requires.allocates.outside told
-    (g.met.M.Runner.sound c.args.self.now.code c.args.at.now c.requires.on.machine) c.requires.left
-    c.wanted.result.now c.in_ok-value.value c.location_value-input.result good sets c.in_ok-value.ensures
-    (c.location_value-input.ensures.good (arc_value c.self.inside.code)) _ (c.location_value-input.ensures.stands (arc_value c.self.inside.code)) place
-    c.allocate.new.self c.in_ok-l.ensures.contents
+    record {
+      whole = whole-allocated g.M.Runner.program g.M.Runner.devices g.M.Runner.is_value g.M.Runner.value_of g.M.Runner.is_machine g.M.Runner.stage
+          g.M.Value.Copied.same g.met.M.Runner.same_values g.met.M.Runner.value_shown _ c.args.self.now c.self.view_is c.self.invariant.whole c.args.seat c.args.at.now
+          c.in-Some-Alloc.sort c.in-Some-Alloc.number c.requires.on c.requires.allocates.outside told
+          (g.met.M.Runner.sound c.args.self.now.code c.args.at.now c.requires.on.machine) c.requires.left
+          c.wanted.result.now c.in_ok-value.value c.location_value-input.result good sets c.in_ok-value.ensures
+          (c.location_value-input.ensures.good (arc_value c.self.inside.code)) _ (c.location_value-input.ensures.stands (arc_value c.self.inside.code)) place
+          c.allocate.new.self c.in_ok-l.ensures.contents;
+      places = c.self.invariant.places;
+    }
 
 pub returns-clause-event : goal.returns-clause-event
 returns-clause-event g c =
@@ -28,7 +31,7 @@ returns-clause-event g c =
     let good : g.M.Runner.is_value (arc_value c.self.inside.code) c.wanted.result.now = search rules in
     let place : c.len.result ≡ length c.self.inside.desk.cells = search rules in
     makes-allocated g.M.Runner.program g.M.Runner.devices g.M.Runner.is_value g.M.Runner.value_of g.M.Runner.is_machine g.M.Runner.stage
-    g.M.Value.Copied.same g.met.M.Runner.same_values g.met.M.Runner.value_shown _ c.args.self.now c.self.view_is c.self.invariant c.args.seat c.args.at.now
+    g.M.Value.Copied.same g.met.M.Runner.same_values g.met.M.Runner.value_shown _ c.args.self.now c.self.view_is c.self.invariant.whole c.args.seat c.args.at.now
     c.in-Some-Alloc.sort c.in-Some-Alloc.number c.requires.on c.requires.allocates.outside told
     (g.met.M.Runner.sound c.args.self.now.code c.args.at.now c.requires.on.machine) c.requires.left
     c.wanted.result.now c.in_ok-value.value c.location_value-input.result good sets c.in_ok-value.ensures
@@ -43,7 +46,7 @@ returns-clause-runs g c =
     let good : g.M.Runner.is_value (arc_value c.self.inside.code) c.wanted.result.now = search rules in
     let place : c.len.result ≡ length c.self.inside.desk.cells = search rules in
     runs-allocated g.M.Runner.program g.M.Runner.devices g.M.Runner.is_value g.M.Runner.value_of g.M.Runner.is_machine g.M.Runner.stage
-    g.M.Value.Copied.same g.met.M.Runner.same_values g.met.M.Runner.value_shown _ c.args.self.now c.self.view_is c.self.invariant c.args.seat c.args.at.now
+    g.M.Value.Copied.same g.met.M.Runner.same_values g.met.M.Runner.value_shown _ c.args.self.now c.self.view_is c.self.invariant.whole c.args.seat c.args.at.now
     c.in-Some-Alloc.sort c.in-Some-Alloc.number c.requires.on c.requires.allocates.outside told
     (g.met.M.Runner.sound c.args.self.now.code c.args.at.now c.requires.on.machine) c.requires.left
     c.wanted.result.now c.in_ok-value.value c.location_value-input.result good sets c.in_ok-value.ensures

@@ -1,32 +1,49 @@
-use Rattle.ame_engine.proofs.BeginLemmas.{whole-begun, makes-begun, on-after, runs-after}
+use Rattle.std.proofs.Common.{◌≡◌, ◌+◌, ◌≤◌, length, vec_len, vec_capacity, arith}
+use Rattle.ame_engine.proofs.BeginLemmas.{whole-roomy, whole-begun, makes-begun, on-after, runs-after}
+use Rattle.ame_engine.proofs.PlaceLemmas.{places-roomy, places-begun}
 use Rattle.ame_engine.proofs.engine.Engine.begin_member.Goals as goal
 
 pub invariant_of-self : goal.invariant_of-self
-invariant_of-self g c =
-    whole-begun g.M.Runner.program g.M.Runner.devices g.M.Runner.is_value g.M.Runner.value_of g.M.Runner.is_machine g.M.Runner.stage
-    g.M.Copied.same g.met.M.Runner.same_machines g.met.M.Runner.stage_shown _ c.args.self.now c.self.view_is c.self.invariant c.args.seat c.args.number
-    c.requires.seat c.requires.idle c.requires.ready c.requires.left _ _ _ _ _ _
-    c.begun_task-task.ensures c.is_inside.ensures c.attempt_now-attempt.ensures c.entries.ensures.entries c.entries-2.ensures.entries c.hold.ensures
+invariant_of-self g c = record {
+  whole = whole-roomy g.M.Runner.program g.M.Runner.devices g.M.Runner.is_value g.M.Runner.value_of g.M.Runner.is_machine g.M.Runner.stage
+      _ c.self.invariant.whole c.reserve.new.self.items c.reserve.ensures.items;
+  places = places-roomy c.self.inside.tasks.items _ _ _ _ c.reserve.ensures.len c.reserve.ensures.capacity c.self.invariant.places;
+}
+
+pub invariant_of-self-2 : goal.invariant_of-self-2
+invariant_of-self-2 g c =
+    let enough : vec_len c.reserve.new.self + length c.self.inside.tasks.items ≤ vec_capacity c.reserve.new.self =
+    (let seats : length c.self.inside.tasks.items ≡ c.self.inside.limits.seats = c.self.invariant.whole.stands.bounded.tasks in
+    let ok = c.in_ok-reserve.ensures.ok in omega arith) in
+    record {
+      whole = whole-begun g.M.Runner.program g.M.Runner.devices g.M.Runner.is_value g.M.Runner.value_of g.M.Runner.is_machine g.M.Runner.stage
+          g.M.Copied.same g.met.M.Runner.same_machines g.met.M.Runner.stage_shown _ c.args.self.now c.self.view_is c.self.invariant.whole c.args.seat c.args.number
+          c.requires.seat c.requires.idle c.requires.oldest c.requires.ready c.requires.left _ _ _ _ _ _
+          c.begun_task-task.ensures c.is_inside.ensures c.attempt_now-attempt.ensures c.entries.ensures.entries c.entries-2.ensures.entries c.hold.ensures
+          _ c.reserve.ensures.items;
+      places = places-begun c.self.inside.tasks.items c.args.seat _ _ c.begun_task-task.result enough;
+    }
 
 pub returns-clause-event : goal.returns-clause-event
 returns-clause-event g c =
     makes-begun g.M.Runner.program g.M.Runner.devices g.M.Runner.is_value g.M.Runner.value_of g.M.Runner.is_machine g.M.Runner.stage
-    g.M.Copied.same g.met.M.Runner.same_machines g.met.M.Runner.stage_shown _ c.args.self.now c.self.view_is c.self.invariant c.args.seat c.args.number
-    c.requires.seat c.requires.idle c.requires.ready c.requires.left _ _ _ _ _ _
+    g.M.Copied.same g.met.M.Runner.same_machines g.met.M.Runner.stage_shown _ c.args.self.now c.self.view_is c.self.invariant.whole c.args.seat c.args.number
+    c.requires.seat c.requires.idle c.requires.oldest c.requires.ready c.requires.left _ _ _ _ _ _
     c.begun_task-task.ensures c.is_inside.ensures c.attempt_now-attempt.ensures c.entries.ensures.entries c.entries-2.ensures.entries c.hold.ensures
+    _ c.reserve.ensures.items
 
 pub returns-clause-machine : goal.returns-clause-machine
 returns-clause-machine g c =
     on-after g.M.Runner.program g.M.Runner.devices g.M.Runner.is_value g.M.Runner.value_of g.M.Runner.is_machine g.M.Runner.stage
-    g.M.Copied.same g.met.M.Runner.same_machines g.met.M.Runner.stage_shown _ c.args.self.now c.self.view_is c.self.invariant c.args.seat c.args.number
-    c.requires.seat c.requires.idle c.requires.ready c.requires.left _ _ _ _ _ _
+    g.M.Copied.same g.met.M.Runner.same_machines g.met.M.Runner.stage_shown _ c.args.self.now c.self.view_is c.self.invariant.whole c.args.seat c.args.number
+    c.requires.seat c.requires.idle c.requires.oldest c.requires.ready c.requires.left _ _ _ _ _ _
     c.begun_task-task.ensures c.is_inside.ensures c.attempt_now-attempt.ensures c.entries.ensures.entries c.entries-2.ensures.entries c.hold.ensures
-    c.in_ok-machine.machine c.in_ok-machine.ensures
+    _ c.reserve.ensures.items c.in_ok-machine.machine c.in_ok-machine.ensures
 
 pub returns-clause-runs : goal.returns-clause-runs
 returns-clause-runs g c =
     runs-after g.M.Runner.program g.M.Runner.devices g.M.Runner.is_value g.M.Runner.value_of g.M.Runner.is_machine g.M.Runner.stage
-    g.M.Copied.same g.met.M.Runner.same_machines g.met.M.Runner.stage_shown _ c.args.self.now c.self.view_is c.self.invariant c.args.seat c.args.number
-    c.requires.seat c.requires.idle c.requires.ready c.requires.left _ _ _ _ _ _
+    g.M.Copied.same g.met.M.Runner.same_machines g.met.M.Runner.stage_shown _ c.args.self.now c.self.view_is c.self.invariant.whole c.args.seat c.args.number
+    c.requires.seat c.requires.idle c.requires.oldest c.requires.ready c.requires.left _ _ _ _ _ _
     c.begun_task-task.ensures c.is_inside.ensures c.attempt_now-attempt.ensures c.entries.ensures.entries c.entries-2.ensures.entries c.hold.ensures
-    c.in_ok-machine.machine c.in_ok-machine.ensures
+    _ c.reserve.ensures.items c.in_ok-machine.machine c.in_ok-machine.ensures

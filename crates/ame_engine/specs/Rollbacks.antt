@@ -1,0 +1,15 @@
+-- How often members are rolled back.
+use Rattle.std.specs.Prelude.{ℕ, ◌<◌, ◌≤◌, All, IsSomeAnd}
+use Rattle.ame_pool.specs.Members.{IsRising, find}
+use Rattle.ame_pool.specs.Standings.{max_rollbacks}
+use Rattle.ame_pool.specs.Roster.{Roster}
+
+module _ {M : Type 0} where
+  -- numbers rise, and no member was rolled back more often than it may be
+  pub record IsGoodPool (pool : Roster M) : Type 0 where
+    pub rising : IsRising pool.members
+    pub few : All (λ m. m.rollbacks ≤ max_rollbacks) pool.members
+
+  -- the member with this number may be rolled back once more
+  abbrev pub MayBeRolledBack : ℕ → Roster M → Type 0
+  MayBeRolledBack number pool = IsSomeAnd (find number pool.members) (λ m. m.rollbacks < max_rollbacks)

@@ -1,5 +1,5 @@
 -- Turns are counted by their kinds.
-use Rattle.std.proofs.Common.{◌≡◌, ℕ, ◌+◌, ◌≤◌, refl, arith}
+use Rattle.std.proofs.Common.{◌≡◌, ℕ, ◌+◌, refl, arith}
 use Rattle.ame_engine.specs.declared.counters.Counters.{Counters}
 use Rattle.ame_engine.specs.Counting.{nothing_counted, Counted, one_counted, one_invalid, one_unwound, turns_in, CountsTurns}
 

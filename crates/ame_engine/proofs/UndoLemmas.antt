@@ -1,5 +1,5 @@
 -- A seat undoes its last entry.
-use Rattle.std.proofs.Common.{◌≡◌, ℕ, zero, suc, ◌+◌, ◌-◌, ◌<◌, ◌≤◌, Bool, true, false, cond, List, [], ◌∷◌, set, map, take, length, All, Option, Some, None, option_map, refl, sym, ap, ◌∙◌, subst, arith}
+use Rattle.std.proofs.Common.{◌≡◌, ℕ, zero, suc, ◌+◌, ◌-◌, ◌<◌, ◌≤◌, Bool, true, false, cond, List, [], ◌∷◌, map, take, length, All, Option, Some, None, refl, sym, ap, ◌∙◌, subst, arith}
 use Rattle.std.specs.Prelude.{slice_get, slice_set, nat_lt, is_some, if◌then◌else◌}
 use Rattle.std.specs.Option.{option_map_or}
 use Rattle.std.proofs.lemmas.List.Elements.{All-set, All-take, All-nil, All-cons, All-head, All-tail}
@@ -14,21 +14,21 @@ use Rattle.ame_pool.specs.Calls.{at_home, at_rest}
 use Rattle.ame_desk.specs.Contents.{Notes, Contents, no_notes, row_at}
 use Rattle.ame_desk.specs.Entries.{named_by}
 use Rattle.ame_desk.specs.Access.{changed_at}
-use Rattle.ame_desk.specs.LettingGo.{undone_by, last_entry, cells_undone, notes_undone, undone_last}
+use Rattle.ame_desk.specs.LettingGo.{undone_by, last_entry, notes_undone, undone_last}
 use Rattle.ame_owed.specs.Shown.{shown_cell}
 use Rattle.ame_runner.specs.Stage.{Stage}
 use Rattle.ame_stands.specs.declared.types.Attempt.{Attempt}
 use Rattle.ame_stands.specs.declared.types.Reason.{Reason}
 use Rattle.ame_stands.specs.declared.types.Task.{Task}
 use Rattle.ame_stands.specs.Parts.{Parts, task_at, attempt_of}
-use Rattle.ame_stands.specs.Shown.{shown_pool, shown_notes}
+use Rattle.ame_stands.specs.Shown.{shown_pool}
 use Rattle.ame_stands.specs.Tasks.{Visits, MeetsTask}
 use Rattle.ame_stands.specs.Stands.{Stands}
 use Rattle.ame_stands.specs.Alone.{is_of_protected, RunsAlone}
 use Rattle.ame_stands.specs.Events.{brought_home, with_try, has_undone, has_gone_home}
 use Rattle.ame_stands.proofs.HomeLemmas.{undoing_more, undoing_home, running_more, running_home, free_home}
 use Rattle.ame_stands.proofs.AloneEvents.{more-alone, home-alone}
-use Rattle.ame_stands.proofs.ShownDeskLemmas.{row-shown, undo-shown}
+use Rattle.ame_stands.proofs.ShownDeskLemmas.{undo-shown}
 use Rattle.ame_stands.proofs.ShownPoolLemmas.{home-shown, parked-shown}
 use Rattle.ame_engine.specs.declared.counters.Counters.{Counters}
 use Rattle.ame_engine.specs.Core.{Core}

@@ -1,5 +1,5 @@
 -- A seat's undo, by what the calls tell.
-use Rattle.std.proofs.Common.{◌≡◌, ℕ, ◌+◌, ◌<◌, ◌≤◌, ◌^◌, Bool, true, false, List, [], ◌∷◌, get_or, set, map, length, All, Option, Some, None, IsTrue, IsSome, IsSomeAnd, option_map, refl, sym, ap, ◌∙◌, subst, arith}
+use Rattle.std.proofs.Common.{◌≡◌, ℕ, ◌+◌, ◌<◌, ◌≤◌, Bool, true, false, List, get_or, length, All, Option, Some, None, IsTrue, IsSome, IsSomeAnd, option_map, refl, sym, ap, ◌∙◌, subst, arith}
 use Rattle.std.specs.Prelude.{slice_set, is_some, if◌then◌else◌}
 use Rattle.std.proofs.lemmas.List.{length-map}
 use Rattle.ame_term.specs.Tree.{Val, Tree}
@@ -15,7 +15,7 @@ use Rattle.ame_stands.specs.declared.types.Attempt.{Attempt}
 use Rattle.ame_stands.specs.declared.types.Reason.{Reason}
 use Rattle.ame_stands.specs.declared.types.Task.{Task}
 use Rattle.ame_stands.specs.declared.types.Tried.{Tried}
-use Rattle.ame_stands.specs.Parts.{Parts, task_at, attempt_of}
+use Rattle.ame_stands.specs.Parts.{task_at, attempt_of}
 use Rattle.ame_stands.specs.Shown.{shown_notes, shown_member, shown_pool}
 use Rattle.ame_stands.specs.Tasks.{is_busy_as, is_noted_for, MeetsTask}
 use Rattle.ame_stands.specs.Events.{with_try, has_undone, has_gone_home}
@@ -24,7 +24,6 @@ use Rattle.ame_stands.proofs.ToldLemmas.{cells-grow}
 use Rattle.ame_stands.proofs.ShownDeskLemmas.{row-shown}
 use Rattle.ame_stands.proofs.ShownPoolLemmas.{found-shown}
 use Rattle.ame_owed.specs.Shown.{shown_undo}
-use Rattle.ame_rows.specs.declared.notes.Undo.{Undo}
 use Rattle.ame_engine.specs.declared.counters.Counters.{Counters}
 use Rattle.ame_engine.specs.Core.{Core}
 use Rattle.ame_engine.specs.Counting.{one_undone}

@@ -1,5 +1,5 @@
 -- A seat writes.
-use Rattle.std.proofs.Common.{◌≡◌, ◌≢◌, ℕ, ◌+◌, ◌<◌, ◌^◌, ◌==◌, ◌⊎◌, inl, inr, Bool, true, false, cond, List, [], ◌∷◌, ◌++◌, set, length, All, Option, Some, None, option_map, refl, sym, ap, ◌∙◌, subst, arith}
+use Rattle.std.proofs.Common.{◌≡◌, ◌≢◌, ℕ, ◌+◌, ◌<◌, ◌==◌, ◌⊎◌, inl, inr, Bool, true, false, cond, [], ◌∷◌, ◌++◌, set, length, All, Option, Some, None, option_map, refl, sym, ap, ◌∙◌, subst, arith}
 use Rattle.std.specs.Prelude.{slice_get, slice_set, unwrap_or}
 use Rattle.std.specs.Option.{ForSome, option_map_or}
 use Rattle.std.proofs.lemmas.List.{length-map}
@@ -7,7 +7,6 @@ use Rattle.std.proofs.lemmas.Option.{slice_get-map, get_or_from_slice_get}
 use Rattle.std.proofs.lemmas.List.Elements.{All-push, All-set}
 use Rattle.ame_term.specs.Tree.{Val, Tree}
 use Rattle.ame_term.specs.Act.{Act}
-use Rattle.ame_term.specs.Context.{focus}
 use Rattle.ame_term.specs.declared.types.Loc.{Loc}
 use Rattle.ame_journal.specs.Replay.{redex_act}
 use Rattle.ame_store.specs.declared.cell.Cell.{Cell}
@@ -18,8 +17,8 @@ use Rattle.ame_pool.specs.Calls.{IsAt}
 use Rattle.ame_local.specs.Local.{LocalState}
 use Rattle.ame_desk.specs.declared.answer.WriteAnswer.{WriteAnswer}
 use Rattle.ame_desk.specs.declared.answer.WriteAnswer.TheVariants as told
-use Rattle.ame_desk.specs.Contents.{Notes, Contents, row_at, by_seat}
-use Rattle.ame_desk.specs.Access.{changed_at, overwritten, noted_write, notes_written, told_write, written_by}
+use Rattle.ame_desk.specs.Contents.{Notes, Contents, row_at}
+use Rattle.ame_desk.specs.Access.{overwritten, noted_write, told_write, written_by}
 use Rattle.ame_desk.proofs.LookupLemmas.{get_there, all_at}
 use Rattle.ame_desk.proofs.AccessLemmas.{told_first, told_again, told_refused, written_refused}
 use Rattle.ame_owed.specs.Heap.{no_cell, cell_at, IsCell}

@@ -9,3 +9,4 @@ pub mod Begins
 pub mod Undoing
 pub mod Stops
 pub mod Writing
+pub mod Committing

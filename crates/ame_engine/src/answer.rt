@@ -41,3 +41,12 @@ pub enum Wrote {
     /// This other seat owns the cell, and the seat turns back.
     Conflict(u32),
 }
+
+/// What a commit answers.
+#[derive(Clone, Copy, PartialEq, Eq, Debug)]
+pub enum Noted {
+    /// It is committed, and an entry tells it.
+    Noted,
+    /// This read is the first that isn't valid.
+    Invalid(Bad),
+}

@@ -20,6 +20,7 @@ use std::sync::Arc;
 mod alloc;
 mod begin;
 mod check;
+mod commit;
 mod laws;
 mod read;
 mod start;

@@ -7,7 +7,7 @@ mod counters;
 mod engine;
 mod stop;
 
-pub use answer::{Begin, Checked, Undone, Wrote};
+pub use answer::{Begin, Checked, Noted, Undone, Wrote};
 pub use counters::Counters;
 pub use engine::Engine;
 pub use stop::Stop;

@@ -1,0 +1,114 @@
+//! How a seat commits.
+
+ghost use Rattle.std.specs.Prelude.{◌≡◌, ◌<◌, ◌↔◌, IfOk, OnOk, OnErr, Ok, Some, None};
+ghost use Rattle.ame_rows.specs.declared.notes.Bad.{Bad};
+ghost use Rattle.ame_rows.specs.Valid.{IsValid, IsFirstBad};
+ghost use Rattle.ame_desk.specs.Contents.{row_at};
+ghost use Rattle.ame_runner.specs.declared.wants.Wants.{Wants};
+ghost use Rattle.ame_stands.specs.declared.types.Attempt.{Attempt};
+ghost use Rattle.ame_stands.specs.Parts.{task_at};
+ghost use Rattle.ame_stands.specs.Events.{has_turned_back};
+ghost use Rattle.ame_engine.specs.Counting.{Counted, one_counted, one_invalid};
+ghost use Rattle.ame_engine.specs.Seen.{MakesEvent};
+ghost use Rattle.ame_engine.specs.AtWork.{IsOn};
+ghost use Rattle.ame_engine.specs.Rollbacks.{MayBeRolledBack};
+ghost use Rattle.ame_engine.specs.Committing.{IsCommitting, ended_at, left_at};
+
+use super::Engine;
+use crate::answer::Noted;
+use ame_runner::Runner;
+use ame_stands::{Attempt, Reason, Task};
+use ame_term::NoMemory;
+use members::{join_all, send_on, wake_all};
+use taken::{append, entry_of, lines_of, make_room, number_after};
+
+mod members;
+mod taken;
+
+impl<M: Runner> Engine<M>
+where
+    M::Code: Drop,
+{
+    /// Commits a row whose reads are valid. All memory is taken before the first change.
+    fn commit_valid(&mut self, seat: u32, attempt: Attempt, mut at: M) -> Result<(), NoMemory>
+        requires on { IsOn M.program M.devices M.value_of M.is_machine M.stage self.old seat at }
+        requires commits { IsCommitting (M.stage self.old.code at) }
+        requires left { self.old.turns < self.old.limits.turns }
+        requires task { task_at self.old.tasks seat ≡ Task.Running attempt }
+        requires valid { IsValid self.old.desk.cells seat (row_at self.old.desk.rows seat).reads }
+        ensures ended { (M.stage self.old.code at).want ≡ Some Wants.Done → OnOk result (MakesEvent M.program M.devices M.value_of M.stage
+            (one_counted Counted.Commit) (ended_at seat attempt.tried.number (M.stage self.old.code at)) self.old self.new) }
+        ensures left { (M.stage self.old.code at).want ≡ Some Wants.Leave → OnOk result (MakesEvent M.program M.devices M.value_of M.stage
+            (one_counted Counted.Commit) (left_at seat attempt.tried.number (M.stage self.old.code at)) self.old self.new) }
+        ensures err { OnErr result (self.new ≡ self.old) }
+    {
+        let alloc = *self.tasks.allocator();
+        let number = attempt.tried.number;
+        let owned = self.desk.owned(alloc, seat)?;
+        let entry = entry_of(alloc, seat, number, &at)?;
+        let bytes = lines_of(alloc, at.prints())?;
+        let count = at.spawns();
+        let next = number_after(self.next, count)?;
+        make_room(
+            &mut self.output,
+            at.prints().len(),
+            &mut self.text,
+            bytes.len(),
+            &mut self.journal,
+        )?;
+        self.pool.room(count)?;
+        self.desk.release_all(seat);
+        wake_all(&mut self.pool, owned.as_slice());
+        append(&mut self.output, at.prints());
+        append(&mut self.text, bytes.as_slice());
+        self.journal.push(entry);
+        join_all(&mut self.pool, alloc, self.next, next, &mut at);
+        send_on(&mut self.pool, number, at);
+        self.next = next;
+        self.tasks[seat as usize] = Task::Idle;
+        self.turns += 1;
+        self.counters.commits += 1;
+        Ok(())
+    }
+
+    /// Commits the row of a seat whose machine has ended, or has come to `unprotected`: its cells are released and who waits
+    /// for them is woken, its prints join the output, an entry the journal and its new members the pool, and its member is gone,
+    /// or goes on inside. Where a read isn't valid the seat turns back instead. Counts a turn. Takes memory where all reads are
+    /// valid, all of it before the first change, and lacks it also where no number is left for a new member.
+    pub fn commit(&mut self, seat: u32, at: M) -> Result<Noted, NoMemory>
+        requires on { IsOn M.program M.devices M.value_of M.is_machine M.stage self.old seat at }
+        requires commits { IsCommitting (M.stage self.old.code at) }
+        requires left { self.old.turns < self.old.limits.turns }
+        ensures ended { (attempt : Attempt) → task_at self.old.tasks seat ≡ Task.Running attempt → (M.stage self.old.code at).want ≡ Some Wants.Done
+            → result ≡ Ok Noted.Noted → MakesEvent M.program M.devices M.value_of M.stage (one_counted Counted.Commit)
+            (ended_at seat attempt.tried.number (M.stage self.old.code at)) self.old self.new }
+        ensures left { (attempt : Attempt) → task_at self.old.tasks seat ≡ Task.Running attempt → (M.stage self.old.code at).want ≡ Some Wants.Leave
+            → result ≡ Ok Noted.Noted → MakesEvent M.program M.devices M.value_of M.stage (one_counted Counted.Commit)
+            (left_at seat attempt.tried.number (M.stage self.old.code at)) self.old self.new }
+        ensures back { (attempt : Attempt) (bad : Bad) → task_at self.old.tasks seat ≡ Task.Running attempt → result ≡ Ok (Noted.Invalid bad)
+            → MakesEvent M.program M.devices M.value_of M.stage (one_invalid Counted.Commit) (has_turned_back seat attempt) self.old self.new }
+        ensures exact { IfOk result (λ noted. (noted ≡ Noted.Noted) ↔ IsValid self.old.desk.cells seat (row_at self.old.desk.rows seat).reads) }
+        ensures bad { (bad : Bad) → result ≡ Ok (Noted.Invalid bad) → IsFirstBad self.old.desk.cells seat (row_at self.old.desk.rows seat).reads bad }
+        ensures rolls { (attempt : Attempt) (bad : Bad) → self.old.stop ≡ None → task_at self.old.tasks seat ≡ Task.Running attempt
+            → result ≡ Ok (Noted.Invalid bad) → MayBeRolledBack attempt.tried.number self.old.pool }
+        ensures lacks { OnErr result (IsValid self.old.desk.cells seat (row_at self.old.desk.rows seat).reads) }
+        ensures err { OnErr result (self.new ≡ self.old) }
+    {
+        let Task::Running(attempt) = self.tasks[seat as usize] else {
+            unreachable!();
+        };
+        match self.desk.valid(seat) {
+            None => {
+                self.commit_valid(seat, attempt, at)?;
+                Ok(Noted::Noted)
+            }
+            Some(bad) => {
+                self.tasks[seat as usize] = Task::Undoing(attempt, Reason::RolledBack);
+                self.turns += 1;
+                self.counters.commits += 1;
+                self.counters.invalids += 1;
+                Ok(Noted::Invalid(bad))
+            }
+        }
+    }
+}

@@ -169,7 +169,7 @@ module _ {C V M : Type 0} (program : C → Tree) (devices : C → ℕ) (is_value
         (subst (λ (x : Sort). MakesEvent program devices value_of stage (one_counted Counted.Alloc) (has_allocated seat x n (value_of core.code value)) now after) one-sort
         (subst (λ (x : TyNo). MakesEvent program devices value_of stage (one_counted Counted.Alloc) (has_allocated seat sort x (value_of core.code value)) now after) one-number
         (subst (λ (x : Core C V M). MakesEvent program devices value_of stage (one_counted Counted.Alloc) (has_allocated seat sort number (value_of core.code value)) x after) view
-        (record { code = refl; parts = parts-allocated; counted = refl }))))
+        (record { code = refl; parts = parts-allocated; counted = refl; stop = refl }))))
 
     pub runs-allocated : (t : Stage) → IsOnSeat (parts_of program devices value_of stage after) seat t → t.inside ≡ false → CanRun t
     runs-allocated t stands out = can-run (parts_of program devices value_of stage after) whole-allocated.stands seat t stands out

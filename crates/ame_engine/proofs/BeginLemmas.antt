@@ -81,7 +81,7 @@ module _ {C V M : Type 0} (program : C → Tree) (devices : C → ℕ) (is_value
     }
 
     pub begun-makes : MakesEvent program devices value_of stage (one_counted Counted.Begin) (has_begun seat number) core (begun_by seat number core)
-    begun-makes = record { code = refl; parts = begun-parts seat number core; counted = refl }
+    begun-makes = record { code = refl; parts = begun-parts seat number core; counted = refl; stop = refl }
 
     -- the machine of the member that begins
     module _ (held_machine : M) (found : machine_of number core.pool ≡ Some held_machine) where

@@ -264,4 +264,4 @@ module _ {C V M : Type 0} (program : C → Tree) (devices : C → ℕ) (is_value
       makes-valid a e =
           subst (λ (x : Attempt). MakesEvent program devices value_of stage (one_counted Counted.Check) (has_checked seat (stage now.code m).steps x) now after-valid) (its-attempt a e)
           (subst (λ (x : Core C V M). MakesEvent program devices value_of stage (one_counted Counted.Check) (has_checked seat (stage x.code m).steps attempt) x after-valid) view
-          (record { code = refl; parts = parts-valid; counted = refl }))
+          (record { code = refl; parts = parts-valid; counted = refl; stop = refl }))

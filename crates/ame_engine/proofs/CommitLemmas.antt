@@ -436,10 +436,10 @@ module _ {C V M : Type 0} (program : C → Tree) (devices : C → ℕ) (is_value
               → MakesEvent program devices value_of stage (one_counted Counted.Commit) (ended_at seat number (stage now.code m)) now after
           makes-ended done =
               subst (λ (x : Core C V M). MakesEvent program devices value_of stage (one_counted Counted.Commit) (ended_at seat number (stage x.code m)) x after) view
-              (record { code = refl; parts = ended-parts (subst (λ (x : Core C V M). (stage x.code m).want ≡ Some wants.Done) (sym view) done); counted = refl })
+              (record { code = refl; parts = ended-parts (subst (λ (x : Core C V M). (stage x.code m).want ≡ Some wants.Done) (sym view) done); counted = refl; stop = refl })
 
           pub makes-left : (stage now.code m).want ≡ Some wants.Leave
               → MakesEvent program devices value_of stage (one_counted Counted.Commit) (left_at seat number (stage now.code m)) now after
           makes-left leaves =
               subst (λ (x : Core C V M). MakesEvent program devices value_of stage (one_counted Counted.Commit) (left_at seat number (stage x.code m)) x after) view
-              (record { code = refl; parts = left-parts (subst (λ (x : Core C V M). (stage x.code m).want ≡ Some wants.Leave) (sym view) leaves); counted = refl })
+              (record { code = refl; parts = left-parts (subst (λ (x : Core C V M). (stage x.code m).want ≡ Some wants.Leave) (sym view) leaves); counted = refl; stop = refl })

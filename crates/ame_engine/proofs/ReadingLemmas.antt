@@ -87,6 +87,7 @@ module _ {C V M : Type 0} (program : C → Tree) (devices : C → ℕ) (is_value
           parts = read-parts program devices is_value value_of is_machine stage core whole seat m l on' outside' need' left' same shows' (keeps core.code)
               (row_at desk.rows seat) row;
           counted = refl;
+          stop = refl;
         })))
 
     good-value : is_value core.code value

@@ -225,7 +225,7 @@ module _ {C V M : Type 0} (program : C → Tree) (devices : C → ℕ) (is_value
     }
 
     pub undone-makes : MakesEvent program devices value_of stage (one_undone (is_some core.stop)) (has_undone seat attempt reason) core undone_core
-    undone-makes = record { code = refl; parts = undone-parts; counted = refl }
+    undone-makes = record { code = refl; parts = undone-parts; counted = refl; stop = refl }
 
     -- none is left
     abbrev pub gone_core : Core C V M
@@ -271,4 +271,4 @@ module _ {C V M : Type 0} (program : C → Tree) (devices : C → ℕ) (is_value
     }
 
     pub gone-makes : MakesEvent program devices value_of stage (one_undone (is_some core.stop)) (has_gone_home seat attempt reason) core gone_core
-    gone-makes = record { code = refl; parts = gone-parts; counted = refl }
+    gone-makes = record { code = refl; parts = gone-parts; counted = refl; stop = refl }

@@ -290,7 +290,7 @@ module _ {C V M : Type 0} (program : C → Tree) (devices : C → ℕ) (is_value
           subst (λ (x : Val). MakesEvent program devices value_of stage (one_counted Counted.Write) (has_written seat k x) now after) one
           (subst (λ (x : Loc). MakesEvent program devices value_of stage (one_counted Counted.Write) (has_written seat x (value_of core.code value)) now after) (write-same l k (stage now.code m).want wants-it e)
           (subst (λ (x : Core C V M). MakesEvent program devices value_of stage (one_counted Counted.Write) (has_written seat l (value_of core.code value)) x after) view
-          (record { code = refl; parts = parts-written; counted = refl })))
+          (record { code = refl; parts = parts-written; counted = refl; stop = refl })))
 
       pub runs-written : (t : Stage) → IsOnSeat (parts_of program devices value_of stage after) seat t → t.inside ≡ false → CanRun t
       runs-written t stands out = can-run (parts_of program devices value_of stage after) whole-written.stands seat t stands out
@@ -357,7 +357,7 @@ module _ {C V M : Type 0} (program : C → Tree) (devices : C → ℕ) (is_value
           subst (λ (x : Attempt). MakesEvent program devices value_of stage (one_counted Counted.Conflict) (has_turned_back seat x) now after-conflict) (its-attempt a e)
           (subst (λ (x : Core C V M). MakesEvent program devices value_of stage (one_counted Counted.Conflict) (has_turned_back seat attempt) x after-conflict) view
           (subst (λ (d : Contents V). MakesEvent program devices value_of stage (one_counted Counted.Conflict) (has_turned_back seat attempt) core (with-desk d)) (sym desk-stays)
-          (record { code = refl; parts = refl; counted = refl })))
+          (record { code = refl; parts = refl; counted = refl; stop = refl })))
 
       pub runs-conflict : (t : Stage) → IsOnSeat (parts_of program devices value_of stage after-conflict) seat t → t.inside ≡ false → CanRun t
       runs-conflict t stands out = can-run (parts_of program devices value_of stage after-conflict) whole-conflict.stands seat t stands out

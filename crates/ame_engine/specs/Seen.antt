@@ -30,8 +30,9 @@ module _ {C V M : Type 0} (program : C → Tree) (devices : C → ℕ) (value_of
     stopped = is_some core.stop;
   }
 
-  -- An event: the code stays, the plain parts become what it makes of them, and it is counted.
+  -- An event: code and kept stop stay, the plain parts become what it makes of them, and it is counted.
   pub record MakesEvent (counts : Counters → Counters) (event : Parts → Parts) (old new : Core C V M) : Type 0 where
     pub code : new.code ≡ old.code
     pub parts : parts_of new ≡ event (parts_of old)
     pub counted : new.counters ≡ counts old.counters
+    pub stop : new.stop ≡ old.stop

@@ -102,7 +102,6 @@ where
         ensures home { (attempt : Attempt) → attempt_of (task_at self.old.tasks seat) ≡ Some attempt → result ≡ Undone.Home
             → MakesEvent M.program M.devices M.value_of M.stage (one_undone (is_some self.old.stop))
             (has_gone_home seat attempt (reason_to_undo (task_at self.old.tasks seat))) self.old self.new }
-        ensures stop { self.new.stop ≡ self.old.stop }
     {
         let task = self.tasks[seat as usize];
         let attempt = attempt_at(task);

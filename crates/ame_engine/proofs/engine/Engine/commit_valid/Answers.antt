@@ -57,22 +57,22 @@ invariant_of-self-2 g c =
     subst (λ x. commits (g.M.Runner.stage x.code c.args.at).want ≡ true) (sym c.self.view_is) c.requires.commits.wants in
     record {
       whole = whole-committed g.M.Runner.program g.M.Runner.devices g.M.Runner.is_value g.M.Runner.value_of g.M.Runner.is_machine g.M.Runner.stage
-    _ c.args.self.now c.self.view_is c.self.invariant.whole c.args.seat c.args.at c.requires.on c.requires.commits.outside
-    (g.met.M.Runner.sound c.args.self.now.code c.args.at c.requires.on.machine) c.requires.left c.args.attempt c.requires.task c.requires.valid
-    c.in_ok-owned.owned.items c.in_ok-owned.ensures.same c.in_ok-owned.ensures.rising
-    c.spawns-count.result (c.spawns-count.ensures (arc_value c.self.inside.code)) c.room.new.self c.wake_all.new.pool c.in_ok-room.ensures.ok
-    c.as_slice.result.now c.as_slice.ensures.value c.wake_all.ensures
-    c.join_all.new.pool (c.join_all.ensures.pool (arc_value c.self.inside.code))
-    c.join_all.new.at c.send_on.new.pool (c.join_all.ensures.stage (arc_value c.self.inside.code)) (c.send_on.ensures.ended (arc_value c.self.inside.code))
-    (c.send_on.ensures.left (arc_value c.self.inside.code)) (c.join_all.ensures.machine (arc_value c.self.inside.code))
-    (c.join_all.ensures.rests (arc_value c.self.inside.code)) (c.send_on.ensures.rests (arc_value c.self.inside.code))
-    c.join_all.ensures.good c.send_on.ensures.good c.release_all.new.self c.release_all.ensures
-    c.make_room.new.output.items c.append.new.list.items c.prints-3.result.now (c.prints-3.ensures (arc_value c.self.inside.code))
-    c.make_room.ensures.output c.append.ensures
-    c.make_room.new.text.items c.append-2.new.list.items c.as_slice-2.result.now c.in_ok-bytes.bytes.items c.prints.result.now
-    (c.prints.ensures (arc_value c.self.inside.code)) c.in_ok-bytes.ensures c.as_slice-2.ensures.value c.make_room.ensures.text c.append-2.ensures
-    c.make_room.new.journal.entries c.push.new.self.entries c.in_ok-entry.entry (c.in_ok-entry.ensures (arc_value c.self.inside.code))
-    c.make_room.ensures.entries c.push.ensures.entries c.in_ok-next.next c.in_ok-next.ensures committing;
+          _ c.args.self.now c.self.view_is c.self.invariant.whole c.args.seat c.args.at c.requires.on c.requires.commits.outside
+          (g.met.M.Runner.sound c.args.self.now.code c.args.at c.requires.on.machine) c.requires.left c.args.attempt c.requires.task c.requires.valid
+          c.in_ok-owned.owned.items c.in_ok-owned.ensures.same c.in_ok-owned.ensures.rising
+          c.spawns-count.result (c.spawns-count.ensures (arc_value c.self.inside.code)) c.room.new.self c.wake_all.new.pool c.in_ok-room.ensures.ok
+          c.as_slice.result.now c.as_slice.ensures.value c.wake_all.ensures
+          c.join_all.new.pool (c.join_all.ensures.pool (arc_value c.self.inside.code))
+          c.join_all.new.at c.send_on.new.pool (c.join_all.ensures.stage (arc_value c.self.inside.code)) (c.send_on.ensures.ended (arc_value c.self.inside.code))
+          (c.send_on.ensures.left (arc_value c.self.inside.code)) (c.join_all.ensures.machine (arc_value c.self.inside.code))
+          (c.join_all.ensures.rests (arc_value c.self.inside.code)) (c.send_on.ensures.rests (arc_value c.self.inside.code))
+          c.join_all.ensures.good c.send_on.ensures.good c.release_all.new.self c.release_all.ensures
+          c.make_room.new.output.items c.append.new.list.items c.prints-3.result.now (c.prints-3.ensures (arc_value c.self.inside.code))
+          c.make_room.ensures.output c.append.ensures
+          c.make_room.new.text.items c.append-2.new.list.items c.as_slice-2.result.now c.in_ok-bytes.bytes.items c.prints.result.now
+          (c.prints.ensures (arc_value c.self.inside.code)) c.in_ok-bytes.ensures c.as_slice-2.ensures.value c.make_room.ensures.text c.append-2.ensures
+          c.make_room.new.journal.entries c.push.new.self.entries c.in_ok-entry.entry (c.in_ok-entry.ensures (arc_value c.self.inside.code))
+          c.make_room.ensures.entries c.push.ensures.entries c.in_ok-next.next c.in_ok-next.ensures committing;
       places = places-freed c.self.inside.tasks.items c.args.seat _ _ c.args.attempt (ap attempt_of is) c.self.invariant.places;
     }
 

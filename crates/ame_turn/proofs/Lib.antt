@@ -1,0 +1,4 @@
+pub mod FedLemmas
+pub mod OthersLemmas
+pub mod GoesLemmas
+pub mod CheckLemmas

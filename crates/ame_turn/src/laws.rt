@@ -1,0 +1,55 @@
+//! Where the machines of seats stand while events come. Each law is a fact for proofs, and does nothing.
+
+ghost use Rattle.std.specs.Prelude.{◌≡◌, ◌≢◌, ℕ, ◌⊎◌, Some, false, length};
+ghost use Rattle.ame_term.specs.Tree.{Val};
+ghost use Rattle.ame_term.specs.declared.types.Loc.{Loc};
+ghost use Rattle.ame_term.specs.declared.types.Sort.{Sort};
+ghost use Rattle.ame_term.specs.declared.types.TyNo.{TyNo};
+ghost use Rattle.ame_runner.specs.Stage.{Stage};
+ghost use Rattle.ame_runner.specs.Need.{Need, need_of};
+ghost use Rattle.ame_runner.specs.Sound.{CanRun};
+ghost use Rattle.ame_runner.specs.Move.{Advances, fed_stage};
+ghost use Rattle.ame_store.specs.Cells.{IsFree, IsOwnedBy};
+ghost use Rattle.ame_owed.specs.Heap.{cell_at};
+ghost use Rattle.ame_stands.specs.declared.types.Attempt.{Attempt};
+ghost use Rattle.ame_stands.specs.Parts.{Parts, heap_in};
+ghost use Rattle.ame_stands.specs.Stands.{Stands};
+ghost use Rattle.ame_stands.specs.Events.{has_begun, has_read, has_written, has_allocated, has_checked, has_turned_back};
+ghost use Rattle.ame_engine.specs.AtWork.{IsOnSeat};
+
+/// A machine that makes steps alone stays where the run of its seat stands.
+pub fn machines_stay_on_when_they_advance()
+    ensures { (parts : Parts) (seat k : ℕ) (s t : Stage) → IsOnSeat parts seat s → Advances k s t → IsOnSeat parts seat t }
+{}
+
+/// A machine that is where a seat's run of protected code stands can run.
+pub fn machines_on_their_seats_can_run()
+    ensures { (parts : Parts) (seat : ℕ) (s : Stage) → Stands parts → IsOnSeat parts seat s → s.inside ≡ false → CanRun s }
+{}
+
+/// A machine goes on where the run of its seat stands once it is fed what its event gave: the value in place, that a write was
+/// accepted, or the new location.
+pub fn machines_go_on_when_they_are_fed()
+    ensures read { (parts : Parts) (seat : ℕ) (l : Loc) (s t : Stage) → Stands parts → IsOnSeat parts seat s → s.inside ≡ false
+        → Need.Read l.0 ≡ need_of s → fed_stage (cell_at (heap_in parts) l.0).value s ≡ Some t → IsOnSeat (has_read seat l parts) seat t }
+    ensures write { (parts : Parts) (seat : ℕ) (l : Loc) (v : Val) (s t : Stage) → Stands parts → IsOnSeat parts seat s → s.inside ≡ false
+        → Need.Write l.0 ≡ need_of s → IsFree (cell_at (heap_in parts) l.0) ⊎ IsOwnedBy seat (cell_at (heap_in parts) l.0)
+        → fed_stage Val.Unit s ≡ Some t → IsOnSeat (has_written seat l v parts) seat t }
+    ensures allocate { (parts : Parts) (seat : ℕ) (sort : Sort) (number : TyNo) (v : Val) (s t : Stage) → Stands parts → IsOnSeat parts seat s
+        → s.inside ≡ false → Need.Alloc sort ≡ need_of s → fed_stage (Val.Loc (length parts.desk.cells)) s ≡ Some t
+        → IsOnSeat (has_allocated seat sort number v parts) seat t }
+{}
+
+/// After an event of a seat the machine of another seat is where it was.
+pub fn machines_of_other_seats_stay_on()
+    ensures begin { (parts : Parts) (seat other number : ℕ) (s : Stage) → other ≢ seat → IsOnSeat parts other s → IsOnSeat (has_begun seat number parts) other s }
+    ensures read { (parts : Parts) (seat other : ℕ) (l : Loc) (s : Stage) → other ≢ seat → IsOnSeat parts other s → IsOnSeat (has_read seat l parts) other s }
+    ensures write { (parts : Parts) (seat other : ℕ) (l : Loc) (v : Val) (s : Stage) → other ≢ seat → IsOnSeat parts other s
+        → IsOnSeat (has_written seat l v parts) other s }
+    ensures allocate { (parts : Parts) (seat other : ℕ) (sort : Sort) (ty : TyNo) (v : Val) (s : Stage) → other ≢ seat → IsOnSeat parts other s
+        → IsOnSeat (has_allocated seat sort ty v parts) other s }
+    ensures check { (parts : Parts) (seat other steps : ℕ) (attempt : Attempt) (s : Stage) → other ≢ seat → IsOnSeat parts other s
+        → IsOnSeat (has_checked seat steps attempt parts) other s }
+    ensures back { (parts : Parts) (seat other : ℕ) (attempt : Attempt) (s : Stage) → other ≢ seat → IsOnSeat parts other s
+        → IsOnSeat (has_turned_back seat attempt parts) other s }
+{}

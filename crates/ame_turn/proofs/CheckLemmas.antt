@@ -15,7 +15,7 @@ use Rattle.ame_engine.specs.Core.{Core}
 use Rattle.ame_engine.specs.Seen.{parts_of, MakesEvent}
 use Rattle.ame_engine.specs.AtWork.{is_free, working, IsOnSeat, IsOn}
 use Rattle.ame_engine.proofs.RunLemmas.{can-run}
-use Rattle.ame_turn.specs.Goes.{GoesOn}
+use Rattle.ame_turn.specs.Served.{IsServed}
 use Rattle.ame_turn.proofs.GoesLemmas.{goes}
 
 -- after a valid check
@@ -44,7 +44,7 @@ module _ {C V M : Type 0} (program : C → Tree) (devices : C → ℕ) (value_of
       → IsOn program devices value_of is_machine stage old seat m → (stage old.code m).inside ≡ false → task_at old.tasks seat ≡ Task.Running a
       → MakesEvent program devices value_of stage (one_counted Counted.Check) (has_checked seat (stage old.code m).steps a) old new
       → is_machine old.code n → stage old.code n ≡ record (stage old.code m) { since = 0 }
-      → GoesOn program devices value_of is_machine stage (one_counted Counted.Check) (has_checked seat (stage old.code m).steps a) seat old new n
+      → IsServed program devices value_of is_machine stage (one_counted Counted.Check) (has_checked seat (stage old.code m).steps a) seat old new n
   check-on old new seat m n a stands on outside task makes machine is =
       let parts = parts_of program devices value_of stage old in
       goes program devices value_of is_machine stage (one_counted Counted.Check) (has_checked seat (stage old.code m).steps a) seat old new n makes machine

@@ -34,7 +34,7 @@ use Rattle.ame_engine.specs.Core.{Core}
 use Rattle.ame_engine.specs.Seen.{parts_of, MakesEvent}
 use Rattle.ame_engine.specs.AtWork.{IsOnSeat, IsOn}
 use Rattle.ame_engine.proofs.ReadLemmas.{runs-as, comes-to}
-use Rattle.ame_turn.specs.Goes.{GoesOn}
+use Rattle.ame_turn.specs.Served.{IsServed}
 use Rattle.ame_turn.proofs.FedLemmas.{read-fed, write-fed, alloc-fed}
 
 module _ (parts : Parts) (seat : ℕ) (s t : Stage) (stands : Stands parts) (on : IsOnSeat parts seat s) (outside : s.inside ≡ false) where
@@ -78,7 +78,7 @@ module _ {C V M : Type 0} (program : C → Tree) (devices : C → ℕ) (value_of
       → MakesEvent program devices value_of stage counts event old new → is_machine old.code m
       → IsOnSeat (event (parts_of program devices value_of stage old)) seat (stage old.code m) → (stage old.code m).inside ≡ false
       → ((s : Stage) → IsOnSeat (parts_of program devices value_of stage new) seat s → s.inside ≡ false → CanRun s)
-      → GoesOn program devices value_of is_machine stage counts event seat old new m
+      → IsServed program devices value_of is_machine stage counts event seat old new m
   goes counts event seat old new m makes machine there side runs =
       let here : IsOnSeat (parts_of program devices value_of stage new) seat (stage old.code m) =
       subst (λ (p : Parts). IsOnSeat p seat (stage old.code m)) (sym makes.parts) there in
@@ -98,7 +98,7 @@ module _ {C V M : Type 0} (program : C → Tree) (devices : C → ℕ) (value_of
       → value_of old.code value ≡ (cell_at (heap_in (parts_of program devices value_of stage old)) l.0).value
       → ((s : Stage) → IsOnSeat (parts_of program devices value_of stage new) seat s → s.inside ≡ false → CanRun s)
       → is_machine old.code fed → after_input (stage old.code m).want (value_of old.code value) (stage old.code m) ≡ Some (stage old.code fed)
-      → GoesOn program devices value_of is_machine stage (one_counted Counted.Read) (has_read seat l) seat old new fed
+      → IsServed program devices value_of is_machine stage (one_counted Counted.Read) (has_read seat l) seat old new fed
   read-on old new seat m fed l value stands on outside told sound makes is runs machine after =
       let s = stage old.code m in
       let t = stage old.code fed in
@@ -116,7 +116,7 @@ module _ {C V M : Type 0} (program : C → Tree) (devices : C → ℕ) (value_of
       → answer.Wrote ≡ answer_to_write seat (cell_at (heap_in (parts_of program devices value_of stage old)) l.0).owner
       → ((s : Stage) → IsOnSeat (parts_of program devices value_of stage new) seat s → s.inside ≡ false → CanRun s)
       → is_machine old.code fed → after_input (stage old.code m).want Val.Unit (stage old.code m) ≡ Some (stage old.code fed)
-      → GoesOn program devices value_of is_machine stage (one_counted Counted.Write) (has_written seat l v) seat old new fed
+      → IsServed program devices value_of is_machine stage (one_counted Counted.Write) (has_written seat l v) seat old new fed
   write-on old new seat m fed l v stands on outside told sound makes wrote runs machine after =
       let s = stage old.code m in
       let t = stage old.code fed in
@@ -134,7 +134,7 @@ module _ {C V M : Type 0} (program : C → Tree) (devices : C → ℕ) (value_of
       → place ≡ length old.desk.cells
       → ((s : Stage) → IsOnSeat (parts_of program devices value_of stage new) seat s → s.inside ≡ false → CanRun s)
       → is_machine old.code fed → after_input (stage old.code m).want (Val.Loc place) (stage old.code m) ≡ Some (stage old.code fed)
-      → GoesOn program devices value_of is_machine stage (one_counted Counted.Alloc) (has_allocated seat sort number v) seat old new fed
+      → IsServed program devices value_of is_machine stage (one_counted Counted.Alloc) (has_allocated seat sort number v) seat old new fed
   alloc-on old new seat m fed sort number v place stands on outside told sound makes is runs machine after =
       let s = stage old.code m in
       let t = stage old.code fed in

@@ -15,7 +15,7 @@ ghost use Rattle.ame_engine.specs.Counting.{Counted, one_counted};
 ghost use Rattle.ame_engine.specs.Seen.{parts_of, MakesEvent};
 ghost use Rattle.ame_engine.specs.AtWork.{IsOn, IsReading, IsWriting, IsAllocating};
 ghost use Rattle.ame_engine.specs.Writing.{answer_to_write};
-ghost use Rattle.ame_turn.specs.Goes.{GoesOn};
+ghost use Rattle.ame_turn.specs.Served.{IsServed};
 
 use ame_engine::{Engine, Wrote};
 use ame_runner::{Input, Runner};
@@ -38,7 +38,7 @@ where
     requires left { engine.old.turns < engine.old.limits.turns }
     requires steps { (M.stage engine.old.code machine.old).steps + 1 < 2 ^ 64 }
     ensures goes { (l : Loc) → (M.stage engine.old.code machine.old).want ≡ Some (Wants.Read l) → OnOk result
-        (GoesOn M.program M.devices M.value_of M.is_machine M.stage (one_counted Counted.Read) (has_read seat l) seat engine.old engine.new machine.new) }
+        (IsServed M.program M.devices M.value_of M.is_machine M.stage (one_counted Counted.Read) (has_read seat l) seat engine.old engine.new machine.new) }
     ensures engine { OnErr result (engine.new ≡ engine.old) }
     ensures machine { OnErr result (machine.new ≡ machine.old) }
 {
@@ -67,7 +67,7 @@ where
         answer ≡ answer_to_write seat (cell_at (heap_in (parts_of M.program M.devices M.value_of M.stage engine.old)) l.0).owner) }
     ensures goes { (l : Loc) (v : Val) → (M.stage engine.old.code machine.old).want ≡ Some (Wants.Write l)
         → value_to_set (M.stage engine.old.code machine.old) ≡ Some v → result ≡ Ok Wrote.Wrote
-        → GoesOn M.program M.devices M.value_of M.is_machine M.stage (one_counted Counted.Write) (has_written seat l v) seat engine.old engine.new machine.new }
+        → IsServed M.program M.devices M.value_of M.is_machine M.stage (one_counted Counted.Write) (has_written seat l v) seat engine.old engine.new machine.new }
     ensures back { (attempt : Attempt) (owner : ℕ) → task_at engine.old.tasks seat ≡ Task.Running attempt → result ≡ Ok (Wrote.Conflict owner)
         → MakesEvent M.program M.devices M.value_of M.stage (one_counted Counted.Conflict) (has_turned_back seat attempt) engine.old engine.new }
     ensures engine { OnErr result (engine.new ≡ engine.old) }
@@ -100,7 +100,7 @@ where
     requires left { engine.old.turns < engine.old.limits.turns }
     requires steps { (M.stage engine.old.code machine.old).steps + 1 < 2 ^ 64 }
     ensures goes { (sort : Sort) (number : TyNo) (v : Val) → (M.stage engine.old.code machine.old).want ≡ Some (Wants.Alloc sort number)
-        → value_to_set (M.stage engine.old.code machine.old) ≡ Some v → OnOk result (GoesOn M.program M.devices M.value_of M.is_machine M.stage
+        → value_to_set (M.stage engine.old.code machine.old) ≡ Some v → OnOk result (IsServed M.program M.devices M.value_of M.is_machine M.stage
         (one_counted Counted.Alloc) (has_allocated seat sort number v) seat engine.old engine.new machine.new) }
     ensures engine { OnErr result (engine.new ≡ engine.old) }
     ensures machine { OnErr result (machine.new ≡ machine.old) }

@@ -10,7 +10,7 @@ ghost use Rattle.ame_stands.specs.Events.{has_checked, has_turned_back};
 ghost use Rattle.ame_engine.specs.Counting.{Counted, one_counted, one_invalid};
 ghost use Rattle.ame_engine.specs.Seen.{MakesEvent};
 ghost use Rattle.ame_engine.specs.AtWork.{IsOn};
-ghost use Rattle.ame_turn.specs.Goes.{GoesOn};
+ghost use Rattle.ame_turn.specs.Served.{IsServed};
 
 use ame_engine::{Checked, Engine};
 use ame_runner::Runner;
@@ -26,7 +26,7 @@ where
     requires full { (M.stage engine.old.code machine.old).since ≡ engine.old.limits.slice }
     requires left { engine.old.turns < engine.old.limits.turns }
     ensures goes { (attempt : Attempt) → task_at engine.old.tasks seat ≡ Task.Running attempt → result ≡ Checked.Valid
-        → GoesOn M.program M.devices M.value_of M.is_machine M.stage (one_counted Counted.Check)
+        → IsServed M.program M.devices M.value_of M.is_machine M.stage (one_counted Counted.Check)
         (has_checked seat (M.stage engine.old.code machine.old).steps attempt) seat engine.old engine.new machine.new }
     ensures back { (attempt : Attempt) (bad : Bad) → task_at engine.old.tasks seat ≡ Task.Running attempt → result ≡ Checked.Invalid bad
         → MakesEvent M.program M.devices M.value_of M.stage (one_invalid Counted.Check) (has_turned_back seat attempt) engine.old engine.new }

@@ -12,7 +12,7 @@ use Rattle.ame_engine.specs.AtWork.{IsOn}
 module _ {C V M : Type 0} (program : C → Tree) (devices : C → ℕ) (value_of : C → V → Val) (is_machine : C → M → Type 0)
     (stage : C → M → Stage) where
   -- the engine makes the event, and the seat's machine is where its run stands then, and can run
-  pub record GoesOn (counts : Counters → Counters) (event : Parts → Parts) (seat : ℕ) (old new : Core C V M) (m : M) : Type 0 where
+  pub record IsServed (counts : Counters → Counters) (event : Parts → Parts) (seat : ℕ) (old new : Core C V M) (m : M) : Type 0 where
     pub makes : MakesEvent program devices value_of stage counts event old new
     pub on : IsOn program devices value_of is_machine stage new seat m
     pub runs : CanRun (stage new.code m)

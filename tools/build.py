@@ -11,10 +11,13 @@ import signal
 import subprocess
 import sys
 import time
+from collections import namedtuple
 
 TOP = os.path.dirname(os.path.dirname(os.path.abspath(__file__)))
 MEMORY_OF_A_CHECK = 2_000_000_000
 FAILED = 70
+
+Work = namedtuple("Work", "process jobs since")
 
 
 def read_uses():
@@ -114,11 +117,11 @@ class Build:
                 os.remove(old)
         given = "stdin" if os.path.exists(f"{folder}/stdin") else os.devnull
         with open(f"{folder}/out/build.log", "wb") as log, open(os.path.join(folder, given), "rb") as text:
-            self.at_work[crate] = subprocess.Popen(
+            process = subprocess.Popen(
                 ["rt", command, "--jobs", str(jobs)],
                 cwd=folder, stdin=text, stdout=log, stderr=log, start_new_session=True,
             )
-        self.at_work[crate].since, self.at_work[crate].jobs = time.monotonic(), jobs
+        self.at_work[crate] = Work(process, jobs, time.monotonic())
 
     def begin_ready(self):
         ready = self.ready()
@@ -148,13 +151,13 @@ class Build:
             self.tell_work()
             time.sleep(0.2)
             for crate, it in [*self.at_work.items()]:
-                if it.poll() is not None:
-                    self.end(crate, it.returncode)
+                if it.process.poll() is not None:
+                    self.end(crate, it.process.returncode)
 
     def stop(self):
         for it in self.at_work.values():
-            os.killpg(it.pid, signal.SIGTERM)
-            it.wait()
+            os.killpg(it.process.pid, signal.SIGTERM)
+            it.process.wait()
 
 
 def main():

@@ -1,5 +1,6 @@
 pub mod CountLemmas
 pub mod MemberLemmas
+pub mod CauseLemmas
 pub mod RollbackLemmas
 pub mod OldestLemmas
 pub mod AloneLemmas

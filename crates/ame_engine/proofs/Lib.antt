@@ -21,3 +21,4 @@ pub mod OwnedLemmas
 pub mod CrewLemmas
 pub mod JoinLemmas
 pub mod CommitLemmas
+pub mod BlockLemmas

@@ -20,9 +20,11 @@ use std::sync::Arc;
 
 mod alloc;
 mod begin;
+mod block;
 mod check;
 mod commit;
 mod laws;
+mod notes;
 mod read;
 mod start;
 mod stop;

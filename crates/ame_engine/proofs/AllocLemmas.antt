@@ -25,7 +25,7 @@ use Rattle.ame_runner.specs.Comes.{HasNextAct}
 use Rattle.ame_runner.specs.Sound.{IsSoundStage, CanRun}
 use Rattle.ame_runner.proofs.NeedLemmas.{comes_as}
 use Rattle.ame_stands.specs.declared.types.Task.{Task}
-use Rattle.ame_stands.specs.Parts.{Parts, task_at, run_in}
+use Rattle.ame_stands.specs.Parts.{Parts, task_at, attempt_of, run_in}
 use Rattle.ame_stands.specs.Shown.{shown_desk}
 use Rattle.ame_stands.specs.Stands.{Stands}
 use Rattle.ame_stands.specs.Alone.{RunsAlone}
@@ -33,7 +33,13 @@ use Rattle.ame_stands.specs.Events.{has_allocated}
 use Rattle.ame_stands.proofs.AloneLemmas.{allocation-alone}
 use Rattle.ame_stands.proofs.AccessLemmas.{allocation-stands}
 use Rattle.ame_stands.proofs.ShownDeskLemmas.{allocation-shown}
+use Rattle.ame_waiting.specs.Waiting.{AreWaiting}
+use Rattle.ame_waiting.specs.Once.{AreNotedOnce}
+use Rattle.ame_waiting.proofs.TaskLemmas.{allocation-waiting}
+use Rattle.ame_waiting.proofs.OnceLemmas.{once-on}
 use Rattle.ame_engine.specs.Core.{Core}
+use Rattle.ame_engine.specs.Causes.{HasCause}
+use Rattle.ame_engine.proofs.CauseLemmas.{task-more, working-cause}
 use Rattle.ame_engine.specs.Counting.{Counted, one_counted}
 use Rattle.ame_engine.specs.Seen.{parts_of, MakesEvent}
 use Rattle.ame_engine.specs.Whole.{IsGoodUndo, AreGoodNotes, IsGoodDesk, IsWhole}
@@ -141,6 +147,9 @@ module _ {C V M : Type 0} (program : C → Tree) (devices : C → ℕ) (is_value
         subst (λ (v : Val). RunsAlone (has_allocated seat sort number v parts)) value-is
         (allocation-alone parts whole.stands whole.alone seat on'.attempt task s.steps comes.0 sort number next-act.0 comes.1)
 
+    waiting-allocated : AreWaiting (has_allocated seat sort number (value_of core.code value) parts)
+    waiting-allocated = allocation-waiting parts whole.stands seat on'.attempt task whole.waiting sort number (value_of core.code value)
+
     pub whole-allocated : IsWhole program devices is_value value_of is_machine stage after
     whole-allocated = record {
       stands = subst Stands (sym parts-allocated) stands-allocated;
@@ -151,6 +160,12 @@ module _ {C V M : Type 0} (program : C → Tree) (devices : C → ℕ) (is_value
       members = whole.members;
       pool = whole.pool;
       alone = subst RunsAlone (sym parts-allocated) alone-allocated;
+      waiting = subst AreWaiting (sym parts-allocated) waiting-allocated;
+      once = subst AreNotedOnce (sym parts-allocated)
+          (once-on parts (has_allocated seat sort number (value_of core.code value) parts) refl (λ i some. some) whole.once);
+      caused = subst (HasCause core.stop core.certificates) (sym parts-allocated)
+          (working-cause parts (has_allocated seat sort number (value_of core.code value) parts)
+          (task-more parts whole.stands seat on'.attempt (ap attempt_of task)) refl left' core.stop core.certificates whole.caused);
       counters = one-counts core.turns core.counters whole.counters Counted.Alloc;
       text = whole.text;
     }

@@ -1,6 +1,8 @@
 -- A seat begins a member.
 use Rattle.std.proofs.Common.{◌≡◌, ℕ, ◌+◌, ◌<◌, Bool, true, false, List, ◌++◌, length, Option, Some, None, option_map, refl, sym, ap, ◌∙◌, subst, arith}
-use Rattle.std.specs.Prelude.{unwrap_or, slice_set}
+use Rattle.std.specs.Prelude.{◌≤◌, ◌⊎◌, nat_lt, is_some, unwrap_or, slice_set, if◌then◌else◌}
+use Rattle.std.proofs.Common.{inl}
+use Rattle.std.proofs.lemmas.Bool.{ltb-false}
 use Rattle.std.specs.Option.{ForSome}
 use Rattle.ame_term.specs.Tree.{Val, Tree, unit_tree}
 use Rattle.ame_pool.specs.declared.member.Member.{Member}
@@ -23,13 +25,18 @@ use Rattle.ame_stands.specs.Events.{begun_task, has_begun, one_turn, with_task}
 use Rattle.ame_stands.proofs.StepLemmas.{task_here}
 use Rattle.ame_stands.proofs.HomeLemmas.{begun_stands}
 use Rattle.ame_stands.proofs.AloneEvents.{begun-alone}
+use Rattle.ame_waiting.specs.Waiting.{AreWaiting}
+use Rattle.ame_waiting.specs.Once.{AreNotedOnce}
+use Rattle.ame_waiting.proofs.TaskLemmas.{begin-waiting}
+use Rattle.ame_waiting.proofs.OnceEvents.{begin-once}
 use Rattle.ame_engine.specs.Core.{Core}
+use Rattle.ame_engine.specs.Causes.{HasCause}
 use Rattle.ame_engine.specs.Counting.{Counted, one_counted}
 use Rattle.ame_stands.specs.Shown.{shown_pool}
 use Rattle.ame_engine.specs.Seen.{parts_of, term_shown, MakesEvent}
 use Rattle.ame_engine.specs.Whole.{resting_at, IsAtRest, IsWhole}
 use Rattle.ame_engine.specs.AtWork.{IsOn}
-use Rattle.ame_engine.specs.Begins.{chance_by, attempt_now, begun_by}
+use Rattle.ame_engine.specs.Begins.{chance_by, chance_of, attempt_now, begun_by}
 use Rattle.ame_engine.specs.declared.chance.Chance.{Chance}
 use Rattle.ame_pool.specs.declared.oldest.Oldest.{Oldest}
 use Rattle.ame_journal.specs.declared.entry.Entry.{Entry}
@@ -39,6 +46,9 @@ use Rattle.ame_engine.proofs.MemberLemmas.{all_altered, inside-told, ready-machi
 use Rattle.ame_engine.proofs.WorkLemmas.{on-begun}
 use Rattle.ame_engine.proofs.RunLemmas.{rest-runs}
 use Rattle.ame_engine.proofs.CountLemmas.{one-counts}
+use Rattle.ame_engine.specs.declared.stop.Stop.{Stop}
+use Rattle.ame_engine.specs.Stops.{is_from_outside, stopped_by}
+use Rattle.ame_engine.proofs.CauseLemmas.{begins-more, working-cause, empty-members, empty-oldest, outside-fault, fault-cause}
 use Rattle.ame_engine.proofs.RollbackLemmas.{good-held}
 use Rattle.ame_engine.proofs.OldestLemmas.{oldest-shown}
 
@@ -76,6 +86,14 @@ module _ {C V M : Type 0} (program : C → Tree) (devices : C → ℕ) (is_value
       alone = subst RunsAlone (sym (begun-parts seat number core))
           (begun-alone (parts_of program devices value_of stage core) whole.stands whole.alone seat number idle within
           (oldest-shown (term_shown stage core.code) core.pool ∙ first) (ready-same (term_shown stage core.code) number core.pool ready));
+      waiting = subst AreWaiting (sym (begun-parts seat number core))
+          (begin-waiting (parts_of program devices value_of stage core) whole.waiting seat number idle);
+      once = subst AreNotedOnce (sym (begun-parts seat number core))
+          (begin-once (parts_of program devices value_of stage core) seat number (ready-same (term_shown stage core.code) number core.pool ready) whole.once);
+      caused = subst (HasCause core.stop core.certificates) (sym (begun-parts seat number core))
+          (working-cause (parts_of program devices value_of stage core) (has_begun seat number (parts_of program devices value_of stage core))
+          (begins-more (parts_of program devices value_of stage core) number (oldest-shown (term_shown stage core.code) core.pool ∙ first)) refl left
+          core.stop core.certificates whole.caused);
       counters = one-counts core.turns core.counters whole.counters Counted.Begin;
       text = whole.text;
     }
@@ -247,3 +265,107 @@ module _ {C V M : Type 0} (program : C → Tree) (devices : C → ℕ) (is_value
     pub runs-after : CanRun (stage core.code m)
     runs-after = begun-runs program devices is_value value_of is_machine stage core whole seat number within' idle' first' ready' left'
         resting.0 resting.1 m (sym (shows core.code resting.0 m (copied resting.0 resting.1)))
+
+-- What a seat meets is the cause of a stop
+
+abbrev is-spent : {C V M : Type 0} → Core C V M → Bool
+is-spent core = if nat_lt core.turns core.limits.turns then false else true
+
+none-met : {C V M : Type 0} (core : Core C V M) (chance : Chance) → chance_of core ≡ chance → (Chance.Stopped ≡ chance → ⊥) → core.stop ≡ None
+none-met core chance e other = by core.stop refl
+  where
+    by : (o : Option Stop) → core.stop ≡ o → core.stop ≡ None
+    by None is = is
+    by (Some why) is =
+        absurd (other
+        (sym (ap (λ (o : Option Stop). if is_some o then Chance.Stopped else chance_by (if nat_lt core.turns core.limits.turns then false else true) (oldest core.pool)) is) ∙ e))
+
+met-by : {C V M : Type 0} (core : Core C V M) (chance : Chance) → chance_of core ≡ chance → core.stop ≡ None
+    → chance_by (if nat_lt core.turns core.limits.turns then false else true) (oldest core.pool) ≡ chance
+met-by core chance e none =
+    sym (ap (λ (o : Option Stop). if is_some o then Chance.Stopped else chance_by (if nat_lt core.turns core.limits.turns then false else true) (oldest core.pool)) none) ∙ e
+
+finished-empty : (spent : Bool) (o : Oldest) → chance_by spent o ≡ Chance.Finished → o ≡ Oldest.Empty
+finished-empty spent Oldest.Empty e = refl
+finished-empty spent Oldest.Parked e = absurd (let clash : Chance.Blocked ≡ Chance.Finished = e in cc)
+finished-empty true Oldest.Wait e = absurd (let clash : Chance.Spent ≡ Chance.Finished = e in cc)
+finished-empty false Oldest.Wait e = absurd (let clash : Chance.Idle ≡ Chance.Finished = e in cc)
+finished-empty true (Oldest.Member k) e = absurd (let clash : Chance.Spent ≡ Chance.Finished = e in cc)
+finished-empty false (Oldest.Member k) e = absurd (let clash : Chance.Member k ≡ Chance.Finished = e in cc)
+
+blocked-parked : (spent : Bool) (o : Oldest) → chance_by spent o ≡ Chance.Blocked → o ≡ Oldest.Parked
+blocked-parked spent Oldest.Parked e = refl
+blocked-parked spent Oldest.Empty e = absurd (let clash : Chance.Finished ≡ Chance.Blocked = e in cc)
+blocked-parked true Oldest.Wait e = absurd (let clash : Chance.Spent ≡ Chance.Blocked = e in cc)
+blocked-parked false Oldest.Wait e = absurd (let clash : Chance.Idle ≡ Chance.Blocked = e in cc)
+blocked-parked true (Oldest.Member k) e = absurd (let clash : Chance.Spent ≡ Chance.Blocked = e in cc)
+blocked-parked false (Oldest.Member k) e = absurd (let clash : Chance.Member k ≡ Chance.Blocked = e in cc)
+
+spent-by : (spent : Bool) (o : Oldest) → chance_by spent o ≡ Chance.Spent → (spent ≡ true) × (o ≡ Oldest.Empty → ⊥)
+spent-by spent Oldest.Empty e = absurd (let clash : Chance.Finished ≡ Chance.Spent = e in cc)
+spent-by spent Oldest.Parked e = absurd (let clash : Chance.Blocked ≡ Chance.Spent = e in cc)
+spent-by true Oldest.Wait e = (refl, λ h. let clash : Oldest.Wait ≡ Oldest.Empty = h in cc)
+spent-by false Oldest.Wait e = absurd (let clash : Chance.Idle ≡ Chance.Spent = e in cc)
+spent-by true (Oldest.Member k) e = (refl, λ h. let clash : Oldest.Member k ≡ Oldest.Empty = h in cc)
+spent-by false (Oldest.Member k) e = absurd (let clash : Chance.Member k ≡ Chance.Spent = e in cc)
+
+used-up : (turns limit : ℕ) → (if nat_lt turns limit then false else true) ≡ true → limit ≤ turns
+used-up turns limit e = by (nat_lt turns limit) refl e
+  where
+    by : (b : Bool) → nat_lt turns limit ≡ b → (if b then false else true) ≡ true → limit ≤ turns
+    by true is h = absurd (let clash : false ≡ true = h in cc)
+    by false is h = ltb-false turns limit is
+
+module _ {C V M : Type 0} (program : C → Tree) (devices : C → ℕ) (is_value : C → V → Type 0) (value_of : C → V → Val)
+    (is_machine : C → M → Type 0) (stage : C → M → Stage) (core now : Core C V M) (view : core ≡ now)
+    (whole : IsWhole program devices is_value value_of is_machine stage core) where
+  abbrev kept : Stop → Core C V M → Type 0
+  kept why x = HasCause (Some why) x.certificates (parts_of program devices value_of stage (stopped_by why x))
+
+  none-kept : core.stop ≡ None → HasCause None core.certificates (parts_of program devices value_of stage core)
+  none-kept none = subst (λ (o : Option Stop). HasCause o core.certificates (parts_of program devices value_of stage core)) none whole.caused
+
+  oldest-is : (o : Oldest) → oldest core.pool ≡ o → oldest (parts_of program devices value_of stage core).pool ≡ o
+  oldest-is o e = oldest-shown (term_shown stage core.code) core.pool ∙ e
+
+  pub finished-cause : chance_of now ≡ Chance.Finished → kept Stop.Finished now
+  finished-cause e = subst (λ (x : Core C V M). kept Stop.Finished x) view (from (subst (λ (x : Core C V M). chance_of x ≡ Chance.Finished) (sym view) e))
+    where
+      from : chance_of core ≡ Chance.Finished → kept Stop.Finished core
+      from h =
+          let none = none-met core Chance.Finished h (λ c. cc) in
+          let given = none-kept none in record {
+            cause = empty-members (parts_of program devices value_of stage core).pool (oldest-is Oldest.Empty (finished-empty (is-spent core) (oldest core.pool) (met-by core Chance.Finished h none)));
+            told = given.told;
+            ends = given.ends;
+          }
+
+  pub spent-cause : chance_of now ≡ Chance.Spent → kept Stop.Spent now
+  spent-cause e = subst (λ (x : Core C V M). kept Stop.Spent x) view (from (subst (λ (x : Core C V M). chance_of x ≡ Chance.Spent) (sym view) e))
+    where
+      from : chance_of core ≡ Chance.Spent → kept Stop.Spent core
+      from h =
+          let none = none-met core Chance.Spent h (λ c. cc) in
+          let given = none-kept none in
+          let is = spent-by (is-spent core) (oldest core.pool) (met-by core Chance.Spent h none) in
+          let enough = used-up core.turns core.limits.turns is.0 in
+          let most : core.turns ≤ core.limits.turns = whole.stands.bounded.turns in record {
+            cause = record {
+              turns = omega (arith, enough, most);
+              left = λ empty. is.1 (sym (oldest-shown (term_shown stage core.code) core.pool) ∙ empty-oldest (parts_of program devices value_of stage core).pool empty);
+            };
+            told = given.told;
+            ends = inl given.ends;
+          }
+
+  pub outside-cause : (why : Stop) → is_from_outside why ≡ true → now.stop ≡ None → kept why now
+  outside-cause why e none =
+      subst (λ (x : Core C V M). kept why x) view
+      (fault-cause why (outside-fault why e) (parts_of program devices value_of stage core) (parts_of program devices value_of stage (stopped_by why core))
+      core.certificates (none-kept (subst (λ (x : Core C V M). x.stop ≡ None) (sym view) none)) refl)
+
+  pub parked-met : chance_of now ≡ Chance.Blocked → oldest now.pool ≡ Oldest.Parked
+  parked-met e = blocked-parked (is-spent now) (oldest now.pool) (met-by now Chance.Blocked e (none-met now Chance.Blocked e (λ c. cc)))
+
+  pub blocked-going : chance_of now ≡ Chance.Blocked → now.stop ≡ None
+  blocked-going e = none-met now Chance.Blocked e (λ c. cc)

@@ -27,7 +27,7 @@ use Rattle.ame_stands.specs.Parts.{Parts, heap_in, task_at, attempt_of, term_at,
 use Rattle.ame_stands.specs.Tasks.{is_busy_as, RunsProtected, MeetsTask}
 use Rattle.ame_stands.specs.Stands.{Stands}
 use Rattle.ame_stands.specs.Alone.{is_of_protected, HasWorn, RunsAlone}
-use Rattle.ame_stands.specs.Events.{has_checked}
+use Rattle.ame_stands.specs.Events.{has_checked, has_turned_back, checked_attempt}
 use Rattle.ame_stands.proofs.PoolLemmas.{found-at}
 use Rattle.ame_stands.proofs.AloneLemmas.{no-other-owner}
 use Rattle.ame_stands.proofs.AloneEvents.{stop-alone, checked_alone}
@@ -35,9 +35,16 @@ use Rattle.ame_stands.proofs.ShownDeskLemmas.{row-shown}
 use Rattle.ame_stands.proofs.DeskEvents.{desk-valid, valid-desk}
 use Rattle.ame_stands.proofs.TurnLemmas.{checked_stands, turned_back}
 use Rattle.ame_stands.proofs.ToldLemmas.{stopped_stands}
+use Rattle.ame_waiting.specs.Waiting.{AreWaiting}
+use Rattle.ame_waiting.specs.Once.{AreNotedOnce}
+use Rattle.ame_waiting.proofs.TaskLemmas.{stop-waiting, retask-waiting}
+use Rattle.ame_waiting.proofs.OnceLemmas.{once-on}
+use Rattle.ame_waiting.proofs.OnceEvents.{stop-once}
 use Rattle.ame_engine.specs.declared.stop.Stop.{Stop}
 use Rattle.ame_engine.specs.declared.counters.Counters.{Counters}
 use Rattle.ame_engine.specs.Core.{Core}
+use Rattle.ame_engine.specs.Stops.{stopped_by}
+use Rattle.ame_engine.specs.Causes.{HasCause}
 use Rattle.ame_engine.specs.Counting.{Counted, one_counted, CountsTurns}
 use Rattle.ame_engine.specs.Seen.{parts_of, term_shown, MakesEvent}
 use Rattle.ame_engine.specs.Rollbacks.{MayBeRolledBack}
@@ -45,6 +52,7 @@ use Rattle.ame_engine.specs.Whole.{IsWhole}
 use Rattle.ame_engine.specs.AtWork.{working, IsOnSeat, IsOn}
 use Rattle.ame_engine.proofs.ReadLemmas.{place-by, runs-as}
 use Rattle.ame_engine.proofs.CountLemmas.{one-counts}
+use Rattle.ame_engine.proofs.CauseLemmas.{task-more, working-cause}
 use Rattle.ame_engine.proofs.RollbackLemmas.{may-roll}
 use Rattle.ame_engine.proofs.AloneLemmas.{turned_alone}
 
@@ -105,17 +113,29 @@ module _ {C V M : Type 0} (program : C → Tree) (devices : C → ℕ) (is_value
     (is_machine : C → M → Type 0) (stage : C → M → Stage) where
   -- a stop is kept
   pub whole-stopped : (core : Core C V M) (why : Stop) → IsWhole program devices is_value value_of is_machine stage core
+      → HasCause (Some why) core.certificates (parts_of program devices value_of stage (record core { stop = Some why }))
       → IsWhole program devices is_value value_of is_machine stage (record core { stop = Some why })
-  whole-stopped core why whole = record {
+  whole-stopped core why whole cause = record {
     stands = stopped_stands (parts_of program devices value_of stage core) whole.stands;
     limits = whole.limits;
     desk = whole.desk;
     members = whole.members;
     pool = whole.pool;
     alone = stop-alone (parts_of program devices value_of stage core) whole.alone;
+    waiting = stop-waiting (parts_of program devices value_of stage core) whole.waiting;
+    once = stop-once (parts_of program devices value_of stage core) whole.once;
+    caused = cause;
     counters = whole.counters;
     text = whole.text;
   }
+
+  -- where it is the first, and has its cause
+  pub whole-kept : (core now : Core C V M) → core ≡ now → (why : Stop) → IsWhole program devices is_value value_of is_machine stage core → core.stop ≡ None
+      → (now.stop ≡ None → HasCause (Some why) now.certificates (parts_of program devices value_of stage (stopped_by why now)))
+      → IsWhole program devices is_value value_of is_machine stage (record core { stop = Some why })
+  whole-kept core now view why whole none cause =
+      whole-stopped core why whole
+      (subst (λ (x : Core C V M). x.stop ≡ None → HasCause (Some why) x.certificates (parts_of program devices value_of stage (stopped_by why x))) (sym view) cause none)
 
   module _ (core now : Core C V M) (view : core ≡ now) (whole : IsWhole program devices is_value value_of is_machine stage core) (seat : ℕ) (m : M)
       (on : IsOn program devices value_of is_machine stage now seat m) (outside : (stage now.code m).inside ≡ false)
@@ -145,6 +165,10 @@ module _ {C V M : Type 0} (program : C → Tree) (devices : C → ℕ) (is_value
       members = whole.members;
       pool = whole.pool;
       alone = turned_alone parts whole.alone seat attempt is fresh;
+      waiting = retask-waiting parts whole.stands seat attempt is whole.waiting (Task.Undoing attempt Reason.RolledBack);
+      once = once-on parts (has_turned_back seat attempt parts) refl (λ i some. some) whole.once;
+      caused = working-cause parts (has_turned_back seat attempt parts) (task-more parts whole.stands seat attempt (ap attempt_of is)) refl left'
+          core.stop core.certificates whole.caused;
       counters = counts;
       text = whole.text;
     }
@@ -255,6 +279,12 @@ module _ {C V M : Type 0} (program : C → Tree) (devices : C → ℕ) (is_value
         members = whole.members;
         pool = whole.pool;
         alone = subst RunsAlone (sym parts-valid) (checked_alone parts whole.alone seat s.steps attempt is are-valid);
+        waiting = subst AreWaiting (sym parts-valid)
+            (retask-waiting parts whole.stands seat attempt is whole.waiting (Task.Running (checked_attempt s.steps attempt parts)));
+        once = subst AreNotedOnce (sym parts-valid) (once-on parts (has_checked seat s.steps attempt parts) refl (λ i some. some) whole.once);
+        caused = subst (HasCause core.stop core.certificates) (sym parts-valid)
+            (working-cause parts (has_checked seat s.steps attempt parts) (task-more parts whole.stands seat attempt (ap attempt_of is)) refl left'
+            core.stop core.certificates whole.caused);
         counters = one-counts core.turns core.counters whole.counters Counted.Check;
         text = whole.text;
       }

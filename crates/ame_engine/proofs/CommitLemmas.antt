@@ -1,6 +1,6 @@
 -- A seat commits.
 use Rattle.std.proofs.Common.{◌≡◌, ℕ, ◌+◌, ◌<◌, ◌≤◌, ◌^◌, ◌⊎◌, inl, inr, Bool, true, false, cond, List, [], ◌∷◌, ◌++◌, map, length, All, Option, Some, None, option_map, refl, sym, ap, ◌∙◌, subst, arith, rules}
-use Rattle.std.specs.Prelude.{ℤ, slice_get, slice_set, unwrap_or, max}
+use Rattle.std.specs.Prelude.{ℤ, Contains, slice_get, slice_set, unwrap_or, max}
 use Rattle.std.specs.List.Sorted.{IsPermutation, IsStrictlyIncreasing}
 use Rattle.std.specs.Option.{option_map_or}
 use Rattle.std.proofs.lemmas.List.{length-map}
@@ -16,7 +16,8 @@ use Rattle.ame_term.specs.declared.types.Loc.{Loc}
 use Rattle.ame_journal.specs.declared.entry.Entry.{Entry}
 use Rattle.ame_journal.specs.Log.{IsFit}
 use Rattle.ame_store.specs.declared.cell.Cell.{Cell}
-use Rattle.ame_store.specs.Cells.{CanGrow}
+use Rattle.ame_store.specs.Cells.{CanGrow, IsOwnedBy}
+use Rattle.ame_owed.specs.Heap.{cell_at}
 use Rattle.ame_store.specs.Changes.{released}
 use Rattle.ame_rows.specs.declared.notes.Undo.{Undo}
 use Rattle.ame_rows.specs.declared.notes.Undo.TheVariants.{Wrote, Made}
@@ -54,7 +55,14 @@ use Rattle.ame_stands.proofs.GrowthLemmas.{keeps-on, woken-keeps, woken-free, ne
 use Rattle.ame_stands.proofs.ShownDeskLemmas.{row-shown, release-shown}
 use Rattle.ame_stands.proofs.ShownPoolLemmas.{removed-shown}
 use Rattle.ame_stands.proofs.ToldLemmas.{cells-grow, next-free}
+use Rattle.ame_waiting.specs.Waiting.{AreWaiting}
+use Rattle.ame_waiting.specs.Once.{AreNotedOnce}
+use Rattle.ame_waiting.proofs.CommitLemmas.{owned-named, ended-waiting, left-waiting}
+use Rattle.ame_waiting.proofs.OnceEvents.{ended-once, left-once}
 use Rattle.ame_engine.specs.Core.{Core}
+use Rattle.ame_engine.specs.Causes.{HasCause}
+use Rattle.ame_engine.specs.declared.stop.Stop.{Stop}
+use Rattle.ame_engine.proofs.CauseLemmas.{going-cause}
 use Rattle.ame_engine.specs.Counting.{Counted, one_counted}
 use Rattle.ame_engine.specs.Rollbacks.{IsGoodPool}
 use Rattle.ame_engine.specs.Seen.{parts_of, term_shown, MakesEvent}
@@ -145,16 +153,16 @@ module _ {C V M : Type 0} (program : C → Tree) (devices : C → ℕ) (is_value
   abbrev shown : Roster M → Roster Tree
   shown pool = shown_pool (term_shown stage core.code) pool
 
-  on' : IsOnSeat parts seat s
+  pub on' : IsOnSeat parts seat s
   on' = subst (λ (x : Core C V M). IsOnSeat (parts_of program devices value_of stage x) seat (stage x.code m)) (sym view) on.stands
 
   outside' : s.inside ≡ false
   outside' = subst (λ (x : Core C V M). (stage x.code m).inside ≡ false) (sym view) outside
 
-  sound' : IsSoundStage s
+  pub sound' : IsSoundStage s
   sound' = subst (λ (x : Core C V M). IsSoundStage (stage x.code m)) (sym view) sound
 
-  left' : core.turns < core.limits.turns
+  pub left' : core.turns < core.limits.turns
   left' = subst (λ (x : Core C V M). x.turns < x.limits.turns) (sym view) left
 
   is : task_at core.tasks seat ≡ Task.Running attempt
@@ -166,15 +174,15 @@ module _ {C V M : Type 0} (program : C → Tree) (devices : C → ℕ) (is_value
   machine' : is_machine core.code m
   machine' = subst (λ (x : Core C V M). is_machine x.code m) (sym view) on.machine
 
-  one-attempt : on'.attempt ≡ attempt
+  pub one-attempt : on'.attempt ≡ attempt
   one-attempt = ap (λ (t : Task). unwrap_or (working t) attempt) (sym (runs-as parts seat s on' outside') ∙ is)
 
-  place : (p : LocalState)
+  pub place : (p : LocalState)
       × (local (running_side s) (term_at parts.pool on'.attempt.tried.number) (row_at parts.desk.rows seat).inputs s.steps ≡ Some p)
       × (without_footprint p ≡ with_answer None (place_shown s))
   place = shown-place (local (running_side s) (term_at parts.pool on'.attempt.tried.number) (row_at parts.desk.rows seat).inputs s.steps) s on'.run
 
-  used : HasUsed (run_in parts seat number) s.steps place.0
+  pub used : HasUsed (run_in parts seat number) s.steps place.0
   used =
       let start = term_at parts.pool on'.attempt.tried.number in
       let inputs = (row_at parts.desk.rows seat).inputs in
@@ -184,13 +192,13 @@ module _ {C V M : Type 0} (program : C → Tree) (devices : C → ℕ) (is_value
         used = ap (λ (x : LocalState). x.inputs) place.2;
       })
 
-  are-valid : AreValid (heap_in parts) seat (run_in parts seat number).reads
+  pub are-valid : AreValid (heap_in parts) seat (run_in parts seat number).reads
   are-valid =
       desk-valid parts.desk seat (row_at parts.desk.rows seat).reads
       (subst (IsValid parts.desk.cells seat) (sym (ap (λ (n : Notes Val). n.reads) (row-shown (value_of core.code) core.desk.rows seat)))
       (valid-shown (value_of core.code) core.desk.cells seat (row_at core.desk.rows seat).reads valid))
 
-  its-runs : RunsProtected parts whole.stands.types seat attempt
+  pub its-runs : RunsProtected parts whole.stands.types seat attempt
   its-runs = runs parts whole.stands seat attempt is
 
   pub commit-runs : task_at core.tasks seat ≡ Task.Running attempt
@@ -234,6 +242,11 @@ module _ {C V M : Type 0} (program : C → Tree) (devices : C → ℕ) (is_value
     ls-are =
         owned-are seat parts.desk.cells (row_at parts.desk.rows seat).undos (whole.stands.consistent.logs seat) ls
         (subst (λ (ns : List ℕ). IsPermutation ns ls) (sym places-same) same) rising
+
+    woken-there : (l : ℕ) → IsOwnedBy seat (cell_at (heap_in parts) l) → Contains (owned_places seat parts.desk.cells) l
+    woken-there l own =
+        subst (λ (ns : List ℕ). Contains ns l) ls-are
+        (owned-named parts seat ls whole.stands (subst (λ (ns : List ℕ). IsPermutation ns ls) (sym places-same) same) l own)
 
     -- the pool, with room for the new members and with those that are woken
     module _ (count : ℕ) (count_is : count ≡ length s.spawns) (roomy waked : Roster M) (roomy_is : roomy ≡ with_room count core.pool)
@@ -390,6 +403,11 @@ module _ {C V M : Type 0} (program : C → Tree) (devices : C → ℕ) (is_value
                 subst (λ (q : LocalState). RunsAlone (has_ended seat number s.steps q (owned_places seat parts.desk.cells) parts)) place.2
                 (ended-alone parts whole.stands whole.alone seat attempt is left' s.steps place.0 used are-valid (owned_places seat parts.desk.cells) rising')
 
+            ended-waits : AreWaiting (ended_at seat number s parts)
+            ended-waits =
+                subst (λ (q : LocalState). AreWaiting (has_ended seat number s.steps q (owned_places seat parts.desk.cells) parts)) place.2
+                (ended-waiting parts whole.stands whole.waiting seat attempt is s.steps place.0 used are-valid (owned_places seat parts.desk.cells) woken-there rising')
+
           -- or has come to `unprotected`
           module _ (leaves : s.want ≡ Some wants.Leave) where
             pub left-parts : parts_of program devices value_of stage after ≡ left_at seat number s parts
@@ -413,21 +431,44 @@ module _ {C V M : Type 0} (program : C → Tree) (devices : C → ℕ) (is_value
                 subst (λ (q : LocalState). RunsAlone (has_left seat number s.steps q (owned_places seat parts.desk.cells) parts)) place.2
                 (left-alone parts whole.stands whole.alone seat attempt is left' s.steps place.0 used are-valid (owned_places seat parts.desk.cells))
 
-          abbrev HasBoth : Parts → Type 0
-          HasBoth x = Stands x × RunsAlone x
+            left-waits : AreWaiting (left_at seat number s parts)
+            left-waits =
+                subst (λ (q : LocalState). AreWaiting (has_left seat number s.steps q (owned_places seat parts.desk.cells) parts)) place.2
+                (left-waiting parts whole.stands whole.waiting seat attempt is s.steps place.0 used are-valid (owned_places seat parts.desk.cells) woken-there)
 
-          both-by : (s.want ≡ Some wants.Done) ⊎ (s.want ≡ Some wants.Leave) → HasBoth (parts_of program devices value_of stage after)
-          both-by (inl done) = subst (λ (x : Parts). HasBoth x) (sym (ended-parts done)) (ended-stands done, its-ended-alone done)
-          both-by (inr leaves) = subst (λ (x : Parts). HasBoth x) (sym (left-parts leaves)) (left-stands leaves, its-left-alone leaves)
+          record KeepsAll (x : Parts) : Type 0 where
+            stands : Stands x
+            alone : RunsAlone x
+            waiting : AreWaiting x
+            once : AreNotedOnce x
 
-          pub whole-committed : commits s.want ≡ true → IsWhole program devices is_value value_of is_machine stage after
-          whole-committed committing = record {
-            stands = (both-by (which-want s.want committing)).0;
+          all-by : (s.want ≡ Some wants.Done) ⊎ (s.want ≡ Some wants.Leave) → KeepsAll (parts_of program devices value_of stage after)
+          all-by (inl done) = subst (λ (x : Parts). KeepsAll x) (sym (ended-parts done)) (record {
+            stands = ended-stands done;
+            alone = its-ended-alone done;
+            waiting = ended-waits done;
+            once = ended-once parts whole.once seat number s.steps (place_shown s) (owned_places seat parts.desk.cells);
+          })
+          all-by (inr leaves) = subst (λ (x : Parts). KeepsAll x) (sym (left-parts leaves)) (record {
+            stands = left-stands leaves;
+            alone = its-left-alone leaves;
+            waiting = left-waits leaves;
+            once = left-once parts whole.once seat number s.steps (place_shown s) (owned_places seat parts.desk.cells);
+          })
+
+          pub whole-committed : commits s.want ≡ true → now.stop ≡ None → IsWhole program devices is_value value_of is_machine stage after
+          whole-committed committing going = record {
+            stands = (all-by (which-want s.want committing)).stands;
             limits = whole.limits;
             desk = subst (IsGoodDesk (is_value core.code)) (sym desk_is) (desk-released (is_value core.code) seat core.desk whole.desk);
             members = rests;
             pool = good;
-            alone = (both-by (which-want s.want committing)).1;
+            alone = (all-by (which-want s.want committing)).alone;
+            waiting = (all-by (which-want s.want committing)).waiting;
+            once = (all-by (which-want s.want committing)).once;
+            caused = going-cause parts (parts_of program devices value_of stage after) core.stop
+                (subst (λ (x : Core C V M). x.stop ≡ None) (sym view) going) core.certificates whole.caused
+                (ran_entry seat number s.steps (place_shown s)) entries-are refl;
             counters = one-counts core.turns core.counters whole.counters Counted.Commit;
             text = text-is;
           }

@@ -1,5 +1,6 @@
 pub mod CountLemmas
 pub mod MemberLemmas
+pub mod CauseLemmas
 pub mod RollbackLemmas
 pub mod OldestLemmas
 pub mod AloneLemmas
@@ -20,3 +21,4 @@ pub mod OwnedLemmas
 pub mod CrewLemmas
 pub mod JoinLemmas
 pub mod CommitLemmas
+pub mod BlockLemmas

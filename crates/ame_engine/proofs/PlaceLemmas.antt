@@ -49,6 +49,13 @@ module _ (tasks : List Task) (seat tries places : ℕ) (attempt : Attempt) (has 
       let both : ◌≡◌ {A = ℕ} (cond (is_untold task) 1 0) (cond (is_untold (task_at tasks seat)) 1 0) = ap (λ (b : Bool). cond b 1 0) is in
       let all = enough in omega (arith, one, both, all)
 
+  -- or with one that an entry tells
+  pub places-told : (task : Task) (later : Attempt) → attempt_of task ≡ Some later → later.told ≡ true → HasPlacesFor (set tasks seat task) tries places
+  places-told task later its told =
+      let one = count-set tasks seat task within in
+      let no : ◌≡◌ {A = ℕ} (cond (is_untold task) 1 0) 0 = ap (λ (b : Bool). cond b 1 0) (untold-is task later its ∙ ap not told) in
+      let all = enough in omega (arith, one, no, all)
+
   -- it is idle, and its place is free
   pub places-freed : HasPlacesFor (set tasks seat Task.Idle) tries places
   places-freed = let one = count-set tasks seat Task.Idle within in let all = enough in omega (arith, one, all)

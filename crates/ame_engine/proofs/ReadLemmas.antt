@@ -30,7 +30,13 @@ use Rattle.ame_stands.specs.Events.{has_read}
 use Rattle.ame_stands.proofs.StepLemmas.{seat_within}
 use Rattle.ame_stands.proofs.AccessLemmas.{read-there, read-stands}
 use Rattle.ame_stands.proofs.AloneLemmas.{read-alone}
+use Rattle.ame_waiting.specs.Waiting.{AreWaiting}
+use Rattle.ame_waiting.specs.Once.{AreNotedOnce}
+use Rattle.ame_waiting.proofs.TaskLemmas.{read-waiting}
+use Rattle.ame_waiting.proofs.OnceLemmas.{once-on}
 use Rattle.ame_engine.specs.Core.{Core}
+use Rattle.ame_engine.specs.Causes.{HasCause}
+use Rattle.ame_engine.proofs.CauseLemmas.{task-more, working-cause}
 use Rattle.ame_engine.specs.Counting.{Counted, one_counted}
 use Rattle.ame_owed.specs.Shown.{shown_cell}
 use Rattle.ame_stands.specs.Shown.{shown_notes}
@@ -184,6 +190,11 @@ module _ {C V M : Type 0} (program : C → Tree) (devices : C → ℕ) (is_value
         pool = whole.pool;
         alone = subst RunsAlone (sym read-parts)
             (read-alone parts whole.stands whole.alone seat on.attempt task (stage core.code m).steps comes.0 l comes.1 (its-parity parity));
+        waiting = subst AreWaiting (sym read-parts) (read-waiting parts whole.stands seat on.attempt task whole.waiting l);
+        once = subst AreNotedOnce (sym read-parts) (once-on parts (has_read seat l parts) refl (λ i some. some) whole.once);
+        caused = subst (HasCause core.stop core.certificates) (sym read-parts)
+            (working-cause parts (has_read seat l parts) (task-more parts whole.stands seat on.attempt (ap attempt_of task)) refl left
+            core.stop core.certificates whole.caused);
         counters = one-counts core.turns core.counters whole.counters Counted.Read;
         text = whole.text;
       }

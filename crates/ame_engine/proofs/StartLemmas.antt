@@ -22,12 +22,18 @@ use Rattle.ame_stands.specs.Shown.{shown_notes}
 use Rattle.ame_stands.specs.Events.{started}
 use Rattle.ame_stands.proofs.StartLemmas.{started_stands}
 use Rattle.ame_stands.proofs.AloneEvents.{start-alone}
+use Rattle.ame_waiting.specs.Waiting.{AreWaiting}
+use Rattle.ame_waiting.specs.Once.{AreNotedOnce}
+use Rattle.ame_waiting.proofs.TaskLemmas.{start-waiting}
+use Rattle.ame_waiting.proofs.OnceEvents.{start-once}
 use Rattle.ame_engine.specs.Core.{Core}
+use Rattle.ame_engine.specs.declared.certificate.Certificate.{Certificate}
 use Rattle.ame_engine.specs.declared.counters.Counters.{Counters}
 use Rattle.ame_engine.specs.Counting.{nothing_counted}
 use Rattle.ame_engine.specs.Seen.{parts_of}
 use Rattle.ame_engine.specs.Whole.{AreLimits, AreGoodNotes, IsGoodUndo, IsAtRest, IsWhole}
 use Rattle.ame_engine.proofs.CountLemmas.{none-counted}
+use Rattle.ame_engine.proofs.CauseLemmas.{started-cause}
 
 rows-shown : {V : Type 0} (view : V → Val) (n : ℕ) → map (shown_notes view) (replicate n no_notes) ≡ replicate n no_notes
 rows-shown view zero = refl
@@ -51,6 +57,7 @@ module _ {C V M : Type 0} (program : C → Tree) (devices : C → ℕ) (is_value
     counters = nothing_counted;
     tried = [];
     stop = None;
+    certificates = [];
   }
 
   parts-with : Tree → List (Notes Val) → Parts
@@ -83,15 +90,18 @@ module _ {C V M : Type 0} (program : C → Tree) (devices : C → ℕ) (is_value
           few = All-cons (λ m. m.rollbacks ≤ max_rollbacks) (newcomer 0 machine false) [] (omega arith) (All-nil (λ (m : Member M). m.rollbacks ≤ max_rollbacks));
         };
         alone = subst RunsAlone (sym started-parts) (start-alone (program code) (devices code) limits 0);
+        waiting = subst AreWaiting (sym started-parts) (start-waiting (program code) (devices code) limits 0);
+        once = subst AreNotedOnce (sym started-parts) (start-once (program code) (devices code) limits 0);
+        caused = started-cause (parts_of program devices value_of stage started_with) refl;
         counters = none-counted;
         text = refl;
       }
 
-      module _ (base entries : List Entry) (store : List (Cell V)) (desk : Contents V) (tasks : List Task) (empty roomy pool : Roster M) (output : List ℤ) (text : List ℕ) (counters : Counters) (tried : List Tried)
+      module _ (base entries : List Entry) (store : List (Cell V)) (desk : Contents V) (tasks : List Task) (empty roomy pool : Roster M) (output : List ℤ) (text : List ℕ) (counters : Counters) (tried : List Tried) (certificates : List Certificate)
           (no_base : base ≡ []) (no_entries : entries ≡ []) (no_cells : store ≡ []) (fresh : desk ≡ record { cells = store; rows = replicate limits.seats no_notes })
           (idle : tasks ≡ replicate limits.seats Task.Idle) (is_empty : empty ≡ nobody) (is_roomy : roomy ≡ with_room 1 empty)
           (one : pool ≡ joined (newcomer 0 machine false) roomy)
-          (no_output : output ≡ []) (no_text : text ≡ []) (no_counts : counters ≡ nothing_counted) (no_tries : tried ≡ []) where
+          (no_output : output ≡ []) (no_text : text ≡ []) (no_counts : counters ≡ nothing_counted) (no_tries : tried ≡ []) (no_certificates : certificates ≡ []) where
         abbrev found_core : Core C V M
         found_core = record {
           code = code;
@@ -108,6 +118,7 @@ module _ {C V M : Type 0} (program : C → Tree) (devices : C → ℕ) (is_value
           counters = counters;
           tried = tried;
           stop = None;
+          certificates = certificates;
         }
 
         desk-with : List (Cell V) → Contents V
@@ -136,6 +147,7 @@ module _ {C V M : Type 0} (program : C → Tree) (devices : C → ℕ) (is_value
           counters = no_counts i;
           tried = no_tries i;
           stop = None;
+          certificates = no_certificates i;
         }
 
         pub whole-started : IsWhole program devices is_value value_of is_machine stage found_core

@@ -30,8 +30,14 @@ use Rattle.ame_stands.proofs.HomeLemmas.{undoing_more, undoing_home, running_mor
 use Rattle.ame_stands.proofs.AloneEvents.{more-alone, home-alone}
 use Rattle.ame_stands.proofs.ShownDeskLemmas.{undo-shown}
 use Rattle.ame_stands.proofs.ShownPoolLemmas.{home-shown, parked-shown}
+use Rattle.ame_waiting.specs.Waiting.{AreWaiting}
+use Rattle.ame_waiting.specs.Once.{AreNotedOnce}
+use Rattle.ame_waiting.proofs.UndoLemmas.{undoing-more, undoing-home, running-more, running-home, free-home}
+use Rattle.ame_waiting.proofs.OnceEvents.{undone-once, undoing-once, running-once, free-once}
 use Rattle.ame_engine.specs.declared.counters.Counters.{Counters}
 use Rattle.ame_engine.specs.Core.{Core}
+use Rattle.ame_engine.specs.declared.stop.Stop.{Stop}
+use Rattle.ame_engine.specs.Causes.{HasCause}
 use Rattle.ame_engine.specs.Counting.{Counted, one_undone, CountsTurns}
 use Rattle.ame_engine.specs.Seen.{parts_of, term_shown, MakesEvent}
 use Rattle.ame_engine.specs.Whole.{IsGoodUndo, AreGoodNotes, IsGoodDesk, IsAtRest, IsWhole}
@@ -39,6 +45,7 @@ use Rattle.ame_engine.specs.Undoing.{is_undoing, reason_to_undo, home_for}
 use Rattle.ame_engine.specs.Rollbacks.{IsGoodPool}
 use Rattle.ame_engine.proofs.CountLemmas.{one-counts, unwound-counts}
 use Rattle.ame_engine.proofs.MemberLemmas.{all_altered}
+use Rattle.ame_engine.proofs.CauseLemmas.{HasMore, task-more, undoing-cause, home-some}
 use Rattle.ame_engine.proofs.ReadLemmas.{row-good}
 use Rattle.ame_engine.proofs.RollbackLemmas.{good-home, good-parked}
 
@@ -176,6 +183,39 @@ module _ {C V M : Type 0} (program : C → Tree) (devices : C → ℕ) (is_value
         protected (Task.Free a) e = e
         protected (Task.Undoing a r) e = refl
 
+    more-waiting : 1 < length undos → AreWaiting (has_undone seat attempt reason parts)
+    more-waiting more = by task refl has
+      where
+        by : (t : Task) → task ≡ t → attempt_of t ≡ Some attempt → AreWaiting (has_undone seat attempt (reason_to_undo t) parts)
+        by Task.Idle e h = absurd (let clash : attempt_of Task.Idle ≡ Some attempt = h in cc)
+        by (Task.Running a) e h = let same : a ≡ attempt = cc in running-more parts whole.stands whole.waiting seat attempt (e ∙ ap Task.Running same)
+        by (Task.Free a) e h = absurd (let none = ap (λ (us : List (Undo Val)). length us) (free-clear a e) in omega (arith, none, more))
+        by (Task.Undoing a r) e h =
+            let same : a ≡ attempt = cc in
+            undoing-more parts whole.stands whole.waiting seat attempt r (e ∙ ap (λ (x : Attempt). Task.Undoing x r) same)
+
+    home-waiting : length undos ≤ 1 → AreWaiting (has_gone_home seat attempt reason parts)
+    home-waiting few = by task refl has
+      where
+        by : (t : Task) → task ≡ t → attempt_of t ≡ Some attempt → AreWaiting (has_gone_home seat attempt (reason_to_undo t) parts)
+        by Task.Idle e h = absurd (let clash : attempt_of Task.Idle ≡ Some attempt = h in cc)
+        by (Task.Running a) e h = let same : a ≡ attempt = cc in running-home parts whole.stands whole.waiting seat attempt (e ∙ ap Task.Running same) few
+        by (Task.Free a) e h = let same : a ≡ attempt = cc in free-home parts whole.stands whole.waiting seat attempt (e ∙ ap Task.Free same)
+        by (Task.Undoing a r) e h =
+            let same : a ≡ attempt = cc in
+            undoing-home parts whole.stands whole.waiting seat attempt r (e ∙ ap (λ (x : Attempt). Task.Undoing x r) same) few
+
+    home-once : AreNotedOnce (has_gone_home seat attempt reason parts)
+    home-once = by task refl has
+      where
+        by : (t : Task) → task ≡ t → attempt_of t ≡ Some attempt → AreNotedOnce (has_gone_home seat attempt (reason_to_undo t) parts)
+        by Task.Idle e h = absurd (let clash : attempt_of Task.Idle ≡ Some attempt = h in cc)
+        by (Task.Running a) e h = let same : a ≡ attempt = cc in running-once parts whole.stands whole.once seat attempt (e ∙ ap Task.Running same)
+        by (Task.Free a) e h = let same : a ≡ attempt = cc in free-once parts whole.stands whole.once seat attempt (e ∙ ap Task.Free same)
+        by (Task.Undoing a r) e h =
+            let same : a ≡ attempt = cc in
+            undoing-once parts whole.stands whole.once seat attempt r (e ∙ ap (λ (x : Attempt). Task.Undoing x r) same)
+
     abbrev undo_turns : ℕ
     undo_turns = if is_some core.stop then core.turns else core.turns + 1
 
@@ -188,6 +228,14 @@ module _ {C V M : Type 0} (program : C → Tree) (devices : C → ℕ) (is_value
         by : (b : Bool) → CountsTurns (if b then core.turns else core.turns + 1) (one_undone b core.counters)
         by true = unwound-counts core.turns core.counters whole.counters
         by false = one-counts core.turns core.counters whole.counters Counted.Undo
+
+    more-there : HasMore parts
+    more-there = task-more parts whole.stands seat attempt has
+
+    -- turns and entries, by whether a stop is kept
+    undo-turns : (stop : Option Stop) → is_some stop ≡ true → (if is_some stop then core.turns else core.turns + 1) ≡ core.turns
+    undo-turns None e = absurd (let clash : false ≡ true = e in cc)
+    undo-turns (Some why) e = refl
 
     -- other entries are left
     abbrev pub undone_core : Core C V M
@@ -220,6 +268,10 @@ module _ {C V M : Type 0} (program : C → Tree) (devices : C → ℕ) (is_value
       members = whole.members;
       pool = whole.pool;
       alone = subst RunsAlone (sym undone-parts) (more-runs_alone more);
+      waiting = subst AreWaiting (sym undone-parts) (more-waiting more);
+      once = subst AreNotedOnce (sym undone-parts) (undone-once parts whole.once seat attempt reason);
+      caused = undoing-cause parts (parts_of program devices value_of stage undone_core) more-there refl refl more-there.empty
+          core.stop (undo-turns core.stop) core.certificates whole.caused;
       counters = counts;
       text = whole.text;
     }
@@ -266,6 +318,12 @@ module _ {C V M : Type 0} (program : C → Tree) (devices : C → ℕ) (is_value
           (λ m r. record { machine = r.machine; rests = r.rests }) reason attempt.tried.number core.pool whole.members;
       pool = good-gone reason attempt.tried.number core.pool whole.pool;
       alone = subst RunsAlone (sym gone-parts) home-runs_alone;
+      waiting = subst AreWaiting (sym gone-parts) (home-waiting few);
+      once = subst AreNotedOnce (sym gone-parts) home-once;
+      caused = undoing-cause parts (parts_of program devices value_of stage gone_core) more-there refl refl
+          (subst (λ (p : Roster Tree). p.members ≡ [] → ⊥) (sym (gone-shown (term_shown stage core.code) reason attempt.tried.number core.pool))
+          (home-some reason attempt.tried.number parts.pool more-there.empty))
+          core.stop (undo-turns core.stop) core.certificates whole.caused;
       counters = counts;
       text = whole.text;
     }

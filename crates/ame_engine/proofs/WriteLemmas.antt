@@ -47,7 +47,13 @@ use Rattle.ame_stands.proofs.AloneLemmas.{write-first_alone, write-later_alone}
 use Rattle.ame_stands.proofs.ShownDeskLemmas.{write-shown}
 use Rattle.ame_engine.specs.declared.answer.Wrote.{Wrote as Answer}
 use Rattle.ame_engine.specs.declared.answer.Wrote.TheVariants as answer
+use Rattle.ame_waiting.specs.Waiting.{AreWaiting}
+use Rattle.ame_waiting.specs.Once.{AreNotedOnce}
+use Rattle.ame_waiting.proofs.TaskLemmas.{first-waiting, later-waiting}
+use Rattle.ame_waiting.proofs.OnceLemmas.{once-on}
 use Rattle.ame_engine.specs.Core.{Core}
+use Rattle.ame_engine.specs.Causes.{HasCause}
+use Rattle.ame_engine.proofs.CauseLemmas.{task-more, working-cause}
 use Rattle.ame_engine.specs.Counting.{Counted, one_counted}
 use Rattle.ame_engine.specs.Seen.{parts_of, MakesEvent}
 use Rattle.ame_engine.specs.Whole.{IsGoodUndo, AreGoodNotes, IsGoodDesk, IsWhole}
@@ -269,6 +275,10 @@ module _ {C V M : Type 0} (program : C → Tree) (devices : C → ℕ) (is_value
       alone-by (inl free) = write-first_alone parts whole.stands whole.alone seat on'.attempt task s.steps comes.0 l next-act.0 comes.1 free
       alone-by (inr own) = write-later_alone parts whole.stands whole.alone seat on'.attempt task s.steps comes.0 l next-act.0 comes.1 own
 
+      waiting-by : IsFree (cell_at (heap_in parts) l.0) ⊎ IsOwnedBy seat (cell_at (heap_in parts) l.0) → AreWaiting (has_written seat l next-act.0 parts)
+      waiting-by (inl free) = first-waiting parts whole.stands seat on'.attempt task whole.waiting s.steps comes.0 l next-act.0 comes.1 free
+      waiting-by (inr own) = later-waiting parts whole.stands seat on'.attempt task whole.waiting s.steps comes.0 l next-act.0 comes.1 own
+
       pub whole-written : IsWhole program devices is_value value_of is_machine stage after
       whole-written = record {
         stands = subst Stands (sym parts-written) (subst (λ (v : Val). Stands (has_written seat l v parts)) value-is (stands-by owned));
@@ -277,6 +287,12 @@ module _ {C V M : Type 0} (program : C → Tree) (devices : C → ℕ) (is_value
         members = whole.members;
         pool = whole.pool;
         alone = subst RunsAlone (sym parts-written) (subst (λ (v : Val). RunsAlone (has_written seat l v parts)) value-is (alone-by owned));
+        waiting = subst AreWaiting (sym parts-written) (subst (λ (v : Val). AreWaiting (has_written seat l v parts)) value-is (waiting-by owned));
+        once = subst AreNotedOnce (sym parts-written)
+            (once-on parts (has_written seat l (value_of core.code value) parts) refl (λ i some. some) whole.once);
+        caused = subst (HasCause core.stop core.certificates) (sym parts-written)
+            (working-cause parts (has_written seat l (value_of core.code value) parts)
+            (task-more parts whole.stands seat on'.attempt (ap attempt_of task)) refl left' core.stop core.certificates whole.caused);
         counters = one-counts core.turns core.counters whole.counters Counted.Write;
         text = whole.text;
       }

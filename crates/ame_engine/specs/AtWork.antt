@@ -51,6 +51,11 @@ pub record IsAllocating (s : Stage) : Type 0 where
   pub wants : s.want ≡ Some (wants.Alloc sort number)
   pub outside : s.inside ≡ false
 
+-- or to a condition that is false
+pub record IsBlocking (s : Stage) : Type 0 where
+  pub wants : s.want ≡ Some wants.Block
+  pub outside : s.inside ≡ false
+
 module _ {C V M : Type 0} (program : C → Tree) (devices : C → ℕ) (value_of : C → V → Val) (is_machine : C → M → Type 0)
     (stage : C → M → Stage) where
   -- a machine of the code is there

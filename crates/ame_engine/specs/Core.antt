@@ -6,12 +6,14 @@ use Rattle.ame_desk.specs.Contents.{Contents}
 use Rattle.ame_stands.specs.declared.types.Limits.{Limits}
 use Rattle.ame_stands.specs.declared.types.Tried.{Tried}
 use Rattle.ame_stands.specs.declared.types.Task.{Task}
+use Rattle.ame_engine.specs.declared.certificate.Certificate.{Certificate}
 use Rattle.ame_engine.specs.declared.stop.Stop.{Stop}
 use Rattle.ame_engine.specs.declared.counters.Counters.{Counters}
 
 -- The code, the limits and the entries from which it was opened stay. The rest are the journal, the desk with its cells and
 -- the logs of each seat, what each seat is at, the members with their machines, the output and its text as bytes, the next
--- member's number, the events that counted, in all and of each kind, the tries that left no entry, and the stop that is kept.
+-- member's number, the events that counted, in all and of each kind, the tries that left no entry, the stop that is kept, and
+-- what tells that each member is blocked, where that is the stop.
 pub record Core (C V M : Type 0) : Type 0 where
   pub code : C
   pub limits : Limits
@@ -27,3 +29,4 @@ pub record Core (C V M : Type 0) : Type 0 where
   pub counters : Counters
   pub tried : List Tried
   pub stop : Option Stop
+  pub certificates : List Certificate

@@ -3,6 +3,7 @@ pub mod Core
 pub mod Seen
 pub mod Rollbacks
 pub mod Places
+pub mod Causes
 pub mod Whole
 pub mod AtWork
 pub mod Begins

@@ -1,10 +1,11 @@
 -- The parts of an engine as plain data, by what its code's values and machines stand for.
-use Rattle.std.specs.Prelude.{◌≡◌, ℕ, is_some}
+use Rattle.std.specs.Prelude.{◌≡◌, ℕ, Some, is_some}
 use Rattle.ame_term.specs.Tree.{Val, Tree}
 use Rattle.ame_runner.specs.Stage.{Stage}
 use Rattle.ame_stands.specs.Parts.{Parts}
 use Rattle.ame_stands.specs.Shown.{shown_desk, shown_pool}
 use Rattle.ame_engine.specs.declared.counters.Counters.{Counters}
+use Rattle.ame_engine.specs.declared.stop.Stop.{Stop}
 use Rattle.ame_engine.specs.Core.{Core}
 
 -- the term for which a machine stands
@@ -36,3 +37,10 @@ module _ {C V M : Type 0} (program : C → Tree) (devices : C → ℕ) (value_of
     pub parts : parts_of new ≡ event (parts_of old)
     pub counted : new.counters ≡ counts old.counters
     pub stop : new.stop ≡ old.stop
+
+  -- The last event: so it is, and a stop is kept.
+  pub record MakesLastEvent (why : Stop) (counts : Counters → Counters) (event : Parts → Parts) (old new : Core C V M) : Type 0 where
+    pub code : new.code ≡ old.code
+    pub parts : parts_of new ≡ event (parts_of old)
+    pub counted : new.counters ≡ counts old.counters
+    pub stop : new.stop ≡ Some why

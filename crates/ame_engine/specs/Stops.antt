@@ -1,9 +1,10 @@
 -- How an engine stops.
-use Rattle.std.specs.Prelude.{Bool, true, false, Some, unwrap_or}
+use Rattle.std.specs.Prelude.{Bool, true, false, List, Some, unwrap_or}
+use Rattle.ame_engine.specs.declared.certificate.Certificate.{Certificate}
 use Rattle.ame_engine.specs.declared.stop.Stop.{Stop}
 use Rattle.ame_engine.specs.Core.{Core}
 
--- whether a stop comes from outside: an engine finds the others where a seat begins
+-- whether a stop comes from outside: an engine finds the others itself
 abbrev pub is_from_outside : Stop → Bool
 is_from_outside Stop.NoMemory = true
 is_from_outside Stop.WriteFault = true
@@ -12,3 +13,7 @@ is_from_outside _ = false
 -- the first stop stays
 abbrev pub stopped_by : {C V M : Type 0} → Stop → Core C V M → Core C V M
 stopped_by why core = record core { stop = Some (unwrap_or core.stop why) }
+
+-- all members are blocked, as these certificates tell
+abbrev pub blocked_by : {C V M : Type 0} → List Certificate → Core C V M → Core C V M
+blocked_by certificates core = record core { stop = Some Stop.Blocked; certificates = certificates }

@@ -42,10 +42,10 @@ pub enum Wrote {
     Conflict(u32),
 }
 
-/// What a commit answers.
+/// What is answered where a row has come to its end, or to where it can't go on.
 #[derive(Clone, Copy, PartialEq, Eq, Debug)]
 pub enum Noted {
-    /// It is committed, and an entry tells it.
+    /// An entry tells it.
     Noted,
     /// This read is the first that isn't valid.
     Invalid(Bad),

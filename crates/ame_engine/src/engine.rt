@@ -5,6 +5,7 @@ ghost use Rattle.ame_io.specs.Lines.{lines};
 ghost use Rattle.ame_desk.specs.Committed.{committed as committed_at};
 ghost use Rattle.ame_stands.specs.Parts.{task_at};
 
+use crate::certificate::Certificate;
 use crate::counters::Counters;
 use crate::stop::Stop;
 use ame_desk::Desk;
@@ -19,9 +20,11 @@ use std::sync::Arc;
 
 mod alloc;
 mod begin;
+mod block;
 mod check;
 mod commit;
 mod laws;
+mod notes;
 mod read;
 mod start;
 mod stop;
@@ -48,6 +51,7 @@ where
     counters: Counters,
     tried: Vec<Tried>,
     stop: Option<Stop>,
+    certificates: Vec<Certificate>,
 }
 
 impl<M: Runner> Drop for Engine<M>
@@ -70,6 +74,7 @@ where
             counters: _,
             tried: _,
             stop: _,
+            certificates: _,
         } = self;
     }
 }
@@ -101,6 +106,7 @@ where
       counters = e.counters;
       tried = e.tried.items;
       stop = e.stop;
+      certificates = e.certificates.items;
     } };
 
     ghost invariant = { λ e. IsEngine M.program M.devices M.is_value M.value_of M.is_machine M.stage (record {
@@ -118,6 +124,7 @@ where
       counters = e.counters;
       tried = e.tried.items;
       stop = e.stop;
+      certificates = e.certificates.items;
     }) (vec_len e.tried) (vec_capacity e.tried) };
 }
 
@@ -151,6 +158,13 @@ where
         ensures { result ≡ self.now.stop }
     {
         self.stop
+    }
+
+    /// What tells that each member is blocked, in order of their numbers, where that is the stop that is kept; else nothing.
+    pub fn certificates(&self) -> &[Certificate]
+        ensures { result.now ≡ self.now.certificates }
+    {
+        self.certificates.as_slice()
     }
 
     /// The entries from which it was opened.

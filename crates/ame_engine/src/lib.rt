@@ -2,12 +2,14 @@
 #![tactic(auto)]
 
 mod answer;
+mod certificate;
 mod chance;
 mod counters;
 mod engine;
 mod stop;
 
 pub use answer::{Begin, Checked, Noted, Undone, Wrote};
+pub use certificate::Certificate;
 pub use counters::Counters;
 pub use engine::Engine;
 pub use stop::Stop;

@@ -134,14 +134,15 @@ where
         ensures err { OnErr result (self.new ≡ self.old) }
         ensures wants { OnErr result (IsTrue (gives_member (chance_of self.old))) }
     {
+        self.stops_have_causes();
         match self.chance() {
             Chance::Member(number) => {
                 let machine = self.begin_member(seat, number)?;
                 Ok(Begin::Begun(machine))
             }
             Chance::Idle => Ok(Begin::Idle),
-            Chance::Blocked => Ok(Begin::Blocked),
             Chance::Stopped => Ok(Begin::Stopped),
+            Chance::Blocked => Ok(Begin::Blocked),
             Chance::Finished => {
                 self.keep(Stop::Finished);
                 Ok(Begin::Stopped)

@@ -34,6 +34,7 @@ where
         requires on { IsOn M.program M.devices M.value_of M.is_machine M.stage self.old seat at }
         requires commits { IsCommitting (M.stage self.old.code at) }
         requires left { self.old.turns < self.old.limits.turns }
+        requires going { self.old.stop ≡ None }
         requires task { task_at self.old.tasks seat ≡ Task.Running attempt }
         requires valid { IsValid self.old.desk.cells seat (row_at self.old.desk.rows seat).reads }
         ensures ended { (M.stage self.old.code at).want ≡ Some Wants.Done → OnOk result (MakesEvent M.program M.devices M.value_of M.stage
@@ -79,6 +80,7 @@ where
         requires on { IsOn M.program M.devices M.value_of M.is_machine M.stage self.old seat at }
         requires commits { IsCommitting (M.stage self.old.code at) }
         requires left { self.old.turns < self.old.limits.turns }
+        requires going { self.old.stop ≡ None }
         ensures ended { (attempt : Attempt) → task_at self.old.tasks seat ≡ Task.Running attempt → (M.stage self.old.code at).want ≡ Some Wants.Done
             → result ≡ Ok Noted.Noted → MakesEvent M.program M.devices M.value_of M.stage (one_counted Counted.Commit)
             (ended_at seat attempt.tried.number (M.stage self.old.code at)) self.old self.new }
@@ -89,7 +91,7 @@ where
             → MakesEvent M.program M.devices M.value_of M.stage (one_invalid Counted.Commit) (has_turned_back seat attempt) self.old self.new }
         ensures exact { IfOk result (λ noted. (noted ≡ Noted.Noted) ↔ IsValid self.old.desk.cells seat (row_at self.old.desk.rows seat).reads) }
         ensures bad { (bad : Bad) → result ≡ Ok (Noted.Invalid bad) → IsFirstBad self.old.desk.cells seat (row_at self.old.desk.rows seat).reads bad }
-        ensures rolls { (attempt : Attempt) (bad : Bad) → self.old.stop ≡ None → task_at self.old.tasks seat ≡ Task.Running attempt
+        ensures rolls { (attempt : Attempt) (bad : Bad) → task_at self.old.tasks seat ≡ Task.Running attempt
             → result ≡ Ok (Noted.Invalid bad) → MayBeRolledBack attempt.tried.number self.old.pool }
         ensures lacks { OnErr result (IsValid self.old.desk.cells seat (row_at self.old.desk.rows seat).reads) }
         ensures err { OnErr result (self.new ≡ self.old) }

@@ -63,6 +63,7 @@ where
             counters: Counters::new(),
             tried: Vec::new(alloc),
             stop: None,
+            certificates: Vec::new(alloc),
         })
     }
 }

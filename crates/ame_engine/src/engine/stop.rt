@@ -1,6 +1,12 @@
 //! How an engine stops.
 
-ghost use Rattle.std.specs.Prelude.{◌≡◌, IsTrue};
+ghost use Rattle.std.specs.Prelude.{◌≡◌, None, Some, IsTrue};
+ghost use Rattle.ame_pool.specs.declared.oldest.Oldest.{Oldest};
+ghost use Rattle.ame_pool.specs.Begin.{oldest as oldest_of};
+ghost use Rattle.ame_engine.specs.declared.chance.Chance.{Chance};
+ghost use Rattle.ame_engine.specs.Begins.{chance_of};
+ghost use Rattle.ame_engine.specs.Causes.{HasCause};
+ghost use Rattle.ame_engine.specs.Seen.{parts_of};
 ghost use Rattle.ame_engine.specs.Stops.{stopped_by, is_from_outside};
 
 use super::Engine;
@@ -11,8 +17,24 @@ impl<M: Runner> Engine<M>
 where
     M::Code: Drop,
 {
-    /// Keeps a stop, if none is kept.
+    /// What a seat meets that begins is the cause of the stop that is kept then, and one from outside has none.
+    pub(super) fn stops_have_causes(&self)
+        ensures finished { chance_of self.now ≡ Chance.Finished → HasCause (Some Stop.Finished) self.now.certificates
+            (parts_of M.program M.devices M.value_of M.stage (stopped_by Stop.Finished self.now)) }
+        ensures spent { chance_of self.now ≡ Chance.Spent → HasCause (Some Stop.Spent) self.now.certificates
+            (parts_of M.program M.devices M.value_of M.stage (stopped_by Stop.Spent self.now)) }
+        ensures outside { (why : Stop) → IsTrue (is_from_outside why) → self.now.stop ≡ None → HasCause (Some why) self.now.certificates
+            (parts_of M.program M.devices M.value_of M.stage (stopped_by why self.now)) }
+        ensures parked { chance_of self.now ≡ Chance.Blocked → oldest_of self.now.pool ≡ Oldest.Parked }
+        ensures going { chance_of self.now ≡ Chance.Blocked → self.now.stop ≡ None }
+    {
+        let _ = &self.turns;
+    }
+
+    /// Keeps a stop, if none is kept. It has its cause, and no entry tells it.
     pub(super) fn keep(&mut self, why: Stop)
+        requires { self.old.stop ≡ None → HasCause (Some why) self.old.certificates
+            (parts_of M.program M.devices M.value_of M.stage (stopped_by why self.old)) }
         ensures { self.new ≡ stopped_by why self.old }
     {
         if self.stop.is_none() {
@@ -25,6 +47,7 @@ where
         requires { IsTrue (is_from_outside why) }
         ensures { self.new ≡ stopped_by why self.old }
     {
+        self.stops_have_causes();
         self.keep(why);
     }
 }

@@ -18,7 +18,7 @@ use ame_runner::Runner;
 use ame_stands::{Attempt, Reason, Task, Tried};
 
 /// What a seat has at work.
-fn attempt_at(task: Task) -> Attempt
+pub(super) fn attempt_at(task: Task) -> Attempt
     requires { IsSome (attempt_of task) }
     ensures { attempt_of task ≡ Some result }
 {

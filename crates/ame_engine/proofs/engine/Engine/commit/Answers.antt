@@ -30,6 +30,6 @@ returns-in-Some-clause-rolls g c =
     let is : task_at c.self.inside.tasks.items c.args.seat ≡ Task.Running c.in-Running.attempt =
     its-task _ c.args.self.now c.self.view_is c.args.seat c.requires.on.stands.attempt c.requires.on.stands.has _ c.in-Running.attempt c.index.ensures c.in-Running.is in
     let invalid : IsValid c.self.inside.desk.cells c.args.seat (row_at c.self.inside.desk.rows c.args.seat).reads → ⊥ = search rules in
-    (λ attempt bad none task _. rolls-invalid g.M.Runner.program g.M.Runner.devices g.M.Runner.is_value g.M.Runner.value_of g.M.Runner.is_machine g.M.Runner.stage
+    (λ attempt bad task _. rolls-invalid g.M.Runner.program g.M.Runner.devices g.M.Runner.is_value g.M.Runner.value_of g.M.Runner.is_machine g.M.Runner.stage
     _ c.args.self.now c.self.view_is c.self.invariant.whole c.args.seat c.args.at c.requires.on c.requires.commits.outside c.requires.left c.in-Running.attempt is
-    invalid attempt none task)
+    invalid attempt c.requires.going task)

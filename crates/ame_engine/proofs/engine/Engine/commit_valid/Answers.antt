@@ -72,7 +72,7 @@ invariant_of-self-2 g c =
           c.make_room.new.text.items c.append-2.new.list.items c.as_slice-2.result.now c.in_ok-bytes.bytes.items c.prints.result.now
           (c.prints.ensures (arc_value c.self.inside.code)) c.in_ok-bytes.ensures c.as_slice-2.ensures.value c.make_room.ensures.text c.append-2.ensures
           c.make_room.new.journal.entries c.push.new.self.entries c.in_ok-entry.entry (c.in_ok-entry.ensures (arc_value c.self.inside.code))
-          c.make_room.ensures.entries c.push.ensures.entries c.in_ok-next.next c.in_ok-next.ensures committing;
+          c.make_room.ensures.entries c.push.ensures.entries c.in_ok-next.next c.in_ok-next.ensures committing c.requires.going;
       places = places-freed c.self.inside.tasks.items c.args.seat _ _ c.args.attempt (ap attempt_of is) c.self.invariant.places;
     }
 

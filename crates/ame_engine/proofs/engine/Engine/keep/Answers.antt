@@ -1,9 +1,13 @@
-use Rattle.ame_engine.proofs.CheckLemmas.{whole-stopped}
+use Rattle.std.proofs.Common.{rules, ◌≡◌, Option, None, subst, sym}
+use Rattle.ame_engine.specs.Causes.{HasCause}
+use Rattle.ame_engine.proofs.CheckLemmas.{whole-kept}
 use Rattle.ame_engine.proofs.engine.Engine.keep.Goals as goal
 
 pub invariant_of-self : goal.invariant_of-self
-invariant_of-self g c = record {
-  whole = whole-stopped g.M.Runner.program g.M.Runner.devices g.M.Runner.is_value g.M.Runner.value_of g.M.Runner.is_machine g.M.Runner.stage
-      _ c.args.why c.self.invariant.whole;
-  places = c.self.invariant.places;
-}
+invariant_of-self g c =
+    let none : c.self.inside.stop ≡ None = search rules in
+    record {
+      whole = whole-kept g.M.Runner.program g.M.Runner.devices g.M.Runner.is_value g.M.Runner.value_of g.M.Runner.is_machine g.M.Runner.stage
+          _ c.args.self.now c.self.view_is c.args.why c.self.invariant.whole none c.requires;
+      places = c.self.invariant.places;
+    }

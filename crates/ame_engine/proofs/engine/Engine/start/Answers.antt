@@ -16,12 +16,13 @@ invariant_of-result g c =
     let output : c.new-5.result.items ≡ [] = search rules in
     let text : c.new-6.result.items ≡ [] = search rules in
     let tried : c.new-8.result.items ≡ [] = search rules in
+    let certificates : c.new-9.result.items ≡ [] = search rules in
     let none : vec_len c.new-8.result ≡ 0 = search rules in
     record {
       whole = whole-started g.M.Runner.program g.M.Runner.devices g.M.Runner.is_value g.M.Runner.value_of g.M.Runner.is_machine g.M.Runner.stage
           code c.args.limits m rests c.requires good (g.met.M.Runner.accepted (arc_value c.args.code))
-          _ _ _ _ _ _ _ _ _ _ _ _ c.new-3.ensures c.new-4.ensures c.new.ensures c.in_ok-desk.ensures c.in_ok-tasks.ensures
-          c.new-pool.ensures c.in_ok-room.ensures.ok c.add.ensures output text c.new-7.ensures tried;
+          _ _ _ _ _ _ _ _ _ _ _ _ _ c.new-3.ensures c.new-4.ensures c.new.ensures c.in_ok-desk.ensures c.in_ok-tasks.ensures
+          c.new-pool.ensures c.in_ok-room.ensures.ok c.add.ensures output text c.new-7.ensures tried certificates;
       places = subst (λ (tasks : List Task). HasPlacesFor tasks (vec_len c.new-8.result) (vec_capacity c.new-8.result)) (sym c.in_ok-tasks.ensures)
           (places-idle c.args.limits.seats (vec_len c.new-8.result) (vec_capacity c.new-8.result) (omega (arith, none)));
     }
@@ -35,7 +36,8 @@ returns-clause-parts g c =
     let output : c.new-5.result.items ≡ [] = search rules in
     let text : c.new-6.result.items ≡ [] = search rules in
     let tried : c.new-8.result.items ≡ [] = search rules in
+    let certificates : c.new-9.result.items ≡ [] = search rules in
     parts-started g.M.Runner.program g.M.Runner.devices g.M.Runner.is_value g.M.Runner.value_of g.M.Runner.is_machine g.M.Runner.stage
     code c.args.limits m rests c.requires good (g.met.M.Runner.accepted (arc_value c.args.code))
-    _ _ _ _ _ _ _ _ _ _ _ _ c.new-3.ensures c.new-4.ensures c.new.ensures c.in_ok-desk.ensures c.in_ok-tasks.ensures
-    c.new-pool.ensures c.in_ok-room.ensures.ok c.add.ensures output text c.new-7.ensures tried
+    _ _ _ _ _ _ _ _ _ _ _ _ _ c.new-3.ensures c.new-4.ensures c.new.ensures c.in_ok-desk.ensures c.in_ok-tasks.ensures
+    c.new-pool.ensures c.in_ok-room.ensures.ok c.add.ensures output text c.new-7.ensures tried certificates

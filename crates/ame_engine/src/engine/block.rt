@@ -1,0 +1,105 @@
+//! How a seat notes that its member came to a condition that is false.
+
+ghost use Rattle.std.specs.Prelude.{◌≡◌, ◌<◌, ◌↔◌, IfOk, OnOk, OnErr, Ok, None, map};
+ghost use Rattle.ame_rows.specs.declared.notes.Bad.{Bad};
+ghost use Rattle.ame_rows.specs.Valid.{IsValid, IsFirstBad};
+ghost use Rattle.ame_desk.specs.Contents.{row_at};
+ghost use Rattle.ame_owed.specs.Waiting.{read_places};
+ghost use Rattle.ame_runner.specs.Stage.{place_shown};
+ghost use Rattle.ame_stands.specs.declared.types.Attempt.{Attempt};
+ghost use Rattle.ame_stands.specs.Parts.{task_at};
+ghost use Rattle.ame_stands.specs.Events.{has_turned_back};
+ghost use Rattle.ame_waiting.specs.Noted.{has_noted};
+ghost use Rattle.ame_engine.specs.Counting.{Counted, one_counted, one_invalid};
+ghost use Rattle.ame_engine.specs.Seen.{MakesEvent};
+ghost use Rattle.ame_engine.specs.AtWork.{IsOn, IsBlocking};
+ghost use Rattle.ame_engine.specs.Rollbacks.{MayBeRolledBack};
+
+use super::Engine;
+use super::notes::{note_of, told};
+use crate::answer::Noted;
+use ame_journal::EntryKind;
+use ame_rows::ReadNote;
+use ame_runner::Runner;
+use ame_stands::{Attempt, Reason, Task};
+use ame_term::{Loc, NoMemory};
+use std::alloc::Global;
+
+/// The locations of logged reads.
+fn read_locations(alloc: Global, reads: &[ReadNote]) -> Result<Vec<Loc>, NoMemory>
+    ensures { IfOk result (λ locs. map (λ l. l.0) locs.items ≡ read_places reads.now) }
+{
+    let mut locs = Vec::new(alloc);
+    for read in reads {
+        locs.push(read.loc)?;
+    }
+    Ok(locs)
+}
+
+impl<M: Runner> Engine<M>
+where
+    M::Code: Drop,
+{
+    /// Notes a row whose reads are valid. All memory is taken before the first change.
+    fn block_valid(&mut self, seat: u32, attempt: Attempt, at: &M) -> Result<(), NoMemory>
+        requires on { IsOn M.program M.devices M.value_of M.is_machine M.stage self.old seat at.now }
+        requires blocks { IsBlocking (M.stage self.old.code at.now) }
+        requires left { self.old.turns < self.old.limits.turns }
+        requires going { self.old.stop ≡ None }
+        requires task { task_at self.old.tasks seat ≡ Task.Running attempt }
+        requires valid { IsValid self.old.desk.cells seat (row_at self.old.desk.rows seat).reads }
+        ensures noted { OnOk result (MakesEvent M.program M.devices M.value_of M.stage (one_counted Counted.Block)
+            (has_noted seat attempt (M.stage self.old.code at.now).steps (place_shown (M.stage self.old.code at.now))) self.old self.new) }
+        ensures err { OnErr result (self.new ≡ self.old) }
+    {
+        let alloc = *self.tasks.allocator();
+        let number = attempt.tried.number;
+        let entry = note_of(alloc, EntryKind::Stuck, seat, number, at)?;
+        let locs = read_locations(alloc, self.desk.row(seat).reads())?;
+        self.journal.room()?;
+        self.pool.note(number, locs)?;
+        self.journal.push(entry);
+        self.tasks[seat as usize] = Task::Undoing(told(attempt), Reason::Noted);
+        self.turns += 1;
+        self.counters.blocks += 1;
+        Ok(())
+    }
+
+    /// Notes the row of a seat whose machine has come to a condition that is false: an entry joins the journal, the member
+    /// watches the locations that its row read, and the row is to be undone. Where a read isn't valid the seat turns back
+    /// instead. Counts a turn. Takes memory where all reads are valid, all of it before the first change.
+    pub fn block(&mut self, seat: u32, at: &M) -> Result<Noted, NoMemory>
+        requires on { IsOn M.program M.devices M.value_of M.is_machine M.stage self.old seat at.now }
+        requires blocks { IsBlocking (M.stage self.old.code at.now) }
+        requires left { self.old.turns < self.old.limits.turns }
+        requires going { self.old.stop ≡ None }
+        ensures noted { (attempt : Attempt) → task_at self.old.tasks seat ≡ Task.Running attempt → result ≡ Ok Noted.Noted
+            → MakesEvent M.program M.devices M.value_of M.stage (one_counted Counted.Block)
+            (has_noted seat attempt (M.stage self.old.code at.now).steps (place_shown (M.stage self.old.code at.now))) self.old self.new }
+        ensures back { (attempt : Attempt) (bad : Bad) → task_at self.old.tasks seat ≡ Task.Running attempt → result ≡ Ok (Noted.Invalid bad)
+            → MakesEvent M.program M.devices M.value_of M.stage (one_invalid Counted.Block) (has_turned_back seat attempt) self.old self.new }
+        ensures exact { IfOk result (λ noted. (noted ≡ Noted.Noted) ↔ IsValid self.old.desk.cells seat (row_at self.old.desk.rows seat).reads) }
+        ensures bad { (bad : Bad) → result ≡ Ok (Noted.Invalid bad) → IsFirstBad self.old.desk.cells seat (row_at self.old.desk.rows seat).reads bad }
+        ensures rolls { (attempt : Attempt) (bad : Bad) → task_at self.old.tasks seat ≡ Task.Running attempt
+            → result ≡ Ok (Noted.Invalid bad) → MayBeRolledBack attempt.tried.number self.old.pool }
+        ensures lacks { OnErr result (IsValid self.old.desk.cells seat (row_at self.old.desk.rows seat).reads) }
+        ensures err { OnErr result (self.new ≡ self.old) }
+    {
+        let Task::Running(attempt) = self.tasks[seat as usize] else {
+            unreachable!();
+        };
+        match self.desk.valid(seat) {
+            None => {
+                self.block_valid(seat, attempt, at)?;
+                Ok(Noted::Noted)
+            }
+            Some(bad) => {
+                self.tasks[seat as usize] = Task::Undoing(attempt, Reason::RolledBack);
+                self.turns += 1;
+                self.counters.blocks += 1;
+                self.counters.invalids += 1;
+                Ok(Noted::Invalid(bad))
+            }
+        }
+    }
+}

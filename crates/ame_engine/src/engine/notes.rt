@@ -1,0 +1,52 @@
+//! What a note of a row takes.
+
+ghost use Rattle.std.specs.Prelude.{◌≡◌, IfOk, None, true};
+
+use ame_journal::{Entry, EntryKind};
+use ame_runner::Runner;
+use ame_stands::{Attempt, Tried};
+use ame_term::{Locs, NoMemory};
+use std::alloc::Global;
+
+/// A note of this kind of a machine that a seat runs for a member.
+pub(super) fn note_of<M: Runner>(
+    alloc: Global,
+    kind: EntryKind,
+    seat: u32,
+    number: u64,
+    at: &M,
+) -> Result<Entry, NoMemory>
+    ensures { (code : M.Code) → IfOk result (λ entry. entry ≡ record {
+      kind = kind;
+      seat = seat;
+      number = number;
+      steps = (M.stage code at.now).steps;
+      fresh = (M.stage code at.now).fresh;
+      answer = None;
+    }) }
+{
+    let mut fresh = Vec::new(alloc);
+    fresh.extend_from_slice(at.fresh())?;
+    Ok(Entry {
+        kind,
+        seat,
+        number,
+        steps: at.steps(),
+        fresh: Locs::from_vec(fresh),
+        answer: None,
+    })
+}
+
+/// The attempt once an entry tells it.
+pub(super) fn told(attempt: Attempt) -> Attempt
+    ensures { result ≡ record attempt { told = true } }
+{
+    Attempt {
+        tried: Tried {
+            number: attempt.tried.number,
+            at: attempt.tried.at,
+            steps: attempt.tried.steps,
+        },
+        told: true,
+    }
+}

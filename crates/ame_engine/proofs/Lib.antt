@@ -22,3 +22,4 @@ pub mod CrewLemmas
 pub mod JoinLemmas
 pub mod CommitLemmas
 pub mod BlockLemmas
+pub mod BlockedLemmas

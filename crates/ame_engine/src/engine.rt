@@ -21,6 +21,7 @@ use std::sync::Arc;
 mod alloc;
 mod begin;
 mod block;
+mod blocked;
 mod check;
 mod commit;
 mod laws;

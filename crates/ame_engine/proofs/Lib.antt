@@ -23,3 +23,4 @@ pub mod JoinLemmas
 pub mod CommitLemmas
 pub mod BlockLemmas
 pub mod BlockedLemmas
+pub mod LastLemmas

@@ -27,8 +27,10 @@ mod commit;
 mod laws;
 mod notes;
 mod read;
+mod spend;
 mod start;
 mod stop;
+mod tall;
 mod undo;
 mod write;
 

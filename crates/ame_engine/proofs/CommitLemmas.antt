@@ -94,7 +94,7 @@ which-want (Some wants.Tall) e = absurd (let clash : false ≡ true = e in cc)
 which-want (Some wants.OutOfFuel) e = absurd (let clash : false ≡ true = e in cc)
 
 -- where the run stands, by what the machine shows
-shown-place : (o : Option LocalState) (s : Stage) → option_map without_footprint o ≡ Some (with_answer None (place_shown s))
+pub shown-place : (o : Option LocalState) (s : Stage) → option_map without_footprint o ≡ Some (with_answer None (place_shown s))
     → (p : LocalState) × (o ≡ Some p) × (without_footprint p ≡ with_answer None (place_shown s))
 shown-place None s e = absurd (let clash : ◌≡◌ {A = Option LocalState} None (Some (with_answer None (place_shown s))) = e in cc)
 shown-place (Some p) s e = (p, refl, ap (λ (o : Option LocalState). option_map_or (λ x. x) o (without_footprint p)) e)

@@ -22,3 +22,5 @@ pub mod CrewLemmas
 pub mod JoinLemmas
 pub mod CommitLemmas
 pub mod BlockLemmas
+pub mod BlockedLemmas
+pub mod LastLemmas

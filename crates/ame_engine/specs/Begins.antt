@@ -25,10 +25,11 @@ chance_by spent Oldest.Empty = Chance.Finished
 chance_by spent Oldest.Parked = Chance.Blocked
 chance_by spent oldest = chance_left spent oldest
 
--- whether a seat meets a member that may begin
-abbrev pub gives_member : Chance → Bool
-gives_member (Chance.Member number) = true
-gives_member _ = false
+-- whether a seat meets a member that may begin, or all are parked
+abbrev pub takes_memory : Chance → Bool
+takes_memory (Chance.Member number) = true
+takes_memory Chance.Blocked = true
+takes_memory _ = false
 
 module _ {C V M : Type 0} where
   -- the first of these that is met: a kept stop, no member, all members parked, no turn left, none may begin, or the oldest that may
@@ -50,14 +51,14 @@ module _ {C V M : Type 0} where
     counters = one_counted Counted.Begin core.counters;
   }
 
-module _ {M : Type 0} (begins : ℕ → M → Type 0) (keeps : Stop → Type 0) (stays : Type 0) where
-  -- an answer is that of what the seat met; where it begins a member the first fact is so, where a stop is met that wasn't kept
-  -- the second, and else the third
+module _ {M : Type 0} (begins : ℕ → M → Type 0) (keeps : Stop → Type 0) (blocks stays : Type 0) where
+  -- an answer is that of what the seat met; where it begins a member the first fact is so, where no member is left or the turns
+  -- are used up the second, where all members are parked the third, and else the last
   abbrev pub Answers : Chance → Begin M → Type 0
   Answers (Chance.Member number) (answer.Begun m) = begins number m
   Answers Chance.Finished answer.Stopped = keeps Stop.Finished
   Answers Chance.Spent answer.Stopped = keeps Stop.Spent
   Answers Chance.Stopped answer.Stopped = stays
-  Answers Chance.Blocked answer.Blocked = stays
+  Answers Chance.Blocked answer.Stopped = blocks
   Answers Chance.Idle answer.Idle = stays
   Answers _ _ = ⊥

@@ -4,6 +4,7 @@ pub mod Seen
 pub mod Rollbacks
 pub mod Places
 pub mod Causes
+pub mod Certifying
 pub mod Whole
 pub mod AtWork
 pub mod Begins

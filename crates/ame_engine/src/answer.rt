@@ -11,8 +11,6 @@ pub enum Begin<M> {
     Idle,
     /// A stop is kept, maybe since this call.
     Stopped,
-    /// All members are parked.
-    Blocked,
 }
 
 /// What a check answers.

@@ -21,13 +21,16 @@ use std::sync::Arc;
 mod alloc;
 mod begin;
 mod block;
+mod blocked;
 mod check;
 mod commit;
 mod laws;
 mod notes;
 mod read;
+mod spend;
 mod start;
 mod stop;
+mod tall;
 mod undo;
 mod write;
 

@@ -11,10 +11,11 @@ ghost use Rattle.ame_runner.specs.Sound.{CanRun};
 ghost use Rattle.ame_stands.specs.Parts.{task_at};
 ghost use Rattle.ame_stands.specs.Events.{begun_task as task_begun, has_begun};
 ghost use Rattle.ame_engine.specs.Counting.{Counted, one_counted};
-ghost use Rattle.ame_engine.specs.Seen.{MakesEvent};
+ghost use Rattle.ame_engine.specs.Seen.{parts_of, MakesEvent};
 ghost use Rattle.ame_engine.specs.AtWork.{IsOn};
-ghost use Rattle.ame_engine.specs.Begins.{chance_of, gives_member, Answers};
-ghost use Rattle.ame_engine.specs.Stops.{stopped_by};
+ghost use Rattle.ame_engine.specs.Begins.{chance_of, takes_memory, Answers};
+ghost use Rattle.ame_engine.specs.Causes.{certificates_in};
+ghost use Rattle.ame_engine.specs.Stops.{stopped_by, blocked_by};
 
 use super::Engine;
 use crate::answer::Begin;
@@ -122,17 +123,21 @@ where
     }
 
     /// A seat begins the oldest ready member that may begin, and runs the machine that it is given. A turn is counted where a
-    /// member begins. Where no member is left, or the turns are used up, that stop is kept. Takes memory for the copy of a machine
-    /// and for places in the tries, where a member begins.
+    /// member begins. Where no member is left, all are parked or the turns are used up, that stop is kept, with what tells it of
+    /// each parked one. Takes memory for the copy of a machine and for places in the tries, where a member begins, and for what
+    /// is told, where all are parked. It takes the time of the pool's logarithm and of a copy, but where all are parked that of the
+    /// entries and of the numbers that were given.
     pub fn begin(&mut self, seat: u32) -> Result<Begin<M>, NoMemory>
         requires seat { seat < self.old.limits.seats }
         requires idle { task_at self.old.tasks seat ≡ Task.Idle }
         ensures answer { IfOk result (Answers (λ number m.
             MakesEvent M.program M.devices M.value_of M.stage (one_counted Counted.Begin) (has_begun seat number) self.old self.new
             × IsOn M.program M.devices M.value_of M.is_machine M.stage self.new seat m × CanRun (M.stage self.new.code m))
-            (λ why. self.new ≡ stopped_by why self.old) (self.new ≡ self.old) (chance_of self.old)) }
+            (λ why. self.new ≡ stopped_by why self.old)
+            (self.new ≡ blocked_by (certificates_in (parts_of M.program M.devices M.value_of M.stage self.old)) self.old)
+            (self.new ≡ self.old) (chance_of self.old)) }
         ensures err { OnErr result (self.new ≡ self.old) }
-        ensures wants { OnErr result (IsTrue (gives_member (chance_of self.old))) }
+        ensures wants { OnErr result (IsTrue (takes_memory (chance_of self.old))) }
     {
         self.stops_have_causes();
         match self.chance() {
@@ -142,7 +147,10 @@ where
             }
             Chance::Idle => Ok(Begin::Idle),
             Chance::Stopped => Ok(Begin::Stopped),
-            Chance::Blocked => Ok(Begin::Blocked),
+            Chance::Blocked => {
+                self.keep_blocked()?;
+                Ok(Begin::Stopped)
+            }
             Chance::Finished => {
                 self.keep(Stop::Finished);
                 Ok(Begin::Stopped)

@@ -1,10 +1,11 @@
 //! What a note of a row takes.
 
 ghost use Rattle.std.specs.Prelude.{◌≡◌, IfOk, None, true};
+ghost use Rattle.ame_visits.specs.Stops.{told_task as task_told};
 
 use ame_journal::{Entry, EntryKind};
 use ame_runner::Runner;
-use ame_stands::{Attempt, Tried};
+use ame_stands::{Attempt, Task, Tried};
 use ame_term::{Locs, NoMemory};
 use std::alloc::Global;
 
@@ -48,5 +49,17 @@ pub(super) fn told(attempt: Attempt) -> Attempt
             steps: attempt.tried.steps,
         },
         told: true,
+    }
+}
+
+/// What a seat is at, once an entry tells its attempt.
+pub(super) fn told_task(task: Task) -> Task
+    ensures { result ≡ task_told task }
+{
+    match task {
+        Task::Idle => Task::Idle,
+        Task::Running(attempt) => Task::Running(told(attempt)),
+        Task::Free(attempt) => Task::Free(told(attempt)),
+        Task::Undoing(attempt, reason) => Task::Undoing(told(attempt), reason),
     }
 }

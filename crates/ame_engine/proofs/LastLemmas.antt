@@ -1,0 +1,418 @@
+-- A row is noted as the engine stops.
+use Rattle.std.proofs.Common.{◌≡◌, ℕ, ◌+◌, ◌<◌, ◌⊎◌, inl, inr, Bool, true, false, cond, List, [], ◌∷◌, ◌++◌, map, get_or, length, Option, Some, None, refl, sym, ap, ◌∙◌, subst, arith, rules}
+use Rattle.std.specs.Prelude.{IsSome, is_some, option_map, slice_set}
+use Rattle.std.proofs.lemmas.List.Elements.{All-nil}
+use Rattle.ame_term.specs.Tree.{Val, Tree}
+use Rattle.ame_term.specs.Frame.{Side, side_told}
+use Rattle.ame_journal.specs.declared.entry.Entry.{Entry}
+use Rattle.ame_journal.specs.declared.entry.EntryKind.{EntryKind}
+use Rattle.ame_journal.specs.Log.{IsFit}
+use Rattle.ame_rows.specs.declared.notes.ReadNote.{ReadNote}
+use Rattle.ame_rows.specs.Valid.{IsValidRead, IsValid}
+use Rattle.ame_local.specs.Local.{LocalState, local}
+use Rattle.ame_pool.specs.Calls.{IsAt}
+use Rattle.ame_desk.specs.Contents.{Notes, row_at}
+use Rattle.ame_owed.specs.SeatRun.{HasUsed, AreValid}
+use Rattle.ame_runner.specs.declared.wants.Wants.TheVariants as wants
+use Rattle.ame_runner.specs.Stage.{Stage, running_side, place_shown, without_footprint, with_answer}
+use Rattle.ame_runner.specs.Need.{Need, need_of}
+use Rattle.ame_runner.specs.Sound.{IsSoundStage}
+use Rattle.ame_runner.proofs.LowLemmas.{too-high}
+use Rattle.ame_stands.specs.declared.types.Attempt.{Attempt}
+use Rattle.ame_stands.specs.declared.types.Task.{Task}
+use Rattle.ame_stands.specs.Parts.{Parts, heap_in, task_at, term_at, attempt_of, member_of, run_in}
+use Rattle.ame_stands.specs.Tasks.{is_busy_as, Visits, RunsProtected, MeetsTask}
+use Rattle.ame_stands.specs.Stands.{Stands}
+use Rattle.ame_stands.specs.Alone.{RunsAlone}
+use Rattle.ame_stands.proofs.StepLemmas.{seat_within}
+use Rattle.ame_stands.proofs.DeskEvents.{desk-valid}
+use Rattle.ame_stands.proofs.ShownDeskLemmas.{row-shown}
+use Rattle.ame_waiting.specs.Waiting.{AreWaiting}
+use Rattle.ame_waiting.specs.Once.{AreNotedOnce}
+use Rattle.ame_waiting.proofs.VisitLemmas.{told-waiting, told-once}
+use Rattle.ame_visits.specs.Stops.{MayBeNoted, told_task, note_entry, has_been_cut, has_grown_tall}
+use Rattle.ame_visits.proofs.NoteLemmas.{cut-stands, tall-stands, cut-alone, tall-alone}
+use Rattle.ame_engine.specs.declared.counters.Counters.{Counters}
+use Rattle.ame_engine.specs.declared.stop.Stop.{Stop}
+use Rattle.ame_engine.specs.Core.{Core}
+use Rattle.ame_engine.specs.Causes.{EndsWith, HasCause}
+use Rattle.ame_engine.specs.Counting.{Counted, one_counted}
+use Rattle.ame_engine.specs.Seen.{parts_of, MakesLastEvent}
+use Rattle.ame_engine.specs.Stops.{stopped_by}
+use Rattle.ame_engine.specs.Whole.{IsWhole}
+use Rattle.ame_engine.specs.AtWork.{is_free, working, IsOnSeat, IsOn}
+use Rattle.ame_engine.proofs.CauseLemmas.{task-more, going-ordinary, going-untold}
+use Rattle.ame_engine.proofs.BlockLemmas.{none-held}
+use Rattle.ame_engine.proofs.CheckLemmas.{task-read, valid-shown}
+use Rattle.ame_engine.proofs.CommitLemmas.{shown-place}
+use Rattle.ame_engine.proofs.CountLemmas.{one-counts}
+
+-- a seat that runs code has an attempt
+pub working-has : (t : Task) (a : Attempt) → working t ≡ Some a → attempt_of t ≡ Some a
+working-has Task.Idle a e = absurd (let clash : ◌≡◌ {A = Option Attempt} None (Some a) = e in cc)
+working-has (Task.Running b) a e = e
+working-has (Task.Free b) a e = e
+working-has (Task.Undoing b reason) a e = absurd (let clash : ◌≡◌ {A = Option Attempt} None (Some a) = e in cc)
+
+-- which is told then
+told-has : (t : Task) (a : Attempt) → working t ≡ Some a → attempt_of (told_task t) ≡ Some (record a { told = true })
+told-has Task.Idle a e = absurd (let clash : ◌≡◌ {A = Option Attempt} None (Some a) = e in cc)
+told-has (Task.Running b) a e = let same : b ≡ a = cc in ap (λ (x : Attempt). Some (record x { told = true })) same
+told-has (Task.Free b) a e = let same : b ≡ a = cc in ap (λ (x : Attempt). Some (record x { told = true })) same
+told-has (Task.Undoing b reason) a e = absurd (let clash : ◌≡◌ {A = Option Attempt} None (Some a) = e in cc)
+
+module _ {C V M : Type 0} (program : C → Tree) (devices : C → ℕ) (is_value : C → V → Type 0) (value_of : C → V → Val)
+    (is_machine : C → M → Type 0) (stage : C → M → Stage)
+    (core now : Core C V M) (view : core ≡ now) (whole : IsWhole program devices is_value value_of is_machine stage core) (seat : ℕ) (m : M)
+    (on : IsOn program devices value_of is_machine stage now seat m) where
+  abbrev parts : Parts
+  parts = parts_of program devices value_of stage core
+
+  abbrev s : Stage
+  s = stage core.code m
+
+  pub on' : IsOnSeat parts seat s
+  on' = subst (λ (x : Core C V M). IsOnSeat (parts_of program devices value_of stage x) seat (stage x.code m)) (sym view) on.stands
+
+  abbrev attempt : Attempt
+  attempt = on'.attempt
+
+  abbrev number : ℕ
+  number = attempt.tried.number
+
+  abbrev task : Task
+  task = task_at core.tasks seat
+
+  pub last-has : attempt_of task ≡ Some attempt
+  last-has = working-has task attempt on'.has
+
+  pub last-attempt : (a : Attempt) → working (task_at now.tasks seat) ≡ Some a → attempt ≡ a
+  last-attempt a e =
+      let both : Some attempt ≡ Some a = sym on'.has ∙ subst (λ (x : Core C V M). working (task_at x.tasks seat) ≡ Some a) (sym view) e in cc
+
+  last-within : seat < length core.tasks
+  last-within = seat_within core.tasks seat attempt last-has
+
+  -- the task in its place
+  pub last-task : (t : Task) → t ≡ get_or core.tasks seat t → task ≡ t
+  last-task t e = task-read core.tasks seat t last-within e
+
+  pub last-some : (t : Task) → t ≡ get_or core.tasks seat t → IsSome (attempt_of t)
+  last-some t e = ap (λ (o : Option Attempt). is_some o) (sym (ap attempt_of (last-task t e)) ∙ last-has)
+
+  pub last-its : (t : Task) → t ≡ get_or core.tasks seat t → (its : Attempt) → attempt_of t ≡ Some its → its ≡ attempt
+  last-its t e its is = let both : Some its ≡ Some attempt = sym is ∙ sym (ap attempt_of (last-task t e)) ∙ last-has in cc
+
+  -- where its run stands
+  place : (p : LocalState)
+      × (local (running_side s) (term_at parts.pool number) (row_at parts.desk.rows seat).inputs s.steps ≡ Some p)
+      × (without_footprint p ≡ with_answer None (place_shown s))
+  place = shown-place (local (running_side s) (term_at parts.pool number) (row_at parts.desk.rows seat).inputs s.steps) s on'.run
+
+  busy : IsAt (is_busy_as false) number parts.pool
+  busy = by task refl on'.has
+    where
+      by : (t : Task) → task ≡ t → working t ≡ Some attempt → IsAt (is_busy_as false) number parts.pool
+      by Task.Idle e h = absurd (let clash : ◌≡◌ {A = Option Attempt} None (Some attempt) = h in cc)
+      by (Task.Running a) e h =
+          let same : a ≡ attempt = cc in
+          let runs : RunsProtected parts whole.stands.types seat a = subst (MeetsTask parts whole.stands.types seat) e (whole.stands.seats seat) in
+          subst (λ (x : Attempt). IsAt (is_busy_as false) x.tried.number parts.pool) same runs.work.busy
+      by (Task.Free a) e h =
+          let same : a ≡ attempt = cc in
+          let visits : Visits parts whole.stands.types seat a = subst (MeetsTask parts whole.stands.types seat) e (whole.stands.seats seat) in
+          subst (λ (x : Attempt). IsAt (is_busy_as false) x.tried.number parts.pool) same visits.work.busy
+      by (Task.Undoing a reason) e h = absurd (let clash : ◌≡◌ {A = Option Attempt} None (Some attempt) = h in cc)
+
+  -- a seat whose reads aren't valid runs protected code
+  pub invalid-runs : (IsValid core.desk.cells seat (row_at core.desk.rows seat).reads → ⊥) → task ≡ Task.Running attempt
+  invalid-runs invalid = by task refl on'.has
+    where
+      by : (t : Task) → task ≡ t → working t ≡ Some attempt → task ≡ Task.Running attempt
+      by Task.Idle e h = absurd (let clash : ◌≡◌ {A = Option Attempt} None (Some attempt) = h in cc)
+      by (Task.Running a) e h = let same : a ≡ attempt = cc in e ∙ ap Task.Running same
+      by (Task.Free a) e h = absurd (invalid (subst (IsValid core.desk.cells seat) (sym none) (All-nil (IsValidRead core.desk.cells seat))))
+        where
+          none : (row_at core.desk.rows seat).reads ≡ []
+          none =
+              let visits : Visits parts whole.stands.types seat a = subst (MeetsTask parts whole.stands.types seat) e (whole.stands.seats seat) in
+              sym (ap (λ (n : Notes Val). n.reads) (row-shown (value_of core.code) core.desk.rows seat)) ∙ ap (λ (n : Notes Val). n.reads) visits.clear
+      by (Task.Undoing a reason) e h = absurd (let clash : ◌≡◌ {A = Option Attempt} None (Some attempt) = h in cc)
+
+  pub invalid-outside : (IsValid core.desk.cells seat (row_at core.desk.rows seat).reads → ⊥) → (stage now.code m).inside ≡ false
+  invalid-outside invalid =
+      subst (λ (x : Core C V M). (stage x.code m).inside ≡ false) view (on'.side ∙ ap is_free (invalid-runs invalid))
+
+  pub turned-runs : (IsValid core.desk.cells seat (row_at core.desk.rows seat).reads → ⊥) → (t : Task) → t ≡ get_or core.tasks seat t
+      → (its : Attempt) → attempt_of t ≡ Some its → task ≡ Task.Running its
+  turned-runs invalid t e its is = invalid-runs invalid ∙ ap Task.Running (sym (last-its t e its is))
+
+  module _ (valid-now : IsValid now.desk.cells seat (row_at now.desk.rows seat).reads) (going : now.stop ≡ None) where
+    valid : IsValid core.desk.cells seat (row_at core.desk.rows seat).reads
+    valid = subst (λ (x : Core C V M). IsValid x.desk.cells seat (row_at x.desk.rows seat).reads) (sym view) valid-now
+
+    going' : core.stop ≡ None
+    going' = subst (λ (x : Core C V M). x.stop ≡ None) (sym view) going
+
+    reads-valid : AreValid (heap_in parts) seat (run_in parts seat number).reads
+    reads-valid =
+        desk-valid parts.desk seat (row_at parts.desk.rows seat).reads
+        (subst (IsValid parts.desk.cells seat) (sym (ap (λ (n : Notes Val). n.reads) (row-shown (value_of core.code) core.desk.rows seat)))
+        (valid-shown (value_of core.code) core.desk.cells seat (row_at core.desk.rows seat).reads valid))
+
+    may : MayBeNoted parts seat task (running_side s) number s.steps place.0
+    may = by task refl on'.has
+      where
+        by : (t : Task) → task ≡ t → working t ≡ Some attempt → MayBeNoted parts seat t (running_side s) number s.steps place.0
+        by Task.Idle e h = absurd (let clash : ◌≡◌ {A = Option Attempt} None (Some attempt) = h in cc)
+        by (Task.Running a) e h =
+            let same : a ≡ attempt = cc in
+            let side : running_side s ≡ Side.Protected = ap side_told (on'.side ∙ ap is_free e) in
+            let used : HasUsed (run_in parts seat number) s.steps place.0 = record {
+              ran = subst (λ (x : Side). local x (term_at parts.pool number) (row_at parts.desk.rows seat).inputs s.steps ≡ Some place.0) side place.1;
+              used = ap (λ (x : LocalState). x.inputs) place.2;
+            } in
+            subst (λ (x : Side). MayBeNoted parts seat (Task.Running a) x number s.steps place.0) (sym side)
+            (subst (λ (x : Attempt). MayBeNoted parts seat (Task.Running x) Side.Protected number s.steps place.0) (sym same)
+            (MayBeNoted.running attempt s.steps place.0 used reads-valid))
+        by (Task.Free a) e h =
+            let same : a ≡ attempt = cc in
+            let side : running_side s ≡ Side.Unprotected = ap side_told (on'.side ∙ ap is_free e) in
+            let visits : Visits parts whole.stands.types seat a = subst (MeetsTask parts whole.stands.types seat) e (whole.stands.seats seat) in
+            let none : (row_at parts.desk.rows seat).inputs ≡ [] = ap (λ (n : Notes Val). n.inputs) visits.clear in
+            subst (λ (x : Side). MayBeNoted parts seat (Task.Free a) x number s.steps place.0) (sym side)
+            (subst (λ (x : Attempt). MayBeNoted parts seat (Task.Free x) Side.Unprotected number s.steps place.0) (sym same)
+            (MayBeNoted.free attempt s.steps place.0
+            (subst (λ (inputs : List Val). local Side.Unprotected (term_at parts.pool number) inputs s.steps ≡ Some place.0) none
+            (subst (λ (x : Side). local x (term_at parts.pool number) (row_at parts.desk.rows seat).inputs s.steps ≡ Some place.0) side place.1))))
+        by (Task.Undoing a reason) e h = absurd (let clash : ◌≡◌ {A = Option Attempt} None (Some attempt) = h in cc)
+
+    last-few : seat < 32
+    last-few =
+        let within : seat < length core.tasks = seat_within core.tasks seat attempt last-has in
+        let tasks : length core.tasks ≡ core.limits.seats = whole.stands.bounded.tasks in
+        let few = whole.limits.seats in omega (arith, within, tasks, few)
+
+    pub last-fit : (kind : EntryKind) (entry : Entry)
+        → entry ≡ record { kind = kind; seat = seat; number = number; steps = s.steps; fresh = s.fresh; answer = None } → IsFit entry
+    last-fit kind entry e = subst IsFit (sym e) (record { seat = last-few; answer = none-held kind })
+
+    -- all that the engine has then
+    module _ (kind : EntryKind) (entry : Entry) (entry_is : entry ≡ note_entry kind seat number s.steps (place_shown s))
+        (before entries : List Entry) (before_is : before ≡ core.entries) (pushes : entries ≡ before ++ entry ∷ [])
+        (later : Task) (later_is : later ≡ told_task task) where
+      entries-are : entries ≡ core.entries ++ note_entry kind seat number s.steps (place_shown s) ∷ []
+      entries-are = pushes ∙ ap (λ (es : List Entry). es ++ entry ∷ []) before_is ∙ ap (λ (e : Entry). core.entries ++ e ∷ []) entry_is
+
+      pub last-places : attempt_of later ≡ Some (record attempt { told = true })
+      last-places = ap attempt_of later_is ∙ told-has task attempt on'.has
+
+      ends-so : EndsWith kind entries
+      ends-so = record {
+        earlier = core.entries;
+        note = note_entry kind seat number s.steps (place_shown s);
+        is = entries-are;
+        its = refl;
+        others = going-ordinary parts parts core.stop going' core.certificates whole.caused;
+      }
+
+      untold : core.certificates ≡ []
+      untold = going-untold parts parts core.stop going' core.certificates whole.caused
+
+    -- the turns are used up
+    module _ (used_up : now.turns ≡ now.limits.turns)
+        (t : Task) (t_is : t ≡ get_or core.tasks seat t) (its : Attempt) (its_is : attempt_of t ≡ Some its)
+        (entry : Entry) (entry_is' : entry ≡ note_entry EntryKind.Cut seat its.tried.number s.steps (place_shown s)) where
+      cut-attempt : its ≡ attempt
+      cut-attempt = last-its t t_is its its_is
+
+      cut-entry : entry ≡ note_entry EntryKind.Cut seat number s.steps (place_shown s)
+      cut-entry = entry_is' ∙ ap (λ (a : Attempt). note_entry EntryKind.Cut seat a.tried.number s.steps (place_shown s)) cut-attempt
+
+      pub cut-fit : IsFit entry
+      cut-fit = last-fit EntryKind.Cut entry cut-entry
+
+      module _ (before entries : List Entry) (before_is : before ≡ core.entries) (pushes : entries ≡ before ++ entry ∷ [])
+          (later : Task) (later_is' : later ≡ told_task t) where
+        cut-later : later ≡ told_task task
+        cut-later = later_is' ∙ sym (ap told_task (last-task t t_is))
+
+        cut-entries : entries ≡ core.entries ++ note_entry EntryKind.Cut seat number s.steps (place_shown s) ∷ []
+        cut-entries = entries-are EntryKind.Cut entry cut-entry before entries before_is pushes later cut-later
+
+        abbrev after-cut : Core C V M
+        after-cut = record core { entries = entries; tasks = slice_set core.tasks seat later; stop = Some (Stop.Spent) }
+
+        cut-with : List Entry → Task → Parts
+        cut-with es t = record parts { entries = es; tasks = slice_set core.tasks seat t; turns = core.turns; stopped = true }
+
+        cut-parts : parts_of program devices value_of stage after-cut ≡ has_been_cut seat number s.steps (place_shown s) task parts
+        unfolding cut-with
+        cut-parts = λ i. cut-with (cut-entries i) (cut-later i)
+
+        used-up' : core.turns ≡ core.limits.turns
+        used-up' = subst (λ (x : Core C V M). x.turns ≡ x.limits.turns) (sym view) used_up
+
+        cut-so : Stands (has_been_cut seat number s.steps (place_shown s) task parts)
+        cut-so =
+            subst (λ (q : LocalState). Stands (has_been_cut seat number s.steps q task parts)) place.2
+            (cut-stands parts seat task (running_side s) number s.steps place.0 refl may whole.stands)
+
+        cut-alone-so : RunsAlone (has_been_cut seat number s.steps (place_shown s) task parts)
+        cut-alone-so =
+            subst (λ (q : LocalState). RunsAlone (has_been_cut seat number s.steps q task parts)) place.2
+            (cut-alone parts seat task (running_side s) number s.steps place.0 refl may whole.alone)
+
+        pub whole-cut : IsWhole program devices is_value value_of is_machine stage after-cut
+        whole-cut = record {
+          stands = subst Stands (sym cut-parts) cut-so;
+          limits = whole.limits;
+          desk = whole.desk;
+          members = whole.members;
+          pool = whole.pool;
+          alone = subst RunsAlone (sym cut-parts) cut-alone-so;
+          waiting = subst AreWaiting (sym cut-parts)
+              (told-waiting parts seat number (ap (λ (o : Option Attempt). option_map (λ (x : Attempt). x.tried.number) o) last-has) busy (note_entry EntryKind.Cut seat number s.steps (place_shown s)) refl
+              (told_task task) (core.turns) true whole.waiting);
+          once = subst AreNotedOnce (sym cut-parts)
+              (told-once parts seat number (ap (λ (o : Option Attempt). option_map (λ (x : Attempt). x.tried.number) o) last-has) busy (note_entry EntryKind.Cut seat number s.steps (place_shown s)) refl
+              (told_task task) (core.turns) true whole.once);
+          caused = record {
+            cause = record { turns = used-up'; left = (task-more parts whole.stands seat attempt last-has).empty };
+            told = untold EntryKind.Cut entry cut-entry before entries before_is pushes later cut-later;
+            ends = inr (ends-so EntryKind.Cut entry cut-entry before entries before_is pushes later cut-later);
+          };
+          counters = whole.counters;
+          text = whole.text;
+        }
+
+        pub makes-cut : (a : Attempt) → working (task_at now.tasks seat) ≡ Some a
+            → MakesLastEvent program devices value_of stage (Stop.Spent) (λ c. c)
+            (has_been_cut seat a.tried.number (stage now.code m).steps (place_shown (stage now.code m)) (task_at now.tasks seat)) now after-cut
+        makes-cut a e =
+            subst (λ (b : Attempt). MakesLastEvent program devices value_of stage (Stop.Spent) (λ c. c)
+            (has_been_cut seat b.tried.number (stage now.code m).steps (place_shown (stage now.code m)) (task_at now.tasks seat)) now after-cut) (last-attempt a e)
+            (subst (λ (x : Core C V M). MakesLastEvent program devices value_of stage (Stop.Spent) (λ c. c)
+            (has_been_cut seat number (stage x.code m).steps (place_shown (stage x.code m)) (task_at x.tasks seat)) x after-cut) view
+            (record { code = refl; parts = cut-parts; counted = refl; stop = refl }))
+
+        pub cut-told : attempt_of later ≡ Some (record attempt { told = true })
+        cut-told = last-places EntryKind.Cut entry cut-entry before entries before_is pushes later cut-later
+
+    -- its next value would be too high
+    module _ (left : now.turns < now.limits.turns) (sound : IsSoundStage (stage now.code m)) (grows : (stage now.code m).want ≡ Some wants.Tall)
+        (t : Task) (t_is : t ≡ get_or core.tasks seat t) (its : Attempt) (its_is : attempt_of t ≡ Some its)
+        (entry : Entry) (entry_is' : entry ≡ note_entry EntryKind.Tall seat its.tried.number s.steps (place_shown s)) where
+      tall-attempt : its ≡ attempt
+      tall-attempt = last-its t t_is its its_is
+
+      tall-entry : entry ≡ note_entry EntryKind.Tall seat number s.steps (place_shown s)
+      tall-entry = entry_is' ∙ ap (λ (a : Attempt). note_entry EntryKind.Tall seat a.tried.number s.steps (place_shown s)) tall-attempt
+
+      pub tall-fit : IsFit entry
+      tall-fit = last-fit EntryKind.Tall entry tall-entry
+
+      module _ (before entries : List Entry) (before_is : before ≡ core.entries) (pushes : entries ≡ before ++ entry ∷ [])
+          (later : Task) (later_is' : later ≡ told_task t) where
+        tall-later : later ≡ told_task task
+        tall-later = later_is' ∙ sym (ap told_task (last-task t t_is))
+
+        tall-entries : entries ≡ core.entries ++ note_entry EntryKind.Tall seat number s.steps (place_shown s) ∷ []
+        tall-entries = entries-are EntryKind.Tall entry tall-entry before entries before_is pushes later tall-later
+
+        abbrev after-tall : Core C V M
+        after-tall = record core { entries = entries; tasks = slice_set core.tasks seat later; turns = core.turns + 1; counters = one_counted Counted.Tall core.counters; stop = Some (Stop.Tall its.tried.number) }
+
+        tall-with : List Entry → Task → Parts
+        tall-with es t = record parts { entries = es; tasks = slice_set core.tasks seat t; turns = core.turns + 1; stopped = true }
+
+        tall-parts : parts_of program devices value_of stage after-tall ≡ has_grown_tall seat number s.steps (place_shown s) task parts
+        unfolding tall-with
+        tall-parts = λ i. tall-with (tall-entries i) (tall-later i)
+
+        left' : core.turns < core.limits.turns
+        left' = subst (λ (x : Core C V M). x.turns < x.limits.turns) (sym view) left
+
+        high : Need.Tall ≡ need_of s
+        high =
+            subst (λ (x : Core C V M). Need.Tall ≡ need_of (stage x.code m)) (sym view) (sound.told wants.Tall grows)
+
+        low : IsSoundStage s
+        low = subst (λ (x : Core C V M). IsSoundStage (stage x.code m)) (sym view) sound
+
+        tall-so : Stands (has_grown_tall seat number s.steps (place_shown s) task parts)
+        tall-so =
+            subst (λ (q : LocalState). Stands (has_grown_tall seat number s.steps q task parts)) place.2
+            (tall-stands parts seat task (running_side s) number s.steps place.0 refl may whole.stands left'
+            (too-high s place.0 low.low (sym high) (ap (λ (x : LocalState). x.term) place.2)))
+
+        tall-alone-so : RunsAlone (has_grown_tall seat number s.steps (place_shown s) task parts)
+        tall-alone-so =
+            subst (λ (q : LocalState). RunsAlone (has_grown_tall seat number s.steps q task parts)) place.2
+            (tall-alone parts seat task (running_side s) number s.steps place.0 refl may whole.alone)
+
+        pub whole-tall : IsWhole program devices is_value value_of is_machine stage after-tall
+        unfolding ends-so on'
+        whole-tall = record {
+          stands = subst Stands (sym tall-parts) tall-so;
+          limits = whole.limits;
+          desk = whole.desk;
+          members = whole.members;
+          pool = whole.pool;
+          alone = subst RunsAlone (sym tall-parts) tall-alone-so;
+          waiting = subst AreWaiting (sym tall-parts)
+              (told-waiting parts seat number (ap (λ (o : Option Attempt). option_map (λ (x : Attempt). x.tried.number) o) last-has) busy (note_entry EntryKind.Tall seat number s.steps (place_shown s)) refl
+              (told_task task) (core.turns + 1) true whole.waiting);
+          once = subst AreNotedOnce (sym tall-parts)
+              (told-once parts seat number (ap (λ (o : Option Attempt). option_map (λ (x : Attempt). x.tried.number) o) last-has) busy (note_entry EntryKind.Tall seat number s.steps (place_shown s)) refl
+              (told_task task) (core.turns + 1) true whole.once);
+          caused = record {
+            cause = tt;
+            told = untold EntryKind.Tall entry tall-entry before entries before_is pushes later tall-later;
+            ends = record { ends = ends-so EntryKind.Tall entry tall-entry before entries before_is pushes later tall-later; its = sym (ap (λ (a : Attempt). a.tried.number) tall-attempt) };
+          };
+          counters = one-counts core.turns core.counters whole.counters Counted.Tall;
+          text = whole.text;
+        }
+
+        pub makes-tall : (a : Attempt) → working (task_at now.tasks seat) ≡ Some a
+            → MakesLastEvent program devices value_of stage (Stop.Tall a.tried.number) (one_counted Counted.Tall)
+            (has_grown_tall seat a.tried.number (stage now.code m).steps (place_shown (stage now.code m)) (task_at now.tasks seat)) now after-tall
+        makes-tall a e =
+            subst (λ (b : Attempt). MakesLastEvent program devices value_of stage (Stop.Tall b.tried.number) (one_counted Counted.Tall)
+            (has_grown_tall seat b.tried.number (stage now.code m).steps (place_shown (stage now.code m)) (task_at now.tasks seat)) now after-tall) (last-attempt a e)
+            (subst (λ (x : Core C V M). MakesLastEvent program devices value_of stage (Stop.Tall number) (one_counted Counted.Tall)
+            (has_grown_tall seat number (stage x.code m).steps (place_shown (stage x.code m)) (task_at x.tasks seat)) x after-tall) view
+            (record { code = refl; parts = tall-parts; counted = refl; stop = ap (λ (a : Attempt). Some (Stop.Tall a.tried.number)) tall-attempt }))
+
+        pub tall-told : attempt_of later ≡ Some (record attempt { told = true })
+        tall-told = last-places EntryKind.Tall entry tall-entry before entries before_is pushes later tall-later
+
+-- Where a seat has a member at work, and the turns are used up, that is a cause to stop.
+
+module _ {C V M : Type 0} (program : C → Tree) (devices : C → ℕ) (is_value : C → V → Type 0) (value_of : C → V → Val)
+    (is_machine : C → M → Type 0) (stage : C → M → Stage)
+    (core now : Core C V M) (view : core ≡ now) (whole : IsWhole program devices is_value value_of is_machine stage core) (seat : ℕ)
+    (has : IsSome (attempt_of (task_at now.tasks seat))) (used_up : now.turns ≡ now.limits.turns) where
+  abbrev spent : Core C V M → Type 0
+  spent x = HasCause (Some Stop.Spent) x.certificates (parts_of program devices value_of stage (stopped_by Stop.Spent x))
+
+  there : (o : Option Attempt) → IsSome o → (a : Attempt) × (o ≡ Some a)
+  there None h = absurd (let clash : false ≡ true = h in cc)
+  there (Some a) h = (a, refl)
+
+  pub spent-kept : now.stop ≡ None → spent now
+  spent-kept none = subst (λ (x : Core C V M). spent x) view (record {
+    cause = record {
+      turns = subst (λ (x : Core C V M). x.turns ≡ x.limits.turns) (sym view) used_up;
+      left = (task-more (parts_of program devices value_of stage core) whole.stands seat its.0 its.1).empty;
+    };
+    told = going-untold (parts_of program devices value_of stage core) (parts_of program devices value_of stage core) core.stop none' core.certificates whole.caused;
+    ends = inl (going-ordinary (parts_of program devices value_of stage core) (parts_of program devices value_of stage core) core.stop none' core.certificates whole.caused);
+  })
+    where
+      none' : core.stop ≡ None
+      none' = subst (λ (x : Core C V M). x.stop ≡ None) (sym view) none
+
+      its : (a : Attempt) × (attempt_of (task_at core.tasks seat) ≡ Some a)
+      its = there (attempt_of (task_at core.tasks seat)) (subst (λ (x : Core C V M). IsSome (attempt_of (task_at x.tasks seat))) (sym view) has)

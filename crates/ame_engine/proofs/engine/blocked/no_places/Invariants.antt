@@ -1,0 +1,6 @@
+-- The places so far are empty.
+use Rattle.std.proofs.Common.{◌≡◌, None, replicate}
+use Rattle.ame_engine.proofs.engine.blocked.no_places.Given as goal
+
+abbrev pub invariant-loop : goal.invariant-loop
+invariant-loop l = l.places.items ≡ replicate l.counter None

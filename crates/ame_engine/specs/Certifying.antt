@@ -1,0 +1,10 @@
+-- A note that was looked for, as a certificate.
+use Rattle.std.specs.Prelude.{ℕ, List, [], ◌∷◌, Option, Some, None}
+use Rattle.ame_journal.specs.declared.entry.Entry.{Entry}
+use Rattle.ame_engine.specs.declared.certificate.Certificate.{Certificate}
+use Rattle.ame_engine.specs.Causes.{certificate_of}
+
+-- the certificate of a member's note, if there is one
+abbrev pub certified_by : ℕ → Option Entry → List Certificate
+certified_by number None = []
+certified_by number (Some note) = certificate_of number note ∷ []

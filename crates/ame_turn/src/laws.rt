@@ -1,6 +1,6 @@
 //! Where the machines of seats stand while events come. Each law is a fact for proofs, and does nothing.
 
-ghost use Rattle.std.specs.Prelude.{◌≡◌, ◌≢◌, ℕ, ◌⊎◌, Some, false, length};
+ghost use Rattle.std.specs.Prelude.{◌≡◌, ◌≢◌, ℕ, ◌⊎◌, List, Some, false, length};
 ghost use Rattle.ame_term.specs.Tree.{Val};
 ghost use Rattle.ame_term.specs.declared.types.Loc.{Loc};
 ghost use Rattle.ame_term.specs.declared.types.Sort.{Sort};
@@ -11,10 +11,13 @@ ghost use Rattle.ame_runner.specs.Sound.{CanRun};
 ghost use Rattle.ame_runner.specs.Move.{Advances, fed_stage};
 ghost use Rattle.ame_store.specs.Cells.{IsFree, IsOwnedBy};
 ghost use Rattle.ame_owed.specs.Heap.{cell_at};
+ghost use Rattle.ame_local.specs.Local.{LocalState};
 ghost use Rattle.ame_stands.specs.declared.types.Attempt.{Attempt};
-ghost use Rattle.ame_stands.specs.Parts.{Parts, heap_in};
+ghost use Rattle.ame_stands.specs.declared.types.Reason.{Reason};
+ghost use Rattle.ame_stands.specs.declared.types.Task.{Task};
+ghost use Rattle.ame_stands.specs.Parts.{Parts, heap_in, task_at};
 ghost use Rattle.ame_stands.specs.Stands.{Stands};
-ghost use Rattle.ame_stands.specs.Events.{has_begun, has_read, has_written, has_allocated, has_checked, has_turned_back};
+ghost use Rattle.ame_stands.specs.Events.{has_begun, has_read, has_written, has_allocated, has_checked, has_turned_back, has_undone, has_gone_home, has_ended, has_left};
 ghost use Rattle.ame_engine.specs.AtWork.{IsOnSeat};
 
 /// A machine that makes steps alone stays where the run of its seat stands.
@@ -52,4 +55,18 @@ pub fn machines_of_other_seats_stay_on()
         → IsOnSeat (has_checked seat steps attempt parts) other s }
     ensures back { (parts : Parts) (seat other : ℕ) (attempt : Attempt) (s : Stage) → other ≢ seat → IsOnSeat parts other s
         → IsOnSeat (has_turned_back seat attempt parts) other s }
+{}
+
+/// So it is after an event that ends another seat's work, or undoes some of it. Of a commit it is so since no two seats have one member.
+pub fn machines_of_other_seats_stay_on_when_work_ends()
+    ensures undo { (parts : Parts) (seat other : ℕ) (attempt : Attempt) (reason : Reason) (s : Stage) → other ≢ seat → IsOnSeat parts other s
+        → IsOnSeat (has_undone seat attempt reason parts) other s }
+    ensures home { (parts : Parts) (seat other : ℕ) (attempt : Attempt) (reason : Reason) (s : Stage) → other ≢ seat → IsOnSeat parts other s
+        → IsOnSeat (has_gone_home seat attempt reason parts) other s }
+    ensures ended { (parts : Parts) (seat other steps : ℕ) (attempt : Attempt) (p : LocalState) (ls : List ℕ) (s : Stage) → Stands parts
+        → task_at parts.tasks seat ≡ Task.Running attempt → other ≢ seat → IsOnSeat parts other s
+        → IsOnSeat (has_ended seat attempt.tried.number steps p ls parts) other s }
+    ensures left { (parts : Parts) (seat other steps : ℕ) (attempt : Attempt) (p : LocalState) (ls : List ℕ) (s : Stage) → Stands parts
+        → task_at parts.tasks seat ≡ Task.Running attempt → other ≢ seat → IsOnSeat parts other s
+        → IsOnSeat (has_left seat attempt.tried.number steps p ls parts) other s }
 {}

@@ -2,12 +2,18 @@
 #![tactic(auto)]
 
 mod accesses;
+mod acts;
 mod checks;
+mod events;
 mod laws;
+mod work;
 
 pub use accesses::{alloc, read, write};
+pub use acts::act;
 pub use checks::check;
 pub use laws::{
     machines_go_on_when_they_are_fed, machines_of_other_seats_stay_on,
-    machines_on_their_seats_can_run, machines_stay_on_when_they_advance,
+    machines_of_other_seats_stay_on_when_work_ends, machines_on_their_seats_can_run,
+    machines_stay_on_when_they_advance,
 };
+pub use work::{Deed, Turned, Work};

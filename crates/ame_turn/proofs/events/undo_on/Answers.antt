@@ -1,0 +1,27 @@
+use Rattle.ame_stands.specs.Parts.{task_at, attempt_of}
+use Rattle.ame_engine.specs.Undoing.{reason_to_undo}
+use Rattle.ame_engine.proofs.UndoingLemmas.{attempt-in}
+use Rattle.ame_turn.proofs.DeedLemmas.{undid-fits, home-fits}
+use Rattle.ame_turn.proofs.events.undo_on.Goals as goal
+
+pub returns-in-More-clause-fits : goal.returns-in-More-clause-fits
+returns-in-More-clause-fits g c =
+    let a = attempt-in (attempt_of (task_at c.args.engine.now.tasks c.args.seat)) c.requires.undoes.busy in
+    undid-fits g.M.Runner.program g.M.Runner.devices g.M.Runner.value_of g.M.Runner.is_machine g.M.Runner.stage c.args.engine.now c.undo_one.new.self c.args.seat _ a.0
+    (reason_to_undo (task_at c.args.engine.now.tasks c.args.seat)) a.1 (c.undo_one.ensures.more a.0 a.1 c.in-More.is)
+
+pub returns-in-More-clause-done : goal.returns-in-More-clause-done
+returns-in-More-clause-done g c =
+    let a = attempt-in (attempt_of (task_at c.args.engine.now.tasks c.args.seat)) c.requires.undoes.busy in
+    (a.0, reason_to_undo (task_at c.args.engine.now.tasks c.args.seat), c.undo_one.ensures.more a.0 a.1 c.in-More.is)
+
+pub returns-in-Home-clause-fits : goal.returns-in-Home-clause-fits
+returns-in-Home-clause-fits g c =
+    let a = attempt-in (attempt_of (task_at c.args.engine.now.tasks c.args.seat)) c.requires.undoes.busy in
+    home-fits g.M.Runner.program g.M.Runner.devices g.M.Runner.value_of g.M.Runner.is_machine g.M.Runner.stage c.args.engine.now c.undo_one.new.self c.args.seat _ a.0
+    (reason_to_undo (task_at c.args.engine.now.tasks c.args.seat)) a.1 (c.undo_one.ensures.home a.0 a.1 c.in-Home.is)
+
+pub returns-in-Home-clause-done : goal.returns-in-Home-clause-done
+returns-in-Home-clause-done g c =
+    let a = attempt-in (attempt_of (task_at c.args.engine.now.tasks c.args.seat)) c.requires.undoes.busy in
+    (a.0, reason_to_undo (task_at c.args.engine.now.tasks c.args.seat), c.undo_one.ensures.home a.0 a.1 c.in-Home.is)

@@ -1,0 +1,25 @@
+-- What a seat has at hand beside the engine.
+use Rattle.std.specs.Prelude.{◌≡◌, ℕ, false, is_some, IsSome, IsTrue}
+use Rattle.ame_term.specs.Tree.{Val, Tree}
+use Rattle.ame_runner.specs.Stage.{Stage}
+use Rattle.ame_stands.specs.declared.types.Task.{Task}
+use Rattle.ame_stands.specs.Parts.{task_at, attempt_of}
+use Rattle.ame_engine.specs.Core.{Core}
+use Rattle.ame_engine.specs.AtWork.{IsOn}
+use Rattle.ame_engine.specs.Undoing.{is_undoing}
+use Rattle.ame_turn.specs.declared.work.Work.{Work}
+use Rattle.ame_turn.specs.declared.work.Work.TheVariants as work
+
+module _ {C V M : Type 0} where
+  -- a seat has a member at work, and undoes it unless a stop is kept
+  pub record CanUndo (core : Core C V M) (seat : ℕ) : Type 0 where
+    pub busy : IsSome (attempt_of (task_at core.tasks seat))
+    pub undoes : is_some core.stop ≡ false → IsTrue (is_undoing (task_at core.tasks seat))
+
+module _ {C V M : Type 0} (program : C → Tree) (devices : C → ℕ) (value_of : C → V → Val) (is_machine : C → M → Type 0)
+    (stage : C → M → Stage) where
+  -- it is idle, or its machine is where its run stands, or it can undo
+  abbrev pub Fits : Core C V M → ℕ → Work M → Type 0
+  Fits core seat work.Idle = task_at core.tasks seat ≡ Task.Idle
+  Fits core seat (work.Running m) = IsOn program devices value_of is_machine stage core seat m
+  Fits core seat work.Undoing = CanUndo core seat

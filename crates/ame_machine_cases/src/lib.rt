@@ -1,0 +1,14 @@
+//! Machines that run alone, and tests of them on texts.
+#![tactic(auto)]
+
+mod cells;
+mod lone;
+mod serve;
+
+pub use cells::Cell;
+pub use lone::Lone;
+
+#[cfg(test)]
+mod rows;
+#[cfg(test)]
+mod texts;

@@ -1,0 +1,53 @@
+//! The program of a text, and machines that run it.
+
+ghost use Rattle.ame_machine_cases.specs.Alone.{IsAlone};
+
+use crate::lone::Lone;
+use ame_code::{Code, compile};
+use ame_lex::lex;
+use ame_parse::parse;
+use ame_runner::Wants;
+use ame_term::{NoMemory, Program};
+use ame_types::check;
+use std::alloc::Global;
+use std::process::Abort;
+use std::test::Fail;
+
+/// The program of a text. The types aren't asked.
+pub(crate) fn read(alloc: Global, text: &[u8]) -> Result<Program, Fail> {
+    if text.len() > 1_048_576 {
+        return Err("too long".into());
+    }
+    let tokens = lex(alloc, text)?;
+    Ok(parse(alloc, text, &tokens)?)
+}
+
+/// The code of a text, which may call two devices.
+pub(crate) fn code_of(alloc: Global, text: &[u8]) -> Result<Code, Fail> {
+    let program = read(alloc, text)?;
+    match check(alloc, program, 2) {
+        Ok(accepted) => Ok(compile(alloc, accepted)?),
+        Err(_) => Err("not typed".into()),
+    }
+}
+
+/// Runs a machine to what it wants next. Where memory is refused once, it goes on from there.
+pub(crate) fn run(
+    rt: &impl Abort,
+    alloc: Global,
+    code: &Code,
+    lone: &mut Lone,
+    fuel: u32,
+) -> Result<Wants, NoMemory>
+    requires { IsAlone code.now lone.old }
+    ensures { IsAlone code.now lone.new }
+{
+    assert!(rt; lone.is_young());
+    match lone.advance(alloc, code, fuel) {
+        Ok(want) => Ok(want),
+        Err(NoMemory) => {
+            assert!(rt; lone.is_young());
+            lone.advance(alloc, code, fuel)
+        }
+    }
+}

@@ -22,3 +22,9 @@ pub mod CrewLemmas
 pub mod JoinLemmas
 pub mod CommitLemmas
 pub mod BlockLemmas
+pub mod VisitPlaceLemmas
+pub mod VisitDeskLemmas
+pub mod VisitStepLemmas
+pub mod VisitEndLemmas
+pub mod VisitCallLemmas
+pub mod VisitFreeLemmas

@@ -11,3 +11,4 @@ pub mod Undoing
 pub mod Stops
 pub mod Writing
 pub mod Committing
+pub mod Visiting

@@ -23,6 +23,7 @@ mod begin;
 mod block;
 mod check;
 mod commit;
+mod free;
 mod laws;
 mod notes;
 mod read;

@@ -83,7 +83,7 @@ module _ {V : Type 0} (view : V → Val) (cells : List (Cell V)) (seat : ℕ) wh
   pub valid-shown : (reads : List ReadNote) → IsValid cells seat reads → IsValid (map (shown_cell view) cells) seat reads
   valid-shown reads h = All-weaker (IsValidRead cells seat) (IsValidRead (map (shown_cell view) cells) seat) valid-one reads h
 
-working-within : (tasks : List Task) (seat : ℕ) (a : Attempt) → working (task_at tasks seat) ≡ Some a → seat < length tasks
+pub working-within : (tasks : List Task) (seat : ℕ) (a : Attempt) → working (task_at tasks seat) ≡ Some a → seat < length tasks
 working-within [] seat a e = cc
 working-within (t ∷ tasks) zero a e = omega arith
 working-within (t ∷ tasks) (suc seat) a e = let rest = working-within tasks seat a e in omega arith

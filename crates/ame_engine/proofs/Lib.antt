@@ -24,3 +24,9 @@ pub mod CommitLemmas
 pub mod BlockLemmas
 pub mod BlockedLemmas
 pub mod LastLemmas
+pub mod VisitPlaceLemmas
+pub mod VisitDeskLemmas
+pub mod VisitStepLemmas
+pub mod VisitEndLemmas
+pub mod VisitCallLemmas
+pub mod VisitFreeLemmas

@@ -48,3 +48,12 @@ pub enum Noted {
     /// This read is the first that isn't valid.
     Invalid(Bad),
 }
+
+/// What a visit of unprotected code answers.
+#[derive(Clone, Copy, PartialEq, Eq, Debug)]
+pub enum Freed {
+    /// An entry tells it, and its member is home.
+    Home,
+    /// The device with this number failed, and its member is home as it was begun.
+    DeviceFault(u8),
+}

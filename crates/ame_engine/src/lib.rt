@@ -8,7 +8,7 @@ mod counters;
 mod engine;
 mod stop;
 
-pub use answer::{Begin, Checked, Noted, Undone, Wrote};
+pub use answer::{Begin, Checked, Freed, Noted, Undone, Wrote};
 pub use certificate::Certificate;
 pub use counters::Counters;
 pub use engine::Engine;

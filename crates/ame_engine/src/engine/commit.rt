@@ -22,8 +22,8 @@ use ame_term::NoMemory;
 use members::{join_all, send_on, wake_all};
 use taken::{append, entry_of, lines_of, make_room, number_after};
 
-mod members;
-mod taken;
+pub(super) mod members;
+pub(super) mod taken;
 
 impl<M: Runner> Engine<M>
 where

@@ -17,7 +17,7 @@ use ame_term::Loc;
 use std::alloc::Global;
 
 /// The members that watch these locations are woken, one location after another.
-pub(super) fn wake_all<M: Drop>(pool: &mut Pool<M>, locs: &[Loc])
+pub(crate) fn wake_all<M: Drop>(pool: &mut Pool<M>, locs: &[Loc])
     ensures { pool.new ≡ all_woken (map (λ l. l.0) locs.now) pool.old }
 {
     for l in locs {
@@ -26,7 +26,7 @@ pub(super) fn wake_all<M: Drop>(pool: &mut Pool<M>, locs: &[Loc])
 }
 
 /// The new members of a machine take these numbers, in order, and join.
-pub(super) fn join_all<M: Runner>(
+pub(crate) fn join_all<M: Runner>(
     pool: &mut Pool<M>,
     alloc: Global,
     first: u64,
@@ -53,7 +53,7 @@ pub(super) fn join_all<M: Runner>(
 }
 
 /// A member that has ended is gone. One that has come to `unprotected` goes on inside, with no more than its term.
-pub(super) fn send_on<M: Runner>(pool: &mut Pool<M>, number: u64, mut at: M)
+pub(crate) fn send_on<M: Runner>(pool: &mut Pool<M>, number: u64, mut at: M)
     requires { IsAt is_busy number pool.old }
     ensures ended { (code : M.Code) → (M.stage code at).want ≡ Some Wants.Done → pool.new ≡ removed number pool.old }
     ensures left { (code : M.Code) → (M.stage code at).want ≡ Some Wants.Leave → shown_pool (term_shown M.stage code) pool.new

@@ -12,7 +12,7 @@ use ame_term::{Locs, NoMemory};
 use std::alloc::Global;
 
 /// The entry of a machine that a seat ran for a member.
-pub(super) fn entry_of<M: Runner>(
+pub(crate) fn entry_of<M: Runner>(
     alloc: Global,
     seat: u32,
     number: u64,
@@ -34,7 +34,7 @@ pub(super) fn entry_of<M: Runner>(
 }
 
 /// The lines of what was printed.
-pub(super) fn lines_of(alloc: Global, prints: &[i64]) -> Result<Vec<u8>, NoMemory>
+pub(crate) fn lines_of(alloc: Global, prints: &[i64]) -> Result<Vec<u8>, NoMemory>
     ensures { IfOk result (λ text. text.items ≡ lines prints.now) }
 {
     let mut text = Vec::new(alloc);
@@ -45,7 +45,7 @@ pub(super) fn lines_of(alloc: Global, prints: &[i64]) -> Result<Vec<u8>, NoMemor
 }
 
 /// The number behind those of so many new members. Lacks memory where it would be too great.
-pub(super) fn number_after(next: u64, count: usize) -> Result<u64, NoMemory>
+pub(crate) fn number_after(next: u64, count: usize) -> Result<u64, NoMemory>
     ensures { IfOk result (λ after. after ≡ next + count) }
 {
     match next.checked_add(count as u64) {
@@ -55,7 +55,7 @@ pub(super) fn number_after(next: u64, count: usize) -> Result<u64, NoMemory>
 }
 
 /// Makes room for so many prints more, for so many bytes of text and for one entry.
-pub(super) fn make_room(
+pub(crate) fn make_room(
     output: &mut Vec<i64>,
     prints: usize,
     text: &mut Vec<u8>,
@@ -75,7 +75,7 @@ pub(super) fn make_room(
 }
 
 /// Appends to a list that has room.
-pub(super) fn append<T: Copy>(list: &mut Vec<T>, more: &[T])
+pub(crate) fn append<T: Copy>(list: &mut Vec<T>, more: &[T])
     requires { vec_len list.old + length more.now ≤ vec_capacity list.old }
     ensures { list.new.items ≡ list.old.items ++ more.now }
 {

@@ -1,0 +1,180 @@
+-- Where a visit comes to from where the machine of a seat stands.
+use Rattle.std.proofs.Common.{◌≡◌, ℕ, ◌+◌, ◌<◌, Bool, true, false, List, [], ◌∷◌, length, Option, Some, None, option_map, refl, sym, ap, ◌∙◌, subst}
+use Rattle.std.specs.Prelude.{◌||◌, ℤ, unwrap_or}
+use Rattle.std.specs.Option.{option_map_or}
+use Rattle.ame_term.specs.Tree.{Val, Tree}
+use Rattle.ame_term.specs.Frame.{Side, side_told}
+use Rattle.ame_term.specs.Context.{Focus, focus}
+use Rattle.ame_term.specs.Act.{Act, act_of}
+use Rattle.ame_term.specs.State.{closed_value}
+use Rattle.ame_term.specs.declared.types.TyNo.{TyNo}
+use Rattle.ame_device.specs.declared.told.Told.{Told}
+use Rattle.ame_journal.specs.Replay.{redex_act}
+use Rattle.ame_local.specs.Local.{LocalState, begun_with, fed, refilled_in, local}
+use Rattle.ame_local.proofs.RunLemmas.{one-more}
+use Rattle.ame_desk.specs.Contents.{Notes, Contents, row_at}
+use Rattle.ame_owed.specs.SeatRun.{StandsAt}
+use Rattle.ame_runner.specs.declared.wants.Wants.{Wants}
+use Rattle.ame_runner.specs.declared.wants.Wants.TheVariants as wants
+use Rattle.ame_runner.specs.Stage.{Stage, running_side, place_shown, without_footprint, with_answer, OnRun}
+use Rattle.ame_runner.specs.Need.{Need, need_of, need_told}
+use Rattle.ame_runner.specs.Move.{fed_stage, closed_stage, closed_with, tells_leave, answer_given}
+use Rattle.ame_runner.specs.Input.{value_set, value_to_set}
+use Rattle.ame_runner.specs.Comes.{HasNextAct}
+use Rattle.ame_runner.specs.Sound.{IsSoundStage}
+use Rattle.ame_runner.proofs.NeedLemmas.{comes_as}
+use Rattle.ame_runner.proofs.MoveLemmas.{map-gave, on-place, fed-to, on-fed}
+use Rattle.ame_stands.specs.declared.types.Attempt.{Attempt}
+use Rattle.ame_stands.specs.declared.types.Task.{Task}
+use Rattle.ame_stands.specs.Parts.{Parts, task_at, term_at}
+use Rattle.ame_stands.specs.Stands.{Stands}
+use Rattle.ame_visits.specs.ByAct.{IsGivenBy, desk_after}
+use Rattle.ame_visits.specs.Visit.{closed_at, StepsTo, IsVisit}
+use Rattle.ame_visits.proofs.PlaceLemmas.{visits, alone}
+use Rattle.ame_engine.specs.AtWork.{is_free, working, IsOnSeat}
+use Rattle.ame_engine.specs.Visiting.{IsVisiting, VisitsTo, IsVisitTo, SettlesThere}
+
+free-attempt : (t : Task) (a : Attempt) → working t ≡ Some a → is_free t ≡ true → t ≡ Task.Free a
+free-attempt Task.Idle a e free = cc
+free-attempt (Task.Running b) a e free = cc
+free-attempt (Task.Free b) a e free = ap Task.Free (ap (λ (o : Option Attempt). option_map_or (λ x. x) o b) e)
+free-attempt (Task.Undoing b reason) a e free = cc
+
+-- the task of a seat that visits
+pub visits-as : (parts : Parts) (seat : ℕ) (s : Stage) (on : IsOnSeat parts seat s) → s.inside ≡ true → task_at parts.tasks seat ≡ Task.Free on.attempt
+visits-as parts seat s on inside = free-attempt (task_at parts.tasks seat) on.attempt on.has (sym on.side ∙ inside)
+
+module _ (parts : Parts) (stands : Stands parts) (seat : ℕ) (s : Stage) (on : IsOnSeat parts seat s) (inside : s.inside ≡ true) where
+  abbrev start : Tree
+  start = term_at parts.pool on.attempt.tried.number
+
+  task : task_at parts.tasks seat ≡ Task.Free on.attempt
+  task = visits-as parts seat s on inside
+
+  none-given : (row_at parts.desk.rows seat).inputs ≡ []
+  none-given = ap (λ (notes : Notes Val). notes.inputs) (visits parts stands seat on.attempt task).clear
+
+  on-alone : OnRun start [] s
+  on-alone = subst (λ (inputs : List Val). OnRun start inputs s) none-given on.run
+
+  -- its machine stands where so many steps alone lead
+  pub visit-steps : StepsTo parts on.attempt.tried.number s.steps (place_shown s)
+  visit-steps =
+      let o = on-place start [] s on-alone in
+      let ran : local Side.Unprotected start [] s.steps ≡ Some o.place =
+      subst (λ (x : Side). local x start [] s.steps ≡ Some o.place) (ap side_told inside) o.ran in
+      let bare : o.place ≡ begun_with o.place.term [] = alone start s.steps o.place ran in
+      let same : o.place ≡ without_footprint o.place = bare ∙ sym (ap without_footprint bare) in
+      ran ∙ ap Some (same ∙ o.shown)
+
+  -- an act with what it is given
+  module _ (act : Act) (at : HasNextAct s act) (v : Val) (given : IsGivenBy parts.desk act v) (ty : TyNo) (n : Stage) (e : fed_stage v s ≡ Some n) where
+    unprotected-side : running_side s ≡ Side.Unprotected
+    unprotected-side = ap side_told inside
+
+    pub acted-visit : IsVisitTo parts on.attempt.tried.number (answer_given (Some act) v) n (desk_after ty act parts.desk)
+    acted-visit =
+        let x = fed-to v s n e in
+        let which : Some (act_of x.redex) ≡ Some act = sym (ap redex_act x.stands) ∙ ap redex_act at.1 ∙ ap (λ (a : Act). Some a) at.2 in
+        let acts : act_of x.redex ≡ act = ap (λ (o : Option Act). unwrap_or o act) which in
+        let stands_at : StandsAt Side.Unprotected act (place_shown s) =
+        record { redex = x.redex; stands = x.stands ∙ ap (λ (z : Side). Focus.AtRedex z x.redex) unprotected-side; acts = acts } in
+        let gives : fed act Side.Unprotected v (place_shown s) ≡ Some x.made =
+        subst (λ (z : Side). fed act z v (place_shown s) ≡ Some x.made) unprotected-side
+        (ap (λ (a : Act). fed a (running_side s) v (place_shown s)) (sym acts) ∙ x.gives) in
+        let steps : n.steps ≡ s.steps + 1 = ap (λ (z : Stage). z.steps) x.is in
+        let still : n.inside ≡ true = ap (λ (z : Stage). z.inside) x.is ∙ inside in
+        let q = refilled_in s.term x.made in
+        let visit : IsVisit parts on.attempt.tried.number (s.steps + 1) q true (desk_after ty act parts.desk) =
+        IsVisit.acted s.steps (place_shown s) act v x.made ty visit-steps stands_at given gives in
+        let more = one-more Side.Unprotected (begun_with start []) (place_shown s) x.redex v s.steps x.made visit-steps refl refl
+        (x.stands ∙ ap (λ (z : Side). Focus.AtRedex z x.redex) unprotected-side) (ap (λ (a : Act). fed a Side.Unprotected v (place_shown s)) acts ∙ gives) in
+        let told = on-fed start [] v s n on-alone e in
+        let here : option_map without_footprint (local (running_side n) start (v ∷ []) n.steps) ≡ Some (without_footprint q) =
+        ap (λ (b : Bool). option_map without_footprint (local (side_told b) start (v ∷ []) n.steps)) still
+        ∙ ap (λ (i : ℕ). option_map without_footprint (local Side.Unprotected start (v ∷ []) i)) steps
+        ∙ ap (option_map without_footprint) more in
+        let both : Some (without_footprint q) ≡ Some (with_answer (answer_given (redex_act (focus s.term)) v) (place_shown n)) = sym here ∙ told in
+        record {
+          place = q;
+          visit =
+              subst (λ (b : Bool). IsVisit parts on.attempt.tried.number n.steps q b (desk_after ty act parts.desk)) (sym still)
+              (subst (λ (i : ℕ). IsVisit parts on.attempt.tried.number i q true (desk_after ty act parts.desk)) (sym steps) visit);
+          shows =
+              ap (λ (o : Option LocalState). unwrap_or o q) both
+              ∙ ap (λ (o : Option Act). with_answer (answer_given o v) (place_shown n)) (ap redex_act at.1 ∙ ap (λ (a : Act). Some a) at.2);
+        }
+
+  -- the close
+  pub closed-visit : (n : Stage) → closed_stage s ≡ Some n → IsVisitTo parts on.attempt.tried.number None n parts.desk
+  closed-visit n e =
+      let x = map-gave (closed_with s) (closed_value (focus s.term)) n e in
+      subst (λ (z : Stage). IsVisitTo parts on.attempt.tried.number None z parts.desk) x.2
+      (record { place = closed_at x.0 (place_shown s); visit = IsVisit.closed s.steps (place_shown s) x.0 visit-steps x.1; shows = refl })
+
+  -- steps alone
+  pub rested-visit : 0 < s.steps → IsVisitTo parts on.attempt.tried.number None s parts.desk
+  rested-visit some = record {
+    place = place_shown s;
+    visit =
+        subst (λ (b : Bool). IsVisit parts on.attempt.tried.number s.steps (place_shown s) b parts.desk) (sym inside)
+        (IsVisit.stepped s.steps (place_shown s) some visit-steps);
+    shows = refl;
+  }
+
+  module _ (sound : IsSoundStage s) (comes : IsVisiting s) (before : List Told) where
+    need-there : (w : Wants) → s.want ≡ Some w → need_told w ≡ need_of s
+    need-there w e = sound.told w e
+
+    set-there : (act : Act) → HasNextAct s act → (w v : Val) → value_set (Some act) ≡ Some w → value_to_set s ≡ Some v → w ≡ v
+    set-there act at w v its is =
+        ap (λ (o : Option Val). unwrap_or o w)
+        (sym its ∙ sym (ap value_set (ap redex_act at.1 ∙ ap (λ (a : Act). Some a) at.2)) ∙ is)
+
+    -- each visit is one of the replayed state
+    pub visit-is : (answer : Option ℤ) (n : Stage) (desk : Contents Val) (after : List Told) → VisitsTo s parts.desk before answer n desk after
+        → IsVisitTo parts on.attempt.tried.number answer n desk
+    visit-is _ _ _ _ (VisitsTo.rests still) = rested-visit (comes.moved still)
+    visit-is _ _ _ _ (VisitsTo.reads l v n its is fed) =
+        acted-visit (Act.Reads l.0) (comes_as s (Need.Read l.0) (need-there (wants.Read l) its)) v is (record { 0 = 0 }) n fed
+    visit-is _ _ _ _ (VisitsTo.peeks l v n its is fed) =
+        acted-visit (Act.Peeks l.0) (comes_as s (Need.Peek l.0) (need-there (wants.Peek l) its)).1 v is (record { 0 = 0 }) n fed
+    visit-is _ _ _ _ (VisitsTo.writes l v n its sets fed) =
+        let c = comes_as s (Need.Write l.0) (need-there (wants.Write l) its) in
+        let act = Act.Writes l.0 c.0 in
+        subst (λ (w : Val). IsVisitTo parts on.attempt.tried.number None n (desk_after (record { 0 = 0 }) (Act.Writes l.0 w) parts.desk)) (set-there act c.1 c.0 v refl sets)
+        (acted-visit act c.1 Val.Unit tt (record { 0 = 0 }) n fed)
+    visit-is _ _ _ _ (VisitsTo.makes sort number v n its sets fed) =
+        let c = comes_as s (Need.Alloc sort) (need-there (wants.Alloc sort number) its) in
+        let act = Act.Allocates sort c.0 in
+        subst (λ (w : Val). IsVisitTo parts on.attempt.tried.number None n (desk_after number (Act.Allocates sort w) parts.desk)) (set-there act c.1 c.0 v refl sets)
+        (acted-visit act c.1 (Val.Loc (length parts.desk.cells)) refl number n fed)
+    visit-is _ _ _ _ (VisitsTo.spawns n its fed) =
+        let c = comes_as s Need.Spawn (need-there wants.Spawn its) in acted-visit (Act.Spawns c.1.0) c.1.1 Val.Unit tt (record { 0 = 0 }) n fed
+    visit-is _ _ _ _ (VisitsTo.prints i n its fed) =
+        let c = comes_as s (Need.Print i) (need-there (wants.Print i) its) in acted-visit (Act.Prints i) c.1 Val.Unit tt (record { 0 = 0 }) n fed
+    visit-is _ _ _ _ (VisitsTo.closes n its closes) = closed-visit n closes
+    visit-is _ _ _ _ (VisitsTo.calls device argument answer n after its called fed) =
+        let c = comes_as s (Need.Device device argument) (need-there (wants.Device device argument) its) in
+        acted-visit (Act.Calls device argument) c.1 (Val.Int answer) tt (record { 0 = 0 }) n fed
+
+    -- a machine that was fed settles where it is
+    settles-fed : (v : Val) (n : Stage) → fed_stage v s ≡ Some n → SettlesThere n
+    settles-fed v n e = let x = fed-to v s n e in ap (λ (o : Option Wants). tells_leave o || n.inside) (ap (λ (z : Stage). z.want) x.is)
+
+    settles-here : (b : Bool) → (b || s.inside) ≡ s.inside
+    settles-here true = sym inside
+    settles-here false = refl
+
+    pub visit-settles : (answer : Option ℤ) (n : Stage) (desk : Contents Val) (after : List Told) → VisitsTo s parts.desk before answer n desk after → SettlesThere n
+    visit-settles _ _ _ _ (VisitsTo.rests still) = settles-here (tells_leave s.want)
+    visit-settles _ _ _ _ (VisitsTo.reads l v n its is fed) = settles-fed v n fed
+    visit-settles _ _ _ _ (VisitsTo.peeks l v n its is fed) = settles-fed v n fed
+    visit-settles _ _ _ _ (VisitsTo.writes l v n its sets fed) = settles-fed Val.Unit n fed
+    visit-settles _ _ _ _ (VisitsTo.makes sort number v n its sets fed) = settles-fed (Val.Loc (length parts.desk.cells)) n fed
+    visit-settles _ _ _ _ (VisitsTo.spawns n its fed) = settles-fed Val.Unit n fed
+    visit-settles _ _ _ _ (VisitsTo.prints i n its fed) = settles-fed Val.Unit n fed
+    visit-settles _ _ _ _ (VisitsTo.closes n its closes) =
+        let x = map-gave (closed_with s) (closed_value (focus s.term)) n closes in
+        ap (λ (o : Option Wants). tells_leave o || n.inside) (ap (λ (z : Stage). z.want) (sym x.2))
+    visit-settles _ _ _ _ (VisitsTo.calls device argument answer n after its called fed) = settles-fed (Val.Int answer) n fed

@@ -1,0 +1,104 @@
+//! How a visited machine calls a device.
+
+ghost use Rattle.std.specs.Prelude.{◌≡◌, ◌<◌, ◌+◌, ◌≤◌, ◌^◌, ℕ, OnErr, Ok, Some, None, vec_len};
+ghost use Rattle.ame_device.specs.Calls.{all_told};
+ghost use Rattle.ame_runner.specs.declared.wants.Wants.{Wants};
+ghost use Rattle.ame_stands.specs.Parts.{task_at};
+ghost use Rattle.ame_visits.specs.Visit.{has_been_refused};
+ghost use Rattle.ame_engine.specs.Counting.{Counted, one_counted};
+ghost use Rattle.ame_engine.specs.Seen.{MakesLastEvent};
+ghost use Rattle.ame_engine.specs.AtWork.{IsOn};
+ghost use Rattle.ame_engine.specs.Visiting.{IsVisiting, HasComeHome, HasBeenRefused};
+
+use super::home::{free_entry, send_home};
+use crate::answer::Freed;
+use crate::engine::Engine;
+use crate::stop::Stop;
+use ame_device::{Device, DeviceFail, call_device};
+use ame_journal::Entry;
+use ame_runner::{Input, Runner};
+use ame_stands::{Attempt, Task};
+use ame_term::NoMemory;
+
+/// The entry of a visit with one step more, which a device answered.
+fn answered(entry: Entry, answer: i64) -> Entry
+    requires { entry.steps + 1 < 2 ^ 64 }
+    ensures { result ≡ record entry { steps = entry.steps + 1; answer = Some answer } }
+{
+    Entry {
+        kind: entry.kind,
+        seat: entry.seat,
+        number: entry.number,
+        steps: entry.steps + 1,
+        fresh: entry.fresh,
+        answer: Some(answer),
+    }
+}
+
+impl<M: Runner> Engine<M>
+where
+    M::Code: Drop,
+{
+    /// A visited member goes home as it was begun, since a device failed, and that stop is kept.
+    fn refuse(&mut self, seat: u32, attempt: Attempt, device: u8)
+        requires task { task_at self.old.tasks seat ≡ Task.Free attempt }
+        requires going { self.old.stop ≡ None }
+        requires left { self.old.turns < self.old.limits.turns }
+        ensures { MakesLastEvent M.program M.devices M.value_of M.stage (Stop.DeviceFault device) (one_counted Counted.Free)
+            (has_been_refused seat attempt.tried.number) self.old self.new }
+    {
+        self.pool.home(attempt.tried.number, false);
+        self.tasks[seat as usize] = Task::Idle;
+        self.turns += 1;
+        self.counters.frees += 1;
+        self.stop = Some(Stop::DeviceFault(device));
+    }
+
+    /// Calls the device that a visited machine wants. Where it answers, an entry with the answer joins the journal, and the member
+    /// goes home; where it fails, the member goes home as it was begun. All memory but the device's own is taken before the call.
+    pub(super) fn visit_device<D: Device>(
+        &mut self,
+        seat: u32,
+        attempt: Attempt,
+        mut at: M,
+        device: u8,
+        argument: i64,
+        devices: &mut Vec<D>,
+    ) -> Result<Freed, NoMemory>
+        requires task { task_at self.old.tasks seat ≡ Task.Free attempt }
+        requires on { IsOn M.program M.devices M.value_of M.is_machine M.stage self.old seat at }
+        requires visits { IsVisiting (M.stage self.old.code at) }
+        requires wants { (M.stage self.old.code at).want ≡ Some (Wants.Device device argument) }
+        requires steps { (M.stage self.old.code at).steps + 1 < 2 ^ 64 }
+        requires going { self.old.stop ≡ None }
+        requires left { self.old.turns < self.old.limits.turns }
+        requires devices { M.devices self.old.code ≤ vec_len devices.old }
+        ensures home { result ≡ Ok Freed.Home → HasComeHome M.program M.devices M.value_of M.stage seat attempt.tried.number (M.stage self.old.code at)
+            (all_told D.device_heard D.device_faults devices.old.items) (all_told D.device_heard D.device_faults devices.new.items) self.old self.new }
+        ensures refused { (k : ℕ) → result ≡ Ok (Freed.DeviceFault k) → HasBeenRefused M.program M.devices M.value_of M.stage seat attempt.tried.number k
+            (M.stage self.old.code at)
+            (all_told D.device_heard D.device_faults devices.old.items) (all_told D.device_heard D.device_faults devices.new.items) self.old self.new }
+        ensures err { OnErr result (self.new ≡ self.old) }
+        ensures quiet { OnErr result (all_told D.device_heard D.device_faults devices.new.items ≡ all_told D.device_heard D.device_faults devices.old.items) }
+    {
+        let number = attempt.tried.number;
+        let entry = free_entry(*self.tasks.allocator(), seat, number, &at)?;
+        self.journal.room()?;
+        match call_device(devices, device as usize, argument) {
+            Ok(answer) => {
+                at.feed(&self.code, Input::Int(answer));
+                self.journal.push(answered(entry, answer));
+                send_home(&mut self.pool, number, at);
+                self.tasks[seat as usize] = Task::Idle;
+                self.turns += 1;
+                self.counters.frees += 1;
+                Ok(Freed::Home)
+            }
+            Err(DeviceFail::Failed) => {
+                self.refuse(seat, attempt, device);
+                Ok(Freed::DeviceFault(device))
+            }
+            Err(DeviceFail::NoMemory) => Err(NoMemory),
+        }
+    }
+}

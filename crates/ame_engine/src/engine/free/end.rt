@@ -1,0 +1,72 @@
+//! How a visit that called no device ends.
+
+ghost use Rattle.std.specs.Prelude.{◌≡◌, ◌<◌, OnOk, OnErr, None, true, []};
+ghost use Rattle.ame_stands.specs.Parts.{task_at};
+ghost use Rattle.ame_engine.specs.Counting.{Counted, one_counted};
+ghost use Rattle.ame_engine.specs.Seen.{parts_of, MakesEvent};
+ghost use Rattle.ame_engine.specs.Visiting.{IsVisitTo, visited_at, SettlesThere, changed_by, Fits, IsGoodChange, makes_cell};
+
+use super::change::{Change, change_desk};
+use super::home::{free_entry, send_home};
+use crate::engine::Engine;
+use crate::engine::commit::members::join_all;
+use crate::engine::commit::taken::{append, lines_of, make_room, number_after};
+use ame_runner::Runner;
+use ame_stands::{Attempt, Task};
+use ame_term::NoMemory;
+
+impl<M: Runner> Engine<M>
+where
+    M::Code: Drop,
+{
+    /// Ends a visit where its machine stands: the cells change so, its prints join the output, an entry the journal and its new
+    /// members the pool, and its member goes home. All memory is taken before the first change.
+    pub(super) fn end_visit(
+        &mut self,
+        seat: u32,
+        attempt: Attempt,
+        mut at: M,
+        change: Change<M::Value>,
+    ) -> Result<(), NoMemory>
+        requires task { task_at self.old.tasks seat ≡ Task.Free attempt }
+        requires going { self.old.stop ≡ None }
+        requires left { self.old.turns < self.old.limits.turns }
+        requires machine { M.is_machine self.old.code at }
+        requires settles { SettlesThere (M.stage self.old.code at) }
+        requires visit { IsVisitTo (parts_of M.program M.devices M.value_of M.stage self.old) attempt.tried.number None (M.stage self.old.code at)
+            (changed_by (M.value_of self.old.code) change (parts_of M.program M.devices M.value_of M.stage self.old).desk) }
+        requires good { IsGoodChange (M.is_value self.old.code) change }
+        requires fits { Fits self.old.desk change }
+        requires lone { makes_cell change ≡ true → (M.stage self.old.code at).spawns ≡ [] }
+        ensures event { OnOk result (MakesEvent M.program M.devices M.value_of M.stage (one_counted Counted.Free)
+            (visited_at seat attempt.tried.number None (M.stage self.old.code at)
+            (changed_by (M.value_of self.old.code) change (parts_of M.program M.devices M.value_of M.stage self.old).desk)) self.old self.new) }
+        ensures err { OnErr result (self.new ≡ self.old) }
+    {
+        let alloc = *self.tasks.allocator();
+        let number = attempt.tried.number;
+        let entry = free_entry(alloc, seat, number, &at)?;
+        let bytes = lines_of(alloc, at.prints())?;
+        let count = at.spawns();
+        let next = number_after(self.next, count)?;
+        make_room(
+            &mut self.output,
+            at.prints().len(),
+            &mut self.text,
+            bytes.len(),
+            &mut self.journal,
+        )?;
+        self.pool.room(count)?;
+        change_desk(&mut self.desk, change)?;
+        append(&mut self.output, at.prints());
+        append(&mut self.text, bytes.as_slice());
+        self.journal.push(entry);
+        join_all(&mut self.pool, alloc, self.next, next, &mut at);
+        send_home(&mut self.pool, number, at);
+        self.next = next;
+        self.tasks[seat as usize] = Task::Idle;
+        self.turns += 1;
+        self.counters.frees += 1;
+        Ok(())
+    }
+}

@@ -1,5 +1,5 @@
 -- What seats have at hand after an event.
-use Rattle.std.proofs.Common.{◌≡◌, ◌≢◌, ℕ, ◌+◌, ◌*◌, ◌-◌, ◌^◌, ◌<◌, ◌≤◌, Bool, true, false, List, Option, Some, None, IsSome, IsTrue, refl, sym, ap, ◌∙◌, subst, arith}
+use Rattle.std.proofs.Common.{◌≡◌, ◌≢◌, ℕ, ◌+◌, ◌*◌, ◌-◌, ◌^◌, ◌<◌, ◌≤◌, true, false, List, Some, refl, sym, ap, ◌∙◌, subst, arith}
 use Rattle.std.specs.Prelude.{is_some}
 use Rattle.std.proofs.lemmas.Nat.{mul-le}
 use Rattle.ame_term.specs.Tree.{Val, Tree}
@@ -13,7 +13,6 @@ use Rattle.ame_runner.specs.Move.{AdvancesWithin}
 use Rattle.ame_runner.specs.Input.{value_set, value_to_set}
 use Rattle.ame_runner.specs.Comes.{HasNextAct}
 use Rattle.ame_runner.proofs.NeedLemmas.{comes_as}
-use Rattle.ame_runner.specs.declared.wants.Wants.{Wants}
 use Rattle.ame_stands.specs.declared.types.Attempt.{Attempt}
 use Rattle.ame_stands.specs.declared.types.Reason.{Reason}
 use Rattle.ame_stands.specs.declared.types.Task.{Task}
@@ -24,17 +23,17 @@ use Rattle.ame_stands.specs.Events.{fresh_attempt, begun_task, has_begun, has_re
 use Rattle.ame_stands.proofs.StepLemmas.{seat_within, task_here, task_else}
 use Rattle.ame_desk.specs.LettingGo.{undone_last}
 use Rattle.ame_pool.specs.Keeps.{is_inside_at}
+use Rattle.ame_engine.specs.declared.certificate.Certificate.{Certificate}
 use Rattle.ame_engine.specs.declared.counters.Counters.{Counters}
 use Rattle.ame_engine.specs.declared.chance.Chance.{Chance}
 use Rattle.ame_engine.specs.declared.stop.Stop.{Stop}
-use Rattle.ame_engine.specs.declared.answer.Begin.{Begin}
 use Rattle.ame_engine.specs.declared.answer.Begin.TheVariants as answer
 use Rattle.ame_engine.specs.Counting.{Counted, one_counted, one_invalid, one_undone}
 use Rattle.ame_engine.specs.Core.{Core}
 use Rattle.ame_engine.specs.Seen.{parts_of, MakesEvent}
 use Rattle.ame_engine.specs.AtWork.{working, IsOnSeat, IsOn}
 use Rattle.ame_engine.specs.Begins.{Answers}
-use Rattle.ame_engine.specs.Stops.{stopped_by}
+use Rattle.ame_engine.specs.Stops.{stopped_by, blocked_by}
 use Rattle.ame_engine.specs.Committing.{ended_at, left_at, owned_places}
 use Rattle.ame_engine.specs.Undoing.{is_undoing}
 use Rattle.ame_engine.proofs.ReadLemmas.{runs-as}
@@ -66,8 +65,8 @@ write-sets s l need =
     let h : HasNextAct s (Act.Writes l.0 n.0) = n.1 in (n.0, ap value_set (ap redex_act h.1 ∙ ap (λ (a : Act). Some a) h.2))
 
 -- an answer to a seat that begins, by what it meets
-module _ {M : Type 0} (begins : ℕ → M → Type 0) (keeps : Stop → Type 0) (stays : Type 0) where
-  pub begun-met : (chance : Chance) (m : M) → Answers begins keeps stays chance (answer.Begun m) → (number : ℕ) × (chance ≡ Chance.Member number) × begins number m
+module _ {M : Type 0} (begins : ℕ → M → Type 0) (keeps : Stop → Type 0) (blocks stays : Type 0) where
+  pub begun-met : (chance : Chance) (m : M) → Answers begins keeps blocks stays chance (answer.Begun m) → (number : ℕ) × (chance ≡ Chance.Member number) × begins number m
   begun-met (Chance.Member number) m h = (number, refl, h)
   begun-met Chance.Stopped m h = absurd h
   begun-met Chance.Finished m h = absurd h
@@ -75,7 +74,7 @@ module _ {M : Type 0} (begins : ℕ → M → Type 0) (keeps : Stop → Type 0) 
   begun-met Chance.Spent m h = absurd h
   begun-met Chance.Idle m h = absurd h
 
-  pub idle-met : (chance : Chance) → Answers begins keeps stays chance answer.Idle → (chance ≡ Chance.Idle) × stays
+  pub idle-met : (chance : Chance) → Answers begins keeps blocks stays chance answer.Idle → (chance ≡ Chance.Idle) × stays
   idle-met (Chance.Member number) h = absurd h
   idle-met Chance.Stopped h = absurd h
   idle-met Chance.Finished h = absurd h
@@ -83,29 +82,22 @@ module _ {M : Type 0} (begins : ℕ → M → Type 0) (keeps : Stop → Type 0) 
   idle-met Chance.Spent h = absurd h
   idle-met Chance.Idle h = (refl, h)
 
-  pub blocked-met : (chance : Chance) → Answers begins keeps stays chance answer.Blocked → (chance ≡ Chance.Blocked) × stays
-  blocked-met (Chance.Member number) h = absurd h
-  blocked-met Chance.Stopped h = absurd h
-  blocked-met Chance.Finished h = absurd h
-  blocked-met Chance.Blocked h = (refl, h)
-  blocked-met Chance.Spent h = absurd h
-  blocked-met Chance.Idle h = absurd h
-
-module _ {C V M : Type 0} (begins : ℕ → M → Type 0) (old new : Core C V M) where
-  pub stopped-met : (chance : Chance) → Answers begins (λ why. new ≡ stopped_by why old) (new ≡ old) chance answer.Stopped → StopsBy chance old new
+module _ {C V M : Type 0} (begins : ℕ → M → Type 0) (certificates : List Certificate) (old new : Core C V M) where
+  pub stopped-met : (chance : Chance) → Answers begins (λ why. new ≡ stopped_by why old) (new ≡ blocked_by certificates old) (new ≡ old) chance answer.Stopped
+      → StopsBy certificates chance old new
   stopped-met (Chance.Member number) h = absurd h
   stopped-met Chance.Stopped h = h
   stopped-met Chance.Finished h = h
-  stopped-met Chance.Blocked h = absurd h
+  stopped-met Chance.Blocked h = h
   stopped-met Chance.Spent h = h
   stopped-met Chance.Idle h = absurd h
 
   -- what it meets that stops leaves the tasks
-  pub stops-tasks : (chance : Chance) → StopsBy chance old new → new.tasks ≡ old.tasks
+  pub stops-tasks : (chance : Chance) → StopsBy certificates chance old new → new.tasks ≡ old.tasks
   stops-tasks (Chance.Member number) h = absurd h
   stops-tasks Chance.Stopped h = ap (λ (c : Core C V M). c.tasks) h
   stops-tasks Chance.Finished h = ap (λ (c : Core C V M). c.tasks) h
-  stops-tasks Chance.Blocked h = absurd h
+  stops-tasks Chance.Blocked h = ap (λ (c : Core C V M). c.tasks) h
   stops-tasks Chance.Spent h = ap (λ (c : Core C V M). c.tasks) h
   stops-tasks Chance.Idle h = absurd h
 
@@ -245,17 +237,27 @@ module _ {C V M : Type 0} (program : C → Tree) (devices : C → ℕ) (value_of
           fits-others old (stopped_by why old) other refl refl (λ going. absurd (cc))
           (λ s on. record { attempt = on.attempt; has = on.has; side = on.side; run = on.run; since = on.since }) rest h
 
+  by-blocked : (old new : Core C V M) (other : ℕ) (certificates : List Certificate) → new ≡ blocked_by certificates old → (rest : Work M)
+      → FitsIn old other rest → FitsIn new other rest
+  by-blocked old new other certificates is rest h = subst (λ (c : Core C V M). FitsIn c other rest) (sym is) (blocked rest h)
+    where
+      blocked : (rest : Work M) → FitsIn old other rest → FitsIn (blocked_by certificates old) other rest
+      blocked rest h =
+          fits-others old (blocked_by certificates old) other refl refl (λ going. absurd (cc))
+          (λ s on. record { attempt = on.attempt; has = on.has; side = on.side; run = on.run; since = on.since }) rest h
+
   by-same : (old new : Core C V M) (other : ℕ) → new ≡ old → (rest : Work M) → FitsIn old other rest → FitsIn new other rest
   by-same old new other is rest h = subst (λ (c : Core C V M). FitsIn c other rest) (sym is) h
 
   module _ (old new : Core C V M) (seat other : ℕ) (stands : Stands (parts old)) (apart : other ≢ seat) where
-    stops-others : (chance : Chance) → StopsBy chance old new → (rest : Work M) → FitsIn old other rest → FitsIn new other rest
-    stops-others (Chance.Member number) h rest = absurd h
-    stops-others Chance.Stopped h rest = by-same old new other h rest
-    stops-others Chance.Finished h rest = by-stop old new other Stop.Finished h rest
-    stops-others Chance.Blocked h rest = absurd h
-    stops-others Chance.Spent h rest = by-stop old new other Stop.Spent h rest
-    stops-others Chance.Idle h rest = absurd h
+    stops-others : (certificates : List Certificate) (chance : Chance) → StopsBy certificates chance old new → (rest : Work M) → FitsIn old other rest
+        → FitsIn new other rest
+    stops-others certificates (Chance.Member number) h rest = absurd h
+    stops-others certificates Chance.Stopped h rest = by-same old new other h rest
+    stops-others certificates Chance.Finished h rest = by-stop old new other Stop.Finished h rest
+    stops-others certificates Chance.Blocked h rest = by-blocked old new other certificates h rest
+    stops-others certificates Chance.Spent h rest = by-stop old new other Stop.Spent h rest
+    stops-others certificates Chance.Idle h rest = absurd h
 
     back-event : (counts : Counters → Counters) (a : Attempt) → MakesEvent program devices value_of stage counts (has_turned_back seat a) old new
         → (rest : Work M) → FitsIn old other rest → FitsIn new other rest
@@ -269,8 +271,7 @@ module _ {C V M : Type 0} (program : C → Tree) (devices : C → ℕ) (value_of
         (task_else old.tasks seat (begun_task (is_inside_at (parts old).pool.members d.0) (fresh_attempt d.0 (parts old))) other apart)
         (λ s on. begun-others (parts old) seat other s apart on d.0) rest
     others-fit Deed.Waited d rest = by-same old new other d.1 rest
-    others-fit Deed.Blocked d rest = by-same old new other d.1 rest
-    others-fit Deed.Stopped d rest = stops-others _ d rest
+    others-fit Deed.Stopped d rest = stops-others _ _ d rest
     others-fit Deed.Read d rest =
         by-event old new other (one_counted Counted.Read) (has_read seat d.0) d.1 refl (λ s on. read-others (parts old) seat other s apart on d.0) rest
     others-fit Deed.Wrote d rest =
@@ -327,19 +328,18 @@ module _ {C V M : Type 0} (program : C → Tree) (devices : C → ℕ) (value_of
     stop-stays : (why : Stop) → new ≡ stopped_by why old → Stays
     stop-stays why is = (ap (λ (c : Core C V M). c.code) is, ap (λ (c : Core C V M). c.limits) is)
 
-    stops-stay : (chance : Chance) → StopsBy chance old new → Stays
-    stops-stay (Chance.Member number) h = absurd h
-    stops-stay Chance.Stopped h = same-stays h
-    stops-stay Chance.Finished h = stop-stays Stop.Finished h
-    stops-stay Chance.Blocked h = absurd h
-    stops-stay Chance.Spent h = stop-stays Stop.Spent h
-    stops-stay Chance.Idle h = absurd h
+    stops-stay : (certificates : List Certificate) (chance : Chance) → StopsBy certificates chance old new → Stays
+    stops-stay certificates (Chance.Member number) h = absurd h
+    stops-stay certificates Chance.Stopped h = same-stays h
+    stops-stay certificates Chance.Finished h = stop-stays Stop.Finished h
+    stops-stay certificates Chance.Blocked h = (ap (λ (c : Core C V M). c.code) h, ap (λ (c : Core C V M). c.limits) h)
+    stops-stay certificates Chance.Spent h = stop-stays Stop.Spent h
+    stops-stay certificates Chance.Idle h = absurd h
 
     pub rest-stays : (deed : Deed) → IsDone program devices value_of stage seat old new deed → Stays
     rest-stays Deed.Began d = makes-stays (one_counted Counted.Begin) (has_begun seat d.0) d.2 refl
     rest-stays Deed.Waited d = same-stays d.1
-    rest-stays Deed.Blocked d = same-stays d.1
-    rest-stays Deed.Stopped d = stops-stay _ d
+    rest-stays Deed.Stopped d = stops-stay _ _ d
     rest-stays Deed.Read d = makes-stays (one_counted Counted.Read) (has_read seat d.0) d.1 refl
     rest-stays Deed.Wrote d = makes-stays (one_counted Counted.Write) (has_written seat d.0 d.1) d.2 refl
     rest-stays (Deed.Met owner) d = makes-stays (one_counted Counted.Conflict) (has_turned_back seat d.0) d.1.1 refl

@@ -1,5 +1,5 @@
 -- Machines of other seats are where they were after what ends a seat's work.
-use Rattle.std.proofs.Common.{◌≡◌, ◌≢◌, ℕ, ◌+◌, ◌<◌, ◌≤◌, ◌⊎◌, inl, inr, Bool, true, false, List, [], ◌∷◌, Option, Some, None, refl, sym, ap, ◌∙◌, arith}
+use Rattle.std.proofs.Common.{◌≡◌, ◌≢◌, ℕ, ◌<◌, ◌≤◌, ◌⊎◌, inl, inr, Bool, true, false, List, [], ◌∷◌, Option, Some, None, refl, sym, ap, ◌∙◌, arith}
 use Rattle.std.proofs.lemmas.Bool.{cases_lt}
 use Rattle.std.proofs.lemmas.Bool.Decides.{nat_tests}
 use Rattle.std.specs.Prelude.{unwrap_or, if◌then◌else◌}
@@ -24,7 +24,7 @@ use Rattle.ame_stands.specs.Events.{one_turn, with_desk, with_task, with_try, un
 use Rattle.ame_stands.proofs.PoolLemmas.{machines-stay, found-at}
 use Rattle.ame_stands.proofs.StepLemmas.{task_else}
 use Rattle.ame_stands.proofs.HomeLemmas.{busy-of}
-use Rattle.ame_stands.proofs.GrowthLemmas.{Keeps, keeps-on, keeps-same, woken-keeps, woken-free, newcomers-keep}
+use Rattle.ame_stands.proofs.GrowthLemmas.{keeps-on, keeps-same, woken-keeps, woken-free, newcomers-keep}
 use Rattle.ame_stands.proofs.CommitLemmas.{free-next}
 use Rattle.ame_engine.specs.AtWork.{working, IsOnSeat}
 use Rattle.ame_turn.proofs.OthersLemmas.{stays-on}

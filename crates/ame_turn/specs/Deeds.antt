@@ -1,5 +1,5 @@
 -- What a seat did, as an event of the engine.
-use Rattle.std.specs.Prelude.{◌≡◌, ℕ, ◌≤◌, false, is_some}
+use Rattle.std.specs.Prelude.{◌≡◌, ℕ, ◌≤◌, false, List, is_some}
 use Rattle.ame_term.specs.Tree.{Val, Tree}
 use Rattle.ame_term.specs.declared.types.Loc.{Loc}
 use Rattle.ame_term.specs.declared.types.Sort.{Sort}
@@ -10,6 +10,7 @@ use Rattle.ame_stands.specs.declared.types.Reason.{Reason}
 use Rattle.ame_stands.specs.declared.types.Task.{Task}
 use Rattle.ame_stands.specs.Parts.{Parts, task_at}
 use Rattle.ame_stands.specs.Events.{has_begun, has_read, has_written, has_allocated, has_checked, has_turned_back, has_undone, has_gone_home}
+use Rattle.ame_engine.specs.declared.certificate.Certificate.{Certificate}
 use Rattle.ame_engine.specs.declared.counters.Counters.{Counters}
 use Rattle.ame_engine.specs.declared.chance.Chance.{Chance}
 use Rattle.ame_engine.specs.declared.stop.Stop.{Stop}
@@ -17,17 +18,19 @@ use Rattle.ame_engine.specs.Counting.{Counted, one_counted, one_invalid, one_und
 use Rattle.ame_engine.specs.Core.{Core}
 use Rattle.ame_engine.specs.Seen.{parts_of, MakesEvent}
 use Rattle.ame_engine.specs.Begins.{chance_of}
-use Rattle.ame_engine.specs.Stops.{stopped_by}
+use Rattle.ame_engine.specs.Causes.{certificates_in}
+use Rattle.ame_engine.specs.Stops.{stopped_by, blocked_by}
 use Rattle.ame_engine.specs.Committing.{ended_at, left_at}
 use Rattle.ame_turn.specs.declared.work.Deed.{Deed}
 
 module _ {C V M : Type 0} where
-  -- what a seat makes of the engine that meets a stop
-  abbrev pub StopsBy : Chance → Core C V M → Core C V M → Type 0
-  StopsBy Chance.Stopped old new = new ≡ old
-  StopsBy Chance.Finished old new = new ≡ stopped_by Stop.Finished old
-  StopsBy Chance.Spent old new = new ≡ stopped_by Stop.Spent old
-  StopsBy _ old new = ⊥
+  -- what a seat makes of the engine that meets a stop, with the certificates where all members are parked
+  abbrev pub StopsBy : List Certificate → Chance → Core C V M → Core C V M → Type 0
+  StopsBy certificates Chance.Stopped old new = new ≡ old
+  StopsBy certificates Chance.Finished old new = new ≡ stopped_by Stop.Finished old
+  StopsBy certificates Chance.Blocked old new = new ≡ blocked_by certificates old
+  StopsBy certificates Chance.Spent old new = new ≡ stopped_by Stop.Spent old
+  StopsBy certificates _ old new = ⊥
 
 module _ {C V M : Type 0} (program : C → Tree) (devices : C → ℕ) (value_of : C → V → Val) (stage : C → M → Stage) (seat : ℕ) (old new : Core C V M) where
   abbrev pub Makes : (Counters → Counters) → (Parts → Parts) → Type 0
@@ -41,8 +44,7 @@ module _ {C V M : Type 0} (program : C → Tree) (devices : C → ℕ) (value_of
   abbrev pub IsDone : Deed → Type 0
   IsDone Deed.Began = (number : ℕ) × (chance_of old ≡ Chance.Member number) × Makes (one_counted Counted.Begin) (has_begun seat number)
   IsDone Deed.Waited = (chance_of old ≡ Chance.Idle) × (new ≡ old)
-  IsDone Deed.Blocked = (chance_of old ≡ Chance.Blocked) × (new ≡ old)
-  IsDone Deed.Stopped = StopsBy (chance_of old) old new
+  IsDone Deed.Stopped = StopsBy (certificates_in (parts_of program devices value_of stage old)) (chance_of old) old new
   IsDone Deed.Read = (l : Loc) × Makes (one_counted Counted.Read) (has_read seat l)
   IsDone Deed.Wrote = (l : Loc) × (v : Val) × Makes (one_counted Counted.Write) (has_written seat l v)
   IsDone (Deed.Met owner) = (attempt : Attempt) × MakesOf attempt (one_counted Counted.Conflict) (has_turned_back seat attempt)

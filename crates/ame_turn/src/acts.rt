@@ -95,6 +95,7 @@ where
     requires on { IsOn M.program M.devices M.value_of M.is_machine M.stage engine.old seat machine }
     requires outside { (M.stage engine.old.code machine).inside ≡ false }
     requires told { (M.stage engine.old.code machine).want ≡ Some want }
+    requires going { engine.old.stop ≡ None }
     requires left { engine.old.turns < engine.old.limits.turns }
     requires slice { slice ≡ engine.old.limits.slice }
     requires turns { turns ≡ engine.old.limits.turns }
@@ -138,6 +139,7 @@ where
     requires code { code.now ≡ engine.old.code }
     requires on { IsOn M.program M.devices M.value_of M.is_machine M.stage engine.old seat machine }
     requires outside { (M.stage engine.old.code machine).inside ≡ false }
+    requires going { engine.old.stop ≡ None }
     requires left { engine.old.turns < engine.old.limits.turns }
     ensures fits { Fits M.program M.devices M.value_of M.is_machine M.stage engine.new seat result.work }
     ensures done { IsDone M.program M.devices M.value_of M.stage seat engine.old engine.new result.deed }

@@ -1,6 +1,6 @@
 //! The events of a seat, each with what the seat has at hand then.
 
-ghost use Rattle.std.specs.Prelude.{◌≡◌, ◌<◌, ◌+◌, ◌^◌, Some, false, is_some};
+ghost use Rattle.std.specs.Prelude.{◌≡◌, ◌<◌, ◌+◌, ◌^◌, Some, None, false, is_some};
 ghost use Rattle.ame_runner.specs.declared.wants.Wants.{Wants};
 ghost use Rattle.ame_stands.specs.Parts.{task_at};
 ghost use Rattle.ame_stands.specs.declared.types.Task.{Task};
@@ -59,7 +59,6 @@ where
             work: Work::Running(machine),
         },
         Ok(Begin::Idle) => stays_idle(Deed::Waited),
-        Ok(Begin::Blocked) => stays_idle(Deed::Blocked),
         Ok(Begin::Stopped) => stays_idle(Deed::Stopped),
         Err(_) => {
             engine.stop(Stop::NoMemory);
@@ -180,6 +179,7 @@ where
     requires on { IsOn M.program M.devices M.value_of M.is_machine M.stage engine.old seat machine }
     requires outside { (M.stage engine.old.code machine).inside ≡ false }
     requires told { (M.stage engine.old.code machine).want ≡ Some Wants.Done }
+    requires going { engine.old.stop ≡ None }
     requires left { engine.old.turns < engine.old.limits.turns }
     ensures fits { Fits M.program M.devices M.value_of M.is_machine M.stage engine.new seat result.work }
     ensures done { IsDone M.program M.devices M.value_of M.stage seat engine.old engine.new result.deed }
@@ -204,6 +204,7 @@ where
     requires on { IsOn M.program M.devices M.value_of M.is_machine M.stage engine.old seat machine }
     requires outside { (M.stage engine.old.code machine).inside ≡ false }
     requires told { (M.stage engine.old.code machine).want ≡ Some Wants.Leave }
+    requires going { engine.old.stop ≡ None }
     requires left { engine.old.turns < engine.old.limits.turns }
     ensures fits { Fits M.program M.devices M.value_of M.is_machine M.stage engine.new seat result.work }
     ensures done { IsDone M.program M.devices M.value_of M.stage seat engine.old engine.new result.deed }

@@ -21,8 +21,6 @@ pub enum Deed {
     Began,
     /// Nothing: no ready member may begin.
     Waited,
-    /// Nothing: all members are parked.
-    Blocked,
     /// It has nothing at work, and a stop is kept.
     Stopped,
     Read,

@@ -24,3 +24,4 @@ pub mod CommitLemmas
 pub mod BlockLemmas
 pub mod BlockedLemmas
 pub mod LastLemmas
+pub mod EndLemmas

@@ -12,3 +12,4 @@ pub mod Undoing
 pub mod Stops
 pub mod Writing
 pub mod Committing
+pub mod Ending

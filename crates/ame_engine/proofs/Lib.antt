@@ -30,3 +30,4 @@ pub mod VisitStepLemmas
 pub mod VisitEndLemmas
 pub mod VisitCallLemmas
 pub mod VisitFreeLemmas
+pub mod EndLemmas

@@ -13,3 +13,4 @@ pub mod Stops
 pub mod Writing
 pub mod Committing
 pub mod Visiting
+pub mod Ending

@@ -24,6 +24,7 @@ mod block;
 mod blocked;
 mod check;
 mod commit;
+mod finish;
 mod free;
 mod laws;
 mod notes;

@@ -5,11 +5,13 @@ mod answer;
 mod certificate;
 mod chance;
 mod counters;
+mod ended;
 mod engine;
 mod stop;
 
 pub use answer::{Begin, Checked, Freed, Noted, Undone, Wrote};
 pub use certificate::Certificate;
 pub use counters::Counters;
+pub use ended::Ended;
 pub use engine::Engine;
 pub use stop::Stop;

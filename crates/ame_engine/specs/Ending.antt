@@ -1,0 +1,73 @@
+-- What an engine had at its end, and what that tells.
+use Rattle.std.specs.Prelude.{◌≡◌, ℕ, ◌<◌, ◌++◌, ◌↔◌, List, [], ◌∷◌, map, All, Contains, Option, Some, IsSome}
+use Rattle.ame_term.specs.Tree.{Val, Tree}
+use Rattle.ame_term.specs.Maps.{at}
+use Rattle.ame_term.specs.State.{State}
+use Rattle.ame_store.specs.declared.cell.Cell.{Cell}
+use Rattle.ame_store.specs.Cells.{IsFree}
+use Rattle.ame_journal.specs.declared.entry.Entry.{Entry}
+use Rattle.ame_journal.specs.Replayed.{Replayed}
+use Rattle.ame_journal.specs.Replay.{replay}
+use Rattle.ame_owed.specs.Shown.{shown_cell}
+use Rattle.ame_stands.specs.declared.types.Limits.{Limits}
+use Rattle.ame_stands.specs.declared.types.Tried.{Tried}
+use Rattle.ame_waiting.specs.Certificates.{IsCertificate}
+use Rattle.ame_visits.specs.Opened.{cell_of, stored_in}
+use Rattle.ame_engine.specs.declared.certificate.Certificate.{Certificate}
+use Rattle.ame_engine.specs.declared.counters.Counters.{Counters}
+use Rattle.ame_engine.specs.declared.stop.Stop.{Stop}
+use Rattle.ame_engine.specs.Core.{Core}
+use Rattle.ame_engine.specs.Causes.{EndsAs}
+
+-- The entries from which it was opened, those that it added, its cells, the events that counted, in all and of each kind, the
+-- tries that left no entry, the stop that was kept, and what tells that each member is blocked, where that is the stop.
+pub record End (V : Type 0) : Type 0 where
+  pub base : List Entry
+  pub entries : List Entry
+  pub cells : List (Cell V)
+  pub turns : ℕ
+  pub counters : Counters
+  pub tried : List Tried
+  pub stop : Option Stop
+  pub certificates : List Certificate
+
+abbrev pub end_of : {C V M : Type 0} → Core C V M → End V
+end_of core = record {
+  base = core.base;
+  entries = core.entries;
+  cells = core.desk.cells;
+  turns = core.turns;
+  counters = core.counters;
+  tried = core.tried;
+  stop = core.stop;
+  certificates = core.certificates;
+}
+
+-- each number is below those after it
+abbrev pub Rise : List ℕ → Type 0
+Rise [] = Unit {0}
+Rise (n ∷ ns) = All (λ k. n < k) ns × Rise ns
+
+-- one certificate a member of a state, in order of their numbers, each of which holds in the state
+pub record CertifyAll (s : State) (certificates : List Certificate) : Type 0 where
+  pub hold : All (λ c. IsCertificate s c.number c.steps c.fresh) certificates
+  pub rise : Rise (map (λ c. c.number) certificates)
+  pub members : (number : ℕ) → IsSome (at s.members number) ↔ Contains (map (λ c. c.number) certificates) number
+  pub some : certificates ≡ [] → ⊥
+
+-- a stop has its cause in the state that is left
+pub record HasStopped (limits : Limits) (s : State) {V : Type 0} (end : End V) : Type 0 where
+  pub finished : end.stop ≡ Some Stop.Finished → s.members ≡ []
+  pub blocked : end.stop ≡ Some Stop.Blocked → CertifyAll s end.certificates
+  pub untold : (end.stop ≡ Some Stop.Blocked → ⊥) → end.certificates ≡ []
+  pub spent : end.stop ≡ Some Stop.Spent → (end.turns ≡ limits.turns) × (s.members ≡ [] → ⊥)
+  pub ends : EndsAs end.stop end.entries
+
+-- The base and the journal replay to a state whose store is what the live cells have. No cell has an owner, and the stop has
+-- its cause in the state.
+pub record IsEnd (program : Tree) (limits : Limits) {V : Type 0} (value : V → Val) (end : End V) : Type 0 where
+  pub r : Replayed
+  pub replays : replay program (end.base ++ end.entries) ≡ Some r
+  pub store : (l : ℕ) → at r.state.store l ≡ stored_in (cell_of (map (shown_cell value) end.cells) l)
+  pub free : All IsFree end.cells
+  pub stopped : HasStopped limits r.state end

@@ -1,0 +1,120 @@
+//! What an engine had at its end.
+
+ghost use Rattle.std.specs.Prelude.{◌≡◌, All};
+ghost use Rattle.ame_store.specs.Cells.{IsFree};
+
+use crate::certificate::Certificate;
+use crate::counters::Counters;
+use crate::stop::Stop;
+use ame_journal::{Entry, Journal};
+use ame_stands::Tried;
+use ame_store::Store;
+use std::marker::Model;
+
+/// What an engine had at its end. Only an engine that was taken apart gives one, and no call changes it.
+pub struct Ended<V> {
+    pub(crate) base: Journal,
+    pub(crate) journal: Journal,
+    pub(crate) store: Store<V>,
+    pub(crate) turns: u32,
+    pub(crate) counters: Counters,
+    pub(crate) tried: Vec<Tried>,
+    pub(crate) stop: Option<Stop>,
+    pub(crate) certificates: Vec<Certificate>,
+}
+
+impl<V: Drop> Drop for Ended<V> {
+    fn drop(self) {
+        let Ended {
+            base: _,
+            journal: _,
+            store: _,
+            turns: _,
+            counters: _,
+            tried: _,
+            stop: _,
+            certificates: _,
+        } = self;
+    }
+}
+
+impl<V> Model for Ended<V> {
+    ghost use Rattle.ame_engine.specs.Ending.{End};
+
+    ghost Value = { End V };
+
+    ghost use Rattle.std.specs.Prelude.{All};
+    ghost use Rattle.ame_store.specs.Cells.{IsFree};
+
+    ghost view = { λ e. record {
+      base = e.base.entries;
+      entries = e.journal.entries;
+      cells = e.store;
+      turns = e.turns;
+      counters = e.counters;
+      tried = e.tried.items;
+      stop = e.stop;
+      certificates = e.certificates.items;
+    } };
+
+    ghost invariant = { λ e. All IsFree e.store };
+}
+
+impl<V> Ended<V> {
+    /// The entries from which the engine was opened.
+    pub fn base(&self) -> &[Entry]
+        ensures { result.now ≡ self.now.base }
+    {
+        self.base.entries()
+    }
+
+    /// The entries that it added.
+    pub fn journal(&self) -> &[Entry]
+        ensures { result.now ≡ self.now.entries }
+    {
+        self.journal.entries()
+    }
+
+    /// The cells that it left. None has an owner.
+    pub fn store(&self) -> &Store<V>
+        ensures cells { result.now ≡ self.now.cells }
+        ensures free { All IsFree self.now.cells }
+    {
+        &self.store
+    }
+
+    /// The events that counted.
+    pub fn turns(&self) -> u32
+        ensures { result ≡ self.now.turns }
+    {
+        self.turns
+    }
+
+    /// The events that counted, by their kinds.
+    pub fn counters(&self) -> &Counters
+        ensures { result.now ≡ self.now.counters }
+    {
+        &self.counters
+    }
+
+    /// The tries that left no entry.
+    pub fn tried(&self) -> &[Tried]
+        ensures { result.now ≡ self.now.tried }
+    {
+        self.tried.as_slice()
+    }
+
+    /// The stop that was kept.
+    pub fn stopped(&self) -> Option<Stop>
+        ensures { result ≡ self.now.stop }
+    {
+        self.stop
+    }
+
+    /// What tells that each member is blocked, in order of their numbers, where that is the stop; else nothing.
+    pub fn certificates(&self) -> &[Certificate]
+        ensures { result.now ≡ self.now.certificates }
+    {
+        self.certificates.as_slice()
+    }
+}

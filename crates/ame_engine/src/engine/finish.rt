@@ -1,0 +1,51 @@
+//! How an engine is taken apart.
+
+ghost use Rattle.std.specs.Prelude.{◌≡◌, ℕ, IsSome};
+ghost use Rattle.ame_stands.specs.declared.types.Task.{Task};
+ghost use Rattle.ame_stands.specs.Parts.{task_at};
+ghost use Rattle.ame_engine.specs.Ending.{end_of, IsEnd};
+
+use super::Engine;
+use crate::ended::Ended;
+use ame_runner::Runner;
+
+impl<M: Runner> Engine<M>
+where
+    M::Code: Drop,
+{
+    /// What an engine has whose seats are idle, once a stop is kept. Takes no memory.
+    pub fn finish(self) -> Ended<M::Value>
+        requires idle { (seat : ℕ) → task_at self.tasks seat ≡ Task.Idle }
+        requires stopped { IsSome self.stop }
+        ensures told { result ≡ end_of self }
+        ensures ends { IsEnd (M.program self.code) self.limits (M.value_of self.code) result }
+    {
+        let Engine {
+            code: _,
+            limits: _,
+            base,
+            journal,
+            desk,
+            tasks: _,
+            pool: _,
+            output: _,
+            text: _,
+            next: _,
+            turns,
+            counters,
+            tried,
+            stop,
+            certificates,
+        } = self;
+        Ended {
+            base,
+            journal,
+            store: desk.into_cells(),
+            turns,
+            counters,
+            tried,
+            stop,
+            certificates,
+        }
+    }
+}

@@ -12,3 +12,5 @@ pub use lone::Lone;
 mod rows;
 #[cfg(test)]
 mod texts;
+#[cfg(test)]
+mod wants;

@@ -9,6 +9,10 @@ pub use cells::Cell;
 pub use lone::Lone;
 
 #[cfg(test)]
+mod against;
+#[cfg(test)]
+mod made_up;
+#[cfg(test)]
 mod rows;
 #[cfg(test)]
 mod texts;

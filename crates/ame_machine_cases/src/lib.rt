@@ -9,6 +9,12 @@ pub use cells::Cell;
 pub use lone::Lone;
 
 #[cfg(test)]
+mod against;
+#[cfg(test)]
+mod made_up;
+#[cfg(test)]
 mod rows;
 #[cfg(test)]
 mod texts;
+#[cfg(test)]
+mod wants;

@@ -51,3 +51,12 @@ pub(crate) fn run(
         }
     }
 }
+
+/// Feeds a machine what it wants; whether it wanted anything.
+pub(crate) fn serve(rt: &impl Abort, code: &Code, lone: &mut Lone) -> Result<bool, NoMemory>
+    requires { IsAlone code.now lone.old }
+    ensures { IsAlone code.now lone.new }
+{
+    assert!(rt; lone.is_young());
+    lone.serve(code)
+}

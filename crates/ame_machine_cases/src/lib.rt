@@ -11,6 +11,8 @@ pub use lone::Lone;
 #[cfg(test)]
 mod against;
 #[cfg(test)]
+mod calls;
+#[cfg(test)]
 mod made_up;
 #[cfg(test)]
 mod rows;

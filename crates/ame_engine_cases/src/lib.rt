@@ -1,0 +1,12 @@
+//! Tests of an engine with two to four seats: texts are read, typed and compiled, and the seats run them in turns that a table
+//! or a seed tells.
+#![tactic(auto)]
+
+mod crew;
+
+pub use crew::Crew;
+
+#[cfg(test)]
+mod hostile;
+#[cfg(test)]
+mod play;

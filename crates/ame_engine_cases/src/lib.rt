@@ -10,3 +10,9 @@ pub use crew::Crew;
 mod hostile;
 #[cfg(test)]
 mod play;
+#[cfg(test)]
+mod random;
+#[cfg(test)]
+mod replay;
+#[cfg(test)]
+mod rows;

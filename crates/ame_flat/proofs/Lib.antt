@@ -8,4 +8,5 @@ pub mod ShapeLemmas
 pub mod HeightLemmas
 pub mod FreeSlotLemmas
 pub mod SideLemmas
+pub mod RefFormLemmas
 pub mod RefNumberLemmas

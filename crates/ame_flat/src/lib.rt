@@ -20,7 +20,7 @@ pub use listing::{
 pub use moves::{
     answers_take_the_place_of_forms, parts_come_first, values_are_found, values_come_back,
 };
-pub use numbers::ref_numbers_are_places;
+pub use numbers::{ref_forms_have_their_parts, ref_numbers_are_places};
 pub use reductions::{
     forms_go_on, fragments_begin, functions_are_made_and_called, values_are_computed,
 };

@@ -47,6 +47,8 @@ use Rattle.ame_engine.specs.AtWork.{IsOnSeat, IsOn}
 use Rattle.ame_engine.proofs.CountLemmas.{one-counts}
 use Rattle.ame_engine.proofs.ReadLemmas.{row-good, runs-as, comes-to}
 use Rattle.ame_engine.proofs.RunLemmas.{can-run}
+use Rattle.ame_engine.specs.Lone.{IsLone}
+use Rattle.ame_engine.proofs.LoneLemmas.{allocation-lone}
 
 -- The sort and the form of the cell that is wanted
 
@@ -147,6 +149,12 @@ module _ {C V M : Type 0} (program : C → Tree) (devices : C → ℕ) (is_value
         subst (λ (v : Val). RunsAlone (has_allocated seat sort number v parts)) value-is
         (allocation-alone parts whole.stands whole.alone seat on'.attempt task s.steps comes.0 sort number next-act.0 comes.1)
 
+    lone-allocated : IsLone (has_allocated seat sort number (value_of core.code value) parts) (one_counted Counted.Alloc core.counters)
+    lone-allocated =
+        subst (λ (v : Val). IsLone (has_allocated seat sort number v parts) (one_counted Counted.Alloc core.counters)) value-is
+        (allocation-lone parts whole.stands core.counters (one_counted Counted.Alloc core.counters) whole.lone refl refl seat on'.attempt task
+        s.steps comes.0 sort number next-act.0 comes.1)
+
     waiting-allocated : AreWaiting (has_allocated seat sort number (value_of core.code value) parts)
     waiting-allocated = allocation-waiting parts whole.stands seat on'.attempt task whole.waiting sort number (value_of core.code value)
 
@@ -160,12 +168,13 @@ module _ {C V M : Type 0} (program : C → Tree) (devices : C → ℕ) (is_value
       members = whole.members;
       pool = whole.pool;
       alone = subst RunsAlone (sym parts-allocated) alone-allocated;
+      lone = subst (λ (x : Parts). IsLone x (one_counted Counted.Alloc core.counters)) (sym parts-allocated) lone-allocated;
       waiting = subst AreWaiting (sym parts-allocated) waiting-allocated;
       once = subst AreNotedOnce (sym parts-allocated)
           (once-on parts (has_allocated seat sort number (value_of core.code value) parts) refl (λ i some. some) whole.once);
       caused = subst (HasCause core.stop core.certificates) (sym parts-allocated)
           (working-cause parts (has_allocated seat sort number (value_of core.code value) parts)
-          (task-more parts whole.stands seat on'.attempt (ap attempt_of task)) refl left' core.stop core.certificates whole.caused);
+          (task-more parts whole.stands seat on'.attempt (ap attempt_of task)) (record { program = refl; base = refl; entries = refl }) left' core.stop core.certificates whole.caused);
       counters = one-counts core.turns core.counters whole.counters Counted.Alloc;
       text = whole.text;
     }

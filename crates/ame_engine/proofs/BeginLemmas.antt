@@ -36,7 +36,7 @@ use Rattle.ame_stands.specs.Shown.{shown_pool}
 use Rattle.ame_engine.specs.Seen.{parts_of, term_shown, MakesEvent}
 use Rattle.ame_engine.specs.Whole.{resting_at, IsAtRest, IsWhole}
 use Rattle.ame_engine.specs.AtWork.{IsOn}
-use Rattle.ame_engine.specs.Begins.{chance_by, chance_of, attempt_now, begun_by}
+use Rattle.ame_engine.specs.Begins.{chance_by, chance_of, attempt_now, begun_by, HasBegun}
 use Rattle.ame_engine.specs.declared.chance.Chance.{Chance}
 use Rattle.ame_pool.specs.declared.oldest.Oldest.{Oldest}
 use Rattle.ame_journal.specs.declared.entry.Entry.{Entry}
@@ -48,9 +48,10 @@ use Rattle.ame_engine.proofs.RunLemmas.{rest-runs}
 use Rattle.ame_engine.proofs.CountLemmas.{one-counts}
 use Rattle.ame_engine.specs.declared.stop.Stop.{Stop}
 use Rattle.ame_engine.specs.Stops.{is_from_outside, stopped_by}
-use Rattle.ame_engine.proofs.CauseLemmas.{begins-more, working-cause, empty-members, empty-oldest, outside-fault, fault-cause}
+use Rattle.ame_engine.proofs.CauseLemmas.{begins-more, working-cause, empty-members, empty-oldest, fault-cause}
 use Rattle.ame_engine.proofs.RollbackLemmas.{good-held}
 use Rattle.ame_engine.proofs.OldestLemmas.{oldest-shown}
+use Rattle.ame_engine.proofs.LoneLemmas.{lone-begun}
 
 module _ {C V M : Type 0} (program : C → Tree) (devices : C → ℕ) (is_value : C → V → Type 0) (value_of : C → V → Val)
     (is_machine : C → M → Type 0) (stage : C → M → Stage) where
@@ -86,13 +87,17 @@ module _ {C V M : Type 0} (program : C → Tree) (devices : C → ℕ) (is_value
       alone = subst RunsAlone (sym (begun-parts seat number core))
           (begun-alone (parts_of program devices value_of stage core) whole.stands whole.alone seat number idle within
           (oldest-shown (term_shown stage core.code) core.pool ∙ first) (ready-same (term_shown stage core.code) number core.pool ready));
+      lone = lone-begun (parts_of program devices value_of stage core) (parts_of program devices value_of stage (begun_by seat number core)) whole.stands
+          core.counters (one_counted Counted.Begin core.counters) whole.lone seat
+          (let seats : length core.tasks ≡ core.limits.seats = whole.stands.bounded.tasks in omega (arith, seats, within)) refl refl refl
+          (is_inside_at core.pool.members number) (attempt_now number core) refl idle refl;
       waiting = subst AreWaiting (sym (begun-parts seat number core))
           (begin-waiting (parts_of program devices value_of stage core) whole.waiting seat number idle);
       once = subst AreNotedOnce (sym (begun-parts seat number core))
           (begin-once (parts_of program devices value_of stage core) seat number (ready-same (term_shown stage core.code) number core.pool ready) whole.once);
       caused = subst (HasCause core.stop core.certificates) (sym (begun-parts seat number core))
           (working-cause (parts_of program devices value_of stage core) (has_begun seat number (parts_of program devices value_of stage core))
-          (begins-more (parts_of program devices value_of stage core) number (oldest-shown (term_shown stage core.code) core.pool ∙ first)) refl left
+          (begins-more (parts_of program devices value_of stage core) number (oldest-shown (term_shown stage core.code) core.pool ∙ first)) (record { program = refl; base = refl; entries = refl }) left
           core.stop core.certificates whole.caused);
       counters = one-counts core.turns core.counters whole.counters Counted.Begin;
       text = whole.text;
@@ -144,6 +149,14 @@ module _ {C V M : Type 0} (program : C → Tree) (devices : C → ℕ) (is_value
 
           clear : row_at (parts_of program devices value_of stage core).desk.rows seat ≡ no_notes
           clear = subst (MeetsTask (parts_of program devices value_of stage core) whole.stands.types seat) idle (whole.stands.seats seat)
+
+      -- it rests
+      pub begun-rests : (m : M) → stage core.code m ≡ stage core.code held_machine
+          → stage core.code m ≡ resting_at (stage core.code m).term (stage core.code m).inside
+      begun-rests m same =
+          let is = same ∙ rest-by (find number core.pool.members) refl in
+          is ∙ ap (λ (t : Tree). resting_at t (is_inside_at core.pool.members number)) (sym (ap (λ (x : Stage). x.term) is))
+          ∙ ap (resting_at (stage core.code m).term) (sym (ap (λ (x : Stage). x.inside) is))
 
       -- and can run
       pub begun-runs : (m : M) → stage core.code m ≡ stage core.code held_machine → CanRun (stage core.code m)
@@ -235,7 +248,7 @@ module _ {C V M : Type 0} (program : C → Tree) (devices : C → ℕ) (is_value
   whole-begun = subst (IsWhole program devices is_value value_of is_machine stage) (sym after-is)
       (begun-whole program devices is_value value_of is_machine stage core whole seat number within' idle' first' ready' left')
 
-  pub makes-begun : MakesEvent program devices value_of stage (one_counted Counted.Begin) (has_begun seat number) now after
+  makes-begun : MakesEvent program devices value_of stage (one_counted Counted.Begin) (has_begun seat number) now after
   makes-begun = subst (λ (x : Core C V M). MakesEvent program devices value_of stage (one_counted Counted.Begin) (has_begun seat number) x after) view
       (subst (MakesEvent program devices value_of stage (one_counted Counted.Begin) (has_begun seat number) core) (sym after-is)
       (begun-makes program devices is_value value_of is_machine stage core whole seat number within' idle' first' ready' left'))
@@ -257,14 +270,21 @@ module _ {C V M : Type 0} (program : C → Tree) (devices : C → ℕ) (is_value
             subst (is_machine core.code) same-one
             (find_passes (IsAtRest is_machine stage core.code) number core.pool.members whole.members x e).machine
 
-    pub on-after : IsOn program devices value_of is_machine stage after seat m
+    on-after : IsOn program devices value_of is_machine stage after seat m
     on-after = subst (λ (x : Core C V M). IsOn program devices value_of is_machine stage x seat m) (sym after-is)
         (begun-on program devices is_value value_of is_machine stage core whole seat number within' idle' first' ready' left'
         resting.0 resting.1 m (sym (shows core.code resting.0 m (copied resting.0 resting.1))) good)
 
-    pub runs-after : CanRun (stage core.code m)
+    rests-after : stage core.code m ≡ resting_at (stage core.code m).term (stage core.code m).inside
+    rests-after = begun-rests program devices is_value value_of is_machine stage core whole seat number within' idle' first' ready' left'
+        resting.0 resting.1 m (sym (shows core.code resting.0 m (copied resting.0 resting.1)))
+
+    runs-after : CanRun (stage core.code m)
     runs-after = begun-runs program devices is_value value_of is_machine stage core whole seat number within' idle' first' ready' left'
         resting.0 resting.1 m (sym (shows core.code resting.0 m (copied resting.0 resting.1)))
+
+    pub has-begun-after : HasBegun program devices value_of is_machine stage seat number now after m
+    has-begun-after = record { event = makes-begun; on = on-after; rests = rests-after; runs = runs-after }
 
 -- What a seat meets is the cause of a stop
 
@@ -361,7 +381,7 @@ module _ {C V M : Type 0} (program : C → Tree) (devices : C → ℕ) (is_value
   pub outside-cause : (why : Stop) → is_from_outside why ≡ true → now.stop ≡ None → kept why now
   outside-cause why e none =
       subst (λ (x : Core C V M). kept why x) view
-      (fault-cause why (outside-fault why e) (parts_of program devices value_of stage core) (parts_of program devices value_of stage (stopped_by why core))
+      (fault-cause why e (parts_of program devices value_of stage core) (parts_of program devices value_of stage (stopped_by why core))
       core.certificates (none-kept (subst (λ (x : Core C V M). x.stop ≡ None) (sym view) none)) refl)
 
   pub parked-met : chance_of now ≡ Chance.Blocked → oldest now.pool ≡ Oldest.Parked

@@ -26,10 +26,11 @@ use Rattle.ame_runner.proofs.NeedLemmas.{comes_as}
 use Rattle.ame_stands.specs.declared.types.Attempt.{Attempt}
 use Rattle.ame_stands.specs.declared.types.Reason.{Reason}
 use Rattle.ame_stands.specs.declared.types.Task.{Task}
-use Rattle.ame_stands.specs.Parts.{Parts, heap_in, task_at, run_in}
+use Rattle.ame_stands.specs.Parts.{Parts, heap_in, task_at, attempt_of, run_in}
 use Rattle.ame_stands.specs.Shown.{shown_pool}
 use Rattle.ame_stands.specs.Stands.{Stands}
 use Rattle.ame_stands.specs.Alone.{RunsAlone}
+use Rattle.ame_stands.proofs.StepLemmas.{seat_within}
 use Rattle.ame_stands.proofs.ShownDeskLemmas.{row-shown}
 use Rattle.ame_stands.proofs.ShownPoolLemmas.{noted-shown}
 use Rattle.ame_waiting.specs.Waiting.{AreWaiting}
@@ -51,6 +52,7 @@ use Rattle.ame_engine.proofs.CountLemmas.{one-counts}
 use Rattle.ame_engine.proofs.CrewLemmas.{busy-told}
 use Rattle.ame_engine.proofs.MemberLemmas.{all_altered}
 use Rattle.ame_engine.proofs.RollbackLemmas.{good-noted}
+use Rattle.ame_engine.proofs.LoneLemmas.{lone-left}
 
 -- a note has no answer
 pub none-held : (kind : EntryKind) → MayHold kind None
@@ -185,6 +187,9 @@ module _ {C V M : Type 0} (program : C → Tree) (devices : C → ℕ) (is_value
         members = rest-noted;
         pool = subst IsGoodPool (sym pool-so) (good-noted number watched core.pool whole.pool);
         alone = subst RunsAlone (sym parts-noted) (noted-alone parts whole.stands whole.alone seat attempt is s.steps (place_shown s));
+        lone = lone-left parts (parts_of program devices value_of stage after) whole.stands core.counters (one_counted Counted.Block core.counters)
+            whole.lone seat (seat_within core.tasks seat attempt (ap attempt_of is)) refl refl refl (Task.Undoing later Reason.Noted) refl
+            (λ t e. let clash : Task.Undoing later Reason.Noted ≡ Task.Running t = e in cc);
         waiting = subst AreWaiting (sym parts-noted) waits-so;
         once = subst AreNotedOnce (sym parts-noted) (note-once parts whole.stands whole.once seat attempt s.steps (place_shown s) is);
         caused = going-cause parts (parts_of program devices value_of stage after) core.stop going' core.certificates whole.caused

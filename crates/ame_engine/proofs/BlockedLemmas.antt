@@ -331,6 +331,7 @@ module _ {C V M : Type 0} (program : C → Tree) (devices : C → ℕ) (is_value
       members = whole.members;
       pool = whole.pool;
       alone = stop-alone parts whole.alone;
+      lone = record { counts = whole.lone.counts; valid = whole.lone.valid };
       waiting = stop-waiting parts whole.waiting;
       once = stop-once parts whole.once;
       caused = record {

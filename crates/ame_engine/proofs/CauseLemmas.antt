@@ -5,6 +5,7 @@ use Rattle.std.specs.List.{list_all}
 use Rattle.std.proofs.lemmas.List.Elements.{All-nil, All-push}
 use Rattle.ame_term.specs.Tree.{Tree}
 use Rattle.ame_journal.specs.declared.entry.Entry.{Entry}
+use Rattle.ame_journal.specs.Replay.{replay}
 use Rattle.ame_pool.specs.declared.member.Member.{Member}
 use Rattle.ame_pool.specs.declared.member.Standing.{Standing}
 use Rattle.ame_pool.specs.declared.oldest.Oldest.{Oldest}
@@ -16,7 +17,7 @@ use Rattle.ame_stands.specs.declared.types.Limits.{Limits}
 use Rattle.ame_stands.specs.declared.types.Attempt.{Attempt}
 use Rattle.ame_stands.specs.declared.types.Reason.{Reason}
 use Rattle.ame_stands.specs.declared.types.Task.{Task}
-use Rattle.ame_stands.specs.Parts.{Parts, task_at, attempt_of}
+use Rattle.ame_stands.specs.Parts.{Parts, whole_journal, task_at, attempt_of}
 use Rattle.ame_stands.specs.Tasks.{is_busy_as, is_noted_for, RunsProtected, Visits, Undoes, MeetsTask}
 use Rattle.ame_stands.specs.Stands.{Stands}
 use Rattle.ame_stands.specs.Events.{brought_home}
@@ -24,7 +25,8 @@ use Rattle.ame_stands.proofs.PoolLemmas.{found-at}
 use Rattle.ame_engine.specs.declared.certificate.Certificate.{Certificate}
 use Rattle.ame_engine.specs.declared.stop.Stop.{Stop}
 use Rattle.ame_engine.specs.Stops.{is_from_outside}
-use Rattle.ame_engine.specs.Causes.{is_ordinary, AreOrdinary, IsSpent, IsCause, EndsAs, HasCause}
+use Rattle.ame_engine.specs.Faults.{LeadsToCall}
+use Rattle.ame_engine.specs.Causes.{is_ordinary, AreOrdinary, IsUsedUp, IsCause, NotesStop, HasCause}
 
 -- Where a member is at work the pool isn't empty, and not all are parked
 
@@ -113,14 +115,27 @@ begins-more parts number first = record {
   empty = λ e. let clash : Oldest.Member number ≡ Oldest.Empty = sym first ∙ empty-oldest parts.pool e in cc;
 }
 
+-- what a journal leads to stays where it does
+pub record SameJournal (parts new : Parts) : Type 0 where
+  pub program : new.program ≡ parts.program
+  pub base : new.base ≡ parts.base
+  pub entries : new.entries ≡ parts.entries
+
+call-same : (parts new : Parts) → SameJournal parts new → (device : ℕ) → LeadsToCall parts device → LeadsToCall new device
+call-same parts new same device leads =
+    λ r there. leads r
+    (sym (ap (λ (term : Tree). replay term (whole_journal new)) same.program
+    ∙ ap (λ (base : List Entry). replay parts.program (base ++ new.entries)) same.base
+    ∙ ap (λ (entries : List Entry). replay parts.program (parts.base ++ entries)) same.entries) ∙ there)
+
 -- An event of a member at work that adds no entry
 
-module _ (parts new : Parts) (more : HasMore parts) (same : new.entries ≡ parts.entries) where
-  spent-turns : IsSpent parts → parts.turns ≡ parts.limits.turns
+module _ (parts new : Parts) (more : HasMore parts) (same : SameJournal parts new) where
+  spent-turns : IsUsedUp parts → parts.turns ≡ parts.limits.turns
   spent-turns cause = cause.turns
 
-  ends-same : (stop : Option Stop) → EndsAs stop parts.entries → EndsAs stop new.entries
-  ends-same stop ends = subst (EndsAs stop) (sym same) ends
+  ends-same : (stop : Option Stop) → NotesStop stop parts.entries → NotesStop stop new.entries
+  ends-same stop ends = subst (NotesStop stop) (sym same.entries) ends
 
   -- while turns are left
   pub working-cause : parts.turns < parts.limits.turns → (stop : Option Stop) (certificates : List Certificate) → HasCause stop certificates parts
@@ -128,12 +143,12 @@ module _ (parts new : Parts) (more : HasMore parts) (same : new.entries ≡ part
   working-cause left None certificates h = record { cause = tt; told = h.told; ends = ends-same None h.ends }
   working-cause left (Some Stop.Finished) certificates h = absurd (more.empty h.cause)
   working-cause left (Some Stop.Blocked) certificates h = absurd (more.parked h.cause)
-  working-cause left (Some Stop.Spent) certificates h = absurd (let cause : IsSpent parts = h.cause in let spent = cause.turns in omega (arith, left, spent))
+  working-cause left (Some Stop.Spent) certificates h = absurd (let cause : IsUsedUp parts = h.cause in let spent = cause.turns in omega (arith, left, spent))
   working-cause left (Some (Stop.Tall number)) certificates h = record { cause = tt; told = h.told; ends = ends-same (Some (Stop.Tall number)) h.ends }
   working-cause left (Some Stop.NoMemory) certificates h = record { cause = tt; told = h.told; ends = ends-same (Some Stop.NoMemory) h.ends }
   working-cause left (Some Stop.WriteFault) certificates h = record { cause = tt; told = h.told; ends = ends-same (Some Stop.WriteFault) h.ends }
   working-cause left (Some (Stop.DeviceFault device)) certificates h =
-      record { cause = tt; told = h.told; ends = ends-same (Some (Stop.DeviceFault device)) h.ends }
+      record { cause = call-same parts new same device h.cause; told = h.told; ends = ends-same (Some (Stop.DeviceFault device)) h.ends }
 
   -- or once a stop is kept, where turns and limits stay and a member is left
   pub undoing-cause : new.limits ≡ parts.limits → (new.pool.members ≡ [] → ⊥) → (stop : Option Stop) → (is_some stop ≡ true → new.turns ≡ parts.turns)
@@ -151,7 +166,7 @@ module _ (parts new : Parts) (more : HasMore parts) (same : new.entries ≡ part
   undoing-cause limits some (Some Stop.NoMemory) turns certificates h = record { cause = tt; told = h.told; ends = ends-same (Some Stop.NoMemory) h.ends }
   undoing-cause limits some (Some Stop.WriteFault) turns certificates h = record { cause = tt; told = h.told; ends = ends-same (Some Stop.WriteFault) h.ends }
   undoing-cause limits some (Some (Stop.DeviceFault device)) turns certificates h =
-      record { cause = tt; told = h.told; ends = ends-same (Some (Stop.DeviceFault device)) h.ends }
+      record { cause = call-same parts new same device h.cause; told = h.told; ends = ends-same (Some (Stop.DeviceFault device)) h.ends }
 
 -- an altered pool has members still
 altered-some : (number : ℕ) (f : Member Tree → Member Tree) (ms : List (Member Tree)) → (ms ≡ [] → ⊥) → altered number f ms ≡ [] → ⊥
@@ -185,32 +200,17 @@ module _ (parts new : Parts) (stop : Option Stop) (none : stop ≡ None) (certif
       subst (λ (o : Option Stop). HasCause o certificates new) (sym none) (record {
         cause = tt;
         told = going-untold;
-        ends = subst (EndsAs None) (sym is) (All-push (λ (e : Entry). is_ordinary e.kind ≡ true) parts.entries entry going-ordinary ordinary);
+        ends = subst (NotesStop None) (sym is) (All-push (λ (e : Entry). is_ordinary e.kind ≡ true) parts.entries entry going-ordinary ordinary);
       })
 
 -- an engine that has just started
 pub started-cause : (parts : Parts) → parts.entries ≡ [] → HasCause None [] parts
-started-cause parts none = record { cause = tt; told = refl; ends = subst (EndsAs None) (sym none) (All-nil (λ (e : Entry). is_ordinary e.kind ≡ true)) }
+started-cause parts none = record { cause = tt; told = refl; ends = subst (NotesStop None) (sym none) (All-nil (λ (e : Entry). is_ordinary e.kind ≡ true)) }
 
 -- Stops that are kept
 
--- faults have no cause in the engine
-abbrev pub is_fault : Stop → Bool
-is_fault Stop.NoMemory = true
-is_fault Stop.WriteFault = true
-is_fault (Stop.DeviceFault device) = true
-is_fault _ = false
-
-pub outside-fault : (why : Stop) → is_from_outside why ≡ true → is_fault why ≡ true
-outside-fault Stop.Finished e = e
-outside-fault Stop.Blocked e = e
-outside-fault Stop.Spent e = e
-outside-fault (Stop.Tall number) e = e
-outside-fault Stop.NoMemory e = refl
-outside-fault Stop.WriteFault e = refl
-outside-fault (Stop.DeviceFault device) e = refl
-
-pub fault-cause : (why : Stop) → is_fault why ≡ true → (parts new : Parts) (certificates : List Certificate) → HasCause None certificates parts
+-- those from outside have no cause in the engine
+pub fault-cause : (why : Stop) → is_from_outside why ≡ true → (parts new : Parts) (certificates : List Certificate) → HasCause None certificates parts
     → new.entries ≡ parts.entries → HasCause (Some why) certificates new
 fault-cause Stop.Finished e parts new certificates h same = absurd (let clash : false ≡ true = e in cc)
 fault-cause Stop.Blocked e parts new certificates h same = absurd (let clash : false ≡ true = e in cc)
@@ -218,7 +218,13 @@ fault-cause Stop.Spent e parts new certificates h same = absurd (let clash : fal
 fault-cause (Stop.Tall number) e parts new certificates h same = absurd (let clash : false ≡ true = e in cc)
 fault-cause Stop.NoMemory e parts new certificates h same = record { cause = tt; told = h.told; ends = subst AreOrdinary (sym same) h.ends }
 fault-cause Stop.WriteFault e parts new certificates h same = record { cause = tt; told = h.told; ends = subst AreOrdinary (sym same) h.ends }
-fault-cause (Stop.DeviceFault device) e parts new certificates h same = record { cause = tt; told = h.told; ends = subst AreOrdinary (sym same) h.ends }
+fault-cause (Stop.DeviceFault device) e parts new certificates h same = absurd (let clash : false ≡ true = e in cc)
+
+-- a device that failed was called
+pub refused-cause : (device : ℕ) (parts new : Parts) (certificates : List Certificate) → HasCause None certificates parts → SameJournal parts new
+    → LeadsToCall parts device → HasCause (Some (Stop.DeviceFault device)) certificates new
+refused-cause device parts new certificates h same leads =
+    record { cause = call-same parts new same device leads; told = h.told; ends = subst AreOrdinary (sym same.entries) h.ends }
 
 -- or is found where a seat begins
 pub empty-members : (pool : Roster Tree) → oldest pool ≡ Oldest.Empty → pool.members ≡ []

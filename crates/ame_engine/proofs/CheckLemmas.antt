@@ -28,6 +28,7 @@ use Rattle.ame_stands.specs.Tasks.{is_busy_as, RunsProtected, MeetsTask}
 use Rattle.ame_stands.specs.Stands.{Stands}
 use Rattle.ame_stands.specs.Alone.{is_of_protected, HasWorn, RunsAlone}
 use Rattle.ame_stands.specs.Events.{has_checked, has_turned_back, checked_attempt}
+use Rattle.ame_stands.proofs.StepLemmas.{seat_within}
 use Rattle.ame_stands.proofs.PoolLemmas.{found-at}
 use Rattle.ame_stands.proofs.AloneLemmas.{no-other-owner}
 use Rattle.ame_stands.proofs.AloneEvents.{stop-alone, checked_alone}
@@ -55,6 +56,7 @@ use Rattle.ame_engine.proofs.CountLemmas.{one-counts}
 use Rattle.ame_engine.proofs.CauseLemmas.{task-more, working-cause}
 use Rattle.ame_engine.proofs.RollbackLemmas.{may-roll}
 use Rattle.ame_engine.proofs.AloneLemmas.{turned_alone}
+use Rattle.ame_engine.proofs.LoneLemmas.{no-other, lone-never, lone-on}
 
 -- Valid reads are so at the shown cells.
 
@@ -122,6 +124,7 @@ module _ {C V M : Type 0} (program : C → Tree) (devices : C → ℕ) (is_value
     members = whole.members;
     pool = whole.pool;
     alone = stop-alone (parts_of program devices value_of stage core) whole.alone;
+    lone = record { counts = whole.lone.counts; valid = whole.lone.valid };
     waiting = stop-waiting (parts_of program devices value_of stage core) whole.waiting;
     once = stop-once (parts_of program devices value_of stage core) whole.once;
     caused = cause;
@@ -157,17 +160,18 @@ module _ {C V M : Type 0} (program : C → Tree) (devices : C → ℕ) (is_value
 
     pub whole-back : (counters : Counters) → CountsTurns (core.turns + 1) counters
         → (is_some core.stop ≡ false → IsAt is_worn attempt.tried.number parts.pool → ⊥)
-        → IsWhole program devices is_value value_of is_machine stage (after-bad counters)
-    whole-back counters counts fresh = record {
+        → (core.limits.seats ≡ 1 → ⊥) → IsWhole program devices is_value value_of is_machine stage (after-bad counters)
+    whole-back counters counts fresh crowded = record {
       stands = turned_back parts whole.stands seat attempt is left';
       limits = whole.limits;
       desk = whole.desk;
       members = whole.members;
       pool = whole.pool;
       alone = turned_alone parts whole.alone seat attempt is fresh;
+      lone = lone-never (parts_of program devices value_of stage (after-bad counters)) counters crowded;
       waiting = retask-waiting parts whole.stands seat attempt is whole.waiting (Task.Undoing attempt Reason.RolledBack);
       once = once-on parts (has_turned_back seat attempt parts) refl (λ i some. some) whole.once;
-      caused = working-cause parts (has_turned_back seat attempt parts) (task-more parts whole.stands seat attempt (ap attempt_of is)) refl left'
+      caused = working-cause parts (has_turned_back seat attempt parts) (task-more parts whole.stands seat attempt (ap attempt_of is)) (record { program = refl; base = refl; entries = refl }) left'
           core.stop core.certificates whole.caused;
       counters = counts;
       text = whole.text;
@@ -194,14 +198,23 @@ module _ {C V M : Type 0} (program : C → Tree) (devices : C → ℕ) (is_value
     pub unworn-apart : (l owner : ℕ) → IsOwnedBy owner (cell_at (heap_in parts) l) → (owner ≡ seat → ⊥) → IsAt is_worn its-number parts.pool → ⊥
     unworn-apart l owner own apart worn = apart (no-other-owner parts whole.stands whole.alone seat attempt (worn-there worn) l owner own)
 
+    valid-by_parts : AreValid (heap_in parts) seat (row_at parts.desk.rows seat).reads → IsValid core.desk.cells seat (row_at core.desk.rows seat).reads
+    valid-by_parts valid =
+        shown-valid (value_of core.code) core.desk.cells seat (row_at core.desk.rows seat).reads
+        (subst (IsValid parts.desk.cells seat) (ap (λ (n : Notes Val). n.reads) (row-shown (value_of core.code) core.desk.rows seat))
+        (valid-desk parts.desk seat (row_at parts.desk.rows seat).reads valid))
+
     -- and its reads are valid until a stop is kept
     pub unworn-invalid : (IsValid core.desk.cells seat (row_at core.desk.rows seat).reads → ⊥) → is_some core.stop ≡ false
         → IsAt is_worn its-number parts.pool → ⊥
-    unworn-invalid invalid going worn =
-        invalid
-        (shown-valid (value_of core.code) core.desk.cells seat (row_at core.desk.rows seat).reads
-        (subst (IsValid parts.desk.cells seat) (ap (λ (n : Notes Val). n.reads) (row-shown (value_of core.code) core.desk.rows seat))
-        (valid-desk parts.desk seat (row_at parts.desk.rows seat).reads (whole.alone.valid going seat attempt (worn-there worn)))))
+    unworn-invalid invalid going worn = invalid (valid-by_parts (whole.alone.valid going seat attempt (worn-there worn)))
+
+    -- the only seat meets no such cell either, and its reads are valid
+    pub crowded-apart : (l owner : ℕ) → IsOwnedBy owner (cell_at (heap_in parts) l) → (owner ≡ seat → ⊥) → core.limits.seats ≡ 1 → ⊥
+    crowded-apart l owner own apart one = apart (no-other parts whole.stands one seat attempt (ap attempt_of is) l owner own)
+
+    pub crowded-invalid : (IsValid core.desk.cells seat (row_at core.desk.rows seat).reads → ⊥) → core.limits.seats ≡ 1 → ⊥
+    crowded-invalid invalid one = invalid (valid-by_parts (whole.lone.valid one seat attempt is))
 
     pub rolls-invalid : (IsValid core.desk.cells seat (row_at core.desk.rows seat).reads → ⊥) → (a : Attempt) → now.stop ≡ None → task_at now.tasks seat ≡ Task.Running a
         → MayBeRolledBack a.tried.number now.pool
@@ -279,11 +292,13 @@ module _ {C V M : Type 0} (program : C → Tree) (devices : C → ℕ) (is_value
         members = whole.members;
         pool = whole.pool;
         alone = subst RunsAlone (sym parts-valid) (checked_alone parts whole.alone seat s.steps attempt is are-valid);
+        lone = lone-on parts (parts_of program devices value_of stage after-valid) whole.stands core.counters (one_counted Counted.Check core.counters)
+            whole.lone seat (seat_within core.tasks seat attempt (ap attempt_of is)) refl refl refl (Task.Running later) refl refl (λ t e. (attempt, is));
         waiting = subst AreWaiting (sym parts-valid)
             (retask-waiting parts whole.stands seat attempt is whole.waiting (Task.Running (checked_attempt s.steps attempt parts)));
         once = subst AreNotedOnce (sym parts-valid) (once-on parts (has_checked seat s.steps attempt parts) refl (λ i some. some) whole.once);
         caused = subst (HasCause core.stop core.certificates) (sym parts-valid)
-            (working-cause parts (has_checked seat s.steps attempt parts) (task-more parts whole.stands seat attempt (ap attempt_of is)) refl left'
+            (working-cause parts (has_checked seat s.steps attempt parts) (task-more parts whole.stands seat attempt (ap attempt_of is)) (record { program = refl; base = refl; entries = refl }) left'
             core.stop core.certificates whole.caused);
         counters = one-counts core.turns core.counters whole.counters Counted.Check;
         text = whole.text;

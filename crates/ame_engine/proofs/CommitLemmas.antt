@@ -72,6 +72,7 @@ use Rattle.ame_engine.specs.Committing.{commits, IsCommitting, owned_places, end
 use Rattle.ame_engine.proofs.ReadLemmas.{runs-as}
 use Rattle.ame_engine.proofs.CheckLemmas.{valid-shown}
 use Rattle.ame_engine.proofs.CountLemmas.{one-counts}
+use Rattle.ame_engine.proofs.LoneLemmas.{lone-left}
 use Rattle.ame_engine.proofs.RollbackLemmas.{rising-shown}
 use Rattle.ame_engine.proofs.OwnedLemmas.{owned-are}
 use Rattle.ame_engine.proofs.CrewLemmas.{woken-rest, woken-good, all-woken-shown, busy-told, none-told, room-used, all-woken-room}
@@ -464,6 +465,8 @@ module _ {C V M : Type 0} (program : C → Tree) (devices : C → ℕ) (is_value
             members = rests;
             pool = good;
             alone = (all-by (which-want s.want committing)).alone;
+            lone = lone-left parts (parts_of program devices value_of stage after) whole.stands core.counters (one_counted Counted.Commit core.counters)
+                whole.lone seat commit-within refl refl refl Task.Idle refl (λ t e. let clash : Task.Idle ≡ Task.Running t = e in cc);
             waiting = (all-by (which-want s.want committing)).waiting;
             once = (all-by (which-want s.want committing)).once;
             caused = going-cause parts (parts_of program devices value_of stage after) core.stop

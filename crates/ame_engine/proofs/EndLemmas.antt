@@ -29,6 +29,7 @@ use Rattle.ame_visits.proofs.EndLemmas.{idle-clear, all-stored, state-empty, poo
 use Rattle.ame_engine.specs.declared.certificate.Certificate.{Certificate}
 use Rattle.ame_engine.specs.declared.stop.Stop.{Stop}
 use Rattle.ame_engine.specs.Core.{Core}
+use Rattle.ame_engine.specs.Faults.{LeadsToCall}
 use Rattle.ame_engine.specs.Causes.{certificate_of, certificates_of, certificates_in, HasCause}
 use Rattle.ame_engine.specs.Seen.{parts_of, term_shown}
 use Rattle.ame_engine.specs.Whole.{IsWhole}
@@ -150,7 +151,7 @@ module _ {C V M : Type 0} (program : C → Tree) (devices : C → ℕ) (is_value
       all : Certified (whole_journal parts) state parts.pool.members (certificates_in parts)
       all = certified (whole_journal parts) state parts.pool.members (blocked-certificates parts s whole.waiting parked rising)
 
-  has-stopped : (stop : Option Stop) → core.stop ≡ stop → HasCause stop core.certificates parts → HasStopped core.limits state (record (end_of core) { stop = stop })
+  has-stopped : (stop : Option Stop) → core.stop ≡ stop → HasCause stop core.certificates parts → HasStopped core.limits s.r (record (end_of core) { stop = stop })
   has-stopped stop is h = record {
     finished = λ e. state-empty parts s (subst (λ (o : Option Stop). HasCause o core.certificates parts) e h).cause;
     blocked = λ e. let b : HasCause (Some Stop.Blocked) core.certificates parts = subst (λ (o : Option Stop). HasCause o core.certificates parts) e h in certify b.cause b.told;
@@ -158,6 +159,9 @@ module _ {C V M : Type 0} (program : C → Tree) (devices : C → ℕ) (is_value
     spent = λ e.
         let b : HasCause (Some Stop.Spent) core.certificates parts = subst (λ (o : Option Stop). HasCause o core.certificates parts) e h in
         (b.cause.turns, λ none. b.cause.left (pool-empty parts s none));
+    failed = λ device e.
+        let b : HasCause (Some (Stop.DeviceFault device)) core.certificates parts = subst (λ (o : Option Stop). HasCause o core.certificates parts) e h in
+        let leads : LeadsToCall parts device = b.cause in leads s.r s.stands.replayed;
     ends = h.ends;
   }
     where
@@ -176,8 +180,11 @@ module _ {C V M : Type 0} (program : C → Tree) (devices : C → ℕ) (is_value
     r = s.r;
     replays = s.stands.replayed;
     store = all-stored parts s idle;
+    printed = s.stands.output;
     free = free;
+    once = whole.once.once;
     stopped = has-stopped core.stop refl whole.caused;
+    lone = whole.lone.counts;
   }
 
 module _ {C V M : Type 0} (program : C → Tree) (devices : C → ℕ) (is_value : C → V → Type 0) (value_of : C → V → Val)

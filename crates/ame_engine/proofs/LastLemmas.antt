@@ -46,6 +46,7 @@ use Rattle.ame_engine.proofs.BlockLemmas.{none-held}
 use Rattle.ame_engine.proofs.CheckLemmas.{task-read, valid-shown}
 use Rattle.ame_engine.proofs.CommitLemmas.{shown-place}
 use Rattle.ame_engine.proofs.CountLemmas.{one-counts}
+use Rattle.ame_engine.proofs.LoneLemmas.{lone-on, told-ran}
 
 -- a seat that runs code has an attempt
 pub working-has : (t : Task) (a : Attempt) → working t ≡ Some a → attempt_of t ≡ Some a
@@ -271,6 +272,8 @@ module _ {C V M : Type 0} (program : C → Tree) (devices : C → ℕ) (is_value
           members = whole.members;
           pool = whole.pool;
           alone = subst RunsAlone (sym cut-parts) cut-alone-so;
+          lone = lone-on parts (parts_of program devices value_of stage after-cut) whole.stands core.counters core.counters whole.lone seat last-within
+              refl refl refl later refl refl (λ t e. told-ran task t (sym cut-later ∙ e));
           waiting = subst AreWaiting (sym cut-parts)
               (told-waiting parts seat number (ap (λ (o : Option Attempt). option_map (λ (x : Attempt). x.tried.number) o) last-has) busy (note_entry EntryKind.Cut seat number s.steps (place_shown s)) refl
               (told_task task) (core.turns) true whole.waiting);
@@ -360,6 +363,8 @@ module _ {C V M : Type 0} (program : C → Tree) (devices : C → ℕ) (is_value
           members = whole.members;
           pool = whole.pool;
           alone = subst RunsAlone (sym tall-parts) tall-alone-so;
+          lone = lone-on parts (parts_of program devices value_of stage after-tall) whole.stands core.counters (one_counted Counted.Tall core.counters)
+              whole.lone seat last-within refl refl refl later refl refl (λ t e. told-ran task t (sym tall-later ∙ e));
           waiting = subst AreWaiting (sym tall-parts)
               (told-waiting parts seat number (ap (λ (o : Option Attempt). option_map (λ (x : Attempt). x.tried.number) o) last-has) busy (note_entry EntryKind.Tall seat number s.steps (place_shown s)) refl
               (told_task task) (core.turns + 1) true whole.waiting);

@@ -1,9 +1,11 @@
 pub mod CountLemmas
 pub mod MemberLemmas
 pub mod CauseLemmas
+pub mod FaultLemmas
 pub mod RollbackLemmas
 pub mod OldestLemmas
 pub mod AloneLemmas
+pub mod LoneLemmas
 pub mod PlaceLemmas
 pub mod WorkLemmas
 pub mod StartLemmas

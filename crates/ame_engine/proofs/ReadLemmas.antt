@@ -47,6 +47,8 @@ use Rattle.ame_engine.specs.Seen.{parts_of}
 use Rattle.ame_engine.specs.Whole.{IsGoodUndo, AreGoodNotes, IsWhole}
 use Rattle.ame_engine.specs.AtWork.{IsOnSeat, is_free, working}
 use Rattle.ame_engine.proofs.CountLemmas.{one-counts}
+use Rattle.ame_engine.specs.Lone.{IsLone}
+use Rattle.ame_engine.proofs.LoneLemmas.{read-lone}
 
 -- Good values
 
@@ -190,10 +192,13 @@ module _ {C V M : Type 0} (program : C → Tree) (devices : C → ℕ) (is_value
         pool = whole.pool;
         alone = subst RunsAlone (sym read-parts)
             (read-alone parts whole.stands whole.alone seat on.attempt task (stage core.code m).steps comes.0 l comes.1 (its-parity parity));
+        lone = subst (λ (x : Parts). IsLone x (one_counted Counted.Read core.counters)) (sym read-parts)
+            (read-lone parts whole.stands core.counters (one_counted Counted.Read core.counters) whole.lone refl refl seat on.attempt task
+            (stage core.code m).steps comes.0 l comes.1 (its-parity parity));
         waiting = subst AreWaiting (sym read-parts) (read-waiting parts whole.stands seat on.attempt task whole.waiting l);
         once = subst AreNotedOnce (sym read-parts) (once-on parts (has_read seat l parts) refl (λ i some. some) whole.once);
         caused = subst (HasCause core.stop core.certificates) (sym read-parts)
-            (working-cause parts (has_read seat l parts) (task-more parts whole.stands seat on.attempt (ap attempt_of task)) refl left
+            (working-cause parts (has_read seat l parts) (task-more parts whole.stands seat on.attempt (ap attempt_of task)) (record { program = refl; base = refl; entries = refl }) left
             core.stop core.certificates whole.caused);
         counters = one-counts core.turns core.counters whole.counters Counted.Read;
         text = whole.text;

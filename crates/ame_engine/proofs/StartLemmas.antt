@@ -20,7 +20,7 @@ use Rattle.ame_stands.specs.Stands.{Stands}
 use Rattle.ame_stands.specs.Alone.{RunsAlone}
 use Rattle.ame_stands.specs.Shown.{shown_notes}
 use Rattle.ame_stands.specs.Events.{started}
-use Rattle.ame_stands.proofs.StartLemmas.{started_stands}
+use Rattle.ame_stands.proofs.StartLemmas.{task-idle, started_stands}
 use Rattle.ame_stands.proofs.AloneEvents.{start-alone}
 use Rattle.ame_waiting.specs.Waiting.{AreWaiting}
 use Rattle.ame_waiting.specs.Once.{AreNotedOnce}
@@ -34,6 +34,7 @@ use Rattle.ame_engine.specs.Seen.{parts_of}
 use Rattle.ame_engine.specs.Whole.{AreLimits, AreGoodNotes, IsGoodUndo, IsAtRest, IsWhole}
 use Rattle.ame_engine.proofs.CountLemmas.{none-counted}
 use Rattle.ame_engine.proofs.CauseLemmas.{started-cause}
+use Rattle.ame_engine.proofs.LoneLemmas.{lone-idle}
 
 rows-shown : {V : Type 0} (view : V → Val) (n : ℕ) → map (shown_notes view) (replicate n no_notes) ≡ replicate n no_notes
 rows-shown view zero = refl
@@ -90,6 +91,8 @@ module _ {C V M : Type 0} (program : C → Tree) (devices : C → ℕ) (is_value
           few = All-cons (λ m. m.rollbacks ≤ max_rollbacks) (newcomer 0 machine false) [] (omega arith) (All-nil (λ (m : Member M). m.rollbacks ≤ max_rollbacks));
         };
         alone = subst RunsAlone (sym started-parts) (start-alone (program code) (devices code) limits 0);
+        lone = lone-idle (parts_of program devices value_of stage started_with) nothing_counted (task-idle limits.seats)
+            (record { conflicts = refl; invalids = refl });
         waiting = subst AreWaiting (sym started-parts) (start-waiting (program code) (devices code) limits 0);
         once = subst AreNotedOnce (sym started-parts) (start-once (program code) (devices code) limits 0);
         caused = started-cause (parts_of program devices value_of stage started_with) refl;

@@ -26,6 +26,7 @@ use Rattle.ame_stands.specs.Tasks.{Visits, MeetsTask}
 use Rattle.ame_stands.specs.Stands.{Stands}
 use Rattle.ame_stands.specs.Alone.{is_of_protected, RunsAlone}
 use Rattle.ame_stands.specs.Events.{brought_home, with_try, has_undone, has_gone_home}
+use Rattle.ame_stands.proofs.StepLemmas.{seat_within}
 use Rattle.ame_stands.proofs.HomeLemmas.{undoing_more, undoing_home, running_more, running_home, free_home}
 use Rattle.ame_stands.proofs.AloneEvents.{more-alone, home-alone}
 use Rattle.ame_stands.proofs.ShownDeskLemmas.{undo-shown}
@@ -48,6 +49,8 @@ use Rattle.ame_engine.proofs.MemberLemmas.{all_altered}
 use Rattle.ame_engine.proofs.CauseLemmas.{HasMore, task-more, undoing-cause, home-some}
 use Rattle.ame_engine.proofs.ReadLemmas.{row-good}
 use Rattle.ame_engine.proofs.RollbackLemmas.{good-home, good-parked}
+use Rattle.ame_engine.specs.Lone.{IsLone}
+use Rattle.ame_engine.proofs.LoneLemmas.{lone-left, undone-conflicts, undone-invalids}
 
 -- what all pass, one that is there passes
 all-get : {A : Type 0} (P : A → Type 0) (xs : List A) (i : ℕ) (x : A) → All P xs → slice_get xs i ≡ Some x → P x
@@ -237,6 +240,13 @@ module _ {C V M : Type 0} (program : C → Tree) (devices : C → ℕ) (is_value
     undo-turns None e = absurd (let clash : false ≡ true = e in cc)
     undo-turns (Some why) e = refl
 
+    -- the seat doesn't run then
+    lone-undone : (new : Parts) (next : Task) → new.limits ≡ core.limits → new.tasks ≡ slice_set core.tasks seat next
+        → ((t : Attempt) → next ≡ Task.Running t → ⊥) → IsLone new undo_counters
+    lone-undone new next limits tasks apart =
+        lone-left parts new whole.stands core.counters undo_counters whole.lone seat (seat_within core.tasks seat attempt has) limits
+        (undone-conflicts (is_some core.stop) core.counters) (undone-invalids (is_some core.stop) core.counters) next tasks apart
+
     -- other entries are left
     abbrev pub undone_core : Core C V M
     undone_core = record core {
@@ -268,9 +278,11 @@ module _ {C V M : Type 0} (program : C → Tree) (devices : C → ℕ) (is_value
       members = whole.members;
       pool = whole.pool;
       alone = subst RunsAlone (sym undone-parts) (more-runs_alone more);
+      lone = lone-undone (parts_of program devices value_of stage undone_core) (Task.Undoing attempt reason) refl refl
+          (λ t e. let clash : Task.Undoing attempt reason ≡ Task.Running t = e in cc);
       waiting = subst AreWaiting (sym undone-parts) (more-waiting more);
       once = subst AreNotedOnce (sym undone-parts) (undone-once parts whole.once seat attempt reason);
-      caused = undoing-cause parts (parts_of program devices value_of stage undone_core) more-there refl refl more-there.empty
+      caused = undoing-cause parts (parts_of program devices value_of stage undone_core) more-there (record { program = refl; base = refl; entries = refl }) refl more-there.empty
           core.stop (undo-turns core.stop) core.certificates whole.caused;
       counters = counts;
       text = whole.text;
@@ -318,9 +330,11 @@ module _ {C V M : Type 0} (program : C → Tree) (devices : C → ℕ) (is_value
           (λ m r. record { machine = r.machine; rests = r.rests }) reason attempt.tried.number core.pool whole.members;
       pool = good-gone reason attempt.tried.number core.pool whole.pool;
       alone = subst RunsAlone (sym gone-parts) home-runs_alone;
+      lone = lone-undone (parts_of program devices value_of stage gone_core) Task.Idle refl refl
+          (λ t e. let clash : Task.Idle ≡ Task.Running t = e in cc);
       waiting = subst AreWaiting (sym gone-parts) (home-waiting few);
       once = subst AreNotedOnce (sym gone-parts) home-once;
-      caused = undoing-cause parts (parts_of program devices value_of stage gone_core) more-there refl refl
+      caused = undoing-cause parts (parts_of program devices value_of stage gone_core) more-there (record { program = refl; base = refl; entries = refl }) refl
           (subst (λ (p : Roster Tree). p.members ≡ [] → ⊥) (sym (gone-shown (term_shown stage core.code) reason attempt.tried.number core.pool))
           (home-some reason attempt.tried.number parts.pool more-there.empty))
           core.stop (undo-turns core.stop) core.certificates whole.caused;

@@ -8,6 +8,7 @@ use Rattle.ame_term.specs.Act.{Act}
 use Rattle.ame_device.specs.declared.told.Told.{Told}
 use Rattle.ame_device.specs.Calls.{CallsOne}
 use Rattle.ame_journal.specs.declared.entry.Entry.{Entry}
+use Rattle.ame_journal.specs.Replayed.{Replayed}
 use Rattle.ame_local.specs.Local.{LocalState}
 use Rattle.ame_pool.specs.Members.{is_busy}
 use Rattle.ame_pool.specs.Roster.{Roster}
@@ -26,7 +27,8 @@ use Rattle.ame_runner.proofs.FeedLemmas.{fed-answer}
 use Rattle.ame_stands.specs.declared.types.Attempt.{Attempt}
 use Rattle.ame_stands.specs.declared.types.Reason.{Reason}
 use Rattle.ame_stands.specs.declared.types.Task.{Task}
-use Rattle.ame_stands.specs.Parts.{Parts, task_at, member_of, term_at}
+use Rattle.ame_stands.specs.Parts.{Parts, task_at, attempt_of, member_of, term_at}
+use Rattle.ame_stands.proofs.StepLemmas.{seat_within}
 use Rattle.ame_stands.specs.Shown.{shown_pool}
 use Rattle.ame_stands.specs.Tasks.{Visits}
 use Rattle.ame_stands.specs.Stands.{Stands}
@@ -34,12 +36,13 @@ use Rattle.ame_stands.specs.Alone.{RunsAlone}
 use Rattle.ame_stands.specs.Events.{with_newcomers}
 use Rattle.ame_stands.proofs.ShownPoolLemmas.{home-shown}
 use Rattle.ame_visits.specs.Visit.{StepsTo, free_entry, has_been_refused}
-use Rattle.ame_visits.proofs.PlaceLemmas.{visits, alone, call-met}
+use Rattle.ame_visits.proofs.PlaceLemmas.{visits, alone, calm, term-there, is-inside, call-met}
 use Rattle.ame_visits.proofs.RefuseLemmas.{refused-stands, refused-alone}
 use Rattle.ame_waiting.specs.Waiting.{AreWaiting}
 use Rattle.ame_waiting.specs.Once.{AreNotedOnce}
 use Rattle.ame_waiting.proofs.VisitLemmas.{refused-waiting, refused-once}
 use Rattle.ame_engine.specs.Causes.{HasCause}
+use Rattle.ame_engine.specs.Faults.{ComesToCall, LeadsToCall}
 use Rattle.ame_engine.specs.declared.engine.free.change.Change.TheVariants as changes
 use Rattle.ame_engine.specs.declared.stop.Stop.{Stop}
 use Rattle.ame_engine.specs.Core.{Core}
@@ -49,8 +52,10 @@ use Rattle.ame_engine.specs.Seen.{parts_of, term_shown, MakesEvent, MakesLastEve
 use Rattle.ame_engine.specs.Whole.{IsAtRest, IsWhole}
 use Rattle.ame_engine.specs.AtWork.{working, IsOnSeat, IsOn}
 use Rattle.ame_engine.specs.Visiting.{IsVisiting, VisitsTo, IsVisitTo, visited_at, SettlesThere, HasComeHome}
-use Rattle.ame_engine.proofs.CauseLemmas.{fault-cause}
+use Rattle.ame_engine.proofs.CauseLemmas.{refused-cause}
 use Rattle.ame_engine.proofs.CountLemmas.{one-counts}
+use Rattle.ame_engine.proofs.FaultLemmas.{alone-run}
+use Rattle.ame_engine.proofs.LoneLemmas.{lone-left}
 use Rattle.ame_engine.proofs.MemberLemmas.{all_altered}
 use Rattle.ame_engine.proofs.RollbackLemmas.{good-home}
 use Rattle.ame_engine.proofs.CrewLemmas.{busy-told}
@@ -104,8 +109,9 @@ module _ {C V M : Type 0} (program : C → Tree) (devices : C → ℕ) (is_value
     unfolding parts-with
     refused-parts = ap parts-with (ap (shown_pool (term_shown stage core.code)) pool_is ∙ home-shown (term_shown stage core.code) number false core.pool)
 
-    pub whole-refused : now.stop ≡ None → IsWhole program devices is_value value_of is_machine stage after-refused
-    whole-refused going = record {
+    pub whole-refused : now.stop ≡ None → LeadsToCall (parts_of program devices value_of stage now) device
+        → IsWhole program devices is_value value_of is_machine stage after-refused
+    whole-refused going leads = record {
       stands = subst Stands (sym refused-parts) (refused-stands parts whole.stands seat attempt is left');
       limits = whole.limits;
       desk = whole.desk;
@@ -115,11 +121,16 @@ module _ {C V M : Type 0} (program : C → Tree) (devices : C → ℕ) (is_value
           core.pool.members whole.members);
       pool = subst IsGoodPool (sym pool_is) (good-home number false core.pool whole.pool);
       alone = subst RunsAlone (sym refused-parts) (refused-alone parts whole.stands seat attempt is whole.alone);
+      lone = lone-left parts (parts_of program devices value_of stage after-refused) whole.stands core.counters (one_counted Counted.Free core.counters)
+          whole.lone seat (seat_within core.tasks seat attempt (ap attempt_of is)) refl refl refl Task.Idle refl
+          (λ t e. let clash : Task.Idle ≡ Task.Running t = e in cc);
       waiting = subst AreWaiting (sym refused-parts)
           (refused-waiting parts seat number (ap member_of is) its-visit.work.busy (parts.turns + 1) true whole.waiting);
       once = subst AreNotedOnce (sym refused-parts) (refused-once parts seat number (ap member_of is) its-visit.work.busy (parts.turns + 1) true whole.once);
-      caused = fault-cause (Stop.DeviceFault device) refl parts (parts_of program devices value_of stage after-refused) core.certificates
-          (subst (λ (o : Option Stop). HasCause o core.certificates parts) (subst (λ (x : Core C V M). x.stop ≡ None) (sym view) going) whole.caused) refl;
+      caused = refused-cause device parts (parts_of program devices value_of stage after-refused) core.certificates
+          (subst (λ (o : Option Stop). HasCause o core.certificates parts) (subst (λ (x : Core C V M). x.stop ≡ None) (sym view) going) whole.caused)
+          (record { program = refl; base = refl; entries = refl })
+          (subst (λ (x : Core C V M). LeadsToCall (parts_of program devices value_of stage x) device) (sym view) leads);
       counters = one-counts core.turns core.counters whole.counters Counted.Free;
       text = whole.text;
     }
@@ -182,6 +193,32 @@ module _ {C V M : Type 0} (program : C → Tree) (devices : C → ℕ) (is_value
     call-steps begun e few =
         let same : begun.steps ≡ s.steps = ap (λ (x : Entry). x.steps) e in
         let here : s.steps + 1 < 2 ^ 64 = subst (λ (x : Core C V M). (stage x.code m).steps + 1 < 2 ^ 64) (sym view) few in omega (arith, same, here)
+
+    -- the member comes to the call by the steps that it made
+    comes-here : ComesToCall whole.stands.r device
+    comes-here =
+        let went = alone-run whole.stands.r.state number (term_at parts.pool number) (calm parts whole.stands seat attempt is).idle
+        (term-there parts whole.stands seat attempt is) s.steps (place_shown s) steps in
+        record {
+          number = number;
+          inside = is-inside parts whole.stands seat attempt is;
+          steps = s.steps;
+          reached = went.reached;
+          made = went.made;
+          term = s.term;
+          member = went.member;
+          redex = stands-at.redex;
+          stands = stands-at.stands;
+          argument = argument;
+          calls = stands-at.acts;
+        }
+
+    pub call-led : (entries : List Entry) → entries ≡ core.entries → LeadsToCall (parts_of program devices value_of stage (record core { entries = entries })) device
+    call-led entries are =
+        subst (λ (es : List Entry). LeadsToCall (parts_of program devices value_of stage (record core { entries = es })) device) (sym are)
+        (λ r there.
+        let same : whole.stands.r ≡ r = ap (λ (o : Option Replayed). unwrap_or o r) (sym whole.stands.stands.replayed ∙ there) in
+        subst (λ (x : Replayed). ComesToCall x device) same comes-here)
 
     bare : (place_shown s).prints ≡ []
     bare = ap (λ (p : LocalState). p.prints) (alone (term_at parts.pool number) s.steps (place_shown s) steps)

@@ -43,6 +43,7 @@ use Rattle.ame_engine.specs.Whole.{resting_at, IsAtRest, IsGoodDesk, IsWhole}
 use Rattle.ame_engine.specs.Visiting.{IsVisitTo, visited_at, SettlesThere, changed_by, IsGoodChange}
 use Rattle.ame_engine.proofs.CauseLemmas.{going-cause}
 use Rattle.ame_engine.proofs.CountLemmas.{one-counts}
+use Rattle.ame_engine.proofs.LoneLemmas.{lone-left}
 use Rattle.ame_engine.proofs.MemberLemmas.{all_altered}
 use Rattle.ame_engine.proofs.CrewLemmas.{busy-told, none-told, room-used}
 use Rattle.ame_engine.proofs.VisitDeskLemmas.{changed-good, changed-shown}
@@ -283,6 +284,8 @@ module _ {C V M : Type 0} (program : C → Tree) (devices : C → ℕ) (is_value
             members = rests;
             pool = good;
             alone = subst RunsAlone (sym visited-parts) alone-visited;
+            lone = lone-left parts (parts_of program devices value_of stage after) whole.stands core.counters (one_counted Counted.Free core.counters)
+                whole.lone seat end-within refl refl refl Task.Idle refl (λ t e. let clash : Task.Idle ≡ Task.Running t = e in cc);
             waiting = subst AreWaiting (sym visited-parts) waits-visited;
             once = subst AreNotedOnce (sym visited-parts) once-visited;
             caused = going-cause parts (parts_of program devices value_of stage after) core.stop

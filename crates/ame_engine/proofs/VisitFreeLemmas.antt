@@ -14,7 +14,7 @@ use Rattle.ame_engine.specs.Core.{Core}
 use Rattle.ame_engine.specs.Counting.{Counted, one_counted}
 use Rattle.ame_engine.specs.Seen.{parts_of, MakesEvent}
 use Rattle.ame_engine.specs.AtWork.{working, IsOn}
-use Rattle.ame_engine.specs.Visiting.{IsVisiting, IsVisitTo, visited_at, SettlesThere, changed_by, IsServed, HasComeHome}
+use Rattle.ame_engine.specs.Visiting.{IsVisiting, IsVisitTo, visited_at, SettlesThere, changed_by, HasMadeItsStep, HasComeHome}
 use Rattle.ame_engine.proofs.CheckLemmas.{working-within, task-read}
 use Rattle.ame_engine.proofs.VisitPlaceLemmas.{visits-as, visit-is, visit-settles}
 
@@ -44,7 +44,7 @@ module _ {C V M : Type 0} (program : C → Tree) (devices : C → ℕ) (is_value
   one-number attempt is = ap (λ (t : Task). (unwrap_or (working t) attempt).tried.number) (sym free-task ∙ is)
 
   module _ (attempt : Attempt) (is : task_at now.tasks seat ≡ Task.Free attempt) (n : M) (change : Change V)
-      (served : IsServed program devices is_value value_of is_machine stage now m n change) where
+      (served : HasMadeItsStep program devices is_value value_of is_machine stage now m n change) where
     pub served-visit : IsVisitTo parts attempt.tried.number None (stage now.code n) (changed_by (value_of now.code) change parts.desk)
     served-visit =
         subst (λ (k : ℕ). IsVisitTo parts k None (stage now.code n) (changed_by (value_of now.code) change parts.desk)) (one-number attempt is)

@@ -45,7 +45,7 @@ use Rattle.ame_engine.specs.Core.{Core}
 use Rattle.ame_engine.specs.Seen.{parts_of}
 use Rattle.ame_engine.specs.Whole.{IsWhole}
 use Rattle.ame_engine.specs.AtWork.{IsOnSeat, IsOn}
-use Rattle.ame_engine.specs.Visiting.{IsVisiting, VisitsTo, IsServed}
+use Rattle.ame_engine.specs.Visiting.{IsVisiting, VisitsTo, HasMadeItsStep}
 use Rattle.ame_engine.proofs.VisitPlaceLemmas.{visits-as, visit-steps}
 use Rattle.ame_engine.proofs.VisitDeskLemmas.{committed-good}
 
@@ -77,7 +77,7 @@ wanted-unit V s (inr (inr e)) = ap (λ (o : Option Wants). is_wanted {V = V} o i
 module _ {C V M : Type 0} (program : C → Tree) (devices : C → ℕ) (is_value : C → V → Type 0) (value_of : C → V → Val)
     (is_machine : C → M → Type 0) (stage : C → M → Stage) (core : Core C V M) (m : M) where
   pub served-left : is_machine core.code m → takes_input (stage core.code m).want ≡ false
-      → IsServed program devices is_value value_of is_machine stage core m m changes.Stays
+      → HasMadeItsStep program devices is_value value_of is_machine stage core m m changes.Stays
   served-left machine still = record { machine = machine; visits = λ told. VisitsTo.rests still; good = tt; fits = tt; lone = λ clash. absurd (none clash) }
     where
       none : false ≡ true → ⊥
@@ -99,7 +99,7 @@ module _ {C V M : Type 0} (program : C → Tree) (devices : C → ℕ) (is_value
   s = stage core.code m
 
   abbrev Served : Core C V M → M → Change V → Type 0
-  Served x n change = IsServed program devices is_value value_of is_machine stage x m n change
+  Served x n change = HasMadeItsStep program devices is_value value_of is_machine stage x m n change
 
   abbrev seat : ℕ
   seat = on-now.0
@@ -179,7 +179,7 @@ module _ {C V M : Type 0} (program : C → Tree) (devices : C → ℕ) (is_value
             VisitsTo.peeks l (value_of core.code value) (stage core.code n) e is-committed
             (ap (λ (o : Option Wants). after_input o (value_of core.code value) s) (sym e) ∙ fed)
 
-        pub served-given : IsServed program devices is_value value_of is_machine stage now m n changes.Stays
+        pub served-given : HasMadeItsStep program devices is_value value_of is_machine stage now m n changes.Stays
         served-given =
             subst (λ (x : Core C V M). Served x n changes.Stays) view
             (record { machine = machine; visits = visits-given reads; good = tt; fits = tt; lone = λ clash. absurd (none clash) })
@@ -222,7 +222,7 @@ module _ {C V M : Type 0} (program : C → Tree) (devices : C → ℕ) (is_value
 
     module _ (lent value : V) (lent-good : is_value core.code lent) (sets : value_to_set s ≡ Some (value_of core.code lent)) (copied : same lent value)
         (n : M) (machine : is_machine core.code n) (fed : after_input s.want Val.Unit s ≡ Some (stage core.code n)) where
-      pub served-written : IsServed program devices is_value value_of is_machine stage now m n (changes.Puts l value)
+      pub served-written : HasMadeItsStep program devices is_value value_of is_machine stage now m n (changes.Puts l value)
       served-written =
           subst (λ (x : Core C V M). Served x n (changes.Puts l value)) view
           (record {
@@ -265,7 +265,7 @@ module _ {C V M : Type 0} (program : C → Tree) (devices : C → ℕ) (is_value
           let is = fed-location V s (wants.Alloc sort number) l (need-there (wants.Alloc sort number) allocates) refl in
           ap (λ (o : Option Stage). (unwrap_or o (stage core.code n)).spawns) (sym fed-alloc ∙ is) ∙ nothing-held
 
-      pub served-made : IsServed program devices is_value value_of is_machine stage now m n (changes.Makes sort number value)
+      pub served-made : HasMadeItsStep program devices is_value value_of is_machine stage now m n (changes.Makes sort number value)
       served-made =
           subst (λ (x : Core C V M). Served x n (changes.Makes sort number value)) view
           (record {
@@ -295,7 +295,7 @@ module _ {C V M : Type 0} (program : C → Tree) (devices : C → ℕ) (is_value
     visits-accepted (inr (inl e)) told = VisitsTo.prints e.0 (stage core.code n) e.1 (fed-as (wants.Print e.0) e.1)
     visits-accepted (inr (inr e)) told = VisitsTo.closes (stage core.code n) e (fed-as wants.Close e)
 
-    pub served-accepted : IsServed program devices is_value value_of is_machine stage now m n changes.Stays
+    pub served-accepted : HasMadeItsStep program devices is_value value_of is_machine stage now m n changes.Stays
     served-accepted =
         subst (λ (x : Core C V M). Served x n changes.Stays) view
         (record { machine = machine; visits = visits-accepted (accepted-here wants-now); good = tt; fits = tt; lone = λ clash. absurd (none clash) })

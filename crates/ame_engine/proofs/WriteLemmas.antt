@@ -51,6 +51,7 @@ use Rattle.ame_waiting.specs.Waiting.{AreWaiting}
 use Rattle.ame_waiting.specs.Once.{AreNotedOnce}
 use Rattle.ame_waiting.proofs.TaskLemmas.{first-waiting, later-waiting}
 use Rattle.ame_waiting.proofs.OnceLemmas.{once-on}
+use Rattle.ame_engine.specs.declared.counters.Counters.{Counters}
 use Rattle.ame_engine.specs.Core.{Core}
 use Rattle.ame_engine.specs.Causes.{HasCause}
 use Rattle.ame_engine.proofs.CauseLemmas.{task-more, working-cause}
@@ -61,9 +62,11 @@ use Rattle.ame_engine.specs.AtWork.{IsOnSeat, IsOn}
 use Rattle.ame_engine.specs.Writing.{answer_to_write, refused_by}
 use Rattle.ame_engine.specs.Rollbacks.{MayBeRolledBack}
 use Rattle.ame_engine.proofs.ReadLemmas.{row-good, runs-as, comes-to, seat-in_rows}
-use Rattle.ame_engine.proofs.CheckLemmas.{whole-back, unworn-apart, still-rolls}
+use Rattle.ame_engine.proofs.CheckLemmas.{whole-back, unworn-apart, crowded-apart, still-rolls}
 use Rattle.ame_engine.proofs.RunLemmas.{can-run}
 use Rattle.ame_engine.proofs.CountLemmas.{one-counts}
+use Rattle.ame_engine.specs.Lone.{IsLone}
+use Rattle.ame_engine.proofs.LoneLemmas.{write-first_lone, write-later_lone}
 
 -- The location that is wanted
 
@@ -275,6 +278,15 @@ module _ {C V M : Type 0} (program : C → Tree) (devices : C → ℕ) (is_value
       alone-by (inl free) = write-first_alone parts whole.stands whole.alone seat on'.attempt task s.steps comes.0 l next-act.0 comes.1 free
       alone-by (inr own) = write-later_alone parts whole.stands whole.alone seat on'.attempt task s.steps comes.0 l next-act.0 comes.1 own
 
+      abbrev counted : Counters
+      counted = one_counted Counted.Write core.counters
+
+      lone-by : IsFree (cell_at (heap_in parts) l.0) ⊎ IsOwnedBy seat (cell_at (heap_in parts) l.0) → IsLone (has_written seat l next-act.0 parts) counted
+      lone-by (inl free) =
+          write-first_lone parts whole.stands core.counters counted whole.lone refl refl seat on'.attempt task s.steps comes.0 l next-act.0 comes.1 free
+      lone-by (inr own) =
+          write-later_lone parts whole.stands core.counters counted whole.lone refl refl seat on'.attempt task s.steps comes.0 l next-act.0 comes.1 own
+
       waiting-by : IsFree (cell_at (heap_in parts) l.0) ⊎ IsOwnedBy seat (cell_at (heap_in parts) l.0) → AreWaiting (has_written seat l next-act.0 parts)
       waiting-by (inl free) = first-waiting parts whole.stands seat on'.attempt task whole.waiting s.steps comes.0 l next-act.0 comes.1 free
       waiting-by (inr own) = later-waiting parts whole.stands seat on'.attempt task whole.waiting s.steps comes.0 l next-act.0 comes.1 own
@@ -287,12 +299,14 @@ module _ {C V M : Type 0} (program : C → Tree) (devices : C → ℕ) (is_value
         members = whole.members;
         pool = whole.pool;
         alone = subst RunsAlone (sym parts-written) (subst (λ (v : Val). RunsAlone (has_written seat l v parts)) value-is (alone-by owned));
+        lone = subst (λ (x : Parts). IsLone x counted) (sym parts-written)
+            (subst (λ (v : Val). IsLone (has_written seat l v parts) counted) value-is (lone-by owned));
         waiting = subst AreWaiting (sym parts-written) (subst (λ (v : Val). AreWaiting (has_written seat l v parts)) value-is (waiting-by owned));
         once = subst AreNotedOnce (sym parts-written)
             (once-on parts (has_written seat l (value_of core.code value) parts) refl (λ i some. some) whole.once);
         caused = subst (HasCause core.stop core.certificates) (sym parts-written)
             (working-cause parts (has_written seat l (value_of core.code value) parts)
-            (task-more parts whole.stands seat on'.attempt (ap attempt_of task)) refl left' core.stop core.certificates whole.caused);
+            (task-more parts whole.stands seat on'.attempt (ap attempt_of task)) (record { program = refl; base = refl; entries = refl }) left' core.stop core.certificates whole.caused);
         counters = one-counts core.turns core.counters whole.counters Counted.Write;
         text = whole.text;
       }
@@ -340,6 +354,13 @@ module _ {C V M : Type 0} (program : C → Tree) (devices : C → ℕ) (is_value
           unworn-apart program devices is_value value_of is_machine stage core now view whole seat m on outside left attempt runs l.0 other.0
           (ap (λ (c : Cell Val). c.owner) found-is ∙ other.1) other.2
 
+      -- and the seat isn't the only one
+      crowded : core.limits.seats ≡ 1 → ⊥
+      crowded =
+          let other = conflict-cell seat value found.0 owner refused in
+          crowded-apart program devices is_value value_of is_machine stage core now view whole seat m on outside left attempt runs l.0 other.0
+          (ap (λ (c : Cell Val). c.owner) found-is ∙ other.1) other.2
+
       pub rolls-conflict : (a : Attempt) → task_at now.tasks seat ≡ Task.Running a → MayBeRolledBack a.tried.number now.pool
       rolls-conflict a e =
           subst (λ (x : Attempt). MayBeRolledBack x.tried.number now.pool) (its-attempt a e)
@@ -365,7 +386,7 @@ module _ {C V M : Type 0} (program : C → Tree) (devices : C → ℕ) (is_value
       unfolding with-desk
       whole-conflict = subst (λ (d : Contents V). IsWhole program devices is_value value_of is_machine stage (with-desk d)) (sym desk-stays)
           (whole-back program devices is_value value_of is_machine stage core now view whole seat m on outside left attempt runs
-          (one_counted Counted.Conflict core.counters) (one-counts core.turns core.counters whole.counters Counted.Conflict) (λ going worn. unworn worn))
+          (one_counted Counted.Conflict core.counters) (one-counts core.turns core.counters whole.counters Counted.Conflict) (λ going worn. unworn worn) crowded)
 
       pub makes-conflict : (a : Attempt) → task_at now.tasks seat ≡ Task.Running a → MakesEvent program devices value_of stage (one_counted Counted.Conflict) (has_turned_back seat a) now after-conflict
       unfolding with-desk

@@ -8,6 +8,7 @@ use Rattle.ame_stands.specs.Parts.{Parts, whole_journal}
 use Rattle.ame_waiting.specs.Waiting.{last_stuck}
 use Rattle.ame_engine.specs.declared.certificate.Certificate.{Certificate}
 use Rattle.ame_engine.specs.declared.stop.Stop.{Stop}
+use Rattle.ame_engine.specs.Faults.{LeadsToCall}
 
 -- What tells that members are blocked
 
@@ -35,15 +36,16 @@ certificates_for _ parts = []
 -- Why it has stopped
 
 -- members are left, and the turns are used up
-pub record IsSpent (parts : Parts) : Type 0 where
+pub record IsUsedUp (parts : Parts) : Type 0 where
   pub turns : parts.turns ≡ parts.limits.turns
   pub left : parts.pool.members ≡ [] → ⊥
 
--- the cause of a stop that an engine finds itself
+-- the cause of a stop that an engine finds itself: of a device that failed, that a member comes to its call by steps alone
 abbrev pub IsCause : Option Stop → Parts → Type 0
 IsCause (Some Stop.Finished) parts = parts.pool.members ≡ []
 IsCause (Some Stop.Blocked) parts = oldest parts.pool ≡ Oldest.Parked
-IsCause (Some Stop.Spent) parts = IsSpent parts
+IsCause (Some Stop.Spent) parts = IsUsedUp parts
+IsCause (Some (Stop.DeviceFault device)) parts = LeadsToCall parts device
 IsCause _ parts = Unit {0}
 
 -- The last note
@@ -73,13 +75,13 @@ pub record IsTall (number : ℕ) (entries : List Entry) : Type 0 where
   pub its : ends.note.number ≡ number
 
 -- where a row was cut off its note is the last entry, and where a value would be too high its note is
-abbrev pub EndsAs : Option Stop → List Entry → Type 0
-EndsAs (Some Stop.Spent) entries = AreOrdinary entries ⊎ EndsWith EntryKind.Cut entries
-EndsAs (Some (Stop.Tall number)) entries = IsTall number entries
-EndsAs _ entries = AreOrdinary entries
+abbrev pub NotesStop : Option Stop → List Entry → Type 0
+NotesStop (Some Stop.Spent) entries = AreOrdinary entries ⊎ EndsWith EntryKind.Cut entries
+NotesStop (Some (Stop.Tall number)) entries = IsTall number entries
+NotesStop _ entries = AreOrdinary entries
 
--- A stop, if one is kept, has its cause; the certificates are those for it, and the entries end as it tells.
+-- A stop, if one is kept, has its cause; the certificates are those for it, and the entries note it.
 pub record HasCause (stop : Option Stop) (certificates : List Certificate) (parts : Parts) : Type 0 where
   pub cause : IsCause stop parts
   pub told : certificates ≡ certificates_for stop parts
-  pub ends : EndsAs stop parts.entries
+  pub ends : NotesStop stop parts.entries

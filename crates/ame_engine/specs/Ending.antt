@@ -1,5 +1,5 @@
 -- What an engine had at its end, and what that tells.
-use Rattle.std.specs.Prelude.{◌≡◌, ℕ, ◌<◌, ◌++◌, ◌↔◌, List, [], ◌∷◌, map, All, Contains, Option, Some, IsSome}
+use Rattle.std.specs.Prelude.{◌≡◌, ℕ, ℤ, ◌<◌, ◌++◌, ◌↔◌, List, [], ◌∷◌, map, All, Contains, Option, Some, IsSome}
 use Rattle.ame_term.specs.Tree.{Val, Tree}
 use Rattle.ame_term.specs.Maps.{at}
 use Rattle.ame_term.specs.State.{State}
@@ -12,19 +12,23 @@ use Rattle.ame_owed.specs.Shown.{shown_cell}
 use Rattle.ame_stands.specs.declared.types.Limits.{Limits}
 use Rattle.ame_stands.specs.declared.types.Tried.{Tried}
 use Rattle.ame_waiting.specs.Certificates.{IsCertificate}
+use Rattle.ame_waiting.specs.Once.{IsNotedOnce}
 use Rattle.ame_visits.specs.Opened.{cell_of, stored_in}
 use Rattle.ame_engine.specs.declared.certificate.Certificate.{Certificate}
 use Rattle.ame_engine.specs.declared.counters.Counters.{Counters}
 use Rattle.ame_engine.specs.declared.stop.Stop.{Stop}
 use Rattle.ame_engine.specs.Core.{Core}
-use Rattle.ame_engine.specs.Causes.{EndsAs}
+use Rattle.ame_engine.specs.Faults.{ComesToCall}
+use Rattle.ame_engine.specs.Causes.{NotesStop}
+use Rattle.ame_engine.specs.Lone.{IsUndisturbed}
 
--- The entries from which it was opened, those that it added, its cells, the events that counted, in all and of each kind, the
--- tries that left no entry, the stop that was kept, and what tells that each member is blocked, where that is the stop.
+-- The entries from which it was opened, those that it added, its cells, its output, the events that counted, in all and of each
+-- kind, the tries that left no entry, the stop that was kept, and what tells that each member is blocked, where that is the stop.
 pub record End (V : Type 0) : Type 0 where
   pub base : List Entry
   pub entries : List Entry
   pub cells : List (Cell V)
+  pub output : List ℤ
   pub turns : ℕ
   pub counters : Counters
   pub tried : List Tried
@@ -36,6 +40,7 @@ end_of core = record {
   base = core.base;
   entries = core.entries;
   cells = core.desk.cells;
+  output = core.output;
   turns = core.turns;
   counters = core.counters;
   tried = core.tried;
@@ -56,18 +61,23 @@ pub record CertifyAll (s : State) (certificates : List Certificate) : Type 0 whe
   pub some : certificates ≡ [] → ⊥
 
 -- a stop has its cause in the state that is left
-pub record HasStopped (limits : Limits) (s : State) {V : Type 0} (end : End V) : Type 0 where
-  pub finished : end.stop ≡ Some Stop.Finished → s.members ≡ []
-  pub blocked : end.stop ≡ Some Stop.Blocked → CertifyAll s end.certificates
+pub record HasStopped (limits : Limits) (r : Replayed) {V : Type 0} (end : End V) : Type 0 where
+  pub finished : end.stop ≡ Some Stop.Finished → r.state.members ≡ []
+  pub blocked : end.stop ≡ Some Stop.Blocked → CertifyAll r.state end.certificates
   pub untold : (end.stop ≡ Some Stop.Blocked → ⊥) → end.certificates ≡ []
-  pub spent : end.stop ≡ Some Stop.Spent → (end.turns ≡ limits.turns) × (s.members ≡ [] → ⊥)
-  pub ends : EndsAs end.stop end.entries
+  pub spent : end.stop ≡ Some Stop.Spent → (end.turns ≡ limits.turns) × (r.state.members ≡ [] → ⊥)
+  pub failed : (device : ℕ) → end.stop ≡ Some (Stop.DeviceFault device) → ComesToCall r device
+  pub ends : NotesStop end.stop end.entries
 
--- The base and the journal replay to a state whose store is what the live cells have. No cell has an owner, and the stop has
--- its cause in the state.
+-- The base and the journal replay to a state whose store is what the live cells have, and whose output is what was printed. No
+-- cell has an owner, no member is noted twice without a commit between, and the stop has its cause in the state. With one seat
+-- nothing was met that another seat did.
 pub record IsEnd (program : Tree) (limits : Limits) {V : Type 0} (value : V → Val) (end : End V) : Type 0 where
   pub r : Replayed
   pub replays : replay program (end.base ++ end.entries) ≡ Some r
   pub store : (l : ℕ) → at r.state.store l ≡ stored_in (cell_of (map (shown_cell value) end.cells) l)
+  pub printed : r.state.output ≡ end.output
   pub free : All IsFree end.cells
-  pub stopped : HasStopped limits r.state end
+  pub once : IsNotedOnce (end.base ++ end.entries)
+  pub stopped : HasStopped limits r end
+  pub lone : limits.seats ≡ 1 → IsUndisturbed end.counters

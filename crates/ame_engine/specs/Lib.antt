@@ -3,8 +3,10 @@ pub mod Core
 pub mod Seen
 pub mod Rollbacks
 pub mod Places
+pub mod Faults
 pub mod Causes
 pub mod Certifying
+pub mod Lone
 pub mod Whole
 pub mod AtWork
 pub mod Begins

@@ -28,10 +28,11 @@ use Rattle.ame_engine.specs.Counting.{Counted, one_counted}
 use Rattle.ame_engine.specs.Core.{Core}
 use Rattle.ame_engine.specs.Seen.{parts_of, MakesEvent, MakesLastEvent}
 
--- Unprotected code has come so far: it is to be fed what it wants, or it has made steps alone.
+-- Unprotected code has come so far: it is to be fed what it wants, or it has made steps alone, and its next value isn't too high.
 pub record IsVisiting (s : Stage) : Type 0 where
   pub inside : s.inside ≡ true
   pub moved : takes_input s.want ≡ false → 0 < s.steps
+  pub short : s.want ≡ Some wants.Tall → ⊥
 
 -- whether a machine wants a device
 abbrev pub wants_device : Option Wants → Bool
@@ -78,10 +79,10 @@ module _ {V : Type 0} where
   changed_by view (changes.Makes sort number value) desk = born sort number (view value) desk
 
   -- a change can be made: a cell that is written has no owner, and there is a location for a new one
-  abbrev pub Fits : Contents V → Change V → Type 0
-  Fits desk changes.Stays = Unit {0}
-  Fits desk (changes.Puts l value) = (l.0 < length desk.cells) × ForSome (slice_get desk.cells l.0) IsFree × ForSome (slice_get desk.cells l.0) CanGrow
-  Fits desk (changes.Makes sort number value) = length desk.cells < 4294967295
+  abbrev pub CanChange : Contents V → Change V → Type 0
+  CanChange desk changes.Stays = Unit {0}
+  CanChange desk (changes.Puts l value) = (l.0 < length desk.cells) × ForSome (slice_get desk.cells l.0) IsFree × ForSome (slice_get desk.cells l.0) CanGrow
+  CanChange desk (changes.Makes sort number value) = length desk.cells < 4294967295
 
   -- the value that it puts in place is good
   abbrev pub IsGoodChange : (V → Type 0) → Change V → Type 0
@@ -97,12 +98,12 @@ module _ {V : Type 0} where
 module _ {C V M : Type 0} (program : C → Tree) (devices : C → ℕ) (is_value : C → V → Type 0) (value_of : C → V → Val)
     (is_machine : C → M → Type 0) (stage : C → M → Stage) where
   -- A machine has made the step that it wanted of the committed state, if it wanted one, and the desk is to change so.
-  pub record IsServed (core : Core C V M) (old new : M) (change : Change V) : Type 0 where
+  pub record HasMadeItsStep (core : Core C V M) (old new : M) (change : Change V) : Type 0 where
     pub machine : is_machine core.code new
     pub visits : (told : List Told) → VisitsTo (stage core.code old) (parts_of program devices value_of stage core).desk told None (stage core.code new)
         (changed_by (value_of core.code) change (parts_of program devices value_of stage core).desk) told
     pub good : IsGoodChange (is_value core.code) change
-    pub fits : Fits core.desk change
+    pub fits : CanChange core.desk change
     pub lone : makes_cell change ≡ true → (stage core.code new).spawns ≡ []
 
 module _ {C V M : Type 0} (program : C → Tree) (devices : C → ℕ) (value_of : C → V → Val) (stage : C → M → Stage) where

@@ -18,6 +18,7 @@ use Rattle.ame_engine.specs.Seen.{parts_of}
 use Rattle.ame_engine.specs.Rollbacks.{IsGoodPool}
 use Rattle.ame_engine.specs.Places.{HasPlacesFor}
 use Rattle.ame_engine.specs.Causes.{HasCause}
+use Rattle.ame_engine.specs.Lone.{IsLone}
 
 -- the limits of an engine
 pub record AreLimits (limits : Limits) : Type 0 where
@@ -58,8 +59,9 @@ module _ {C V M : Type 0} (program : C → Tree) (devices : C → ℕ) (is_value
     (is_machine : C → M → Type 0) (stage : C → M → Stage) where
   -- The plain parts stand for the state to which the journal leads, the limits are in range, each value at the desk is one of
   -- the code, and the members' machines are at rest. No member was rolled back more often than it may be, and one that was so
-  -- as often runs alone. Who waits has a note that tells so, and none is noted twice without a commit between. A kept stop has its
-  -- cause. Each turn is counted by its kind, and the text is the lines of the output.
+  -- as often runs alone. With one seat nothing is met that another seat did. Who waits has a note that tells so, and none is
+  -- noted twice without a commit between. A kept stop has its cause. Each turn is counted by its kind, and the text is the lines
+  -- of the output.
   pub record IsWhole (core : Core C V M) : Type 0 where
     pub stands : Stands (parts_of program devices value_of stage core)
     pub limits : AreLimits core.limits
@@ -67,6 +69,7 @@ module _ {C V M : Type 0} (program : C → Tree) (devices : C → ℕ) (is_value
     pub members : All (IsAtRest is_machine stage core.code) core.pool.members
     pub pool : IsGoodPool core.pool
     pub alone : RunsAlone (parts_of program devices value_of stage core)
+    pub lone : IsLone (parts_of program devices value_of stage core) core.counters
     pub waiting : AreWaiting (parts_of program devices value_of stage core)
     pub once : AreNotedOnce (parts_of program devices value_of stage core)
     pub caused : HasCause core.stop core.certificates (parts_of program devices value_of stage core)

@@ -16,6 +16,7 @@ pub struct Ended<V> {
     pub(crate) base: Journal,
     pub(crate) journal: Journal,
     pub(crate) store: Store<V>,
+    pub(crate) output: Vec<i64>,
     pub(crate) turns: u32,
     pub(crate) counters: Counters,
     pub(crate) tried: Vec<Tried>,
@@ -29,6 +30,7 @@ impl<V: Drop> Drop for Ended<V> {
             base: _,
             journal: _,
             store: _,
+            output: _,
             turns: _,
             counters: _,
             tried: _,
@@ -50,6 +52,7 @@ impl<V> Model for Ended<V> {
       base = e.base.entries;
       entries = e.journal.entries;
       cells = e.store;
+      output = e.output.items;
       turns = e.turns;
       counters = e.counters;
       tried = e.tried.items;
@@ -81,6 +84,13 @@ impl<V> Ended<V> {
         ensures free { All IsFree self.now.cells }
     {
         &self.store
+    }
+
+    /// What was printed by what was committed.
+    pub fn output(&self) -> &[i64]
+        ensures { result.now ≡ self.now.output }
+    {
+        self.output.as_slice()
     }
 
     /// The events that counted.

@@ -4,6 +4,7 @@ ghost use Rattle.std.specs.Prelude.{◌≡◌, ◌<◌, length, slice_get, optio
 ghost use Rattle.ame_io.specs.Lines.{lines};
 ghost use Rattle.ame_desk.specs.Committed.{committed as committed_at};
 ghost use Rattle.ame_stands.specs.Parts.{task_at};
+ghost use Rattle.ame_engine.specs.Lone.{IsUndisturbed};
 
 use crate::certificate::Certificate;
 use crate::counters::Counters;
@@ -151,9 +152,10 @@ where
         self.turns
     }
 
-    /// The events that counted, by their kinds.
+    /// The events that counted, by their kinds. With one seat there was no conflict, and no read that isn't valid.
     pub fn counters(&self) -> &Counters
-        ensures { result.now ≡ self.now.counters }
+        ensures told { result.now ≡ self.now.counters }
+        ensures lone { self.now.limits.seats ≡ 1 → IsUndisturbed self.now.counters }
     {
         &self.counters
     }

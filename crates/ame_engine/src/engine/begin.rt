@@ -1,19 +1,16 @@
 //! How a seat begins a member.
 
-ghost use Rattle.std.specs.Prelude.{◌≡◌, ◌<◌, ◌++◌, ℕ, false, length, IfOk, OnOk, OnErr, IsTrue};
+ghost use Rattle.std.specs.Prelude.{◌≡◌, ◌<◌, ◌++◌, ℕ, false, length, IfOk, OnErr, IsTrue};
 ghost use Rattle.std.specs.Option.{ForSome};
 ghost use Rattle.ame_pool.specs.Members.{is_ready};
 ghost use Rattle.ame_pool.specs.Calls.{IsAt, held, machine_of};
 ghost use Rattle.ame_pool.specs.Keeps.{is_inside_at};
 ghost use Rattle.ame_pool.specs.declared.oldest.Oldest.{Oldest};
 ghost use Rattle.ame_pool.specs.Begin.{oldest as oldest_of};
-ghost use Rattle.ame_runner.specs.Sound.{CanRun};
 ghost use Rattle.ame_stands.specs.Parts.{task_at};
-ghost use Rattle.ame_stands.specs.Events.{begun_task as task_begun, has_begun};
-ghost use Rattle.ame_engine.specs.Counting.{Counted, one_counted};
-ghost use Rattle.ame_engine.specs.Seen.{parts_of, MakesEvent};
-ghost use Rattle.ame_engine.specs.AtWork.{IsOn};
-ghost use Rattle.ame_engine.specs.Begins.{chance_of, takes_memory, Answers};
+ghost use Rattle.ame_stands.specs.Events.{begun_task as task_begun};
+ghost use Rattle.ame_engine.specs.Seen.{parts_of};
+ghost use Rattle.ame_engine.specs.Begins.{chance_of, takes_memory, HasBegun, Answers};
 ghost use Rattle.ame_engine.specs.Causes.{certificates_in};
 ghost use Rattle.ame_engine.specs.Stops.{stopped_by, blocked_by};
 
@@ -106,9 +103,7 @@ where
         requires oldest { oldest_of self.old.pool ≡ Oldest.Member number }
         requires ready { IsAt is_ready number self.old.pool }
         requires left { self.old.turns < self.old.limits.turns }
-        ensures event { OnOk result (MakesEvent M.program M.devices M.value_of M.stage (one_counted Counted.Begin) (has_begun seat number) self.old self.new) }
-        ensures machine { IfOk result (IsOn M.program M.devices M.value_of M.is_machine M.stage self.new seat) }
-        ensures runs { IfOk result (λ m. CanRun (M.stage self.new.code m)) }
+        ensures begun { IfOk result (HasBegun M.program M.devices M.value_of M.is_machine M.stage seat number self.old self.new) }
         ensures err { OnErr result (self.new ≡ self.old) }
     {
         self.tried.reserve(self.limits.seats as usize)?;
@@ -130,9 +125,8 @@ where
     pub fn begin(&mut self, seat: u32) -> Result<Begin<M>, NoMemory>
         requires seat { seat < self.old.limits.seats }
         requires idle { task_at self.old.tasks seat ≡ Task.Idle }
-        ensures answer { IfOk result (Answers (λ number m.
-            MakesEvent M.program M.devices M.value_of M.stage (one_counted Counted.Begin) (has_begun seat number) self.old self.new
-            × IsOn M.program M.devices M.value_of M.is_machine M.stage self.new seat m × CanRun (M.stage self.new.code m))
+        ensures answer { IfOk result (Answers
+            (λ number m. HasBegun M.program M.devices M.value_of M.is_machine M.stage seat number self.old self.new m)
             (λ why. self.new ≡ stopped_by why self.old)
             (self.new ≡ blocked_by (certificates_in (parts_of M.program M.devices M.value_of M.stage self.old)) self.old)
             (self.new ≡ self.old) (chance_of self.old)) }

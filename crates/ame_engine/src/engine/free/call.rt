@@ -6,7 +6,8 @@ ghost use Rattle.ame_runner.specs.declared.wants.Wants.{Wants};
 ghost use Rattle.ame_stands.specs.Parts.{task_at};
 ghost use Rattle.ame_visits.specs.Visit.{has_been_refused};
 ghost use Rattle.ame_engine.specs.Counting.{Counted, one_counted};
-ghost use Rattle.ame_engine.specs.Seen.{MakesLastEvent};
+ghost use Rattle.ame_engine.specs.Seen.{parts_of, MakesLastEvent};
+ghost use Rattle.ame_engine.specs.Faults.{LeadsToCall};
 ghost use Rattle.ame_engine.specs.AtWork.{IsOn};
 ghost use Rattle.ame_engine.specs.Visiting.{IsVisiting, HasComeHome, HasBeenRefused};
 
@@ -44,6 +45,7 @@ where
         requires task { task_at self.old.tasks seat ≡ Task.Free attempt }
         requires going { self.old.stop ≡ None }
         requires left { self.old.turns < self.old.limits.turns }
+        requires calls { LeadsToCall (parts_of M.program M.devices M.value_of M.stage self.old) device }
         ensures { MakesLastEvent M.program M.devices M.value_of M.stage (Stop.DeviceFault device) (one_counted Counted.Free)
             (has_been_refused seat attempt.tried.number) self.old self.new }
     {

@@ -1,7 +1,7 @@
 //! How a visit changes the cells.
 
 ghost use Rattle.std.specs.Prelude.{◌≡◌, true, OnOk, OnErr};
-ghost use Rattle.ame_engine.specs.Visiting.{changed_by, Fits, makes_cell};
+ghost use Rattle.ame_engine.specs.Visiting.{changed_by, CanChange, makes_cell};
 
 use ame_desk::Desk;
 use ame_term::{Loc, NoMemory, Sort, TyNo};
@@ -19,7 +19,7 @@ pub(crate) enum Change<V> {
 
 /// Changes the cells. Takes memory for a new one.
 pub(super) fn change_desk<V: Drop>(desk: &mut Desk<V>, change: Change<V>) -> Result<(), NoMemory>
-    requires { Fits desk.old change }
+    requires { CanChange desk.old change }
     ensures ok { OnOk result (desk.new ≡ changed_by (λ v. v) change desk.old) }
     ensures makes { OnErr result (makes_cell change ≡ true) }
     ensures err { OnErr result (desk.new ≡ desk.old) }

@@ -4,7 +4,7 @@ ghost use Rattle.std.specs.Prelude.{◌≡◌, ◌<◌, OnOk, OnErr, None, true,
 ghost use Rattle.ame_stands.specs.Parts.{task_at};
 ghost use Rattle.ame_engine.specs.Counting.{Counted, one_counted};
 ghost use Rattle.ame_engine.specs.Seen.{parts_of, MakesEvent};
-ghost use Rattle.ame_engine.specs.Visiting.{IsVisitTo, visited_at, SettlesThere, changed_by, Fits, IsGoodChange, makes_cell};
+ghost use Rattle.ame_engine.specs.Visiting.{IsVisitTo, visited_at, SettlesThere, changed_by, CanChange, IsGoodChange, makes_cell};
 
 use super::change::{Change, change_desk};
 use super::home::{free_entry, send_home};
@@ -36,7 +36,7 @@ where
         requires visit { IsVisitTo (parts_of M.program M.devices M.value_of M.stage self.old) attempt.tried.number None (M.stage self.old.code at)
             (changed_by (M.value_of self.old.code) change (parts_of M.program M.devices M.value_of M.stage self.old).desk) }
         requires good { IsGoodChange (M.is_value self.old.code) change }
-        requires fits { Fits self.old.desk change }
+        requires fits { CanChange self.old.desk change }
         requires lone { makes_cell change ≡ true → (M.stage self.old.code at).spawns ≡ [] }
         ensures event { OnOk result (MakesEvent M.program M.devices M.value_of M.stage (one_counted Counted.Free)
             (visited_at seat attempt.tried.number None (M.stage self.old.code at)

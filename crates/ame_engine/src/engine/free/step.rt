@@ -3,7 +3,7 @@
 ghost use Rattle.std.specs.Prelude.{◌≡◌, ◌<◌, ◌+◌, ◌^◌, ◌⊎◌, ℕ, ℤ, false, IfOk, Some};
 ghost use Rattle.ame_runner.specs.declared.wants.Wants.{Wants};
 ghost use Rattle.ame_engine.specs.AtWork.{IsOn};
-ghost use Rattle.ame_engine.specs.Visiting.{IsVisiting, IsServed, wants_device};
+ghost use Rattle.ame_engine.specs.Visiting.{IsVisiting, HasMadeItsStep, wants_device};
 
 use super::change::Change;
 use crate::engine::Engine;
@@ -20,7 +20,7 @@ where
         requires visits { IsVisiting (M.stage self.now.code at.old) }
         requires wants { ((M.stage self.now.code at.old).want ≡ Some (Wants.Read l)) ⊎ ((M.stage self.now.code at.old).want ≡ Some (Wants.Peek l)) }
         requires steps { (M.stage self.now.code at.old).steps + 1 < 2 ^ 64 }
-        ensures { IfOk result (IsServed M.program M.devices M.is_value M.value_of M.is_machine M.stage self.now at.old at.new) }
+        ensures { IfOk result (HasMadeItsStep M.program M.devices M.is_value M.value_of M.is_machine M.stage self.now at.old at.new) }
     {
         let value = self.desk.peek(l)?;
         at.feed(&self.code, Input::Value(value));
@@ -33,7 +33,7 @@ where
         requires visits { IsVisiting (M.stage self.now.code at.old) }
         requires wants { (M.stage self.now.code at.old).want ≡ Some (Wants.Write l) }
         requires steps { (M.stage self.now.code at.old).steps + 1 < 2 ^ 64 }
-        ensures { IfOk result (IsServed M.program M.devices M.is_value M.value_of M.is_machine M.stage self.now at.old at.new) }
+        ensures { IfOk result (HasMadeItsStep M.program M.devices M.is_value M.value_of M.is_machine M.stage self.now at.old at.new) }
     {
         let value = at.wanted(&self.code).copy(*self.tasks.allocator())?;
         at.feed(&self.code, Input::Unit);
@@ -46,7 +46,7 @@ where
         requires visits { IsVisiting (M.stage self.now.code at.old) }
         requires wants { (M.stage self.now.code at.old).want ≡ Some (Wants.Alloc sort number) }
         requires steps { (M.stage self.now.code at.old).steps + 1 < 2 ^ 64 }
-        ensures { IfOk result (IsServed M.program M.devices M.is_value M.value_of M.is_machine M.stage self.now at.old at.new) }
+        ensures { IfOk result (HasMadeItsStep M.program M.devices M.is_value M.value_of M.is_machine M.stage self.now at.old at.new) }
     {
         let value = at.wanted(&self.code).copy(*self.tasks.allocator())?;
         at.feed(&self.code, Input::Loc(Loc(self.desk.cells().len())));
@@ -60,7 +60,7 @@ where
         requires wants { ((M.stage self.now.code at.old).want ≡ Some Wants.Spawn)
             ⊎ (((i : ℤ) × ((M.stage self.now.code at.old).want ≡ Some (Wants.Print i))) ⊎ ((M.stage self.now.code at.old).want ≡ Some Wants.Close)) }
         requires steps { (M.stage self.now.code at.old).steps + 1 < 2 ^ 64 }
-        ensures { IsServed M.program M.devices M.is_value M.value_of M.is_machine M.stage self.now at.old at.new Change.Stays }
+        ensures { HasMadeItsStep M.program M.devices M.is_value M.value_of M.is_machine M.stage self.now at.old at.new Change.Stays }
     {
         at.feed(&self.code, Input::Unit);
     }
@@ -72,7 +72,7 @@ where
         requires visits { IsVisiting (M.stage self.now.code at.old) }
         requires no_device { wants_device (M.stage self.now.code at.old).want ≡ false }
         requires steps { (M.stage self.now.code at.old).steps + 1 < 2 ^ 64 }
-        ensures { IfOk result (IsServed M.program M.devices M.is_value M.value_of M.is_machine M.stage self.now at.old at.new) }
+        ensures { IfOk result (HasMadeItsStep M.program M.devices M.is_value M.value_of M.is_machine M.stage self.now at.old at.new) }
     {
         let Some(want) = at.want() else {
             return Ok(Change::Stays);

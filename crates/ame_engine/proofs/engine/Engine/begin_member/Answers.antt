@@ -1,5 +1,5 @@
 use Rattle.std.proofs.Common.{◌≡◌, ◌+◌, ◌≤◌, length, vec_len, vec_capacity, arith}
-use Rattle.ame_engine.proofs.BeginLemmas.{whole-roomy, whole-begun, makes-begun, on-after, runs-after}
+use Rattle.ame_engine.proofs.BeginLemmas.{whole-roomy, whole-begun, has-begun-after}
 use Rattle.ame_engine.proofs.PlaceLemmas.{places-roomy, places-begun}
 use Rattle.ame_engine.proofs.engine.Engine.begin_member.Goals as goal
 
@@ -24,25 +24,9 @@ invariant_of-self-2 g c =
       places = places-begun c.self.inside.tasks.items c.args.seat _ _ c.begun_task-task.result enough;
     }
 
-pub returns-clause-event : goal.returns-clause-event
-returns-clause-event g c =
-    makes-begun g.M.Runner.program g.M.Runner.devices g.M.Runner.is_value g.M.Runner.value_of g.M.Runner.is_machine g.M.Runner.stage
-    g.M.Copied.same g.met.M.Runner.same_machines g.met.M.Runner.stage_shown _ c.args.self.now c.self.view_is c.self.invariant.whole c.args.seat c.args.number
-    c.requires.seat c.requires.idle c.requires.oldest c.requires.ready c.requires.left _ _ _ _ _ _
-    c.begun_task-task.ensures c.is_inside.ensures c.attempt_now-attempt.ensures c.entries.ensures.entries c.entries-2.ensures.entries c.hold.ensures
-    _ c.reserve.ensures.items
-
-pub returns-clause-machine : goal.returns-clause-machine
-returns-clause-machine g c =
-    on-after g.M.Runner.program g.M.Runner.devices g.M.Runner.is_value g.M.Runner.value_of g.M.Runner.is_machine g.M.Runner.stage
-    g.M.Copied.same g.met.M.Runner.same_machines g.met.M.Runner.stage_shown _ c.args.self.now c.self.view_is c.self.invariant.whole c.args.seat c.args.number
-    c.requires.seat c.requires.idle c.requires.oldest c.requires.ready c.requires.left _ _ _ _ _ _
-    c.begun_task-task.ensures c.is_inside.ensures c.attempt_now-attempt.ensures c.entries.ensures.entries c.entries-2.ensures.entries c.hold.ensures
-    _ c.reserve.ensures.items c.in_ok-machine.machine c.in_ok-machine.ensures
-
-pub returns-clause-runs : goal.returns-clause-runs
-returns-clause-runs g c =
-    runs-after g.M.Runner.program g.M.Runner.devices g.M.Runner.is_value g.M.Runner.value_of g.M.Runner.is_machine g.M.Runner.stage
+pub returns-clause-begun : goal.returns-clause-begun
+returns-clause-begun g c =
+    has-begun-after g.M.Runner.program g.M.Runner.devices g.M.Runner.is_value g.M.Runner.value_of g.M.Runner.is_machine g.M.Runner.stage
     g.M.Copied.same g.met.M.Runner.same_machines g.met.M.Runner.stage_shown _ c.args.self.now c.self.view_is c.self.invariant.whole c.args.seat c.args.number
     c.requires.seat c.requires.idle c.requires.oldest c.requires.ready c.requires.left _ _ _ _ _ _
     c.begun_task-task.ensures c.is_inside.ensures c.attempt_now-attempt.ensures c.entries.ensures.entries c.entries-2.ensures.entries c.hold.ensures

@@ -7,7 +7,7 @@ use Rattle.ame_stands.specs.Parts.{task_at, attempt_of}
 use Rattle.ame_engine.specs.Counting.{Counted, one_invalid}
 use Rattle.ame_engine.proofs.CountLemmas.{invalid-counts}
 use Rattle.ame_engine.proofs.PlaceLemmas.{places-kept}
-use Rattle.ame_engine.proofs.CheckLemmas.{its-task, whole-back, unworn-invalid, rolls-invalid}
+use Rattle.ame_engine.proofs.CheckLemmas.{its-task, whole-back, unworn-invalid, crowded-invalid, rolls-invalid}
 use Rattle.ame_engine.proofs.engine.Engine.commit.Goals as goal
 
 pub invariant_of-self : goal.invariant_of-self
@@ -20,6 +20,8 @@ invariant_of-self g c =
           _ c.args.self.now c.self.view_is c.self.invariant.whole c.args.seat c.args.at c.requires.on c.requires.commits.outside c.requires.left c.in-Running.attempt is
           (one_invalid Counted.Commit (c.self.inside.counters)) (invalid-counts c.self.inside.turns c.self.inside.counters c.self.invariant.whole.counters Counted.Commit)
           (unworn-invalid g.M.Runner.program g.M.Runner.devices g.M.Runner.is_value g.M.Runner.value_of g.M.Runner.is_machine g.M.Runner.stage
+          _ c.args.self.now c.self.view_is c.self.invariant.whole c.args.seat c.args.at c.requires.on c.requires.commits.outside c.requires.left c.in-Running.attempt is invalid)
+          (crowded-invalid g.M.Runner.program g.M.Runner.devices g.M.Runner.is_value g.M.Runner.value_of g.M.Runner.is_machine g.M.Runner.stage
           _ c.args.self.now c.self.view_is c.self.invariant.whole c.args.seat c.args.at c.requires.on c.requires.commits.outside c.requires.left c.in-Running.attempt is invalid);
       places = places-kept c.self.inside.tasks.items c.args.seat _ _ c.in-Running.attempt (ap attempt_of is) c.self.invariant.places
           (Task.Undoing c.in-Running.attempt Reason.RolledBack) c.in-Running.attempt refl refl;

@@ -8,7 +8,7 @@ use Rattle.ame_device.specs.Calls.{all_told, CallsOne}
 use Rattle.ame_device.proofs.ListLemmas.{wanting-leaves}
 use Rattle.ame_engine.proofs.PlaceLemmas.{places-freed}
 use Rattle.ame_engine.proofs.VisitEndLemmas.{end-task, called-fit}
-use Rattle.ame_engine.proofs.VisitCallLemmas.{call-within, call-steps, call-busy, whole-called, home-called}
+use Rattle.ame_engine.proofs.VisitCallLemmas.{call-within, call-steps, call-led, call-busy, whole-called, home-called}
 use Rattle.ame_engine.proofs.engine.Engine.visit_device.Goals as goal
 
 pub call_device-requires : goal.call_device-requires
@@ -93,3 +93,10 @@ returns-clause-quiet g c =
     (to_z w64 (of_z w64 c.args.argument)) (Err f) (all_told g.D.Device.device_heard g.D.Device.device_faults c.call_device.new.devices.items))
     c.in-Err-NoMemory.field-0-is c.in-Err-NoMemory.ensures in
     wanting-leaves _ _ _ _ lacks
+
+pub refuse-requires-clause-calls : goal.refuse-requires-clause-calls
+refuse-requires-clause-calls g c =
+    call-led g.M.Runner.program g.M.Runner.devices g.M.Runner.is_value g.M.Runner.value_of g.M.Runner.is_machine g.M.Runner.stage
+    _ c.args.self.now c.self.view_is c.self.invariant.whole c.args.seat c.args.attempt c.requires.task c.requires.left
+    c.args.at c.requires.on c.requires.visits (g.met.M.Runner.sound c.args.self.now.code c.args.at c.requires.on.machine) c.args.device c.args.argument c.requires.wants
+    c.room.new.self.entries c.room.ensures.entries

@@ -1,5 +1,5 @@
 -- A machine whose steps are counted from a check on.
-use Rattle.std.proofs.Common.{◌≡◌, ℕ, ◌<◌, false, length, Option, sym, ap, ◌∙◌, subst, arith}
+use Rattle.std.proofs.Common.{◌≡◌, ℕ, ◌<◌, false, length, Option, refl, sym, ap, ◌∙◌, subst, arith}
 use Rattle.std.specs.Option.{option_map_or}
 use Rattle.ame_term.specs.Tree.{Val, Tree}
 use Rattle.ame_desk.specs.Contents.{row_at}
@@ -48,5 +48,6 @@ module _ {C V M : Type 0} (program : C → Tree) (devices : C → ℕ) (value_of
   check-on old new seat m n a stands on outside task makes machine is =
       let parts = parts_of program devices value_of stage old in
       goes program devices value_of is_machine stage (one_counted Counted.Check) (has_checked seat (stage old.code m).steps a) seat old new n makes machine
-      (checked-goes parts seat (stage old.code m) (stage old.code n) on.stands a task is) (ap (λ (x : Stage). x.inside) is ∙ outside)
+      (checked-goes parts seat (stage old.code m) (stage old.code n) on.stands a task is) (ap (λ (x : Stage). x.inside) is ∙ outside) refl
+      (let since : (stage old.code n).since ≡ 0 = ap (λ (x : Stage). x.since) is in omega (arith, since))
       (λ s there side. can-run (parts_of program devices value_of stage new) stands seat s there side)

@@ -60,7 +60,7 @@ turn-pool parts = by parts.stopped
     by false = refl
 
 -- a member that goes home keeps its term
-term-home : (reason : Reason) (n number : ℕ) (pool : Roster Tree) → term_at (brought_home reason n pool) number ≡ term_at pool number
+pub term-home : (reason : Reason) (n number : ℕ) (pool : Roster Tree) → term_at (brought_home reason n pool) number ≡ term_at pool number
 term-home Reason.RolledBack n number pool =
     ap (λ (o : Option Tree). unwrap_or o unit_tree)
     (machines-stay n (at_home true) pool.members (home n true pool).members (found_altered n (at_home true) (λ _. refl) pool.members) (λ _. refl) (λ _. refl) number)
@@ -105,10 +105,33 @@ except-else : (n i : ℕ) (ms : List (Member Tree)) → i ≢ n → find i (exce
 except-else n i [] apart = refl
 except-else n i (m ∷ ms) apart = let rest = except-else n i ms apart in grind (arith, nat_tests, rest)
 
+-- no two seats have one member
+pub other-member : (parts : Parts) (stands : Stands parts) (seat other : ℕ) → other ≢ seat → (number : ℕ) → member_of (task_at parts.tasks seat) ≡ Some number
+    → (a : Attempt) → working (task_at parts.tasks other) ≡ Some a → a.tried.number ≢ number
+other-member parts stands seat other apart number of a has = λ same.
+    apart
+    (stands.apart other seat a.tried.number (working-member (task_at parts.tasks other) a has) (of ∙ ap (λ (n : ℕ). Some n) (sym same)))
+
+-- a member that runs is there
+pub member-below : (parts : Parts) (stands : Stands parts) (other : ℕ) (a : Attempt) → working (task_at parts.tasks other) ≡ Some a → a.tried.number < parts.next
+member-below parts stands other a has =
+    let i = a.tried.number in
+    let b = busy-of parts stands.types other i (task_at parts.tasks other) (stands.seats other) (working-member (task_at parts.tasks other) a has) in
+    let x = found-at parts.pool i (is_busy_as b.0) b.1 in by (cases_lt i parts.next) x.0 x.1
+  where
+    by : (a.tried.number < parts.next) ⊎ (parts.next ≤ a.tried.number) → (m : Member Tree) → find a.tried.number parts.pool.members ≡ Some m
+        → a.tried.number < parts.next
+    by (inl below) m found = below
+    by (inr above) m found =
+        absurd (let clash : ◌≡◌ {A = Option (Member Tree)} None (Some m) = sym (free-next parts stands a.tried.number above) ∙ found in cc)
+
 module _ (parts : Parts) (stands : Stands parts) (seat other : ℕ) (s : Stage) (apart : other ≢ seat) (on : IsOnSeat parts other s)
     (attempt : Attempt) (task : task_at parts.tasks seat ≡ Task.Running attempt) (steps : ℕ) (p : LocalState) (ls : List ℕ) where
   abbrev woken_pool : Roster Tree
   woken_pool = woken_for ls parts.pool
+
+  number-of : member_of (task_at parts.tasks seat) ≡ Some attempt.tried.number
+  number-of = ap member_of task
 
   abbrev later_pool : Roster Tree
   later_pool = with_newcomers parts.next p.spawns woken_pool
@@ -117,20 +140,11 @@ module _ (parts : Parts) (stands : Stands parts) (seat other : ℕ) (s : Stage) 
     abbrev i : ℕ
     i = a.tried.number
 
-    its : member_of (task_at parts.tasks other) ≡ Some i
-    its = working-member (task_at parts.tasks other) a has
-
     not-its : i ≢ attempt.tried.number
-    not-its = λ same. apart (stands.apart other seat i its (ap member_of task ∙ ap (λ (n : ℕ). Some n) (sym same)))
+    not-its = other-member parts stands seat other apart attempt.tried.number number-of a has
 
     below : i < parts.next
-    below =
-        let b = busy-of parts stands.types other i (task_at parts.tasks other) (stands.seats other) its in
-        let x = found-at parts.pool i (is_busy_as b.0) b.1 in by (cases_lt i parts.next) x.0 x.1
-      where
-        by : (i < parts.next) ⊎ (parts.next ≤ i) → (m : Member Tree) → find i parts.pool.members ≡ Some m → i < parts.next
-        by (inl below) m found = below
-        by (inr above) m found = absurd (let clash : ◌≡◌ {A = Option (Member Tree)} None (Some m) = sym (free-next parts stands i above) ∙ found in cc)
+    below = member-below parts stands other a has
 
     term-kept : (pool : Roster Tree) → find i pool.members ≡ find i later_pool.members → term_at pool i ≡ term_at parts.pool i
     term-kept pool same =

@@ -1,5 +1,5 @@
 -- A machine that was fed what its event gave.
-use Rattle.std.proofs.Common.{◌≡◌, ℕ, ◌<◌, ◌⊎◌, inl, inr, Bool, false, cond, length, Option, Some, None, refl, sym, ap, ◌∙◌, subst}
+use Rattle.std.proofs.Common.{◌≡◌, ℕ, ◌+◌, ◌<◌, ◌≤◌, ◌⊎◌, inl, inr, Bool, false, cond, length, Option, Some, None, refl, sym, ap, ◌∙◌, subst, arith}
 use Rattle.std.proofs.lemmas.List.{length-map}
 use Rattle.std.proofs.lemmas.Bool.{ne_eqb}
 use Rattle.ame_owed.specs.Shown.{shown_cell}
@@ -20,6 +20,7 @@ use Rattle.ame_runner.specs.Comes.{HasNextAct}
 use Rattle.ame_runner.specs.Sound.{IsSoundStage, CanRun}
 use Rattle.ame_runner.proofs.NeedLemmas.{comes_as}
 use Rattle.ame_runner.proofs.MoveLemmas.{fed-to}
+use Rattle.ame_stands.specs.declared.types.Limits.{Limits}
 use Rattle.ame_stands.specs.declared.types.Task.{Task}
 use Rattle.ame_stands.specs.Parts.{Parts, heap_in, task_at}
 use Rattle.ame_stands.specs.Stands.{Stands}
@@ -77,71 +78,86 @@ module _ {C V M : Type 0} (program : C → Tree) (devices : C → ℕ) (value_of
   pub goes : (counts : Counters → Counters) (event : Parts → Parts) (seat : ℕ) (old new : Core C V M) (m : M)
       → MakesEvent program devices value_of stage counts event old new → is_machine old.code m
       → IsOnSeat (event (parts_of program devices value_of stage old)) seat (stage old.code m) → (stage old.code m).inside ≡ false
+      → (event (parts_of program devices value_of stage old)).limits ≡ old.limits → (stage old.code m).since ≤ old.limits.slice
       → ((s : Stage) → IsOnSeat (parts_of program devices value_of stage new) seat s → s.inside ≡ false → CanRun s)
       → IsServed program devices value_of is_machine stage counts event seat old new m
-  goes counts event seat old new m makes machine there side runs =
+  goes counts event seat old new m makes machine there side limits within runs =
       let here : IsOnSeat (parts_of program devices value_of stage new) seat (stage old.code m) =
       subst (λ (p : Parts). IsOnSeat p seat (stage old.code m)) (sym makes.parts) there in
       record {
         makes = makes;
-        on = record {
-          machine = subst (λ (c : C). is_machine c m) (sym makes.code) machine;
-          stands = subst (λ (c : C). IsOnSeat (parts_of program devices value_of stage new) seat (stage c m)) (sym makes.code) here;
+        at = record {
+          on = record {
+            machine = subst (λ (c : C). is_machine c m) (sym makes.code) machine;
+            stands = subst (λ (c : C). IsOnSeat (parts_of program devices value_of stage new) seat (stage c m)) (sym makes.code) here;
+          };
+          within =
+              subst (λ (c : C). (stage c m).since ≤ new.limits.slice) (sym makes.code)
+              (subst (λ (l : Limits). (stage old.code m).since ≤ l.slice) (sym (ap (λ (p : Parts). p.limits) makes.parts ∙ limits)) within);
         };
         runs = subst (λ (c : C). CanRun (stage c m)) (sym makes.code) (runs (stage old.code m) here side);
       }
 
   -- after a read
   pub read-on : (old new : Core C V M) (seat : ℕ) (m fed : M) (l : Loc) (value : V) → Stands (parts_of program devices value_of stage old)
-      → IsOn program devices value_of is_machine stage old seat m → (stage old.code m).inside ≡ false → (stage old.code m).want ≡ Some (wants.Read l)
+      → IsOn program devices value_of is_machine stage old seat m → (stage old.code m).inside ≡ false → (stage old.code m).since < old.limits.slice → (stage old.code m).want ≡ Some (wants.Read l)
       → IsSoundStage (stage old.code m) → MakesEvent program devices value_of stage (one_counted Counted.Read) (has_read seat l) old new
       → value_of old.code value ≡ (cell_at (heap_in (parts_of program devices value_of stage old)) l.0).value
       → ((s : Stage) → IsOnSeat (parts_of program devices value_of stage new) seat s → s.inside ≡ false → CanRun s)
       → is_machine old.code fed → after_input (stage old.code m).want (value_of old.code value) (stage old.code m) ≡ Some (stage old.code fed)
       → IsServed program devices value_of is_machine stage (one_counted Counted.Read) (has_read seat l) seat old new fed
-  read-on old new seat m fed l value stands on outside told sound makes is runs machine after =
+  read-on old new seat m fed l value stands on outside early told sound makes is runs machine after =
       let s = stage old.code m in
       let t = stage old.code fed in
       let parts = parts_of program devices value_of stage old in
       let step : fed_stage (value_of old.code value) s ≡ Some t = sym (ap (λ (o : Option Wants). after_input o (value_of old.code value) s) told) ∙ after in
       let given : fed_stage (cell_at (heap_in parts) l.0).value s ≡ Some t = subst (λ (v : Val). fed_stage v s ≡ Some t) is step in
-      let side : t.inside ≡ false = ap (λ (x : Stage). x.inside) (fed-to (value_of old.code value) s t step).is ∙ outside in
+      let more = fed-to (value_of old.code value) s t step in
+      let side : t.inside ≡ false = ap (λ (x : Stage). x.inside) more.is ∙ outside in
+      let since : t.since ≡ s.since + 1 = ap (λ (x : Stage). x.since) more.is in
+      let within : t.since ≤ old.limits.slice = omega (arith, since, early) in
       goes (one_counted Counted.Read) (has_read seat l) seat old new fed makes machine
-      (read-goes parts seat s t stands on.stands outside l (sound.told (wants.Read l) told) given) side runs
+      (read-goes parts seat s t stands on.stands outside l (sound.told (wants.Read l) told) given) side refl within runs
 
   -- after a write that was accepted
   pub write-on : (old new : Core C V M) (seat : ℕ) (m fed : M) (l : Loc) (v : Val) → Stands (parts_of program devices value_of stage old)
-      → IsOn program devices value_of is_machine stage old seat m → (stage old.code m).inside ≡ false → (stage old.code m).want ≡ Some (wants.Write l)
+      → IsOn program devices value_of is_machine stage old seat m → (stage old.code m).inside ≡ false → (stage old.code m).since < old.limits.slice → (stage old.code m).want ≡ Some (wants.Write l)
       → IsSoundStage (stage old.code m) → MakesEvent program devices value_of stage (one_counted Counted.Write) (has_written seat l v) old new
       → answer.Wrote ≡ answer_to_write seat (cell_at (heap_in (parts_of program devices value_of stage old)) l.0).owner
       → ((s : Stage) → IsOnSeat (parts_of program devices value_of stage new) seat s → s.inside ≡ false → CanRun s)
       → is_machine old.code fed → after_input (stage old.code m).want Val.Unit (stage old.code m) ≡ Some (stage old.code fed)
       → IsServed program devices value_of is_machine stage (one_counted Counted.Write) (has_written seat l v) seat old new fed
-  write-on old new seat m fed l v stands on outside told sound makes wrote runs machine after =
+  write-on old new seat m fed l v stands on outside early told sound makes wrote runs machine after =
       let s = stage old.code m in
       let t = stage old.code fed in
       let parts = parts_of program devices value_of stage old in
       let step : fed_stage Val.Unit s ≡ Some t = sym (ap (λ (o : Option Wants). after_input o Val.Unit s) told) ∙ after in
-      let side : t.inside ≡ false = ap (λ (x : Stage). x.inside) (fed-to Val.Unit s t step).is ∙ outside in
+      let more = fed-to Val.Unit s t step in
+      let side : t.inside ≡ false = ap (λ (x : Stage). x.inside) more.is ∙ outside in
+      let since : t.since ≡ s.since + 1 = ap (λ (x : Stage). x.since) more.is in
+      let within : t.since ≤ old.limits.slice = omega (arith, since, early) in
       goes (one_counted Counted.Write) (has_written seat l v) seat old new fed makes machine
-      (write-goes parts seat s t stands on.stands outside l v (sound.told (wants.Write l) told) (not-others seat (cell_at (heap_in parts) l.0).owner wrote) step) side runs
+      (write-goes parts seat s t stands on.stands outside l v (sound.told (wants.Write l) told) (not-others seat (cell_at (heap_in parts) l.0).owner wrote) step) side refl within runs
 
   -- after an allocation
   pub alloc-on : (old new : Core C V M) (seat : ℕ) (m fed : M) (sort : Sort) (number : TyNo) (v : Val) (place : ℕ)
       → Stands (parts_of program devices value_of stage old) → IsOn program devices value_of is_machine stage old seat m → (stage old.code m).inside ≡ false
-      → (stage old.code m).want ≡ Some (wants.Alloc sort number) → IsSoundStage (stage old.code m)
+      → (stage old.code m).since < old.limits.slice → (stage old.code m).want ≡ Some (wants.Alloc sort number) → IsSoundStage (stage old.code m)
       → MakesEvent program devices value_of stage (one_counted Counted.Alloc) (has_allocated seat sort number v) old new
       → place ≡ length old.desk.cells
       → ((s : Stage) → IsOnSeat (parts_of program devices value_of stage new) seat s → s.inside ≡ false → CanRun s)
       → is_machine old.code fed → after_input (stage old.code m).want (Val.Loc place) (stage old.code m) ≡ Some (stage old.code fed)
       → IsServed program devices value_of is_machine stage (one_counted Counted.Alloc) (has_allocated seat sort number v) seat old new fed
-  alloc-on old new seat m fed sort number v place stands on outside told sound makes is runs machine after =
+  alloc-on old new seat m fed sort number v place stands on outside early told sound makes is runs machine after =
       let s = stage old.code m in
       let t = stage old.code fed in
       let parts = parts_of program devices value_of stage old in
       let step : fed_stage (Val.Loc place) s ≡ Some t = sym (ap (λ (o : Option Wants). after_input o (Val.Loc place) s) told) ∙ after in
       let same : place ≡ length parts.desk.cells = is ∙ sym (length-map old.desk.cells (shown_cell (value_of old.code))) in
       let given : fed_stage (Val.Loc (length parts.desk.cells)) s ≡ Some t = subst (λ (n : ℕ). fed_stage (Val.Loc n) s ≡ Some t) same step in
-      let side : t.inside ≡ false = ap (λ (x : Stage). x.inside) (fed-to (Val.Loc place) s t step).is ∙ outside in
+      let more = fed-to (Val.Loc place) s t step in
+      let side : t.inside ≡ false = ap (λ (x : Stage). x.inside) more.is ∙ outside in
+      let since : t.since ≡ s.since + 1 = ap (λ (x : Stage). x.since) more.is in
+      let within : t.since ≤ old.limits.slice = omega (arith, since, early) in
       goes (one_counted Counted.Alloc) (has_allocated seat sort number v) seat old new fed makes machine
-      (alloc-goes parts seat s t stands on.stands outside sort number v (sound.told (wants.Alloc sort number) told) given) side runs
+      (alloc-goes parts seat s t stands on.stands outside sort number v (sound.told (wants.Alloc sort number) told) given) side refl within runs

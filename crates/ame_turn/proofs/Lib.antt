@@ -1,6 +1,11 @@
 pub mod FedLemmas
 pub mod OthersLemmas
 pub mod EndsLemmas
+pub mod VisitedLemmas
+pub mod ReadyLemmas
 pub mod GoesLemmas
 pub mod CheckLemmas
-pub mod DeedLemmas
+pub mod ValidLemmas
+pub mod RestLemmas
+pub mod HandLemmas
+pub mod DoneLemmas

@@ -1,27 +1,41 @@
 -- What a seat did, as an event of the engine.
-use Rattle.std.specs.Prelude.{◌≡◌, ℕ, ◌≤◌, false, List, is_some}
+use Rattle.std.specs.Prelude.{◌≡◌, ℕ, ◌≤◌, ◌<◌, ◌⊎◌, Bool, true, false, List, length, Option, Some, None, is_some}
 use Rattle.ame_term.specs.Tree.{Val, Tree}
 use Rattle.ame_term.specs.declared.types.Loc.{Loc}
 use Rattle.ame_term.specs.declared.types.Sort.{Sort}
 use Rattle.ame_term.specs.declared.types.TyNo.{TyNo}
-use Rattle.ame_runner.specs.Stage.{Stage}
+use Rattle.ame_rows.specs.declared.notes.Bad.{Bad}
+use Rattle.ame_rows.specs.Valid.{IsValid, IsFirstBad}
+use Rattle.ame_desk.specs.Contents.{row_at}
+use Rattle.ame_device.specs.declared.told.Told.{Told}
+use Rattle.ame_owed.specs.Heap.{cell_at}
+use Rattle.ame_runner.specs.declared.wants.Wants.TheVariants as wants
+use Rattle.ame_runner.specs.Stage.{Stage, place_shown}
+use Rattle.ame_runner.specs.Input.{value_to_set}
 use Rattle.ame_stands.specs.declared.types.Attempt.{Attempt}
-use Rattle.ame_stands.specs.declared.types.Reason.{Reason}
 use Rattle.ame_stands.specs.declared.types.Task.{Task}
-use Rattle.ame_stands.specs.Parts.{Parts, task_at}
+use Rattle.ame_stands.specs.Parts.{Parts, heap_in, task_at, attempt_of}
 use Rattle.ame_stands.specs.Events.{has_begun, has_read, has_written, has_allocated, has_checked, has_turned_back, has_undone, has_gone_home}
+use Rattle.ame_waiting.specs.Noted.{has_noted}
+use Rattle.ame_visits.specs.Stops.{has_been_cut, has_grown_tall}
+use Rattle.ame_engine.specs.declared.answer.Wrote.{Wrote}
 use Rattle.ame_engine.specs.declared.certificate.Certificate.{Certificate}
 use Rattle.ame_engine.specs.declared.counters.Counters.{Counters}
 use Rattle.ame_engine.specs.declared.chance.Chance.{Chance}
 use Rattle.ame_engine.specs.declared.stop.Stop.{Stop}
+use Rattle.ame_engine.specs.AtWork.{working}
 use Rattle.ame_engine.specs.Counting.{Counted, one_counted, one_invalid, one_undone}
 use Rattle.ame_engine.specs.Core.{Core}
-use Rattle.ame_engine.specs.Seen.{parts_of, MakesEvent}
+use Rattle.ame_engine.specs.Seen.{parts_of, MakesEvent, MakesLastEvent}
 use Rattle.ame_engine.specs.Begins.{chance_of}
 use Rattle.ame_engine.specs.Causes.{certificates_in}
 use Rattle.ame_engine.specs.Stops.{stopped_by, blocked_by}
+use Rattle.ame_engine.specs.Writing.{answer_to_write}
 use Rattle.ame_engine.specs.Committing.{ended_at, left_at}
+use Rattle.ame_engine.specs.Undoing.{reason_to_undo}
+use Rattle.ame_engine.specs.Visiting.{HasComeHome, HasBeenRefused}
 use Rattle.ame_turn.specs.declared.work.Deed.{Deed}
+use Rattle.ame_turn.specs.Asked.{AsksFor, RunsTo, Accesses, IsToCheck, IsToCommit, IsToVisit, IsUsedUp, IsToUndo}
 
 module _ {C V M : Type 0} where
   -- what a seat makes of the engine that meets a stop, with the certificates where all members are parked
@@ -32,31 +46,119 @@ module _ {C V M : Type 0} where
   StopsBy certificates Chance.Spent old new = new ≡ stopped_by Stop.Spent old
   StopsBy certificates _ old new = ⊥
 
-module _ {C V M : Type 0} (program : C → Tree) (devices : C → ℕ) (value_of : C → V → Val) (stage : C → M → Stage) (seat : ℕ) (old new : Core C V M) where
+-- whether a seat visited a member that is inside
+abbrev pub is_visit : Deed → Bool
+is_visit Deed.CameHome = true
+is_visit (Deed.DeviceFailed device) = true
+is_visit _ = false
+
+module _ {C V M : Type 0} (program : C → Tree) (devices : C → ℕ) (value_of : C → V → Val) (stage : C → M → Stage) (seat : ℕ)
+    (hand : Option Stage) (old new : Core C V M) where
   abbrev pub Makes : (Counters → Counters) → (Parts → Parts) → Type 0
   Makes counts event = MakesEvent program devices value_of stage counts event old new
 
-  -- an event of a seat that runs this attempt
-  abbrev pub MakesOf : Attempt → (Counters → Counters) → (Parts → Parts) → Type 0
-  MakesOf attempt counts event = (task_at old.tasks seat ≡ Task.Running attempt) × Makes counts event
+  abbrev pub MakesLast : Stop → (Counters → Counters) → (Parts → Parts) → Type 0
+  MakesLast why counts event = MakesLastEvent program devices value_of stage why counts event old new
 
-  -- the event that a seat made
-  abbrev pub IsDone : Deed → Type 0
-  IsDone Deed.Began = (number : ℕ) × (chance_of old ≡ Chance.Member number) × Makes (one_counted Counted.Begin) (has_begun seat number)
-  IsDone Deed.Waited = (chance_of old ≡ Chance.Idle) × (new ≡ old)
-  IsDone Deed.Stopped = StopsBy (certificates_in (parts_of program devices value_of stage old)) (chance_of old) old new
-  IsDone Deed.Read = (l : Loc) × Makes (one_counted Counted.Read) (has_read seat l)
-  IsDone Deed.Wrote = (l : Loc) × (v : Val) × Makes (one_counted Counted.Write) (has_written seat l v)
-  IsDone (Deed.Met owner) = (attempt : Attempt) × MakesOf attempt (one_counted Counted.Conflict) (has_turned_back seat attempt)
-  IsDone Deed.Allocated = (sort : Sort) × (ty : TyNo) × (v : Val) × Makes (one_counted Counted.Alloc) (has_allocated seat sort ty v)
-  IsDone Deed.Checked = (attempt : Attempt) × (steps : ℕ) × MakesOf attempt (one_counted Counted.Check) (has_checked seat steps attempt)
-  IsDone (Deed.FoundInvalid bad) = (attempt : Attempt) × MakesOf attempt (one_invalid Counted.Check) (has_turned_back seat attempt)
-  IsDone Deed.Ended = (attempt : Attempt) × (s : Stage) × MakesOf attempt (one_counted Counted.Commit) (ended_at seat attempt.tried.number s)
-  IsDone Deed.Left = (attempt : Attempt) × (s : Stage) × MakesOf attempt (one_counted Counted.Commit) (left_at seat attempt.tried.number s)
-  IsDone (Deed.Refused bad) = (attempt : Attempt) × MakesOf attempt (one_invalid Counted.Commit) (has_turned_back seat attempt)
-  IsDone Deed.Undid = (attempt : Attempt) × (reason : Reason) × Makes (one_undone (is_some old.stop)) (has_undone seat attempt reason)
-  IsDone Deed.WentHome = (attempt : Attempt) × (reason : Reason) × Makes (one_undone (is_some old.stop)) (has_gone_home seat attempt reason)
-  IsDone Deed.Lacked = new ≡ stopped_by Stop.NoMemory old
-  IsDone Deed.Spent = (is_some old.stop ≡ false) × (old.limits.turns ≤ old.turns) × (new ≡ old)
-  IsDone Deed.Visits = new ≡ old
-  IsDone (Deed.Wanted want) = new ≡ old
+  -- the seat is idle, and meets this
+  pub record Meets (chance : Chance) : Type 0 where
+    pub idle : task_at old.tasks seat ≡ Task.Idle
+    pub meets : chance_of old ≡ chance
+
+  -- each read of the seat is valid, or this one is the first that isn't
+  abbrev pub AreAllValid : Type 0
+  AreAllValid = IsValid old.desk.cells seat (row_at old.desk.rows seat).reads
+
+  abbrev pub IsInvalid : Bad → Type 0
+  IsInvalid bad = IsFirstBad old.desk.cells seat (row_at old.desk.rows seat).reads bad
+
+  -- what a write at a location is answered
+  abbrev pub answer_at : Loc → Wrote
+  answer_at l = answer_to_write seat (cell_at (heap_in (parts_of program devices value_of stage old)) l.0).owner
+
+  -- the seat runs this attempt of a member, and its reads are valid
+  pub record RunsValid (attempt : Attempt) : Type 0 where
+    pub task : task_at old.tasks seat ≡ Task.Running attempt
+    pub valid : AreAllValid
+
+  -- or this read isn't, and the seat turns back
+  pub record TurnsBack (counts : Counters → Counters) (bad : Bad) : Type 0 where
+    pub attempt : Attempt
+    pub task : task_at old.tasks seat ≡ Task.Running attempt
+    pub invalid : IsInvalid bad
+    pub event : Makes counts (has_turned_back seat attempt)
+
+  -- the seat undoes an entry, and some are left or none
+  pub record UndoesAt (attempt : Attempt) (becomes : Parts → Parts) : Type 0 where
+    pub undoes : IsToUndo old seat
+    pub has : attempt_of (task_at old.tasks seat) ≡ Some attempt
+    pub event : Makes (one_undone (is_some old.stop)) becomes
+
+  -- a note tells where the machine of a seat is cut off, whose reads are valid
+  pub record CutsAt (s : Stage) : Type 0 where
+    pub attempt : Attempt
+    pub has : working (task_at old.tasks seat) ≡ Some attempt
+    pub valid : AreAllValid
+    pub event : MakesLast Stop.Spent (λ counters. counters) (has_been_cut seat attempt.tried.number s.steps (place_shown s) (task_at old.tasks seat))
+
+  -- the turns are used up
+  abbrev pub Spends : Option Stage → Type 0
+  Spends None = new ≡ stopped_by Stop.Spent old
+  Spends (Some s) = CutsAt s ⊎ ((AreAllValid → ⊥) × (new ≡ stopped_by Stop.Spent old))
+
+  -- the event that a seat made, with what the devices told before and after
+  abbrev pub IsMade : List Told → List Told → Deed → Type 0
+  IsMade before after Deed.Began =
+      (number : ℕ) × Meets (Chance.Member number) × Makes (one_counted Counted.Begin) (has_begun seat number)
+  IsMade before after Deed.Waited = Meets Chance.Idle × (new ≡ old)
+  IsMade before after Deed.Stopped =
+      (chance : Chance) × Meets chance × StopsBy (certificates_in (parts_of program devices value_of stage old)) chance old new
+  IsMade before after Deed.Read =
+      (s : Stage) × (l : Loc) × Accesses old hand s (wants.Read l) × Makes (one_counted Counted.Read) (has_read seat l)
+  IsMade before after Deed.Wrote =
+      (s : Stage) × (l : Loc) × (v : Val) × Accesses old hand s (wants.Write l) × (value_to_set s ≡ Some v) × (answer_at l ≡ Wrote.Wrote)
+      × Makes (one_counted Counted.Write) (has_written seat l v)
+  IsMade before after (Deed.Met owner) =
+      (s : Stage) × (l : Loc) × (attempt : Attempt) × Accesses old hand s (wants.Write l) × (answer_at l ≡ Wrote.Conflict owner)
+      × (task_at old.tasks seat ≡ Task.Running attempt) × Makes (one_counted Counted.Conflict) (has_turned_back seat attempt)
+  IsMade before after Deed.Allocated =
+      (s : Stage) × (sort : Sort) × (ty : TyNo) × (v : Val) × Accesses old hand s (wants.Alloc sort ty) × (value_to_set s ≡ Some v)
+      × Makes (one_counted Counted.Alloc) (has_allocated seat sort ty v)
+  IsMade before after Deed.Checked =
+      (s : Stage) × IsToCheck old hand s × (attempt : Attempt) × RunsValid attempt × Makes (one_counted Counted.Check) (has_checked seat s.steps attempt)
+  IsMade before after (Deed.FoundInvalid bad) = (s : Stage) × IsToCheck old hand s × TurnsBack (one_invalid Counted.Check) bad
+  IsMade before after Deed.Ended =
+      (s : Stage) × RunsTo old hand s wants.Done × (attempt : Attempt) × RunsValid attempt
+      × Makes (one_counted Counted.Commit) (ended_at seat attempt.tried.number s)
+  IsMade before after Deed.Left =
+      (s : Stage) × RunsTo old hand s wants.Leave × (attempt : Attempt) × RunsValid attempt
+      × Makes (one_counted Counted.Commit) (left_at seat attempt.tried.number s)
+  IsMade before after (Deed.Refused bad) = (s : Stage) × IsToCommit old hand s × TurnsBack (one_invalid Counted.Commit) bad
+  IsMade before after Deed.Noted =
+      (s : Stage) × RunsTo old hand s wants.Block × (attempt : Attempt) × RunsValid attempt
+      × Makes (one_counted Counted.Block) (has_noted seat attempt s.steps (place_shown s))
+  IsMade before after (Deed.NotNoted bad) = (s : Stage) × RunsTo old hand s wants.Block × TurnsBack (one_invalid Counted.Block) bad
+  IsMade before after Deed.GrewTall =
+      (s : Stage) × AsksFor old hand s wants.Tall × (attempt : Attempt) × (working (task_at old.tasks seat) ≡ Some attempt) × AreAllValid
+      × MakesLast (Stop.Tall attempt.tried.number) (one_counted Counted.Tall)
+      (has_grown_tall seat attempt.tried.number s.steps (place_shown s) (task_at old.tasks seat))
+  IsMade before after (Deed.NotTall bad) = (s : Stage) × RunsTo old hand s wants.Tall × TurnsBack (one_invalid Counted.Tall) bad
+  IsMade before after Deed.CameHome =
+      (s : Stage) × IsToVisit old hand s × (attempt : Attempt) × (task_at old.tasks seat ≡ Task.Free attempt)
+      × HasComeHome program devices value_of stage seat attempt.tried.number s before after old new
+  IsMade before after (Deed.DeviceFailed device) =
+      (s : Stage) × IsToVisit old hand s × (attempt : Attempt) × (task_at old.tasks seat ≡ Task.Free attempt)
+      × HasBeenRefused program devices value_of stage seat attempt.tried.number device s before after old new
+  IsMade before after Deed.Spent = IsUsedUp old × Spends hand
+  IsMade before after Deed.Undid =
+      (attempt : Attempt) × (1 < length (row_at old.desk.rows seat).undos)
+      × UndoesAt attempt (has_undone seat attempt (reason_to_undo (task_at old.tasks seat)))
+  IsMade before after Deed.WentHome =
+      (attempt : Attempt) × (length (row_at old.desk.rows seat).undos ≤ 1)
+      × UndoesAt attempt (has_gone_home seat attempt (reason_to_undo (task_at old.tasks seat)))
+  IsMade before after Deed.Lacked = (old.stop ≡ None) × (new ≡ stopped_by Stop.NoMemory old)
+
+  -- So it was, and devices were called by visits alone.
+  pub record IsDone (before after : List Told) (deed : Deed) : Type 0 where
+    pub event : IsMade before after deed
+    pub quiet : is_visit deed ≡ false → after ≡ before

@@ -1,5 +1,5 @@
 -- What a seat has at hand beside the engine.
-use Rattle.std.specs.Prelude.{◌≡◌, ℕ, false, is_some, IsSome, IsTrue}
+use Rattle.std.specs.Prelude.{◌≡◌, ◌≤◌, ◌<◌, ℕ, false, Option, Some, None, is_some, IsSome, IsTrue}
 use Rattle.ame_term.specs.Tree.{Val, Tree}
 use Rattle.ame_runner.specs.Stage.{Stage}
 use Rattle.ame_stands.specs.declared.types.Task.{Task}
@@ -10,6 +10,12 @@ use Rattle.ame_engine.specs.Undoing.{is_undoing}
 use Rattle.ame_turn.specs.declared.work.Work.{Work}
 use Rattle.ame_turn.specs.declared.work.Work.TheVariants as work
 
+-- where the machine stands that a seat has at hand
+abbrev pub stage_at : {C M : Type 0} → (C → M → Stage) → C → Work M → Option Stage
+stage_at stage code work.Idle = None
+stage_at stage code (work.Running m) = Some (stage code m)
+stage_at stage code work.Undoing = None
+
 module _ {C V M : Type 0} where
   -- a seat has a member at work, and undoes it unless a stop is kept
   pub record CanUndo (core : Core C V M) (seat : ℕ) : Type 0 where
@@ -18,8 +24,19 @@ module _ {C V M : Type 0} where
 
 module _ {C V M : Type 0} (program : C → Tree) (devices : C → ℕ) (value_of : C → V → Val) (is_machine : C → M → Type 0)
     (stage : C → M → Stage) where
+  -- a machine is where the run of its seat stands, and has made no more steps than its slice since it was checked
+  pub record IsAtWork (core : Core C V M) (seat : ℕ) (m : M) : Type 0 where
+    pub on : IsOn program devices value_of is_machine stage core seat m
+    pub within : (stage core.code m).since ≤ core.limits.slice
+
   -- it is idle, or its machine is where its run stands, or it can undo
   abbrev pub Fits : Core C V M → ℕ → Work M → Type 0
   Fits core seat work.Idle = task_at core.tasks seat ≡ Task.Idle
-  Fits core seat (work.Running m) = IsOn program devices value_of is_machine stage core seat m
+  Fits core seat (work.Running m) = IsAtWork core seat m
   Fits core seat work.Undoing = CanUndo core seat
+
+  -- A machine has its turn: it is at work, no stop is kept, and turns are left.
+  pub record HasTurn (core : Core C V M) (seat : ℕ) (m : M) : Type 0 where
+    pub at : IsAtWork core seat m
+    pub going : core.stop ≡ None
+    pub left : core.turns < core.limits.turns

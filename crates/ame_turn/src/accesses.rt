@@ -35,6 +35,7 @@ where
     requires code { code.now ≡ engine.old.code }
     requires on { IsOn M.program M.devices M.value_of M.is_machine M.stage engine.old seat machine.old }
     requires reads { IsReading (M.stage engine.old.code machine.old) }
+    requires early { (M.stage engine.old.code machine.old).since < engine.old.limits.slice }
     requires left { engine.old.turns < engine.old.limits.turns }
     requires steps { (M.stage engine.old.code machine.old).steps + 1 < 2 ^ 64 }
     ensures goes { (l : Loc) → (M.stage engine.old.code machine.old).want ≡ Some (Wants.Read l) → OnOk result
@@ -61,6 +62,7 @@ where
     requires code { code.now ≡ engine.old.code }
     requires on { IsOn M.program M.devices M.value_of M.is_machine M.stage engine.old seat machine.old }
     requires writes { IsWriting (M.stage engine.old.code machine.old) }
+    requires early { (M.stage engine.old.code machine.old).since < engine.old.limits.slice }
     requires left { engine.old.turns < engine.old.limits.turns }
     requires steps { (M.stage engine.old.code machine.old).steps + 1 < 2 ^ 64 }
     ensures answer { (l : Loc) → (M.stage engine.old.code machine.old).want ≡ Some (Wants.Write l) → IfOk result (λ answer.
@@ -97,6 +99,7 @@ where
     requires code { code.now ≡ engine.old.code }
     requires on { IsOn M.program M.devices M.value_of M.is_machine M.stage engine.old seat machine.old }
     requires allocates { IsAllocating (M.stage engine.old.code machine.old) }
+    requires early { (M.stage engine.old.code machine.old).since < engine.old.limits.slice }
     requires left { engine.old.turns < engine.old.limits.turns }
     requires steps { (M.stage engine.old.code machine.old).steps + 1 < 2 ^ 64 }
     ensures goes { (sort : Sort) (number : TyNo) (v : Val) → (M.stage engine.old.code machine.old).want ≡ Some (Wants.Alloc sort number)

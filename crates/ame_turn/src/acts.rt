@@ -1,232 +1,262 @@
 //! What a seat does in its turn.
 
-ghost use Rattle.std.specs.Prelude.{◌≡◌, ◌≢◌, ◌<◌, ℕ, IfOk, Some, None, false};
+ghost use Rattle.std.specs.Prelude.{◌≡◌, ◌≢◌, ◌≤◌, ◌<◌, ◌+◌, ◌^◌, ℕ, List, Some, None, true, false, length, vec_len};
+ghost use Rattle.ame_device.specs.declared.told.Told.{Told};
+ghost use Rattle.ame_device.specs.Calls.{all_told};
 ghost use Rattle.ame_runner.specs.declared.wants.Wants.{Wants};
-ghost use Rattle.ame_engine.specs.AtWork.{IsOn};
+ghost use Rattle.ame_turn.specs.declared.work.Deed.{Deed};
 ghost use Rattle.ame_turn.specs.declared.work.Work.{Work};
-ghost use Rattle.ame_turn.specs.Work.{CanUndo, Fits};
+ghost use Rattle.ame_turn.specs.Asked.{waits_for_check};
+ghost use Rattle.ame_turn.specs.Ready.{IsReady, IsReadyWork, CanBePrepared};
+ghost use Rattle.ame_turn.specs.Work.{stage_at, CanUndo, IsAtWork, HasTurn, Fits};
 ghost use Rattle.ame_turn.specs.Deeds.{IsDone};
 
-use crate::events::{
-    alloc_on, begin_on, check_on, end_on, give_up, leave_on, read_on, undo_on, write_on,
-};
-use crate::work::{Deed, Turned, Work};
+use crate::events::{begin_on, give_up, undo_on};
+use crate::rows::{block_on, check_on, end_on, leave_on, tall_on};
+use crate::serves::{alloc_on, read_on, write_on};
+use crate::spends::{spend_running, spend_undoing};
+use crate::visits::free_on;
+use crate::work::{Turned, Work};
+use ame_device::Device;
 use ame_engine::Engine;
 use ame_runner::{Runner, Wants};
-use ame_term::NoMemory;
-use std::alloc::Global;
 
-/// The machine of a seat makes steps until it wants something, or its slice is full.
-fn go_on<M: Runner>(
-    engine: &Engine<M>,
-    alloc: Global,
-    code: &M::Code,
-    seat: u32,
-    machine: &mut M,
-    slice: u32,
-    turns: u32,
-) -> Result<Wants, NoMemory>
-where
-    M::Code: Drop,
-    requires code { code.now ≡ engine.now.code }
-    requires on { IsOn M.program M.devices M.value_of M.is_machine M.stage engine.now seat machine.old }
-    requires outside { (M.stage engine.now.code machine.old).inside ≡ false }
-    requires slice { slice ≡ engine.now.limits.slice }
-    requires turns { turns ≡ engine.now.limits.turns }
-    ensures on { IsOn M.program M.devices M.value_of M.is_machine M.stage engine.now seat machine.new }
-    ensures outside { (M.stage engine.now.code machine.new).inside ≡ false }
-    ensures told { IfOk result (λ want. (M.stage engine.now.code machine.new).want ≡ Some want) }
+/// A list's length is the number of its items.
+fn has_its_length<D>(devices: &Vec<D>)
+    ensures { vec_len devices.now ≡ length devices.now.items }
 {
-    engine.stands();
-    let _steps = machine.steps();
-    let fuel = u64::from(slice).saturating_sub(machine.since());
-    machine.advance(alloc, code, fuel)
+    let _items = devices.as_slice();
 }
 
-/// The machine of a seat reads, writes or makes a cell, where its slice isn't full.
-fn access<M: Runner>(
-    engine: &mut Engine<M>,
-    code: &M::Code,
-    seat: u32,
-    machine: M,
-    want: Wants,
-    slice: u32,
-    turns: u32,
-) -> Turned<M>
-where
-    M::Code: Drop,
-    requires code { code.now ≡ engine.old.code }
-    requires on { IsOn M.program M.devices M.value_of M.is_machine M.stage engine.old seat machine }
-    requires outside { (M.stage engine.old.code machine).inside ≡ false }
-    requires told { (M.stage engine.old.code machine).want ≡ Some want }
-    requires left { engine.old.turns < engine.old.limits.turns }
-    requires slice { slice ≡ engine.old.limits.slice }
-    requires turns { turns ≡ engine.old.limits.turns }
-    requires few { (M.stage engine.old.code machine).since < slice }
-    ensures fits { Fits M.program M.devices M.value_of M.is_machine M.stage engine.new seat result.work }
-    ensures done { IsDone M.program M.devices M.value_of M.stage seat engine.old engine.new result.deed }
+/// A number of 32 bits.
+fn is_small(number: u32)
+    ensures { number < 2 ^ 32 }
 {
-    engine.stands();
-    match want {
-        Wants::Read(_) => read_on(engine, code, seat, machine),
-        Wants::Write(_) => write_on(engine, code, seat, machine),
-        Wants::Alloc(_, _) => alloc_on(engine, code, seat, machine),
-        _ => Turned {
-            deed: Deed::Wanted(want),
-            work: Work::Running(machine),
-        },
-    }
+    let _ = number;
 }
 
-/// A seat does what its machine wants; at a full slice its reads are checked first. A false condition, a value that is too high
-/// and a place under `unprotected` have no event here.
+/// The limits are numbers of 32 bits.
+fn limits_are_small<M: Runner>(engine: &Engine<M>)
+where
+    M::Code: Drop,
+    ensures slice { engine.now.limits.slice < 2 ^ 32 }
+    ensures turns { engine.now.limits.turns < 2 ^ 32 }
+{
+    is_small(engine.limits().slice);
+    is_small(engine.limits().turns);
+}
+
+/// Whether the reads of a seat are checked at a full slice before this is done.
+fn waits_for_check(want: Wants) -> bool
+    ensures { result ≡ waits_for_check (Some want) }
+{
+    matches!(
+        want,
+        Wants::Read(_) | Wants::Write(_) | Wants::Alloc(_, _) | Wants::OutOfFuel
+    )
+}
+
+/// A seat does what its machine of protected code wants, where nothing is checked before.
 fn serve<M: Runner>(
     engine: &mut Engine<M>,
     code: &M::Code,
     seat: u32,
     machine: M,
     want: Wants,
-    slice: u32,
-    turns: u32,
 ) -> Turned<M>
 where
     M::Code: Drop,
-    requires code { code.now ≡ engine.old.code }
-    requires on { IsOn M.program M.devices M.value_of M.is_machine M.stage engine.old seat machine }
+    requires same { code.now ≡ engine.old.code }
+    requires turn { HasTurn M.program M.devices M.value_of M.is_machine M.stage engine.old seat machine }
+    requires ready { IsReady engine.old.limits.slice (M.stage engine.old.code machine) }
     requires outside { (M.stage engine.old.code machine).inside ≡ false }
     requires told { (M.stage engine.old.code machine).want ≡ Some want }
-    requires going { engine.old.stop ≡ None }
-    requires left { engine.old.turns < engine.old.limits.turns }
-    requires slice { slice ≡ engine.old.limits.slice }
-    requires turns { turns ≡ engine.old.limits.turns }
+    requires early { waits_for_check (Some want) ≡ true → (M.stage engine.old.code machine).since < engine.old.limits.slice }
+    requires steps { (M.stage engine.old.code machine).steps + 1 < 2 ^ 64 }
     ensures fits { Fits M.program M.devices M.value_of M.is_machine M.stage engine.new seat result.work }
-    ensures done { IsDone M.program M.devices M.value_of M.stage seat engine.old engine.new result.deed }
+    ensures done { (told : List Told) → IsDone M.program M.devices M.value_of M.stage seat (Some (M.stage engine.old.code machine)) engine.old engine.new told told result.deed }
 {
     match want {
-        Wants::Done => return end_on(engine, seat, machine),
-        Wants::Leave => return leave_on(engine, seat, machine),
-        Wants::Read(_) | Wants::Write(_) | Wants::Alloc(_, _) | Wants::OutOfFuel => {}
-        _ => {
-            return Turned {
-                deed: Deed::Wanted(want),
-                work: Work::Running(machine),
-            };
-        }
-    }
-    let since = machine.since();
-    if since == u64::from(slice) {
-        return check_on(engine, seat, machine);
-    }
-    if since < u64::from(slice) {
-        return access(engine, code, seat, machine, want, slice, turns);
-    }
-    Turned {
-        deed: Deed::Wanted(want),
-        work: Work::Running(machine),
+        Wants::Read(_) => read_on(engine, code, seat, machine),
+        Wants::Write(_) => write_on(engine, code, seat, machine),
+        Wants::Alloc(_, _) => alloc_on(engine, code, seat, machine),
+        Wants::Done => end_on(engine, seat, machine),
+        Wants::Leave => leave_on(engine, seat, machine),
+        Wants::Block => block_on(engine, seat, machine),
+        Wants::Tall => tall_on(engine, seat, machine),
+        Wants::OutOfFuel
+        | Wants::Peek(_)
+        | Wants::Close
+        | Wants::Device(_, _)
+        | Wants::Spawn
+        | Wants::Print(_) => unreachable!(),
     }
 }
 
-/// A seat runs protected code.
+/// A seat goes on from where its machine of protected code stands.
 fn go<M: Runner>(
     engine: &mut Engine<M>,
-    alloc: Global,
-    code: &M::Code,
-    seat: u32,
-    mut machine: M,
-) -> Turned<M>
-where
-    M::Code: Drop,
-    requires code { code.now ≡ engine.old.code }
-    requires on { IsOn M.program M.devices M.value_of M.is_machine M.stage engine.old seat machine }
-    requires outside { (M.stage engine.old.code machine).inside ≡ false }
-    requires going { engine.old.stop ≡ None }
-    requires left { engine.old.turns < engine.old.limits.turns }
-    ensures fits { Fits M.program M.devices M.value_of M.is_machine M.stage engine.new seat result.work }
-    ensures done { IsDone M.program M.devices M.value_of M.stage seat engine.old engine.new result.deed }
-{
-    let slice = engine.limits().slice;
-    let turns = engine.limits().turns;
-    match go_on(engine, alloc, code, seat, &mut machine, slice, turns) {
-        Ok(want) => serve(engine, code, seat, machine, want, slice, turns),
-        Err(_) => give_up(engine),
-    }
-}
-
-/// A seat that runs a machine: once a stop is kept it undoes, and without turns it does nothing.
-fn run<M: Runner>(
-    engine: &mut Engine<M>,
-    alloc: Global,
     code: &M::Code,
     seat: u32,
     machine: M,
+    want: Wants,
 ) -> Turned<M>
 where
     M::Code: Drop,
-    requires code { code.now ≡ engine.old.code }
-    requires on { IsOn M.program M.devices M.value_of M.is_machine M.stage engine.old seat machine }
+    requires same { code.now ≡ engine.old.code }
+    requires turn { HasTurn M.program M.devices M.value_of M.is_machine M.stage engine.old seat machine }
+    requires ready { IsReady engine.old.limits.slice (M.stage engine.old.code machine) }
+    requires outside { (M.stage engine.old.code machine).inside ≡ false }
+    requires told { (M.stage engine.old.code machine).want ≡ Some want }
     ensures fits { Fits M.program M.devices M.value_of M.is_machine M.stage engine.new seat result.work }
-    ensures done { IsDone M.program M.devices M.value_of M.stage seat engine.old engine.new result.deed }
+    ensures done { (told : List Told) → IsDone M.program M.devices M.value_of M.stage seat (Some (M.stage engine.old.code machine)) engine.old engine.new told told result.deed }
+{
+    engine.stands();
+    limits_are_small(engine);
+    let slice = engine.limits().slice;
+    if waits_for_check(want) && machine.since() >= u64::from(slice) {
+        return check_on(engine, seat, machine);
+    }
+    serve(engine, code, seat, machine, want)
+}
+
+/// A seat goes on from where its machine of unprotected code stands.
+fn visit<M: Runner, D: Device>(
+    engine: &mut Engine<M>,
+    seat: u32,
+    machine: M,
+    want: Wants,
+    devices: &mut Vec<D>,
+) -> Turned<M>
+where
+    M::Code: Drop,
+    requires turn { HasTurn M.program M.devices M.value_of M.is_machine M.stage engine.old seat machine }
+    requires ready { IsReady engine.old.limits.slice (M.stage engine.old.code machine) }
+    requires inside { (M.stage engine.old.code machine).inside ≡ true }
+    requires told { (M.stage engine.old.code machine).want ≡ Some want }
+    requires devices { M.devices engine.old.code ≤ vec_len devices.old }
+    ensures fits { Fits M.program M.devices M.value_of M.is_machine M.stage engine.new seat result.work }
+    ensures done { IsDone M.program M.devices M.value_of M.stage seat (Some (M.stage engine.old.code machine)) engine.old engine.new
+        (all_told D.device_heard D.device_faults devices.old.items) (all_told D.device_heard D.device_faults devices.new.items) result.deed }
+{
+    engine.stands();
+    limits_are_small(engine);
+    match want {
+        Wants::Tall => tall_on(engine, seat, machine),
+        _ => free_on(engine, seat, machine, devices),
+    }
+}
+
+/// A seat that has a machine at hand: once a stop is kept it undoes, and without turns that stop is kept.
+fn run<M: Runner, D: Device>(
+    engine: &mut Engine<M>,
+    code: &M::Code,
+    seat: u32,
+    machine: M,
+    devices: &mut Vec<D>,
+) -> Turned<M>
+where
+    M::Code: Drop,
+    requires same { code.now ≡ engine.old.code }
+    requires at { IsAtWork M.program M.devices M.value_of M.is_machine M.stage engine.old seat machine }
+    requires ready { engine.old.stop ≡ None → IsReady engine.old.limits.slice (M.stage engine.old.code machine) }
+    requires devices { M.devices engine.old.code ≤ vec_len devices.old }
+    ensures fits { Fits M.program M.devices M.value_of M.is_machine M.stage engine.new seat result.work }
+    ensures done { IsDone M.program M.devices M.value_of M.stage seat (Some (M.stage engine.old.code machine)) engine.old engine.new
+        (all_told D.device_heard D.device_faults devices.old.items) (all_told D.device_heard D.device_faults devices.new.items) result.deed }
 {
     if engine.stopped().is_some() {
         return undo_on(engine, seat);
     }
     if engine.turns() >= engine.limits().turns {
-        return Turned {
-            deed: Deed::Spent,
-            work: Work::Running(machine),
-        };
+        return spend_running(engine, seat, machine);
     }
-    if machine.inside() {
-        return Turned {
-            deed: Deed::Visits,
-            work: Work::Running(machine),
-        };
+    match machine.want() {
+        Some(want) if machine.inside() => visit(engine, seat, machine, want, devices),
+        Some(want) => go(engine, code, seat, machine, want),
+        None => unreachable!(),
     }
-    go(engine, alloc, code, seat, machine)
 }
 
-/// A seat that undoes: without turns it does nothing, unless a stop is kept.
+/// A seat that undoes: without turns that stop is kept, unless one is.
 fn undo<M: Runner>(engine: &mut Engine<M>, seat: u32) -> Turned<M>
 where
     M::Code: Drop,
-    requires undoes { CanUndo engine.old seat }
+    requires can { CanUndo engine.old seat }
     ensures fits { Fits M.program M.devices M.value_of M.is_machine M.stage engine.new seat result.work }
-    ensures done { IsDone M.program M.devices M.value_of M.stage seat engine.old engine.new result.deed }
+    ensures done { (told : List Told) → IsDone M.program M.devices M.value_of M.stage seat None engine.old engine.new told told result.deed }
 {
     if engine.stopped().is_none() && engine.turns() >= engine.limits().turns {
-        return Turned {
-            deed: Deed::Spent,
-            work: Work::Undoing,
-        };
+        return spend_undoing(engine, seat);
     }
     undo_on(engine, seat)
 }
 
-/// What a seat does in its turn, and what it has at hand then: it begins a member, runs its machine to the next thing that it
-/// wants and does it, or undoes an entry. Where memory is lacking, that stop is kept. What other seats have at hand still fits.
-pub fn act<M: Runner>(
+/// The event of a seat, by what it has at hand, unless memory was lacking before.
+fn event<M: Runner, D: Device>(
     engine: &mut Engine<M>,
-    alloc: Global,
     code: &M::Code,
     seat: u32,
     work: Work<M>,
+    lacks: bool,
+    devices: &mut Vec<D>,
 ) -> Turned<M>
 where
     M::Code: Drop,
     requires code { code.now ≡ engine.old.code }
     requires seat { seat < engine.old.limits.seats }
     requires fits { Fits M.program M.devices M.value_of M.is_machine M.stage engine.old seat work }
+    requires ready { lacks ≡ false → IsReadyWork M.stage engine.old.code engine.old.limits.slice work }
+    requires devices { M.devices engine.old.code ≤ vec_len devices.old }
     ensures fits { Fits M.program M.devices M.value_of M.is_machine M.stage engine.new seat result.work }
-    ensures done { IsDone M.program M.devices M.value_of M.stage seat engine.old engine.new result.deed }
-    ensures others { (other : ℕ) (rest : Work M) → other ≢ seat → Fits M.program M.devices M.value_of M.is_machine M.stage engine.old other rest
-        → Fits M.program M.devices M.value_of M.is_machine M.stage engine.new other rest }
-    ensures code { engine.new.code ≡ engine.old.code }
-    ensures limits { engine.new.limits ≡ engine.old.limits }
+    ensures done { IsDone M.program M.devices M.value_of M.stage seat (stage_at M.stage engine.old.code work) engine.old engine.new
+        (all_told D.device_heard D.device_faults devices.old.items) (all_told D.device_heard D.device_faults devices.new.items) result.deed }
+    ensures lacks { lacks ≡ true → engine.old.stop ≡ None → result.deed ≡ Deed.Lacked }
 {
-    engine.stands();
+    if lacks && engine.stopped().is_none() {
+        return give_up(engine, work);
+    }
     match work {
         Work::Idle => begin_on(engine, seat),
-        Work::Running(machine) => run(engine, alloc, code, seat, machine),
+        Work::Running(machine) => run(engine, code, seat, machine, devices),
         Work::Undoing => undo(engine, seat),
     }
+}
+
+/// One event of a seat, exactly the one that the engine, what the seat has at hand and what its machine wants name. `lacks` is
+/// whether memory was lacking when what it has at hand was prepared; that stop is kept then, unless one is. Where memory is lacking
+/// for the event itself that stop is kept, and nothing else changes. What other seats have at hand still fits.
+pub fn act<M: Runner, D: Device>(
+    engine: &mut Engine<M>,
+    code: &M::Code,
+    seat: u32,
+    work: Work<M>,
+    lacks: bool,
+    devices: &mut Vec<D>,
+) -> Turned<M>
+where
+    M::Code: Drop,
+    requires code { code.now ≡ engine.old.code }
+    requires seat { seat < engine.old.limits.seats }
+    requires fits { Fits M.program M.devices M.value_of M.is_machine M.stage engine.old seat work }
+    requires ready { lacks ≡ false → IsReadyWork M.stage engine.old.code engine.old.limits.slice work }
+    requires devices { M.devices engine.old.code ≤ vec_len devices.old }
+    ensures done { IsDone M.program M.devices M.value_of M.stage seat (stage_at M.stage engine.old.code work) engine.old engine.new
+        (all_told D.device_heard D.device_faults devices.old.items) (all_told D.device_heard D.device_faults devices.new.items) result.deed }
+    ensures lacks { lacks ≡ true → engine.old.stop ≡ None → result.deed ≡ Deed.Lacked }
+    ensures fits { Fits M.program M.devices M.value_of M.is_machine M.stage engine.new seat result.work }
+    ensures others { (other : ℕ) (rest : Work M) → other ≢ seat → Fits M.program M.devices M.value_of M.is_machine M.stage engine.old other rest
+        → Fits M.program M.devices M.value_of M.is_machine M.stage engine.new other rest }
+    ensures can { CanBePrepared M.is_machine M.stage engine.new.code engine.new.limits.slice result.work }
+    ensures code { engine.new.code ≡ engine.old.code }
+    ensures limits { engine.new.limits ≡ engine.old.limits }
+    ensures count { vec_len devices.new ≡ vec_len devices.old }
+{
+    engine.stands();
+    has_its_length(devices);
+    let turned = event(engine, code, seat, work, lacks, devices);
+    engine.stands();
+    limits_are_small(engine);
+    has_its_length(devices);
+    turned
 }

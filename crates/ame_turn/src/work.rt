@@ -1,7 +1,6 @@
 //! What a seat has at hand beside the engine, and what it did.
 
 use ame_rows::Bad;
-use ame_runner::Wants;
 
 /// What a seat has at hand.
 #[derive(Drop)]
@@ -38,18 +37,26 @@ pub enum Deed {
     Left,
     /// It was to commit, and this read isn't valid any more, so that it turned back.
     Refused(Bad),
+    /// Its member came to a condition that is false.
+    Noted,
+    /// It was to note such a condition, and this read isn't valid any more, so that it turned back.
+    NotNoted(Bad),
+    /// Its member came to a value that is too high, and that stop is kept.
+    GrewTall,
+    /// It was to note such a value, and this read isn't valid any more, so that it turned back.
+    NotTall(Bad),
+    /// It visited a member that is inside, which is home again.
+    CameHome,
+    /// This device failed in such a visit, and that stop is kept.
+    DeviceFailed(u8),
+    /// It has a member at work and the turns are used up: that stop is kept.
+    Spent,
     /// It undid an entry.
     Undid,
     /// Nothing was left to undo, and its member went home.
     WentHome,
-    /// Memory was lacking, and a stop is kept.
+    /// Memory was lacking, and that stop is kept.
     Lacked,
-    /// Nothing: it has a member at work, and the turns are used up.
-    Spent,
-    /// Nothing: the machine is under `unprotected`.
-    Visits,
-    /// Nothing: this is wanted.
-    Wanted(Wants),
 }
 
 /// What a seat did, and what it has at hand then.

@@ -10,7 +10,7 @@ returns-in-Wrote-clause-goes g c = λ l v told sets wrote.
     let m = c.args.machine.now in
     let fed = c.feed.new.self in
     write-on g.M.Runner.program g.M.Runner.devices g.M.Runner.value_of g.M.Runner.is_machine g.M.Runner.stage c.args.engine.now c.write.new.self c.args.seat
-    m fed l v c.stands.ensures c.requires.on c.requires.writes.outside told
+    m fed l v c.stands.ensures c.requires.on c.requires.writes.outside c.requires.early told
     (g.met.M.Runner.sound c.args.engine.now.code m c.requires.on.machine)
     (c.write.ensures.event l v told sets (c.in_ok-wrote.was ∙ ap Ok c.in-Wrote.is)) (sym c.in-Wrote.is ∙ c.in_ok-wrote.ensures.answer l told)
     c.in_ok-wrote.ensures.runs (subst (λ k. g.M.Runner.is_machine k fed) c.requires.code c.feed.ensures.machine)

@@ -1,14 +1,28 @@
-use Rattle.ame_turn.proofs.DeedLemmas.{others-fit}
+use Rattle.std.proofs.Common.{sym, ◌∙◌}
+use Rattle.std.proofs.lemmas.List.{length-map}
+use Rattle.ame_device.specs.Calls.{told}
+use Rattle.ame_turn.proofs.RestLemmas.{made-leaves}
+use Rattle.ame_turn.proofs.ReadyLemmas.{can-prepare}
+use Rattle.ame_turn.proofs.DoneLemmas.{told-counts}
 use Rattle.ame_turn.proofs.acts.act.Goals as goal
 
-pub returns-in-Idle-clause-others : goal.returns-in-Idle-clause-others
-returns-in-Idle-clause-others g c = λ other rest apart fits.
-    others-fit g.M.Runner.program g.M.Runner.devices g.M.Runner.value_of g.M.Runner.is_machine g.M.Runner.stage c.args.engine.now c.begin_on.new.engine c.args.seat other c.stands.ensures apart c.begin_on.result.deed c.begin_on.ensures.done rest fits
+pub returns-clause-others : goal.returns-clause-others
+returns-clause-others g c = λ other rest apart fits. (made-leaves g.M.Runner.program g.M.Runner.devices g.M.Runner.value_of g.M.Runner.is_machine g.M.Runner.stage c.args.engine.now c.event-turned.new.engine c.args.seat c.stands.ensures _ _ _ _ c.event-turned.ensures.done.event).others other rest apart fits
 
-pub returns-in-Running-clause-others : goal.returns-in-Running-clause-others
-returns-in-Running-clause-others g c = λ other rest apart fits.
-    others-fit g.M.Runner.program g.M.Runner.devices g.M.Runner.value_of g.M.Runner.is_machine g.M.Runner.stage c.args.engine.now c.run.new.engine c.args.seat other c.stands.ensures apart c.run.result.deed c.run.ensures.done rest fits
+pub returns-clause-code : goal.returns-clause-code
+returns-clause-code g c = (made-leaves g.M.Runner.program g.M.Runner.devices g.M.Runner.value_of g.M.Runner.is_machine g.M.Runner.stage c.args.engine.now c.event-turned.new.engine c.args.seat c.stands.ensures _ _ _ _ c.event-turned.ensures.done.event).code
 
-pub returns-in-Undoing-clause-others : goal.returns-in-Undoing-clause-others
-returns-in-Undoing-clause-others g c = λ other rest apart fits.
-    others-fit g.M.Runner.program g.M.Runner.devices g.M.Runner.value_of g.M.Runner.is_machine g.M.Runner.stage c.args.engine.now c.undo.new.engine c.args.seat other c.stands.ensures apart c.undo.result.deed c.undo.ensures.done rest fits
+pub returns-clause-limits : goal.returns-clause-limits
+returns-clause-limits g c = (made-leaves g.M.Runner.program g.M.Runner.devices g.M.Runner.value_of g.M.Runner.is_machine g.M.Runner.stage c.args.engine.now c.event-turned.new.engine c.args.seat c.stands.ensures _ _ _ _ c.event-turned.ensures.done.event).limits
+
+pub returns-clause-can : goal.returns-clause-can
+returns-clause-can g c =
+    can-prepare g.M.Runner.program g.M.Runner.devices g.M.Runner.value_of g.M.Runner.is_machine g.M.Runner.stage c.event-turned.new.engine c.args.seat _ c.stands-2.ensures c.event-turned.ensures.fits c.limits_are_small.ensures.slice
+    c.limits_are_small.ensures.turns
+
+pub returns-clause-count : goal.returns-clause-count
+returns-clause-count g c =
+    let same = told-counts g.M.Runner.program g.M.Runner.devices g.M.Runner.value_of g.M.Runner.stage c.args.seat _ c.args.engine.now c.event-turned.new.engine _ _ _ c.event-turned.ensures.done in
+    let all = length-map c.event-turned.new.devices.items (λ d. told (g.D.Device.device_heard d) (g.D.Device.device_faults d)) in
+    let before = length-map c.args.devices.now.items (λ d. told (g.D.Device.device_heard d) (g.D.Device.device_faults d)) in
+    c.has_its_length-2.ensures ∙ sym all ∙ same ∙ before ∙ sym c.has_its_length.ensures

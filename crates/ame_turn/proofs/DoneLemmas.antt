@@ -1,0 +1,213 @@
+-- What a seat did, from what its event was asked with.
+use Rattle.std.proofs.Common.{◌≡◌, ℕ, ◌<◌, ◌≤◌, ◌⊎◌, inl, inr, Bool, true, false, List, [], Option, Some, None, Result, Ok, Err, refl, sym, ap, ◌∙◌, subst, arith, length-set}
+use Rattle.std.specs.Prelude.{IfOk, OnOk, ℤ, length}
+use Rattle.ame_term.specs.Tree.{Val, Tree}
+use Rattle.ame_term.specs.declared.types.Loc.{Loc}
+use Rattle.ame_rows.specs.declared.notes.Bad.{Bad}
+use Rattle.ame_rows.specs.declared.notes.ReadNote.{ReadNote}
+use Rattle.ame_rows.specs.Valid.{IsFirstBad}
+use Rattle.ame_desk.specs.Contents.{Notes, Contents, row_at}
+use Rattle.ame_device.specs.declared.told.Told.{Told}
+use Rattle.ame_device.specs.declared.fault.DeviceFail.{DeviceFail}
+use Rattle.ame_device.specs.Calls.{CallsOne}
+use Rattle.ame_runner.specs.declared.wants.Wants.{Wants}
+use Rattle.ame_runner.specs.declared.wants.Wants.TheVariants as wants
+use Rattle.ame_runner.specs.Stage.{Stage}
+use Rattle.ame_runner.specs.Need.{Need}
+use Rattle.ame_runner.specs.Acting.{takes_input}
+use Rattle.ame_runner.specs.Sound.{IsSoundStage}
+use Rattle.ame_runner.proofs.NeedLemmas.{comes_as}
+use Rattle.ame_stands.specs.Parts.{Parts}
+use Rattle.ame_stands.specs.Stands.{Stands}
+use Rattle.ame_stands.proofs.ShownDeskLemmas.{row-shown}
+use Rattle.ame_visits.proofs.PlaceLemmas.{visits}
+use Rattle.ame_engine.specs.Core.{Core}
+use Rattle.ame_engine.specs.Seen.{parts_of}
+use Rattle.ame_engine.specs.Committing.{IsCommitting}
+use Rattle.ame_engine.specs.Visiting.{VisitsTo}
+use Rattle.ame_engine.proofs.VisitPlaceLemmas.{visits-as}
+use Rattle.ame_turn.specs.declared.work.Deed.{Deed}
+use Rattle.ame_turn.specs.Ready.{IsReady}
+use Rattle.ame_turn.specs.Work.{IsAtWork}
+use Rattle.ame_turn.specs.Asked.{waits_for_check, GoesOn, AsksFor, RunsTo, Accesses, IsToCheck, IsToCommit, IsToVisit}
+use Rattle.ame_turn.specs.Deeds.{IsMade, IsDone}
+use Rattle.ame_turn.proofs.ValidLemmas.{none-invalid}
+
+-- Answers
+
+pub told-ok : {A E : Type 0} (r : Result A E) (a : A) (P : A → Type 0) → r ≡ Ok a → IfOk r P → P a
+told-ok {A} {E} r a P is h = subst (λ (x : Result A E). IfOk x P) is h
+
+pub told-on : {A E : Type 0} (r : Result A E) (a : A) (P : Type 0) → r ≡ Ok a → OnOk r P → P
+told-on {A} {E} r a P is h = subst (λ (x : Result A E). OnOk x P) is h
+
+-- What the engine is asked for
+
+module _ {C V M : Type 0} (core : Core C V M) (s : Stage) (going : core.stop ≡ None) (left : core.turns < core.limits.turns) where
+  pub goes-from : GoesOn core (Some s) s
+  goes-from = record { met = refl; going = going; left = left }
+
+  pub asks-from : (want : Wants) → s.want ≡ Some want → AsksFor core (Some s) s want
+  asks-from want is = record { goes = goes-from; wants = is }
+
+  pub runs-from : (want : Wants) → s.want ≡ Some want → s.inside ≡ false → RunsTo core (Some s) s want
+  runs-from want is outside = record { asks = asks-from want is; outside = outside }
+
+  pub accesses-from : (want : Wants) → s.want ≡ Some want → s.inside ≡ false → s.since < core.limits.slice → Accesses core (Some s) s want
+  accesses-from want is outside early = record { runs = runs-from want is outside; early = early }
+
+  pub checks-from : s.inside ≡ false → waits_for_check s.want ≡ true → s.since ≡ core.limits.slice → IsToCheck core (Some s) s
+  checks-from outside waits full = record { goes = goes-from; outside = outside; waits = waits; full = full }
+
+  pub commits-from : IsCommitting s → IsToCommit core (Some s) s
+  commits-from commits = record { goes = goes-from; commits = commits }
+
+  pub visits-from : s.inside ≡ true → (s.want ≡ Some wants.Tall → ⊥) → IsToVisit core (Some s) s
+  visits-from inside short = record { goes = goes-from; inside = inside; short = short }
+
+-- What machines never want
+
+-- whether only unprotected code wants this
+abbrev pub is_of_visits : Wants → Bool
+is_of_visits (wants.Peek l) = true
+is_of_visits wants.Close = true
+is_of_visits (wants.Device device n) = true
+is_of_visits wants.Spawn = true
+is_of_visits (wants.Print n) = true
+is_of_visits _ = false
+
+abbrev IsOfVisits : Wants → Type 0
+IsOfVisits want =
+    ((l : Loc) × (want ≡ wants.Peek l))
+    ⊎ ((want ≡ wants.Close)
+    ⊎ (((device : ℕ) × (n : ℤ) × (want ≡ wants.Device device n)) ⊎ ((want ≡ wants.Spawn) ⊎ ((n : ℤ) × (want ≡ wants.Print n)))))
+
+-- what no event of protected code serves
+abbrev pub IsUnserved : Wants → Type 0
+IsUnserved want = (want ≡ wants.OutOfFuel) ⊎ IsOfVisits want
+
+only-of-visits : (want : Wants) → IsOfVisits want → is_of_visits want ≡ true
+only-of-visits want (inl peeks) = ap is_of_visits peeks.1
+only-of-visits want (inr (inl is)) = ap is_of_visits is
+only-of-visits want (inr (inr (inl calls))) = ap is_of_visits calls.2
+only-of-visits want (inr (inr (inr (inl is)))) = ap is_of_visits is
+only-of-visits want (inr (inr (inr (inr prints)))) = ap is_of_visits prints.1
+
+module _ (s : Stage) (sound : IsSoundStage s) where
+  pub never-outside : (want : Wants) → s.want ≡ Some want → s.inside ≡ false → is_of_visits want ≡ true → ⊥
+  never-outside (wants.Peek l) is outside only = let inside = (comes_as s (Need.Peek l.0) (sound.told (wants.Peek l) is)).0 in cc
+  never-outside wants.Close is outside only = let inside = (comes_as s Need.Close (sound.told wants.Close is)).0 in cc
+  never-outside (wants.Device device n) is outside only =
+      let inside = (comes_as s (Need.Device device n) (sound.told (wants.Device device n) is)).0 in cc
+  never-outside wants.Spawn is outside only = let inside = (comes_as s Need.Spawn (sound.told wants.Spawn is)).0 in cc
+  never-outside (wants.Print n) is outside only = let inside = (comes_as s (Need.Print n) (sound.told (wants.Print n) is)).0 in cc
+  never-outside (wants.Read l) is outside only = cc
+  never-outside (wants.Write l) is outside only = cc
+  never-outside (wants.Alloc sort number) is outside only = cc
+  never-outside wants.Block is outside only = cc
+  never-outside wants.Done is outside only = cc
+  never-outside wants.Leave is outside only = cc
+  never-outside wants.Tall is outside only = cc
+  never-outside wants.OutOfFuel is outside only = cc
+
+  -- a machine of protected code that is ready, whose slice isn't full where that matters, wants something that is served
+  pub never-unserved : (slice : ℕ) (want : Wants) → s.want ≡ Some want → s.inside ≡ false → IsReady slice s
+      → (waits_for_check (Some want) ≡ true → s.since < slice) → IsUnserved want → ⊥
+  never-unserved slice want is outside ready early (inl fuel) =
+      let told = ready.told in
+      let same : ready.want ≡ wants.OutOfFuel = cc in
+      let full = (ready.full same).0 in
+      let few = early (ap (λ (w : Wants). waits_for_check (Some w)) fuel) in omega (arith, full, few)
+  never-unserved slice want is outside ready early (inr visits) = never-outside want is outside (only-of-visits want visits)
+
+  -- a machine that visits and is ready is to be fed what it wants, or has made a step
+  pub visit-moved : (slice : ℕ) → IsReady slice s → s.inside ≡ true → (s.want ≡ Some wants.Tall → ⊥) → takes_input s.want ≡ false → 0 < s.steps
+  visit-moved slice ready inside short rests = by ready.want ready.told ready.full
+    where
+      rests-at : (want : Wants) → s.want ≡ Some want → takes_input (Some want) ≡ false
+      rests-at want is = sym (ap takes_input is) ∙ rests
+
+      by : (want : Wants) → s.want ≡ Some want → (want ≡ wants.OutOfFuel → (slice ≤ s.since) × (0 < s.since)) → 0 < s.steps
+      by (wants.Read l) is full = absurd (let taken = rests-at (wants.Read l) is in cc)
+      by (wants.Write l) is full = absurd (let taken = rests-at (wants.Write l) is in cc)
+      by (wants.Alloc sort number) is full = absurd (let taken = rests-at (wants.Alloc sort number) is in cc)
+      by (wants.Peek l) is full = absurd (let taken = rests-at (wants.Peek l) is in cc)
+      by wants.Close is full = absurd (let taken = rests-at wants.Close is in cc)
+      by (wants.Device device n) is full = absurd (let taken = rests-at (wants.Device device n) is in cc)
+      by wants.Spawn is full = absurd (let taken = rests-at wants.Spawn is in cc)
+      by (wants.Print n) is full = absurd (let taken = rests-at (wants.Print n) is in cc)
+      by wants.Block is full = absurd (let outside = (comes_as s Need.Block (sound.told wants.Block is)).0 in cc)
+      by wants.Done is full = absurd (let outside = (comes_as s Need.Done (sound.told wants.Done is)).0 in cc)
+      by wants.Leave is full = absurd (let outside = (comes_as s Need.Leave (sound.told wants.Leave is)).0 in cc)
+      by wants.Tall is full = absurd (short is)
+      by wants.OutOfFuel is full = let made = (full refl).1 in let counted = sound.counted in omega (arith, made, counted)
+
+module _ {C V M : Type 0} (program : C → Tree) (devices : C → ℕ) (value_of : C → V → Val) (is_machine : C → M → Type 0) (stage : C → M → Stage)
+    (core : Core C V M) (seat : ℕ) where
+  abbrev parts : Parts
+  parts = parts_of program devices value_of stage core
+
+  -- a read isn't valid of protected code alone
+  pub bad-outside : (m : M) → Stands parts → IsAtWork program devices value_of is_machine stage core seat m → (bad : Bad)
+      → IsFirstBad core.desk.cells seat (row_at core.desk.rows seat).reads bad → (stage core.code m).inside ≡ false
+  bad-outside m stands at bad first = by (stage core.code m).inside refl
+    where
+      by : (b : Bool) → (stage core.code m).inside ≡ b → (stage core.code m).inside ≡ false
+      by false e = e
+      by true e =
+          let task = visits-as parts seat (stage core.code m) at.on.stands e in
+          let none : (row_at core.desk.rows seat).reads ≡ [] =
+          sym (ap (λ (n : Notes Val). n.reads) (row-shown (value_of core.code) core.desk.rows seat))
+          ∙ ap (λ (n : Notes Val). n.reads) (visits parts stands seat at.on.stands.attempt task).clear in
+          absurd
+          (none-invalid seat core.desk.cells bad (subst (λ (reads : List ReadNote). IsFirstBad core.desk.cells seat reads bad) none first))
+
+  pub done-alone : (hand : Option Stage) (new : Core C V M) (told : List Told) (deed : Deed) → IsMade program devices value_of stage seat hand core new told told deed
+      → IsDone program devices value_of stage seat hand core new told told deed
+  done-alone hand new told deed made = record { event = made; quiet = λ _. refl }
+
+-- A call keeps the number of devices
+
+call-counts : (before after : List Told) (k : ℕ) (argument : ℤ) (result : Result ℤ DeviceFail) → CallsOne before k argument result after
+    → length after ≡ length before
+call-counts before after k argument result calls = ap length calls.others ∙ length-set before k calls.is
+
+visit-counts : (s n : Stage) (desk later : Contents Val) (before after : List Told) (answer : Option ℤ) → VisitsTo s desk before answer n later after
+    → length after ≡ length before
+visit-counts s n desk later before after answer (VisitsTo.rests alone) = refl
+visit-counts s n desk later before after answer (VisitsTo.reads l v m want is fed) = refl
+visit-counts s n desk later before after answer (VisitsTo.peeks l v m want is fed) = refl
+visit-counts s n desk later before after answer (VisitsTo.writes l v m want sets fed) = refl
+visit-counts s n desk later before after answer (VisitsTo.makes sort number v m want sets fed) = refl
+visit-counts s n desk later before after answer (VisitsTo.spawns m want fed) = refl
+visit-counts s n desk later before after answer (VisitsTo.prints i m want fed) = refl
+visit-counts s n desk later before after answer (VisitsTo.closes m want closes) = refl
+visit-counts s n desk later before after answer (VisitsTo.calls device argument given m told want calls fed) =
+    call-counts before told device argument (Ok given) calls
+
+module _ {C V M : Type 0} (program : C → Tree) (devices : C → ℕ) (value_of : C → V → Val) (stage : C → M → Stage) (seat : ℕ) (hand : Option Stage)
+    (old new : Core C V M) (before after : List Told) where
+  pub told-counts : (deed : Deed) → IsDone program devices value_of stage seat hand old new before after deed → length after ≡ length before
+  told-counts Deed.CameHome d =
+      let home = d.event.4 in visit-counts d.event.0 home.comes (parts_of program devices value_of stage old).desk home.desk before after home.answer home.visits
+  told-counts (Deed.DeviceFailed device) d = let refused = d.event.4 in call-counts before after device refused.argument (Err DeviceFail.Failed) refused.fails
+  told-counts Deed.Began d = ap length (d.quiet refl)
+  told-counts Deed.Waited d = ap length (d.quiet refl)
+  told-counts Deed.Stopped d = ap length (d.quiet refl)
+  told-counts Deed.Read d = ap length (d.quiet refl)
+  told-counts Deed.Wrote d = ap length (d.quiet refl)
+  told-counts (Deed.Met owner) d = ap length (d.quiet refl)
+  told-counts Deed.Allocated d = ap length (d.quiet refl)
+  told-counts Deed.Checked d = ap length (d.quiet refl)
+  told-counts (Deed.FoundInvalid bad) d = ap length (d.quiet refl)
+  told-counts Deed.Ended d = ap length (d.quiet refl)
+  told-counts Deed.Left d = ap length (d.quiet refl)
+  told-counts (Deed.Refused bad) d = ap length (d.quiet refl)
+  told-counts Deed.Noted d = ap length (d.quiet refl)
+  told-counts (Deed.NotNoted bad) d = ap length (d.quiet refl)
+  told-counts Deed.GrewTall d = ap length (d.quiet refl)
+  told-counts (Deed.NotTall bad) d = ap length (d.quiet refl)
+  told-counts Deed.Spent d = ap length (d.quiet refl)
+  told-counts Deed.Undid d = ap length (d.quiet refl)
+  told-counts Deed.WentHome d = ap length (d.quiet refl)
+  told-counts Deed.Lacked d = ap length (d.quiet refl)

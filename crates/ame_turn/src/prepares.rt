@@ -1,0 +1,50 @@
+//! What is done before a turn.
+
+ghost use Rattle.std.specs.Prelude.{◌<◌, OnOk};
+ghost use Rattle.ame_turn.specs.Ready.{CanGoOn, HasGoneOn, IsReady, CanBePrepared, IsPrepared, IsReadyWork};
+
+use crate::work::Work;
+use ame_runner::{Runner, Wants};
+use ame_term::NoMemory;
+use std::alloc::Global;
+
+/// A machine makes steps until it wants something or its slice is full, unless it wants something already.
+fn go_on<M: Runner>(
+    alloc: Global,
+    code: &M::Code,
+    slice: u32,
+    machine: &mut M,
+) -> Result<(), NoMemory>
+    requires some { 0 < slice }
+    requires can { CanGoOn M.is_machine M.stage code.now slice machine.old }
+    ensures gone { HasGoneOn M.is_machine M.stage code.now slice machine.old machine.new }
+    ensures ready { OnOk result (IsReady slice (M.stage code.now machine.new)) }
+{
+    match machine.want() {
+        None | Some(Wants::OutOfFuel) => {
+            let fuel = u64::from(slice).saturating_sub(machine.since());
+            machine.advance(alloc, code, fuel)?;
+            Ok(())
+        }
+        Some(_) => Ok(()),
+    }
+}
+
+/// The machine that a seat has at hand makes steps until it wants something or its slice is full, unless it wants something
+/// already. Done before a turn, without the engine. After `NoMemory` it may have made some of the steps.
+pub fn prepare<M: Runner>(
+    alloc: Global,
+    code: &M::Code,
+    slice: u32,
+    work: &mut Work<M>,
+) -> Result<(), NoMemory>
+    requires some { 0 < slice }
+    requires can { CanBePrepared M.is_machine M.stage code.now slice work.old }
+    ensures prepared { IsPrepared M.is_machine M.stage code.now slice work.old work.new }
+    ensures ready { OnOk result (IsReadyWork M.stage code.now slice work.new) }
+{
+    match work {
+        Work::Running(machine) => go_on(alloc, code, slice, machine),
+        Work::Idle | Work::Undoing => Ok(()),
+    }
+}

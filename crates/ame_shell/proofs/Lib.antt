@@ -1,0 +1,11 @@
+pub mod ToldLemmas
+pub mod HeardLemmas
+pub mod VisitLemmas
+pub mod StopLemmas
+pub mod DeedLemmas
+pub mod SendLemmas
+pub mod TurnLemmas
+pub mod CountLemmas
+pub mod FitsLemmas
+pub mod UndoneLemmas
+pub mod OverLemmas

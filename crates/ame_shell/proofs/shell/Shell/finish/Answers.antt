@@ -1,0 +1,8 @@
+use Rattle.ame_shell.proofs.OverLemmas.{is-over}
+use Rattle.ame_shell.proofs.shell.Shell.finish.Goals as goal
+
+pub returns : goal.returns
+returns g c = record {
+  over = λ opening h.
+      is-over g.M.Runner.program g.M.Runner.devices g.M.Runner.value_of g.M.Runner.stage opening _ c.finish.result h c.finish.ensures.told c.finish.ensures.ends;
+}

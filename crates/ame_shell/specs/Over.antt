@@ -1,0 +1,32 @@
+-- What a run tells that is over.
+use Rattle.std.specs.Prelude.{◌≡◌, ℕ, ◌<◌, List, [], All}
+use Rattle.ame_io.specs.Lines.{lines}
+use Rattle.ame_term.specs.Tree.{Val, Tree}
+use Rattle.ame_journal.specs.declared.entry.Entry.{Entry}
+use Rattle.ame_stands.specs.declared.types.Limits.{Limits}
+use Rattle.ame_engine.specs.declared.counters.Counters.{Counters}
+use Rattle.ame_engine.specs.Ending.{End, IsEnd}
+use Rattle.ame_engine.specs.Lone.{IsUndisturbed}
+use Rattle.ame_shell.specs.Ends.{Ends}
+use Rattle.ame_shell.specs.Sent.{IsSent}
+use Rattle.ame_shell.specs.Heard.{HaveHeard, HaveFailed}
+
+-- each entry is of one of so many seats
+abbrev pub AreOfSeats : ℕ → List Entry → Type 0
+AreOfSeats seats entries = All (λ entry. entry.seat < seats) entries
+
+-- no seat was in another one's way
+abbrev pub NoneWereInTheWay : Counters → Type 0
+NoneWereInTheWay counters = IsUndisturbed counters
+
+-- A run of a program, from its beginning, with what its ends told before and after. Its journal replays, and its stop has its
+-- cause in the state that is left. The lines of what was printed were sent, all of them unless the sink failed; each device has
+-- heard what the journal tells, and none failed unless that is the stop. One seat by itself has nobody in its way.
+pub record IsOver (program : Tree) (limits : Limits) {V : Type 0} (value : V → Val) (before : Ends) (end : End V) (after : Ends) : Type 0 where
+  pub ends : IsEnd program limits value end
+  pub base : end.base ≡ []
+  pub seats : AreOfSeats limits.seats end.entries
+  pub sent : IsSent end.stop (lines ends.r.state.output) before after
+  pub heard : HaveHeard program end.entries before.told after.told
+  pub failed : HaveFailed end.stop before.told after.told
+  pub lone : limits.seats ≡ 1 → NoneWereInTheWay end.counters

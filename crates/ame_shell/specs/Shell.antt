@@ -1,0 +1,56 @@
+-- What is so of an engine with its sink and its devices, from its opening on.
+use Rattle.std.specs.Prelude.{◌≡◌, ℕ, ◌<◌, ◌++◌, List, [], length, Option, Some}
+use Rattle.ame_io.specs.Counts.{HasRisen}
+use Rattle.ame_io.specs.Lines.{lines}
+use Rattle.ame_io.specs.Writes.{AppendsFirst}
+use Rattle.ame_term.specs.Tree.{Tree}
+use Rattle.ame_device.specs.declared.told.Heard.{Heard}
+use Rattle.ame_device.specs.declared.told.Told.{Told}
+use Rattle.ame_stands.specs.declared.types.Limits.{Limits}
+use Rattle.ame_engine.specs.declared.stop.Stop.{Stop}
+use Rattle.ame_engine.specs.Core.{Core}
+use Rattle.ame_shell.specs.Ends.{Ends, ends_of}
+use Rattle.ame_shell.specs.Heard.{HaveHeard, HaveFailed}
+use Rattle.ame_shell.specs.Over.{AreOfSeats}
+
+-- What contracts see of a shell: its engine, how many bytes of the text were sent, and what sink and devices tell.
+pub record Shown (C V M : Type 0) : Type 0 where
+  pub core : Core C V M
+  pub sent : ℕ
+  pub ends : Ends
+
+abbrev pub shown : {C V M K D : Type 0} → (K → Option (List ℕ)) → (K → ℕ) → (D → Option (List Heard)) → (D → ℕ) → Core C V M → ℕ → K → List D → Shown C V M
+shown written faults heard device_faults core sent sink devices =
+    record { core = core; sent = sent; ends = ends_of written faults heard device_faults sink devices }
+
+-- how it was opened: the code, the limits, and what the ends told
+pub record Opening (C : Type 0) : Type 0 where
+  pub code : C
+  pub limits : Limits
+  pub ends : Ends
+
+-- Unless the sink failed, a text is sent to its end. Where it failed some isn't.
+abbrev pub GoesTo : Option Stop → ℕ → List ℕ → ℕ → ℕ → Type 0
+GoesTo (Some Stop.WriteFault) sent text faults now = (sent < length text) × HasRisen faults now
+GoesTo _ sent text faults now = (sent ≡ length text) × (now ≡ faults)
+
+-- So many bytes of a text were sent since the opening, by the stop that is kept.
+pub record IsSentSince (opened now : Ends) (stop : Option Stop) (sent : ℕ) (text : List ℕ) : Type 0 where
+  pub first : AppendsFirst sent opened.written now.written text
+  pub goes : GoesTo stop sent text opened.write_faults now.write_faults
+
+module _ {C V M : Type 0} (program : C → Tree) where
+  -- Code and limits are those of the opening. The engine was opened from no entries, and each entry is of one of its seats. Each
+  -- device has heard what the journal tells, and none failed unless that stop is kept.
+  pub record IsOpenedSo (opening : Opening C) (core : Core C V M) (told : List Told) : Type 0 where
+    pub code : core.code ≡ opening.code
+    pub limits : core.limits ≡ opening.limits
+    pub base : core.base ≡ []
+    pub seats : AreOfSeats core.limits.seats core.entries
+    pub heard : HaveHeard (program core.code) (core.base ++ core.entries) opening.ends.told told
+    pub failed : HaveFailed core.stop opening.ends.told told
+
+  -- So it is of a shell, and the lines of what was printed are sent.
+  pub record IsShell (opening : Opening C) (shell : Shown C V M) : Type 0 where
+    pub opened : IsOpenedSo opening shell.core shell.ends.told
+    pub sends : IsSentSince opening.ends shell.ends shell.core.stop shell.sent (lines shell.core.output)

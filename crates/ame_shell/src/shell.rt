@@ -1,0 +1,144 @@
+//! An engine with its sink and its devices.
+
+ghost use Rattle.std.specs.Prelude.{◌≡◌, ◌≢◌, ◌≤◌, ◌<◌, ℕ, None, IsSome, true, false, length, vec_len};
+ghost use Rattle.ame_io.specs.Lines.{lines};
+ghost use Rattle.ame_stands.specs.declared.types.Task.{Task};
+ghost use Rattle.ame_stands.specs.Parts.{task_at};
+ghost use Rattle.ame_turn.specs.declared.work.Deed.{Deed};
+ghost use Rattle.ame_turn.specs.declared.work.Work.{Work};
+ghost use Rattle.ame_turn.specs.Ready.{IsReadyWork, CanBePrepared};
+ghost use Rattle.ame_turn.specs.Work.{stage_at, Fits};
+ghost use Rattle.ame_shell.specs.Ends.{ends_of};
+ghost use Rattle.ame_shell.specs.Over.{IsOver};
+ghost use Rattle.ame_shell.specs.Shell.{shown, Opening, IsShell};
+ghost use Rattle.ame_shell.specs.Turned.{HasFlushed, is_to_flush as flushes_after, HasTurned};
+
+use crate::left::Left;
+use ame_device::Device;
+use ame_engine::{Engine, Stop};
+use ame_io::{Sink, WriteFault, write_all};
+use ame_runner::Runner;
+use ame_turn::{Deed, Turned, Work, act};
+
+/// An engine, the sink to which the lines of its output go, with how many bytes were sent, and its devices.
+pub struct Shell<M: Runner, K, D>
+where
+    M::Code: Drop,
+{
+    pub engine: Engine<M>,
+    pub sink: K,
+    pub sent: usize,
+    pub devices: Vec<D>,
+}
+
+impl<M: Runner, K: Drop, D: Drop> Drop for Shell<M, K, D>
+where
+    M::Code: Drop,
+{
+    fn drop(self) {
+        let Shell {
+            engine: _,
+            sink: _,
+            sent: _,
+            devices: _,
+        } = self;
+    }
+}
+
+/// Whether lines may have come of what a seat did.
+fn is_to_flush(deed: Deed) -> bool
+    ensures { result ≡ flushes_after deed }
+{
+    matches!(deed, Deed::Ended | Deed::Left | Deed::CameHome)
+}
+
+impl<M: Runner, K: Sink, D: Device> Shell<M, K, D>
+where
+    M::Code: Drop,
+{
+    /// Sends what wasn't sent yet of the text. Where the sink fails, that stop is kept. Takes no memory.
+    pub fn flush(&mut self)
+        requires within { self.old.sent ≤ length (lines self.old.engine.output) }
+        requires going { self.old.engine.stop ≡ None }
+        ensures flushes { HasFlushed (shown K.written K.faults D.device_heard D.device_faults self.old.engine self.old.sent self.old.sink self.old.devices.items)
+            (shown K.written K.faults D.device_heard D.device_faults self.new.engine self.new.sent self.new.sink self.new.devices.items) }
+        ensures devices { self.new.devices ≡ self.old.devices }
+    {
+        let text = self.engine.text();
+        let len = text.len();
+        match write_all(&mut self.sink, &text[self.sent..]) {
+            Ok(()) => self.sent = len,
+            Err(WriteFault { gone }) => {
+                self.sent += gone;
+                self.engine.stop(Stop::WriteFault);
+            }
+        }
+    }
+
+    /// Sends the lines that came of what a seat did.
+    fn flush_after(&mut self, deed: Deed)
+        requires within { self.old.sent ≤ length (lines self.old.engine.output) }
+        requires going { flushes_after deed ≡ true → self.old.engine.stop ≡ None }
+        ensures flushes { flushes_after deed ≡ true
+            → HasFlushed (shown K.written K.faults D.device_heard D.device_faults self.old.engine self.old.sent self.old.sink self.old.devices.items)
+            (shown K.written K.faults D.device_heard D.device_faults self.new.engine self.new.sent self.new.sink self.new.devices.items) }
+        ensures stays { flushes_after deed ≡ false → self.new ≡ self.old }
+        ensures devices { self.new.devices ≡ self.old.devices }
+    {
+        if is_to_flush(deed) {
+            self.flush();
+        }
+    }
+
+    /// One event of a seat, as `act` makes it. Lines that come of it are sent then; where the sink fails, that stop is kept.
+    pub fn turn(&mut self, code: &M::Code, seat: u32, work: Work<M>, lacks: bool) -> Turned<M>
+        requires code { code.now ≡ self.old.engine.code }
+        requires seat { seat < self.old.engine.limits.seats }
+        requires fits { Fits M.program M.devices M.value_of M.is_machine M.stage self.old.engine seat work }
+        requires ready { lacks ≡ false → IsReadyWork M.stage self.old.engine.code self.old.engine.limits.slice work }
+        requires devices { M.devices self.old.engine.code ≤ vec_len self.old.devices }
+        requires sent { self.old.sent ≤ length (lines self.old.engine.output) }
+        ensures turned { HasTurned M.program M.devices M.value_of M.stage seat (stage_at M.stage self.old.engine.code work)
+            (shown K.written K.faults D.device_heard D.device_faults self.old.engine self.old.sent self.old.sink self.old.devices.items)
+            (shown K.written K.faults D.device_heard D.device_faults self.new.engine self.new.sent self.new.sink self.new.devices.items) result.deed }
+        ensures lacks { lacks ≡ true → self.old.engine.stop ≡ None → result.deed ≡ Deed.Lacked }
+        ensures keeps { (opening : Opening M.Code)
+            → IsShell M.program opening (shown K.written K.faults D.device_heard D.device_faults self.old.engine self.old.sent self.old.sink self.old.devices.items)
+            → IsShell M.program opening (shown K.written K.faults D.device_heard D.device_faults self.new.engine self.new.sent self.new.sink self.new.devices.items) }
+        ensures fits { Fits M.program M.devices M.value_of M.is_machine M.stage self.new.engine seat result.work }
+        ensures others { (other : ℕ) (rest : Work M) → other ≢ seat → Fits M.program M.devices M.value_of M.is_machine M.stage self.old.engine other rest
+            → Fits M.program M.devices M.value_of M.is_machine M.stage self.new.engine other rest }
+        ensures can { CanBePrepared M.is_machine M.stage self.new.engine.code self.new.engine.limits.slice result.work }
+        ensures code { self.new.engine.code ≡ self.old.engine.code }
+        ensures limits { self.new.engine.limits ≡ self.old.engine.limits }
+        ensures count { vec_len self.new.devices ≡ vec_len self.old.devices }
+        ensures sent { self.new.sent ≤ length (lines self.new.engine.output) }
+    {
+        self.engine.stands();
+        let turned = act(&mut self.engine, code, seat, work, lacks, &mut self.devices);
+        self.flush_after(turned.deed);
+        turned
+    }
+
+    /// What is left once a stop is kept and all seats are idle. Takes no memory.
+    pub fn finish(self) -> Left<M::Value, K, D>
+        requires idle { (seat : ℕ) → task_at self.engine.tasks seat ≡ Task.Idle }
+        requires stopped { IsSome self.engine.stop }
+        ensures over { (opening : Opening M.Code)
+            → IsShell M.program opening (shown K.written K.faults D.device_heard D.device_faults self.engine self.sent self.sink self.devices.items)
+            → IsOver (M.program opening.code) opening.limits (M.value_of opening.code) opening.ends result.ended
+            (ends_of K.written K.faults D.device_heard D.device_faults result.sink result.devices.items) }
+    {
+        let Shell {
+            engine,
+            sink,
+            sent: _,
+            devices,
+        } = self;
+        Left {
+            ended: engine.finish(),
+            sink,
+            devices,
+        }
+    }
+}

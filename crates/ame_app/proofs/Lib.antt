@@ -1,5 +1,6 @@
+pub mod TextLemmas
+pub mod CountLemmas
+pub mod WrittenLemmas
+pub mod TurnedLemmas
+pub mod JobLemmas
 pub mod RunLemmas
-pub mod EndingLemmas
-pub mod CauseLemmas
-pub mod TellLemmas
-pub mod TypedLemmas

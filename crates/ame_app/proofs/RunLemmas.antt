@@ -1,119 +1,155 @@
--- How a run goes on: labels, entries, and what was printed.
-use Rattle.std.proofs.Common.{◌≡◌, ◌≢◌, ℕ, ℤ, List, [], ◌∷◌, ◌++◌, length, take, Some, None, option_and_then, refl, sym, ap, ◌∙◌, subst, arith, append-nil, Bool, true, false, is_none, if◌then◌else◌, Result, Ok, Err, is_err, OnOk}
-use Rattle.std.proofs.Math.Seq.{take-append_seam}
-use Rattle.ame_term.specs.Tree.{Tree}
-use Rattle.ame_term.specs.Maps.{at}
-use Rattle.ame_term.specs.State.{State, after, at_unprotected}
-use Rattle.ame_term.specs.Context.{focus}
-use Rattle.ame_term.specs.declared.semantics.StepKind.{StepKind}
-use Rattle.ame_term.specs.declared.semantics.Label.{Label}
+-- What a run that is over tells of its call.
+use Rattle.std.proofs.Common.{◌≡◌, ℕ, ◌≤◌, ◌<◌, List, [], ◌++◌, Option, Some, None, Ok, refl, sym, ap, ◌∙◌, subst, arith}
+use Rattle.std.proofs.lemmas.List.Elements.{All-weaker}
+use Rattle.ame_io.specs.Counts.{HasRisen}
+use Rattle.ame_io.specs.Lines.{lines}
+use Rattle.ame_term.specs.Tree.{Typ, Tree}
+use Rattle.ame_term.specs.State.{State}
+use Rattle.ame_term.specs.Typing.{typing, ref_types}
+use Rattle.ame_term.specs.SourceTerm.{IsSourceTerm}
+use Rattle.ame_laws.specs.Orderly.{IsOrderly}
+use Rattle.ame_soundness.proofs.Started.{reached}
 use Rattle.ame_journal.specs.declared.entry.Entry.{Entry}
-use Rattle.ame_journal.specs.declared.entry.EntryKind.{EntryKind}
-use Rattle.ame_journal.specs.Replayed.{Replayed, resting, begun_at}
-use Rattle.ame_journal.specs.UnderWay.{UnderWay}
-use Rattle.ame_journal.specs.Replay.{replay, replay_entry}
-use Rattle.ame_journal.proofs.StepLemmas.{step-keeps, activate-is, end-is}
-use Rattle.ame_journal.proofs.ReplayLemmas.{replay_from-one}
-use Rattle.ame_journal.proofs.UnderWayLemmas.{replay-ended, replay-cut}
-use Rattle.ame_strong.specs.Pool.{pool, but, first_number}
-use Rattle.ame_app.specs.Runs.{AddsFew, AtRest, HasMembers, IsEmpty, entry_of}
+use Rattle.ame_journal.specs.Replayed.{Replayed, begun_at}
+use Rattle.ame_journal.specs.Replay.{replay}
+use Rattle.ame_journal.proofs.LabelLemmas.{unfold-all, unfolds_all-run}
+use Rattle.ame_stands.specs.declared.types.Limits.{Limits}
+use Rattle.ame_value.specs.declared.val.Val.{Val}
+use Rattle.ame_code.specs.FlatCode.{FlatCode}
+use Rattle.ame_code.specs.Code.{program_of}
+use Rattle.ame_eval.specs.Values.{value_meant}
+use Rattle.ame_cli.specs.declared.command.Options.{Options}
+use Rattle.ame_cli.specs.Ranges.{AreInRange}
+use Rattle.ame_engine.specs.declared.stop.Stop.{Stop}
+use Rattle.ame_engine.specs.Causes.{NotesStop}
+use Rattle.ame_engine.specs.Ending.{End, CertifyAll, HasStopped}
+use Rattle.ame_shell.specs.Ends.{Ends}
+use Rattle.ame_device.specs.declared.told.Told.{Told}
+use Rattle.ame_shell.specs.Heard.{HaveHeard, HaveFailed}
+use Rattle.ame_shell.specs.Over.{AreOfSeats, IsOver}
+use Rattle.ame_app.specs.declared.status.Status.{Status}
+use Rattle.ame_app.specs.Calls.{Call}
+use Rattle.ame_app.specs.Causes.{status_of, number_by, number_told, RunCause}
+use Rattle.ame_app.specs.Headline.{Headline, IsTypedState, journal_of, verdict_of, IsWritten}
+use Rattle.ame_app.specs.Jobs.{IsJobOf, Speaks}
+use Rattle.ame_app.proofs.WrittenLemmas.{after-lines, tells-fault, spoken-is}
+use Rattle.ame_app.proofs.CountLemmas.{certified-count}
 
-pub activate-few : (s : State) (i : ℕ) → AddsFew s (Label.Activate i)
-activate-few s i t e = let same : t.next ≡ s.next = ap (λ u. u.next) (activate-is i s t e) in omega arith
+-- States that a journal leads to
 
-pub step-few : (s : State) (i : ℕ) (kind : StepKind) → s.active ≡ Some i → AddsFew s (Label.Step kind)
-step-few s i kind active t e = (step-keeps kind i s t active e).next
+-- they are typed and orderly
+record IsReached (devices : ℕ) (s : State) : Type 0 where
+  typed : IsTypedState devices s
+  orderly : IsOrderly s
 
-pub end-few : (s : State) (i : ℕ) → s.active ≡ Some i → AddsFew s Label.End
-end-few s i active t e = let same : t.next ≡ s.next = ap (λ u. u.next) (end-is i s t active e) in omega arith
+replayed-reached : (devices : ℕ) (places : List ℕ) (program : Tree) → typing devices places program ≡ Ok Typ.Unit → IsSourceTerm program
+    → (entries : List Entry) (r : Replayed) → replay program entries ≡ Some r → IsReached devices r.state
+replayed-reached devices places program typed source entries r replays =
+    let all = unfold-all (begun_at program) entries r replays in
+    let ran = unfolds_all-run (begun_at program) entries all.0 r all.1 in
+    let there = reached devices places program (ref_types devices places program) all.0 r.state (typed, refl) source ran in
+    record { typed = record { cells = there.0; typed = there.1 }; orderly = there.2 }
 
--- one more entry
-pub replay-pushed : (p : Tree) (entries : List Entry) (entry : Entry) (s : State) (r : Replayed) →
-    replay p entries ≡ Some (resting s) → replay_entry (resting s) entry ≡ Some r → replay p (entries ++ entry ∷ []) ≡ Some r
-replay-pushed p entries entry s r before last =
-    replay_from-one (begun_at p) entries entry ∙ ap (λ o. option_and_then (λ t. replay_entry t entry) o) before ∙ last
+-- Causes
 
--- the state after the end of a fragment
-pub ended-idle : (i : ℕ) (t u : State) → t.active ≡ Some i → after t Label.End ≡ Some u → u.active ≡ None
-ended-idle i t u active e = ap (λ v. v.active) (end-is i t u active e)
+module _ (limits : Limits) (options : Options) (r : Replayed) (end : End Val) (before after : Ends) where
+  -- what tells the cause of a stop
+  record Causes (status : Status) : Type 0 where
+    turns : limits.turns ≡ options.turns
+    orderly : IsOrderly r.state
+    stopped : HasStopped limits r end
+    failed : HaveFailed end.stop before.told after.told
+    written : status ≡ Status.WriteFault → HasRisen before.write_faults after.write_faults
+    told : end.stop ≡ Some Stop.WriteFault → status ≡ Status.WriteFault
 
-pub ended-rests : (p : Tree) (entries : List Entry) (i n : ℕ) (fresh : List ℕ) (s t u : State) →
-    replay p entries ≡ Some (resting s) → UnderWay s i n fresh t → after t Label.End ≡ Some u →
-    AtRest p (entries ++ entry_of EntryKind.Ran i n fresh ∷ []) u (length u.output)
-ended-rests p entries i n fresh s t u before way ends =
-    record {
-      replays = replay-pushed p entries (entry_of EntryKind.Ran i n fresh) s (resting u) before (replay-ended (resting s) (entry_of EntryKind.Ran i n fresh) t way refl refl refl u ends);
-      idle = ended-idle i t u way.active ends;
-      all_printed = refl;
-    }
+  blocked-cause : IsOrderly r.state → CertifyAll r.state end.certificates → (stop : Option Stop) → end.stop ≡ stop → stop ≡ Some Stop.Blocked
+      → RunCause Status.Blocked (number_by stop end.certificates) options end r before after
+  blocked-cause orderly certified stop is blocked = record {
+    certified = certified;
+    number_is = ap (λ (o : Option Stop). number_by o end.certificates) blocked ∙ certified-count r.state orderly end.certificates certified;
+  }
 
-pub cut-replays : (p : Tree) (entries : List Entry) (i n : ℕ) (fresh : List ℕ) (s t : State) →
-    replay p entries ≡ Some (resting s) → UnderWay s i n fresh t →
-    replay p (entries ++ entry_of EntryKind.Cut i n fresh ∷ []) ≡ Some (resting s)
-cut-replays p entries i n fresh s t before way =
-    replay-pushed p entries (entry_of EntryKind.Cut i n fresh) s (resting s) before (replay-cut (resting s) (entry_of EntryKind.Cut i n fresh) t way refl refl)
+  stop-cause : (status : Status) → Causes status → (stop : Option Stop) → end.stop ≡ stop
+      → RunCause (status_of stop) (number_by stop end.certificates) options end r before after
+  stop-cause status c None e = tt
+  stop-cause status c (Some Stop.Finished) e = c.stopped.finished e
+  stop-cause status c (Some Stop.Blocked) e = blocked-cause c.orderly (c.stopped.blocked e) (Some Stop.Blocked) e refl
+  stop-cause status c (Some Stop.Spent) e =
+      let spent = c.stopped.spent e in
+      record { turns_are = spent.0 ∙ c.turns; left = spent.1 }
+  stop-cause status c (Some (Stop.Tall n)) e = subst (λ (o : Option Stop). NotesStop o end.entries) e c.stopped.ends
+  stop-cause status c (Some Stop.NoMemory) e = tt
+  stop-cause status c (Some Stop.WriteFault) e = c.written (c.told e)
+  stop-cause status c (Some (Stop.DeviceFault k)) e = record {
+    comes = c.stopped.failed k e;
+    faults = (subst (λ (o : Option Stop). HaveFailed o before.told after.told) e c.failed).risen;
+  }
 
--- what was printed before a fragment
-pub printed-before : (p : Tree) (entries : List Entry) (s t : State) (i n printed : ℕ) (fresh : List ℕ) →
-    AtRest p entries s printed → UnderWay s i n fresh t → s.output ≡ take printed t.output
-printed-before p entries s t i n printed fresh rests way =
-    sym (ap (λ o. take printed o) way.printed.1
-    ∙ ap (λ k. take k (s.output ++ way.printed.0)) (sym rests.all_printed)
-    ∙ take-append_seam s.output way.printed.0)
+-- The headline
 
-pub printed-all : (p : Tree) (entries : List Entry) (s : State) (printed : ℕ) → AtRest p entries s printed → s.output ≡ take printed s.output
-printed-all p entries s printed rests =
-    sym (ap (λ o. take printed o) (sym (append-nil s.output))
-    ∙ ap (λ k. take k (s.output ++ [])) (sym rests.all_printed)
-    ∙ take-append_seam s.output [])
+-- one seat is below as many workers as there are
+seats-below : (workers : ℕ) (base entries : List Entry) → 1 ≤ workers → base ≡ [] → AreOfSeats 1 entries → AreOfSeats workers (base ++ entries)
+seats-below workers base entries some none seats =
+    subst (λ (b : List Entry). AreOfSeats workers (b ++ entries)) (sym none)
+    (All-weaker (λ (x : Entry). x.seat < 1) (λ (x : Entry). x.seat < workers) (λ x lt. omega arith) entries seats)
 
--- a member that becomes active is a member
-pub activate-members : (s a : State) (i : ℕ) → after s (Label.Activate i) ≡ Some a → s.members ≢ []
-unfolding after
-activate-members s a i e none = neither (is_none s.active) (subst Begins none e)
-  where
-    Begins : List (ℕ × Tree) → Type 0
-    Begins members =
-        (if is_none s.active then option_and_then (λ term. if at_unprotected (focus term) then None else Some (record s { active = Some i })) (at members i) else None) ≡ Some a
+module _ (call : Call) (status : Status) (code : FlatCode) (options : Options) (limits : Limits) (end : End Val) (before mid after : Ends)
+    (job : IsJobOf call code options) (over : IsOver (program_of code) limits (value_meant code) before end mid)
+    (speaks : Speaks (status_of end.stop) (number_told end) status mid.written mid.write_faults after.written after.write_faults)
+    (kept : after.told ≡ mid.told) where
+  text-written : IsWritten status (lines over.ends.r.state.output ++ verdict_of end) before after
+  text-written = after-lines end.stop before mid after status (number_told end) (lines over.ends.r.state.output) speaks over.sent
 
-    neither : (b : Bool) → (if b then None else None) ≡ Some a → ⊥
-    neither true e' = cc
-    neither false e' = cc
+  is-reached : IsReached call.devices over.ends.r.state
+  is-reached =
+      replayed-reached call.devices code.accepted.program.places.items (program_of code) job.program.typed code.accepted.program.source
+      (journal_of end) over.ends.r over.ends.replays
 
--- a pool without a first member is empty
-pub pool-empty : (s : State) → s.active ≡ None → first_number (pool s) ≡ None → IsEmpty s
-pool-empty s idle e =
-    record { members = none s.members (ap (λ o. first_number (but o s.members)) (sym idle) ∙ e); idle = idle }
-  where
-    none : (members : List (ℕ × Tree)) → first_number members ≡ None → members ≡ []
-    none [] e' = refl
-    none (entry ∷ entries) e' = cc
+  have-failed : HaveFailed end.stop before.told after.told
+  have-failed = subst (λ (t : List Told). HaveFailed end.stop before.told t) (sym kept) over.failed
 
--- the same facts at equal lists and states
-pub AtRest-at : (p : Tree) (es es' : List Entry) (u : State) (k k' : ℕ) → es' ≡ es → k' ≡ k → AtRest p es u k → AtRest p es' u k'
-AtRest-at p es es' u k k' same_entries same_count rests =
-    subst (λ xs. AtRest p xs u k') (sym same_entries) (subst (λ n. AtRest p es u n) (sym same_count) rests)
+  has-causes : limits.turns ≡ options.turns → Causes limits options over.ends.r end before after status
+  has-causes turns = record {
+    turns = turns;
+    orderly = is-reached.orderly;
+    stopped = over.ends.stopped;
+    failed = have-failed;
+    written = λ e. (text-written.front e).1;
+    told = λ e. tells-fault before mid after status (number_told end) (lines over.ends.r.state.output) (subst (λ (o : Option Stop). Speaks (status_of o) (number_told end) status
+        mid.written mid.write_faults after.written after.write_faults) e speaks);
+  }
 
-pub UnderWay-at : (s : State) (i n : ℕ) (fresh fresh' : List ℕ) (t t' : State) → fresh' ≡ fresh → t' ≡ t → UnderWay s i n fresh t → UnderWay s i n fresh' t'
-UnderWay-at s i n fresh fresh' t t' same_fresh same_state way =
-    subst (λ xs. UnderWay s i n xs t') (sym same_fresh) (subst (λ u. UnderWay s i n fresh u) (sym same_state) way)
+  pub headline : limits.turns ≡ options.turns → limits.seats ≡ 1 → AreInRange options → Headline call status (Some code) end before after
+  headline turns alone ranges = record {
+    options = options;
+    text = job.text;
+    compiled = code;
+    final = over.ends.r;
+    asked = job.asked;
+    program = job.program;
+    code_is = refl;
+    begun = over.base;
+    replays = over.ends.replays;
+    seats = seats-below options.workers end.base end.entries ranges.workers.0 over.base (subst (λ (n : ℕ). AreOfSeats n end.entries) alone over.seats);
+    output = text-written;
+    store = record { stored = over.ends.store; free = over.ends.free };
+    typed = is-reached.typed;
+    devices = record {
+      heard = subst (λ (es : List Entry). HaveHeard (program_of code) es before.told after.told) (ap (λ (b : List Entry). b ++ end.entries) (sym over.base))
+          (subst (λ (t : List Told). HaveHeard (program_of code) end.entries before.told t) (sym kept) over.heard);
+      failed = have-failed;
+    };
+    cause = stop-cause limits options over.ends.r end before after status (has-causes turns) end.stop refl;
+    spoken = spoken-is (status_of end.stop) status (number_told end) mid.written mid.write_faults after.written after.write_faults speaks;
+    notes = over.ends.stopped.ends;
+    once = over.ends.once;
+    lone = λ e. over.lone alone;
+  }
 
-pub printed-at : (before o o' : List ℤ) (k k' : ℕ) → k' ≡ k → o' ≡ o → before ≡ take k o → before ≡ take k' o'
-printed-at before o o' k k' same_count same_output e = e ∙ ap (λ n. take n o) (sym same_count) ∙ ap (λ xs. take k' xs) (sym same_output)
-
--- what holds where a call succeeded
-pub ok-of : {T E : Type 0} (r : Result T E) (P : Type 0) → is_err r ≡ false → OnOk r P → P
-ok-of (Ok x) P e holds = holds
-ok-of (Err x) P e holds = cc
-
--- a pool with a first member has members
-pub pool-members : (s : State) (i : ℕ) → s.active ≡ None → first_number (pool s) ≡ Some i → s.members ≢ []
-pool-members s i idle e none =
-    let first : first_number s.members ≡ Some i = ap (λ o. first_number (but o s.members)) (sym idle) ∙ e in
-    let nothing : None ≡ Some i = sym (ap first_number none) ∙ first in cc
-
--- the members of the state to which a journal replays
-pub HasMembers-at : (p : Tree) (entries : List Entry) (s : State) → replay p entries ≡ Some (resting s) → s.members ≢ [] → HasMembers p entries
-HasMembers-at p entries s replays some r e =
-    let same : resting s ≡ r = let both : Some (resting s) ≡ Some r = sym replays ∙ e in cc in
-    subst (λ (t : Replayed). t.state.members ≢ []) same some
+-- what is told is told of the stop
+pub told-of : (told : Status) (number : ℕ) (stop : Option Stop) (end : End Val) (status : Status) (a : Option (List ℕ)) (m : ℕ) (b : Option (List ℕ)) (n : ℕ)
+    → told ≡ status_of stop → stop ≡ end.stop → number ≡ number_told end → Speaks told number status a m b n
+    → Speaks (status_of end.stop) (number_told end) status a m b n
+told-of told number stop end status a m b n is kept numbered speaks =
+    subst (λ (t : Status). Speaks t (number_told end) status a m b n) (is ∙ ap status_of kept)
+    (subst (λ (k : ℕ). Speaks told k status a m b n) numbered speaks)

@@ -1,131 +1,125 @@
--- What each status tells of a call: of its words, of what the source gave, and of the run.
-use Rattle.std.specs.Prelude.{◌≡◌, ◌≢◌, ◌⊎◌, slice_index, ℕ, List, [], Option, Some, None, Ok, Err, ⊤}
+-- Why a call ends with a status.
+use Rattle.std.specs.Prelude.{◌≡◌, ◌≢◌, ℕ, List, [], Option, Some, None, length, ⊤}
 use Rattle.ame_io.specs.Counts.{HasRisen}
-use Rattle.ame_io.specs.Reads.{whole_limit, IsReadWhole, GivesMoreThan}
+use Rattle.ame_io.specs.Reads.{whole_limit, GivesMoreThan}
 use Rattle.ame_lex.specs.Bytes.{Text}
-use Rattle.ame_lex.specs.declared.tokens.LexFault.{LexFault}
-use Rattle.ame_parse.specs.declared.fault.ParseFault.{ParseFault}
-use Rattle.ame_parse.specs.declared.fault.Want.{Want}
-use Rattle.ame_parse.specs.Text.{Source, ReadingFault, source_of, reading}
-use Rattle.ame_term.specs.View.{tree_of}
-use Rattle.ame_term.specs.Tree.{Typ}
-use Rattle.ame_term.specs.Typing.{typing}
-use Rattle.ame_unbuilt.specs.Unbuilt.{first_unbuilt}
-use Rattle.ame_term.specs.declared.accepted.Accepted.{Accepted}
-use Rattle.ame_types.specs.Fault.{fault_of}
+use Rattle.ame_term.specs.State.{State}
+use Rattle.ame_value.specs.declared.val.Val.{Val}
+use Rattle.ame_cli.specs.declared.command.Options.{Options}
+use Rattle.ame_cli.specs.declared.command.Command.{Command}
+use Rattle.ame_cli.specs.Grammar.{SpellsCommand, SpellsNothing}
 use Rattle.ame_types.specs.declared.fault.TypeFault.{TypeFault}
+use Rattle.ame_engine.specs.declared.stop.Stop.{Stop}
+use Rattle.ame_engine.specs.declared.certificate.Certificate.{Certificate}
+use Rattle.ame_journal.specs.Replayed.{Replayed}
+use Rattle.ame_engine.specs.Causes.{IsTall}
+use Rattle.ame_engine.specs.Faults.{ComesToCall}
+use Rattle.ame_engine.specs.Ending.{End, CertifyAll}
+use Rattle.ame_shell.specs.Ends.{Ends, told_at}
 use Rattle.ame_app.specs.declared.status.TextKind.{TextKind}
 use Rattle.ame_app.specs.declared.status.TextFault.{TextFault}
 use Rattle.ame_app.specs.declared.status.Status.{Status}
-use Rattle.ame_app.specs.declared.ended.Ended.{Ended}
-use Rattle.ame_app.specs.Endings.{IsRunOf, IsFinished, IsSpent}
+use Rattle.ame_app.specs.Calls.{Call, Asks}
+use Rattle.ame_app.specs.Texts.{IsNoProgram, IsIllTyped}
 
--- how a fault of the bytes or of the tokens is told
-abbrev pub fault_told : ReadingFault → Option TextFault
-fault_told (ReadingFault.Lexical (LexFault.BadByte place)) = Some (record { place = place; kind = TextKind.BadByte })
-fault_told (ReadingFault.Lexical (LexFault.LongNumber place)) = Some (record { place = place; kind = TextKind.LongNumber })
-fault_told (ReadingFault.Lexical LexFault.NoMemory) = None
-fault_told (ReadingFault.Syntactic (ParseFault.Expected place want)) = Some (record { place = place; kind = TextKind.Expected want })
-fault_told (ReadingFault.Syntactic (ParseFault.UnknownName place)) = Some (record { place = place; kind = TextKind.UnknownName })
-fault_told (ReadingFault.Syntactic (ParseFault.TooNested place)) = Some (record { place = place; kind = TextKind.TooNested })
-fault_told (ReadingFault.Syntactic (ParseFault.Trailing place)) = Some (record { place = place; kind = TextKind.Trailing })
-fault_told (ReadingFault.Syntactic ParseFault.NoMemory) = None
+-- Where no run was begun
 
--- the text is no program, and this tells why
-pub record IsNoProgram (text : Text) (fault : TextFault) : Type 0 where
-  pub why : ReadingFault
-  pub reads : reading text ≡ Err why
-  pub is : fault_told why ≡ Some fault
-
--- the text is a program that isn't Unit under protected, without devices, and this is its first fault
-pub record IsIllTyped (text : Text) (fault : TypeFault) : Type 0 where
-  pub source : Source
-  pub reads : reading text ≡ Ok source
-  pub is : typing 0 source.places source.tree ≡ Err (fault_of fault)
-
--- the text is a program that the types accept, but it has `unprotected` or `blockUntil`, which can't be
--- run yet; the fault is that of its first such form
-pub record IsUnbuilt (text : Text) (fault : TextFault) : Type 0 where
-  pub source : Source
-  pub reads : reading text ≡ Ok source
-  pub typed : typing 0 source.places source.tree ≡ Ok Typ.Unit
-  pub number : ℕ
-  pub first : first_unbuilt 0 source.tree ≡ Some number
-  pub is : fault ≡ record { place = slice_index source.places number; kind = TextKind.Expected Want.Form }
-
--- the accepted program is the one of the text, and all its forms can be run
-pub record IsProgramOf (text : Text) (accepted : Accepted) : Type 0 where
-  pub reads : reading text ≡ Ok (source_of accepted.program)
-  pub devices : accepted.devices ≡ 0
-  pub typed : typing 0 accepted.program.places.items (tree_of accepted.program.term) ≡ Ok Typ.Unit
-  pub built : first_unbuilt 0 (tree_of accepted.program.term) ≡ None
-
--- What a status tells of a whole text, of the program that was run, and of what the run left.
-abbrev pub TextCause : Text → Status → Option Accepted → Option Ended → Type 0
-TextCause text (Status.Text fault) None None = IsNoProgram text fault ⊎ IsUnbuilt text fault
-TextCause text (Status.Types fault) None None = IsIllTyped text fault
-TextCause text Status.Finished (Some a) (Some e) = IsProgramOf text a × IsFinished (tree_of a.program.term) e
-TextCause text Status.Spent (Some a) (Some e) = IsProgramOf text a × IsSpent (tree_of a.program.term) e
-TextCause text Status.NoMemory (Some a) (Some e) = IsProgramOf text a × IsRunOf (tree_of a.program.term) e
-TextCause text Status.NoMemory None None = ⊤
-TextCause text _ _ _ = ⊥
-
--- what a call is given, and how it leaves the source: the words, the bytes that the source has left,
--- where it tells them, and its count of faults
-pub record Call : Type 0 where
-  pub words : List (List ℕ)
-  pub left : Option (List ℕ)
-  pub left_after : Option (List ℕ)
-  pub faults : ℕ
-  pub faults_after : ℕ
-
-abbrev pub call_of : List (List ℕ) → Option (List ℕ) → Option (List ℕ) → ℕ → ℕ → Call
-call_of words left left_after faults faults_after =
-    record { words = words; left = left; left_after = left_after; faults = faults; faults_after = faults_after }
-
--- the words aren't those of a call, and the source wasn't touched
+-- the words spell no command, and the source wasn't touched
 pub record IsUsage (call : Call) : Type 0 where
-  pub words : call.words ≢ []
-  pub left : call.left_after ≡ call.left
-  pub faults : call.faults_after ≡ call.faults
+  pub words : SpellsNothing call.words
+  pub source : call.source_after ≡ call.source
 
--- the source failed, or its count stands at its last value
+-- a program was to be read, and the source failed, or its count stands at its last value
 pub record IsReadFault (call : Call) : Type 0 where
-  pub words : call.words ≡ []
-  pub faults : HasRisen call.faults call.faults_after
+  pub options : Options
+  pub words : SpellsCommand call.words (Command.Run options)
+  pub faults : HasRisen call.source.faults call.source_after.faults
 
--- the source gave more bytes than a program may have
-pub record IsTooLong (call : Call) (at : ℕ) : Type 0 where
-  pub words : call.words ≡ []
-  pub given : GivesMoreThan whole_limit call.left call.left_after
-  pub place : at ≡ whole_limit
-  pub faults : call.faults_after ≡ call.faults
+-- a program was to be read, and the source gave more bytes than one may have
+pub record IsTooLong (call : Call) (place : ℕ) : Type 0 where
+  pub options : Options
+  pub words : SpellsCommand call.words (Command.Run options)
+  pub given : GivesMoreThan whole_limit call.source.left call.source_after.left
+  pub limit : place ≡ whole_limit
+  pub faults : call.source_after.faults ≡ call.source.faults
 
--- the source was read to its end, and the status tells of all its bytes
-pub record IsOfText (call : Call) (status : Status) (program : Option Accepted) (ended : Option Ended) : Type 0 where
-  pub words : call.words ≡ []
+-- the text that was asked for is no program
+pub record IsUnreadable (call : Call) (fault : TextFault) : Type 0 where
+  pub options : Options
   pub text : Text
-  pub given : IsReadWhole call.left call.left_after text
-  pub faults : call.faults_after ≡ call.faults
-  pub cause : TextCause text status program ended
+  pub asked : Asks call options text
+  pub cause : IsNoProgram text fault
 
--- memory was wanted before a run began
+-- it is a program that the types refuse
+pub record IsRefusedByTypes (call : Call) (fault : TypeFault) : Type 0 where
+  pub options : Options
+  pub text : Text
+  pub asked : Asks call options text
+  pub cause : IsIllTyped text call.devices fault
+
+-- memory was wanted, and the source didn't fail
 pub record IsWithoutMemory (call : Call) : Type 0 where
-  pub words : call.words ≡ []
-  pub faults : call.faults_after ≡ call.faults
+  pub faults : call.source_after.faults ≡ call.source.faults
+  pub generated : (seed size : ℕ) (options : Options) → SpellsCommand call.words (Command.Bench seed size options) → call.source_after ≡ call.source
 
-abbrev pub TextFaultCause : Call → TextFault → TextKind → Type 0
-TextFaultCause call fault TextKind.TooLong = IsTooLong call fault.place
-TextFaultCause call fault _ = IsOfText call (Status.Text fault) None None
+abbrev pub TextCause : Call → TextFault → TextKind → Type 0
+TextCause call fault TextKind.TooLong = IsTooLong call fault.place
+TextCause call fault _ = IsUnreadable call fault
 
--- What a status tells of a call, of the program that was run, and of what the run left.
-abbrev pub Cause : Call → Status → Option Accepted → Option Ended → Type 0
-Cause call Status.Usage None None = IsUsage call
-Cause call Status.ReadFault None None = IsReadFault call
-Cause call (Status.Text fault) None None = TextFaultCause call fault fault.kind
-Cause call (Status.Types fault) None None = IsOfText call (Status.Types fault) None None
-Cause call Status.NoMemory None None = IsWithoutMemory call
-Cause call Status.Finished program ended = IsOfText call Status.Finished program ended
-Cause call Status.Spent program ended = IsOfText call Status.Spent program ended
-Cause call Status.NoMemory program ended = IsOfText call Status.NoMemory program ended
-Cause call _ _ _ = ⊥
+-- what the status of a call tells in which no run was begun
+abbrev pub RefusalCause : Call → Status → Type 0
+RefusalCause call Status.Usage = IsUsage call
+RefusalCause call Status.ReadFault = IsReadFault call
+RefusalCause call (Status.Text fault) = TextCause call fault fault.kind
+RefusalCause call (Status.Types fault) = IsRefusedByTypes call fault
+RefusalCause call Status.NoMemory = IsWithoutMemory call
+RefusalCause call _ = ⊥
+
+-- Where a run was begun
+
+-- how a stop is told
+abbrev pub status_of : Option Stop → Status
+status_of (Some Stop.Finished) = Status.Finished
+status_of (Some Stop.Blocked) = Status.Blocked
+status_of (Some Stop.Spent) = Status.Spent
+status_of (Some (Stop.Tall number)) = Status.Tall
+status_of (Some Stop.NoMemory) = Status.NoMemory
+status_of (Some Stop.WriteFault) = Status.WriteFault
+status_of (Some (Stop.DeviceFault device)) = Status.DeviceFault device
+status_of None = Status.NoMemory
+
+-- the number that a run's verdict line tells: how many members are blocked, or which one came to a value that is too high
+abbrev pub number_by : Option Stop → List Certificate → ℕ
+number_by (Some Stop.Blocked) certificates = length certificates
+number_by (Some (Stop.Tall number)) certificates = number
+number_by _ certificates = 0
+
+abbrev pub number_told : End Val → ℕ
+number_told end = number_by end.stop end.certificates
+
+-- so many members are left, and for each there is a certificate that its condition is false
+pub record IsBlocked (s : State) (certificates : List Certificate) (number : ℕ) : Type 0 where
+  pub certified : CertifyAll s certificates
+  pub number_is : number ≡ length s.members
+
+-- the turns are used up, and members are left
+pub record IsSpent (limit turns : ℕ) (s : State) : Type 0 where
+  pub turns_are : turns ≡ limit
+  pub left : s.members ≢ []
+
+-- a device failed in this call, or its count stands at its last value; a member comes to a call of it by steps alone
+pub record IsDeviceFault (device : ℕ) (r : Replayed) (before after : Ends) : Type 0 where
+  pub comes : ComesToCall r device
+  pub faults : HasRisen (told_at before.told device).faults (told_at after.told device).faults
+
+-- What the status tells of a run that was begun: of what its engine had at the end, of the state to which its journal leads,
+-- and of its ends before and after. The number is the one that the verdict line tells.
+abbrev pub RunCause : Status → ℕ → Options → End Val → Replayed → Ends → Ends → Type 0
+RunCause Status.Finished number options end r before after = r.state.members ≡ []
+RunCause Status.Blocked number options end r before after = IsBlocked r.state end.certificates number
+RunCause Status.Spent number options end r before after = IsSpent options.turns end.turns r.state
+RunCause Status.Tall number options end r before after = IsTall number end.entries
+RunCause (Status.DeviceFault device) number options end r before after = IsDeviceFault device r before after
+RunCause Status.NoMemory number options end r before after = ⊤
+RunCause Status.WriteFault number options end r before after = HasRisen before.write_faults after.write_faults
+RunCause _ number options end r before after = ⊥

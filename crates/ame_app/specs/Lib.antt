@@ -1,6 +1,7 @@
 pub mod Verdict
-pub mod Runs
-pub mod Endings
-pub mod Execute
+pub mod Calls
+pub mod Texts
 pub mod Causes
-pub mod Reports
+pub mod Headline
+pub mod Jobs
+pub mod Standard

@@ -9,15 +9,18 @@ use Rattle.ame_app.specs.declared.status.WordsFault.{WordsFault}
 -- the status of the process
 abbrev pub number_of : Status → ℕ
 number_of Status.Finished = 0
+number_of Status.Blocked = 1
 number_of Status.Spent = 2
 number_of Status.Usage = 3
 number_of Status.ReadFault = 4
 number_of (Status.Text fault) = 5
 number_of (Status.Types fault) = 6
 number_of Status.WriteFault = 7
+number_of (Status.DeviceFault device) = 8
 number_of Status.NoMemory = 9
+number_of Status.Tall = 10
 
--- the status of a call whose words can't be read
+-- the status of a process whose words can't be read
 abbrev pub unread : WordsFault → Status
 unread WordsFault.NotText = Status.Usage
 unread WordsFault.NoMemory = Status.NoMemory
@@ -34,9 +37,9 @@ want_line Want.Device = codes "refused: expected device at "
 want_line Want.Opening = codes "refused: expected opening at "
 want_line Want.Closing = codes "refused: expected closing at "
 
--- a place in decimal, and the line's end
+-- a number in decimal, and the line's end
 abbrev pub line_at : List ℕ → ℕ → List ℕ
-line_at text place = text ++ (decimal place ++ codes "\n")
+line_at text number = text ++ (decimal number ++ codes "\n")
 
 -- the line of a fault of the text
 abbrev pub text_line_at : TextKind → ℕ → List ℕ
@@ -51,13 +54,17 @@ text_line_at TextKind.Trailing place = line_at (codes "refused: trailing at ") p
 abbrev pub text_line : TextFault → List ℕ
 text_line fault = text_line_at fault.kind fault.place
 
--- the verdict line; there is none after a write fault
-abbrev pub verdict : Status → List ℕ
-verdict Status.Finished = codes "finished" ++ codes "\n"
-verdict Status.Spent = codes "spent" ++ codes "\n"
-verdict Status.Usage = codes "usage" ++ codes "\n"
-verdict Status.ReadFault = codes "read fault" ++ codes "\n"
-verdict (Status.Text fault) = text_line fault
-verdict (Status.Types fault) = codes "types: rule " ++ (decimal fault.rule ++ line_at (codes " at ") fault.place)
-verdict Status.WriteFault = []
-verdict Status.NoMemory = codes "no memory" ++ codes "\n"
+-- The verdict line. The number is how many members are blocked, or which one came to a value that is too high. There is no
+-- line after a write fault.
+abbrev pub verdict : Status → ℕ → List ℕ
+verdict Status.Finished number = codes "finished" ++ codes "\n"
+verdict Status.Blocked number = line_at (codes "blocked ") number
+verdict Status.Spent number = codes "spent" ++ codes "\n"
+verdict Status.Usage number = codes "usage" ++ codes "\n"
+verdict Status.ReadFault number = codes "read fault" ++ codes "\n"
+verdict (Status.Text fault) number = text_line fault
+verdict (Status.Types fault) number = codes "types: rule " ++ (decimal fault.rule ++ line_at (codes " at ") fault.place)
+verdict Status.WriteFault number = []
+verdict (Status.DeviceFault device) number = codes "device " ++ (decimal device ++ (codes " failed" ++ codes "\n"))
+verdict Status.NoMemory number = codes "no memory" ++ codes "\n"
+verdict Status.Tall number = line_at (codes "tall ") number

@@ -1,18 +1,17 @@
-//! From a program's bytes to its lines: reading, checking, running, and telling how it ended.
+//! From words and a program's bytes to its lines: reading, checking, running, and telling how it ended.
 #![tactic(auto)]
 
-mod decide;
-mod ended;
-mod execute;
+mod call;
+mod job;
+mod process;
 mod report;
-mod run;
+mod speak;
+mod standard;
 mod status;
-mod tell;
 mod verdict;
 
-pub use ended::Ended;
-pub use report::{Report, refuse, run_words};
+pub use call::{run_words, run_words_over};
+pub use process::{process_words, run_process};
+pub use report::Report;
+pub use standard::StandardDevice;
 pub use status::{Status, TextFault, TextKind, WordsFault};
-
-#[cfg(test)]
-mod tests;

@@ -20,17 +20,25 @@ fn plain(text: &str) -> Line
     line
 }
 
+/// A text, a number and a line feed.
+fn numbered(text: &str, number: u64) -> Line
+    requires { length text.now ≤ 40 }
+    ensures { result.bytes ≡ text.now ++ (decimal number ++ codes "\n") }
+{
+    let mut buffer = Buffer::new();
+    let mut line = Line::new();
+    line.push_str(text);
+    line.push_str(buffer.format(number));
+    line.push_str("\n");
+    line
+}
+
 /// A text, a place and a line feed.
 fn placed(text: &str, place: u32) -> Line
     requires { length text.now ≤ 40 }
     ensures { result.bytes ≡ text.now ++ (decimal place ++ codes "\n") }
 {
-    let mut buffer = Buffer::new();
-    let mut line = Line::new();
-    line.push_str(text);
-    line.push_str(buffer.format(place));
-    line.push_str("\n");
-    line
+    numbered(text, place as u64)
 }
 
 /// The line of what was expected at a place.
@@ -79,18 +87,35 @@ fn ill_typed(fault: &TypeFault) -> Line
     line
 }
 
-/// The verdict line; it is empty after a write fault.
-pub(crate) fn verdict_line(status: &Status) -> Line
-    ensures { result.bytes ≡ verdict status.now }
+/// The line of a device that failed.
+fn failed(device: u8) -> Line
+    ensures { result.bytes ≡ codes "device " ++ (decimal device ++ (codes " failed" ++ codes "\n")) }
+{
+    let mut buffer = Buffer::new();
+    let mut line = Line::new();
+    line.push_str("device ");
+    line.push_str(buffer.format(device));
+    line.push_str(" failed");
+    line.push_str("\n");
+    line
+}
+
+/// The verdict line; it is empty after a write fault. The number is how many members are blocked, or which
+/// one came to a value that is too high.
+pub(crate) fn verdict_line(status: &Status, number: u64) -> Line
+    ensures { result.bytes ≡ verdict status.now number }
 {
     match status {
         Status::Finished => plain("finished"),
+        Status::Blocked => numbered("blocked ", number),
         Status::Spent => plain("spent"),
         Status::Usage => plain("usage"),
         Status::ReadFault => plain("read fault"),
         Status::Text(fault) => refused(fault),
         Status::Types(fault) => ill_typed(fault),
         Status::WriteFault => Line::new(),
+        Status::DeviceFault(device) => failed(*device),
         Status::NoMemory => plain("no memory"),
+        Status::Tall => numbered("tall ", number),
     }
 }

@@ -2,11 +2,19 @@
 #![tactic(auto)]
 
 #[cfg(test)]
+mod bank;
+#[cfg(test)]
+mod calls;
+#[cfg(test)]
 mod code;
 #[cfg(test)]
 mod labels;
 #[cfg(test)]
+mod refusals;
+#[cfg(test)]
 mod replays;
+#[cfg(test)]
+mod rows;
 #[cfg(test)]
 mod runs;
 #[cfg(test)]

@@ -1,0 +1,17 @@
+use Rattle.std.proofs.Common.{subst}
+use Rattle.ame_code.specs.FlatCode.{FlatCode}
+use Rattle.ame_code.specs.Code.{program_of}
+use Rattle.ame_eval.specs.Values.{value_meant}
+use Rattle.ame_shell.specs.Ends.{ends_of}
+use Rattle.ame_shell.specs.Over.{IsOver}
+use Rattle.ame_app.proofs.JobLemmas.{some-weaker}
+use Rattle.ame_app.proofs.call.run.Goals as goal
+
+pub returns-in-Ok-run_alone-clause-ran : goal.returns-in-Ok-run_alone-clause-ran
+returns-in-Ok-run_alone-clause-ran g c =
+    let left = c.in-Ok-run_alone.left in
+    let before = ends_of g.K.Sink.written g.K.Sink.faults g.D.Device.device_heard g.D.Device.device_faults c.args.sink c.args.devices.items in
+    let after = ends_of g.K.Sink.written g.K.Sink.faults g.D.Device.device_heard g.D.Device.device_faults left.sink left.devices.items in
+    let over = subst (λ (k : FlatCode). IsOver (program_of k) (record { turns = c.args.job.options.turns; slice = c.args.job.options.slice; seats = 1 })
+    (value_meant k) before left.ended after) c.in-Ok.ensures c.in-Ok-run_alone.ensures.over in
+    some-weaker c.conclude.result.ended _ _ (λ end ran. λ call devices job. ran call before job over) c.conclude.ensures.ran

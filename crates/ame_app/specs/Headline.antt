@@ -1,0 +1,104 @@
+-- What is promised of a call.
+use Rattle.std.specs.Prelude.{◌≡◌, ◌≢◌, ◌++◌, ℕ, List, [], map, All, Option, Some, None}
+use Rattle.std.specs.Io.KnownBytes.{Appends}
+use Rattle.ame_io.specs.Counts.{HasRisen}
+use Rattle.ame_io.specs.Lines.{lines}
+use Rattle.ame_io.specs.Writes.{AppendsFront}
+use Rattle.ame_lex.specs.Bytes.{Text}
+use Rattle.ame_term.specs.Maps.{at}
+use Rattle.ame_term.specs.State.{State}
+use Rattle.ame_soundness.specs.StoreTyping.{StoreTyping}
+use Rattle.ame_soundness.specs.TypedState.{IsTyped}
+use Rattle.ame_store.specs.declared.cell.Cell.{Cell}
+use Rattle.ame_store.specs.Cells.{IsFree}
+use Rattle.ame_journal.specs.declared.entry.Entry.{Entry}
+use Rattle.ame_journal.specs.Replayed.{Replayed}
+use Rattle.ame_journal.specs.Replay.{replay}
+use Rattle.ame_owed.specs.Shown.{shown_cell}
+use Rattle.ame_waiting.specs.Once.{IsNotedOnce}
+use Rattle.ame_visits.specs.Opened.{cell_of, stored_in}
+use Rattle.ame_code.specs.FlatCode.{FlatCode}
+use Rattle.ame_code.specs.Code.{program_of}
+use Rattle.ame_value.specs.declared.val.Val.{Val}
+use Rattle.ame_eval.specs.Values.{value_meant}
+use Rattle.ame_cli.specs.declared.command.Options.{Options}
+use Rattle.ame_engine.specs.Causes.{NotesStop}
+use Rattle.ame_engine.specs.Ending.{End}
+use Rattle.ame_shell.specs.Ends.{Ends}
+use Rattle.ame_shell.specs.Heard.{HaveHeard, HaveFailed}
+use Rattle.ame_shell.specs.Over.{AreOfSeats, NoneWereInTheWay}
+use Rattle.ame_app.specs.declared.status.Status.{Status}
+use Rattle.ame_app.specs.Verdict.{verdict}
+use Rattle.ame_app.specs.Calls.{Call, Asks}
+use Rattle.ame_app.specs.Texts.{IsProgramOf}
+use Rattle.ame_app.specs.Causes.{RefusalCause, RunCause, status_of, number_told}
+
+-- the entries of a run, those from which it was opened first
+abbrev pub journal_of : End Val → List Entry
+journal_of end = end.base ++ end.entries
+
+-- the live cells are the store of a state, and no cell has an owner
+pub record IsStore (code : FlatCode) (cells : List (Cell Val)) (s : State) : Type 0 where
+  pub stored : (l : ℕ) → at s.store l ≡ stored_in (cell_of (map (shown_cell (value_meant code)) cells) l)
+  pub free : All IsFree cells
+
+-- the values stored and the members are typed, for some types of the locations
+pub record IsTypedState (devices : ℕ) (s : State) : Type 0 where
+  pub cells : StoreTyping
+  pub typed : IsTyped devices cells s
+
+-- each device has heard what the journal tells; none failed, but for the one that the stop tells
+pub record DevicesTell (code : FlatCode) (end : End Val) (before after : Ends) : Type 0 where
+  pub heard : HaveHeard (program_of code) (journal_of end) before.told after.told
+  pub failed : HaveFailed end.stop before.told after.told
+
+-- the verdict line of a run
+abbrev pub verdict_of : End Val → List ℕ
+verdict_of end = verdict (status_of end.stop) (number_told end)
+
+-- A text was written, by the status of the call: all of it; after a fault of the sink a front of it, and nothing more.
+pub record IsWritten (status : Status) (text : List ℕ) (before after : Ends) : Type 0 where
+  pub whole : status ≢ Status.WriteFault → Appends before.written after.written text × (after.write_faults ≡ before.write_faults)
+  pub front : status ≡ Status.WriteFault → AppendsFront before.written after.written text × HasRisen before.write_faults after.write_faults
+
+-- The headline: what is promised of a call in which a run was begun, with what its ends tell before and after.
+pub record Headline (call : Call) (status : Status) (code : Option FlatCode) (end : End Val) (before after : Ends) : Type 0 where
+  pub options : Options
+  pub text : Text
+  pub compiled : FlatCode
+  pub final : Replayed
+  -- The code is that of the text that the words ask for, which is a program that the types accept.
+  pub asked : Asks call options text
+  pub program : IsProgramOf text call.devices compiled.accepted
+  pub code_is : code ≡ Some compiled
+  -- The journal, all of which is of this run, replays from the program as one run of the strong semantics.
+  pub begun : end.base ≡ []
+  pub replays : replay (program_of compiled) (journal_of end) ≡ Some final
+  pub seats : AreOfSeats options.workers (journal_of end)
+  -- What was written is the output of that run, a line each, and the verdict line; what is left is its state.
+  pub output : IsWritten status (lines final.state.output ++ verdict_of end) before after
+  pub store : IsStore compiled end.cells final.state
+  pub typed : IsTypedState call.devices final.state
+  pub devices : DevicesTell compiled end before after
+  -- The verdict is that of the stop, and has its cause; it is the status, unless the sink failed.
+  pub cause : RunCause (status_of end.stop) (number_told end) options end final before after
+  pub spoken : status ≢ Status.WriteFault → status ≡ status_of end.stop
+  -- A fragment that was cut off, or that came to a value that is too high, is noted last, and only with that stop. That a fragment
+  -- waits is noted once until somebody commits.
+  pub notes : NotesStop end.stop end.entries
+  pub once : IsNotedOnce (journal_of end)
+  -- One worker by itself has nobody in its way.
+  pub lone : options.workers ≡ 1 → NoneWereInTheWay end.counters
+
+-- Just the verdict line of a refusal was written. There is no code, and no device was called.
+pub record IsToldAlone (told status : Status) (code : Option FlatCode) (before after : Ends) : Type 0 where
+  pub spoken : status ≢ Status.WriteFault → status ≡ told
+  pub output : IsWritten status (verdict told 0) before after
+  pub devices : after.told ≡ before.told
+  pub nothing : code ≡ None
+
+-- What is promised of a call in which no run was begun: what is told of it has its cause.
+pub record IsTurnedAway (call : Call) (status : Status) (code : Option FlatCode) (before after : Ends) : Type 0 where
+  pub told : Status
+  pub cause : RefusalCause call told
+  pub alone : IsToldAlone told status code before after

@@ -1,0 +1,84 @@
+//! A process: its words, and its devices.
+
+ghost use Rattle.std.specs.Prelude.{◌≡◌, [], ◌∷◌, IfOk, IfErr, IfSome, Some, None, map, option_map, string_bytes};
+ghost use Rattle.std.specs.Arc.{arc_value};
+ghost use Rattle.ame_device.specs.Calls.{told, all_told};
+ghost use Rattle.ame_shell.specs.Ends.{ends_of};
+ghost use Rattle.ame_app.specs.Calls.{given_by, call_of};
+ghost use Rattle.ame_app.specs.Headline.{Headline, IsToldAlone, IsTurnedAway};
+ghost use Rattle.ame_app.specs.Standard.{heard_by, faults_of, with_two_new};
+ghost use Rattle.ame_app.specs.Verdict.{unread};
+
+use crate::call::{run_words_over, turn_away};
+use crate::report::Report;
+use crate::standard::StandardDevice;
+use crate::status::{Status, WordsFault};
+use ame_device::{Adder, Counter};
+use ame_io::{Sink, Source};
+use std::alloc::{Alloc, AllocError, Global};
+use std::env::{self, Env};
+use std::io::ErrorKind;
+
+/// The words after the program's name. A word that isn't text is no word of a call.
+pub fn process_words<R: Env + Alloc<A = Global>>(rt: &R) -> Result<Vec<String>, WordsFault> {
+    let args = match env::args(rt) {
+        Ok(args) => args,
+        Err(error) if error.kind() == ErrorKind::OutOfMemory => return Err(WordsFault::NoMemory),
+        Err(_) => return Err(WordsFault::NotText),
+    };
+    match args.skip(1).collect(rt.alloc()) {
+        Ok(words) => Ok(words),
+        Err(_) => Err(WordsFault::NoMemory),
+    }
+}
+
+/// Does what the words of a process ask for. Device 0 counts its calls, and device 1 adds up what it is called with.
+pub fn run_process<S: Source, K: Sink + Drop>(
+    alloc: Global,
+    words: Result<Vec<String>, WordsFault>,
+    source: &mut S,
+    sink: K,
+) -> Report<K, StandardDevice>
+    ensures ran { IfOk words (λ ws. IfSome result.ended (λ end. Headline (call_of (map string_bytes ws.items)
+        (given_by S.left S.faults source.old) (given_by S.left S.faults source.new) 2)
+        result.status (option_map arc_value result.code) end
+        (with_two_new (K.written sink) (K.faults sink))
+        (ends_of K.written K.faults heard_by faults_of result.sink result.devices.items))) }
+    ensures turned_away { IfOk words (λ ws. result.ended ≡ None → IsTurnedAway (call_of (map string_bytes ws.items)
+        (given_by S.left S.faults source.old) (given_by S.left S.faults source.new) 2)
+        result.status (option_map arc_value result.code)
+        (ends_of K.written K.faults heard_by faults_of sink result.devices.items)
+        (ends_of K.written K.faults heard_by faults_of result.sink result.devices.items)) }
+    ensures unread { IfErr words (λ fault. (result.ended ≡ None) × IsToldAlone (unread fault) result.status (option_map arc_value result.code)
+        (ends_of K.written K.faults heard_by faults_of sink [])
+        (ends_of K.written K.faults heard_by faults_of result.sink result.devices.items)) }
+{
+    let words = match words {
+        Ok(words) => words,
+        Err(fault) => return turn_away(unread(fault), sink, Vec::new(alloc)),
+    };
+    match standard_devices(alloc) {
+        Ok(devices) => run_words_over(alloc, &words, source, sink, devices),
+        Err(_) => turn_away(Status::NoMemory, sink, Vec::new(alloc)),
+    }
+}
+
+/// The devices of a process.
+fn standard_devices(alloc: Global) -> Result<Vec<StandardDevice>, AllocError>
+    ensures { IfOk result (λ devices. all_told heard_by faults_of devices.items ≡ told (Some []) 0 ∷ told (Some []) 0 ∷ []) }
+{
+    let mut devices = Vec::new(alloc);
+    devices.push(StandardDevice::Counter(Counter::new(alloc)))?;
+    devices.push(StandardDevice::Adder(Adder::new(alloc)))?;
+    Ok(devices)
+}
+
+/// The status of a call whose words can't be read.
+fn unread(fault: WordsFault) -> Status
+    ensures { result ≡ unread fault }
+{
+    match fault {
+        WordsFault::NotText => Status::Usage,
+        WordsFault::NoMemory => Status::NoMemory,
+    }
+}

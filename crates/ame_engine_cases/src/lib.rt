@@ -1,5 +1,5 @@
-//! Tests of an engine with two to four seats: texts are read, typed and compiled, and the seats run them in turns that a table
-//! or a seed tells.
+//! Tests of an engine with its seats: texts are read, typed and compiled, and the seats run them in turns that a table or a seed
+//! tells.
 #![tactic(auto)]
 
 mod crew;
@@ -7,12 +7,20 @@ mod crew;
 pub use crew::Crew;
 
 #[cfg(test)]
-mod hostile;
+mod ends;
 #[cfg(test)]
-mod play;
+mod one_seat;
 #[cfg(test)]
 mod random;
 #[cfg(test)]
 mod replay;
 #[cfg(test)]
-mod rows;
+mod stops;
+#[cfg(test)]
+mod table;
+#[cfg(test)]
+mod texts;
+#[cfg(test)]
+mod two_seats;
+#[cfg(test)]
+mod visits;

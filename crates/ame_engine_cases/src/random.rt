@@ -1,21 +1,107 @@
 //! Seats in turns that a seed tells: after each event the journal replays to what the engine has.
 
-use crate::play::{crew_of, turn};
+use crate::ends::{has_cause, have_heard};
 use crate::replay::{begun, follow, is_replayed};
-use ame_engine::Stop;
-use ame_turn::Deed;
+use crate::texts::team_of;
+use ame_device::FailsAt;
+use ame_engine::{Counters, Ended, Stop};
+use ame_stands::Limits;
+use ame_value::Val;
 use std::alloc::Global;
 use std::process::Abort;
 use std::test::Fail;
 
-const TEXTS: [&str; 4] = [
-    "(let r (ref p 0) (do (async (set r (+ (get r) 1))) (async (set r (+ (get r) 10))) (async (set r (+ (get r) 100))) \
-    (async (print (get r)))))",
-    "(let x (ref p 9) (let y (ref p 0) (do (async (do (set x (- (get x) 1)) (set y (+ (get y) 1)))) \
-    (async (do (set y (- (get y) 2)) (set x (+ (get x) 2)))) (async (print (+ (get x) (get y)))))))",
-    "(let r (ref p 1) (app (rec p f (n Int) Unit (if (< 0 n) (do (async (set r (+ (get r) (get r)))) (app f (- n 1))) unit)) 5))",
-    "(let r (ref p 3) (do (async (let s (ref p (get r)) (do (set r (+ (get s) 1)) (async (do (set s 7) (print (get s))))))) \
-    (async (do (set r (+ (get r) 20)) (print (get r))))))",
+/// A text, with devices, and the turns and the slice of its seats.
+#[derive(Clone, Copy)]
+struct Load {
+    text: &'static str,
+    /// Of each device, the call at which it fails.
+    devices: &'static [u64],
+    turns: u32,
+    slice: u32,
+}
+
+/// A text without devices that ends soon.
+const SHORT: Load = Load {
+    text: "",
+    devices: &[],
+    turns: 1000,
+    slice: 2,
+};
+
+/// One that doesn't end.
+const LOOP: Load = Load {
+    turns: 60,
+    slice: 10,
+    ..SHORT
+};
+
+const LOADS: [Load; 12] = [
+    // members that contend for cells
+    Load {
+        text: "(let r (ref p 0) (do (async (set r (+ (get r) 1))) (async (set r (+ (get r) 10))) (async (set r (+ (get r) 100))) \
+        (async (print (get r)))))",
+        ..SHORT
+    },
+    Load {
+        text: "(let x (ref p 9) (let y (ref p 0) (do (async (do (set x (- (get x) 1)) (set y (+ (get y) 1)))) \
+        (async (do (set y (- (get y) 2)) (set x (+ (get x) 2)))) (async (print (+ (get x) (get y)))))))",
+        ..SHORT
+    },
+    Load {
+        text: "(let r (ref p 1) (app (rec p f (n Int) Unit (if (< 0 n) (do (async (set r (+ (get r) (get r)))) (app f (- n 1))) unit)) 5))",
+        ..SHORT
+    },
+    Load {
+        text: "(let r (ref p 3) (do (async (let s (ref p (get r)) (do (set r (+ (get s) 1)) (async (do (set s 7) (print (get s))))))) \
+        (async (do (set r (+ (get r) 20)) (print (get r))))))",
+        ..SHORT
+    },
+    // members that wait, the last of the second text for ever
+    Load {
+        text: "(let r (ref p 0) (do (async (do (blockUntil (= (get r) 2)) (print 20))) (async (do (blockUntil (= (get r) 1)) (set r 2))) \
+        (async (set r 1))))",
+        ..SHORT
+    },
+    Load {
+        text: "(let r (ref p 0) (let s (ref p 0) (do (async (do (set s 1) (blockUntil (= (get r) 3)) (print (get s)))) \
+        (async (set r (+ (get s) 3))) (async (let q (ref p 7) (blockUntil (= (get r) (get q))))))))",
+        ..SHORT
+    },
+    // unprotected code
+    Load {
+        text: "(let n (ref p 0) (let x (ref u 0) (do (async (set n (+ (get n) 1))) (unprotected (do (set x (peek n)) \
+        (async (set n (+ (get n) 10))) (print (get x)))) (set n (+ (get n) 100)) yield (async (print (get n))) \
+        (unprotected (set x (get (ref u 3)))))))",
+        ..SHORT
+    },
+    Load {
+        text: "(let r (ref p 0) (do (async (unprotected (do (print (call 0 5)) (print (call 1 6))))) \
+        (async (do (set r 4) (unprotected (print (call 1 (peek r)))))) (async (set r (+ (get r) 1)))))",
+        devices: &[0, 0],
+        ..SHORT
+    },
+    Load {
+        text: "(do (async (unprotected (print (call 1 6)))) (unprotected (print (call 1 7))) (print 8))",
+        devices: &[0, 2],
+        ..SHORT
+    },
+    // a value that is too high
+    Load {
+        text: "(let r (ref p 0) (do (async (set r (+ (get r) 1))) (async (do (set r (+ (get r) 2)) \
+        (app (rec p f (g (Fun a Unit Unit)) Unit (app f (fn a (x Unit) (app g x)))) (fn a (x Unit) x))))))",
+        slice: 300,
+        ..SHORT
+    },
+    // loops
+    Load {
+        text: "(let r (ref p 0) (do (async (set r (+ (get r) 1))) (async (app (rec p f (x Int) Unit (app f (get r))) 0))))",
+        ..LOOP
+    },
+    Load {
+        text: "(do (async (print 1)) (unprotected (app (rec a f (x Unit) Unit (app f x)) unit)))",
+        ..LOOP
+    },
 ];
 
 /// The next number of a stream.
@@ -23,46 +109,132 @@ fn draw(last: u32) -> u32 {
     last.wrapping_mul(1_664_525).wrapping_add(1_013_904_223)
 }
 
-/// A text in so many seats and slices, with turns by a seed, to its end.
+/// The limits of a text and a seed: some have few turns.
+fn limits_of(load: &Load, seed: u32) -> Limits {
+    Limits {
+        turns: if seed % 4 == 3 {
+            10 + seed % 16
+        } else {
+            load.turns
+        },
+        slice: load.slice.saturating_add(seed % 3),
+        seats: 2 + seed % 3,
+    }
+}
+
+/// Before which turn of a seed output can't be written any more.
+fn fault_of(seed: u32) -> Option<u32> {
+    if seed % 5 == 4 {
+        Some(6 + seed % 16)
+    } else {
+        None
+    }
+}
+
+/// A text in turns by a seed, to its end.
 fn run(
     rt: &impl Abort,
     alloc: Global,
-    text: &str,
-    slice: u32,
-    seats: u32,
+    load: &Load,
     seed: u32,
-) -> Result<(), Fail> {
-    let mut crew = crew_of(alloc, text, 2000, slice, seats)?;
+) -> Result<Ended<Val>, Fail> {
+    let text = load.text;
+    let limits = limits_of(load, seed);
+    let seats = limits.seats;
+    if seats == 0 {
+        return Err("no seat".into());
+    }
+    let mut devices = Vec::new(alloc);
+    for call in load.devices {
+        devices.push(FailsAt::new(alloc, *call))?;
+    }
+    let mut team = team_of(alloc, text, limits, devices)?;
     let mut replay = begun(alloc, text)?;
     let mut last = seed;
-    for _ in 0..20_000 {
-        last = draw(last);
-        if seats == 0 {
-            return Err("no seat".into());
-        }
-        let deed = turn(rt, &mut crew, (last >> 16) % seats);
-        follow(rt, alloc, &mut replay, crew.engine().journal());
-        is_replayed(rt, &crew, &replay);
-        if deed == Deed::Stopped {
+    for event in 0..40_000 {
+        if team.is_done() {
             break;
         }
+        if fault_of(seed) == Some(event) {
+            team.stop();
+        }
+        last = draw(last);
+        let seat = (last >> 16) % seats;
+        assert!(rt; seat < team.engine().limits().seats);
+        let _ = team.step(seat);
+        follow(rt, alloc, &mut replay, team.engine().journal())?;
+        is_replayed(rt, &team, &replay);
+        assert_eq!(rt; replay.state.pool_len(), team.members(), "{text} {seed}");
     }
-    assert_eq!(rt;
-        crew.engine().stopped(),
-        Some(Stop::Finished),
-        "{text} {seats} {seed}"
-    );
-    assert_eq!(rt; replay.state.pool_len(), 0);
-    Ok(())
+    let Some((ended, devices)) = team.finish() else {
+        return Err("at work".into());
+    };
+    has_cause(rt, alloc, &ended, limits.turns, &replay)?;
+    have_heard(rt, &devices, &replay);
+    Ok(ended)
+}
+
+/// What was counted, kind by kind.
+fn counts_of(counters: &Counters) -> [u32; 13] {
+    [
+        counters.begins,
+        counters.reads,
+        counters.writes,
+        counters.conflicts,
+        counters.allocs,
+        counters.checks,
+        counters.commits,
+        counters.blocks,
+        counters.talls,
+        counters.undos,
+        counters.frees,
+        counters.invalids,
+        counters.unwound,
+    ]
+}
+
+/// What was counted in all runs, kind by kind, and the stops.
+#[derive(Drop)]
+struct Tally {
+    counts: [u32; 13],
+    stops: Vec<Stop>,
+}
+
+impl Tally {
+    fn add(&mut self, ended: &Ended<Val>) -> Result<(), Fail> {
+        if let Some(stop) = ended.stopped() {
+            self.stops.push(stop)?;
+        }
+        for (sum, count) in self.counts.iter_mut().zip(counts_of(ended.counters())) {
+            *sum = sum.saturating_add(count);
+        }
+        Ok(())
+    }
 }
 
 #[test]
 fn journals_replay_to_what_the_engine_has(rt: HostRuntime) -> Result<(), Fail> {
     let alloc = rt.alloc();
-    for text in TEXTS {
-        for seed in 0..12 {
-            run(&rt, alloc, text, 2 + seed % 3, 2 + seed % 3, seed)?;
+    let mut tally = Tally {
+        counts: [0; 13],
+        stops: Vec::new(alloc),
+    };
+    for seed in 0..6 {
+        for load in &LOADS {
+            tally.add(&run(&rt, alloc, load, seed)?)?;
         }
+    }
+    // each kind of event came, and each stop but want of memory
+    assert!(&rt; tally.counts.iter().all(|sum| *sum > 0));
+    for stop in [
+        Stop::Finished,
+        Stop::Blocked,
+        Stop::Spent,
+        Stop::Tall(2),
+        Stop::WriteFault,
+        Stop::DeviceFault(1),
+    ] {
+        assert!(&rt; tally.stops.contains(&stop), "{stop:?}");
     }
     Ok(())
 }

@@ -1,17 +1,16 @@
-use Rattle.std.proofs.Common.{◌<◌, sym, ap, subst, ◌∙◌}
-use Rattle.ame_turn.specs.Deeds.{IsDone}
-use Rattle.ame_engine_cases.proofs.CrewLemmas.{crew-turned}
+use Rattle.std.proofs.Common.{◌<◌, sym, subst}
+use Rattle.ame_engine_cases.proofs.CrewLemmas.{crew-turned, has-done}
 use Rattle.ame_engine_cases.proofs.crew.Crew.step.Goals as goal
 
 pub invariant_of-self : goal.invariant_of-self
 invariant_of-self g c =
-    let turned = c.act-turned.ensures in
+    let turned = c.act-deed.ensures in
     let seat = c.args.seat in
     let within = subst (λ n. seat < n) (sym c.self.invariant.count) (subst (λ core. seat < core.limits.seats) (sym c.self.view_is) c.requires) in
-    crew-turned g.M.Runner.program g.M.Runner.devices g.M.Runner.value_of g.M.Runner.is_machine g.M.Runner.stage c.self.inside.engine c.act-turned.new.engine
-    _ c.self.inside.seats.items seat c.replace-work.new.dest c.act-turned.result.work c.self.invariant within turned.code turned.limits turned.fits turned.others
+    crew-turned g.M.Runner.program g.M.Runner.devices g.M.Runner.value_of g.M.Runner.is_machine g.M.Runner.stage c.self.inside.engine c.act-deed.new.engine
+    _ c.self.inside.seats.items seat c.replace-work.new.dest c.act-deed.result.work _ _ c.self.invariant within turned.code turned.limits turned.fits turned.others turned.count
 
 pub returns : goal.returns
 returns g c =
-    subst (λ old. IsDone g.M.Runner.program g.M.Runner.devices g.M.Runner.value_of g.M.Runner.stage c.args.seat old c.act-turned.new.engine c.act-turned.result.deed)
-    c.self.view_is c.act-turned.ensures.done
+    has-done g.M.Runner.program g.M.Runner.devices g.M.Runner.value_of g.M.Runner.stage c.args.seat _ _ c.act-deed.new.engine c.act-deed.result.deed _ _ _
+    c.self.view_is c.act-deed.ensures.done

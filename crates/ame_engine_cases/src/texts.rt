@@ -1,0 +1,66 @@
+//! Seats for texts.
+
+ghost use Rattle.std.specs.Prelude.{◌≡◌, ◌≤◌, IfOk};
+ghost use Rattle.ame_types.specs.Limits.{max_devices};
+
+use crate::Crew;
+use ame_code::{Code, compile};
+use ame_device::Device;
+use ame_eval::Machine;
+use ame_lex::lex;
+use ame_parse::parse;
+use ame_stands::Limits;
+use ame_term::Program;
+use ame_types::check;
+use std::alloc::Global;
+use std::test::Fail;
+
+/// The most bytes of a text.
+pub const LIMIT: usize = 1_048_576;
+
+/// Seats with machines of the evaluator, and devices.
+pub type Team<D> = Crew<Machine, D>;
+
+/// The program of a text. The types aren't asked.
+pub fn read(alloc: Global, text: &str) -> Result<Program, Fail> {
+    let text = text.as_bytes();
+    if text.len() > LIMIT {
+        return Err("too long".into());
+    }
+    let tokens = lex(alloc, text)?;
+    Ok(parse(alloc, text, &tokens)?)
+}
+
+/// The code of a text that may call so many devices.
+fn code_of(alloc: Global, text: &str, devices: u32) -> Result<Code, Fail>
+    requires { devices ≤ max_devices }
+    ensures { IfOk result (λ code. code.accepted.devices ≡ devices) }
+{
+    let program = read(alloc, text)?;
+    match check(alloc, program, devices) {
+        Ok(accepted) => Ok(compile(alloc, accepted)?),
+        Err(_) => Err("not typed".into()),
+    }
+}
+
+/// Seats that have just started on a text.
+pub fn team_of<D: Device>(
+    alloc: Global,
+    text: &str,
+    limits: Limits,
+    devices: Vec<D>,
+) -> Result<Team<D>, Fail> {
+    let Limits {
+        turns,
+        slice,
+        seats,
+    } = limits;
+    if turns < 1 || turns > 4_000_000 || slice < 1 || slice > 1000 || seats < 1 || seats > 32 {
+        return Err("limits".into());
+    }
+    if devices.len() > 16 {
+        return Err("devices".into());
+    }
+    let code = code_of(alloc, text, devices.len() as u32)?;
+    Ok(Crew::start(alloc, code, limits, devices)?)
+}

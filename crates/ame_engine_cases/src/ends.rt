@@ -51,7 +51,9 @@ pub fn has_cause(
         Some(Stop::Spent) => assert!(rt; members > 0 && ended.turns() == turns),
         Some(Stop::Tall(number)) => {
             let last = ended.journal().last();
-            assert!(rt; matches!(last, Some(entry) if entry.kind == EntryKind::Tall && entry.number == number));
+            assert!(rt;
+                matches!(last, Some(entry) if entry.kind == EntryKind::Tall && entry.number == number)
+            );
         }
         Some(Stop::NoMemory | Stop::WriteFault | Stop::DeviceFault(_)) => {}
         None => assert!(rt; false, "no stop"),

@@ -132,12 +132,7 @@ fn fault_of(seed: u32) -> Option<u32> {
 }
 
 /// A text in turns by a seed, to its end.
-fn run(
-    rt: &impl Abort,
-    alloc: Global,
-    load: &Load,
-    seed: u32,
-) -> Result<Ended<Val>, Fail> {
+fn run(rt: &impl Abort, alloc: Global, load: &Load, seed: u32) -> Result<Ended<Val>, Fail> {
     let text = load.text;
     let limits = limits_of(load, seed);
     let seats = limits.seats;

@@ -66,10 +66,7 @@ const ROWS: [Row; 6] = [
     // functions, and pairs, whose values are too high
     Row {
         text: "(app (rec p f (g (Fun a Unit Unit)) Unit (app f (fn a (x Unit) (app g x)))) (fn a (x Unit) x))",
-        events: &[Event::Turns(
-            0,
-            &[Began, Checked, Checked, GrewTall, WentHome, Stopped],
-        )],
+        events: &[Event::Turns(0, &[Began, Checked, Checked, GrewTall, WentHome, Stopped])],
         journal: "tall 0 0 2001\n",
         stop: Stop::Tall(0),
         turns: 4,
@@ -79,10 +76,7 @@ const ROWS: [Row; 6] = [
     Row {
         text: "(app (rec p f (g (Fun a Unit Unit)) Unit (let q (pair g 0) (app f (fn a (x Unit) (app (fst q) x))))) \
         (let y (fn a (x Unit) x) (fn a (x Unit) (app y x))))",
-        events: &[Event::Turns(
-            0,
-            &[Began, Checked, Checked, GrewTall, WentHome, Stopped],
-        )],
+        events: &[Event::Turns(0, &[Began, Checked, Checked, GrewTall, WentHome, Stopped])],
         journal: "tall 0 0 2001\n",
         stop: Stop::Tall(0),
         turns: 4,

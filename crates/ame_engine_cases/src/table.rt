@@ -164,12 +164,7 @@ fn certificates_are(
 }
 
 /// The devices heard this.
-fn devices_heard<D: Device>(
-    rt: &impl Abort,
-    text: &str,
-    devices: &[D],
-    heard: &[&[(i64, i64)]],
-) {
+fn devices_heard<D: Device>(rt: &impl Abort, text: &str, devices: &[D], heard: &[&[(i64, i64)]]) {
     assert_eq!(rt; devices.len(), heard.len(), "{text}");
     for (device, calls) in devices.iter().zip(heard.iter()) {
         let told = device.heard().unwrap_or(&[]);

@@ -17,7 +17,12 @@ const ROWS: [Row; 4] = [
             Event::Turns(0, &[Began, Read, Wrote, Ended]),
             Event::Turns(0, &[Began, CameHome, Began, CameHome, Began, Left]),
             Event::Turns(0, &[Began, CameHome, Began, Left]),
-            Event::Turns(0, &[Began, CameHome, Began, CameHome, Began, CameHome, Began, Left]),
+            Event::Turns(
+                0,
+                &[
+                    Began, CameHome, Began, CameHome, Began, CameHome, Began, Left,
+                ],
+            ),
             Event::Turns(0, &[Began, CameHome, Began, CameHome, Began, CameHome]),
             Event::Turns(0, &[Began, Read, Ended, Stopped]),
         ],
@@ -71,7 +76,10 @@ const ROWS: [Row; 4] = [
             Event::Turns(0, &[Began, CameHome, Began]),
             Event::Turns(1, &[Began]),
             Event::Turns(0, &[Ended]),
-            Event::Turns(1, &[CameHome, Began, CameHome, Began, CameHome, Began, CameHome]),
+            Event::Turns(
+                1,
+                &[CameHome, Began, CameHome, Began, CameHome, Began, CameHome],
+            ),
             Event::Turns(1, &[Began, CameHome, Began, Ended, Stopped]),
         ],
         output: &[4, 4],

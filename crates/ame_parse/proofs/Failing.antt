@@ -16,7 +16,7 @@ use Rattle.ame_parse.specs.declared.fault.Want.TheVariants as want
 use Rattle.ame_parse.specs.declared.fault.ParseFault.{ParseFault}
 use Rattle.ame_parse.specs.declared.fault.ParseFault.TheVariants.{Expected, UnknownName, TooNested, Trailing}
 use Rattle.ame_parse.specs.declared.forms.Opener.TheVariants as opener
-use Rattle.ame_parse.specs.Input.{Input, ParseOutcome, Parser, and_then, ◌>>=◌, ◌>>◌, pure, ahead, spelling, place, advanced, marked, name_number, named, binds_name, bound, unbound, tokens_left, is_closing, sees_closing, closing_by, closing, name_by, name, opening_by, opening, bind_name, unbind, finish_by, finish}
+use Rattle.ame_parse.specs.Input.{Input, ParseOutcome, Parser, and_then, ◌>>=◌, ◌>>◌, pure, ahead, spelling, place, advanced, marked, name_number, named, binds_name, bound, tokens_left, is_closing, sees_closing, closing_by, closing, name_by, name, opening_by, opening, bind_name, unbind, finish_by, finish}
 use Rattle.ame_parse.specs.Letters.{sort_of, effect_named, device_of, sort_by, effect_by, device_by, sort, effect_word, device}
 use Rattle.ame_parse.specs.Types as t
 use Rattle.ame_parse.specs.Types.{ty, param}
@@ -26,7 +26,7 @@ use Rattle.ame_parse.specs.Grammar as g
 use Rattle.ame_parse.specs.Grammar.{IsSort, IsEffect, IsParam, IsTerm, AreParts}
 use Rattle.ame_parse.specs.Expected as x
 use Rattle.ame_parse.specs.Expected.{Piece, Passes, Shape, Fails, AreFailing, Faults, begins_term, begins_form, begins_type, begins_type_form}
-use Rattle.ame_parse.proofs.Steps.{Leads, leads_pure}
+use Rattle.ame_parse.proofs.Steps.{leads_pure}
 use Rattle.ame_parse.proofs.LetterSteps.{leads_sort, leads_effect, leads_device, IsDevice, op_is}
 use Rattle.ame_parse.proofs.TypeSoundness.{ty_leads, param_leads}
 use Rattle.ame_parse.proofs.Soundness.{term_leads, more_leads}

@@ -1,15 +1,14 @@
 -- Each fault that is expected is the one that is read.
-use Rattle.std.proofs.Common.{◌≡◌, ℕ, zero, suc, ◌-◌, ◌<◌, ◌≤◌, ◌==◌, ◌||◌, refl, sym, ap, ◌∙◌, Bool, true, false, cond, List, [], ◌∷◌, ◌++◌, Option, Some, None, Ok, Err, arith}
+use Rattle.std.proofs.Common.{◌≡◌, ℕ, zero, suc, ◌-◌, ◌≤◌, ◌==◌, ◌||◌, refl, sym, ap, ◌∙◌, Bool, true, false, cond, List, [], ◌∷◌, Option, Some, None, Err, arith}
 use Rattle.std.specs.Option.{option_map}
 use Rattle.ame_lex.specs.Bytes.{Text}
 use Rattle.ame_term.specs.declared.types.Sort.{Sort}
 use Rattle.ame_term.specs.declared.types.Effect.{Effect}
-use Rattle.ame_term.specs.declared.types.Op.{Op}
 use Rattle.ame_term.specs.declared.types.Op.TheVariants as op
 use Rattle.ame_term.specs.declared.types.Unary.TheVariants as unary
 use Rattle.ame_term.specs.declared.types.Binary.{Binary}
 use Rattle.ame_term.specs.declared.types.Binary.TheVariants as binary
-use Rattle.ame_term.specs.Tree.{Typ, Tree}
+use Rattle.ame_term.specs.Tree.{Tree}
 use Rattle.ame_parse.specs.declared.words.Word.{Word}
 use Rattle.ame_parse.specs.declared.words.Word.TheVariants as w
 use Rattle.ame_parse.specs.declared.ahead.Ahead.{Ahead}
@@ -17,22 +16,19 @@ use Rattle.ame_parse.specs.declared.ahead.Ahead.TheVariants as a
 use Rattle.ame_parse.specs.declared.fault.Want.TheVariants as want
 use Rattle.ame_parse.specs.declared.fault.ParseFault.{ParseFault}
 use Rattle.ame_parse.specs.declared.fault.ParseFault.TheVariants.{Expected, UnknownName, TooNested, Trailing}
-use Rattle.ame_parse.specs.declared.forms.Opener.{Opener}
 use Rattle.ame_parse.specs.declared.forms.Opener.TheVariants as opener
-use Rattle.ame_parse.specs.Input.{Input, Parser, and_then, ◌>>=◌, ◌>>◌, pure, ahead, spelling, place, advanced, marked, name_number, named, binds_name, bound, tokens_left, is_closing, closing_by, closing, name_by, name, opening_by, opening, finish_by, finish}
+use Rattle.ame_parse.specs.Input.{Input, ◌>>◌, ahead, spelling, place, advanced, marked, name_number, named, binds_name, tokens_left, is_closing, closing_by, closing, name_by, name, opening_by, finish_by, finish}
 use Rattle.ame_parse.specs.Letters.{sort_of, effect_named, device_of, sort_by, effect_by, device_by, sort, effect_word, device}
 use Rattle.ame_parse.specs.Types as t
 use Rattle.ame_parse.specs.Types.{ty, param}
-use Rattle.ame_parse.specs.Forms.{opener_of, opener_of_word, op_of}
+use Rattle.ame_parse.specs.Forms.{opener_of, opener_of_word}
 use Rattle.ame_parse.specs.Reading.{alone, two, choice, binding, more_from, more, first_two, sequence, reference, call, function, recursive, form_by, compound, constant, nested, term, max_open, program}
-use Rattle.ame_parse.specs.Seen.{start_of}
 use Rattle.ame_parse.specs.Text.{ReadingFault, source_by, reading_by, reading}
-use Rattle.ame_parse.specs.Grammar as g
-use Rattle.ame_parse.specs.Grammar.{IsSort, IsEffect, IsParam, IsTerm}
+use Rattle.ame_parse.specs.Grammar.{IsSort, IsEffect}
 use Rattle.ame_parse.specs.Expected as x
 use Rattle.ame_parse.specs.Expected.{Piece, Passes, Shape, TypeShape, Fails, AreFailing, Faults, begins_term, begins_form, begins_type, begins_type_form, is_term_word, is_operator}
 use Rattle.ame_parse.proofs.LetterSteps.{IsDevice}
-use Rattle.ame_parse.proofs.Completeness.{term_takes, term_reads, type_reads, param_reads, closing_at, sort_at, effect_at, device_at, opening_at, ty_at, nested_ty_at, compound_ty_at, one_from, term_at, atom_at, nested_at, compound_at, name_at, unary_at, binary_at, more_goes_on}
+use Rattle.ame_parse.proofs.Completeness.{term_takes, term_reads, type_reads, param_reads, sort_at, effect_at, device_at, ty_at, nested_ty_at, compound_ty_at, term_at, atom_at, nested_at, compound_at, name_at, unary_at, binary_at, more_goes_on}
 use Rattle.ame_parse.proofs.LocalTerms.{none_left, no_term_at_end, more_stops, no_turns}
 use Rattle.ame_parse.proofs.Failing.{tested, variable_at, param_rest, param_by, param_open, param_number, sort_is, effect_is, device_is}
 use Rattle.ame_parse.proofs.Whole.{LexesAsRead}

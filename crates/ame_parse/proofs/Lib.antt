@@ -16,3 +16,4 @@ pub mod TreeLemmas
 pub mod Turns
 pub mod Failing
 pub mod Faulty
+pub mod WordLemmas

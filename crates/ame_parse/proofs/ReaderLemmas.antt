@@ -1,9 +1,13 @@
 -- Tokens that are left.
-use Rattle.std.proofs.Common.{◌≡◌, ℕ, ◌+◌, ◌<◌, ◌≤◌, List, [], ◌∷◌, length, arith}
+use Rattle.std.proofs.Common.{◌≡◌, ℕ, false, Option, Some, None, refl, ◌+◌, ◌<◌, ◌≤◌, List, [], ◌∷◌, length, arith}
 use Rattle.ame_lex.specs.declared.tokens.Token.{Token}
 use Rattle.ame_lex.specs.Tokens.{InOrder}
+use Rattle.ame_lex.specs.Bytes.{Text}
+use Rattle.ame_lex.specs.declared.tokens.Kind.TheVariants as kind
+use Rattle.ame_parse.specs.declared.words.Word.{Word}
 use Rattle.ame_parse.specs.declared.ahead.Ahead.TheVariants as a
-use Rattle.ame_parse.specs.Input.{Seen, Input, ahead_in, ahead, tokens_left}
+use Rattle.ame_parse.specs.Words.{word_of}
+use Rattle.ame_parse.specs.Input.{Seen, Input, ahead_in, ahead_of, ahead_of_word, ahead, is_closing, tokens_left}
 
 name_is_left_in : (rest : List Seen) → ahead_in rest ≡ a.Name → 0 < length rest
 name_is_left_in [] e = absurd (cc)
@@ -17,3 +21,11 @@ name_is_left i e = name_is_left_in i.rest e
 pub tokens_are_few : (tokens : List Token) (from to : ℕ) → InOrder from tokens to → from + length tokens ≤ to
 tokens_are_few [] from to e = omega (arith, e)
 tokens_are_few (token ∷ tokens) from to e = omega (arith, e.0, e.1, tokens_are_few tokens token.end to e.2)
+
+word_is_open : (word : Option Word) → is_closing (ahead_of_word word) ≡ false
+word_is_open (Some word) = refl
+word_is_open None = refl
+
+-- no word closes a form, whichever it is
+pub closes : (spelling : Text) → is_closing (ahead_of kind.Word spelling) ≡ false
+closes spelling = word_is_open (word_of spelling)

@@ -1,5 +1,5 @@
 -- What is expected where, and which fault there is where something else stands.
-use Rattle.std.specs.Prelude.{◌≡◌, ℕ, zero, suc, ◌<◌, ◌==◌, ◌||◌, ◌&&◌, pos, not, Bool, true, false, List, [], ◌∷◌, Ok}
+use Rattle.std.specs.Prelude.{◌≡◌, ℕ, zero, suc, ◌<◌, ◌==◌, ◌||◌, pos, not, Bool, true, false, List, [], ◌∷◌, Ok}
 use Rattle.ame_lex.specs.Bytes.{Text}
 use Rattle.ame_lex.specs.Grammar.{Lexes}
 use Rattle.ame_lex.specs.declared.tokens.Token.{Token}

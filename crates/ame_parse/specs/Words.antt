@@ -1,8 +1,7 @@
 -- The reserved words, and which one a spelling is.
-use Rattle.std.specs.Prelude.{List, [], ◌∷◌, map, Option, Some, None, if◌then◌else◌, codes}
+use Rattle.std.specs.Prelude.{List, [], ◌∷◌, Option, Some, None, if◌then◌else◌, codes}
 use Rattle.std.specs.Str.{bytes_eq}
 use Rattle.ame_lex.specs.Bytes.{Text}
-use denote.Ref.{Bor}
 use Rattle.ame_parse.specs.declared.words.Word.{Word}
 use Rattle.ame_parse.specs.declared.words.Word.TheVariants as w
 
@@ -22,10 +21,6 @@ words =
 abbrev pub find_in : List (Text × Word) → Text → Option Word
 find_in [] spelling = None
 find_in (entry ∷ rest) spelling = if bytes_eq entry.0 spelling then Some entry.1 else find_in rest spelling
-
--- what a table of the program shows
-abbrev pub seen : List (Bor Text × Word) → List (Text × Word)
-seen table = map (λ entry. (entry.0.now, entry.1)) table
 
 -- the reserved word that is spelled so
 unfoldable pub word_of : Text → Option Word

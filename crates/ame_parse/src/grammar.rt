@@ -65,12 +65,11 @@ fn constant(alloc: Global, reader: &mut Reader<'_>, word: Word) -> Result<Term, 
     }
 }
 
-/// A term of one token.
-#[tactic(auto, unfolding(crate::specs::Reading::atom))]
-fn atom(alloc: Global, reader: &mut Reader<'_>) -> Result<Term, ParseFault>
-    ensures { Reads tree_of (spec.atom reader.old) result reader.new }
+/// A term of one token, which is the next one.
+fn atom(alloc: Global, reader: &mut Reader<'_>, next: Ahead) -> Result<Term, ParseFault>
+    ensures { Reads tree_of (spec.atom_by next reader.old) result reader.new }
 {
-    match reader.ahead() {
+    match next {
         Ahead::Number(value) => {
             reader.advance();
             Ok(Term::Held(Value::Int(value)))
@@ -293,13 +292,13 @@ fn nested(alloc: Global, reader: &mut Reader<'_>, depth: usize) -> Result<Term, 
 
 /// A term, where at most so many parentheses may be open in it.
 #[cycle(grammar)]
-#[tactic(auto, unfolding(crate::specs::Reading::term))]
+#[tactic(auto, unfolding(crate::specs::Reading::term, crate::specs::Reading::atom))]
 pub fn term(alloc: Global, reader: &mut Reader<'_>, depth: usize) -> Result<Term, ParseFault>
     ensures { Reads tree_of (spec.term depth reader.old) result reader.new }
 {
     reader.mark()?;
     match reader.ahead() {
         Ahead::Opening => nested(alloc, reader, depth),
-        _ => atom(alloc, reader),
+        next => atom(alloc, reader, next),
     }
 }

@@ -10,7 +10,7 @@ ghost use Rattle.ame_parse.specs.Seen.{start_of};
 use crate::ahead::{Ahead, ahead_of};
 use crate::fault::{ParseFault, Want};
 use crate::names::Names;
-use ame_lex::Token;
+use ame_lex::{Kind, Token};
 use ame_term::Name;
 use std::alloc::{AllocError, Global};
 use std::marker::Model;
@@ -121,11 +121,14 @@ impl<'a> Reader<'a> {
         Ok(())
     }
 
-    #[tactic(auto, unfolding(crate::specs::Input::sees_closing))]
+    #[tactic(auto, using(crate::proofs::ReaderLemmas::closes), unfolding(crate::specs::Input::sees_closing, crate::specs::Input::ahead))]
     pub fn sees_closing(&self) -> bool
         ensures { spec.sees_closing self.now ≡ Ok (result, self.now) }
     {
-        matches!(self.ahead(), Ahead::Closing)
+        match self.rest.first() {
+            Some(token) => matches!(token.kind, Kind::Close),
+            None => false,
+        }
     }
 
     #[tactic(auto, unfolding(crate::specs::Input::closing))]

@@ -36,54 +36,41 @@ pub enum Word {
     PairType,
 }
 
-const WORDS: [(&[u8], Word); 29] = [
-    (b"unit", Word::Unit),
-    (b"true", Word::True),
-    (b"false", Word::False),
-    (b"yield", Word::Yield),
-    (b"fn", Word::Fn),
-    (b"rec", Word::Rec),
-    (b"app", Word::App),
-    (b"let", Word::Let),
-    (b"do", Word::Do),
-    (b"if", Word::If),
-    (b"not", Word::Not),
-    (b"ref", Word::Ref),
-    (b"get", Word::Get),
-    (b"set", Word::Set),
-    (b"async", Word::Async),
-    (b"blockUntil", Word::BlockUntil),
-    (b"unprotected", Word::Unprotected),
-    (b"print", Word::Print),
-    (b"call", Word::Call),
-    (b"peek", Word::Peek),
-    (b"pair", Word::Pair),
-    (b"fst", Word::Fst),
-    (b"snd", Word::Snd),
-    (b"Unit", Word::UnitType),
-    (b"Bool", Word::BoolType),
-    (b"Int", Word::IntType),
-    (b"Ref", Word::RefType),
-    (b"Fun", Word::FunType),
-    (b"Pair", Word::PairType),
-];
-
-fn find_in(mut table: &[(&[u8], Word)], spelling: &[u8]) -> Option<Word>
-    ensures { result ≡ spec.find_in (spec.seen table.entry.now) spelling.now }
-{
-    while let [entry, rest @ ..] = table {
-        if entry.0 == spelling {
-            return Some(entry.1);
-        }
-        table = rest;
-    }
-    None
-}
-
 /// The reserved word that is spelled so.
-#[tactic(auto, unfolding(crate::specs::Words::word_of))]
+#[tactic(auto, using(crate::proofs::WordLemmas::other_lengths), unfolding(crate::specs::Words::word_of))]
 pub fn word_of(spelling: &[u8]) -> Option<Word>
     ensures { result ≡ spec.word_of spelling.now }
 {
-    find_in(&WORDS, spelling)
+    match spelling {
+        b"unit" => Some(Word::Unit),
+        b"true" => Some(Word::True),
+        b"false" => Some(Word::False),
+        b"yield" => Some(Word::Yield),
+        b"fn" => Some(Word::Fn),
+        b"rec" => Some(Word::Rec),
+        b"app" => Some(Word::App),
+        b"let" => Some(Word::Let),
+        b"do" => Some(Word::Do),
+        b"if" => Some(Word::If),
+        b"not" => Some(Word::Not),
+        b"ref" => Some(Word::Ref),
+        b"get" => Some(Word::Get),
+        b"set" => Some(Word::Set),
+        b"async" => Some(Word::Async),
+        b"blockUntil" => Some(Word::BlockUntil),
+        b"unprotected" => Some(Word::Unprotected),
+        b"print" => Some(Word::Print),
+        b"call" => Some(Word::Call),
+        b"peek" => Some(Word::Peek),
+        b"pair" => Some(Word::Pair),
+        b"fst" => Some(Word::Fst),
+        b"snd" => Some(Word::Snd),
+        b"Unit" => Some(Word::UnitType),
+        b"Bool" => Some(Word::BoolType),
+        b"Int" => Some(Word::IntType),
+        b"Ref" => Some(Word::RefType),
+        b"Fun" => Some(Word::FunType),
+        b"Pair" => Some(Word::PairType),
+        _ => None,
+    }
 }

@@ -1,0 +1,13 @@
+pub mod SeatLemmas
+pub mod RollLemmas
+pub mod FewLemmas
+pub mod FewEvents
+pub mod FewEntries
+pub mod FewBounds
+pub mod ShownLemmas
+pub mod InputLemmas
+pub mod PaidLemmas
+pub mod PaidEvents
+pub mod PaidHome
+pub mod PaidEntries
+pub mod UntriedLemmas

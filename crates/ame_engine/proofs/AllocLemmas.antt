@@ -1,5 +1,5 @@
 -- A seat makes a cell.
-use Rattle.std.proofs.Common.{◌≡◌, ℕ, ◌+◌, ◌<◌, false, length, Option, Some, refl, sym, ap, ◌∙◌, subst}
+use Rattle.std.proofs.Common.{◌≡◌, ℕ, ◌+◌, ◌<◌, false, length, Option, Some, refl, sym, ap, ◌∙◌, subst, arith, None, is_some}
 use Rattle.std.specs.Prelude.{unwrap_or}
 use Rattle.std.proofs.lemmas.List.{length-map}
 use Rattle.std.proofs.lemmas.List.Elements.{All-push, All-set}
@@ -49,6 +49,9 @@ use Rattle.ame_engine.proofs.ReadLemmas.{row-good, runs-as, comes-to}
 use Rattle.ame_engine.proofs.RunLemmas.{can-run}
 use Rattle.ame_engine.specs.Lone.{IsLone}
 use Rattle.ame_engine.proofs.LoneLemmas.{allocation-lone}
+use Rattle.ame_engine.specs.Bounds.{IsBounded}
+use Rattle.ame_engine.proofs.BoundLemmas.{allocation-bounded}
+use Rattle.ame_engine.specs.declared.stop.Stop.{Stop}
 
 -- The sort and the form of the cell that is wanted
 
@@ -158,8 +161,15 @@ module _ {C V M : Type 0} (program : C → Tree) (devices : C → ℕ) (is_value
     waiting-allocated : AreWaiting (has_allocated seat sort number (value_of core.code value) parts)
     waiting-allocated = allocation-waiting parts whole.stands seat on'.attempt task whole.waiting sort number (value_of core.code value)
 
-    pub whole-allocated : IsWhole program devices is_value value_of is_machine stage after
-    whole-allocated = record {
+    bounded-allocated : core.stop ≡ None → s.since < core.limits.slice
+        → IsBounded core.stop (one_counted Counted.Alloc core.counters) (has_allocated seat sort number (value_of core.code value) parts)
+    bounded-allocated none early =
+        subst (λ (v : Val). IsBounded core.stop (one_counted Counted.Alloc core.counters) (has_allocated seat sort number v parts)) value-is
+        (allocation-bounded parts whole.stands core.stop none (ap (λ (o : Option Stop). is_some o) none) core.counters (one_counted Counted.Alloc core.counters)
+        whole.bounds refl seat on'.attempt task s.steps comes.0 (let since = on'.since in omega arith) sort number next-act.0 comes.1)
+
+    pub whole-allocated : now.stop ≡ None → (stage now.code m).since < now.limits.slice → IsWhole program devices is_value value_of is_machine stage after
+    whole-allocated going early = record {
       stands = subst Stands (sym parts-allocated) stands-allocated;
       limits = whole.limits;
       desk =
@@ -169,6 +179,9 @@ module _ {C V M : Type 0} (program : C → Tree) (devices : C → ℕ) (is_value
       pool = whole.pool;
       alone = subst RunsAlone (sym parts-allocated) alone-allocated;
       lone = subst (λ (x : Parts). IsLone x (one_counted Counted.Alloc core.counters)) (sym parts-allocated) lone-allocated;
+      bounds = subst (λ (x : Parts). IsBounded core.stop (one_counted Counted.Alloc core.counters) x) (sym parts-allocated)
+          (bounded-allocated (subst (λ (x : Core C V M). x.stop ≡ None) (sym view) going)
+          (subst (λ (x : Core C V M). (stage x.code m).since < x.limits.slice) (sym view) early));
       waiting = subst AreWaiting (sym parts-allocated) waiting-allocated;
       once = subst AreNotedOnce (sym parts-allocated)
           (once-on parts (has_allocated seat sort number (value_of core.code value) parts) refl (λ i some. some) whole.once);
@@ -195,5 +208,5 @@ module _ {C V M : Type 0} (program : C → Tree) (devices : C → ℕ) (is_value
         (subst (λ (x : Core C V M). MakesEvent program devices value_of stage (one_counted Counted.Alloc) (has_allocated seat sort number (value_of core.code value)) x after) view
         (record { code = refl; parts = parts-allocated; counted = refl; stop = refl }))))
 
-    pub runs-allocated : (t : Stage) → IsOnSeat (parts_of program devices value_of stage after) seat t → t.inside ≡ false → CanRun t
-    runs-allocated t stands out = can-run (parts_of program devices value_of stage after) whole-allocated.stands seat t stands out
+    pub runs-allocated : now.stop ≡ None → (stage now.code m).since < now.limits.slice → (t : Stage) → IsOnSeat (parts_of program devices value_of stage after) seat t → t.inside ≡ false → CanRun t
+    runs-allocated going early t stands out = can-run (parts_of program devices value_of stage after) (whole-allocated going early).stands seat t stands out

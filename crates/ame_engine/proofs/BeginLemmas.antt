@@ -1,6 +1,6 @@
 -- A seat begins a member.
 use Rattle.std.proofs.Common.{◌≡◌, ℕ, ◌+◌, ◌<◌, Bool, true, false, List, ◌++◌, length, Option, Some, None, option_map, refl, sym, ap, ◌∙◌, subst, arith}
-use Rattle.std.specs.Prelude.{◌≤◌, ◌⊎◌, nat_lt, is_some, unwrap_or, slice_set, if◌then◌else◌}
+use Rattle.std.specs.Prelude.{◌≤◌, nat_lt, is_some, unwrap_or, slice_set, if◌then◌else◌}
 use Rattle.std.proofs.Common.{inl}
 use Rattle.std.proofs.lemmas.Bool.{ltb-false}
 use Rattle.std.specs.Option.{ForSome}
@@ -52,6 +52,8 @@ use Rattle.ame_engine.proofs.CauseLemmas.{begins-more, working-cause, empty-memb
 use Rattle.ame_engine.proofs.RollbackLemmas.{good-held}
 use Rattle.ame_engine.proofs.OldestLemmas.{oldest-shown}
 use Rattle.ame_engine.proofs.LoneLemmas.{lone-begun}
+use Rattle.ame_engine.specs.Bounds.{IsBounded, LeavesNoTry}
+use Rattle.ame_engine.proofs.BoundLemmas.{begun-bounded, idle-leaves_no_try}
 
 module _ {C V M : Type 0} (program : C → Tree) (devices : C → ℕ) (is_value : C → V → Type 0) (value_of : C → V → Val)
     (is_machine : C → M → Type 0) (stage : C → M → Stage) where
@@ -76,8 +78,8 @@ module _ {C V M : Type 0} (program : C → Tree) (devices : C → ℕ) (is_value
         begun_stands (parts_of program devices value_of stage core) whole.stands seat number idle within
         (ready-same (term_shown stage core.code) number core.pool ready) left
 
-    pub begun-whole : IsWhole program devices is_value value_of is_machine stage (begun_by seat number core)
-    begun-whole = record {
+    pub begun-whole : core.stop ≡ None → IsWhole program devices is_value value_of is_machine stage (begun_by seat number core)
+    begun-whole going = record {
       stands = subst Stands (sym (begun-parts seat number core)) begun-stands;
       limits = whole.limits;
       desk = whole.desk;
@@ -91,6 +93,9 @@ module _ {C V M : Type 0} (program : C → Tree) (devices : C → ℕ) (is_value
           core.counters (one_counted Counted.Begin core.counters) whole.lone seat
           (let seats : length core.tasks ≡ core.limits.seats = whole.stands.bounded.tasks in omega (arith, seats, within)) refl refl refl
           (is_inside_at core.pool.members number) (attempt_now number core) refl idle refl;
+      bounds = subst (IsBounded core.stop (one_counted Counted.Begin core.counters)) (sym (begun-parts seat number core))
+          (begun-bounded (parts_of program devices value_of stage core) whole.stands core.stop going (ap (λ (o : Option Stop). is_some o) going) core.counters
+          (one_counted Counted.Begin core.counters) whole.bounds refl seat number idle within);
       waiting = subst AreWaiting (sym (begun-parts seat number core))
           (begin-waiting (parts_of program devices value_of stage core) whole.waiting seat number idle);
       once = subst AreNotedOnce (sym (begun-parts seat number core))
@@ -244,9 +249,10 @@ module _ {C V M : Type 0} (program : C → Tree) (devices : C → ℕ) (is_value
   left' : core.turns < core.limits.turns
   left' = subst (λ (x : Core C V M). x.turns < x.limits.turns) (sym view) left
 
-  pub whole-begun : IsWhole program devices is_value value_of is_machine stage after
-  whole-begun = subst (IsWhole program devices is_value value_of is_machine stage) (sym after-is)
-      (begun-whole program devices is_value value_of is_machine stage core whole seat number within' idle' first' ready' left')
+  pub whole-begun : now.stop ≡ None → IsWhole program devices is_value value_of is_machine stage after
+  whole-begun going = subst (IsWhole program devices is_value value_of is_machine stage) (sym after-is)
+      (begun-whole program devices is_value value_of is_machine stage core whole seat number within' idle' first' ready' left'
+      (subst (λ (x : Core C V M). x.stop ≡ None) (sym view) going))
 
   makes-begun : MakesEvent program devices value_of stage (one_counted Counted.Begin) (has_begun seat number) now after
   makes-begun = subst (λ (x : Core C V M). MakesEvent program devices value_of stage (one_counted Counted.Begin) (has_begun seat number) x after) view
@@ -383,6 +389,17 @@ module _ {C V M : Type 0} (program : C → Tree) (devices : C → ℕ) (is_value
       subst (λ (x : Core C V M). kept why x) view
       (fault-cause why e (parts_of program devices value_of stage core) (parts_of program devices value_of stage (stopped_by why core))
       core.certificates (none-kept (subst (λ (x : Core C V M). x.stop ≡ None) (sym view) none)) refl)
+
+  -- a seat that begins a member: no stop is kept
+  pub member-going : (number : ℕ) → chance_of now ≡ Chance.Member number → now.stop ≡ None
+  member-going number e = none-met now (Chance.Member number) e (λ c. cc)
+
+  -- where a seat is idle, and it is the only one, nobody is at work
+  pub idle-leaves : (seat : ℕ) → seat < now.limits.seats → task_at now.tasks seat ≡ Task.Idle
+      → LeavesNoTry Stop.Spent (parts_of program devices value_of stage now)
+  idle-leaves seat within idle =
+      subst (λ (x : Core C V M). seat < x.limits.seats → task_at x.tasks seat ≡ Task.Idle → LeavesNoTry Stop.Spent (parts_of program devices value_of stage x)) view
+      (λ there none. idle-leaves_no_try (parts_of program devices value_of stage core) whole.stands seat there none) within idle
 
   pub parked-met : chance_of now ≡ Chance.Blocked → oldest now.pool ≡ Oldest.Parked
   parked-met e = blocked-parked (is-spent now) (oldest now.pool) (met-by now Chance.Blocked e (none-met now Chance.Blocked e (λ c. cc)))

@@ -1,5 +1,5 @@
 -- The row of a seat is noted: its member came to a condition that is false.
-use Rattle.std.proofs.Common.{◌≡◌, ℕ, ◌+◌, ◌<◌, Bool, true, false, List, [], ◌∷◌, ◌++◌, map, get_or, take, length, All, Option, Some, None, refl, sym, ap, ◌∙◌, subst, arith, rules}
+use Rattle.std.proofs.Common.{◌≡◌, ℕ, ◌+◌, ◌<◌, true, false, List, [], ◌∷◌, ◌++◌, map, get_or, take, length, All, Option, Some, None, refl, sym, ap, ◌∙◌, subst, rules, is_some}
 use Rattle.std.specs.Prelude.{slice_set}
 use Rattle.std.proofs.lemmas.List.{take_more, map-append}
 use Rattle.ame_term.specs.Tree.{Val, Tree}
@@ -47,12 +47,15 @@ use Rattle.ame_engine.specs.Rollbacks.{IsGoodPool}
 use Rattle.ame_engine.specs.Whole.{IsAtRest, IsWhole}
 use Rattle.ame_engine.specs.AtWork.{IsOn}
 use Rattle.ame_engine.proofs.CauseLemmas.{going-cause}
-use Rattle.ame_engine.proofs.CommitLemmas.{on', sound', left', place, used, are-valid, its-runs, commit-runs, commit-few}
+use Rattle.ame_engine.proofs.CommitLemmas.{sound', left', place, used, are-valid, its-runs, commit-runs, commit-few}
 use Rattle.ame_engine.proofs.CountLemmas.{one-counts}
 use Rattle.ame_engine.proofs.CrewLemmas.{busy-told}
 use Rattle.ame_engine.proofs.MemberLemmas.{all_altered}
 use Rattle.ame_engine.proofs.RollbackLemmas.{good-noted}
 use Rattle.ame_engine.proofs.LoneLemmas.{lone-left}
+use Rattle.ame_engine.specs.Bounds.{IsBounded}
+use Rattle.ame_engine.proofs.BoundLemmas.{noted-bounded}
+use Rattle.ame_engine.proofs.CommitLemmas.{commit-low, commit-rolls}
 
 -- a note has no answer
 pub none-held : (kind : EntryKind) → MayHold kind None
@@ -133,6 +136,15 @@ module _ {C V M : Type 0} (program : C → Tree) (devices : C → ℕ) (is_value
         subst (λ (q : LocalState). AreWaiting (has_noted seat attempt s.steps q parts)) p-shown
         (note-waiting parts whole.stands seat attempt is whole.waiting s.steps p p-used reads-valid fails)
 
+    bounded-so : IsBounded core.stop (one_counted Counted.Block core.counters) (has_noted seat attempt s.steps (place_shown s) parts)
+    bounded-so =
+        subst (λ (q : LocalState). IsBounded core.stop (one_counted Counted.Block core.counters) (has_noted seat attempt s.steps q parts)) p-shown
+        (noted-bounded parts whole.stands core.stop going' (ap (λ (o : Option Stop). is_some o) going') core.counters (one_counted Counted.Block core.counters)
+        whole.bounds refl seat attempt is
+        (commit-rolls program devices is_value value_of is_machine stage core now view whole seat m on outside sound left attempt runs-now valid-now)
+        s.steps p p-used
+        (commit-low program devices is_value value_of is_machine stage core now view whole seat m on outside sound left attempt runs-now valid-now))
+
     -- all that the engine has then
     module _ (entry : Entry) (entry_is : entry ≡ stuck_entry seat number s.steps (place_shown s)) (row reads : List ReadNote)
         (reads_are : reads ≡ row) (row_is : row ≡ (row_at core.desk.rows seat).reads) (locs : List Loc) (locs_are : map (λ l. l.0) locs ≡ read_places reads)
@@ -190,6 +202,7 @@ module _ {C V M : Type 0} (program : C → Tree) (devices : C → ℕ) (is_value
         lone = lone-left parts (parts_of program devices value_of stage after) whole.stands core.counters (one_counted Counted.Block core.counters)
             whole.lone seat (seat_within core.tasks seat attempt (ap attempt_of is)) refl refl refl (Task.Undoing later Reason.Noted) refl
             (λ t e. let clash : Task.Undoing later Reason.Noted ≡ Task.Running t = e in cc);
+        bounds = subst (IsBounded core.stop (one_counted Counted.Block core.counters)) (sym parts-noted) bounded-so;
         waiting = subst AreWaiting (sym parts-noted) waits-so;
         once = subst AreNotedOnce (sym parts-noted) (note-once parts whole.stands whole.once seat attempt s.steps (place_shown s) is);
         caused = going-cause parts (parts_of program devices value_of stage after) core.stop going' core.certificates whole.caused

@@ -1,7 +1,7 @@
 -- All members are blocked, and each has its certificate.
-use Rattle.std.proofs.Common.{◌≡◌, ℕ, zero, suc, ◌+◌, ◌<◌, ◌≤◌, ◌==◌, ◌&&◌, ◌⊎◌, inl, inr, Bool, true, false, cond, List, [], ◌∷◌, ◌++◌, map, set, get_or, take, length, All, replicate, Option, Some, None, option_map, length-set, refl, sym, ap, ◌∙◌, subst, arith}
+use Rattle.std.proofs.Common.{◌≡◌, ℕ, suc, ◌+◌, ◌<◌, ◌≤◌, ◌==◌, ◌&&◌, ◌⊎◌, inl, inr, Bool, true, false, cond, List, [], ◌∷◌, ◌++◌, map, set, get_or, take, length, All, replicate, Option, Some, None, option_map, length-set, refl, sym, ap, ◌∙◌, subst, arith}
 use Rattle.std.specs.Prelude.{nat_lt, slice_get, option_and_then, is_some, if◌then◌else◌}
-use Rattle.std.proofs.lemmas.List.{take_more, take_all, append-nil, length-replicate, get_or-replicate, get_or-set_same, get_or-set_other}
+use Rattle.std.proofs.lemmas.List.{take_more, take_all, length-replicate, get_or-replicate, get_or-set_same, get_or-set_other}
 use Rattle.std.proofs.lemmas.Option.{slice_get-get_or}
 use Rattle.std.proofs.lemmas.Bool.{eq-eqb, eqb-true, eqb-false, ltb-true, ltb-false}
 use Rattle.std.proofs.lemmas.Bool.Decides.{nat_tests}
@@ -35,6 +35,7 @@ use Rattle.ame_engine.specs.Whole.{IsWhole}
 use Rattle.ame_engine.proofs.CauseLemmas.{going-ordinary}
 use Rattle.ame_engine.proofs.CrewLemmas.{none-told}
 use Rattle.ame_engine.proofs.OldestLemmas.{oldest-shown}
+use Rattle.ame_engine.proofs.BoundLemmas.{stop-bounded}
 
 ne-eqb : (a b : ℕ) → (a ≡ b → ⊥) → (a == b) ≡ false
 ne-eqb a b apart = by (a == b) refl
@@ -332,6 +333,9 @@ module _ {C V M : Type 0} (program : C → Tree) (devices : C → ℕ) (is_value
       pool = whole.pool;
       alone = stop-alone parts whole.alone;
       lone = record { counts = whole.lone.counts; valid = whole.lone.valid };
+      bounds =
+          let none : core.stop ≡ None = subst (λ (x : Core C V M). x.stop ≡ None) (sym view) going in
+          stop-bounded parts whole.stands core.stop none (ap (λ (o : Option Stop). is_some o) none) core.counters core.counters whole.bounds refl Stop.Blocked tt;
       waiting = stop-waiting parts whole.waiting;
       once = stop-once parts whole.once;
       caused = record {

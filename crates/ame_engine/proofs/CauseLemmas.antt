@@ -1,6 +1,6 @@
 -- A kept stop has its cause, and goes on having it.
-use Rattle.std.proofs.Common.{◌≡◌, ℕ, ◌==◌, ◌&&◌, ◌<◌, ◌⊎◌, inl, inr, Bool, true, false, cond, List, [], ◌∷◌, ◌++◌, map, Option, Some, None, IsTrue, refl, sym, ap, ◌∙◌, subst, arith}
-use Rattle.std.specs.Prelude.{is_some, if◌then◌else◌}
+use Rattle.std.proofs.Common.{◌≡◌, ℕ, ◌==◌, ◌&&◌, ◌<◌, Bool, true, false, cond, List, [], ◌∷◌, ◌++◌, Option, Some, None, IsTrue, refl, sym, ap, ◌∙◌, subst, arith}
+use Rattle.std.specs.Prelude.{is_some}
 use Rattle.std.specs.List.{list_all}
 use Rattle.std.proofs.lemmas.List.Elements.{All-nil, All-push}
 use Rattle.ame_term.specs.Tree.{Tree}
@@ -26,7 +26,7 @@ use Rattle.ame_engine.specs.declared.certificate.Certificate.{Certificate}
 use Rattle.ame_engine.specs.declared.stop.Stop.{Stop}
 use Rattle.ame_engine.specs.Stops.{is_from_outside}
 use Rattle.ame_engine.specs.Faults.{LeadsToCall}
-use Rattle.ame_engine.specs.Causes.{is_ordinary, AreOrdinary, IsUsedUp, IsCause, NotesStop, HasCause}
+use Rattle.ame_engine.specs.Causes.{is_ordinary, AreOrdinary, IsUsedUp, NotesStop, HasCause}
 
 -- Where a member is at work the pool isn't empty, and not all are parked
 

@@ -57,6 +57,9 @@ use Rattle.ame_engine.proofs.CauseLemmas.{task-more, working-cause}
 use Rattle.ame_engine.proofs.RollbackLemmas.{may-roll}
 use Rattle.ame_engine.proofs.AloneLemmas.{turned_alone}
 use Rattle.ame_engine.proofs.LoneLemmas.{no-other, lone-never, lone-on}
+use Rattle.ame_bounds.proofs.ShownLemmas.{turns-shown}
+use Rattle.ame_engine.specs.Bounds.{refusals, IsBounded, LeavesNoTry}
+use Rattle.ame_engine.proofs.BoundLemmas.{stop-bounded, back-bounded, check-bounded}
 
 -- Valid reads are so at the shown cells.
 
@@ -114,10 +117,11 @@ has-used parts seat s on outside =
 module _ {C V M : Type 0} (program : C → Tree) (devices : C → ℕ) (is_value : C → V → Type 0) (value_of : C → V → Val)
     (is_machine : C → M → Type 0) (stage : C → M → Stage) where
   -- a stop is kept
-  pub whole-stopped : (core : Core C V M) (why : Stop) → IsWhole program devices is_value value_of is_machine stage core
+  pub whole-stopped : (core : Core C V M) (why : Stop) → IsWhole program devices is_value value_of is_machine stage core → core.stop ≡ None
+      → LeavesNoTry why (parts_of program devices value_of stage core)
       → HasCause (Some why) core.certificates (parts_of program devices value_of stage (record core { stop = Some why }))
       → IsWhole program devices is_value value_of is_machine stage (record core { stop = Some why })
-  whole-stopped core why whole cause = record {
+  whole-stopped core why whole none leaves cause = record {
     stands = stopped_stands (parts_of program devices value_of stage core) whole.stands;
     limits = whole.limits;
     desk = whole.desk;
@@ -125,6 +129,8 @@ module _ {C V M : Type 0} (program : C → Tree) (devices : C → ℕ) (is_value
     pool = whole.pool;
     alone = stop-alone (parts_of program devices value_of stage core) whole.alone;
     lone = record { counts = whole.lone.counts; valid = whole.lone.valid };
+    bounds = stop-bounded (parts_of program devices value_of stage core) whole.stands core.stop none (ap (λ (o : Option Stop). is_some o) none) core.counters
+        core.counters whole.bounds refl why leaves;
     waiting = stop-waiting (parts_of program devices value_of stage core) whole.waiting;
     once = stop-once (parts_of program devices value_of stage core) whole.once;
     caused = cause;
@@ -135,9 +141,11 @@ module _ {C V M : Type 0} (program : C → Tree) (devices : C → ℕ) (is_value
   -- where it is the first, and has its cause
   pub whole-kept : (core now : Core C V M) → core ≡ now → (why : Stop) → IsWhole program devices is_value value_of is_machine stage core → core.stop ≡ None
       → (now.stop ≡ None → HasCause (Some why) now.certificates (parts_of program devices value_of stage (stopped_by why now)))
+      → (now.stop ≡ None → LeavesNoTry why (parts_of program devices value_of stage now))
       → IsWhole program devices is_value value_of is_machine stage (record core { stop = Some why })
-  whole-kept core now view why whole none cause =
-      whole-stopped core why whole
+  whole-kept core now view why whole none cause leaves =
+      whole-stopped core why whole none
+      (subst (λ (x : Core C V M). x.stop ≡ None → LeavesNoTry why (parts_of program devices value_of stage x)) (sym view) leaves none)
       (subst (λ (x : Core C V M). x.stop ≡ None → HasCause (Some why) x.certificates (parts_of program devices value_of stage (stopped_by why x))) (sym view) cause none)
 
   module _ (core now : Core C V M) (view : core ≡ now) (whole : IsWhole program devices is_value value_of is_machine stage core) (seat : ℕ) (m : M)
@@ -158,25 +166,6 @@ module _ {C V M : Type 0} (program : C → Tree) (devices : C → ℕ) (is_value
     after-bad counters =
         record core { tasks = slice_set core.tasks seat (Task.Undoing attempt Reason.RolledBack); turns = core.turns + 1; counters = counters }
 
-    pub whole-back : (counters : Counters) → CountsTurns (core.turns + 1) counters
-        → (is_some core.stop ≡ false → IsAt is_worn attempt.tried.number parts.pool → ⊥)
-        → (core.limits.seats ≡ 1 → ⊥) → IsWhole program devices is_value value_of is_machine stage (after-bad counters)
-    whole-back counters counts fresh crowded = record {
-      stands = turned_back parts whole.stands seat attempt is left';
-      limits = whole.limits;
-      desk = whole.desk;
-      members = whole.members;
-      pool = whole.pool;
-      alone = turned_alone parts whole.alone seat attempt is fresh;
-      lone = lone-never (parts_of program devices value_of stage (after-bad counters)) counters crowded;
-      waiting = retask-waiting parts whole.stands seat attempt is whole.waiting (Task.Undoing attempt Reason.RolledBack);
-      once = once-on parts (has_turned_back seat attempt parts) refl (λ i some. some) whole.once;
-      caused = working-cause parts (has_turned_back seat attempt parts) (task-more parts whole.stands seat attempt (ap attempt_of is)) (record { program = refl; base = refl; entries = refl }) left'
-          core.stop core.certificates whole.caused;
-      counters = counts;
-      text = whole.text;
-    }
-
     -- the member that it has at work is there
     abbrev pub its-number : ℕ
     its-number = attempt.tried.number
@@ -190,6 +179,32 @@ module _ {C V M : Type 0} (program : C → Tree) (devices : C → ℕ) (is_value
     still-rolls fresh =
         subst (λ (x : Core C V M). MayBeRolledBack its-number x.pool) view
         (may-roll (term_shown stage core.code) its-number core.pool whole.pool there.0 there.1 fresh)
+
+    pub whole-back : (counters : Counters) → CountsTurns (core.turns + 1) counters → refusals counters ≡ refusals core.counters + 1 → now.stop ≡ None
+        → (is_some core.stop ≡ false → IsAt is_worn attempt.tried.number parts.pool → ⊥)
+        → (core.limits.seats ≡ 1 → ⊥) → IsWhole program devices is_value value_of is_machine stage (after-bad counters)
+    whole-back counters counts refused going fresh crowded = record {
+      stands = turned_back parts whole.stands seat attempt is left';
+      limits = whole.limits;
+      desk = whole.desk;
+      members = whole.members;
+      pool = whole.pool;
+      alone = turned_alone parts whole.alone seat attempt is fresh;
+      lone = lone-never (parts_of program devices value_of stage (after-bad counters)) counters crowded;
+      bounds =
+          let none : core.stop ≡ None = subst (λ (x : Core C V M). x.stop ≡ None) (sym view) going in
+          let still = ap (λ (o : Option Stop). is_some o) none in
+          back-bounded parts whole.stands core.stop none still core.counters counters whole.bounds refused seat attempt is
+          (turns-shown (term_shown stage core.code) its-number core.pool
+          (may-roll (term_shown stage core.code) its-number core.pool whole.pool there.0 there.1 (fresh still)))
+          crowded;
+      waiting = retask-waiting parts whole.stands seat attempt is whole.waiting (Task.Undoing attempt Reason.RolledBack);
+      once = once-on parts (has_turned_back seat attempt parts) refl (λ i some. some) whole.once;
+      caused = working-cause parts (has_turned_back seat attempt parts) (task-more parts whole.stands seat attempt (ap attempt_of is)) (record { program = refl; base = refl; entries = refl }) left'
+          core.stop core.certificates whole.caused;
+      counters = counts;
+      text = whole.text;
+    }
 
     worn-there : IsAt is_worn its-number parts.pool → HasWorn parts seat attempt
     worn-there worn = record { task = ap is_of_protected is; has = ap attempt_of is; worn = worn }
@@ -284,8 +299,8 @@ module _ {C V M : Type 0} (program : C → Tree) (devices : C → ℕ) (is_value
       unfolding with-later later-with
       parts-valid = ap (λ (a : Attempt). parts_of program devices value_of stage (with-later a)) later-so
 
-      pub whole-valid : IsWhole program devices is_value value_of is_machine stage after-valid
-      whole-valid = record {
+      pub whole-valid : now.stop ≡ None → IsWhole program devices is_value value_of is_machine stage after-valid
+      whole-valid going = record {
         stands = subst Stands (sym parts-valid) checked-core;
         limits = whole.limits;
         desk = whole.desk;
@@ -294,6 +309,11 @@ module _ {C V M : Type 0} (program : C → Tree) (devices : C → ℕ) (is_value
         alone = subst RunsAlone (sym parts-valid) (checked_alone parts whole.alone seat s.steps attempt is are-valid);
         lone = lone-on parts (parts_of program devices value_of stage after-valid) whole.stands core.counters (one_counted Counted.Check core.counters)
             whole.lone seat (seat_within core.tasks seat attempt (ap attempt_of is)) refl refl refl (Task.Running later) refl refl (λ t e. (attempt, is));
+        bounds =
+            let none : core.stop ≡ None = subst (λ (x : Core C V M). x.stop ≡ None) (sym view) going in
+            subst (IsBounded core.stop (one_counted Counted.Check core.counters)) (sym parts-valid)
+            (check-bounded parts whole.stands core.stop none (ap (λ (o : Option Stop). is_some o) none) core.counters (one_counted Counted.Check core.counters)
+            whole.bounds refl seat attempt is s.steps (let b = since in let d = full' in omega arith));
         waiting = subst AreWaiting (sym parts-valid)
             (retask-waiting parts whole.stands seat attempt is whole.waiting (Task.Running (checked_attempt s.steps attempt parts)));
         once = subst AreNotedOnce (sym parts-valid) (once-on parts (has_checked seat s.steps attempt parts) refl (λ i some. some) whole.once);

@@ -1,10 +1,9 @@
 -- A seat commits.
-use Rattle.std.proofs.Common.{◌≡◌, ℕ, ◌+◌, ◌<◌, ◌≤◌, ◌^◌, ◌⊎◌, inl, inr, Bool, true, false, cond, List, [], ◌∷◌, ◌++◌, map, length, All, Option, Some, None, option_map, refl, sym, ap, ◌∙◌, subst, arith, rules}
-use Rattle.std.specs.Prelude.{ℤ, Contains, slice_get, slice_set, unwrap_or, max}
+use Rattle.std.proofs.Common.{◌≡◌, ℕ, ◌+◌, ◌<◌, ◌≤◌, ◌⊎◌, inl, inr, Bool, true, false, cond, List, [], ◌∷◌, ◌++◌, map, length, All, Option, Some, None, option_map, refl, sym, ap, ◌∙◌, subst, arith, rules, is_some}
+use Rattle.std.specs.Prelude.{ℤ, Contains, slice_set, unwrap_or, max}
 use Rattle.std.specs.List.Sorted.{IsPermutation, IsStrictlyIncreasing}
 use Rattle.std.specs.Option.{option_map_or}
 use Rattle.std.proofs.lemmas.List.{length-map}
-use Rattle.std.proofs.lemmas.Option.{slice_get-map}
 use Rattle.std.proofs.lemmas.List.Elements.{All-map, All-set, All-nil, All-cons, All-head, All-tail, All-weaker}
 use Rattle.ame_io.specs.Lines.{lines}
 use Rattle.ame_io.proofs.LinesLemmas.{lines-append}
@@ -35,7 +34,7 @@ use Rattle.ame_owed.specs.SeatRun.{HasUsed, AreValid}
 use Rattle.ame_runner.specs.declared.wants.Wants.{Wants}
 use Rattle.ame_runner.specs.declared.wants.Wants.TheVariants as wants
 use Rattle.ame_runner.specs.Stage.{Stage, running_side, place_shown, without_footprint, with_answer}
-use Rattle.ame_runner.specs.Need.{Need, need_of}
+use Rattle.ame_runner.specs.Need.{Need}
 use Rattle.ame_runner.specs.Sound.{IsSoundStage}
 use Rattle.ame_runner.proofs.NeedLemmas.{comes_as}
 use Rattle.ame_stands.specs.declared.types.Attempt.{Attempt}
@@ -60,7 +59,6 @@ use Rattle.ame_waiting.specs.Once.{AreNotedOnce}
 use Rattle.ame_waiting.proofs.CommitLemmas.{owned-named, ended-waiting, left-waiting}
 use Rattle.ame_waiting.proofs.OnceEvents.{ended-once, left-once}
 use Rattle.ame_engine.specs.Core.{Core}
-use Rattle.ame_engine.specs.Causes.{HasCause}
 use Rattle.ame_engine.specs.declared.stop.Stop.{Stop}
 use Rattle.ame_engine.proofs.CauseLemmas.{going-cause}
 use Rattle.ame_engine.specs.Counting.{Counted, one_counted}
@@ -68,7 +66,7 @@ use Rattle.ame_engine.specs.Rollbacks.{IsGoodPool}
 use Rattle.ame_engine.specs.Seen.{parts_of, term_shown, MakesEvent}
 use Rattle.ame_engine.specs.Whole.{IsGoodUndo, AreGoodNotes, IsGoodDesk, IsAtRest, IsWhole}
 use Rattle.ame_engine.specs.AtWork.{working, IsOnSeat, IsOn}
-use Rattle.ame_engine.specs.Committing.{commits, IsCommitting, owned_places, ended_at, left_at, all_woken}
+use Rattle.ame_engine.specs.Committing.{commits, owned_places, ended_at, left_at, all_woken}
 use Rattle.ame_engine.proofs.ReadLemmas.{runs-as}
 use Rattle.ame_engine.proofs.CheckLemmas.{valid-shown}
 use Rattle.ame_engine.proofs.CountLemmas.{one-counts}
@@ -76,6 +74,11 @@ use Rattle.ame_engine.proofs.LoneLemmas.{lone-left}
 use Rattle.ame_engine.proofs.RollbackLemmas.{rising-shown}
 use Rattle.ame_engine.proofs.OwnedLemmas.{owned-are}
 use Rattle.ame_engine.proofs.CrewLemmas.{woken-rest, woken-good, all-woken-shown, busy-told, none-told, room-used, all-woken-room}
+use Rattle.ame_bounds.specs.Rollbacks.{IsWithinRollbacks}
+use Rattle.ame_bounds.proofs.ShownLemmas.{within-shown}
+use Rattle.ame_engine.specs.Bounds.{IsBounded}
+use Rattle.ame_engine.proofs.BoundLemmas.{ended-bounded, left-bounded}
+use Rattle.ame_engine.specs.declared.counters.Counters.{Counters}
 
 -- what the machine wants
 pub which-want : (o : Option Wants) → commits o ≡ true → (o ≡ Some wants.Done) ⊎ (o ≡ Some wants.Leave)
@@ -177,6 +180,14 @@ module _ {C V M : Type 0} (program : C → Tree) (devices : C → ℕ) (is_value
 
   pub one-attempt : on'.attempt ≡ attempt
   one-attempt = ap (λ (t : Task). unwrap_or (working t) attempt) (sym (runs-as parts seat s on' outside') ∙ is)
+
+  -- it has made no fewer steps than at its last valid check
+  pub commit-low : attempt.tried.steps ≤ s.steps
+  commit-low =
+      let since : s.steps ≡ s.since + attempt.tried.steps = subst (λ (a : Attempt). s.steps ≡ s.since + a.tried.steps) one-attempt on'.since in omega arith
+
+  pub commit-rolls : IsWithinRollbacks parts.pool
+  commit-rolls = within-shown (term_shown stage core.code) core.pool whole.pool.few
 
   pub place : (p : LocalState)
       × (local (running_side s) (term_at parts.pool on'.attempt.tried.number) (row_at parts.desk.rows seat).inputs s.steps ≡ Some p)
@@ -457,6 +468,22 @@ module _ {C V M : Type 0} (program : C → Tree) (devices : C → ℕ) (is_value
             once = left-once parts whole.once seat number s.steps (place_shown s) (owned_places seat parts.desk.cells);
           })
 
+          abbrev counted : Counters
+          counted = one_counted Counted.Commit core.counters
+
+          bounded-by : core.stop ≡ None → (s.want ≡ Some wants.Done) ⊎ (s.want ≡ Some wants.Leave)
+              → IsBounded core.stop counted (parts_of program devices value_of stage after)
+          bounded-by none (inl done) =
+              subst (λ (x : Parts). IsBounded core.stop counted x) (sym (ended-parts done))
+              (subst (λ (q : LocalState). IsBounded core.stop counted (has_ended seat number s.steps q (owned_places seat parts.desk.cells) parts)) place.2
+              (ended-bounded parts whole.stands core.stop none (ap (λ (o : Option Stop). is_some o) none) core.counters counted whole.bounds refl seat attempt is
+              commit-rolls s.steps place.0 used commit-low rising' (owned_places seat parts.desk.cells)))
+          bounded-by none (inr leaves) =
+              subst (λ (x : Parts). IsBounded core.stop counted x) (sym (left-parts leaves))
+              (subst (λ (q : LocalState). IsBounded core.stop counted (has_left seat number s.steps q (owned_places seat parts.desk.cells) parts)) place.2
+              (left-bounded parts whole.stands core.stop none (ap (λ (o : Option Stop). is_some o) none) core.counters counted whole.bounds refl seat attempt is
+              commit-rolls s.steps place.0 used commit-low (owned_places seat parts.desk.cells)))
+
           pub whole-committed : commits s.want ≡ true → now.stop ≡ None → IsWhole program devices is_value value_of is_machine stage after
           whole-committed committing going = record {
             stands = (all-by (which-want s.want committing)).stands;
@@ -467,6 +494,7 @@ module _ {C V M : Type 0} (program : C → Tree) (devices : C → ℕ) (is_value
             alone = (all-by (which-want s.want committing)).alone;
             lone = lone-left parts (parts_of program devices value_of stage after) whole.stands core.counters (one_counted Counted.Commit core.counters)
                 whole.lone seat commit-within refl refl refl Task.Idle refl (λ t e. let clash : Task.Idle ≡ Task.Running t = e in cc);
+            bounds = bounded-by (subst (λ (x : Core C V M). x.stop ≡ None) (sym view) going) (which-want s.want committing);
             waiting = (all-by (which-want s.want committing)).waiting;
             once = (all-by (which-want s.want committing)).once;
             caused = going-cause parts (parts_of program devices value_of stage after) core.stop

@@ -1,7 +1,8 @@
 -- Turns are counted by their kinds.
-use Rattle.std.proofs.Common.{◌≡◌, ℕ, ◌+◌, refl, arith}
+use Rattle.std.proofs.Common.{◌≡◌, ℕ, ◌+◌, Bool, true, false, refl, arith}
 use Rattle.ame_engine.specs.declared.counters.Counters.{Counters}
-use Rattle.ame_engine.specs.Counting.{nothing_counted, Counted, one_counted, one_invalid, one_unwound, turns_in, CountsTurns}
+use Rattle.ame_engine.specs.Counting.{nothing_counted, Counted, one_counted, one_invalid, one_unwound, one_undone, turns_in, CountsTurns}
+use Rattle.ame_engine.specs.Bounds.{refusals}
 
 -- at the start
 pub none-counted : CountsTurns 0 nothing_counted
@@ -32,6 +33,18 @@ invalids-stay Counted.Block c = refl
 invalids-stay Counted.Tall c = refl
 invalids-stay Counted.Undo c = refl
 invalids-stay Counted.Free c = refl
+
+-- one more answer that turned a member back
+pub conflict-refused : (c : Counters) → refusals (one_counted Counted.Conflict c) ≡ refusals c + 1
+conflict-refused c = omega arith
+
+pub invalid-refused : (kind : Counted) (c : Counters) → (one_counted kind c).conflicts ≡ c.conflicts → refusals (one_invalid kind c) ≡ refusals c + 1
+invalid-refused kind c same = let e = invalids-stay kind c in omega (arith, same, e)
+
+-- an undo is none
+pub undone-refused : (stopped : Bool) (c : Counters) → refusals (one_undone stopped c) ≡ refusals c
+undone-refused true c = refl
+undone-refused false c = refl
 
 module _ (turns : ℕ) (c : Counters) (counts : CountsTurns turns c) where
   -- after one more turn

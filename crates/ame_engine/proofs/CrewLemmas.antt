@@ -1,8 +1,8 @@
 -- A pool at a commit: members are woken, new ones join, and one ends or goes on inside.
-use Rattle.std.proofs.Common.{◌≡◌, ℕ, ◌+◌, ◌-◌, ◌≤◌, ◌<◌, ◌==◌, Bool, true, false, cond, List, [], ◌∷◌, ◌++◌, map, get_or, drop, length, All, Option, Some, None, IsTrue, IsSomeAnd, option_map, refl, sym, ap, ◌∙◌, subst, arith}
+use Rattle.std.proofs.Common.{◌≡◌, ℕ, ◌+◌, ◌-◌, ◌≤◌, ◌<◌, ◌==◌, true, false, cond, List, [], ◌∷◌, map, get_or, drop, length, All, Option, Some, None, IsTrue, IsSomeAnd, option_map, refl, sym, ap, ◌∙◌, subst, arith}
 use Rattle.std.specs.Prelude.{max, ◌||◌}
 use Rattle.std.proofs.lemmas.List.{drop_more, drop_all}
-use Rattle.std.proofs.lemmas.List.Elements.{All-cons, All-nil, All-head, All-tail, All-map, All-weaker}
+use Rattle.std.proofs.lemmas.List.Elements.{All-cons, All-head, All-tail, All-map, All-weaker}
 use Rattle.ame_term.specs.Tree.{Tree}
 use Rattle.ame_term.specs.declared.types.Loc.{Loc}
 use Rattle.ame_pool.specs.declared.member.Member.{Member}

@@ -1,28 +1,25 @@
 -- An engine at its end.
-use Rattle.std.proofs.Common.{◌≡◌, ℕ, ◌==◌, ◌<◌, ◌⊎◌, inl, inr, Bool, true, false, cond, List, [], ◌∷◌, ◌++◌, map, All, Option, Some, None, option_map, refl, sym, ap, ◌∙◌, subst, arith}
-use Rattle.std.specs.Prelude.{Contains, ◌+◌, ◌↔◌, IsSome, slice_index_or}
+use Rattle.std.proofs.Common.{◌≡◌, ℕ, ◌==◌, ◌<◌, ◌⊎◌, inl, inr, Bool, true, false, cond, List, [], ◌∷◌, map, All, Option, Some, None, option_map, refl, sym, ap, ◌∙◌, subst, arith}
+use Rattle.std.specs.Prelude.{Contains, ◌+◌, ◌*◌, ◌≤◌, IsSome, slice_index_or}
 use Rattle.std.proofs.Common.{zero, suc, length}
 use Rattle.std.proofs.lemmas.Bool.{eq-eqb, eqb-true}
 use Rattle.std.proofs.lemmas.List.Elements.{All-nil, All-cons, All-head, All-tail, All-map}
 use Rattle.ame_term.specs.Tree.{Val, Tree}
-use Rattle.ame_term.specs.Maps.{at}
 use Rattle.ame_term.specs.State.{State}
 use Rattle.ame_journal.specs.declared.entry.Entry.{Entry}
-use Rattle.ame_rows.specs.declared.notes.Undo.{Undo}
 use Rattle.ame_store.specs.declared.cell.Cell.{Cell}
 use Rattle.ame_store.specs.Cells.{IsFree}
 use Rattle.ame_pool.specs.declared.member.Member.{Member}
 use Rattle.ame_pool.specs.declared.oldest.Oldest.{Oldest}
 use Rattle.ame_pool.specs.Members.{IsRising, find}
 use Rattle.ame_pool.specs.Begin.{oldest}
-use Rattle.ame_desk.specs.Contents.{Notes, no_notes, row_at}
+use Rattle.ame_desk.specs.Contents.{Notes, row_at}
 use Rattle.ame_owed.specs.Shown.{shown_undo}
 use Rattle.ame_runner.specs.Stage.{Stage}
 use Rattle.ame_stands.specs.declared.types.Task.{Task}
 use Rattle.ame_stands.specs.Parts.{Parts, whole_journal, task_at}
 use Rattle.ame_stands.specs.Stands.{Stands}
 use Rattle.ame_stands.proofs.ShownDeskLemmas.{row-shown}
-use Rattle.ame_waiting.specs.Waiting.{last_stuck}
 use Rattle.ame_waiting.specs.Certificates.{IsCertificate, HasCertificate}
 use Rattle.ame_waiting.proofs.CertificateLemmas.{blocked-certificates}
 use Rattle.ame_visits.proofs.EndLemmas.{idle-clear, all-stored, state-empty, pool-empty}
@@ -36,6 +33,12 @@ use Rattle.ame_engine.specs.Whole.{IsWhole}
 use Rattle.ame_engine.specs.Ending.{Rise, CertifyAll, HasStopped, IsEnd, end_of}
 use Rattle.ame_engine.proofs.CauseLemmas.{empty-oldest}
 use Rattle.ame_engine.proofs.RollbackLemmas.{rising-shown}
+use Rattle.ame_pool.specs.Standings.{max_rollbacks}
+use Rattle.ame_bounds.specs.Rollbacks.{IsWithinRollbacks}
+use Rattle.ame_bounds.proofs.ShownLemmas.{within-shown}
+use Rattle.ame_bounds.proofs.FewBounds.{refusals-bounded, tries-bounded}
+use Rattle.ame_bounds.proofs.PaidEntries.{turns-bounded}
+use Rattle.ame_engine.specs.Bounds.{refusals, IsBounded, HasBounds}
 
 -- One certificate a member
 
@@ -175,6 +178,25 @@ module _ {C V M : Type 0} (program : C → Tree) (devices : C → ℕ) (is_value
       untold (Some Stop.WriteFault) b other = b.told
       untold (Some (Stop.DeviceFault device)) b other = b.told
 
+  has-bounds : (stop : Option Stop) → IsBounded stop core.counters parts
+      → HasBounds (program core.code) core.limits s.r core.base core.entries core.turns core.counters core.tried stop
+  has-bounds stop b = record {
+    rollbacks =
+        subst (λ (n : ℕ). refusals core.counters ≤ max_rollbacks * (n + length core.entries)) (sym s.stands.next)
+        (refusals-bounded (refusals core.counters) parts s b.few (rising-shown (term_shown stage core.code) core.pool whole.pool.rising) within);
+    tries = tries-bounded (refusals core.counters) parts b.few within;
+    sound = s.sound;
+    spent = λ e.
+        let spent : IsBounded (Some Stop.Spent) core.counters parts = subst (λ (o : Option Stop). IsBounded o core.counters parts) e b in
+        turns-bounded parts spent.paid idle;
+    untried = λ one e.
+        let spent : IsBounded (Some Stop.Spent) core.counters parts = subst (λ (o : Option Stop). IsBounded o core.counters parts) e b in
+        (spent.untried one).none;
+  }
+    where
+      within : IsWithinRollbacks parts.pool
+      within = within-shown (term_shown stage core.code) core.pool whole.pool.few
+
   pub is-end : All IsFree core.desk.cells → IsEnd (program core.code) core.limits (value_of core.code) (end_of core)
   is-end free = record {
     r = s.r;
@@ -185,6 +207,7 @@ module _ {C V M : Type 0} (program : C → Tree) (devices : C → ℕ) (is_value
     once = whole.once.once;
     stopped = has-stopped core.stop refl whole.caused;
     lone = whole.lone.counts;
+    bounds = has-bounds core.stop whole.bounds;
   }
 
 module _ {C V M : Type 0} (program : C → Tree) (devices : C → ℕ) (is_value : C → V → Type 0) (value_of : C → V → Val)

@@ -1,5 +1,5 @@
 -- Steps alone of a member that is inside are labels of it.
-use Rattle.std.proofs.Common.{◌≡◌, ℕ, zero, suc, Bool, List, [], ◌∷◌, ◌++◌, Option, Some, None, is_none, option_map, option_and_then, if◌then◌else◌, refl, sym, ap, ◌∙◌}
+use Rattle.std.proofs.Common.{◌≡◌, ℕ, zero, suc, List, [], ◌∷◌, ◌++◌, Option, Some, None, is_none, option_map, option_and_then, if◌then◌else◌, refl, sym, ap, ◌∙◌}
 use Rattle.std.specs.Prelude.{replicate, is_some}
 use Rattle.std.proofs.lemmas.Option.{option_and_then_some}
 use Rattle.ame_term.specs.Tree.{Tree}

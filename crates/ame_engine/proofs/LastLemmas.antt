@@ -1,5 +1,5 @@
 -- A row is noted as the engine stops.
-use Rattle.std.proofs.Common.{◌≡◌, ℕ, ◌+◌, ◌<◌, ◌⊎◌, inl, inr, Bool, true, false, cond, List, [], ◌∷◌, ◌++◌, map, get_or, length, Option, Some, None, refl, sym, ap, ◌∙◌, subst, arith, rules}
+use Rattle.std.proofs.Common.{◌≡◌, ℕ, ◌+◌, ◌<◌, inl, inr, true, false, List, [], ◌∷◌, ◌++◌, get_or, length, Option, Some, None, refl, sym, ap, ◌∙◌, subst, arith, ◌≤◌}
 use Rattle.std.specs.Prelude.{IsSome, is_some, option_map, slice_set}
 use Rattle.std.proofs.lemmas.List.Elements.{All-nil}
 use Rattle.ame_term.specs.Tree.{Val, Tree}
@@ -7,7 +7,6 @@ use Rattle.ame_term.specs.Frame.{Side, side_told}
 use Rattle.ame_journal.specs.declared.entry.Entry.{Entry}
 use Rattle.ame_journal.specs.declared.entry.EntryKind.{EntryKind}
 use Rattle.ame_journal.specs.Log.{IsFit}
-use Rattle.ame_rows.specs.declared.notes.ReadNote.{ReadNote}
 use Rattle.ame_rows.specs.Valid.{IsValidRead, IsValid}
 use Rattle.ame_local.specs.Local.{LocalState, local}
 use Rattle.ame_pool.specs.Calls.{IsAt}
@@ -20,19 +19,18 @@ use Rattle.ame_runner.specs.Sound.{IsSoundStage}
 use Rattle.ame_runner.proofs.LowLemmas.{too-high}
 use Rattle.ame_stands.specs.declared.types.Attempt.{Attempt}
 use Rattle.ame_stands.specs.declared.types.Task.{Task}
-use Rattle.ame_stands.specs.Parts.{Parts, heap_in, task_at, term_at, attempt_of, member_of, run_in}
+use Rattle.ame_stands.specs.Parts.{Parts, heap_in, task_at, term_at, attempt_of, run_in}
 use Rattle.ame_stands.specs.Tasks.{is_busy_as, Visits, RunsProtected, MeetsTask}
 use Rattle.ame_stands.specs.Stands.{Stands}
 use Rattle.ame_stands.specs.Alone.{RunsAlone}
 use Rattle.ame_stands.proofs.StepLemmas.{seat_within}
-use Rattle.ame_stands.proofs.DeskEvents.{desk-valid}
+use Rattle.ame_stands.proofs.DeskEvents.{desk-valid, valid-desk}
 use Rattle.ame_stands.proofs.ShownDeskLemmas.{row-shown}
 use Rattle.ame_waiting.specs.Waiting.{AreWaiting}
 use Rattle.ame_waiting.specs.Once.{AreNotedOnce}
 use Rattle.ame_waiting.proofs.VisitLemmas.{told-waiting, told-once}
 use Rattle.ame_visits.specs.Stops.{MayBeNoted, told_task, note_entry, has_been_cut, has_grown_tall}
 use Rattle.ame_visits.proofs.NoteLemmas.{cut-stands, tall-stands, cut-alone, tall-alone}
-use Rattle.ame_engine.specs.declared.counters.Counters.{Counters}
 use Rattle.ame_engine.specs.declared.stop.Stop.{Stop}
 use Rattle.ame_engine.specs.Core.{Core}
 use Rattle.ame_engine.specs.Causes.{EndsWith, HasCause}
@@ -43,10 +41,12 @@ use Rattle.ame_engine.specs.Whole.{IsWhole}
 use Rattle.ame_engine.specs.AtWork.{is_free, working, IsOnSeat, IsOn}
 use Rattle.ame_engine.proofs.CauseLemmas.{task-more, going-ordinary, going-untold}
 use Rattle.ame_engine.proofs.BlockLemmas.{none-held}
-use Rattle.ame_engine.proofs.CheckLemmas.{task-read, valid-shown}
+use Rattle.ame_engine.proofs.CheckLemmas.{shown-valid, task-read, valid-shown}
 use Rattle.ame_engine.proofs.CommitLemmas.{shown-place}
 use Rattle.ame_engine.proofs.CountLemmas.{one-counts}
 use Rattle.ame_engine.proofs.LoneLemmas.{lone-on, told-ran}
+use Rattle.ame_engine.specs.Bounds.{IsBounded, LeavesNoTry}
+use Rattle.ame_engine.proofs.BoundLemmas.{cut-bounded, tall-bounded, busy-leaves_no_try}
 
 -- a seat that runs code has an attempt
 pub working-has : (t : Task) (a : Attempt) → working t ≡ Some a → attempt_of t ≡ Some a
@@ -103,6 +103,12 @@ module _ {C V M : Type 0} (program : C → Tree) (devices : C → ℕ) (is_value
 
   pub last-its : (t : Task) → t ≡ get_or core.tasks seat t → (its : Attempt) → attempt_of t ≡ Some its → its ≡ attempt
   last-its t e its is = let both : Some its ≡ Some attempt = sym is ∙ sym (ap attempt_of (last-task t e)) ∙ last-has in cc
+
+  -- it has made no fewer steps than at its last valid check
+  last-low : (a : Attempt) → attempt_of task ≡ Some a → a.tried.steps ≤ s.steps
+  last-low a e =
+      let same : attempt ≡ a = (let both : Some attempt ≡ Some a = sym last-has ∙ e in cc) in
+      let since : s.steps ≡ s.since + a.tried.steps = subst (λ (x : Attempt). s.steps ≡ s.since + x.tried.steps) same on'.since in omega arith
 
   -- where its run stands
   place : (p : LocalState)
@@ -264,6 +270,12 @@ module _ {C V M : Type 0} (program : C → Tree) (devices : C → ℕ) (is_value
             subst (λ (q : LocalState). RunsAlone (has_been_cut seat number s.steps q task parts)) place.2
             (cut-alone parts seat task (running_side s) number s.steps place.0 refl may whole.alone)
 
+        cut-bounded-so : IsBounded (Some Stop.Spent) core.counters (has_been_cut seat number s.steps (place_shown s) task parts)
+        cut-bounded-so =
+            subst (λ (q : LocalState). IsBounded (Some Stop.Spent) core.counters (has_been_cut seat number s.steps q task parts)) place.2
+            (cut-bounded parts whole.stands core.stop going' (ap (λ (o : Option Stop). is_some o) going') core.counters core.counters whole.bounds refl
+            seat task (running_side s) number s.steps place.0 refl may last-low)
+
         pub whole-cut : IsWhole program devices is_value value_of is_machine stage after-cut
         whole-cut = record {
           stands = subst Stands (sym cut-parts) cut-so;
@@ -274,6 +286,7 @@ module _ {C V M : Type 0} (program : C → Tree) (devices : C → ℕ) (is_value
           alone = subst RunsAlone (sym cut-parts) cut-alone-so;
           lone = lone-on parts (parts_of program devices value_of stage after-cut) whole.stands core.counters core.counters whole.lone seat last-within
               refl refl refl later refl refl (λ t e. told-ran task t (sym cut-later ∙ e));
+          bounds = subst (IsBounded (Some Stop.Spent) core.counters) (sym cut-parts) cut-bounded-so;
           waiting = subst AreWaiting (sym cut-parts)
               (told-waiting parts seat number (ap (λ (o : Option Attempt). option_map (λ (x : Attempt). x.tried.number) o) last-has) busy (note_entry EntryKind.Cut seat number s.steps (place_shown s)) refl
               (told_task task) (core.turns) true whole.waiting);
@@ -354,6 +367,14 @@ module _ {C V M : Type 0} (program : C → Tree) (devices : C → ℕ) (is_value
             subst (λ (q : LocalState). RunsAlone (has_grown_tall seat number s.steps q task parts)) place.2
             (tall-alone parts seat task (running_side s) number s.steps place.0 refl may whole.alone)
 
+        tall-bounded-so : IsBounded (Some (Stop.Tall its.tried.number)) (one_counted Counted.Tall core.counters)
+            (has_grown_tall seat number s.steps (place_shown s) task parts)
+        tall-bounded-so =
+            subst (λ (q : LocalState). IsBounded (Some (Stop.Tall its.tried.number)) (one_counted Counted.Tall core.counters)
+            (has_grown_tall seat number s.steps q task parts)) place.2
+            (tall-bounded parts whole.stands core.stop going' (ap (λ (o : Option Stop). is_some o) going') core.counters (one_counted Counted.Tall core.counters)
+            whole.bounds refl seat task (running_side s) number s.steps place.0 refl may last-low its.tried.number)
+
         pub whole-tall : IsWhole program devices is_value value_of is_machine stage after-tall
         unfolding ends-so on'
         whole-tall = record {
@@ -365,6 +386,7 @@ module _ {C V M : Type 0} (program : C → Tree) (devices : C → ℕ) (is_value
           alone = subst RunsAlone (sym tall-parts) tall-alone-so;
           lone = lone-on parts (parts_of program devices value_of stage after-tall) whole.stands core.counters (one_counted Counted.Tall core.counters)
               whole.lone seat last-within refl refl refl later refl refl (λ t e. told-ran task t (sym tall-later ∙ e));
+          bounds = subst (IsBounded (Some (Stop.Tall its.tried.number)) (one_counted Counted.Tall core.counters)) (sym tall-parts) tall-bounded-so;
           waiting = subst AreWaiting (sym tall-parts)
               (told-waiting parts seat number (ap (λ (o : Option Attempt). option_map (λ (x : Attempt). x.tried.number) o) last-has) busy (note_entry EntryKind.Tall seat number s.steps (place_shown s)) refl
               (told_task task) (core.turns + 1) true whole.waiting);
@@ -421,3 +443,19 @@ module _ {C V M : Type 0} (program : C → Tree) (devices : C → ℕ) (is_value
 
       its : (a : Attempt) × (attempt_of (task_at core.tasks seat) ≡ Some a)
       its = there (attempt_of (task_at core.tasks seat)) (subst (λ (x : Core C V M). IsSome (attempt_of (task_at x.tasks seat))) (sym view) has)
+
+  -- with one seat no try follows, where it runs no code whose reads are valid
+  pub spent-leaves : (IsValid now.desk.cells seat (row_at now.desk.rows seat).reads → working (task_at now.tasks seat) ≡ None) → now.stop ≡ None
+      → LeavesNoTry Stop.Spent (parts_of program devices value_of stage now)
+  spent-leaves stuck none =
+      subst (λ (x : Core C V M). (IsValid x.desk.cells seat (row_at x.desk.rows seat).reads → working (task_at x.tasks seat) ≡ None) → x.stop ≡ None
+      → IsSome (attempt_of (task_at x.tasks seat)) → LeavesNoTry Stop.Spent (parts_of program devices value_of stage x)) view from stuck none has
+    where
+      from : (IsValid core.desk.cells seat (row_at core.desk.rows seat).reads → working (task_at core.tasks seat) ≡ None) → core.stop ≡ None
+          → IsSome (attempt_of (task_at core.tasks seat)) → LeavesNoTry Stop.Spent (parts_of program devices value_of stage core)
+      from stuck none has =
+          let its = there (attempt_of (task_at core.tasks seat)) has in
+          busy-leaves_no_try (parts_of program devices value_of stage core) whole.stands core.stop none core.counters whole.bounds whole.lone seat its.0 its.1
+          (λ valid. stuck (shown-valid (value_of core.code) core.desk.cells seat (row_at core.desk.rows seat).reads
+          (subst (IsValid (parts_of program devices value_of stage core).desk.cells seat) (ap (λ (n : Notes Val). n.reads) (row-shown (value_of core.code) core.desk.rows seat))
+          (valid-desk (parts_of program devices value_of stage core).desk seat (row_at (parts_of program devices value_of stage core).desk.rows seat).reads valid))))

@@ -6,6 +6,7 @@ pub mod RollbackLemmas
 pub mod OldestLemmas
 pub mod AloneLemmas
 pub mod LoneLemmas
+pub mod BoundLemmas
 pub mod PlaceLemmas
 pub mod WorkLemmas
 pub mod StartLemmas

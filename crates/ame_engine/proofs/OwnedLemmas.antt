@@ -1,20 +1,20 @@
 -- The locations that a seat owns are those that its undo log names.
-use Rattle.std.proofs.Common.{◌≡◌, ℕ, zero, suc, ◌+◌, ◌<◌, ◌==◌, ◌⊎◌, inl, inr, Bool, true, false, cond, List, [], ◌∷◌, map, get_or, length, Contains, All, Option, Some, None, refl, sym, ap, ◌∙◌, subst, arith, eq-eqb}
+use Rattle.std.proofs.Common.{◌≡◌, ℕ, zero, suc, ◌+◌, ◌<◌, ◌==◌, ◌⊎◌, inl, inr, Bool, true, false, cond, List, [], ◌∷◌, get_or, length, Contains, Option, Some, None, refl, sym, ap, ◌∙◌, subst, arith, eq-eqb}
 use Rattle.std.specs.Prelude.{slice_get, filter}
 use Rattle.std.specs.List.{AllPairs, range_with_len}
 use Rattle.std.specs.List.Sorted.{IsPermutation, IsStrictlyIncreasing}
 use Rattle.std.specs.Option.{option_map_or}
 use Rattle.std.proofs.lemmas.Bool.{eqb-true}
 use Rattle.std.proofs.lemmas.Option.{slice_get_within}
-use Rattle.std.proofs.lemmas.List.Elements.{All-contains, All-contains_itself, All-filter, filter_passes, Contains-get_or}
+use Rattle.std.proofs.lemmas.List.Elements.{All-contains, filter_passes}
 use Rattle.std.proofs.lemmas.List.FromFn.{length-range_with_len, get_or-range_with_len}
 use Rattle.std.proofs.lemmas.List.Kept.{AllPairs-from_increasing, IsStrictlyIncreasing-filter}
 use Rattle.std.proofs.lemmas.List.Sorted.{Contains-permutation, IsPermutation-sym}
 use Rattle.ame_store.specs.declared.cell.Cell.{Cell}
 use Rattle.ame_rows.specs.declared.notes.Undo.{Undo}
 use Rattle.ame_desk.specs.Access.{is_owned_by}
-use Rattle.ame_desk.specs.Entries.{named_by, places, entry_at, IsEntryFor, OwnsAsLogged, IsLogOf}
-use Rattle.ame_desk.proofs.LogLemmas.{entry_cell, entry_owned, has_entry}
+use Rattle.ame_desk.specs.Entries.{named_by, places, entry_at, OwnsAsLogged, IsLogOf}
+use Rattle.ame_desk.proofs.LogLemmas.{entry_owned, has_entry}
 use Rattle.ame_desk.proofs.LettingGoLemmas.{owned_is, is_owned}
 use Rattle.ame_engine.specs.Committing.{owned_places}
 

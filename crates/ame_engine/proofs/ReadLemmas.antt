@@ -1,6 +1,6 @@
 -- A seat reads.
 use Rattle.std.proofs.Common.{◌≡◌, ℕ, zero, suc, ◌+◌, ◌<◌, false, List, [], ◌∷◌, map, length, All, Option, Some, None, option_map, refl, sym, ap, ◌∙◌, subst, arith}
-use Rattle.std.specs.Prelude.{slice_get}
+use Rattle.std.specs.Prelude.{slice_get, is_some}
 use Rattle.std.specs.Option.{option_map_or}
 use Rattle.std.proofs.lemmas.List.{length-map}
 use Rattle.std.proofs.lemmas.Option.{slice_get-map, get_or_from_slice_get}
@@ -49,6 +49,9 @@ use Rattle.ame_engine.specs.AtWork.{IsOnSeat, is_free, working}
 use Rattle.ame_engine.proofs.CountLemmas.{one-counts}
 use Rattle.ame_engine.specs.Lone.{IsLone}
 use Rattle.ame_engine.proofs.LoneLemmas.{read-lone}
+use Rattle.ame_engine.specs.declared.stop.Stop.{Stop}
+use Rattle.ame_engine.specs.Bounds.{IsBounded}
+use Rattle.ame_engine.proofs.BoundLemmas.{read-bounded}
 
 -- Good values
 
@@ -180,8 +183,9 @@ module _ {C V M : Type 0} (program : C → Tree) (devices : C → ℕ) (is_value
           (slice_get-map (shown_cell (value_of core.code)) core.desk.cells l.0 ∙ ap (option_map (shown_cell (value_of core.code))) there.1)))
           (all_at HasItsParity core.desk.cells l.0 there.0 read-within there.1 parity)
 
-      pub read-whole : All HasItsParity core.desk.cells → IsWhole program devices is_value value_of is_machine stage read_with
-      read-whole parity = record {
+      pub read-whole : core.stop ≡ None → (stage core.code m).since < core.limits.slice → All HasItsParity core.desk.cells
+          → IsWhole program devices is_value value_of is_machine stage read_with
+      read-whole going early parity = record {
         stands = subst Stands (sym read-parts) (read-stands parts whole.stands seat on.attempt task (stage core.code m).steps comes.0 left l comes.1);
         limits = whole.limits;
         desk = record {
@@ -195,6 +199,9 @@ module _ {C V M : Type 0} (program : C → Tree) (devices : C → ℕ) (is_value
         lone = subst (λ (x : Parts). IsLone x (one_counted Counted.Read core.counters)) (sym read-parts)
             (read-lone parts whole.stands core.counters (one_counted Counted.Read core.counters) whole.lone refl refl seat on.attempt task
             (stage core.code m).steps comes.0 l comes.1 (its-parity parity));
+        bounds = subst (IsBounded core.stop (one_counted Counted.Read core.counters)) (sym read-parts)
+            (read-bounded parts whole.stands core.stop going (ap (λ (o : Option Stop). is_some o) going) core.counters (one_counted Counted.Read core.counters)
+            whole.bounds refl seat on.attempt task (stage core.code m).steps comes.0 (let since = on.since in omega arith) l comes.1);
         waiting = subst AreWaiting (sym read-parts) (read-waiting parts whole.stands seat on.attempt task whole.waiting l);
         once = subst AreNotedOnce (sym read-parts) (once-on parts (has_read seat l parts) refl (λ i some. some) whole.once);
         caused = subst (HasCause core.stop core.certificates) (sym read-parts)

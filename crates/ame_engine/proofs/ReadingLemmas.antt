@@ -1,5 +1,5 @@
 -- A seat's read, by what the desk's call tells.
-use Rattle.std.proofs.Common.{◌≡◌, ℕ, ◌+◌, ◌<◌, false, length, All, Option, Some, refl, sym, ap, ◌∙◌, subst}
+use Rattle.std.proofs.Common.{◌≡◌, ℕ, ◌+◌, ◌<◌, false, length, All, Option, Some, refl, sym, ap, ◌∙◌, subst, None}
 use Rattle.std.specs.Prelude.{slice_get}
 use Rattle.std.specs.Option.{ForSome}
 use Rattle.ame_term.specs.Tree.{Val, Tree}
@@ -73,9 +73,12 @@ module _ {C V M : Type 0} (program : C → Tree) (devices : C → ℕ) (is_value
     shows' : (v w : V) → same v w → value_of core.code w ≡ value_of core.code v
     shows' v w h = sym (shows core.code v w h)
 
-    pub whole-read : All HasItsParity core.desk.cells → IsWhole program devices is_value value_of is_machine stage after
-    whole-read parity = subst (IsWhole program devices is_value value_of is_machine stage) (sym after-is)
-        (read-whole program devices is_value value_of is_machine stage core whole seat m l on' outside' need' left' same shows' (keeps core.code) (row_at desk.rows seat) row parity)
+    pub whole-read : now.stop ≡ None → (stage now.code m).since < now.limits.slice → All HasItsParity core.desk.cells
+        → IsWhole program devices is_value value_of is_machine stage after
+    whole-read going early parity = subst (IsWhole program devices is_value value_of is_machine stage) (sym after-is)
+        (read-whole program devices is_value value_of is_machine stage core whole seat m l on' outside' need' left' same shows' (keeps core.code) (row_at desk.rows seat) row
+        (subst (λ (x : Core C V M). x.stop ≡ None) (sym view) going)
+        (subst (λ (x : Core C V M). (stage x.code m).since < x.limits.slice) (sym view) early) parity)
 
     pub makes-read : (k : Loc) → (stage now.code m).want ≡ Some (wants.Read k) → MakesEvent program devices value_of stage (one_counted Counted.Read) (has_read seat k) now after
     makes-read k e =
@@ -109,5 +112,5 @@ module _ {C V M : Type 0} (program : C → Tree) (devices : C → ℕ) (is_value
     pub good-read : is_value now.code value
     good-read = subst (λ (x : Core C V M). is_value x.code value) view good-value
 
-    pub runs-read : All HasItsParity core.desk.cells → (s : Stage) → IsOnSeat (parts_of program devices value_of stage after) seat s → s.inside ≡ false → CanRun s
-    runs-read parity s stands out = can-run (parts_of program devices value_of stage after) (whole-read parity).stands seat s stands out
+    pub runs-read : now.stop ≡ None → (stage now.code m).since < now.limits.slice → All HasItsParity core.desk.cells → (s : Stage) → IsOnSeat (parts_of program devices value_of stage after) seat s → s.inside ≡ false → CanRun s
+    runs-read going early parity s stands out = can-run (parts_of program devices value_of stage after) (whole-read going early parity).stands seat s stands out

@@ -35,6 +35,9 @@ use Rattle.ame_engine.specs.Whole.{AreLimits, AreGoodNotes, IsGoodUndo, IsAtRest
 use Rattle.ame_engine.proofs.CountLemmas.{none-counted}
 use Rattle.ame_engine.proofs.CauseLemmas.{started-cause}
 use Rattle.ame_engine.proofs.LoneLemmas.{lone-idle}
+use Rattle.ame_bounds.proofs.PaidEvents.{row-clear}
+use Rattle.ame_engine.specs.Bounds.{IsBounded}
+use Rattle.ame_engine.proofs.BoundLemmas.{idle-bounded}
 
 rows-shown : {V : Type 0} (view : V → Val) (n : ℕ) → map (shown_notes view) (replicate n no_notes) ≡ replicate n no_notes
 rows-shown view zero = refl
@@ -93,6 +96,9 @@ module _ {C V M : Type 0} (program : C → Tree) (devices : C → ℕ) (is_value
         alone = subst RunsAlone (sym started-parts) (start-alone (program code) (devices code) limits 0);
         lone = lone-idle (parts_of program devices value_of stage started_with) nothing_counted (task-idle limits.seats)
             (record { conflicts = refl; invalids = refl });
+        bounds = subst (IsBounded None nothing_counted) (sym started-parts)
+            (idle-bounded (started (program code) (devices code) limits 0) nothing_counted refl refl in_range.some_slice refl (task-idle limits.seats)
+            (row-clear limits.seats));
         waiting = subst AreWaiting (sym started-parts) (start-waiting (program code) (devices code) limits 0);
         once = subst AreNotedOnce (sym started-parts) (start-once (program code) (devices code) limits 0);
         caused = started-cause (parts_of program devices value_of stage started_with) refl;

@@ -38,7 +38,6 @@ use Rattle.ame_waiting.proofs.OnceEvents.{undone-once, undoing-once, running-onc
 use Rattle.ame_engine.specs.declared.counters.Counters.{Counters}
 use Rattle.ame_engine.specs.Core.{Core}
 use Rattle.ame_engine.specs.declared.stop.Stop.{Stop}
-use Rattle.ame_engine.specs.Causes.{HasCause}
 use Rattle.ame_engine.specs.Counting.{Counted, one_undone, CountsTurns}
 use Rattle.ame_engine.specs.Seen.{parts_of, term_shown, MakesEvent}
 use Rattle.ame_engine.specs.Whole.{IsGoodUndo, AreGoodNotes, IsGoodDesk, IsAtRest, IsWhole}
@@ -51,6 +50,9 @@ use Rattle.ame_engine.proofs.ReadLemmas.{row-good}
 use Rattle.ame_engine.proofs.RollbackLemmas.{good-home, good-parked}
 use Rattle.ame_engine.specs.Lone.{IsLone}
 use Rattle.ame_engine.proofs.LoneLemmas.{lone-left, undone-conflicts, undone-invalids}
+use Rattle.ame_engine.specs.Bounds.{IsBounded}
+use Rattle.ame_engine.proofs.BoundLemmas.{undone-bounded, home-bounded}
+use Rattle.ame_engine.proofs.CountLemmas.{undone-refused}
 
 -- what all pass, one that is there passes
 all-get : {A : Type 0} (P : A → Type 0) (xs : List A) (i : ℕ) (x : A) → All P xs → slice_get xs i ≡ Some x → P x
@@ -280,6 +282,9 @@ module _ {C V M : Type 0} (program : C → Tree) (devices : C → ℕ) (is_value
       alone = subst RunsAlone (sym undone-parts) (more-runs_alone more);
       lone = lone-undone (parts_of program devices value_of stage undone_core) (Task.Undoing attempt reason) refl refl
           (λ t e. let clash : Task.Undoing attempt reason ≡ Task.Running t = e in cc);
+      bounds = subst (IsBounded core.stop undo_counters) (sym undone-parts)
+          (undone-bounded parts whole.stands core.stop core.counters undo_counters (undone-refused (is_some core.stop) core.counters) whole.bounds seat attempt
+          task refl has undoes more);
       waiting = subst AreWaiting (sym undone-parts) (more-waiting more);
       once = subst AreNotedOnce (sym undone-parts) (undone-once parts whole.once seat attempt reason);
       caused = undoing-cause parts (parts_of program devices value_of stage undone_core) more-there (record { program = refl; base = refl; entries = refl }) refl more-there.empty
@@ -332,6 +337,9 @@ module _ {C V M : Type 0} (program : C → Tree) (devices : C → ℕ) (is_value
       alone = subst RunsAlone (sym gone-parts) home-runs_alone;
       lone = lone-undone (parts_of program devices value_of stage gone_core) Task.Idle refl refl
           (λ t e. let clash : Task.Idle ≡ Task.Running t = e in cc);
+      bounds = subst (IsBounded core.stop undo_counters) (sym gone-parts)
+          (home-bounded parts whole.stands core.stop core.counters undo_counters (undone-refused (is_some core.stop) core.counters) whole.bounds seat attempt
+          task refl has undoes few);
       waiting = subst AreWaiting (sym gone-parts) (home-waiting few);
       once = subst AreNotedOnce (sym gone-parts) home-once;
       caused = undoing-cause parts (parts_of program devices value_of stage gone_core) more-there (record { program = refl; base = refl; entries = refl }) refl

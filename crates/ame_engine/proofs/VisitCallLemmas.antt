@@ -1,5 +1,5 @@
 -- A visit that ends with a call of a device, or that a device refused.
-use Rattle.std.proofs.Common.{◌≡◌, ℕ, ◌+◌, ◌^◌, ◌<◌, ◌≤◌, true, false, List, [], ◌∷◌, ◌++◌, length, All, Option, Some, None, Ok, refl, sym, ap, ◌∙◌, subst, append-nil, arith}
+use Rattle.std.proofs.Common.{◌≡◌, ℕ, ◌+◌, ◌^◌, ◌<◌, ◌≤◌, true, false, List, [], ◌∷◌, ◌++◌, length, All, Option, Some, None, Ok, refl, sym, ap, ◌∙◌, subst, append-nil, arith, is_some}
 use Rattle.std.specs.Prelude.{ℤ, slice_set, unwrap_or}
 use Rattle.ame_term.specs.Tree.{Val, Tree}
 use Rattle.ame_term.specs.Frame.{Side, side_told}
@@ -62,6 +62,9 @@ use Rattle.ame_engine.proofs.CrewLemmas.{busy-told}
 use Rattle.ame_engine.proofs.UndoingLemmas.{busy-same}
 use Rattle.ame_engine.proofs.VisitPlaceLemmas.{visits-as, visit-steps, visit-is, visit-settles}
 use Rattle.ame_engine.proofs.VisitEndLemmas.{room-stays, whole-visited, makes-visited}
+use Rattle.ame_engine.specs.Bounds.{IsBounded}
+use Rattle.ame_engine.proofs.BoundLemmas.{refused-bounded}
+use Rattle.ame_engine.proofs.VisitPlaceLemmas.{visit-grows}
 
 module _ {C V M : Type 0} (program : C → Tree) (devices : C → ℕ) (is_value : C → V → Type 0) (value_of : C → V → Val)
     (is_machine : C → M → Type 0) (stage : C → M → Stage)
@@ -124,6 +127,11 @@ module _ {C V M : Type 0} (program : C → Tree) (devices : C → ℕ) (is_value
       lone = lone-left parts (parts_of program devices value_of stage after-refused) whole.stands core.counters (one_counted Counted.Free core.counters)
           whole.lone seat (seat_within core.tasks seat attempt (ap attempt_of is)) refl refl refl Task.Idle refl
           (λ t e. let clash : Task.Idle ≡ Task.Running t = e in cc);
+      bounds =
+          let none : core.stop ≡ None = subst (λ (x : Core C V M). x.stop ≡ None) (sym view) going in
+          subst (IsBounded (Some (Stop.DeviceFault device)) (one_counted Counted.Free core.counters)) (sym refused-parts)
+          (refused-bounded parts whole.stands core.stop none (ap (λ (o : Option Stop). is_some o) none) core.counters (one_counted Counted.Free core.counters)
+          whole.bounds refl seat attempt is device);
       waiting = subst AreWaiting (sym refused-parts)
           (refused-waiting parts seat number (ap member_of is) its-visit.work.busy (parts.turns + 1) true whole.waiting);
       once = subst AreNotedOnce (sym refused-parts) (refused-once parts seat number (ap member_of is) its-visit.work.busy (parts.turns + 1) true whole.once);
@@ -251,6 +259,11 @@ module _ {C V M : Type 0} (program : C → Tree) (devices : C → ℕ) (is_value
       stage-is =
           ap (λ (o : Option Stage). unwrap_or o (stage core.code n)) (sym fed' ∙ fed-answer V s (wants.Device device argument) answer need-there refl)
 
+      low-called : attempt.tried.steps ≤ (stage core.code n).steps
+      low-called =
+          let since : s.steps ≡ s.since + attempt.tried.steps = subst (λ (a : Attempt). s.steps ≡ s.since + a.tried.steps) one-attempt on.since in
+          let grows = visit-grows s parts.desk before (Some answer) (stage core.code n) parts.desk after visits-called in omega (arith, since, grows)
+
       none-printed : (stage core.code n).prints ≡ []
       none-printed = ap (λ (x : Stage). x.prints) stage-is ∙ bare
 
@@ -300,7 +313,7 @@ module _ {C V M : Type 0} (program : C → Tree) (devices : C → ℕ) (is_value
             (λ h. h) (λ h all. all) send-rests (λ h. record { rising = h.rising; few = h.few }) send-good core.desk refl tt
             core.output core.output [] (sym none-printed) refl (sym (append-nil core.output)) core.text core.text [] [] [] (sym none-printed) refl refl refl (sym (append-nil core.text))
             old-entries entries entry entry-so old_is pushes core.next (omega arith)
-            (subst (λ (x : Core C V M). x.stop ≡ None) (sym view) going)
+            (subst (λ (x : Core C V M). x.stop ≡ None) (sym view) going) low-called
 
         makes-called : MakesEvent program devices value_of stage (one_counted Counted.Free)
             (visited_at seat number (Some answer) (stage core.code n) parts.desk) core after-called

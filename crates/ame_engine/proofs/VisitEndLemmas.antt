@@ -1,5 +1,5 @@
 -- A visit ends.
-use Rattle.std.proofs.Common.{◌≡◌, ℕ, ◌+◌, ◌<◌, ◌≤◌, Bool, false, List, [], ◌∷◌, ◌++◌, length, All, Option, Some, None, refl, sym, ap, ◌∙◌, subst, arith}
+use Rattle.std.proofs.Common.{◌≡◌, ℕ, ◌+◌, ◌<◌, ◌≤◌, Bool, false, List, [], ◌∷◌, ◌++◌, length, All, Option, Some, None, refl, sym, ap, ◌∙◌, subst, arith, is_some}
 use Rattle.std.specs.Prelude.{ℤ, slice_set, max}
 use Rattle.ame_io.specs.Lines.{lines}
 use Rattle.ame_io.proofs.LinesLemmas.{lines-append}
@@ -47,6 +47,10 @@ use Rattle.ame_engine.proofs.LoneLemmas.{lone-left}
 use Rattle.ame_engine.proofs.MemberLemmas.{all_altered}
 use Rattle.ame_engine.proofs.CrewLemmas.{busy-told, none-told, room-used}
 use Rattle.ame_engine.proofs.VisitDeskLemmas.{changed-good, changed-shown}
+use Rattle.ame_bounds.proofs.ShownLemmas.{within-shown}
+use Rattle.ame_engine.specs.Bounds.{IsBounded}
+use Rattle.ame_engine.proofs.BoundLemmas.{visited-bounded}
+use Rattle.ame_engine.specs.declared.stop.Stop.{Stop}
 
 -- A member goes home with no more than its term
 
@@ -276,8 +280,16 @@ module _ {C V M : Type 0} (program : C → Tree) (devices : C → ℕ) (is_value
               visit-once parts seat number (ap member_of is) its-visit.work.busy (free_entry seat number s.steps (with_answer answer (place_shown s))) refl
               whole.stands plain s.term s.inside s.spawns (parts.output ++ s.prints) (parts.next + length s.spawns) (parts.turns + 1) whole.once
 
-          pub whole-visited : now.stop ≡ None → IsWhole program devices is_value value_of is_machine stage after
-          whole-visited going = record {
+          bounded-visited : core.stop ≡ None → attempt.tried.steps ≤ s.steps
+              → IsBounded core.stop (one_counted Counted.Free core.counters) (visited_at seat number answer s plain parts)
+          bounded-visited none low =
+              subst (λ (q : LocalState). IsBounded core.stop (one_counted Counted.Free core.counters) (has_visited seat number s.steps q s.inside plain parts)) visit.shows
+              (visited-bounded parts whole.stands core.stop none (ap (λ (o : Option Stop). is_some o) none) core.counters (one_counted Counted.Free core.counters)
+              whole.bounds refl seat attempt is (within-shown (term_shown stage core.code) core.pool whole.pool.few) s.steps visit.place s.inside plain visit.visit low)
+
+          pub whole-visited : now.stop ≡ None → attempt.tried.steps ≤ (stage now.code m).steps
+              → IsWhole program devices is_value value_of is_machine stage after
+          whole-visited going low = record {
             stands = subst Stands (sym visited-parts) stands-visited;
             limits = whole.limits;
             desk = subst (IsGoodDesk (is_value core.code)) (sym desk_is) (changed-good (is_value core.code) change core.desk good-change whole.desk);
@@ -286,6 +298,9 @@ module _ {C V M : Type 0} (program : C → Tree) (devices : C → ℕ) (is_value
             alone = subst RunsAlone (sym visited-parts) alone-visited;
             lone = lone-left parts (parts_of program devices value_of stage after) whole.stands core.counters (one_counted Counted.Free core.counters)
                 whole.lone seat end-within refl refl refl Task.Idle refl (λ t e. let clash : Task.Idle ≡ Task.Running t = e in cc);
+            bounds = subst (IsBounded core.stop (one_counted Counted.Free core.counters)) (sym visited-parts)
+                (bounded-visited (subst (λ (x : Core C V M). x.stop ≡ None) (sym view) going)
+                (subst (λ (x : Core C V M). attempt.tried.steps ≤ (stage x.code m).steps) (sym view) low));
             waiting = subst AreWaiting (sym visited-parts) waits-visited;
             once = subst AreNotedOnce (sym visited-parts) once-visited;
             caused = going-cause parts (parts_of program devices value_of stage after) core.stop

@@ -1,5 +1,5 @@
 -- A visit that called no device, as a whole.
-use Rattle.std.proofs.Common.{◌≡◌, ℕ, List, [], Some, None, sym, ap, ◌∙◌, subst}
+use Rattle.std.proofs.Common.{◌≡◌, ℕ, List, [], Some, None, sym, ap, ◌∙◌, subst, ◌≤◌, arith}
 use Rattle.std.specs.Prelude.{unwrap_or, get_or}
 use Rattle.ame_term.specs.Tree.{Val, Tree}
 use Rattle.ame_device.specs.declared.told.Told.{Told}
@@ -17,6 +17,7 @@ use Rattle.ame_engine.specs.AtWork.{working, IsOn}
 use Rattle.ame_engine.specs.Visiting.{IsVisiting, IsVisitTo, visited_at, SettlesThere, changed_by, HasMadeItsStep, HasComeHome}
 use Rattle.ame_engine.proofs.CheckLemmas.{working-within, task-read}
 use Rattle.ame_engine.proofs.VisitPlaceLemmas.{visits-as, visit-is, visit-settles}
+use Rattle.ame_engine.proofs.VisitPlaceLemmas.{visit-grows}
 
 -- the task of a seat that visits, by what is in its place
 pub its-free : {C V M : Type 0} (core now : Core C V M) → core ≡ now → (seat : ℕ) (held : Attempt) → working (task_at now.tasks seat) ≡ Some held
@@ -55,6 +56,13 @@ module _ {C V M : Type 0} (program : C → Tree) (devices : C → ℕ) (is_value
     served-settles =
         visit-settles parts stands seat (stage now.code m) on.stands visiting.inside sound visiting [] None (stage now.code n)
         (changed_by (value_of now.code) change parts.desk) [] (served.visits [])
+
+    pub served-low : attempt.tried.steps ≤ (stage now.code n).steps
+    served-low =
+        let same : on.stands.attempt.tried.steps ≡ attempt.tried.steps = ap (λ (t : Task). (unwrap_or (working t) attempt).tried.steps) (sym free-task ∙ is) in
+        let since = on.stands.since in
+        let grows = visit-grows (stage now.code m) parts.desk [] None (stage now.code n) (changed_by (value_of now.code) change parts.desk) [] (served.visits []) in
+        omega (arith, same, since, grows)
 
     -- it is home
     pub home-served : (told : List Told) (new : Core C V M)

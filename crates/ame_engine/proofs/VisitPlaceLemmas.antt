@@ -1,5 +1,5 @@
 -- Where a visit comes to from where the machine of a seat stands.
-use Rattle.std.proofs.Common.{◌≡◌, ℕ, ◌+◌, ◌<◌, Bool, true, false, List, [], ◌∷◌, length, Option, Some, None, option_map, refl, sym, ap, ◌∙◌, subst}
+use Rattle.std.proofs.Common.{◌≡◌, ℕ, ◌+◌, ◌<◌, Bool, true, false, List, [], ◌∷◌, length, Option, Some, None, option_map, refl, sym, ap, ◌∙◌, subst, ◌≤◌, arith}
 use Rattle.std.specs.Prelude.{◌||◌, ℤ, unwrap_or}
 use Rattle.std.specs.Option.{option_map_or}
 use Rattle.ame_term.specs.Tree.{Val, Tree}
@@ -39,6 +39,23 @@ free-attempt Task.Idle a e free = cc
 free-attempt (Task.Running b) a e free = cc
 free-attempt (Task.Free b) a e free = ap Task.Free (ap (λ (o : Option Attempt). option_map_or (λ x. x) o b) e)
 free-attempt (Task.Undoing b reason) a e free = cc
+
+-- a visit takes back no step
+grows-fed : (s : Stage) (v : Val) (n : Stage) → fed_stage v s ≡ Some n → s.steps ≤ n.steps
+grows-fed s v n e = let x = fed-to v s n e in let more = ap (λ (z : Stage). z.steps) x.is in omega (arith, more)
+
+pub visit-grows : (s : Stage) (desk : Contents Val) (before : List Told) (answer : Option ℤ) (n : Stage) (later : Contents Val) (after : List Told)
+    → VisitsTo s desk before answer n later after → s.steps ≤ n.steps
+visit-grows s desk before _ _ _ _ (VisitsTo.rests still) = omega arith
+visit-grows s desk before _ _ _ _ (VisitsTo.reads l v n its is fed) = grows-fed s v n fed
+visit-grows s desk before _ _ _ _ (VisitsTo.peeks l v n its is fed) = grows-fed s v n fed
+visit-grows s desk before _ _ _ _ (VisitsTo.writes l v n its sets fed) = grows-fed s Val.Unit n fed
+visit-grows s desk before _ _ _ _ (VisitsTo.makes sort number v n its sets fed) = grows-fed s (Val.Loc (length desk.cells)) n fed
+visit-grows s desk before _ _ _ _ (VisitsTo.spawns n its fed) = grows-fed s Val.Unit n fed
+visit-grows s desk before _ _ _ _ (VisitsTo.prints i n its fed) = grows-fed s Val.Unit n fed
+visit-grows s desk before _ _ _ _ (VisitsTo.closes n its closes) =
+    let x = map-gave (closed_with s) (closed_value (focus s.term)) n closes in let more = ap (λ (z : Stage). z.steps) x.2 in omega (arith, more)
+visit-grows s desk before _ _ _ _ (VisitsTo.calls device argument answer n after its called fed) = grows-fed s (Val.Int answer) n fed
 
 -- the task of a seat that visits
 pub visits-as : (parts : Parts) (seat : ℕ) (s : Stage) (on : IsOnSeat parts seat s) → s.inside ≡ true → task_at parts.tasks seat ≡ Task.Free on.attempt

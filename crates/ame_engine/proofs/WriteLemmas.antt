@@ -1,5 +1,5 @@
 -- A seat writes.
-use Rattle.std.proofs.Common.{◌≡◌, ◌≢◌, ℕ, ◌+◌, ◌<◌, ◌==◌, ◌⊎◌, inl, inr, Bool, true, false, cond, [], ◌∷◌, ◌++◌, set, length, All, Option, Some, None, option_map, refl, sym, ap, ◌∙◌, subst, arith}
+use Rattle.std.proofs.Common.{◌≡◌, ◌≢◌, ℕ, ◌+◌, ◌<◌, ◌==◌, ◌⊎◌, inl, inr, Bool, true, false, cond, [], ◌∷◌, ◌++◌, set, length, All, Option, Some, None, option_map, refl, sym, ap, ◌∙◌, subst, arith, is_some}
 use Rattle.std.specs.Prelude.{slice_get, slice_set, unwrap_or}
 use Rattle.std.specs.Option.{ForSome, option_map_or}
 use Rattle.std.proofs.lemmas.List.{length-map}
@@ -67,6 +67,10 @@ use Rattle.ame_engine.proofs.RunLemmas.{can-run}
 use Rattle.ame_engine.proofs.CountLemmas.{one-counts}
 use Rattle.ame_engine.specs.Lone.{IsLone}
 use Rattle.ame_engine.proofs.LoneLemmas.{write-first_lone, write-later_lone}
+use Rattle.ame_engine.specs.Bounds.{IsBounded}
+use Rattle.ame_engine.proofs.CountLemmas.{conflict-refused}
+use Rattle.ame_engine.proofs.BoundLemmas.{first-bounded, later-bounded}
+use Rattle.ame_engine.specs.declared.stop.Stop.{Stop}
 
 -- The location that is wanted
 
@@ -291,8 +295,17 @@ module _ {C V M : Type 0} (program : C → Tree) (devices : C → ℕ) (is_value
       waiting-by (inl free) = first-waiting parts whole.stands seat on'.attempt task whole.waiting s.steps comes.0 l next-act.0 comes.1 free
       waiting-by (inr own) = later-waiting parts whole.stands seat on'.attempt task whole.waiting s.steps comes.0 l next-act.0 comes.1 own
 
-      pub whole-written : IsWhole program devices is_value value_of is_machine stage after
-      whole-written = record {
+      bounded-by : core.stop ≡ None → s.since < core.limits.slice → IsFree (cell_at (heap_in parts) l.0) ⊎ IsOwnedBy seat (cell_at (heap_in parts) l.0)
+          → IsBounded core.stop counted (has_written seat l next-act.0 parts)
+      bounded-by none early (inl free) =
+          first-bounded parts whole.stands core.stop none (ap (λ (o : Option Stop). is_some o) none) core.counters counted whole.bounds refl seat on'.attempt task
+          s.steps comes.0 (let since = on'.since in omega arith) l next-act.0 comes.1 free
+      bounded-by none early (inr own) =
+          later-bounded parts whole.stands core.stop none (ap (λ (o : Option Stop). is_some o) none) core.counters counted whole.bounds refl seat on'.attempt task
+          s.steps comes.0 (let since = on'.since in omega arith) l next-act.0 comes.1 own
+
+      pub whole-written : now.stop ≡ None → (stage now.code m).since < now.limits.slice → IsWhole program devices is_value value_of is_machine stage after
+      whole-written going early = record {
         stands = subst Stands (sym parts-written) (subst (λ (v : Val). Stands (has_written seat l v parts)) value-is (stands-by owned));
         limits = whole.limits;
         desk = subst (IsGoodDesk (is_value core.code)) (sym is) (desk-good (is_value core.code) seat l value input value-good input-good core.desk write-location whole.desk);
@@ -301,6 +314,11 @@ module _ {C V M : Type 0} (program : C → Tree) (devices : C → ℕ) (is_value
         alone = subst RunsAlone (sym parts-written) (subst (λ (v : Val). RunsAlone (has_written seat l v parts)) value-is (alone-by owned));
         lone = subst (λ (x : Parts). IsLone x counted) (sym parts-written)
             (subst (λ (v : Val). IsLone (has_written seat l v parts) counted) value-is (lone-by owned));
+        bounds =
+            let none : core.stop ≡ None = subst (λ (x : Core C V M). x.stop ≡ None) (sym view) going in
+            let soon : s.since < core.limits.slice = subst (λ (x : Core C V M). (stage x.code m).since < x.limits.slice) (sym view) early in
+            subst (λ (x : Parts). IsBounded core.stop counted x) (sym parts-written)
+            (subst (λ (v : Val). IsBounded core.stop counted (has_written seat l v parts)) value-is (bounded-by none soon owned));
         waiting = subst AreWaiting (sym parts-written) (subst (λ (v : Val). AreWaiting (has_written seat l v parts)) value-is (waiting-by owned));
         once = subst AreNotedOnce (sym parts-written)
             (once-on parts (has_written seat l (value_of core.code value) parts) refl (λ i some. some) whole.once);
@@ -322,8 +340,8 @@ module _ {C V M : Type 0} (program : C → Tree) (devices : C → ℕ) (is_value
           (subst (λ (x : Core C V M). MakesEvent program devices value_of stage (one_counted Counted.Write) (has_written seat l (value_of core.code value)) x after) view
           (record { code = refl; parts = parts-written; counted = refl; stop = refl })))
 
-      pub runs-written : (t : Stage) → IsOnSeat (parts_of program devices value_of stage after) seat t → t.inside ≡ false → CanRun t
-      runs-written t stands out = can-run (parts_of program devices value_of stage after) whole-written.stands seat t stands out
+      pub runs-written : now.stop ≡ None → (stage now.code m).since < now.limits.slice → (t : Stage) → IsOnSeat (parts_of program devices value_of stage after) seat t → t.inside ≡ false → CanRun t
+      runs-written going early t stands out = can-run (parts_of program devices value_of stage after) (whole-written going early).stands seat t stands out
 
       pub answer-written : (k : Loc) → (stage now.code m).want ≡ Some (wants.Write k)
           → answer.Wrote ≡ answer_to_write seat (cell_at (heap_in (parts_of program devices value_of stage now)) k.0).owner
@@ -382,11 +400,12 @@ module _ {C V M : Type 0} (program : C → Tree) (devices : C → ℕ) (is_value
         counters = one_counted Counted.Conflict core.counters;
       }
 
-      pub whole-conflict : IsWhole program devices is_value value_of is_machine stage after-conflict
+      pub whole-conflict : now.stop ≡ None → IsWhole program devices is_value value_of is_machine stage after-conflict
       unfolding with-desk
-      whole-conflict = subst (λ (d : Contents V). IsWhole program devices is_value value_of is_machine stage (with-desk d)) (sym desk-stays)
+      whole-conflict going = subst (λ (d : Contents V). IsWhole program devices is_value value_of is_machine stage (with-desk d)) (sym desk-stays)
           (whole-back program devices is_value value_of is_machine stage core now view whole seat m on outside left attempt runs
-          (one_counted Counted.Conflict core.counters) (one-counts core.turns core.counters whole.counters Counted.Conflict) (λ going worn. unworn worn) crowded)
+          (one_counted Counted.Conflict core.counters) (one-counts core.turns core.counters whole.counters Counted.Conflict)
+          (conflict-refused core.counters) going (λ still worn. unworn worn) crowded)
 
       pub makes-conflict : (a : Attempt) → task_at now.tasks seat ≡ Task.Running a → MakesEvent program devices value_of stage (one_counted Counted.Conflict) (has_turned_back seat a) now after-conflict
       unfolding with-desk
@@ -396,8 +415,8 @@ module _ {C V M : Type 0} (program : C → Tree) (devices : C → ℕ) (is_value
           (subst (λ (d : Contents V). MakesEvent program devices value_of stage (one_counted Counted.Conflict) (has_turned_back seat attempt) core (with-desk d)) (sym desk-stays)
           (record { code = refl; parts = refl; counted = refl; stop = refl })))
 
-      pub runs-conflict : (t : Stage) → IsOnSeat (parts_of program devices value_of stage after-conflict) seat t → t.inside ≡ false → CanRun t
-      runs-conflict t stands out = can-run (parts_of program devices value_of stage after-conflict) whole-conflict.stands seat t stands out
+      pub runs-conflict : now.stop ≡ None → (t : Stage) → IsOnSeat (parts_of program devices value_of stage after-conflict) seat t → t.inside ≡ false → CanRun t
+      runs-conflict going t stands out = can-run (parts_of program devices value_of stage after-conflict) (whole-conflict going).stands seat t stands out
 
       pub answer-conflict : (k : Loc) → (stage now.code m).want ≡ Some (wants.Write k)
           → answer.Conflict owner ≡ answer_to_write seat (cell_at (heap_in (parts_of program devices value_of stage now)) k.0).owner

@@ -21,6 +21,7 @@ use Rattle.ame_engine.specs.Core.{Core}
 use Rattle.ame_engine.specs.Faults.{ComesToCall}
 use Rattle.ame_engine.specs.Causes.{NotesStop}
 use Rattle.ame_engine.specs.Lone.{IsUndisturbed}
+use Rattle.ame_engine.specs.Bounds.{HasBounds}
 
 -- The entries from which it was opened, those that it added, its cells, its output, the events that counted, in all and of each
 -- kind, the tries that left no entry, the stop that was kept, and what tells that each member is blocked, where that is the stop.
@@ -71,7 +72,7 @@ pub record HasStopped (limits : Limits) (r : Replayed) {V : Type 0} (end : End V
 
 -- The base and the journal replay to a state whose store is what the live cells have, and whose output is what was printed. No
 -- cell has an owner, no member is noted twice without a commit between, and the stop has its cause in the state. With one seat
--- nothing was met that another seat did.
+-- nothing was met that another seat did. Rollbacks and tries are few, and entries and tries pay for the turns.
 pub record IsEnd (program : Tree) (limits : Limits) {V : Type 0} (value : V → Val) (end : End V) : Type 0 where
   pub r : Replayed
   pub replays : replay program (end.base ++ end.entries) ≡ Some r
@@ -81,3 +82,4 @@ pub record IsEnd (program : Tree) (limits : Limits) {V : Type 0} (value : V → 
   pub once : IsNotedOnce (end.base ++ end.entries)
   pub stopped : HasStopped limits r end
   pub lone : limits.seats ≡ 1 → IsUndisturbed end.counters
+  pub bounds : HasBounds program limits r end.base end.entries end.turns end.counters end.tried end.stop

@@ -7,6 +7,7 @@ pub mod Faults
 pub mod Causes
 pub mod Certifying
 pub mod Lone
+pub mod Bounds
 pub mod Whole
 pub mod AtWork
 pub mod Begins

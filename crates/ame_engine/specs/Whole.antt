@@ -19,6 +19,7 @@ use Rattle.ame_engine.specs.Rollbacks.{IsGoodPool}
 use Rattle.ame_engine.specs.Places.{HasPlacesFor}
 use Rattle.ame_engine.specs.Causes.{HasCause}
 use Rattle.ame_engine.specs.Lone.{IsLone}
+use Rattle.ame_engine.specs.Bounds.{IsBounded}
 
 -- the limits of an engine
 pub record AreLimits (limits : Limits) : Type 0 where
@@ -59,9 +60,9 @@ module _ {C V M : Type 0} (program : C → Tree) (devices : C → ℕ) (is_value
     (is_machine : C → M → Type 0) (stage : C → M → Stage) where
   -- The plain parts stand for the state to which the journal leads, the limits are in range, each value at the desk is one of
   -- the code, and the members' machines are at rest. No member was rolled back more often than it may be, and one that was so
-  -- as often runs alone. With one seat nothing is met that another seat did. Who waits has a note that tells so, and none is
-  -- noted twice without a commit between. A kept stop has its cause. Each turn is counted by its kind, and the text is the lines
-  -- of the output.
+  -- as often runs alone. With one seat nothing is met that another seat did. Rollbacks and tries are few, and the turns are
+  -- paid. Who waits has a note that tells so, and none is noted twice without a commit between. A kept stop has its cause. Each
+  -- turn is counted by its kind, and the text is the lines of the output.
   pub record IsWhole (core : Core C V M) : Type 0 where
     pub stands : Stands (parts_of program devices value_of stage core)
     pub limits : AreLimits core.limits
@@ -70,6 +71,7 @@ module _ {C V M : Type 0} (program : C → Tree) (devices : C → ℕ) (is_value
     pub pool : IsGoodPool core.pool
     pub alone : RunsAlone (parts_of program devices value_of stage core)
     pub lone : IsLone (parts_of program devices value_of stage core) core.counters
+    pub bounds : IsBounded core.stop core.counters (parts_of program devices value_of stage core)
     pub waiting : AreWaiting (parts_of program devices value_of stage core)
     pub once : AreNotedOnce (parts_of program devices value_of stage core)
     pub caused : HasCause core.stop core.certificates (parts_of program devices value_of stage core)

@@ -120,6 +120,20 @@ where
         turned
     }
 
+    /// Sink and devices, as they are.
+    pub fn into_ends(self) -> (K, Vec<D>)
+        ensures sink { result.0 ≡ self.sink }
+        ensures devices { result.1 ≡ self.devices }
+    {
+        let Shell {
+            engine: _,
+            sink,
+            sent: _,
+            devices,
+        } = self;
+        (sink, devices)
+    }
+
     /// What is left once a stop is kept and all seats are idle. Takes no memory.
     pub fn finish(self) -> Left<M::Value, K, D>
         requires idle { (seat : ℕ) → task_at self.engine.tasks seat ≡ Task.Idle }

@@ -1,6 +1,6 @@
 //! A seat reads, writes or makes a cell, and its machine goes on.
 
-ghost use Rattle.std.specs.Prelude.{◌≡◌, ◌<◌, ◌+◌, ◌^◌, ℕ, IfOk, OnOk, OnErr, Ok, Some};
+ghost use Rattle.std.specs.Prelude.{◌≡◌, ◌<◌, ◌+◌, ◌^◌, ℕ, IfOk, OnOk, OnErr, Ok, Some, None};
 ghost use Rattle.ame_term.specs.Tree.{Val};
 ghost use Rattle.ame_term.specs.declared.types.Loc.{Loc};
 ghost use Rattle.ame_term.specs.declared.types.Sort.{Sort};
@@ -37,6 +37,7 @@ where
     requires reads { IsReading (M.stage engine.old.code machine.old) }
     requires early { (M.stage engine.old.code machine.old).since < engine.old.limits.slice }
     requires left { engine.old.turns < engine.old.limits.turns }
+    requires going { engine.old.stop ≡ None }
     requires steps { (M.stage engine.old.code machine.old).steps + 1 < 2 ^ 64 }
     ensures goes { (l : Loc) → (M.stage engine.old.code machine.old).want ≡ Some (Wants.Read l) → OnOk result
         (IsServed M.program M.devices M.value_of M.is_machine M.stage (one_counted Counted.Read) (has_read seat l) seat engine.old engine.new machine.new) }
@@ -64,6 +65,7 @@ where
     requires writes { IsWriting (M.stage engine.old.code machine.old) }
     requires early { (M.stage engine.old.code machine.old).since < engine.old.limits.slice }
     requires left { engine.old.turns < engine.old.limits.turns }
+    requires going { engine.old.stop ≡ None }
     requires steps { (M.stage engine.old.code machine.old).steps + 1 < 2 ^ 64 }
     ensures answer { (l : Loc) → (M.stage engine.old.code machine.old).want ≡ Some (Wants.Write l) → IfOk result (λ answer.
         answer ≡ answer_to_write seat (cell_at (heap_in (parts_of M.program M.devices M.value_of M.stage engine.old)) l.0).owner) }
@@ -101,6 +103,7 @@ where
     requires allocates { IsAllocating (M.stage engine.old.code machine.old) }
     requires early { (M.stage engine.old.code machine.old).since < engine.old.limits.slice }
     requires left { engine.old.turns < engine.old.limits.turns }
+    requires going { engine.old.stop ≡ None }
     requires steps { (M.stage engine.old.code machine.old).steps + 1 < 2 ^ 64 }
     ensures goes { (sort : Sort) (number : TyNo) (v : Val) → (M.stage engine.old.code machine.old).want ≡ Some (Wants.Alloc sort number)
         → value_to_set (M.stage engine.old.code machine.old) ≡ Some v → OnOk result (IsServed M.program M.devices M.value_of M.is_machine M.stage

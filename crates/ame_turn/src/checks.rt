@@ -1,6 +1,6 @@
 //! The reads of a seat are checked, and its machine goes on.
 
-ghost use Rattle.std.specs.Prelude.{◌≡◌, ◌<◌, ◌↔◌, false};
+ghost use Rattle.std.specs.Prelude.{◌≡◌, ◌<◌, ◌↔◌, None, false};
 ghost use Rattle.ame_rows.specs.declared.notes.Bad.{Bad};
 ghost use Rattle.ame_rows.specs.Valid.{IsValid, IsFirstBad};
 ghost use Rattle.ame_desk.specs.Contents.{row_at};
@@ -25,6 +25,7 @@ where
     requires outside { (M.stage engine.old.code machine.old).inside ≡ false }
     requires full { (M.stage engine.old.code machine.old).since ≡ engine.old.limits.slice }
     requires left { engine.old.turns < engine.old.limits.turns }
+    requires going { engine.old.stop ≡ None }
     ensures goes { (attempt : Attempt) → task_at engine.old.tasks seat ≡ Task.Running attempt → result ≡ Checked.Valid
         → IsServed M.program M.devices M.value_of M.is_machine M.stage (one_counted Counted.Check)
         (has_checked seat (M.stage engine.old.code machine.old).steps attempt) seat engine.old engine.new machine.new }

@@ -1,6 +1,6 @@
 //! How a seat makes a cell.
 
-ghost use Rattle.std.specs.Prelude.{◌≡◌, ◌<◌, IfOk, OnOk, OnErr, Some, false, length};
+ghost use Rattle.std.specs.Prelude.{◌≡◌, ◌<◌, IfOk, OnOk, OnErr, Some, None, false, length};
 ghost use Rattle.ame_term.specs.Tree.{Val};
 ghost use Rattle.ame_term.specs.declared.types.Sort.{Sort};
 ghost use Rattle.ame_term.specs.declared.types.TyNo.{TyNo};
@@ -27,6 +27,8 @@ where
         requires on { IsOn M.program M.devices M.value_of M.is_machine M.stage self.old seat at.now }
         requires allocates { IsAllocating (M.stage self.old.code at.now) }
         requires left { self.old.turns < self.old.limits.turns }
+        requires going { self.old.stop ≡ None }
+        requires early { (M.stage self.old.code at.now).since < self.old.limits.slice }
         ensures location { IfOk result (λ l. l.0 ≡ length self.old.desk.cells) }
         ensures event { (sort : Sort) (number : TyNo) (v : Val) → (M.stage self.old.code at.now).want ≡ Some (Wants.Alloc sort number)
             → value_to_set (M.stage self.old.code at.now) ≡ Some v → OnOk result

@@ -1,6 +1,6 @@
 //! How a seat begins a member.
 
-ghost use Rattle.std.specs.Prelude.{◌≡◌, ◌<◌, ◌++◌, ℕ, false, length, IfOk, OnErr, IsTrue};
+ghost use Rattle.std.specs.Prelude.{◌≡◌, ◌<◌, ◌++◌, ℕ, false, length, None, IfOk, OnErr, IsTrue};
 ghost use Rattle.std.specs.Option.{ForSome};
 ghost use Rattle.ame_pool.specs.Members.{is_ready};
 ghost use Rattle.ame_pool.specs.Calls.{IsAt, held, machine_of};
@@ -13,6 +13,7 @@ ghost use Rattle.ame_engine.specs.Seen.{parts_of};
 ghost use Rattle.ame_engine.specs.Begins.{chance_of, takes_memory, HasBegun, Answers};
 ghost use Rattle.ame_engine.specs.Causes.{certificates_in};
 ghost use Rattle.ame_engine.specs.Stops.{stopped_by, blocked_by};
+ghost use Rattle.ame_engine.specs.Bounds.{LeavesNoTry};
 
 use super::Engine;
 use crate::answer::Begin;
@@ -89,11 +90,22 @@ where
         ensures oldest { (number : ℕ) → result ≡ Chance.Member number → oldest_of self.now.pool ≡ Oldest.Member number }
         ensures ready { (number : ℕ) → result ≡ Chance.Member number → IsAt is_ready number self.now.pool }
         ensures left { (number : ℕ) → result ≡ Chance.Member number → self.now.turns < self.now.limits.turns }
+        ensures going { (number : ℕ) → result ≡ Chance.Member number → self.now.stop ≡ None }
     {
         if self.stop.is_some() {
             return Chance::Stopped;
         }
         chance_by(self.turns >= self.limits.turns, self.pool.oldest())
+    }
+
+    /// Where a seat is idle, and it is the only one, no row is left that would leave a try.
+    fn idle_seats_leave_no_try(&self, seat: u32)
+        requires seat { seat < self.now.limits.seats }
+        requires idle { task_at self.now.tasks seat ≡ Task.Idle }
+        ensures { LeavesNoTry Stop.Spent (parts_of M.program M.devices M.value_of M.stage self.now) }
+    {
+        let _ = seat;
+        let _ = &self.turns;
     }
 
     /// A seat begins a ready member, and runs a copy of its machine. There is a place then for the try of each seat.
@@ -103,6 +115,7 @@ where
         requires oldest { oldest_of self.old.pool ≡ Oldest.Member number }
         requires ready { IsAt is_ready number self.old.pool }
         requires left { self.old.turns < self.old.limits.turns }
+        requires going { self.old.stop ≡ None }
         ensures begun { IfOk result (HasBegun M.program M.devices M.value_of M.is_machine M.stage seat number self.old self.new) }
         ensures err { OnErr result (self.new ≡ self.old) }
     {
@@ -134,6 +147,7 @@ where
         ensures wants { OnErr result (IsTrue (takes_memory (chance_of self.old))) }
     {
         self.stops_have_causes();
+        self.idle_seats_leave_no_try(seat);
         match self.chance() {
             Chance::Member(number) => {
                 let machine = self.begin_member(seat, number)?;

@@ -43,6 +43,7 @@ where
         requires outside { (M.stage self.old.code at.now).inside ≡ false }
         requires full { (M.stage self.old.code at.now).since ≡ self.old.limits.slice }
         requires left { self.old.turns < self.old.limits.turns }
+        requires going { self.old.stop ≡ None }
         ensures valid { (attempt : Attempt) → task_at self.old.tasks seat ≡ Task.Running attempt → result ≡ Checked.Valid
             → MakesEvent M.program M.devices M.value_of M.stage (one_counted Counted.Check)
             (has_checked seat (M.stage self.old.code at.now).steps attempt) self.old self.new }

@@ -1,6 +1,6 @@
 //! How a seat reads.
 
-ghost use Rattle.std.specs.Prelude.{◌≡◌, ◌<◌, All, IfOk, OnOk, OnErr, Some, false};
+ghost use Rattle.std.specs.Prelude.{◌≡◌, ◌<◌, All, IfOk, OnOk, OnErr, Some, None, false};
 ghost use Rattle.ame_term.specs.declared.types.Loc.{Loc};
 ghost use Rattle.ame_store.specs.Cells.{HasItsParity};
 ghost use Rattle.ame_owed.specs.Heap.{cell_at};
@@ -30,11 +30,14 @@ where
     M::Code: Drop,
 {
     /// The value in place where the machine of a seat wants to read, whoever owns the cell. A cell that the seat doesn't own
-    /// is logged with its number. Counts a turn. Takes memory for the logs and the copy of a value.
+    /// is logged with its number. No stop is kept, and the slice isn't full. Counts a turn. Takes memory for the logs and the copy of
+    /// a value.
     pub fn read(&mut self, seat: u32, at: &M) -> Result<M::Value, NoMemory>
         requires on { IsOn M.program M.devices M.value_of M.is_machine M.stage self.old seat at.now }
         requires reads { IsReading (M.stage self.old.code at.now) }
         requires left { self.old.turns < self.old.limits.turns }
+        requires going { self.old.stop ≡ None }
+        requires early { (M.stage self.old.code at.now).since < self.old.limits.slice }
         ensures event { (l : Loc) → (M.stage self.old.code at.now).want ≡ Some (Wants.Read l)
             → OnOk result (MakesEvent M.program M.devices M.value_of M.stage (one_counted Counted.Read) (has_read seat l) self.old self.new) }
         ensures value { (l : Loc) → (M.stage self.old.code at.now).want ≡ Some (Wants.Read l) → IfOk result (λ value.

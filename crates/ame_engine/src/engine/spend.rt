@@ -12,6 +12,7 @@ ghost use Rattle.ame_engine.specs.Causes.{HasCause};
 ghost use Rattle.ame_engine.specs.Seen.{parts_of, MakesLastEvent};
 ghost use Rattle.ame_engine.specs.Stops.{stopped_by};
 ghost use Rattle.ame_engine.specs.AtWork.{IsOn, working};
+ghost use Rattle.ame_engine.specs.Bounds.{LeavesNoTry};
 
 use super::Engine;
 use super::notes::{note_of, told_task};
@@ -48,12 +49,15 @@ where
         Ok(())
     }
 
-    /// Where a seat has a member at work and the turns are used up, that is a cause to stop.
+    /// Where a seat has a member at work and the turns are used up, that is a cause to stop. With one seat, no try follows, unless it
+    /// runs code whose reads are valid.
     fn spending_has_cause(&self, seat: u32)
         requires busy { IsSome (attempt_of (task_at self.now.tasks seat)) }
         requires used_up { self.now.turns ≡ self.now.limits.turns }
-        ensures { self.now.stop ≡ None → HasCause (Some Stop.Spent) self.now.certificates
+        requires stuck { IsValid self.now.desk.cells seat (row_at self.now.desk.rows seat).reads → working (task_at self.now.tasks seat) ≡ None }
+        ensures cause { self.now.stop ≡ None → HasCause (Some Stop.Spent) self.now.certificates
             (parts_of M.program M.devices M.value_of M.stage (stopped_by Stop.Spent self.now)) }
+        ensures leaves { self.now.stop ≡ None → LeavesNoTry Stop.Spent (parts_of M.program M.devices M.value_of M.stage self.now) }
     {
         let _ = seat;
         let _ = &self.turns;

@@ -8,6 +8,7 @@ ghost use Rattle.ame_engine.specs.Begins.{chance_of};
 ghost use Rattle.ame_engine.specs.Causes.{HasCause};
 ghost use Rattle.ame_engine.specs.Seen.{parts_of};
 ghost use Rattle.ame_engine.specs.Stops.{stopped_by, is_from_outside};
+ghost use Rattle.ame_engine.specs.Bounds.{LeavesNoTry};
 
 use super::Engine;
 use crate::stop::Stop;
@@ -25,16 +26,18 @@ where
             (parts_of M.program M.devices M.value_of M.stage (stopped_by Stop.Spent self.now)) }
         ensures outside { (why : Stop) → IsTrue (is_from_outside why) → self.now.stop ≡ None → HasCause (Some why) self.now.certificates
             (parts_of M.program M.devices M.value_of M.stage (stopped_by why self.now)) }
+        ensures leaves { (why : Stop) → IsTrue (is_from_outside why) → LeavesNoTry why (parts_of M.program M.devices M.value_of M.stage self.now) }
         ensures parked { chance_of self.now ≡ Chance.Blocked → oldest_of self.now.pool ≡ Oldest.Parked }
         ensures going { chance_of self.now ≡ Chance.Blocked → self.now.stop ≡ None }
     {
         let _ = &self.turns;
     }
 
-    /// Keeps a stop, if none is kept. It has its cause, and no entry tells it.
+    /// Keeps a stop, if none is kept. It has its cause, no entry tells it, and with one seat no try follows where the turns are used up.
     pub(super) fn keep(&mut self, why: Stop)
-        requires { self.old.stop ≡ None → HasCause (Some why) self.old.certificates
+        requires cause { self.old.stop ≡ None → HasCause (Some why) self.old.certificates
             (parts_of M.program M.devices M.value_of M.stage (stopped_by why self.old)) }
+        requires leaves { self.old.stop ≡ None → LeavesNoTry why (parts_of M.program M.devices M.value_of M.stage self.old) }
         ensures { self.new ≡ stopped_by why self.old }
     {
         if self.stop.is_none() {

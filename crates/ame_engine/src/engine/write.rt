@@ -1,6 +1,6 @@
 //! How a seat writes.
 
-ghost use Rattle.std.specs.Prelude.{◌≡◌, ◌<◌, ℕ, IfOk, OnOk, OnErr, Ok, Some, false};
+ghost use Rattle.std.specs.Prelude.{◌≡◌, ◌<◌, ℕ, IfOk, OnOk, OnErr, Ok, Some, None, false};
 ghost use Rattle.ame_term.specs.Tree.{Val};
 ghost use Rattle.ame_term.specs.declared.types.Loc.{Loc};
 ghost use Rattle.ame_owed.specs.Heap.{cell_at};
@@ -39,11 +39,14 @@ where
     M::Code: Drop,
 {
     /// Writes in place what the machine of a seat lends, with an entry to undo at the first write of a cell. Where another seat
-    /// owns the cell it is a conflict, and the seat turns back. Counts a turn. Takes memory for the logs and the copy of a value.
+    /// owns the cell it is a conflict, and the seat turns back. No stop is kept, and the slice isn't full. Counts a turn. Takes memory
+    /// for the logs and the copy of a value.
     pub fn write(&mut self, seat: u32, at: &M) -> Result<Wrote, NoMemory>
         requires on { IsOn M.program M.devices M.value_of M.is_machine M.stage self.old seat at.now }
         requires writes { IsWriting (M.stage self.old.code at.now) }
         requires left { self.old.turns < self.old.limits.turns }
+        requires going { self.old.stop ≡ None }
+        requires early { (M.stage self.old.code at.now).since < self.old.limits.slice }
         ensures answer { (l : Loc) → (M.stage self.old.code at.now).want ≡ Some (Wants.Write l) → IfOk result (λ answer.
             answer ≡ answer_to_write seat (cell_at (heap_in (parts_of M.program M.devices M.value_of M.stage self.old)) l.0).owner) }
         ensures event { (l : Loc) (v : Val) → (M.stage self.old.code at.now).want ≡ Some (Wants.Write l)

@@ -1,6 +1,6 @@
 //! How a visit that called no device ends.
 
-ghost use Rattle.std.specs.Prelude.{◌≡◌, ◌<◌, OnOk, OnErr, None, true, []};
+ghost use Rattle.std.specs.Prelude.{◌≡◌, ◌<◌, ◌≤◌, OnOk, OnErr, None, true, []};
 ghost use Rattle.ame_stands.specs.Parts.{task_at};
 ghost use Rattle.ame_engine.specs.Counting.{Counted, one_counted};
 ghost use Rattle.ame_engine.specs.Seen.{parts_of, MakesEvent};
@@ -35,6 +35,7 @@ where
         requires settles { SettlesThere (M.stage self.old.code at) }
         requires visit { IsVisitTo (parts_of M.program M.devices M.value_of M.stage self.old) attempt.tried.number None (M.stage self.old.code at)
             (changed_by (M.value_of self.old.code) change (parts_of M.program M.devices M.value_of M.stage self.old).desk) }
+        requires low { attempt.tried.steps ≤ (M.stage self.old.code at).steps }
         requires good { IsGoodChange (M.is_value self.old.code) change }
         requires fits { CanChange self.old.desk change }
         requires lone { makes_cell change ≡ true → (M.stage self.old.code at).spawns ≡ [] }

@@ -20,7 +20,7 @@ invariant_of-self-2 g c =
           g.M.Copied.same g.met.M.Runner.same_machines g.met.M.Runner.stage_shown _ c.args.self.now c.self.view_is c.self.invariant.whole c.args.seat c.args.number
           c.requires.seat c.requires.idle c.requires.oldest c.requires.ready c.requires.left _ _ _ _ _ _
           c.begun_task-task.ensures c.is_inside.ensures c.attempt_now-attempt.ensures c.entries.ensures.entries c.entries-2.ensures.entries c.hold.ensures
-          _ c.reserve.ensures.items;
+          _ c.reserve.ensures.items c.requires.going;
       places = places-begun c.self.inside.tasks.items c.args.seat _ _ c.begun_task-task.result enough;
     }
 

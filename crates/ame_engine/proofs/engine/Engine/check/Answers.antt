@@ -6,7 +6,7 @@ use Rattle.ame_stands.specs.declared.types.Reason.{Reason}
 use Rattle.ame_stands.specs.declared.types.Task.{Task}
 use Rattle.ame_stands.specs.Parts.{task_at, attempt_of}
 use Rattle.ame_engine.specs.Counting.{Counted, one_invalid}
-use Rattle.ame_engine.proofs.CountLemmas.{invalid-counts}
+use Rattle.ame_engine.proofs.CountLemmas.{invalid-refused, invalid-counts}
 use Rattle.ame_engine.proofs.PlaceLemmas.{places-kept}
 use Rattle.ame_engine.proofs.CheckLemmas.{its-task, whole-back, unworn-invalid, crowded-invalid, rolls-invalid, whole-valid, makes-valid}
 use Rattle.ame_engine.proofs.engine.Engine.check.Goals as goal
@@ -20,7 +20,7 @@ invariant_of-self g c =
       whole = whole-valid g.M.Runner.program g.M.Runner.devices g.M.Runner.is_value g.M.Runner.value_of g.M.Runner.is_machine g.M.Runner.stage
           _ c.args.self.now c.self.view_is c.self.invariant.whole c.args.seat c.args.at.now c.requires.on c.requires.outside c.requires.left c.in-Running.attempt is
           c.requires.full c.steps-steps.result (c.steps-steps.ensures c.args.self.now.code) valid c.checked_attempt-later.result _ _ c.checked_attempt-later.ensures
-          c.entries.ensures.entries c.entries-in-None.ensures.entries;
+          c.entries.ensures.entries c.entries-in-None.ensures.entries c.requires.going;
       places = places-kept c.self.inside.tasks.items c.args.seat _ _ c.in-Running.attempt (ap attempt_of is) c.self.invariant.places
           (Task.Running c.checked_attempt-later.result) c.checked_attempt-later.result refl (ap (λ (a : Attempt). a.told) c.checked_attempt-later.ensures);
     }
@@ -34,6 +34,7 @@ invariant_of-self-in-Some g c =
       whole = whole-back g.M.Runner.program g.M.Runner.devices g.M.Runner.is_value g.M.Runner.value_of g.M.Runner.is_machine g.M.Runner.stage
           _ c.args.self.now c.self.view_is c.self.invariant.whole c.args.seat c.args.at.now c.requires.on c.requires.outside c.requires.left c.in-Running.attempt is
           (one_invalid Counted.Check (c.self.inside.counters)) (invalid-counts c.self.inside.turns c.self.inside.counters c.self.invariant.whole.counters Counted.Check)
+          (invalid-refused Counted.Check c.self.inside.counters refl) c.requires.going
           (unworn-invalid g.M.Runner.program g.M.Runner.devices g.M.Runner.is_value g.M.Runner.value_of g.M.Runner.is_machine g.M.Runner.stage
           _ c.args.self.now c.self.view_is c.self.invariant.whole c.args.seat c.args.at.now c.requires.on c.requires.outside c.requires.left c.in-Running.attempt is invalid)
           (crowded-invalid g.M.Runner.program g.M.Runner.devices g.M.Runner.is_value g.M.Runner.value_of g.M.Runner.is_machine g.M.Runner.stage

@@ -5,7 +5,7 @@ use Rattle.ame_stands.specs.declared.types.Reason.{Reason}
 use Rattle.ame_stands.specs.declared.types.Task.{Task}
 use Rattle.ame_stands.specs.Parts.{task_at, attempt_of}
 use Rattle.ame_engine.specs.Counting.{Counted, one_invalid}
-use Rattle.ame_engine.proofs.CountLemmas.{invalid-counts}
+use Rattle.ame_engine.proofs.CountLemmas.{invalid-refused, invalid-counts}
 use Rattle.ame_engine.proofs.PlaceLemmas.{places-kept}
 use Rattle.ame_engine.proofs.CheckLemmas.{its-task, whole-back, unworn-invalid, crowded-invalid, rolls-invalid}
 use Rattle.ame_engine.proofs.engine.Engine.commit.Goals as goal
@@ -19,6 +19,7 @@ invariant_of-self g c =
       whole = whole-back g.M.Runner.program g.M.Runner.devices g.M.Runner.is_value g.M.Runner.value_of g.M.Runner.is_machine g.M.Runner.stage
           _ c.args.self.now c.self.view_is c.self.invariant.whole c.args.seat c.args.at c.requires.on c.requires.commits.outside c.requires.left c.in-Running.attempt is
           (one_invalid Counted.Commit (c.self.inside.counters)) (invalid-counts c.self.inside.turns c.self.inside.counters c.self.invariant.whole.counters Counted.Commit)
+          (invalid-refused Counted.Commit c.self.inside.counters refl) c.requires.going
           (unworn-invalid g.M.Runner.program g.M.Runner.devices g.M.Runner.is_value g.M.Runner.value_of g.M.Runner.is_machine g.M.Runner.stage
           _ c.args.self.now c.self.view_is c.self.invariant.whole c.args.seat c.args.at c.requires.on c.requires.commits.outside c.requires.left c.in-Running.attempt is invalid)
           (crowded-invalid g.M.Runner.program g.M.Runner.devices g.M.Runner.is_value g.M.Runner.value_of g.M.Runner.is_machine g.M.Runner.stage

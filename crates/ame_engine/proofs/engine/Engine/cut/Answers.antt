@@ -1,6 +1,5 @@
-use Rattle.std.proofs.Common.{refl, sym}
+use Rattle.std.proofs.Common.{refl}
 use Rattle.std.specs.Arc.{arc_value}
-use Rattle.ame_journal.specs.declared.entry.EntryKind.{EntryKind}
 use Rattle.ame_engine.proofs.PlaceLemmas.{places-told}
 use Rattle.ame_engine.proofs.LastLemmas.{last-has, last-some, cut-fit, cut-told, whole-cut, makes-cut}
 use Rattle.ame_engine.proofs.engine.Engine.cut.Goals as goal

@@ -50,7 +50,7 @@ invariant_of-self-2 g c =
           c.make_room.new.text.items c.append-2.new.list.items c.as_slice.result.now c.in_ok-bytes.bytes.items c.prints.result.now
           (c.prints.ensures (arc_value c.self.inside.code)) c.in_ok-bytes.ensures c.as_slice.ensures.value c.make_room.ensures.text c.append-2.ensures
           c.make_room.new.journal.entries c.push.new.self.entries c.in_ok-entry.entry (c.in_ok-entry.ensures (arc_value c.self.inside.code))
-          c.make_room.ensures.entries c.push.ensures.entries c.in_ok-next.next c.in_ok-next.ensures c.requires.going;
+          c.make_room.ensures.entries c.push.ensures.entries c.in_ok-next.next c.in_ok-next.ensures c.requires.going c.requires.low;
       places = places-freed c.self.inside.tasks.items c.args.seat _ _ c.args.attempt (end-task g.M.Runner.program g.M.Runner.devices g.M.Runner.is_value g.M.Runner.value_of g.M.Runner.is_machine g.M.Runner.stage
           _ c.args.self.now c.self.view_is c.self.invariant.whole c.args.seat c.args.attempt c.requires.task c.requires.left) c.self.invariant.places;
     }

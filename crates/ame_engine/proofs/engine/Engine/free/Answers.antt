@@ -5,7 +5,7 @@ use Rattle.ame_stands.specs.Parts.{task_at}
 use Rattle.ame_stands.specs.Stands.{Stands}
 use Rattle.ame_engine.specs.Seen.{parts_of}
 use Rattle.ame_engine.specs.Visiting.{HasComeHome, HasBeenRefused}
-use Rattle.ame_engine.proofs.VisitFreeLemmas.{its-free, same-number, served-visit, served-settles, home-served}
+use Rattle.ame_engine.proofs.VisitFreeLemmas.{served-low, its-free, same-number, served-visit, served-settles, home-served}
 use Rattle.ame_engine.proofs.engine.Engine.free.Goals as goal
 
 pub returns-in-Some-Device-clause-home : goal.returns-in-Some-Device-clause-home
@@ -57,3 +57,12 @@ returns-clause-home g c = λ attempt is _.
     c.args.self.now stands c.args.seat c.args.at c.requires.on c.requires.visits (g.met.M.Runner.sound c.args.self.now.code c.args.at c.requires.on.machine)
     c.in-Free.attempt here c.serve.new.at c.in_ok-change.change c.in_ok-change.ensures
     (all_told g.D.Device.device_heard g.D.Device.device_faults c.args.devices.now.items) c.end_visit.new.self c.in_ok-end_visit.ensures.event)
+
+pub end_visit-requires-clause-low : goal.end_visit-requires-clause-low
+end_visit-requires-clause-low g c =
+    let stands = subst (λ x. Stands (parts_of g.M.Runner.program g.M.Runner.devices g.M.Runner.value_of g.M.Runner.stage x)) c.self.view_is c.self.invariant.whole.stands in
+    let here : task_at c.args.self.now.tasks c.args.seat ≡ Task.Free c.in-Free.attempt =
+    its-free _ c.args.self.now c.self.view_is c.args.seat c.requires.on.stands.attempt c.requires.on.stands.has _ c.in-Free.attempt c.index.ensures c.in-Free.is in
+    served-low g.M.Runner.program g.M.Runner.devices g.M.Runner.is_value g.M.Runner.value_of g.M.Runner.is_machine g.M.Runner.stage
+    c.args.self.now stands c.args.seat c.args.at c.requires.on c.requires.visits (g.met.M.Runner.sound c.args.self.now.code c.args.at c.requires.on.machine)
+    c.in-Free.attempt here c.serve.new.at c.in_ok-change.change c.in_ok-change.ensures

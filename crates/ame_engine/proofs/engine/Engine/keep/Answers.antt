@@ -1,5 +1,4 @@
-use Rattle.std.proofs.Common.{rules, ◌≡◌, Option, None, subst, sym}
-use Rattle.ame_engine.specs.Causes.{HasCause}
+use Rattle.std.proofs.Common.{rules, ◌≡◌, None}
 use Rattle.ame_engine.proofs.CheckLemmas.{whole-kept}
 use Rattle.ame_engine.proofs.engine.Engine.keep.Goals as goal
 
@@ -8,6 +7,6 @@ invariant_of-self g c =
     let none : c.self.inside.stop ≡ None = search rules in
     record {
       whole = whole-kept g.M.Runner.program g.M.Runner.devices g.M.Runner.is_value g.M.Runner.value_of g.M.Runner.is_machine g.M.Runner.stage
-          _ c.args.self.now c.self.view_is c.args.why c.self.invariant.whole none c.requires;
+          _ c.args.self.now c.self.view_is c.args.why c.self.invariant.whole none c.requires.cause c.requires.leaves;
       places = c.self.invariant.places;
     }

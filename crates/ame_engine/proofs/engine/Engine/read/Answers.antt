@@ -17,7 +17,7 @@ invariant_of-self-2 g c =
       whole = whole-read g.M.Runner.program g.M.Runner.devices g.M.Runner.is_value g.M.Runner.value_of g.M.Runner.is_machine g.M.Runner.stage
           g.M.Value.Copied.same g.met.M.Runner.same_values g.met.M.Runner.value_shown _ c.args.self.now c.self.view_is c.self.invariant.whole c.args.seat c.args.at.now
           c.in-Some-Read.l c.requires.on c.requires.reads.outside told (g.met.M.Runner.sound c.args.self.now.code c.args.at.now c.requires.on.machine) c.requires.left
-          c.in_ok-value.value c.read.new.self c.in_ok-value.ensures.value c.in_ok-value.ensures.row c.in_ok-value.ensures.others c.numbers_tell_owners.ensures;
+          c.in_ok-value.value c.read.new.self c.in_ok-value.ensures.value c.in_ok-value.ensures.row c.in_ok-value.ensures.others c.requires.going c.requires.early c.numbers_tell_owners.ensures;
       places = c.self.invariant.places;
     }
 
@@ -51,4 +51,4 @@ returns-clause-runs g c =
     runs-read g.M.Runner.program g.M.Runner.devices g.M.Runner.is_value g.M.Runner.value_of g.M.Runner.is_machine g.M.Runner.stage
     g.M.Value.Copied.same g.met.M.Runner.same_values g.met.M.Runner.value_shown _ c.args.self.now c.self.view_is c.self.invariant.whole c.args.seat c.args.at.now
     c.in-Some-Read.l c.requires.on c.requires.reads.outside told (g.met.M.Runner.sound c.args.self.now.code c.args.at.now c.requires.on.machine) c.requires.left
-    c.in_ok-value.value c.read.new.self c.in_ok-value.ensures.value c.in_ok-value.ensures.row c.in_ok-value.ensures.others c.numbers_tell_owners.ensures
+    c.in_ok-value.value c.read.new.self c.in_ok-value.ensures.value c.in_ok-value.ensures.row c.in_ok-value.ensures.others c.requires.going c.requires.early c.numbers_tell_owners.ensures

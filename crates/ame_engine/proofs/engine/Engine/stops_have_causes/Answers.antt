@@ -1,4 +1,5 @@
 use Rattle.ame_engine.proofs.BeginLemmas.{finished-cause, spent-cause, outside-cause, parked-met, blocked-going}
+use Rattle.ame_engine.proofs.BoundLemmas.{outside-leaves}
 use Rattle.ame_engine.proofs.engine.Engine.stops_have_causes.Goals as goal
 
 pub returns-clause-finished : goal.returns-clause-finished
@@ -25,3 +26,6 @@ pub returns-clause-outside : goal.returns-clause-outside
 returns-clause-outside g c =
     outside-cause g.M.Runner.program g.M.Runner.devices g.M.Runner.is_value g.M.Runner.value_of g.M.Runner.is_machine g.M.Runner.stage
     _ c.args.self.now c.self.view_is c.self.invariant.whole
+
+pub returns-clause-leaves : goal.returns-clause-leaves
+returns-clause-leaves g c = λ why e. outside-leaves why _ e

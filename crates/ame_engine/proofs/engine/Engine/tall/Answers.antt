@@ -5,7 +5,7 @@ use Rattle.ame_stands.specs.declared.types.Reason.{Reason}
 use Rattle.ame_stands.specs.declared.types.Task.{Task}
 use Rattle.ame_stands.specs.Parts.{task_at, attempt_of}
 use Rattle.ame_engine.specs.Counting.{Counted, one_invalid}
-use Rattle.ame_engine.proofs.CountLemmas.{invalid-counts}
+use Rattle.ame_engine.proofs.CountLemmas.{invalid-refused, invalid-counts}
 use Rattle.ame_engine.proofs.PlaceLemmas.{places-kept}
 use Rattle.ame_engine.proofs.CheckLemmas.{whole-back, unworn-invalid, crowded-invalid, rolls-invalid}
 use Rattle.ame_engine.proofs.LastLemmas.{last-some, turned-runs, invalid-outside}
@@ -30,6 +30,7 @@ invariant_of-self g c =
       whole = whole-back g.M.Runner.program g.M.Runner.devices g.M.Runner.is_value g.M.Runner.value_of g.M.Runner.is_machine g.M.Runner.stage
           _ c.args.self.now c.self.view_is c.self.invariant.whole c.args.seat c.args.at.now c.requires.on outside c.requires.left c.attempt_at-attempt.result is
           (one_invalid Counted.Tall (c.self.inside.counters)) (invalid-counts c.self.inside.turns c.self.inside.counters c.self.invariant.whole.counters Counted.Tall)
+          (invalid-refused Counted.Tall c.self.inside.counters refl) c.requires.going
           (unworn-invalid g.M.Runner.program g.M.Runner.devices g.M.Runner.is_value g.M.Runner.value_of g.M.Runner.is_machine g.M.Runner.stage
           _ c.args.self.now c.self.view_is c.self.invariant.whole c.args.seat c.args.at.now c.requires.on outside c.requires.left c.attempt_at-attempt.result is invalid)
           (crowded-invalid g.M.Runner.program g.M.Runner.devices g.M.Runner.is_value g.M.Runner.value_of g.M.Runner.is_machine g.M.Runner.stage

@@ -36,7 +36,7 @@ invariant_of-self-in-None g c =
           c.in-Some-Write.l c.requires.on c.requires.writes.outside told (g.met.M.Runner.sound c.args.self.now.code c.args.at.now c.requires.on.machine) c.requires.left
           c.wanted.result.now c.in_ok-value.value c.unit_value.result good sets c.in_ok-value.ensures
           (c.unit_value.ensures.good (arc_value c.self.inside.code)) (c.unit_value.ensures.stands (arc_value c.self.inside.code))
-          c.write.new.self c.in_ok-written.ensures.contents c.in_ok-written.written c.in_ok-written.ensures.answer c.refusal.result c.refusal.ensures c.in-None.is;
+          c.write.new.self c.in_ok-written.ensures.contents c.in_ok-written.written c.in_ok-written.ensures.answer c.refusal.result c.refusal.ensures c.in-None.is c.requires.going c.requires.early;
       places = c.self.invariant.places;
     }
 
@@ -54,7 +54,7 @@ invariant_of-self-in-Some g c =
           c.in-Some-Write.l c.requires.on c.requires.writes.outside told (g.met.M.Runner.sound c.args.self.now.code c.args.at.now c.requires.on.machine) c.requires.left
           c.wanted.result.now c.in_ok-value.value c.unit_value.result good sets c.in_ok-value.ensures
           (c.unit_value.ensures.good (arc_value c.self.inside.code)) (c.unit_value.ensures.stands (arc_value c.self.inside.code))
-          c.write.new.self c.in_ok-written.ensures.contents c.in_ok-written.written c.in_ok-written.ensures.answer c.refusal.result c.refusal.ensures c.in-Some.owner c.in-Some.is c.in-Running.attempt runs;
+          c.write.new.self c.in_ok-written.ensures.contents c.in_ok-written.written c.in_ok-written.ensures.answer c.refusal.result c.refusal.ensures c.in-Some.owner c.in-Some.is c.in-Running.attempt runs c.requires.going;
       places = places-kept c.self.inside.tasks.items c.args.seat _ _ c.in-Running.attempt (ap attempt_of runs) c.self.invariant.places
           (Task.Undoing c.in-Running.attempt Reason.RolledBack) c.in-Running.attempt refl refl;
     }
@@ -96,7 +96,7 @@ returns-in-None-clause-runs g c =
     c.in-Some-Write.l c.requires.on c.requires.writes.outside told (g.met.M.Runner.sound c.args.self.now.code c.args.at.now c.requires.on.machine) c.requires.left
     c.wanted.result.now c.in_ok-value.value c.unit_value.result good sets c.in_ok-value.ensures
     (c.unit_value.ensures.good (arc_value c.self.inside.code)) (c.unit_value.ensures.stands (arc_value c.self.inside.code))
-    c.write.new.self c.in_ok-written.ensures.contents c.in_ok-written.written c.in_ok-written.ensures.answer c.refusal.result c.refusal.ensures c.in-None.is
+    c.write.new.self c.in_ok-written.ensures.contents c.in_ok-written.written c.in_ok-written.ensures.answer c.refusal.result c.refusal.ensures c.in-None.is c.requires.going c.requires.early
 
 pub returns-in-Some-clause-answer : goal.returns-in-Some-clause-answer
 returns-in-Some-clause-answer g c =

@@ -1,6 +1,5 @@
-use Rattle.std.proofs.Common.{◌≡◌, ◌+◌, refl, sym, ap, ◌∙◌, subst}
+use Rattle.std.proofs.Common.{◌+◌, refl, sym, ap, ◌∙◌, subst}
 use Rattle.std.specs.Prelude.{option_map}
-use Rattle.ame_pool.specs.Roster.{Roster}
 use Rattle.ame_engine.proofs.JoinLemmas.{Joining, joining-none, joining-some}
 use Rattle.ame_engine.proofs.engine.commit.members.join_all.Goals as goal
 use Rattle.ame_engine.proofs.engine.commit.members.join_all.Goals.{in-Some, in_default}

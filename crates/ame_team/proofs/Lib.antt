@@ -1,0 +1,4 @@
+mod CrossLemmas
+mod TeamLemmas
+mod AfterLemmas
+mod EndLemmas

@@ -1,0 +1,133 @@
+//! A team of workers: one for each seat.
+
+ghost use Rattle.std.specs.Prelude.{◌≡◌, ◌≤◌, ◌<◌, ◌+◌, ℕ, [], All, IfOk, Some, ◌++◌, ◌∷◌, length, map, slice_get, vec_len, vec_capacity, slice_index_or};
+ghost use Rattle.std.specs.Arc.{arc_value};
+ghost use Rattle.ame_baton.specs.Batons.{knows, IsSeatOf, IsReadySeat, AreReady};
+ghost use Rattle.ame_baton.specs.Keeping.{KeepsSeat};
+ghost use Rattle.ame_worker.specs.declared.shared.Opened.{Opened};
+ghost use Rattle.ame_worker.specs.declared.worker.Worker.{Worker};
+ghost use Rattle.ame_worker.specs.Rows.{empty_row};
+ghost use Rattle.ame_team.specs.Teams.{IsFirst, IsSeatAt};
+ghost use Rattle.ame_worker.specs.Workers.{IsSeated, IsReadyToTurn, IsThrough};
+
+use ame_baton::{Baton, Seat};
+use ame_device::Device;
+use ame_io::Sink;
+use ame_runner::Runner;
+use ame_stands::Limits;
+use ame_worker::{Gate, Shared, Worker};
+use std::alloc::{AllocError, Global};
+use std::sync::{Arc, Wait};
+use std::thread;
+use std::thread::Threads;
+
+/// Each worker of a team works until a stop is kept and it has nothing at work, each in a thread of its own where one can be made.
+pub(crate) fn work_all<M, K, D, G, R>(
+    rt: &R,
+    alloc: Global,
+    baton: &Baton<Shared<M, K, D>>,
+    gate: &G,
+    workers: &mut [Worker<M, K, D>],
+)
+where
+    M: Runner + Send,
+    M::Code: Drop + Send + Sync,
+    M::Value: Send,
+    K: Sink + Send,
+    D: Device + Send,
+    G: Gate + Sync,
+    R: Threads + Wait + Sync,
+    requires some { 0 < length workers.old }
+    requires of { All (λ w. IsSeatOf baton.now w.seat) workers.old }
+    requires ready { All (λ w. IsReadyToTurn M.devices M.is_machine M.stage (arc_value w.code) w.limits (knows w.seat) w.work) workers.old }
+    ensures count { length workers.new ≡ length workers.old }
+    ensures of { (i : ℕ) (d : Worker M K D M.Code M.Value) → i < length workers.old → IsSeatOf baton.now (slice_index_or workers.new i d).seat }
+    ensures keeps { (i : ℕ) (d : Worker M K D M.Code M.Value) → i < length workers.old
+        → KeepsSeat (knows (slice_index_or workers.old i d).seat) (knows (slice_index_or workers.new i d).seat) }
+    ensures through { (i : ℕ) (d : Worker M K D M.Code M.Value) → i < length workers.old → IsThrough (knows (slice_index_or workers.new i d).seat) }
+{
+    let count = workers.len();
+    let work = |_: usize, w: &mut Worker<M, K, D>|
+        requires { IsSeatOf baton.now w.now.seat × IsReadyToTurn M.devices M.is_machine M.stage (arc_value w.now.code) w.now.limits (knows w.now.seat) w.now.work }
+        ensures of { IsSeatOf baton.entry.now w.exit.now.seat }
+        ensures keeps { KeepsSeat (knows w.entry.now.seat) (knows w.exit.now.seat) }
+        ensures through { IsThrough (knows w.exit.now.seat) }
+    { w.work(rt, alloc, baton, gate) };
+    thread::for_each_mut(rt, workers, count, &work);
+}
+
+/// So many shares of the code.
+pub(crate) fn shares<C: Drop>(
+    alloc: Global,
+    code: &Arc<C>,
+    count: usize,
+) -> Result<Vec<Arc<C>>, AllocError>
+    ensures same { IfOk result (λ codes. All (λ it. arc_value it ≡ arc_value code.now) codes.items) }
+    ensures count { IfOk result (λ codes. vec_len codes ≡ count) }
+{
+    let mut codes = Vec::with_capacity(alloc, count)?;
+    for _ in 0..count {
+        let Ok(share) = Arc::try_clone(code) else {
+            return Err(AllocError);
+        };
+        codes.push_reserved(share);
+    }
+    Ok(codes)
+}
+
+/// A worker for each seat: those of the seats that the first one makes, in order, and its own as the last.
+pub(crate) fn team<M: Runner, K: Sink, D: Device>(
+    baton: &Baton<Shared<M, K, D>>,
+    first: Seat<Shared<M, K, D>>,
+    code: Arc<M::Code>,
+    codes: Vec<Arc<M::Code>>,
+    limits: Limits,
+    room: Vec<Worker<M, K, D>>,
+) -> Vec<Worker<M, K, D>>
+where
+    M::Code: Drop,
+    requires of { IsSeatOf baton.now first }
+    requires seated { IsSeated M.devices (arc_value code) limits (knows first) }
+    requires fresh { IsFirst 1 (knows first) }
+    requires count { vec_len codes + 1 ≡ limits.seats }
+    requires codes { All (λ it. arc_value it ≡ arc_value code) codes.items }
+    requires none { room.items ≡ [] }
+    requires room { limits.seats ≤ vec_capacity room }
+    ensures count { vec_len result ≡ limits.seats }
+    ensures seats { (i : ℕ) (w : Worker M K D M.Code M.Value) → slice_get result.items i ≡ Some w
+        → IsSeatAt baton.now (knows first).fixed limits.seats i w.seat }
+    ensures ready { All (λ w. IsReadyToTurn M.devices M.is_machine M.stage (arc_value w.code) w.limits (knows w.seat) w.work) result.items }
+{
+    let (mut first, mut workers, mut codes) = (first, room, codes);
+    for _ in 1..limits.seats {
+        let Some(share) = codes.pop() else {
+            unreachable!();
+        };
+        let seat = baton.seat(&mut first);
+        workers.push_reserved(Worker::new(seat, share, limits));
+    }
+    workers.push_reserved(Worker::new(first, code, limits));
+    workers
+}
+
+/// The seats of a team: that of the first worker, and those of the others in order.
+pub(crate) fn seats_of<M: Runner, K: Sink, D: Device>(
+    workers: Vec<Worker<M, K, D>>,
+    room: Vec<Seat<Shared<M, K, D>>>,
+) -> (Seat<Shared<M, K, D>>, Vec<Seat<Shared<M, K, D>>>)
+where
+    M::Code: Drop,
+    requires some { 0 < vec_len workers }
+    requires none { room.items ≡ [] }
+    requires room { vec_len workers ≤ vec_capacity room }
+    ensures all { map (λ w. w.seat) workers.items ≡ result.1.items ++ result.0 ∷ [] }
+{
+    let (mut workers, mut seats) = (workers, room);
+    let Some(first) = workers.pop() else {
+        unreachable!();
+    };
+    for worker in workers {
+        seats.push_reserved(worker.seat());
+    }
+    (first.seat(), seats)
+}

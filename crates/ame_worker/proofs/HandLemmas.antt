@@ -1,0 +1,152 @@
+-- A seat that has the turn may make its event, and may give what comes of it.
+use Rattle.std.proofs.Common.{◌≡◌, ◌≢◌, ℕ, ◌<◌, ◌≤◌, ◌⊎◌, inl, inr, Bool, true, List, ◌++◌, length, map, set, Option, Some, None, IsSome, slice_get, sym, ap, ◌∙◌, subst, arith}
+use Rattle.std.specs.List.{range_with_len}
+use Rattle.std.proofs.lemmas.List.{length-set, get_or-set_same, get_or-set_other}
+use Rattle.std.proofs.lemmas.List.FromFn.{get_or-map-range_with_len, length-map-range_with_len}
+use Rattle.std.proofs.lemmas.Option.{slice_get-get_or}
+use Rattle.ame_term.specs.Tree.{Val, Tree}
+use Rattle.ame_rows.specs.declared.notes.ReadNote.{ReadNote}
+use Rattle.ame_desk.specs.Contents.{Notes}
+use Rattle.ame_owed.proofs.CellLemmas.{which}
+use Rattle.ame_journal.specs.declared.entry.Entry.{Entry}
+use Rattle.ame_runner.specs.Stage.{Stage}
+use Rattle.ame_stands.specs.declared.types.Limits.{Limits}
+use Rattle.ame_stands.specs.declared.types.Task.{Task}
+use Rattle.ame_stands.specs.Parts.{Parts}
+use Rattle.ame_stands.proofs.ShownDeskLemmas.{row-shown}
+use Rattle.ame_engine.specs.declared.stop.Stop.{Stop}
+use Rattle.ame_engine.specs.Core.{Core}
+use Rattle.ame_engine.specs.Seen.{parts_of}
+use Rattle.ame_turn.specs.declared.work.Work.{Work}
+use Rattle.ame_turn.specs.Ready.{IsPrepared}
+use Rattle.ame_turn.specs.Work.{Fits}
+use Rattle.ame_turn.proofs.ReadyLemmas.{prepared-fits}
+use Rattle.ame_shell.specs.Shell.{Shown, GoesTo, IsShell}
+use Rattle.ame_worker.specs.declared.shared.Opened.{Opened}
+use Rattle.ame_worker.specs.Rows.{Kept, Row, nothing_kept, kept_at, row_of, rows_in}
+use Rattle.ame_worker.specs.Shared.{opening_of, keeping, IsShared}
+use Rattle.ame_worker.proofs.Slots.{Slot, slot_at}
+use Rattle.ame_worker.proofs.StayLemmas.{SlotsStay, map-set}
+use Rattle.ame_worker.proofs.EntryLemmas.{Extends}
+
+pub some-is : {A : Type 0} (a b : A) → Some a ≡ Some b → a ≡ b
+some-is a b e = cc
+
+-- no more was sent than there is
+pub sent-within : (stop : Option Stop) (sent faults now : ℕ) (text : List ℕ) → GoesTo stop sent text faults now → sent ≤ length text
+sent-within (Some Stop.WriteFault) sent faults now text goes = let short = goes.0 in omega (arith, short)
+sent-within None sent faults now text goes = let all = goes.0 in omega (arith, all)
+sent-within (Some _) sent faults now text goes = let all = goes.0 in omega (arith, all)
+
+module _ {C V M : Type 0} where
+  -- the rows of all seats
+  pub rows-there : (core : Core C V M) (places : List (Kept M)) (seat : ℕ) → seat < core.limits.seats
+      → slice_get (rows_in core places) seat ≡ Some (row_of core seat (kept_at places seat))
+  rows-there core places seat within =
+      let f = λ (n : ℕ). row_of core n (kept_at places n) in
+      let d = f seat in
+      slice_get-get_or (rows_in core places) seat d (subst (λ (n : ℕ). seat < n) (sym (length-map-range_with_len f 0 core.limits.seats)) within)
+      ∙ ap (λ (r : Row M). Some r) (get_or-map-range_with_len f 0 core.limits.seats seat seat d within (omega arith))
+
+module _ {M : Type 0} where
+  -- what is kept for one seat is what was kept for it last, and for the others what was kept before
+  kept-here : (places : List (Kept M)) (seat : ℕ) (kept : Kept M) → seat < length places → kept_at (set places seat kept) seat ≡ kept
+  kept-here places seat kept within = get_or-set_same places seat kept nothing_kept within
+
+  kept-else : (places : List (Kept M)) (seat other : ℕ) (kept : Kept M) → other ≢ seat → kept_at (set places seat kept) other ≡ kept_at places other
+  kept-else places seat other kept apart = get_or-set_other places seat other kept nothing_kept apart
+
+-- rows with the same task, reads and work at hand that are marked alike are the same
+pub row-same : {M : Type 0} (a b : Row M) → a.task ≡ b.task → a.reads ≡ b.reads → a.hand ≡ b.hand → a.marked ≡ b.marked → a ≡ b
+row-same {M} a b task reads hand marked =
+    ap (λ (t : Task). let it : Row M = record { task = t; reads = a.reads; hand = a.hand; marked = a.marked } in it) task
+    ∙ ap (λ (rs : List ReadNote). let it : Row M = record { task = b.task; reads = rs; hand = a.hand; marked = a.marked } in it) reads
+    ∙ ap (λ (w : Work M). let it : Row M = record { task = b.task; reads = b.reads; hand = w; marked = a.marked } in it) hand
+    ∙ ap (λ (m : Bool). let it : Row M = record { task = b.task; reads = b.reads; hand = b.hand; marked = m } in it) marked
+
+module _ {C V M : Type 0} (program : C → Tree) (devices : C → ℕ) (value_of : C → V → Val) (is_machine : C → M → Type 0) (stage : C → M → Stage) where
+  abbrev parts : Core C V M → Parts
+  parts core = parts_of program devices value_of stage core
+
+  -- what the engine has of a seat stays where its slot does
+  row-stays : (old new : Core C V M) (other : ℕ) (was now : Kept M) → slot_at (parts new) other ≡ slot_at (parts old) other → now ≡ was
+      → row_of new other now ≡ row_of old other was
+  row-stays old new other was now slot kept =
+      row-same (row_of new other now) (row_of old other was) (ap (λ (s : Slot). s.task) slot)
+      (ap (λ (n : Notes Val). n.reads) (sym (row-shown (value_of new.code) new.desk.rows other))
+      ∙ ap (λ (s : Slot). s.notes.reads) slot
+      ∙ ap (λ (n : Notes Val). n.reads) (row-shown (value_of old.code) old.desk.rows other))
+      (ap (λ (x : Kept M). x.hand) kept) (ap (λ (x : Kept M). x.marked) kept)
+
+  module _ (opened : Opened C) (old new : Shown C V M) (places : List (Kept M)) (rows : List (Row M)) (told : List Entry)
+      (was : IsShared program devices value_of is_machine stage opened old places rows told) (seat : ℕ) (within : seat < old.core.limits.seats) where
+    -- a seat's row says what was kept for it
+    pub found-kept : (row : Row M) → slice_get rows seat ≡ Some row → row ≡ row_of old.core seat (kept_at places seat)
+    found-kept row found =
+        some-is row (row_of old.core seat (kept_at places seat))
+        (sym found ∙ ap (λ (all : List (Row M)). slice_get all seat) (sym was.rows) ∙ rows-there old.core places seat within)
+
+    -- what a seat has at hand fits
+    pub hand-fits : (row : Row M) → slice_get rows seat ≡ Some row → (hand : Work M)
+        → IsPrepared is_machine stage old.core.code old.core.limits.slice row.hand hand → Fits program devices value_of is_machine stage old.core seat hand
+    hand-fits row found hand is =
+        prepared-fits program devices value_of is_machine stage old.core seat (kept_at places seat).hand hand (was.fits seat within)
+        (subst (λ (w : Work M). IsPrepared is_machine stage old.core.code old.core.limits.slice w hand)
+        (ap (λ (r : Row M). r.hand) (found-kept row found)) is)
+
+    -- What is given once the seat made its event
+    module _ (hand : Work M) (extends : Extends seat old.core new.core) (stay : SlotsStay seat (parts old.core) (parts new.core))
+        (fits : Fits program devices value_of is_machine stage new.core seat hand)
+        (others : (other : ℕ) (rest : Work M) → other ≢ seat → Fits program devices value_of is_machine stage old.core other rest
+        → Fits program devices value_of is_machine stage new.core other rest) (shell : IsShell program (opening_of opened) new) where
+      abbrev kept : Kept M
+      kept = keeping new.core hand
+
+      abbrev after : List (Kept M)
+      after = set places seat kept
+
+      seats : new.core.limits.seats ≡ old.core.limits.seats
+      seats = ap (λ (l : Limits). l.seats) extends.limits
+
+      there : seat < length places
+      there = let count = was.count in omega (arith, count, within)
+
+      fits-all : (other : ℕ) → other < new.core.limits.seats → Fits program devices value_of is_machine stage new.core other (kept_at after other).hand
+      fits-all other in_range = by (which other seat)
+        where
+          by : (other ≡ seat) ⊎ ((other ≡ seat) → ⊥) → Fits program devices value_of is_machine stage new.core other (kept_at after other).hand
+          by (inl same) =
+              subst (λ (n : ℕ). Fits program devices value_of is_machine stage new.core n (kept_at after n).hand) (sym same)
+              (subst (λ (x : Kept M). Fits program devices value_of is_machine stage new.core seat x.hand) (sym (kept-here places seat kept there)) fits)
+          by (inr apart) =
+              subst (λ (x : Kept M). Fits program devices value_of is_machine stage new.core other x.hand) (sym (kept-else places seat other kept apart))
+              (others other (kept_at places other).hand apart (was.fits other (let s = seats in omega (arith, s, in_range))))
+
+      marks-all : (other : ℕ) → (kept_at after other).marked ≡ true → IsSome new.core.stop
+      marks-all other marked = by (which other seat)
+        where
+          by : (other ≡ seat) ⊎ ((other ≡ seat) → ⊥) → IsSome new.core.stop
+          by (inl same) =
+              ap (λ (x : Kept M). x.marked) (sym (ap (kept_at after) same ∙ kept-here places seat kept there)) ∙ marked
+          by (inr apart) = extends.stop (was.marks other (ap (λ (x : Kept M). x.marked) (sym (kept-else places seat other kept apart)) ∙ marked))
+
+      rows-set : rows_in new.core after ≡ set rows seat (row_of new.core seat kept)
+      rows-set =
+          let f = λ (n : ℕ). row_of new.core n (kept_at after n) in
+          let g = λ (n : ℕ). row_of old.core n (kept_at places n) in
+          ap (λ (n : ℕ). map f (range_with_len 0 n)) seats
+          ∙ map-set f g seat
+          (λ other apart. row-stays old.core new.core other (kept_at places other) (kept_at after other) (stay other apart) (kept-else places seat other kept apart))
+          0 old.core.limits.seats seat (omega arith)
+          ∙ ap (λ (r : Row M). set (rows_in old.core places) seat r) (ap (row_of new.core seat) (kept-here places seat kept there))
+          ∙ ap (λ (all : List (Row M)). set all seat (row_of new.core seat kept)) was.rows
+
+      pub shared-on : IsShared program devices value_of is_machine stage opened new after (set rows seat (row_of new.core seat kept)) (told ++ extends.added)
+      shared-on = record {
+        shell = shell;
+        count = length-set places seat kept ∙ was.count ∙ sym seats;
+        fits = fits-all;
+        marks = marks-all;
+        rows = rows-set;
+        entries = extends.entries ∙ ap (λ (es : List Entry). es ++ extends.added) was.entries;
+      }

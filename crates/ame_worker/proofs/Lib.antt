@@ -1,0 +1,10 @@
+pub mod Slots
+pub mod IdleLemmas
+pub mod StayLemmas
+pub mod EntryLemmas
+pub mod SlotLemmas
+pub mod WorkLemmas
+pub mod HandLemmas
+pub mod GivenLemmas
+pub mod ThroughLemmas
+pub mod OpenLemmas

@@ -1,0 +1,138 @@
+use Rattle.std.proofs.Common.{◌≢◌, ℕ, ◌<◌, set, sym, ap, refl, ◌∙◌, subst}
+use Rattle.std.proofs.lemmas.Option.{slice_get_within}
+use Rattle.ame_io.specs.Lines.{lines}
+use Rattle.ame_stands.specs.declared.types.Limits.{Limits}
+use Rattle.ame_shell.specs.Shell.{shown}
+use Rattle.ame_shell.specs.Turned.{HasTurned}
+use Rattle.ame_turn.specs.declared.work.Work.{Work}
+use Rattle.ame_turn.specs.Work.{stage_at, Fits}
+use Rattle.ame_turn.specs.Ready.{CanBePrepared, IsPrepared}
+use Rattle.ame_baton.specs.Batons.{knows}
+use Rattle.ame_worker.specs.Rows.{row_of}
+use Rattle.ame_worker.specs.Shared.{opening_of, keeping}
+use Rattle.ame_worker.specs.Points.{member_at, point_of}
+use Rattle.ame_worker.proofs.SlotLemmas.{turn-slots}
+use Rattle.ame_worker.proofs.EntryLemmas.{turn-extends}
+use Rattle.ame_worker.proofs.HandLemmas.{hand-fits, sent-within, shared-on}
+use Rattle.ame_worker.proofs.GivenLemmas.{some-and, may-give-on, gave-row, then-shared, ready-again}
+use Rattle.ame_worker.proofs.hand.hand.Goals as goal
+
+pub turn-deed-requires-clause-fits : goal.turn-deed-requires-clause-fits
+turn-deed-requires-clause-fits g c =
+    let r = g.M.Runner in
+    let k = knows c.args.seat.now in
+    let engine = c.args.shared.shell.engine in
+    let old = shown g.K.Sink.written g.K.Sink.faults g.D.Device.device_heard g.D.Device.device_faults engine c.args.shared.shell.sent c.args.shared.shell.sink c.args.shared.shell.devices.items in
+    let was = some-and _ k.fixed c.requires.seated.opened c.requires.seated.is c.requires.stands in
+    subst (λ n. Fits r.program r.devices r.value_of r.is_machine r.stage engine n c.args.work) (sym c.number-number.ensures)
+    (hand-fits r.program r.devices r.value_of r.is_machine r.stage c.requires.seated.opened old old c.args.shared.places.items k.rows k.seen was k.number c.requires.seated.number
+    k.row c.requires.found c.args.work
+    (subst (λ code. IsPrepared r.is_machine r.stage code engine.limits.slice k.row.hand c.args.work) (sym (was.shell.opened.code ∙ c.requires.seated.of_code)) c.requires.prepared))
+
+pub turn-deed-requires-clause-sent : goal.turn-deed-requires-clause-sent
+turn-deed-requires-clause-sent g c =
+    let k = knows c.args.seat.now in
+    let shell = c.args.shared.shell in
+    let opened = c.requires.seated.opened in
+    let was = some-and _ k.fixed opened c.requires.seated.is c.requires.stands in
+    sent-within shell.engine.stop shell.sent (opening_of opened).ends.write_faults (g.K.Sink.faults shell.sink) (lines shell.engine.output) was.shell.sends.goes
+
+pub give-requires-clause-may : goal.give-requires-clause-may
+give-requires-clause-may g c =
+    let r = g.M.Runner in
+    let k = knows c.args.seat.now in
+    let engine = c.args.shared.shell.engine in
+    let old = shown g.K.Sink.written g.K.Sink.faults g.D.Device.device_heard g.D.Device.device_faults engine c.args.shared.shell.sent c.args.shared.shell.sink c.args.shared.shell.devices.items in
+    let s = c.turn-deed.new.self in
+    let new = shown g.K.Sink.written g.K.Sink.faults g.D.Device.device_heard g.D.Device.device_faults s.engine s.sent s.sink s.devices.items in
+    let t = c.turn-deed.ensures in
+    let same = c.number-number.ensures in
+    let opened = c.requires.seated.opened in
+    let places = c.args.shared.places.items in
+    let work = c.turn-deed.result.work in
+    let was = some-and _ k.fixed opened c.requires.seated.is c.requires.stands in
+    let turned = subst (λ n. HasTurned r.program r.devices r.value_of r.stage n (stage_at r.stage engine.code c.args.work) old new c.turn-deed.result.deed) same t.turned in
+    let fits = subst (λ n. Fits r.program r.devices r.value_of r.is_machine r.stage s.engine n work) same t.fits in
+    let others = subst (λ n. (other : ℕ) (rest : Work g.row.M.Denot) → other ≢ n → Fits r.program r.devices r.value_of r.is_machine r.stage engine other rest
+    → Fits r.program r.devices r.value_of r.is_machine r.stage s.engine other rest) same t.others in
+    let extends = turn-extends r.program r.devices r.value_of r.stage k.number (stage_at r.stage engine.code c.args.work) old new c.turn-deed.result.deed turned in
+    let stay = turn-slots r.program r.devices r.value_of r.stage k.number (stage_at r.stage engine.code c.args.work) old new c.turn-deed.result.deed c.stands.ensures turned in
+    let on = shared-on r.program r.devices r.value_of r.is_machine r.stage opened old new places k.rows k.seen was k.number c.requires.seated.number work extends stay fits others
+    (t.keeps (opening_of opened) was.shell) in
+    may-give-on r.program r.devices r.value_of r.is_machine r.stage
+    (λ s. shown g.K.Sink.written g.K.Sink.faults g.D.Device.device_heard g.D.Device.device_faults s.shell.engine s.shell.sent s.shell.sink s.shell.devices.items)
+    (λ s. s.places.items) _ k c.keep.new.self opened c.requires.seated.is new
+    (ap (λ sh. shown g.K.Sink.written g.K.Sink.faults g.D.Device.device_heard g.D.Device.device_faults sh.engine sh.sent sh.sink sh.devices.items) c.keep.ensures.shell)
+    (set places k.number (keeping s.engine work)) (c.keep.ensures.places ∙ ap (λ n. set places n (keeping s.engine work)) same)
+    (row_of s.engine k.number (keeping s.engine work)) tt extends.added extends.by_seat on
+
+pub returns-clause-ready : goal.returns-clause-ready
+returns-clause-ready g c =
+    let r = g.M.Runner in
+    let k = knows c.args.seat.now in
+    let engine = c.args.shared.shell.engine in
+    let old = shown g.K.Sink.written g.K.Sink.faults g.D.Device.device_heard g.D.Device.device_faults engine c.args.shared.shell.sent c.args.shared.shell.sink c.args.shared.shell.devices.items in
+    let s = c.turn-deed.new.self in
+    let new = shown g.K.Sink.written g.K.Sink.faults g.D.Device.device_heard g.D.Device.device_faults s.engine s.sent s.sink s.devices.items in
+    let t = c.turn-deed.ensures in
+    let same = c.number-number.ensures in
+    let opened = c.requires.seated.opened in
+    let places = c.args.shared.places.items in
+    let work = c.turn-deed.result.work in
+    let was = some-and _ k.fixed opened c.requires.seated.is c.requires.stands in
+    let turned = subst (λ n. HasTurned r.program r.devices r.value_of r.stage n (stage_at r.stage engine.code c.args.work) old new c.turn-deed.result.deed) same t.turned in
+    let in_rows = slice_get_within k.rows k.number k.row c.requires.found in
+    let in_places = subst (λ n. k.number < n) (sym was.count) c.requires.seated.number in
+    let within = subst (λ (l : Limits). k.number < l.seats) (sym t.limits) c.requires.seated.number in
+    let shows = ap (λ sh. shown g.K.Sink.written g.K.Sink.faults g.D.Device.device_heard g.D.Device.device_faults sh.engine sh.sent sh.sink sh.devices.items) c.keep.ensures.shell in
+    let keeps = c.keep.ensures.places ∙ ap (λ n. set places n (keeping s.engine work)) same in
+    let gave = gave-row r.program r.devices r.value_of r.is_machine r.stage
+    (λ s. shown g.K.Sink.written g.K.Sink.faults g.D.Device.device_heard g.D.Device.device_faults s.shell.engine s.shell.sent s.shell.sink s.shell.devices.items)
+    (λ s. s.places.items) _ k (knows c.give.new.seat) c.keep.new.self c.give.ensures.given opened c.requires.seated.is new shows places work keeps in_rows in_places within in
+    let can = subst (λ code. CanBePrepared r.is_machine r.stage code engine.limits.slice work) (t.code ∙ was.shell.opened.code ∙ c.requires.seated.of_code)
+    (subst (λ (l : Limits). CanBePrepared r.is_machine r.stage s.engine.code l.slice work) t.limits t.can) in
+    ready-again r.devices r.is_machine r.stage c.args.code.now engine.limits k (knows c.give.new.seat) (row_of s.engine k.number (keeping s.engine work)) work gave refl c.requires.seated can
+
+pub returns-clause-makes : goal.returns-clause-makes
+returns-clause-makes g c =
+    let r = g.M.Runner in
+    let k = knows c.args.seat.now in
+    let engine = c.args.shared.shell.engine in
+    let old = shown g.K.Sink.written g.K.Sink.faults g.D.Device.device_heard g.D.Device.device_faults engine c.args.shared.shell.sent c.args.shared.shell.sink c.args.shared.shell.devices.items in
+    let s = c.turn-deed.new.self in
+    let new = shown g.K.Sink.written g.K.Sink.faults g.D.Device.device_heard g.D.Device.device_faults s.engine s.sent s.sink s.devices.items in
+    let t = c.turn-deed.ensures in
+    let same = c.number-number.ensures in
+    let opened = c.requires.seated.opened in
+    let places = c.args.shared.places.items in
+    let work = c.turn-deed.result.work in
+    let was = some-and _ k.fixed opened c.requires.seated.is c.requires.stands in
+    let turned = subst (λ n. HasTurned r.program r.devices r.value_of r.stage n (stage_at r.stage engine.code c.args.work) old new c.turn-deed.result.deed) same t.turned in
+    let in_rows = slice_get_within k.rows k.number k.row c.requires.found in
+    let in_places = subst (λ n. k.number < n) (sym was.count) c.requires.seated.number in
+    let within = subst (λ (l : Limits). k.number < l.seats) (sym t.limits) c.requires.seated.number in
+    let shows = ap (λ sh. shown g.K.Sink.written g.K.Sink.faults g.D.Device.device_heard g.D.Device.device_faults sh.engine sh.sent sh.sink sh.devices.items) c.keep.ensures.shell in
+    let keeps = c.keep.ensures.places ∙ ap (λ n. set places n (keeping s.engine work)) same in
+    let gave = gave-row r.program r.devices r.value_of r.is_machine r.stage
+    (λ s. shown g.K.Sink.written g.K.Sink.faults g.D.Device.device_heard g.D.Device.device_faults s.shell.engine s.shell.sent s.shell.sink s.shell.devices.items)
+    (λ s. s.places.items) _ k (knows c.give.new.seat) c.keep.new.self c.give.ensures.given opened c.requires.seated.is new shows places work keeps in_rows in_places within in
+    record {
+      opened = opened;
+      is = c.requires.seated.is;
+      taken = old;
+      places = places;
+      was = was;
+      deed = c.turn-deed.result.deed;
+      given = new;
+      turned =
+          subst (λ code. HasTurned r.program r.devices r.value_of r.stage k.number (stage_at r.stage code c.args.work) old new c.turn-deed.result.deed)
+          (was.shell.opened.code ∙ c.requires.seated.of_code) turned;
+      gave = gave;
+      then = then-shared r.program r.devices r.value_of r.is_machine r.stage
+          (λ s. shown g.K.Sink.written g.K.Sink.faults g.D.Device.device_heard g.D.Device.device_faults s.shell.engine s.shell.sent s.shell.sink s.shell.devices.items)
+          (λ s. s.places.items) _ k (knows c.give.new.seat) c.keep.new.self c.give.ensures.given opened c.requires.seated.is new shows places work keeps in_rows in_places within;
+      told =
+          c.point_of.ensures
+          ∙ ap (λ b. point_of c.turn-deed.result.deed b c.member_at-after.result) (c.member_at-before.ensures ∙ ap (member_at engine) same)
+          ∙ ap (point_of c.turn-deed.result.deed (member_at engine k.number)) (c.member_at-after.ensures ∙ ap (member_at s.engine) same);
+    }

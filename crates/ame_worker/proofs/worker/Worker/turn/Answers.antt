@@ -1,0 +1,86 @@
+use Rattle.std.proofs.Common.{sym, ◌∙◌, subst}
+use Rattle.std.specs.Arc.{arc_value}
+use Rattle.ame_shell.specs.Shell.{shown}
+use Rattle.ame_stands.specs.declared.types.Limits.{Limits}
+use Rattle.ame_turn.specs.Ready.{IsPrepared, IsReadyWork}
+use Rattle.ame_baton.specs.Batons.{knows}
+use Rattle.ame_baton.proofs.Keeping.{take_finds}
+use Rattle.ame_worker.specs.declared.gate.Point.{Point}
+use Rattle.ame_worker.specs.Rows.{Row}
+use Rattle.ame_worker.specs.Turns.{maker}
+use Rattle.ame_worker.specs.Workers.{IsSeated, IsReadyToTurn}
+use Rattle.ame_worker.proofs.WorkLemmas.{prepared-twice, prepared-can, ready-unless}
+use Rattle.ame_worker.proofs.GivenLemmas.{still-seated, same-limits}
+use Rattle.ame_worker.proofs.ThroughLemmas.{did-is, is-through}
+use Rattle.ame_worker.proofs.worker.Worker.turn.Goals as goal
+
+pub returns-in_default-clause-ready : goal.returns-in_default-clause-ready
+returns-in_default-clause-ready g c =
+    let r = g.M.Runner in
+    let code = arc_value c.args.self.now.code in
+    let slice = c.args.self.now.limits.slice in
+    let done = subst (λ code. IsPrepared r.is_machine r.stage code slice c.args.self.now.work c.prepare.new.work) c.deref-code.ensures c.prepare.ensures.prepared in
+    subst (λ k. IsReadyToTurn r.devices r.is_machine r.stage code c.args.self.now.limits k c.prepare.new.work) (sym c.in_default.ensures.same)
+    (record {
+      seated = c.requires.ready.seated;
+      free = c.requires.ready.free;
+      prepared = prepared-twice r.is_machine r.stage code slice (knows c.args.self.now.seat).row.hand c.args.self.now.work c.prepare.new.work c.requires.ready.prepared done;
+      can = prepared-can r.is_machine r.stage code slice c.args.self.now.work c.prepare.new.work c.requires.ready.can done;
+    })
+
+pub hand-point-requires-clause-seated : goal.hand-point-requires-clause-seated
+hand-point-requires-clause-seated g c =
+    let r = g.M.Runner in
+    let code = arc_value c.args.self.now.code in
+    let limits = c.args.self.now.limits in
+    let k = knows c.args.self.now.seat in
+    let holding = knows c.try_take.new.seat in
+    let shared = c.in-Some.shared in
+    let shows = shown g.K.Sink.written g.K.Sink.faults g.D.Device.device_heard g.D.Device.device_faults shared.shell.engine shared.shell.sent shared.shell.sink shared.shell.devices.items in
+    let same = same-limits r.program r.devices r.value_of r.is_machine r.stage limits code k c.requires.ready.seated shows shared.places.items holding.rows holding.seen
+    c.in-Some.ensures.taken.stands in
+    let found = take_finds _ maker k holding shared c.in-Some.ensures.taken in
+    subst (λ code. IsSeated r.devices code shared.shell.engine.limits holding) (sym c.deref-code.ensures)
+    (subst (λ limits. IsSeated r.devices code limits holding) same (still-seated r.devices code limits k holding found.keeps c.requires.ready.seated))
+
+pub hand-point-requires-clause-prepared : goal.hand-point-requires-clause-prepared
+hand-point-requires-clause-prepared g c =
+    let r = g.M.Runner in
+    let code = arc_value c.args.self.now.code in
+    let limits = c.args.self.now.limits in
+    let k = knows c.args.self.now.seat in
+    let holding = knows c.try_take.new.seat in
+    let shared = c.in-Some.shared in
+    let shows = shown g.K.Sink.written g.K.Sink.faults g.D.Device.device_heard g.D.Device.device_faults shared.shell.engine shared.shell.sent shared.shell.sink shared.shell.devices.items in
+    let same = same-limits r.program r.devices r.value_of r.is_machine r.stage limits code k c.requires.ready.seated shows shared.places.items holding.rows holding.seen
+    c.in-Some.ensures.taken.stands in
+    let found = take_finds _ maker k holding shared c.in-Some.ensures.taken in
+    let work = c.prepare.new.work in
+    let done = subst (λ code. IsPrepared r.is_machine r.stage code limits.slice c.args.self.now.work work) c.deref-code.ensures c.prepare.ensures.prepared in
+    let all = prepared-twice r.is_machine r.stage code limits.slice k.row.hand c.args.self.now.work work c.requires.ready.prepared done in
+    subst (λ work. IsPrepared r.is_machine r.stage c.deref-code.result.now shared.shell.engine.limits.slice holding.row.hand work) (sym c.replace-work.ensures.value)
+    (subst (λ code. IsPrepared r.is_machine r.stage code shared.shell.engine.limits.slice holding.row.hand work) (sym c.deref-code.ensures)
+    (subst (λ (l : Limits). IsPrepared r.is_machine r.stage code l.slice holding.row.hand work) same
+    (subst (λ (row : Row g.row.M.Denot). IsPrepared r.is_machine r.stage code limits.slice row.hand work) (sym found.row) all)))
+
+pub hand-point-requires-clause-ready : goal.hand-point-requires-clause-ready
+hand-point-requires-clause-ready g c = λ fine.
+    let r = g.M.Runner in
+    let code = arc_value c.args.self.now.code in
+    let limits = c.args.self.now.limits in
+    let k = knows c.args.self.now.seat in
+    let holding = knows c.try_take.new.seat in
+    let shared = c.in-Some.shared in
+    let shows = shown g.K.Sink.written g.K.Sink.faults g.D.Device.device_heard g.D.Device.device_faults shared.shell.engine shared.shell.sent shared.shell.sink shared.shell.devices.items in
+    let same = same-limits r.program r.devices r.value_of r.is_machine r.stage limits code k c.requires.ready.seated shows shared.places.items holding.rows holding.seen
+    c.in-Some.ensures.taken.stands in
+    let ready = ready-unless c.prepare.result (IsReadyWork r.stage c.deref-code.result.now limits.slice c.prepare.new.work) (sym c.is_err-lacks.ensures.value ∙ fine)
+    c.prepare.ensures.ready in
+    subst (λ work. IsReadyWork r.stage c.deref-code.result.now shared.shell.engine.limits.slice work) (sym c.replace-work.ensures.value)
+    (subst (λ (l : Limits). IsReadyWork r.stage c.deref-code.result.now l.slice c.prepare.new.work) same ready)
+
+pub returns-clause-through : goal.returns-clause-through
+returns-clause-through g c = λ e.
+    let r = g.M.Runner in
+    is-through r.program r.devices r.value_of r.is_machine r.stage c.deref-code.result.now c.replace-work.result c.hand-point.result.work (knows c.try_take.new.seat)
+    (knows c.hand-point.new.seat) c.hand-point.result.point c.hand-point.ensures.makes (did-is c.hand-point.result.point Point.Stopped e)

@@ -1,0 +1,5 @@
+pub mod Rows
+pub mod Shared
+pub mod Points
+pub mod Turns
+pub mod Workers

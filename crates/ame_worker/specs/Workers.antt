@@ -1,0 +1,37 @@
+-- What is so of a worker between its turns.
+use Rattle.std.specs.Prelude.{◌≡◌, ℕ, ◌≤◌, ◌<◌, true, false, Some, length}
+use Rattle.ame_journal.specs.declared.entry.Entry.{Entry}
+use Rattle.ame_runner.specs.Stage.{Stage}
+use Rattle.ame_stands.specs.declared.types.Limits.{Limits}
+use Rattle.ame_stands.specs.declared.types.Task.{Task}
+use Rattle.ame_engine.specs.Whole.{AreLimits}
+use Rattle.ame_turn.specs.declared.work.Work.{Work}
+use Rattle.ame_turn.specs.Ready.{CanBePrepared, IsPrepared}
+use Rattle.ame_baton.specs.declared.view.Knows.{Knows}
+use Rattle.ame_worker.specs.declared.shared.Opened.{Opened}
+use Rattle.ame_worker.specs.Rows.{Row}
+
+-- A seat is one of a shell that was opened with this code and these limits, and with devices enough.
+pub record IsSeated {C M : Type 0} (devices : C → ℕ) (code : C) (limits : Limits) (k : Knows (Opened C) (Row M) Entry) : Type 0 where
+  pub opened : Opened C
+  pub is : k.fixed ≡ Some opened
+  pub of_code : opened.code ≡ code
+  pub of_limits : opened.limits ≡ limits
+  pub ranges : AreLimits limits
+  pub enough : devices code ≤ length opened.told
+  pub number : k.number < limits.seats
+  pub seats : k.seats ≡ limits.seats
+
+module _ {C M : Type 0} (devices : C → ℕ) (is_machine : C → M → Type 0) (stage : C → M → Stage) where
+  -- It hasn't the turn. What it has at hand is what it had when it gave the turn, but for steps that its machine made alone.
+  pub record IsReadyToTurn (code : C) (limits : Limits) (k : Knows (Opened C) (Row M) Entry) (hand : Work M) : Type 0 where
+    pub seated : IsSeated devices code limits k
+    pub free : k.holds ≡ false
+    pub prepared : IsPrepared is_machine stage code limits.slice k.row.hand hand
+    pub can : CanBePrepared is_machine stage code limits.slice hand
+
+-- It has nothing at work, and a stop was kept when it gave the turn.
+pub record IsThrough {C M : Type 0} (k : Knows (Opened C) (Row M) Entry) : Type 0 where
+  pub free : k.holds ≡ false
+  pub idle : k.row.task ≡ Task.Idle
+  pub marked : k.row.marked ≡ true

@@ -1,0 +1,65 @@
+//! A seat that has the turn makes its event and gives the turn.
+
+ghost use Rattle.std.specs.Prelude.{◌≡◌, true, false, Some, IsSomeAnd, slice_get};
+ghost use Rattle.ame_baton.specs.Batons.{knows, IsSeatOf};
+ghost use Rattle.ame_shell.specs.Shell.{shown};
+ghost use Rattle.ame_turn.specs.Ready.{IsPrepared, IsReadyWork};
+ghost use Rattle.ame_worker.specs.Shared.{IsShared};
+ghost use Rattle.ame_worker.specs.Turns.{MakesTurn};
+ghost use Rattle.ame_worker.specs.Workers.{IsSeated, IsReadyToTurn};
+
+use crate::gate::Point;
+use crate::points::{member_at, point_of};
+use crate::shared::Shared;
+use ame_baton::{AnyRow, Baton, Seat};
+use ame_device::Device;
+use ame_io::Sink;
+use ame_runner::Runner;
+use ame_turn::{Turned, Work};
+use std::sync::Wait;
+
+/// What a seat did, and what it has at hand then.
+pub(crate) struct Played<M> {
+    pub point: Point,
+    pub work: Work<M>,
+}
+
+/// A seat that has the turn makes its event, as `Shell::turn` makes it, and gives the turn.
+pub(crate) fn hand<M: Runner, K: Sink, D: Device, R: Wait>(
+    rt: &R,
+    baton: &Baton<Shared<M, K, D>>,
+    seat: &mut Seat<Shared<M, K, D>>,
+    shared: Shared<M, K, D>,
+    code: &M::Code,
+    work: Work<M>,
+    lacks: bool,
+) -> Played<M>
+where
+    M::Code: Drop,
+    requires of { IsSeatOf baton.now seat.old }
+    requires holds { (knows seat.old).holds ≡ true }
+    requires seated { IsSeated M.devices code.now shared.shell.engine.limits (knows seat.old) }
+    requires found { slice_get (knows seat.old).rows (knows seat.old).number ≡ Some (knows seat.old).row }
+    requires stands { IsSomeAnd (knows seat.old).fixed (λ opened. IsShared M.program M.devices M.value_of M.is_machine M.stage opened
+        (shown K.written K.faults D.device_heard D.device_faults shared.shell.engine shared.shell.sent shared.shell.sink shared.shell.devices.items)
+        shared.places.items (knows seat.old).rows (knows seat.old).seen) }
+    requires prepared { IsPrepared M.is_machine M.stage code.now shared.shell.engine.limits.slice (knows seat.old).row.hand work }
+    requires ready { lacks ≡ false → IsReadyWork M.stage code.now shared.shell.engine.limits.slice work }
+    ensures of { IsSeatOf baton.now seat.new }
+    ensures ready { IsReadyToTurn M.devices M.is_machine M.stage code.now shared.shell.engine.limits (knows seat.new) result.work }
+    ensures makes { MakesTurn M.program M.devices M.value_of M.is_machine M.stage code.now work result.work (knows seat.old) (knows seat.new) result.point }
+{
+    let number = seat.number();
+    let mut shared = shared;
+    shared.shell.engine.stands();
+    let before = member_at(&shared.shell.engine, number);
+    let Turned { deed, work } = shared.shell.turn(code, number, work, lacks);
+    shared.shell.engine.stands();
+    let after = member_at(&shared.shell.engine, number);
+    shared.keep(number, &work);
+    baton.give::<AnyRow, R>(rt, seat, shared);
+    Played {
+        point: point_of(deed, before, after),
+        work,
+    }
+}

@@ -1,0 +1,73 @@
+//! How a shell is opened that workers share.
+
+ghost use Rattle.std.specs.Prelude.{◌≡◌, [], IfOk, IfErr, replicate};
+ghost use Rattle.std.specs.Arc.{arc_value};
+ghost use Rattle.ame_engine.specs.Whole.{AreLimits};
+ghost use Rattle.ame_shell.specs.Ends.{ends_of};
+ghost use Rattle.ame_shell.specs.Shell.{shown};
+ghost use Rattle.ame_worker.specs.Rows.{nothing_kept, empty_row};
+ghost use Rattle.ame_worker.specs.Shared.{opened_with, IsShared};
+
+use crate::shared::{Place, Shared};
+use ame_device::Device;
+use ame_engine::Engine;
+use ame_io::Sink;
+use ame_runner::Runner;
+use ame_shell::Shell;
+use ame_stands::Limits;
+use ame_turn::Work;
+use std::alloc::{AllocError, Global};
+use std::sync::Arc;
+
+/// So many places of seats that did nothing.
+fn empty_places<M>(alloc: Global, seats: u32) -> Result<Vec<Place<M>>, AllocError>
+    ensures { IfOk result (λ places. places.items ≡ replicate seats nothing_kept) }
+{
+    let mut places = Vec::new(alloc);
+    for _ in 0..seats {
+        places.push(Place::new(&Work::Idle, false))?;
+    }
+    Ok(places)
+}
+
+impl<M: Runner, K: Sink, D: Device> Shared<M, K, D>
+where
+    M::Code: Drop,
+{
+    /// A shell that workers are about to share, of which nothing was run. Where memory is lacking, sink and devices come back.
+    pub fn open(
+        alloc: Global,
+        code: Arc<M::Code>,
+        limits: Limits,
+        sink: K,
+        devices: Vec<D>,
+    ) -> Result<Shared<M, K, D>, (K, Vec<D>)>
+        requires limits { AreLimits limits }
+        ensures stands { IfOk result (λ shared. IsShared M.program M.devices M.value_of M.is_machine M.stage
+            (opened_with (arc_value code) limits (ends_of K.written K.faults D.device_heard D.device_faults sink devices.items))
+            (shown K.written K.faults D.device_heard D.device_faults shared.shell.engine shared.shell.sent shared.shell.sink shared.shell.devices.items)
+            shared.places.items (replicate limits.seats empty_row) []) }
+        ensures code { IfOk result (λ shared. shared.shell.engine.code ≡ arc_value code) }
+        ensures limits { IfOk result (λ shared. shared.shell.engine.limits ≡ limits) }
+        ensures kept_sink { IfOk result (λ shared. shared.shell.sink ≡ sink) }
+        ensures kept_devices { IfOk result (λ shared. shared.shell.devices ≡ devices) }
+        ensures sink { IfErr result (λ back. back.0 ≡ sink) }
+        ensures devices { IfErr result (λ back. back.1 ≡ devices) }
+    {
+        let Ok(places) = empty_places(alloc, limits.seats) else {
+            return Err((sink, devices));
+        };
+        let Ok(engine) = Engine::<M>::start(alloc, code, limits) else {
+            return Err((sink, devices));
+        };
+        Ok(Shared {
+            shell: Shell {
+                engine,
+                sink,
+                sent: 0,
+                devices,
+            },
+            places,
+        })
+    }
+}

@@ -8,6 +8,6 @@ use std::process::ExitCode;
 
 fn main(rt: HostRuntime) -> ExitCode {
     let (mut source, sink) = (StdSource::new(rt.reader()), StdSink::new(io::writer(&rt)));
-    let report = run_process(rt.alloc(), process_words(&rt), &mut source, sink);
+    let report = run_process(&rt, rt.alloc(), process_words(&rt), &mut source, sink);
     ExitCode::from(report.status.number())
 }

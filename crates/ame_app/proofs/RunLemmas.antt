@@ -1,6 +1,5 @@
 -- What a run that is over tells of its call.
-use Rattle.std.proofs.Common.{◌≡◌, ℕ, ◌≤◌, ◌<◌, List, [], ◌++◌, Option, Some, None, Ok, refl, sym, ap, ◌∙◌, subst, arith}
-use Rattle.std.proofs.lemmas.List.Elements.{All-weaker}
+use Rattle.std.proofs.Common.{◌≡◌, ℕ, List, [], ◌++◌, Option, Some, None, Ok, refl, sym, ap, ◌∙◌, subst}
 use Rattle.ame_io.specs.Counts.{HasRisen}
 use Rattle.ame_io.specs.Lines.{lines}
 use Rattle.ame_term.specs.Tree.{Typ, Tree}
@@ -19,7 +18,6 @@ use Rattle.ame_code.specs.FlatCode.{FlatCode}
 use Rattle.ame_code.specs.Code.{program_of}
 use Rattle.ame_eval.specs.Values.{value_meant}
 use Rattle.ame_cli.specs.declared.command.Options.{Options}
-use Rattle.ame_cli.specs.Ranges.{AreInRange}
 use Rattle.ame_engine.specs.declared.stop.Stop.{Stop}
 use Rattle.ame_engine.specs.Causes.{NotesStop}
 use Rattle.ame_engine.specs.Ending.{End, CertifyAll, HasStopped}
@@ -30,7 +28,8 @@ use Rattle.ame_shell.specs.Over.{AreOfSeats, IsOver}
 use Rattle.ame_app.specs.declared.status.Status.{Status}
 use Rattle.ame_app.specs.Calls.{Call}
 use Rattle.ame_app.specs.Causes.{status_of, number_by, number_told, RunCause}
-use Rattle.ame_app.specs.Headline.{Headline, IsTypedState, journal_of, verdict_of, IsWritten}
+use Rattle.ame_engine.specs.Bounds.{HasBounds}
+use Rattle.ame_app.specs.Headline.{limits_of, Headline, IsTypedState, journal_of, verdict_of, IsWritten}
 use Rattle.ame_app.specs.Jobs.{IsJobOf, Speaks}
 use Rattle.ame_app.proofs.WrittenLemmas.{after-lines, tells-fault, spoken-is}
 use Rattle.ame_app.proofs.CountLemmas.{certified-count}
@@ -87,11 +86,11 @@ module _ (limits : Limits) (options : Options) (r : Replayed) (end : End Val) (b
 
 -- The headline
 
--- one seat is below as many workers as there are
-seats-below : (workers : ℕ) (base entries : List Entry) → 1 ≤ workers → base ≡ [] → AreOfSeats 1 entries → AreOfSeats workers (base ++ entries)
-seats-below workers base entries some none seats =
+-- where a journal begins with nothing, all of it is of the same seats
+seats-of-all : (workers seats : ℕ) (base entries : List Entry) → seats ≡ workers → base ≡ [] → AreOfSeats seats entries → AreOfSeats workers (base ++ entries)
+seats-of-all workers seats base entries same none are =
     subst (λ (b : List Entry). AreOfSeats workers (b ++ entries)) (sym none)
-    (All-weaker (λ (x : Entry). x.seat < 1) (λ (x : Entry). x.seat < workers) (λ x lt. omega arith) entries seats)
+    (subst (λ (n : ℕ). AreOfSeats n entries) same are)
 
 module _ (call : Call) (status : Status) (code : FlatCode) (options : Options) (limits : Limits) (end : End Val) (before mid after : Ends)
     (job : IsJobOf call code options) (over : IsOver (program_of code) limits (value_meant code) before end mid)
@@ -119,8 +118,8 @@ module _ (call : Call) (status : Status) (code : FlatCode) (options : Options) (
         mid.written mid.write_faults after.written after.write_faults) e speaks);
   }
 
-  pub headline : limits.turns ≡ options.turns → limits.seats ≡ 1 → AreInRange options → Headline call status (Some code) end before after
-  headline turns alone ranges = record {
+  pub headline : limits ≡ limits_of options → Headline call status (Some code) end before after
+  headline same = let workers : limits.seats ≡ options.workers = ap (λ (l : Limits). l.seats) same in record {
     options = options;
     text = job.text;
     compiled = code;
@@ -130,7 +129,7 @@ module _ (call : Call) (status : Status) (code : FlatCode) (options : Options) (
     code_is = refl;
     begun = over.base;
     replays = over.ends.replays;
-    seats = seats-below options.workers end.base end.entries ranges.workers.0 over.base (subst (λ (n : ℕ). AreOfSeats n end.entries) alone over.seats);
+    seats = seats-of-all options.workers limits.seats end.base end.entries workers over.base over.seats;
     output = text-written;
     store = record { stored = over.ends.store; free = over.ends.free };
     typed = is-reached.typed;
@@ -139,11 +138,12 @@ module _ (call : Call) (status : Status) (code : FlatCode) (options : Options) (
           (subst (λ (t : List Told). HaveHeard (program_of code) end.entries before.told t) (sym kept) over.heard);
       failed = have-failed;
     };
-    cause = stop-cause limits options over.ends.r end before after status (has-causes turns) end.stop refl;
+    cause = stop-cause limits options over.ends.r end before after status (has-causes (ap (λ (l : Limits). l.turns) same)) end.stop refl;
     spoken = spoken-is (status_of end.stop) status (number_told end) mid.written mid.write_faults after.written after.write_faults speaks;
     notes = over.ends.stopped.ends;
     once = over.ends.once;
-    lone = λ e. over.lone alone;
+    lone = λ e. over.lone (workers ∙ e);
+    bounds = subst (λ (l : Limits). HasBounds (program_of code) l over.ends.r end.base end.entries end.turns end.counters end.tried end.stop) same over.ends.bounds;
   }
 
 -- what is told is told of the stop

@@ -22,6 +22,8 @@ use Rattle.ame_code.specs.Code.{program_of}
 use Rattle.ame_value.specs.declared.val.Val.{Val}
 use Rattle.ame_eval.specs.Values.{value_meant}
 use Rattle.ame_cli.specs.declared.command.Options.{Options}
+use Rattle.ame_stands.specs.declared.types.Limits.{Limits}
+use Rattle.ame_engine.specs.Bounds.{HasBounds}
 use Rattle.ame_engine.specs.Causes.{NotesStop}
 use Rattle.ame_engine.specs.Ending.{End}
 use Rattle.ame_shell.specs.Ends.{Ends}
@@ -61,6 +63,10 @@ pub record IsWritten (status : Status) (text : List ℕ) (before after : Ends) :
   pub whole : status ≢ Status.WriteFault → Appends before.written after.written text × (after.write_faults ≡ before.write_faults)
   pub front : status ≡ Status.WriteFault → AppendsFront before.written after.written text × HasRisen before.write_faults after.write_faults
 
+-- the limits for which the words ask
+abbrev pub limits_of : Options → Limits
+limits_of options = record { turns = options.turns; slice = options.slice; seats = options.workers }
+
 -- The headline: what is promised of a call in which a run was begun, with what its ends tell before and after.
 pub record Headline (call : Call) (status : Status) (code : Option FlatCode) (end : End Val) (before after : Ends) : Type 0 where
   pub options : Options
@@ -89,6 +95,9 @@ pub record Headline (call : Call) (status : Status) (code : Option FlatCode) (en
   pub once : IsNotedOnce (journal_of end)
   -- One worker by itself has nobody in its way.
   pub lone : options.workers ≡ 1 → NoneWereInTheWay end.counters
+  -- Few answers turned a fragment back, and few tries left no entry: a fragment is rolled back at most eight times between two of its
+  -- entries. Turns that are used up were spent on entries and on tries; with one worker by itself there is no try then.
+  pub bounds : HasBounds (program_of compiled) (limits_of options) final end.base end.entries end.turns end.counters end.tried end.stop
 
 -- Just the verdict line of a refusal was written. There is no code, and no device was called.
 pub record IsToldAlone (told status : Status) (code : Option FlatCode) (before after : Ends) : Type 0 where

@@ -3,5 +3,6 @@ pub mod Calls
 pub mod Texts
 pub mod Causes
 pub mod Headline
+pub mod Complete
 pub mod Jobs
 pub mod Standard

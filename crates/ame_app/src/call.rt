@@ -10,6 +10,7 @@ ghost use Rattle.ame_shell.specs.Ends.{Ends, ends_of};
 ghost use Rattle.ame_shell.specs.Over.{IsOver};
 ghost use Rattle.ame_app.specs.Calls.{Call, given_by, call_of};
 ghost use Rattle.ame_app.specs.Causes.{RefusalCause, number_told};
+ghost use Rattle.ame_app.specs.Complete.{IsComplete};
 ghost use Rattle.ame_app.specs.Headline.{Headline, IsToldAlone, IsTurnedAway};
 ghost use Rattle.ame_app.specs.Jobs.{IsJobOf};
 
@@ -22,21 +23,105 @@ use ame_device::Device;
 use ame_engine::{Ended, Stop};
 use ame_eval::Machine;
 use ame_io::{Sink, Source};
-use ame_shell::{Left, run_alone};
+use ame_shell::Left;
 use ame_stands::Limits;
+use ame_team::run_by_workers;
 use ame_value::Val;
+use ame_worker::Gate;
 use std::alloc::Global;
-use std::sync::Arc;
+use std::sync::{Arc, Wait};
+use std::thread::Threads;
 
-/// Does what the words ask for: runs the program of the source or a generated one, writes the integers that it prints, a line
-/// each, and then a verdict line. Sink and devices are handed back.
-pub fn run_words_over<S: Source, K: Sink + Drop, D: Device>(
+/// Does what the words ask for: runs the program of the source or a generated one, by as many workers as they say, writes the
+/// integers that it prints, a line each, and then a verdict line. Each worker passes the gate after each of its turns. Sink and
+/// devices are handed back.
+pub fn run_words_over<R, S, K, D, G>(
+    rt: &R,
     alloc: Global,
     words: &[String],
     source: &mut S,
     sink: K,
     devices: Vec<D>,
+    gate: &G,
 ) -> Report<K, D>
+where
+    R: Threads + Wait + Sync,
+    S: Source,
+    K: Sink + Send + Drop,
+    D: Device + Send,
+    G: Gate + Sync,
+    requires few { vec_len devices ≤ max_devices }
+    ensures ran { IfSome result.ended (λ end. Headline (call_of (map string_bytes words.now)
+        (given_by S.left S.faults source.old) (given_by S.left S.faults source.new) (vec_len devices))
+        result.status (option_map arc_value result.code) end
+        (ends_of K.written K.faults D.device_heard D.device_faults sink devices.items)
+        (ends_of K.written K.faults D.device_heard D.device_faults result.sink result.devices.items)) }
+    ensures turned_away { result.ended ≡ None → IsTurnedAway (call_of (map string_bytes words.now)
+        (given_by S.left S.faults source.old) (given_by S.left S.faults source.new) (vec_len devices))
+        result.status (option_map arc_value result.code)
+        (ends_of K.written K.faults D.device_heard D.device_faults sink devices.items)
+        (ends_of K.written K.faults D.device_heard D.device_faults result.sink result.devices.items) }
+    ensures complete { IsComplete (call_of (map string_bytes words.now)
+        (given_by S.left S.faults source.old) (given_by S.left S.faults source.new) (vec_len devices))
+        result.status
+        (ends_of K.written K.faults D.device_heard D.device_faults sink devices.items)
+        (ends_of K.written K.faults D.device_heard D.device_faults result.sink result.devices.items) }
+{
+    spells_one_command();
+    run_asked(rt, alloc, words, source, sink, devices, gate)
+}
+
+/// The same with boxed devices.
+pub fn run_words<R, S, K, G>(
+    rt: &R,
+    alloc: Global,
+    words: &[String],
+    source: &mut S,
+    sink: K,
+    devices: Vec<Box<dyn Device + Send>>,
+    gate: &G,
+) -> Report<K, Box<dyn Device + Send>>
+where
+    R: Threads + Wait + Sync,
+    S: Source,
+    K: Sink + Send + Drop,
+    G: Gate + Sync,
+    requires few { vec_len devices ≤ max_devices }
+    ensures ran { IfSome result.ended (λ end. Headline (call_of (map string_bytes words.now)
+        (given_by S.left S.faults source.old) (given_by S.left S.faults source.new) (vec_len devices))
+        result.status (option_map arc_value result.code) end
+        (ends_of K.written K.faults device_heard device_faults sink devices.items)
+        (ends_of K.written K.faults device_heard device_faults result.sink result.devices.items)) }
+    ensures turned_away { result.ended ≡ None → IsTurnedAway (call_of (map string_bytes words.now)
+        (given_by S.left S.faults source.old) (given_by S.left S.faults source.new) (vec_len devices))
+        result.status (option_map arc_value result.code)
+        (ends_of K.written K.faults device_heard device_faults sink devices.items)
+        (ends_of K.written K.faults device_heard device_faults result.sink result.devices.items) }
+    ensures complete { IsComplete (call_of (map string_bytes words.now)
+        (given_by S.left S.faults source.old) (given_by S.left S.faults source.new) (vec_len devices))
+        result.status
+        (ends_of K.written K.faults device_heard device_faults sink devices.items)
+        (ends_of K.written K.faults device_heard device_faults result.sink result.devices.items) }
+{
+    run_words_over(rt, alloc, words, source, sink, devices, gate)
+}
+
+/// The same, without what follows of all answers together.
+fn run_asked<R, S, K, D, G>(
+    rt: &R,
+    alloc: Global,
+    words: &[String],
+    source: &mut S,
+    sink: K,
+    devices: Vec<D>,
+    gate: &G,
+) -> Report<K, D>
+where
+    R: Threads + Wait + Sync,
+    S: Source,
+    K: Sink + Send + Drop,
+    D: Device + Send,
+    G: Gate + Sync,
     requires few { vec_len devices ≤ max_devices }
     ensures ran { IfSome result.ended (λ end. Headline (call_of (map string_bytes words.now)
         (given_by S.left S.faults source.old) (given_by S.left S.faults source.new) (vec_len devices))
@@ -50,36 +135,25 @@ pub fn run_words_over<S: Source, K: Sink + Drop, D: Device>(
         (ends_of K.written K.faults D.device_heard D.device_faults result.sink result.devices.items) }
 {
     match job_of(alloc, words, source, devices.len() as u32) {
-        Ok(job) => run(alloc, job, sink, devices),
+        Ok(job) => run(rt, alloc, job, sink, devices, gate),
         Err(status) => turn_away(status, sink, devices),
     }
 }
 
-/// The same with boxed devices.
-pub fn run_words<S: Source, K: Sink + Drop>(
+/// Runs code, by as many workers as its options say.
+fn run<R, K, D, G>(
+    rt: &R,
     alloc: Global,
-    words: &[String],
-    source: &mut S,
+    job: Job,
     sink: K,
-    devices: Vec<Box<dyn Device + Send>>,
-) -> Report<K, Box<dyn Device + Send>>
-    requires few { vec_len devices ≤ max_devices }
-    ensures ran { IfSome result.ended (λ end. Headline (call_of (map string_bytes words.now)
-        (given_by S.left S.faults source.old) (given_by S.left S.faults source.new) (vec_len devices))
-        result.status (option_map arc_value result.code) end
-        (ends_of K.written K.faults device_heard device_faults sink devices.items)
-        (ends_of K.written K.faults device_heard device_faults result.sink result.devices.items)) }
-    ensures turned_away { result.ended ≡ None → IsTurnedAway (call_of (map string_bytes words.now)
-        (given_by S.left S.faults source.old) (given_by S.left S.faults source.new) (vec_len devices))
-        result.status (option_map arc_value result.code)
-        (ends_of K.written K.faults device_heard device_faults sink devices.items)
-        (ends_of K.written K.faults device_heard device_faults result.sink result.devices.items) }
-{
-    run_words_over(alloc, words, source, sink, devices)
-}
-
-/// Runs code. One seat makes the whole run, whatever the number of workers is.
-fn run<K: Sink + Drop, D: Device>(alloc: Global, job: Job, sink: K, devices: Vec<D>) -> Report<K, D>
+    devices: Vec<D>,
+    gate: &G,
+) -> Report<K, D>
+where
+    R: Threads + Wait + Sync,
+    K: Sink + Send + Drop,
+    D: Device + Send,
+    G: Gate + Sync,
     requires ranges { AreInRange job.options }
     requires devices { (arc_value job.code).accepted.devices ≡ vec_len devices }
     ensures ran { IfSome result.ended (λ end. (call : Call) → call.devices ≡ vec_len devices → IsJobOf call (arc_value job.code) job.options
@@ -98,9 +172,9 @@ fn run<K: Sink + Drop, D: Device>(alloc: Global, job: Job, sink: K, devices: Vec
     let limits = Limits {
         turns: job.options.turns,
         slice: job.options.slice,
-        seats: 1,
+        seats: job.options.workers,
     };
-    match run_alone::<Machine, K, D>(alloc, code, limits, sink, devices) {
+    match run_by_workers::<Machine, K, D, G, R>(rt, alloc, code, limits, sink, devices, gate) {
         Ok(left) => conclude(job, left),
         Err((sink, devices)) => turn_away(Status::NoMemory, sink, devices),
     }
@@ -108,10 +182,9 @@ fn run<K: Sink + Drop, D: Device>(alloc: Global, job: Job, sink: K, devices: Vec
 
 /// Tells how a run ended.
 fn conclude<K: Sink + Drop, D: Device>(job: Job, left: Left<Val, K, D>) -> Report<K, D>
-    requires ranges { AreInRange job.options }
     ensures ended { IsSome result.ended }
     ensures ran { IfSome result.ended (λ end. (call : Call) (before : Ends) → IsJobOf call (arc_value job.code) job.options
-        → IsOver (program_of (arc_value job.code)) (record { turns = job.options.turns; slice = job.options.slice; seats = 1 })
+        → IsOver (program_of (arc_value job.code)) (record { turns = job.options.turns; slice = job.options.slice; seats = job.options.workers })
         (value_meant (arc_value job.code)) before left.ended (ends_of K.written K.faults D.device_heard D.device_faults left.sink left.devices.items)
         → Headline call result.status (option_map arc_value result.code) end before
         (ends_of K.written K.faults D.device_heard D.device_faults result.sink result.devices.items)) }

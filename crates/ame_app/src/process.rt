@@ -5,6 +5,7 @@ ghost use Rattle.std.specs.Arc.{arc_value};
 ghost use Rattle.ame_device.specs.Calls.{told, all_told};
 ghost use Rattle.ame_shell.specs.Ends.{ends_of};
 ghost use Rattle.ame_app.specs.Calls.{given_by, call_of};
+ghost use Rattle.ame_app.specs.Complete.{IsComplete};
 ghost use Rattle.ame_app.specs.Headline.{Headline, IsToldAlone, IsTurnedAway};
 ghost use Rattle.ame_app.specs.Standard.{heard_by, faults_of, with_two_new};
 ghost use Rattle.ame_app.specs.Verdict.{unread};
@@ -15,9 +16,12 @@ use crate::standard::StandardDevice;
 use crate::status::{Status, WordsFault};
 use ame_device::{Adder, Counter};
 use ame_io::{Sink, Source};
+use ame_worker::NoGate;
 use std::alloc::{Alloc, AllocError, Global};
 use std::env::{self, Env};
 use std::io::ErrorKind;
+use std::sync::Wait;
+use std::thread::Threads;
 
 /// The words after the program's name. A word that isn't text is no word of a call.
 pub fn process_words<R: Env + Alloc<A = Global>>(rt: &R) -> Result<Vec<String>, WordsFault> {
@@ -33,12 +37,17 @@ pub fn process_words<R: Env + Alloc<A = Global>>(rt: &R) -> Result<Vec<String>, 
 }
 
 /// Does what the words of a process ask for. Device 0 counts its calls, and device 1 adds up what it is called with.
-pub fn run_process<S: Source, K: Sink + Drop>(
+pub fn run_process<R, S, K>(
+    rt: &R,
     alloc: Global,
     words: Result<Vec<String>, WordsFault>,
     source: &mut S,
     sink: K,
 ) -> Report<K, StandardDevice>
+where
+    R: Threads + Wait + Sync,
+    S: Source,
+    K: Sink + Send + Drop,
     ensures ran { IfOk words (λ ws. IfSome result.ended (λ end. Headline (call_of (map string_bytes ws.items)
         (given_by S.left S.faults source.old) (given_by S.left S.faults source.new) 2)
         result.status (option_map arc_value result.code) end
@@ -49,6 +58,10 @@ pub fn run_process<S: Source, K: Sink + Drop>(
         result.status (option_map arc_value result.code)
         (ends_of K.written K.faults heard_by faults_of sink result.devices.items)
         (ends_of K.written K.faults heard_by faults_of result.sink result.devices.items)) }
+    ensures complete { IfOk words (λ ws. IsComplete (call_of (map string_bytes ws.items)
+        (given_by S.left S.faults source.old) (given_by S.left S.faults source.new) 2)
+        result.status (with_two_new (K.written sink) (K.faults sink))
+        (ends_of K.written K.faults heard_by faults_of result.sink result.devices.items)) }
     ensures unread { IfErr words (λ fault. (result.ended ≡ None) × IsToldAlone (unread fault) result.status (option_map arc_value result.code)
         (ends_of K.written K.faults heard_by faults_of sink [])
         (ends_of K.written K.faults heard_by faults_of result.sink result.devices.items)) }
@@ -58,7 +71,7 @@ pub fn run_process<S: Source, K: Sink + Drop>(
         Err(fault) => return turn_away(unread(fault), sink, Vec::new(alloc)),
     };
     match standard_devices(alloc) {
-        Ok(devices) => run_words_over(alloc, &words, source, sink, devices),
+        Ok(devices) => run_words_over(rt, alloc, &words, source, sink, devices, &NoGate),
         Err(_) => turn_away(Status::NoMemory, sink, Vec::new(alloc)),
     }
 }

@@ -36,9 +36,10 @@ fn no_money_is_lost(rt: HostRuntime) -> Result<(), Fail> {
         ("", AMPLE, 0, "7000\n7000\nfinished\n"),
         ("run --workers 4", AMPLE, 0, "7000\n7000\nfinished\n"),
         ("", second_fails, 7, "7000\n"),
+        ("run --workers 4", second_fails, 7, "7000\n"),
     ];
     for (words, ends, number, lines) in rows {
-        let report = report_of(rt.alloc(), words, BANK.as_bytes(), &ends, Devices::Nothing)?;
+        let report = report_of(&rt, words, BANK.as_bytes(), &ends, Devices::Nothing)?;
         tells(&rt, &report, number, lines, words);
     }
     Ok(())

@@ -1,12 +1,15 @@
 //! What the tables of whole calls share: their words, ends and devices, and what a report tells.
 
 use ame_app::{Report, run_words};
-use ame_device::{Adder, Counter, Device, FailsAt, Tape};
+use ame_device::{Adder, Counter, Device, FailsAt, Heard, Tape};
 use ame_io::{MemSink, MemSource};
 use ame_journal::{Entry, Journal};
+use ame_worker::{Gate, NoGate};
 use std::alloc::Global;
 use std::process::Abort;
+use std::sync::Wait;
 use std::test::Fail;
+use std::thread::Threads;
 
 /// A device that is handed in.
 pub type Boxed = Box<dyn Device + Send>;
@@ -70,13 +73,33 @@ fn failing(alloc: Global, call: u64) -> Result<Vec<u64>, Fail> {
 }
 
 /// What is reported of words, which stand with a space between two, and a text.
-pub fn report_of(
-    alloc: Global,
+pub fn report_of<R>(
+    rt: &R,
     words: &str,
     text: &[u8],
     ends: &Ends,
     devices: Devices,
-) -> Result<Report<MemSink, Boxed>, Fail> {
+) -> Result<Report<MemSink, Boxed>, Fail>
+where
+    R: Threads + Wait + Sync + AllocGlobal,
+{
+    report_past(rt, words, text, ends, devices, &NoGate)
+}
+
+/// The same, where the workers pass a gate.
+pub fn report_past<R, G>(
+    rt: &R,
+    words: &str,
+    text: &[u8],
+    ends: &Ends,
+    devices: Devices,
+    gate: &G,
+) -> Result<Report<MemSink, Boxed>, Fail>
+where
+    R: Threads + Wait + Sync + AllocGlobal,
+    G: Gate + Sync,
+{
+    let alloc = rt.alloc();
     let mut list = Vec::new(alloc);
     for word in words.split(' ') {
         if !word.is_empty() {
@@ -92,7 +115,7 @@ pub fn report_of(
     if boxes.len() > 16 {
         return Err("devices".into());
     }
-    Ok(run_words(alloc, &list, &mut source, sink, boxes))
+    Ok(run_words(rt, alloc, &list, &mut source, sink, boxes, gate))
 }
 
 /// The report has this status and these lines.
@@ -121,6 +144,17 @@ pub fn journal_is(
         assert!(rt; is_same(entry, other), "{lines}");
     }
     Ok(())
+}
+
+/// A device has heard these calls.
+pub fn hears(rt: &impl Abort, device: Option<&Boxed>, calls: &[(i64, i64)]) {
+    let heard = device.and_then(|device| device.heard());
+    assert_eq!(rt; heard.map(|calls| calls.len()), Some(calls.len()));
+    for at in 0..calls.len() {
+        let (argument, answer) = calls[at];
+        let one = heard.and_then(|calls| calls.get(at)).copied();
+        assert_eq!(rt; one, Some(Heard { argument, answer }));
+    }
 }
 
 /// Whether two entries are the same.

@@ -8,6 +8,8 @@ mod calls;
 #[cfg(test)]
 mod code;
 #[cfg(test)]
+mod gate;
+#[cfg(test)]
 mod labels;
 #[cfg(test)]
 mod refusals;
@@ -17,5 +19,7 @@ mod replays;
 mod rows;
 #[cfg(test)]
 mod runs;
+#[cfg(test)]
+mod workers;
 #[cfg(test)]
 mod workload;

@@ -38,7 +38,7 @@ fn texts_and_types_are_refused_at_their_place(rt: HostRuntime) -> Result<(), Fai
         ),
     ];
     for (text, number, lines) in rows {
-        let report = report_of(rt.alloc(), "", text.as_bytes(), &AMPLE, Devices::Nothing)?;
+        let report = report_of(&rt, "", text.as_bytes(), &AMPLE, Devices::Nothing)?;
         tells(&rt, &report, number, lines, text);
         assert!(rt; report.ended.is_none() && report.code.is_none(), "{text}");
     }
@@ -56,12 +56,12 @@ fn words_ask_for_a_run_or_for_nothing(rt: HostRuntime) -> Result<(), Fail> {
         "help",
     ];
     for words in rows {
-        let report = report_of(rt.alloc(), words, b"unit", &AMPLE, Devices::Nothing)?;
+        let report = report_of(&rt, words, b"unit", &AMPLE, Devices::Nothing)?;
         tells(&rt, &report, 3, "usage\n", words);
     }
     let lines = "18\n21\n18\n25\n11\n15\n18\n18\nfinished\n";
     for words in ["bench 1 2", "bench 1 2 --workers 4"] {
-        let report = report_of(rt.alloc(), words, b"(", &AMPLE, Devices::Nothing)?;
+        let report = report_of(&rt, words, b"(", &AMPLE, Devices::Nothing)?;
         tells(&rt, &report, 0, lines, words);
     }
     Ok(())
@@ -107,7 +107,7 @@ fn failing_ends_decide_the_status(rt: HostRuntime) -> Result<(), Fail> {
     ];
     let text = "(do (async (print 2)) (print 1))";
     for (ends, number, lines) in rows {
-        let report = report_of(rt.alloc(), "", text.as_bytes(), &ends, Devices::Nothing)?;
+        let report = report_of(&rt, "", text.as_bytes(), &ends, Devices::Nothing)?;
         tells(&rt, &report, number, lines, text);
     }
     Ok(())
@@ -122,7 +122,7 @@ fn a_text_may_have_a_mebibyte(rt: HostRuntime) -> Result<(), Fail> {
     for (spaces, number, lines) in rows {
         let mut text = vec![in rt.alloc(); b' '; spaces]?;
         text.extend_from_slice(b"unit")?;
-        let report = report_of(rt.alloc(), "", &text, &AMPLE, Devices::Nothing)?;
+        let report = report_of(&rt, "", &text, &AMPLE, Devices::Nothing)?;
         tells(&rt, &report, number, lines, "spaces");
     }
     Ok(())
@@ -143,7 +143,7 @@ fn two_hundred_parentheses_may_be_open(rt: HostRuntime) -> Result<(), Fail> {
         for _ in 0..=negations {
             text.push(b')')?;
         }
-        let report = report_of(rt.alloc(), "", &text, &AMPLE, Devices::Nothing)?;
+        let report = report_of(&rt, "", &text, &AMPLE, Devices::Nothing)?;
         tells(&rt, &report, number, lines, "parentheses");
     }
     Ok(())

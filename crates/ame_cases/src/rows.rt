@@ -1,18 +1,22 @@
 //! Rows of whole calls: words, text, ends and devices, with the status, the lines and the journal that they must give.
 
-use crate::calls::{AMPLE, Boxed, Devices, journal_is, report_of, tells};
-use ame_device::{Device, Heard};
+use crate::calls::{AMPLE, Devices, hears, journal_is, report_of, tells};
 use std::process::Abort;
+use std::sync::Wait;
 use std::test::Fail;
+use std::thread::Threads;
 
 /// Words, a text, and what it must give: a process's status, its lines, and the journal's text.
 #[derive(Clone, Copy)]
 struct Row(&'static str, &'static str, u8, &'static str, &'static str);
 
 /// Each row gives what it must.
-fn give(rt: &(impl Abort + AllocGlobal), rows: &[Row], devices: Devices) -> Result<(), Fail> {
+fn give<R>(rt: &R, rows: &[Row], devices: Devices) -> Result<(), Fail>
+where
+    R: Threads + Wait + Sync + Abort + AllocGlobal,
+{
     for Row(words, text, number, lines, journal) in rows {
-        let report = report_of(rt.alloc(), words, text.as_bytes(), &AMPLE, devices)?;
+        let report = report_of(rt, words, text.as_bytes(), &AMPLE, devices)?;
         tells(rt, &report, *number, lines, text);
         journal_is(rt, rt.alloc(), &report, journal)?;
     }
@@ -25,7 +29,7 @@ fn protected_code_runs_as_its_journal_tells(rt: HostRuntime) -> Result<(), Fail>
         Row("", "unit", 0, "finished\n", "ran 0 0 0\n"),
         Row("", "(print 7)", 0, "7\nfinished\n", "ran 0 0 1\n"),
         Row(
-            "run --workers 2",
+            "",
             "(do (async (print 2)) (print 1))",
             0,
             "1\n2\nfinished\n",
@@ -141,35 +145,24 @@ fn runs_that_are_cut_off_tell_where(rt: HostRuntime) -> Result<(), Fail> {
     give(&rt, &rows, Devices::Nothing)
 }
 
-/// A device has heard these calls.
-fn hears(rt: &impl Abort, device: Option<&Boxed>, calls: &[(i64, i64)]) {
-    let heard = device.and_then(|device| device.heard());
-    assert_eq!(rt; heard.map(|calls| calls.len()), Some(calls.len()));
-    for at in 0..calls.len() {
-        let (argument, answer) = calls[at];
-        let one = heard.and_then(|calls| calls.get(at)).copied();
-        assert_eq!(rt; one, Some(Heard { argument, answer }));
-    }
-}
-
 #[test]
 fn devices_hear_what_the_journal_tells(rt: HostRuntime) -> Result<(), Fail> {
     let alloc = rt.alloc();
     let text = "(unprotected (do (print (call 0 5)) (print (call 1 6)) (print (call 1 7))))";
     let devices = Devices::CounterAndFailsAtTwo;
-    let report = report_of(alloc, "", text.as_bytes(), &AMPLE, devices)?;
+    let report = report_of(&rt, "", text.as_bytes(), &AMPLE, devices)?;
     tells(&rt, &report, 8, "1\n6\ndevice 1 failed\n", text);
     let journal = "ran 0 0 0\nfree 0 0 1 = 1\nfree 0 0 1\nfree 0 0 2 = 6\nfree 0 0 1\n";
     journal_is(&rt, alloc, &report, journal)?;
     hears(&rt, report.devices.get(0), &[(5, 1)]);
     hears(&rt, report.devices.get(1), &[(6, 6)]);
     let text = "(unprotected (do (print (call 1 5)) (print (call 1 -2)) (print (call 0 9))))";
-    let report = report_of(alloc, "", text.as_bytes(), &AMPLE, Devices::CounterAndAdder)?;
+    let report = report_of(&rt, "", text.as_bytes(), &AMPLE, Devices::CounterAndAdder)?;
     tells(&rt, &report, 0, "5\n3\n1\nfinished\n", text);
     hears(&rt, report.devices.get(0), &[(9, 1)]);
     hears(&rt, report.devices.get(1), &[(5, 5), (-2, 3)]);
     let text = "(unprotected (do (print (call 0 1)) (print (call 0 2))))";
-    let report = report_of(alloc, "", text.as_bytes(), &AMPLE, Devices::TapeOfFour)?;
+    let report = report_of(&rt, "", text.as_bytes(), &AMPLE, Devices::TapeOfFour)?;
     tells(&rt, &report, 8, "4\ndevice 0 failed\n", text);
     hears(&rt, report.devices.get(0), &[(1, 4)]);
     Ok(())
@@ -194,7 +187,7 @@ fn what_is_left_tells_turns_and_certificates(rt: HostRuntime) -> Result<(), Fail
         ),
     ];
     for (words, text, turns, blocked) in rows {
-        let report = report_of(rt.alloc(), words, text.as_bytes(), &AMPLE, Devices::Nothing)?;
+        let report = report_of(&rt, words, text.as_bytes(), &AMPLE, Devices::Nothing)?;
         let ended = report.ended.as_ref().ok_or("a run")?;
         assert_eq!(rt; ended.turns(), turns, "{text}");
         assert_eq!(rt; ended.counters().conflicts, 0);

@@ -13,7 +13,7 @@ returns-clause-ran g c = λ call before job over.
     (g.K.Sink.written left.sink) (g.K.Sink.faults left.sink) (g.K.Sink.written sink) (g.K.Sink.faults sink)
     c.of-told.ensures c.stopped.ensures c.number_told-number.ensures c.speak-status.ensures in
     headline call status (arc_value c.args.job.code) c.args.job.options
-    (record { turns = c.args.job.options.turns; slice = c.args.job.options.slice; seats = 1 }) left.ended before
+    (record { turns = c.args.job.options.turns; slice = c.args.job.options.slice; seats = c.args.job.options.workers }) left.ended before
     (ends_of g.K.Sink.written g.K.Sink.faults g.D.Device.device_heard g.D.Device.device_faults left.sink left.devices.items)
     (ends_of g.K.Sink.written g.K.Sink.faults g.D.Device.device_heard g.D.Device.device_faults sink left.devices.items)
-    job over speaks refl refl refl c.requires.ranges
+    job over speaks refl refl

@@ -1,17 +1,32 @@
+use denote.Param.Send.{sendable}
+use Rattle.std.proofs.Crossing.{crosses}
+use Rattle.ame_term.proofs.types.Loc.TheSendSync as loc
+use Rattle.ame_runner.proofs.wants.Wants.TheSendSync as wants
+use Rattle.ame_eval.proofs.CrossingLemmas.{evaluation_send, start_send}
 use Rattle.std.proofs.Common.{subst}
 use Rattle.ame_code.specs.FlatCode.{FlatCode}
 use Rattle.ame_code.specs.Code.{program_of}
 use Rattle.ame_eval.specs.Values.{value_meant}
 use Rattle.ame_shell.specs.Ends.{ends_of}
 use Rattle.ame_shell.specs.Over.{IsOver}
+use Rattle.ame_app.proofs.CrossingLemmas.{code_send, code_sync}
 use Rattle.ame_app.proofs.JobLemmas.{some-weaker}
 use Rattle.ame_app.proofs.call.run.Goals as goal
 
-pub returns-in-Ok-run_alone-clause-ran : goal.returns-in-Ok-run_alone-clause-ran
-returns-in-Ok-run_alone-clause-ran g c =
-    let left = c.in-Ok-run_alone.left in
+pub returns-in-Ok-run_by_workers-clause-ran : goal.returns-in-Ok-run_by_workers-clause-ran
+returns-in-Ok-run_by_workers-clause-ran g c =
+    let left = c.in-Ok-run_by_workers.left in
     let before = ends_of g.K.Sink.written g.K.Sink.faults g.D.Device.device_heard g.D.Device.device_faults c.args.sink c.args.devices.items in
     let after = ends_of g.K.Sink.written g.K.Sink.faults g.D.Device.device_heard g.D.Device.device_faults left.sink left.devices.items in
-    let over = subst (λ (k : FlatCode). IsOver (program_of k) (record { turns = c.args.job.options.turns; slice = c.args.job.options.slice; seats = 1 })
-    (value_meant k) before left.ended after) c.in-Ok.ensures c.in-Ok-run_alone.ensures.over in
+    let over = subst (λ (k : FlatCode). IsOver (program_of k) (record { turns = c.args.job.options.turns; slice = c.args.job.options.slice; seats = c.args.job.options.workers })
+    (value_meant k) before left.ended after) c.in-Ok.ensures c.in-Ok-run_by_workers.ensures.over in
     some-weaker c.conclude.result.ended _ _ (λ end ran. λ call devices job. ran call before job over) c.conclude.ensures.ran
+
+pub run_by_workers-requires-send-M : goal.run_by_workers-requires-send-M
+run_by_workers-requires-send-M g c κs within = search (sendable, crosses, evaluation_send, start_send, loc.the_send, wants.the_send) depth 20
+
+pub run_by_workers-requires-send-M-Code : goal.run_by_workers-requires-send-M-Code
+run_by_workers-requires-send-M-Code g c κs within = search (sendable, code_send) depth 20
+
+pub run_by_workers-requires-sync-M-Code : goal.run_by_workers-requires-sync-M-Code
+run_by_workers-requires-sync-M-Code g c κs within = search (sendable, code_sync) depth 20

@@ -1,0 +1,114 @@
+-- What the status of a call must be.
+use Rattle.std.specs.Prelude.{◌≡◌, ◌⊎◌, ℕ, ◌<◌, ◌≤◌, Some, Ok, Err, length, ⊤}
+use Rattle.ame_io.specs.Counts.{HasNotRisen}
+use Rattle.ame_io.specs.Reads.{whole_limit}
+use Rattle.ame_lex.specs.Bytes.{Text}
+use Rattle.ame_parse.specs.Text.{Source, ReadingFault, reading}
+use Rattle.ame_term.specs.Tree.{Typ}
+use Rattle.ame_term.specs.Shown.{TypeFault}
+use Rattle.ame_term.specs.Typing.{typing}
+use Rattle.ame_cli.specs.declared.command.Command.{Command}
+use Rattle.ame_cli.specs.Grammar.{SpellsCommand, SpellsNothing}
+use Rattle.ame_gen.specs.Template.{program_text}
+use Rattle.ame_shell.specs.Ends.{Ends, told_at}
+use Rattle.ame_app.specs.declared.status.TextKind.{TextKind}
+use Rattle.ame_app.specs.declared.status.TextFault.{TextFault}
+use Rattle.ame_app.specs.declared.status.Status.{Status}
+use Rattle.ame_app.specs.Calls.{Given, Call}
+use Rattle.ame_app.specs.Texts.{IsNoProgram, IsIllTyped}
+
+-- What is given
+
+-- the text of a command: the bytes that the source has left, where it tells them; or the generated text
+abbrev pub IsGiven : Command → Given → Text → Type 0
+IsGiven (Command.Run options) source text = source.left ≡ Some text
+IsGiven (Command.Bench seed size options) source text = text ≡ program_text seed size
+
+-- the words spell a command, and this is its text
+pub record IsGivenText (call : Call) (text : Text) : Type 0 where
+  pub command : Command
+  pub spelled : SpellsCommand call.words command
+  pub given : IsGiven command call.source text
+
+-- so it is, and the text isn't too long
+pub record IsGivenShort (call : Call) (text : Text) : Type 0 where
+  pub given : IsGivenText call text
+  pub most : length text ≤ whole_limit
+
+-- the text is no program
+pub record IsUnread (text : Text) : Type 0 where
+  pub why : ReadingFault
+  pub reads : reading text ≡ Err why
+
+-- it is a program that breaks a rule of the types with so many devices
+pub record IsRefused (text : Text) (devices : ℕ) : Type 0 where
+  pub source : Source
+  pub fault : TypeFault
+  pub reads : reading text ≡ Ok source
+  pub breaks : typing devices source.places source.tree ≡ Err fault
+
+-- it is a program that the types accept with so many devices
+pub record IsAccepted (text : Text) (devices : ℕ) : Type 0 where
+  pub source : Source
+  pub reads : reading text ≡ Ok source
+  pub typed : typing devices source.places source.tree ≡ Ok Typ.Unit
+
+-- no count of faults of source, sink or a device rose, nor stands at its last value
+pub record NothingFailed (call : Call) (before after : Ends) : Type 0 where
+  pub source : HasNotRisen call.source.faults call.source_after.faults
+  pub sink : HasNotRisen before.write_faults after.write_faults
+  pub devices : (k : ℕ) → HasNotRisen (told_at before.told k).faults (told_at after.told k).faults
+
+-- What the status is
+
+-- the status is this one, or memory was wanted
+abbrev pub IsUnlessMemory : Status → Status → Type 0
+IsUnlessMemory told status = (status ≡ told) ⊎ (status ≡ Status.NoMemory)
+
+-- it tells the first fault of the text, or memory was wanted
+abbrev pub TellsFault : Text → Status → Type 0
+TellsFault text (Status.Text fault) = IsNoProgram text fault
+TellsFault text Status.NoMemory = ⊤
+TellsFault text _ = ⊥
+
+-- it tells the first rule that the text breaks, or memory was wanted
+abbrev pub TellsRule : Text → ℕ → Status → Type 0
+TellsRule text devices (Status.Types fault) = IsIllTyped text devices fault
+TellsRule text devices Status.NoMemory = ⊤
+TellsRule text devices _ = ⊥
+
+-- it tells how a run ended, or memory was wanted
+abbrev pub TellsRun : Status → Type 0
+TellsRun Status.Finished = ⊤
+TellsRun Status.Blocked = ⊤
+TellsRun Status.Spent = ⊤
+TellsRun Status.Tall = ⊤
+TellsRun Status.NoMemory = ⊤
+TellsRun _ = ⊥
+
+-- it tells what is so of a text, or how a run ended, or memory was wanted
+abbrev pub TellsText : Status → Type 0
+TellsText (Status.Text fault) = ⊤
+TellsText (Status.Types fault) = ⊤
+TellsText status = TellsRun status
+
+-- how a text is told that has too many bytes
+abbrev pub too_long : TextFault
+too_long = record { place = whole_limit; kind = TextKind.TooLong }
+
+-- Where nothing failed, the words and their text decide the status, but for how a run ends and for want of memory. Where something
+-- failed the status tells it: the sink first, then a device, then the source.
+pub record IsComplete (call : Call) (status : Status) (before after : Ends) : Type 0 where
+  pub usage : NothingFailed call before after → SpellsNothing call.words → IsUnlessMemory Status.Usage status
+  pub spelled : NothingFailed call before after → (command : Command) → SpellsCommand call.words command → TellsText status
+  pub long : NothingFailed call before after → (text : Text) → IsGivenText call text → whole_limit < length text
+      → IsUnlessMemory (Status.Text too_long) status
+  pub unread : NothingFailed call before after → (text : Text) → IsGivenShort call text → IsUnread text → TellsFault text status
+  pub refused : NothingFailed call before after → (text : Text) → IsGivenShort call text → IsRefused text call.devices
+      → TellsRule text call.devices status
+  pub accepted : NothingFailed call before after → (text : Text) → IsGivenShort call text → IsAccepted text call.devices → TellsRun status
+  pub sink_failed : before.write_faults < after.write_faults → status ≡ Status.WriteFault
+  pub device_failed : HasNotRisen before.write_faults after.write_faults → (k : ℕ) → (told_at before.told k).faults < (told_at after.told k).faults
+      → status ≡ Status.DeviceFault k
+  pub source_failed : HasNotRisen before.write_faults after.write_faults → call.source.faults < call.source_after.faults
+      → status ≡ Status.ReadFault

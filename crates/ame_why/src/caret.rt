@@ -1,0 +1,125 @@
+//! The line in which a place is, with a caret below the place.
+
+ghost use Rattle.std.specs.Prelude.{◌≡◌, ◌++◌, ◌≤◌, length, map, IfOk, OnOk};
+ghost use Rattle.std.specs.List.{flat_map};
+ghost use Rattle.ame_why.specs.Excerpt as spec;
+ghost use Rattle.ame_why.specs.Excerpt.{shown_byte, below_byte};
+
+use crate::position::{line_before, line_behind};
+use ame_term::NoMemory;
+use std::alloc::Global;
+
+/// The most bytes of a line that are shown before a place, and from it on.
+const BEFORE: usize = 60;
+
+const BEHIND: usize = 40;
+
+/// What stands for the rest of a long line.
+const REST: &[u8; 3] = b"...";
+
+/// The line in which a place is, and below it a caret at the place. Of a long line what is near the place is shown.
+pub fn excerpt(alloc: Global, text: &[u8], place: usize) -> Result<Vec<u8>, NoMemory>
+    requires { place ≤ length text.now }
+    ensures { IfOk result (λ page. page.items ≡ spec.excerpt text.now place) }
+{
+    let (before, behind) = text.split_at(place);
+    let before = shown_before(alloc, line_before(before))?;
+    let behind = shown_behind(alloc, line_behind(behind))?;
+    lines(alloc, &before, &behind)
+}
+
+#[tactic(auto, unfolding(crate::specs::Excerpt::lines))]
+/// The two lines: what is shown, and the caret below the end of its front.
+fn lines(alloc: Global, before: &[u8], behind: &[u8]) -> Result<Vec<u8>, NoMemory>
+    ensures { IfOk result (λ page. page.items ≡ spec.lines before.now behind.now) }
+{
+    let mut page = Vec::new(alloc);
+    append(&mut page, b"    ")?;
+    append_shown(&mut page, before)?;
+    append_shown(&mut page, behind)?;
+    append(&mut page, b"\n    ")?;
+    append_below(&mut page, before)?;
+    append(&mut page, b"^\n")?;
+    Ok(page)
+}
+
+/// The end of a stretch before the place.
+#[tactic(auto, unfolding(crate::specs::Excerpt::shown_before))]
+fn shown_before(alloc: Global, line: &[u8]) -> Result<Vec<u8>, NoMemory>
+    ensures { IfOk result (λ shown. shown.items ≡ spec.shown_before line.now) }
+{
+    let mut shown = Vec::new(alloc);
+    if line.len() <= BEFORE {
+        append(&mut shown, line)?;
+    } else {
+        append(&mut shown, REST)?;
+        append(&mut shown, line.split_at(line.len() - (BEFORE - 3)).1)?;
+    }
+    Ok(shown)
+}
+
+/// The front of a stretch from the place on.
+#[tactic(auto, unfolding(crate::specs::Excerpt::shown_behind))]
+fn shown_behind(alloc: Global, line: &[u8]) -> Result<Vec<u8>, NoMemory>
+    ensures { IfOk result (λ shown. shown.items ≡ spec.shown_behind line.now) }
+{
+    let mut shown = Vec::new(alloc);
+    if line.len() <= BEHIND {
+        append(&mut shown, line)?;
+    } else {
+        append(&mut shown, line.split_at(BEHIND - 3).0)?;
+        append(&mut shown, REST)?;
+    }
+    Ok(shown)
+}
+
+/// Adds bytes at the end of a page.
+pub(crate) fn append(page: &mut Vec<u8>, bytes: &[u8]) -> Result<(), NoMemory>
+    ensures { OnOk result (page.new.items ≡ page.old.items ++ bytes.now) }
+{
+    page.extend_from_slice(bytes)?;
+    Ok(())
+}
+
+/// Adds bytes as they are shown.
+fn append_shown(page: &mut Vec<u8>, bytes: &[u8]) -> Result<(), NoMemory>
+    ensures { OnOk result (page.new.items ≡ page.old.items ++ map shown_byte bytes.now) }
+{
+    for byte in bytes {
+        page.push(shown_byte(*byte))?;
+    }
+    Ok(())
+}
+
+/// Adds what stands below bytes, so that what follows is below what follows them.
+fn append_below(page: &mut Vec<u8>, bytes: &[u8]) -> Result<(), NoMemory>
+    ensures { OnOk result (page.new.items ≡ page.old.items ++ flat_map below_byte bytes.now) }
+{
+    for byte in bytes {
+        append(page, below_byte(*byte))?;
+    }
+    Ok(())
+}
+
+/// A byte as it is shown.
+fn shown_byte(byte: u8) -> u8
+    ensures { result ≡ shown_byte byte }
+{
+    match byte {
+        b'\t' => b'\t',
+        b'\r' => b' ',
+        0..=31 | 127 => b'?',
+        _ => byte,
+    }
+}
+
+/// What stands below a byte: nothing below one that goes on a character.
+fn below_byte(byte: u8) -> &'static [u8]
+    ensures { result.now ≡ below_byte byte }
+{
+    match byte {
+        b'\t' => b"\t",
+        128..=191 => b"",
+        _ => b" ",
+    }
+}

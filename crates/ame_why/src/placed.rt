@@ -1,0 +1,50 @@
+//! A place as a person finds it, with a message below it.
+
+ghost use Rattle.std.specs.Prelude.{◌≡◌, ◌++◌, ◌≤◌, decimal, length, IfOk, OnOk};
+ghost use Rattle.ame_why.specs.Placed as spec;
+
+use crate::caret::{append, excerpt};
+use crate::position::position_of;
+use ame_term::NoMemory;
+use itoa::Buffer;
+use std::alloc::Global;
+
+/// The line and the column of a place, and the line itself with a caret below it.
+#[tactic(auto, unfolding(crate::specs::Placed::placed))]
+fn place_of(alloc: Global, text: &[u8], place: usize) -> Result<Vec<u8>, NoMemory>
+    requires { place ≤ length text.now }
+    ensures { IfOk result (λ page. page.items ≡ spec.placed text.now place) }
+{
+    let position = position_of(text, place);
+    let excerpt = excerpt(alloc, text, place)?;
+    let mut page = Vec::new(alloc);
+    append(&mut page, b"line ")?;
+    append_number(&mut page, position.line)?;
+    append(&mut page, b", column ")?;
+    append_number(&mut page, position.column)?;
+    append(&mut page, b":\n")?;
+    append(&mut page, &excerpt)?;
+    Ok(page)
+}
+
+/// Adds a number in decimal.
+pub(crate) fn append_number(page: &mut Vec<u8>, number: usize) -> Result<(), NoMemory>
+    ensures { OnOk result (page.new.items ≡ page.old.items ++ decimal number) }
+{
+    let mut buffer = Buffer::new();
+    append(page, buffer.format(number).as_bytes())
+}
+
+/// A place that is told of a text, and a message below it.
+pub(crate) fn explained(
+    alloc: Global,
+    text: &[u8],
+    place: u32,
+    message: &[u8],
+) -> Result<Vec<u8>, NoMemory>
+    ensures { IfOk result (λ page. page.items ≡ spec.placed_within text.now place ++ message.now) }
+{
+    let mut page = place_of(alloc, text, text.len().min(place as usize))?;
+    append(&mut page, message)?;
+    Ok(page)
+}

@@ -1,0 +1,106 @@
+//! Faults of the types.
+
+ghost use Rattle.std.specs.Prelude.{◌≡◌, ◌++◌, IfOk, OnOk, codes};
+ghost use Rattle.ame_types.specs.Fault.{fault_of, shown_of};
+ghost use Rattle.ame_why.specs.Rules as spec;
+ghost use Rattle.ame_why.specs.Rules.{IsTypeExplained, shown_line};
+
+use crate::caret::append;
+use crate::placed::{append_number, explained};
+use ame_print::print_ty;
+use ame_term::{Effect, NoMemory, Sort};
+use ame_types::{Shown, TypeFault, rule};
+use std::alloc::Global;
+
+/// Which rule a program breaks and where, and what was found and wanted there.
+pub fn explain_types(alloc: Global, text: &[u8], fault: &TypeFault) -> Result<Vec<u8>, NoMemory>
+    ensures { IfOk result (λ page. IsTypeExplained text.now (fault_of fault.now) page.items) }
+{
+    let mut message = Vec::new(alloc);
+    append(&mut message, rule_words(fault.rule))?;
+    append_shown(alloc, &mut message, b"found: ", b"device ", &fault.found)?;
+    append_shown(
+        alloc,
+        &mut message,
+        b"wanted: ",
+        b"a device below ",
+        &fault.wanted,
+    )?;
+    explained(alloc, text, fault.place, &message)
+}
+
+/// A rule in words.
+fn rule_words(number: u8) -> &'static [u8] {
+    match number {
+        rule::TYPE_MISMATCH => b"this part has another type than its form wants\n",
+        rule::NO_FUNCTION => b"what is called is no function\n",
+        rule::WRONG_EFFECT => {
+            b"this call doesn't fit the code around it: protected code calls functions of effect p or a, \
+              unprotected code those of effect u or a, and `call` and `peek` are for unprotected code\n"
+        }
+        rule::WRONG_SORT => {
+            b"this location is one of the other code: protected code reads and writes those of sort p, \
+              unprotected code those of sort u\n"
+        }
+        rule::NO_REFERENCE => b"what is read or written is no reference\n",
+        rule::MISPLACED_BLOCK =>
+            b"`blockUntil` is for protected code, since only a fragment is taken back\n",
+        rule::MISPLACED_UNPROTECTED => b"the code around this is unprotected already\n",
+        rule::NO_DEVICE => b"there is no device of this number\n",
+        rule::NOT_UNIT => b"nobody takes what this gives, so it must give Unit\n",
+        rule::NO_PAIR => b"what is taken apart is no pair\n",
+        _ => b"\n",
+    }
+}
+
+/// Adds a line of what a fault shows, behind a label, where a device is told with these words.
+fn append_shown(
+    alloc: Global,
+    page: &mut Vec<u8>,
+    label: &[u8],
+    device: &[u8],
+    shown: &Shown,
+) -> Result<(), NoMemory>
+    ensures { OnOk result (page.new.items ≡ page.old.items ++ shown_line label.now device.now (shown_of shown.now)) }
+{
+    match shown {
+        Shown::Nothing => Ok(()),
+        Shown::Ty(ty) => append_line(page, label, &print_ty(alloc, ty)?),
+        Shown::Effect(effect) => append_line(page, label, effect_words(*effect)),
+        Shown::Sort(sort) => append_line(page, label, sort_words(*sort)),
+        Shown::Device(number) => {
+            append(page, label)?;
+            append(page, device)?;
+            append_number(page, *number as usize)?;
+            append(page, b"\n")
+        }
+    }
+}
+
+/// Adds a label, what it tells, and a line feed.
+fn append_line(page: &mut Vec<u8>, label: &[u8], told: &[u8]) -> Result<(), NoMemory>
+    ensures { OnOk result (page.new.items ≡ page.old.items ++ (label.now ++ told.now ++ codes "\n")) }
+{
+    append(page, label)?;
+    append(page, told)?;
+    append(page, b"\n")
+}
+
+fn effect_words(effect: Effect) -> &'static [u8]
+    ensures { result.now ≡ spec.effect_words effect }
+{
+    match effect {
+        Effect::Protected => b"effect p",
+        Effect::Unprotected => b"effect u",
+        Effect::Either => b"effect a",
+    }
+}
+
+fn sort_words(sort: Sort) -> &'static [u8]
+    ensures { result.now ≡ spec.sort_words sort }
+{
+    match sort {
+        Sort::Protected => b"sort p",
+        Sort::Unprotected => b"sort u",
+    }
+}

@@ -1,0 +1,138 @@
+//! Faults of the tokens of a text.
+
+ghost use Rattle.std.specs.Prelude.{◌≡◌, ◌≢◌, ◌≤◌, All, IfOk, IfSome, length};
+ghost use Rattle.ame_lex.specs.Bytes.{max_text};
+ghost use Rattle.ame_lex.specs.Tokens.{IsWithin};
+ghost use Rattle.ame_parse.specs.Fault.{place_of};
+ghost use Rattle.ame_why.specs.Placed.{IsExplained};
+
+use crate::caret::append;
+use crate::placed::explained;
+use crate::spans::{open_before, token_at, tokens_of};
+use ame_lex::{Kind, Token};
+use ame_parse::{ParseFault, Want};
+use ame_term::NoMemory;
+use std::alloc::Global;
+
+/// The most bytes of a token that are shown.
+const SHOWN: usize = 40;
+
+/// Why tokens are no program.
+pub fn explain_tokens(alloc: Global, text: &[u8], fault: ParseFault) -> Result<Vec<u8>, NoMemory>
+    requires small { length text.now ≤ max_text }
+    ensures { IfOk result (λ page. IsExplained text.now (place_of fault) page.items) }
+{
+    match fault {
+        ParseFault::Expected(place, want) => unexpected(alloc, text, place, want),
+        ParseFault::UnknownName(place) => unknown(alloc, text, place),
+        ParseFault::TooNested(place) => explained(
+            alloc,
+            text,
+            place,
+            b"at most 200 parentheses may be open, and this would be one more\n",
+        ),
+        ParseFault::Trailing(place) => explained(
+            alloc,
+            text,
+            place,
+            b"a program is one term, and ends before this; `(do ..)` puts terms in a row\n",
+        ),
+        ParseFault::NoMemory => Err(NoMemory),
+    }
+}
+
+/// What was expected, what was found, and which form isn't closed.
+fn unexpected(alloc: Global, text: &[u8], place: u32, want: Want) -> Result<Vec<u8>, NoMemory>
+    requires small { length text.now ≤ max_text }
+    ensures { IfOk result (λ page. IsExplained text.now place page.items) }
+{
+    let tokens = tokens_of(alloc, text)?;
+    let found = token_at(text, &tokens, place);
+    let mut message = Vec::new(alloc);
+    append(&mut message, b"expected ")?;
+    append(&mut message, wanted(want))?;
+    append(&mut message, b", found ")?;
+    append_found(&mut message, text, found)?;
+    append(&mut message, hint(want, found))?;
+    if found.is_none() || want == Want::Closing {
+        append_open(alloc, &mut message, text, &tokens, place)?;
+    }
+    explained(alloc, text, place, &message)
+}
+
+/// The name that nothing binds.
+fn unknown(alloc: Global, text: &[u8], place: u32) -> Result<Vec<u8>, NoMemory>
+    requires small { length text.now ≤ max_text }
+    ensures { IfOk result (λ page. IsExplained text.now place page.items) }
+{
+    let tokens = tokens_of(alloc, text)?;
+    let found = token_at(text, &tokens, place);
+    let mut message = Vec::new(alloc);
+    append(&mut message, b"nothing around this place binds the name ")?;
+    append_found(&mut message, text, found)?;
+    explained(alloc, text, place, &message)
+}
+
+/// What must stand somewhere, in words.
+fn wanted(want: Want) -> &'static [u8] {
+    match want {
+        Want::Term => b"a term",
+        Want::Form => b"the word or the symbol of a form",
+        Want::Name => b"a name",
+        Want::Ty => b"a type",
+        Want::Effect => b"an effect, which is `p`, `u` or `a`",
+        Want::Sort => b"a sort, which is `p` or `u`",
+        Want::Device => b"the number of a device, 0 to 255",
+        Want::Opening => b"the `(` of a parameter",
+        Want::Closing => b"`)`",
+    }
+}
+
+/// What often is meant.
+fn hint(want: Want, found: Option<Token>) -> &'static [u8] {
+    match (want, found.map(|token| token.kind)) {
+        (Want::Form, Some(Kind::Word)) => b"a call is written `(app f x)`\n",
+        (Want::Form, Some(Kind::Number(_))) => {
+            b"a `-` directly before a digit belongs to the number: write `(- 1 2)`\n"
+        }
+        (Want::Name, Some(Kind::Word)) => b"this word is reserved\n",
+        (Want::Term, Some(Kind::Word)) => b"this word is reserved; a form begins with `(`\n",
+        (Want::Term, Some(Kind::Close)) => b"a part is missing\n",
+        _ => b"",
+    }
+}
+
+/// Adds the token that was found, or that the text ends.
+fn append_found(message: &mut Vec<u8>, text: &[u8], found: Option<Token>) -> Result<(), NoMemory>
+    requires { IfSome found (IsWithin text.now) }
+{
+    let Some(token) = found else {
+        return append(message, b"the end of the text\n");
+    };
+    let spelled = &text[token.start as usize..token.end as usize];
+    append(message, b"`")?;
+    if spelled.len() <= SHOWN {
+        append(message, spelled)?;
+    } else {
+        append(message, spelled.split_at(SHOWN).0)?;
+        append(message, b"..")?;
+    }
+    append(message, b"`\n")
+}
+
+/// Adds where the innermost parenthesis is that is open before a place.
+fn append_open(
+    alloc: Global,
+    message: &mut Vec<u8>,
+    text: &[u8],
+    tokens: &[Token],
+    place: u32,
+) -> Result<(), NoMemory> {
+    let places = open_before(alloc, tokens, place)?;
+    let Some(at) = places.last() else {
+        return Ok(());
+    };
+    let page = explained(alloc, text, *at, b"")?;
+    append(message, b"the parenthesis that is to be closed:\n")?;
+    append(message, &page)
+}

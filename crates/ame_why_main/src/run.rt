@@ -1,0 +1,114 @@
+//! A run, and what is shown of it.
+
+ghost use Rattle.std.specs.Prelude.{◌≤◌, length};
+ghost use Rattle.ame_lex.specs.Bytes.{max_text};
+
+use crate::explain::explain;
+use ame_app::{Report, StandardDevice, run_process};
+use ame_io::{MemSource, ReadAllFail, StdSink, write_all};
+use ame_term::NoMemory;
+use ame_why::{input_of, journal_of};
+use std::alloc::{AllocError, Global};
+use std::io;
+use std::sync::Wait;
+use std::thread::Threads;
+
+/// The most bytes that a read of the text takes.
+const PIECE: usize = 65_536;
+
+/// The text as a source.
+fn source_of(alloc: Global, text: &[u8]) -> Result<MemSource, AllocError> {
+    let text = Vec::from_slice(alloc, text)?;
+    Ok(MemSource::new(text, PIECE, Vec::new(alloc)))
+}
+
+/// Writes what `ame` writes, and then why. The answer is the status of the process.
+pub fn show_run<R, W>(rt: &R, writer: W, words: Vec<String>, text: &[u8]) -> u8
+where
+    R: AllocGlobal + Threads + Wait + Sync,
+    W: io::Write + Send + Drop,
+    requires small { length text.now ≤ max_text }
+{
+    let Ok(mut source) = source_of(rt.alloc(), text) else {
+        return write(writer, b"no memory\n", 9);
+    };
+    let mut report = run_process(rt, rt.alloc(), Ok(words), &mut source, StdSink::new(writer));
+    if let Ok(page) = explain(rt.alloc(), text, &report.status) {
+        let _ = write_all(&mut report.sink, &page);
+    }
+    report.status.number()
+}
+
+/// Writes the journal of the run, the line `program` and the text; where no run is begun, what `show_run` writes.
+pub fn show_journal<R, W>(rt: &R, writer: W, words: Vec<String>, text: &[u8]) -> u8
+where
+    R: AllocGlobal + Threads + Wait + Sync,
+    W: io::Write + Send + Drop,
+    requires small { length text.now ≤ max_text }
+{
+    let Ok(again) = copy_of(rt.alloc(), &words) else {
+        return write(writer, b"no memory\n", 9);
+    };
+    let Ok(mut source) = source_of(rt.alloc(), text) else {
+        return write(writer, b"no memory\n", 9);
+    };
+    let report = run_process(
+        rt,
+        rt.alloc(),
+        Ok(words),
+        &mut source,
+        StdSink::new(io::sink()),
+    );
+    if report.ended.is_none() {
+        return show_run(rt, writer, again, text);
+    }
+    match journal_text(rt.alloc(), &report, text) {
+        Ok(page) => write(writer, &page, report.status.number()),
+        Err(NoMemory) => write(writer, b"no memory\n", 9),
+    }
+}
+
+/// A copy of the words.
+fn copy_of(alloc: Global, words: &[String]) -> Result<Vec<String>, AllocError> {
+    let mut copy = Vec::new(alloc);
+    for word in words {
+        copy.push(String::from_str(alloc, word.as_str())?)?;
+    }
+    Ok(copy)
+}
+
+/// The journal of a run, the line `program` and the text.
+fn journal_text<K>(
+    alloc: Global,
+    report: &Report<K, StandardDevice>,
+    text: &[u8],
+) -> Result<Vec<u8>, NoMemory> {
+    let Some(ended) = &report.ended else {
+        return Ok(Vec::new(alloc));
+    };
+    match journal_of(alloc, ended.journal())? {
+        Some(journal) => input_of(alloc, &journal, text),
+        None => Ok(Vec::new(alloc)),
+    }
+}
+
+/// Writes what `ame` writes where the text isn't read.
+pub fn show_unread<W: io::Write + Drop>(writer: W, fail: ReadAllFail) -> u8 {
+    match fail {
+        ReadAllFail::ReadFault => write(writer, b"read fault\nthe text can't be read\n", 4),
+        ReadAllFail::TooLong => write(
+            writer,
+            b"refused: too long\na text has at most 1048576 bytes\n",
+            5,
+        ),
+        ReadAllFail::NoMemory => write(writer, b"no memory\n", 9),
+    }
+}
+
+/// Writes bytes, and tells the status: this number, unless the sink fails.
+fn write<W: io::Write + Drop>(writer: W, bytes: &[u8], number: u8) -> u8 {
+    match write_all(&mut StdSink::new(writer), bytes) {
+        Ok(()) => number,
+        Err(_) => 7,
+    }
+}

@@ -4,6 +4,7 @@
 mod gate;
 mod hand;
 mod opening;
+mod pause;
 mod points;
 mod shared;
 mod worker;

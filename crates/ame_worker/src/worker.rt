@@ -12,6 +12,7 @@ ghost use Rattle.ame_worker.specs.Workers.{IsSeated, IsReadyToTurn, IsThrough};
 
 use crate::gate::{Gate, Point};
 use crate::hand::{Played, hand};
+use crate::pause::pause;
 use crate::shared::{Opened, SeatRow, Shared};
 use ame_baton::{Baton, Seat, SeatAt};
 use ame_device::Device;
@@ -115,7 +116,7 @@ where
         Turned::Did(point)
     }
 
-    /// Has turns until a stop is kept and its seat has nothing at work. It may wait.
+    /// Has turns until a stop is kept and its seat has nothing at work. It may wait, and sleeps where that takes long.
     pub fn work<R: Wait, G: Gate>(
         &mut self,
         rt: &R,
@@ -133,7 +134,7 @@ where
         for _ in rt.forever() {
             match self.turn(rt, alloc, baton, gate) {
                 Turned::Did(Point::Stopped) => return,
-                Turned::Did(Point::Idle) | Turned::Busy => backoff.snooze(),
+                Turned::Did(Point::Idle) | Turned::Busy => pause(rt, &backoff),
                 Turned::Did(_) => backoff = Backoff::new(),
             }
         }

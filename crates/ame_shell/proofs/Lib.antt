@@ -5,7 +5,4 @@ pub mod StopLemmas
 pub mod DeedLemmas
 pub mod SendLemmas
 pub mod TurnLemmas
-pub mod CountLemmas
-pub mod FitsLemmas
-pub mod UndoneLemmas
 pub mod OverLemmas

@@ -4,4 +4,3 @@ pub mod Heard
 pub mod Over
 pub mod Shell
 pub mod Turned
-pub mod Alone

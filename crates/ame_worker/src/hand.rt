@@ -38,24 +38,25 @@ where
     M::Code: Drop,
     requires of { IsSeatOf baton.now seat.old }
     requires holds { (knows seat.old).holds ≡ true }
-    requires seated { IsSeated M.devices code.now shared.shell.engine.limits (knows seat.old) }
+    requires seated { IsSeated M.devices code.now shared.shell.value.engine.limits (knows seat.old) }
     requires found { slice_get (knows seat.old).rows (knows seat.old).number ≡ Some (knows seat.old).row }
     requires stands { IsSomeAnd (knows seat.old).fixed (λ opened. IsShared M.program M.devices M.value_of M.is_machine M.stage opened
-        (shown K.written K.faults D.device_heard D.device_faults shared.shell.engine shared.shell.sent shared.shell.sink shared.shell.devices.items)
+        (shown K.written K.faults D.device_heard D.device_faults shared.shell.value.engine shared.shell.value.sent shared.shell.value.sink shared.shell.value.devices.items)
         shared.places.items (knows seat.old).rows (knows seat.old).seen) }
-    requires prepared { IsPrepared M.is_machine M.stage code.now shared.shell.engine.limits.slice (knows seat.old).row.hand work }
-    requires ready { lacks ≡ false → IsReadyWork M.stage code.now shared.shell.engine.limits.slice work }
+    requires prepared { IsPrepared M.is_machine M.stage code.now shared.shell.value.engine.limits.slice (knows seat.old).row.hand work }
+    requires ready { lacks ≡ false → IsReadyWork M.stage code.now shared.shell.value.engine.limits.slice work }
     ensures of { IsSeatOf baton.now seat.new }
-    ensures ready { IsReadyToTurn M.devices M.is_machine M.stage code.now shared.shell.engine.limits (knows seat.new) result.work }
+    ensures ready { IsReadyToTurn M.devices M.is_machine M.stage code.now shared.shell.value.engine.limits (knows seat.new) result.work }
     ensures makes { MakesTurn M.program M.devices M.value_of M.is_machine M.stage code.now work result.work (knows seat.old) (knows seat.new) result.point }
 {
     let number = seat.number();
     let mut shared = shared;
-    shared.shell.engine.stands();
-    let before = member_at(&shared.shell.engine, number);
-    let Turned { deed, work } = shared.shell.turn(code, number, work, lacks);
-    shared.shell.engine.stands();
-    let after = member_at(&shared.shell.engine, number);
+    let shell = &mut *shared.shell;
+    shell.engine.stands();
+    let before = member_at(&shell.engine, number);
+    let Turned { deed, work } = shell.turn(code, number, work, lacks);
+    shell.engine.stands();
+    let after = member_at(&shell.engine, number);
     shared.keep(number, &work);
     baton.give::<AnyRow, R>(rt, seat, shared);
     Played {

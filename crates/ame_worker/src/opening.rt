@@ -45,12 +45,12 @@ where
         requires limits { AreLimits limits }
         ensures stands { IfOk result (λ shared. IsShared M.program M.devices M.value_of M.is_machine M.stage
             (opened_with (arc_value code) limits (ends_of K.written K.faults D.device_heard D.device_faults sink devices.items))
-            (shown K.written K.faults D.device_heard D.device_faults shared.shell.engine shared.shell.sent shared.shell.sink shared.shell.devices.items)
+            (shown K.written K.faults D.device_heard D.device_faults shared.shell.value.engine shared.shell.value.sent shared.shell.value.sink shared.shell.value.devices.items)
             shared.places.items (replicate limits.seats empty_row) []) }
-        ensures code { IfOk result (λ shared. shared.shell.engine.code ≡ arc_value code) }
-        ensures limits { IfOk result (λ shared. shared.shell.engine.limits ≡ limits) }
-        ensures kept_sink { IfOk result (λ shared. shared.shell.sink ≡ sink) }
-        ensures kept_devices { IfOk result (λ shared. shared.shell.devices ≡ devices) }
+        ensures code { IfOk result (λ shared. shared.shell.value.engine.code ≡ arc_value code) }
+        ensures limits { IfOk result (λ shared. shared.shell.value.engine.limits ≡ limits) }
+        ensures kept_sink { IfOk result (λ shared. shared.shell.value.sink ≡ sink) }
+        ensures kept_devices { IfOk result (λ shared. shared.shell.value.devices ≡ devices) }
         ensures sink { IfErr result (λ back. back.0 ≡ sink) }
         ensures devices { IfErr result (λ back. back.1 ≡ devices) }
     {
@@ -60,14 +60,15 @@ where
         let Ok(engine) = Engine::<M>::start(alloc, code, limits) else {
             return Err((sink, devices));
         };
-        Ok(Shared {
-            shell: Shell {
-                engine,
-                sink,
-                sent: 0,
-                devices,
-            },
-            places,
-        })
+        let shell = Shell {
+            engine,
+            sink,
+            sent: 0,
+            devices,
+        };
+        match Box::new(alloc, shell) {
+            Ok(shell) => Ok(Shared { shell, places }),
+            Err(refused) => Err(refused.value.into_ends()),
+        }
     }
 }

@@ -43,12 +43,12 @@ impl<M> Place<M> {
     }
 }
 
-/// A shell that workers share, with a place for each seat.
+/// A shell that workers share, with a place for each seat. It is small, so that it passes from seat to seat at little cost.
 pub struct Shared<M: Runner, K, D>
 where
     M::Code: Drop,
 {
-    pub shell: Shell<M, K, D>,
+    pub shell: Box<Shell<M, K, D>>,
     pub places: Vec<Place<M>>,
 }
 
@@ -70,16 +70,16 @@ where
 {
     /// The shell, which nobody shares any more.
     pub fn into_shell(self) -> Shell<M, K, D>
-        ensures { result ≡ self.shell }
+        ensures { result ≡ self.shell.value }
     {
         let Shared { shell, places: _ } = self;
-        shell
+        Box::into_inner(shell)
     }
 
     /// Keeps what a seat has at hand that gives the turn.
     pub(crate) fn keep(&mut self, seat: u32, hand: &Work<M>)
         requires there { seat < vec_len self.old.places }
-        ensures places { self.new.places.items ≡ slice_set self.old.places.items seat (keeping self.old.shell.engine hand.now) }
+        ensures places { self.new.places.items ≡ slice_set self.old.places.items seat (keeping self.old.shell.value.engine hand.now) }
         ensures shell { self.new.shell ≡ self.old.shell }
     {
         let marked = self.shell.engine.stopped().is_some();
@@ -126,10 +126,10 @@ where
     ghost use Rattle.ame_worker.specs.Turns.{maker};
 
     ghost stands_for = { λ s opened rows entries. IsShared M.program M.devices M.value_of M.is_machine M.stage opened
-        (shown K.written K.faults D.device_heard D.device_faults s.shell.engine s.shell.sent s.shell.sink s.shell.devices.items)
+        (shown K.written K.faults D.device_heard D.device_faults s.shell.value.engine s.shell.value.sent s.shell.value.sink s.shell.value.devices.items)
         s.places.items rows entries };
 
-    ghost opening = { λ s. opened_as s.shell.engine (ends_of K.written K.faults D.device_heard D.device_faults s.shell.sink s.shell.devices.items) };
+    ghost opening = { λ s. opened_as s.shell.value.engine (ends_of K.written K.faults D.device_heard D.device_faults s.shell.value.sink s.shell.value.devices.items) };
 
     ghost seats_in = { λ opened. opened.limits.seats };
 

@@ -22,7 +22,7 @@ use Rattle.ame_team.proofs.run.run_by_workers.Goals as goal
 
 pub team-workers-requires-clause-seated : goal.team-workers-requires-clause-seated
 team-workers-requires-clause-seated g c =
-    let shell = c.in-Ok-open.shared.shell in
+    let shell = c.in-Ok-open.shared.shell.value in
     let made = c.in-Ok-new.ensures.first in
     record {
       opened = opened_as shell.engine (ends_of g.K.Sink.written g.K.Sink.faults g.D.Device.device_heard g.D.Device.device_faults shell.sink shell.devices.items);
@@ -124,8 +124,8 @@ finish-requires-clause-idle g c =
     (sym (take_at new _ c.team-workers.result.len (after.count ∙ ap length c.as_mut_slice.ensures.value ∙ sym c.team-workers.result.ok.0))) ∙ c.seats_of-first.ensures.all in
     let ends = ends_of g.K.Sink.written g.K.Sink.faults g.D.Device.device_heard g.D.Device.device_faults c.args.sink c.args.devices.items in
     let state = c.end.result in
-    let shell = shown g.K.Sink.written g.K.Sink.faults g.D.Device.device_heard g.D.Device.device_faults state.shell.engine state.shell.sent state.shell.sink state.shell.devices.items in
-    let before = c.in-Ok-open.shared.shell in
+    let shell = shown g.K.Sink.written g.K.Sink.faults g.D.Device.device_heard g.D.Device.device_faults state.shell.value.engine state.shell.value.sent state.shell.value.sink state.shell.value.devices.items in
+    let before = c.in-Ok-open.shared.shell.value in
     let opening = opened_as before.engine (ends_of g.K.Sink.written g.K.Sink.faults g.D.Device.device_heard g.D.Device.device_faults before.sink before.devices.items) in
     let is = (first-done baton opened count old new len after.count placed after.of after.keeps after.through first rest all).at.fixed ∙ ap (λ k. k.fixed) c.in-Ok-new.ensures.first in
     let shared = some-and _ (knows first).fixed opening is c.end.ensures.stands in
@@ -153,8 +153,8 @@ finish-requires-clause-stopped g c =
     (sym (take_at new _ c.team-workers.result.len (after.count ∙ ap length c.as_mut_slice.ensures.value ∙ sym c.team-workers.result.ok.0))) ∙ c.seats_of-first.ensures.all in
     let ends = ends_of g.K.Sink.written g.K.Sink.faults g.D.Device.device_heard g.D.Device.device_faults c.args.sink c.args.devices.items in
     let state = c.end.result in
-    let shell = shown g.K.Sink.written g.K.Sink.faults g.D.Device.device_heard g.D.Device.device_faults state.shell.engine state.shell.sent state.shell.sink state.shell.devices.items in
-    let before = c.in-Ok-open.shared.shell in
+    let shell = shown g.K.Sink.written g.K.Sink.faults g.D.Device.device_heard g.D.Device.device_faults state.shell.value.engine state.shell.value.sent state.shell.value.sink state.shell.value.devices.items in
+    let before = c.in-Ok-open.shared.shell.value in
     let opening = opened_as before.engine (ends_of g.K.Sink.written g.K.Sink.faults g.D.Device.device_heard g.D.Device.device_faults before.sink before.devices.items) in
     let is = (first-done baton opened count old new len after.count placed after.of after.keeps after.through first rest all).at.fixed ∙ ap (λ k. k.fixed) c.in-Ok-new.ensures.first in
     let shared = some-and _ (knows first).fixed opening is c.end.ensures.stands in
@@ -181,8 +181,8 @@ returns-clause-over g c =
     (sym (take_at new _ c.team-workers.result.len (after.count ∙ ap length c.as_mut_slice.ensures.value ∙ sym c.team-workers.result.ok.0))) ∙ c.seats_of-first.ensures.all in
     let ends = ends_of g.K.Sink.written g.K.Sink.faults g.D.Device.device_heard g.D.Device.device_faults c.args.sink c.args.devices.items in
     let state = c.end.result in
-    let shell = shown g.K.Sink.written g.K.Sink.faults g.D.Device.device_heard g.D.Device.device_faults state.shell.engine state.shell.sent state.shell.sink state.shell.devices.items in
-    let before = c.in-Ok-open.shared.shell in
+    let shell = shown g.K.Sink.written g.K.Sink.faults g.D.Device.device_heard g.D.Device.device_faults state.shell.value.engine state.shell.value.sent state.shell.value.sink state.shell.value.devices.items in
+    let before = c.in-Ok-open.shared.shell.value in
     let opening = opened_as before.engine (ends_of g.K.Sink.written g.K.Sink.faults g.D.Device.device_heard g.D.Device.device_faults before.sink before.devices.items) in
     let is = (first-done baton opened count old new len after.count placed after.of after.keeps after.through first rest all).at.fixed ∙ ap (λ k. k.fixed) c.in-Ok-new.ensures.first in
     let shared = some-and _ (knows first).fixed opening is c.end.ensures.stands in

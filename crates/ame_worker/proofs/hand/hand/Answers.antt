@@ -9,7 +9,8 @@ use Rattle.ame_turn.specs.Work.{stage_at, Fits}
 use Rattle.ame_turn.specs.Ready.{CanBePrepared, IsPrepared}
 use Rattle.ame_baton.specs.Batons.{knows}
 use Rattle.ame_worker.specs.Rows.{row_of}
-use Rattle.ame_worker.specs.Shared.{opening_of, keeping}
+use Rattle.ame_worker.specs.Shared.{opening_of, keeping, IsShared}
+use Rattle.ame_worker.specs.Workers.{IsSeated}
 use Rattle.ame_worker.specs.Points.{member_at, point_of}
 use Rattle.ame_worker.proofs.SlotLemmas.{turn-slots}
 use Rattle.ame_worker.proofs.EntryLemmas.{turn-extends}
@@ -21,104 +22,98 @@ pub turn-deed-requires-clause-fits : goal.turn-deed-requires-clause-fits
 turn-deed-requires-clause-fits g c =
     let r = g.M.Runner in
     let k = knows c.args.seat.now in
-    let engine = c.args.shared.shell.engine in
-    let old = shown g.K.Sink.written g.K.Sink.faults g.D.Device.device_heard g.D.Device.device_faults engine c.args.shared.shell.sent c.args.shared.shell.sink c.args.shared.shell.devices.items in
-    let was = some-and _ k.fixed c.requires.seated.opened c.requires.seated.is c.requires.stands in
+    let sh = c.deref_mut-shell.result.now in
+    let to_shell = sym c.deref_mut-shell.ensures.value in
+    let seated = subst (λ it. IsSeated r.devices c.args.code.now it.engine.limits k) to_shell c.requires.seated in
+    let engine = sh.engine in
+    let old = shown g.K.Sink.written g.K.Sink.faults g.D.Device.device_heard g.D.Device.device_faults engine sh.sent sh.sink sh.devices.items in
+    let was = subst (λ it. IsShared r.program r.devices r.value_of r.is_machine r.stage seated.opened
+    (shown g.K.Sink.written g.K.Sink.faults g.D.Device.device_heard g.D.Device.device_faults it.engine it.sent it.sink it.devices.items) c.args.shared.places.items k.rows k.seen)
+    to_shell (some-and _ k.fixed seated.opened seated.is c.requires.stands) in
     subst (λ n. Fits r.program r.devices r.value_of r.is_machine r.stage engine n c.args.work) (sym c.number-number.ensures)
-    (hand-fits r.program r.devices r.value_of r.is_machine r.stage c.requires.seated.opened old old c.args.shared.places.items k.rows k.seen was k.number c.requires.seated.number
+    (hand-fits r.program r.devices r.value_of r.is_machine r.stage seated.opened old old c.args.shared.places.items k.rows k.seen was k.number seated.number
     k.row c.requires.found c.args.work
-    (subst (λ code. IsPrepared r.is_machine r.stage code engine.limits.slice k.row.hand c.args.work) (sym (was.shell.opened.code ∙ c.requires.seated.of_code)) c.requires.prepared))
+    (subst (λ code. IsPrepared r.is_machine r.stage code engine.limits.slice k.row.hand c.args.work) (sym (was.shell.opened.code ∙ seated.of_code))
+    (subst (λ it. IsPrepared r.is_machine r.stage c.args.code.now it.engine.limits.slice k.row.hand c.args.work) to_shell c.requires.prepared)))
 
 pub turn-deed-requires-clause-sent : goal.turn-deed-requires-clause-sent
 turn-deed-requires-clause-sent g c =
+    let r = g.M.Runner in
     let k = knows c.args.seat.now in
-    let shell = c.args.shared.shell in
-    let opened = c.requires.seated.opened in
-    let was = some-and _ k.fixed opened c.requires.seated.is c.requires.stands in
-    sent-within shell.engine.stop shell.sent (opening_of opened).ends.write_faults (g.K.Sink.faults shell.sink) (lines shell.engine.output) was.shell.sends.goes
+    let sh = c.deref_mut-shell.result.now in
+    let to_shell = sym c.deref_mut-shell.ensures.value in
+    let seated = subst (λ it. IsSeated r.devices c.args.code.now it.engine.limits k) to_shell c.requires.seated in
+    let opened = seated.opened in
+    let was = subst (λ it. IsShared r.program r.devices r.value_of r.is_machine r.stage opened
+    (shown g.K.Sink.written g.K.Sink.faults g.D.Device.device_heard g.D.Device.device_faults it.engine it.sent it.sink it.devices.items) c.args.shared.places.items k.rows k.seen)
+    to_shell (some-and _ k.fixed opened seated.is c.requires.stands) in
+    sent-within sh.engine.stop sh.sent (opening_of opened).ends.write_faults (g.K.Sink.faults sh.sink) (lines sh.engine.output) was.shell.sends.goes
 
 pub give-requires-clause-may : goal.give-requires-clause-may
 give-requires-clause-may g c =
     let r = g.M.Runner in
     let k = knows c.args.seat.now in
-    let engine = c.args.shared.shell.engine in
-    let old = shown g.K.Sink.written g.K.Sink.faults g.D.Device.device_heard g.D.Device.device_faults engine c.args.shared.shell.sent c.args.shared.shell.sink c.args.shared.shell.devices.items in
+    let sh = c.deref_mut-shell.result.now in
+    let to_shell = sym c.deref_mut-shell.ensures.value in
+    let seated = subst (λ it. IsSeated r.devices c.args.code.now it.engine.limits k) to_shell c.requires.seated in
+    let engine = sh.engine in
+    let old = shown g.K.Sink.written g.K.Sink.faults g.D.Device.device_heard g.D.Device.device_faults engine sh.sent sh.sink sh.devices.items in
     let s = c.turn-deed.new.self in
     let new = shown g.K.Sink.written g.K.Sink.faults g.D.Device.device_heard g.D.Device.device_faults s.engine s.sent s.sink s.devices.items in
     let t = c.turn-deed.ensures in
     let same = c.number-number.ensures in
-    let opened = c.requires.seated.opened in
+    let opened = seated.opened in
     let places = c.args.shared.places.items in
     let work = c.turn-deed.result.work in
-    let was = some-and _ k.fixed opened c.requires.seated.is c.requires.stands in
+    let was = subst (λ it. IsShared r.program r.devices r.value_of r.is_machine r.stage opened
+    (shown g.K.Sink.written g.K.Sink.faults g.D.Device.device_heard g.D.Device.device_faults it.engine it.sent it.sink it.devices.items) c.args.shared.places.items k.rows k.seen)
+    to_shell (some-and _ k.fixed opened seated.is c.requires.stands) in
     let turned = subst (λ n. HasTurned r.program r.devices r.value_of r.stage n (stage_at r.stage engine.code c.args.work) old new c.turn-deed.result.deed) same t.turned in
     let fits = subst (λ n. Fits r.program r.devices r.value_of r.is_machine r.stage s.engine n work) same t.fits in
     let others = subst (λ n. (other : ℕ) (rest : Work g.row.M.Denot) → other ≢ n → Fits r.program r.devices r.value_of r.is_machine r.stage engine other rest
     → Fits r.program r.devices r.value_of r.is_machine r.stage s.engine other rest) same t.others in
     let extends = turn-extends r.program r.devices r.value_of r.stage k.number (stage_at r.stage engine.code c.args.work) old new c.turn-deed.result.deed turned in
     let stay = turn-slots r.program r.devices r.value_of r.stage k.number (stage_at r.stage engine.code c.args.work) old new c.turn-deed.result.deed c.stands.ensures turned in
-    let on = shared-on r.program r.devices r.value_of r.is_machine r.stage opened old new places k.rows k.seen was k.number c.requires.seated.number work extends stay fits others
+    let on = shared-on r.program r.devices r.value_of r.is_machine r.stage opened old new places k.rows k.seen was k.number seated.number work extends stay fits others
     (t.keeps (opening_of opened) was.shell) in
     may-give-on r.program r.devices r.value_of r.is_machine r.stage
-    (λ s. shown g.K.Sink.written g.K.Sink.faults g.D.Device.device_heard g.D.Device.device_faults s.shell.engine s.shell.sent s.shell.sink s.shell.devices.items)
-    (λ s. s.places.items) _ k c.keep.new.self opened c.requires.seated.is new
-    (ap (λ sh. shown g.K.Sink.written g.K.Sink.faults g.D.Device.device_heard g.D.Device.device_faults sh.engine sh.sent sh.sink sh.devices.items) c.keep.ensures.shell)
+    (λ s. shown g.K.Sink.written g.K.Sink.faults g.D.Device.device_heard g.D.Device.device_faults s.shell.value.engine s.shell.value.sent s.shell.value.sink s.shell.value.devices.items)
+    (λ s. s.places.items) _ k c.keep.new.self opened seated.is new
+    (ap (λ box. shown g.K.Sink.written g.K.Sink.faults g.D.Device.device_heard g.D.Device.device_faults box.value.engine box.value.sent box.value.sink box.value.devices.items) c.keep.ensures.shell)
     (set places k.number (keeping s.engine work)) (c.keep.ensures.places ∙ ap (λ n. set places n (keeping s.engine work)) same)
     (row_of s.engine k.number (keeping s.engine work)) tt extends.added extends.by_seat on
-
-pub returns-clause-ready : goal.returns-clause-ready
-returns-clause-ready g c =
-    let r = g.M.Runner in
-    let k = knows c.args.seat.now in
-    let engine = c.args.shared.shell.engine in
-    let old = shown g.K.Sink.written g.K.Sink.faults g.D.Device.device_heard g.D.Device.device_faults engine c.args.shared.shell.sent c.args.shared.shell.sink c.args.shared.shell.devices.items in
-    let s = c.turn-deed.new.self in
-    let new = shown g.K.Sink.written g.K.Sink.faults g.D.Device.device_heard g.D.Device.device_faults s.engine s.sent s.sink s.devices.items in
-    let t = c.turn-deed.ensures in
-    let same = c.number-number.ensures in
-    let opened = c.requires.seated.opened in
-    let places = c.args.shared.places.items in
-    let work = c.turn-deed.result.work in
-    let was = some-and _ k.fixed opened c.requires.seated.is c.requires.stands in
-    let turned = subst (λ n. HasTurned r.program r.devices r.value_of r.stage n (stage_at r.stage engine.code c.args.work) old new c.turn-deed.result.deed) same t.turned in
-    let in_rows = slice_get_within k.rows k.number k.row c.requires.found in
-    let in_places = subst (λ n. k.number < n) (sym was.count) c.requires.seated.number in
-    let within = subst (λ (l : Limits). k.number < l.seats) (sym t.limits) c.requires.seated.number in
-    let shows = ap (λ sh. shown g.K.Sink.written g.K.Sink.faults g.D.Device.device_heard g.D.Device.device_faults sh.engine sh.sent sh.sink sh.devices.items) c.keep.ensures.shell in
-    let keeps = c.keep.ensures.places ∙ ap (λ n. set places n (keeping s.engine work)) same in
-    let gave = gave-row r.program r.devices r.value_of r.is_machine r.stage
-    (λ s. shown g.K.Sink.written g.K.Sink.faults g.D.Device.device_heard g.D.Device.device_faults s.shell.engine s.shell.sent s.shell.sink s.shell.devices.items)
-    (λ s. s.places.items) _ k (knows c.give.new.seat) c.keep.new.self c.give.ensures.given opened c.requires.seated.is new shows places work keeps in_rows in_places within in
-    let can = subst (λ code. CanBePrepared r.is_machine r.stage code engine.limits.slice work) (t.code ∙ was.shell.opened.code ∙ c.requires.seated.of_code)
-    (subst (λ (l : Limits). CanBePrepared r.is_machine r.stage s.engine.code l.slice work) t.limits t.can) in
-    ready-again r.devices r.is_machine r.stage c.args.code.now engine.limits k (knows c.give.new.seat) (row_of s.engine k.number (keeping s.engine work)) work gave refl c.requires.seated can
 
 pub returns-clause-makes : goal.returns-clause-makes
 returns-clause-makes g c =
     let r = g.M.Runner in
     let k = knows c.args.seat.now in
-    let engine = c.args.shared.shell.engine in
-    let old = shown g.K.Sink.written g.K.Sink.faults g.D.Device.device_heard g.D.Device.device_faults engine c.args.shared.shell.sent c.args.shared.shell.sink c.args.shared.shell.devices.items in
+    let sh = c.deref_mut-shell.result.now in
+    let to_shell = sym c.deref_mut-shell.ensures.value in
+    let seated = subst (λ it. IsSeated r.devices c.args.code.now it.engine.limits k) to_shell c.requires.seated in
+    let engine = sh.engine in
+    let old = shown g.K.Sink.written g.K.Sink.faults g.D.Device.device_heard g.D.Device.device_faults engine sh.sent sh.sink sh.devices.items in
     let s = c.turn-deed.new.self in
     let new = shown g.K.Sink.written g.K.Sink.faults g.D.Device.device_heard g.D.Device.device_faults s.engine s.sent s.sink s.devices.items in
     let t = c.turn-deed.ensures in
     let same = c.number-number.ensures in
-    let opened = c.requires.seated.opened in
+    let opened = seated.opened in
     let places = c.args.shared.places.items in
     let work = c.turn-deed.result.work in
-    let was = some-and _ k.fixed opened c.requires.seated.is c.requires.stands in
+    let was = subst (λ it. IsShared r.program r.devices r.value_of r.is_machine r.stage opened
+    (shown g.K.Sink.written g.K.Sink.faults g.D.Device.device_heard g.D.Device.device_faults it.engine it.sent it.sink it.devices.items) c.args.shared.places.items k.rows k.seen)
+    to_shell (some-and _ k.fixed opened seated.is c.requires.stands) in
     let turned = subst (λ n. HasTurned r.program r.devices r.value_of r.stage n (stage_at r.stage engine.code c.args.work) old new c.turn-deed.result.deed) same t.turned in
     let in_rows = slice_get_within k.rows k.number k.row c.requires.found in
-    let in_places = subst (λ n. k.number < n) (sym was.count) c.requires.seated.number in
-    let within = subst (λ (l : Limits). k.number < l.seats) (sym t.limits) c.requires.seated.number in
-    let shows = ap (λ sh. shown g.K.Sink.written g.K.Sink.faults g.D.Device.device_heard g.D.Device.device_faults sh.engine sh.sent sh.sink sh.devices.items) c.keep.ensures.shell in
+    let in_places = subst (λ n. k.number < n) (sym was.count) seated.number in
+    let within = subst (λ (l : Limits). k.number < l.seats) (sym t.limits) seated.number in
+    let shows = ap (λ box. shown g.K.Sink.written g.K.Sink.faults g.D.Device.device_heard g.D.Device.device_faults box.value.engine box.value.sent box.value.sink box.value.devices.items) c.keep.ensures.shell in
     let keeps = c.keep.ensures.places ∙ ap (λ n. set places n (keeping s.engine work)) same in
     let gave = gave-row r.program r.devices r.value_of r.is_machine r.stage
-    (λ s. shown g.K.Sink.written g.K.Sink.faults g.D.Device.device_heard g.D.Device.device_faults s.shell.engine s.shell.sent s.shell.sink s.shell.devices.items)
-    (λ s. s.places.items) _ k (knows c.give.new.seat) c.keep.new.self c.give.ensures.given opened c.requires.seated.is new shows places work keeps in_rows in_places within in
+    (λ s. shown g.K.Sink.written g.K.Sink.faults g.D.Device.device_heard g.D.Device.device_faults s.shell.value.engine s.shell.value.sent s.shell.value.sink s.shell.value.devices.items)
+    (λ s. s.places.items) _ k (knows c.give.new.seat) c.keep.new.self c.give.ensures.given opened seated.is new shows places work keeps in_rows in_places within in
     record {
       opened = opened;
-      is = c.requires.seated.is;
+      is = seated.is;
       taken = old;
       places = places;
       was = was;
@@ -126,13 +121,27 @@ returns-clause-makes g c =
       given = new;
       turned =
           subst (λ code. HasTurned r.program r.devices r.value_of r.stage k.number (stage_at r.stage code c.args.work) old new c.turn-deed.result.deed)
-          (was.shell.opened.code ∙ c.requires.seated.of_code) turned;
+          (was.shell.opened.code ∙ seated.of_code) turned;
       gave = gave;
       then = then-shared r.program r.devices r.value_of r.is_machine r.stage
-          (λ s. shown g.K.Sink.written g.K.Sink.faults g.D.Device.device_heard g.D.Device.device_faults s.shell.engine s.shell.sent s.shell.sink s.shell.devices.items)
-          (λ s. s.places.items) _ k (knows c.give.new.seat) c.keep.new.self c.give.ensures.given opened c.requires.seated.is new shows places work keeps in_rows in_places within;
+          (λ s. shown g.K.Sink.written g.K.Sink.faults g.D.Device.device_heard g.D.Device.device_faults s.shell.value.engine s.shell.value.sent s.shell.value.sink s.shell.value.devices.items)
+          (λ s. s.places.items) _ k (knows c.give.new.seat) c.keep.new.self c.give.ensures.given opened seated.is new shows places work keeps in_rows in_places within;
       told =
           c.point_of.ensures
           ∙ ap (λ b. point_of c.turn-deed.result.deed b c.member_at-after.result) (c.member_at-before.ensures ∙ ap (member_at engine) same)
           ∙ ap (point_of c.turn-deed.result.deed (member_at engine k.number)) (c.member_at-after.ensures ∙ ap (member_at s.engine) same);
     }
+
+pub returns-clause-ready : goal.returns-clause-ready
+unfolding returns-clause-makes
+returns-clause-ready g c =
+    let r = g.M.Runner in
+    let k = knows c.args.seat.now in
+    let seated = subst (λ it. IsSeated r.devices c.args.code.now it.engine.limits k) (sym c.deref_mut-shell.ensures.value) c.requires.seated in
+    let made = returns-clause-makes g c in
+    let can = subst (λ code. CanBePrepared r.is_machine r.stage code c.args.shared.shell.value.engine.limits.slice c.turn-deed.result.work)
+    (c.turn-deed.ensures.code ∙ made.was.shell.opened.code ∙ seated.of_code)
+    (subst (λ (l : Limits). CanBePrepared r.is_machine r.stage c.turn-deed.new.self.engine.code l.slice c.turn-deed.result.work)
+    (c.turn-deed.ensures.limits ∙ ap (λ it. it.engine.limits) c.deref_mut-shell.ensures.value) c.turn-deed.ensures.can) in
+    ready-again r.devices r.is_machine r.stage c.args.code.now c.args.shared.shell.value.engine.limits k (knows c.give.new.seat)
+    (row_of made.given.core k.number (keeping made.given.core c.turn-deed.result.work)) c.turn-deed.result.work made.gave refl c.requires.seated can

@@ -36,11 +36,11 @@ hand-point-requires-clause-seated g c =
     let k = knows c.args.self.now.seat in
     let holding = knows c.try_take.new.seat in
     let shared = c.in-Some.shared in
-    let shows = shown g.K.Sink.written g.K.Sink.faults g.D.Device.device_heard g.D.Device.device_faults shared.shell.engine shared.shell.sent shared.shell.sink shared.shell.devices.items in
+    let shows = shown g.K.Sink.written g.K.Sink.faults g.D.Device.device_heard g.D.Device.device_faults shared.shell.value.engine shared.shell.value.sent shared.shell.value.sink shared.shell.value.devices.items in
     let same = same-limits r.program r.devices r.value_of r.is_machine r.stage limits code k c.requires.ready.seated shows shared.places.items holding.rows holding.seen
     c.in-Some.ensures.taken.stands in
     let found = take_finds _ maker k holding shared c.in-Some.ensures.taken in
-    subst (λ code. IsSeated r.devices code shared.shell.engine.limits holding) (sym c.deref-code.ensures)
+    subst (λ code. IsSeated r.devices code shared.shell.value.engine.limits holding) (sym c.deref-code.ensures)
     (subst (λ limits. IsSeated r.devices code limits holding) same (still-seated r.devices code limits k holding found.keeps c.requires.ready.seated))
 
 pub hand-point-requires-clause-prepared : goal.hand-point-requires-clause-prepared
@@ -51,15 +51,15 @@ hand-point-requires-clause-prepared g c =
     let k = knows c.args.self.now.seat in
     let holding = knows c.try_take.new.seat in
     let shared = c.in-Some.shared in
-    let shows = shown g.K.Sink.written g.K.Sink.faults g.D.Device.device_heard g.D.Device.device_faults shared.shell.engine shared.shell.sent shared.shell.sink shared.shell.devices.items in
+    let shows = shown g.K.Sink.written g.K.Sink.faults g.D.Device.device_heard g.D.Device.device_faults shared.shell.value.engine shared.shell.value.sent shared.shell.value.sink shared.shell.value.devices.items in
     let same = same-limits r.program r.devices r.value_of r.is_machine r.stage limits code k c.requires.ready.seated shows shared.places.items holding.rows holding.seen
     c.in-Some.ensures.taken.stands in
     let found = take_finds _ maker k holding shared c.in-Some.ensures.taken in
     let work = c.prepare.new.work in
     let done = subst (λ code. IsPrepared r.is_machine r.stage code limits.slice c.args.self.now.work work) c.deref-code.ensures c.prepare.ensures.prepared in
     let all = prepared-twice r.is_machine r.stage code limits.slice k.row.hand c.args.self.now.work work c.requires.ready.prepared done in
-    subst (λ work. IsPrepared r.is_machine r.stage c.deref-code.result.now shared.shell.engine.limits.slice holding.row.hand work) (sym c.replace-work.ensures.value)
-    (subst (λ code. IsPrepared r.is_machine r.stage code shared.shell.engine.limits.slice holding.row.hand work) (sym c.deref-code.ensures)
+    subst (λ work. IsPrepared r.is_machine r.stage c.deref-code.result.now shared.shell.value.engine.limits.slice holding.row.hand work) (sym c.replace-work.ensures.value)
+    (subst (λ code. IsPrepared r.is_machine r.stage code shared.shell.value.engine.limits.slice holding.row.hand work) (sym c.deref-code.ensures)
     (subst (λ (l : Limits). IsPrepared r.is_machine r.stage code l.slice holding.row.hand work) same
     (subst (λ (row : Row g.row.M.Denot). IsPrepared r.is_machine r.stage code limits.slice row.hand work) (sym found.row) all)))
 
@@ -71,12 +71,12 @@ hand-point-requires-clause-ready g c = λ fine.
     let k = knows c.args.self.now.seat in
     let holding = knows c.try_take.new.seat in
     let shared = c.in-Some.shared in
-    let shows = shown g.K.Sink.written g.K.Sink.faults g.D.Device.device_heard g.D.Device.device_faults shared.shell.engine shared.shell.sent shared.shell.sink shared.shell.devices.items in
+    let shows = shown g.K.Sink.written g.K.Sink.faults g.D.Device.device_heard g.D.Device.device_faults shared.shell.value.engine shared.shell.value.sent shared.shell.value.sink shared.shell.value.devices.items in
     let same = same-limits r.program r.devices r.value_of r.is_machine r.stage limits code k c.requires.ready.seated shows shared.places.items holding.rows holding.seen
     c.in-Some.ensures.taken.stands in
     let ready = ready-unless c.prepare.result (IsReadyWork r.stage c.deref-code.result.now limits.slice c.prepare.new.work) (sym c.is_err-lacks.ensures.value ∙ fine)
     c.prepare.ensures.ready in
-    subst (λ work. IsReadyWork r.stage c.deref-code.result.now shared.shell.engine.limits.slice work) (sym c.replace-work.ensures.value)
+    subst (λ work. IsReadyWork r.stage c.deref-code.result.now shared.shell.value.engine.limits.slice work) (sym c.replace-work.ensures.value)
     (subst (λ (l : Limits). IsReadyWork r.stage c.deref-code.result.now l.slice c.prepare.new.work) same ready)
 
 pub returns-clause-through : goal.returns-clause-through

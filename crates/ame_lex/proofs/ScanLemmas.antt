@@ -1,10 +1,10 @@
 -- One turn of the loop over a text keeps that the tokens so far and the reading of the rest are the reading of the text.
-use Rattle.std.proofs.Common.{◌≡◌, ℕ, ◌+◌, ◌-◌, ◌<◌, ◌≤◌, List, [], ◌∷◌, ◌++◌, length, drop, get_or, refl, sym, ap, ◌∙◌, length-drop, append-nil, Ok, Err, arith}
+use Rattle.std.proofs.Common.{◌≡◌, ℕ, ◌+◌, ◌-◌, ◌<◌, ◌≤◌, List, [], ◌∷◌, ◌++◌, length, drop, get_or, refl, sym, ap, lit<, ◌∙◌, length-drop, append-nil, Ok, Err, arith}
 use Rattle.ame_lex.specs.declared.pieces.Piece.TheVariants.{Space, Found, Bad, Long}
 use Rattle.ame_lex.specs.declared.tokens.Kind.{Kind}
 use Rattle.ame_lex.specs.declared.tokens.Token.{Token}
 use Rattle.ame_lex.specs.declared.tokens.LexFault.TheVariants.{BadByte, LongNumber}
-use Rattle.ame_lex.specs.Bytes.{Text}
+use Rattle.ame_lex.specs.Bytes.{Text, class_of}
 use Rattle.ame_lex.specs.Reading.{first_piece, token_at, tokens_from, tokens_of}
 use Rattle.ame_lex.proofs.ReadingLemmas.{front, with_front, with_front-first, with_front-none, tokens_from-space, tokens_from-found, tokens_from-bad, tokens_from-long}
 
@@ -41,6 +41,10 @@ module _ (text : Text) (tokens : List Token) (rest : Text) (so_far : IsSoFar tex
         ∙ ap (with_front tokens) (sym (tokens_from-space _ len rest (front_is rest some ∙ e) positive within)) ∙ so_far.read;
     within = omega (arith, length-drop len rest, so_far.within);
   }
+
+  pub after_blank : get_or rest 0 0 ≡ 32 → IsSoFar text tokens (drop 1 rest)
+  unfolding first_piece class_of
+  after_blank blank = after_space 1 (ap (λ b. first_piece b (drop 1 rest)) blank) (lit< tt) some
 
   pub after_found : (len : ℕ) (kind : Kind) → first_piece (get_or rest 0 0) (drop 1 rest) ≡ Found kind len → 0 < len → len ≤ length rest
       → IsSoFar text (tokens ++ token_at (length text - length rest) kind len ∷ []) (drop len rest)

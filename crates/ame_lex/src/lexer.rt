@@ -18,6 +18,10 @@ fn scan(alloc: Global, text: &[u8]) -> Result<Vec<Token>, LexFault>
     let mut tokens = Vec::new(alloc);
     let mut rest = text;
     while !rest.is_empty() {
+        if rest[0] == b' ' {
+            rest = rest.split_at(1).1;
+            continue;
+        }
         let at = text.len() - rest.len();
         match first_piece(rest) {
             Piece::Space(len) => rest = rest.split_at(len).1,

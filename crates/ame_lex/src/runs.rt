@@ -6,13 +6,11 @@ ghost use Rattle.ame_lex.specs.Bytes as spec;
 
 use crate::classes::{Class, class_of};
 
+#[tactic(auto, unfolding(crate::specs::Bytes::class_of))]
 pub fn is_word_byte(b: u8) -> bool
     ensures { result ≡ spec.is_word_byte b }
 {
-    matches!(
-        class_of(b),
-        Class::Letter | Class::Digit | Class::Underscore
-    )
+    b.is_ascii_alphanumeric() || b == b'_'
 }
 
 pub fn is_digit(b: u8) -> bool

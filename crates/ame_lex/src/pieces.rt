@@ -21,7 +21,7 @@ pub enum Piece {
 }
 
 /// The piece at the front of a text: its first byte, and the bytes after it.
-#[tactic(auto, unfolding(crate::specs::Reading::first_piece))]
+#[tactic(auto, unfolding(crate::specs::Reading::first_piece, crate::specs::Bytes::class_of))]
 pub fn first_piece(text: &[u8]) -> Piece
     requires { 0 < length text.now }
     ensures value { result ≡ spec.first_piece (slice_index text.now 0) (drop 1 text.now) }
@@ -29,6 +29,9 @@ pub fn first_piece(text: &[u8]) -> Piece
 {
     let first = text[0];
     let rest = text.split_at(1).1;
+    if first.is_ascii_alphabetic() {
+        return Piece::Found(Kind::Word, 1 + word_len(rest));
+    }
     match class_of(first) {
         Class::Blank => Piece::Space(1),
         Class::Semicolon => Piece::Space(1 + line_len(rest)),

@@ -10,7 +10,7 @@ use crate::classes::{Class, class_of};
 pub fn is_word_byte(b: u8) -> bool
     ensures { result ≡ spec.is_word_byte b }
 {
-    b.is_ascii_alphanumeric() || b == b'_'
+    b.is_ascii_alphabetic() || b.is_ascii_digit() || b == b'_'
 }
 
 pub fn is_digit(b: u8) -> bool

@@ -235,12 +235,32 @@ impl Checker<'_> {
         while rest.len() > 1 {
             let part = &rest[0];
             let place = self.place(seen, part);
-            let found = self.term(seen, scope, q, part)?;
+            let found = self.do_part(seen, scope, q, part)?;
             require(&seen.types, rule::NOT_UNIT, place, &found, &Shared::Unit)?;
             rest = rest.split_at(1).1;
         }
         let ty = self.term(seen, scope, q, &rest[0])?;
         Ok(ty)
+    }
+
+    /// The type of a part of a `do` form. That of a constant is told at once.
+    #[cycle(checker)]
+    fn do_part<'t>(
+        &self,
+        seen: &mut Seen<'t>,
+        scope: &Scope<'_, 't>,
+        q: Effect,
+        part: &Term,
+    ) -> Result<Shared<'t>, TypesFail>
+        requires source { IsCheckable self.now scope.now seen.old (tree_of part.now) }
+        requires listed { AreListed seen.old.types.keys.keys scope.now }
+        ensures ty { Checks self.now scope.now q seen.old seen.new (tree_of part.now) result }
+        ensures listed { KeepsListed scope.now seen.new result }
+    {
+        match part {
+            Term::Held(value) => self.held(seen, scope, q, value),
+            _ => self.term(seen, scope, q, part),
+        }
     }
 
     #[cycle(checker)]

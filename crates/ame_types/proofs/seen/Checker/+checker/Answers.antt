@@ -26,7 +26,7 @@ unfolding typed
 sequence-returns-in_err-require-clause-ty t c =
     let p = err_from_is_err_and c.from_residual-in_err-require.result c.from_residual-in_err-require.ensures.1 in
     rw (p.1, p.2)
-    (at_fault c.args.self.now c.args.scope.now c.args.q c.args.seen.now c.term.new.seen (Tree.Do (trees_of c.args.parts.now)) _ _ _ c.in_err-require.ensures
+    (at_fault c.args.self.now c.args.scope.now c.args.q c.args.seen.now c.do_part.new.seen (Tree.Do (trees_of c.args.parts.now)) _ _ _ c.in_err-require.ensures
     (λ s. gives_value _ _ _ _ _ _ _ _ _ c.loop-rest.invariant.walk c.loop-rest-test.true c.index-rest-0.is c.in_ok-found.ensures.ty.0 c.place-place.ensures s))
 
 pub one-returns-in_err-stand-clause-ty : goal.one-returns-in_err-stand-clause-ty

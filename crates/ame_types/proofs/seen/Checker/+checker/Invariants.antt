@@ -20,7 +20,10 @@ abbrev pub decreases-recursive : goal.decreases-recursive
 decreases-recursive l = 4 * nodes (tree_of l.function.now.body) + 1
 
 abbrev pub decreases-sequence : goal.decreases-sequence
-decreases-sequence l = 4 * all_nodes (trees_of l.parts.now) + 1
+decreases-sequence l = 4 * all_nodes (trees_of l.parts.now) + 2
+
+abbrev pub decreases-do_part : goal.decreases-do_part
+decreases-do_part l = 4 * nodes (tree_of l.part.now) + 1
 
 abbrev pub decreases-app : goal.decreases-app
 decreases-app l = 4 * (nodes (tree_of l.function.now) + nodes (tree_of l.argument.now)) + 1

@@ -7,6 +7,8 @@ pub enum View {
     Why,
     /// The journal of the run, and the program.
     Journal,
+    /// The journal as a table.
+    Trace,
 }
 
 /// Takes the word for a view, where it comes first.
@@ -15,6 +17,10 @@ pub fn view_of(words: &mut Vec<String>) -> View {
         Some(word) if word.as_str() == "--journal" => {
             let _ = words.remove(0);
             View::Journal
+        }
+        Some(word) if word.as_str() == "--trace" => {
+            let _ = words.remove(0);
+            View::Trace
         }
         _ => View::Why,
     }

@@ -1,4 +1,5 @@
-//! What `ame` says of a program, and then what a person wants to know of it; or the journal of its run with the program.
+//! What `ame` says of a program, and then what a person wants to know of it; or the journal of its run,
+//! with the program or as a table.
 #![tactic(auto)]
 
 mod asked;
@@ -8,7 +9,7 @@ mod run;
 
 use crate::asked::{View, file_of, view_of};
 use crate::given::text_of;
-use crate::run::{show_journal, show_run, show_unread};
+use crate::run::{show_ended, show_run, show_unread};
 use ame_app::process_words;
 use std::io;
 use std::process::ExitCode;
@@ -23,7 +24,9 @@ fn main(rt: HostRuntime) -> ExitCode {
         Err(fail) => show_unread(io::writer(&rt), fail),
         Ok(text) => match view {
             View::Why => show_run(&rt, io::writer(&rt), words, &text),
-            View::Journal => show_journal(&rt, io::writer(&rt), words, &text),
+            View::Journal | View::Trace => {
+                show_ended(&rt, io::writer(&rt), words, &text, view)
+            }
         },
     };
     ExitCode::from(number)

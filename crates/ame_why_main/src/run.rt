@@ -3,10 +3,13 @@
 ghost use Rattle.std.specs.Prelude.{◌≤◌, length};
 ghost use Rattle.ame_lex.specs.Bytes.{max_text};
 
+use crate::asked::View;
 use crate::explain::explain;
 use ame_app::{Report, StandardDevice, run_process};
 use ame_io::{MemSource, ReadAllFail, StdSink, write_all};
+use ame_journal::Entry;
 use ame_term::NoMemory;
+use ame_trace::table_of;
 use ame_why::{input_of, journal_of};
 use std::alloc::{AllocError, Global};
 use std::io;
@@ -39,8 +42,14 @@ where
     report.status.number()
 }
 
-/// Writes the journal of the run, the line `program` and the text; where no run is begun, what `show_run` writes.
-pub fn show_journal<R, W>(rt: &R, writer: W, words: Vec<String>, text: &[u8]) -> u8
+/// Writes what is asked for of the journal of the run; where no run is begun, what `show_run` writes.
+pub fn show_ended<R, W>(
+    rt: &R,
+    writer: W,
+    words: Vec<String>,
+    text: &[u8],
+    view: View,
+) -> u8
 where
     R: AllocGlobal + Threads + Wait + Sync,
     W: io::Write + Send + Drop,
@@ -62,7 +71,7 @@ where
     if report.ended.is_none() {
         return show_run(rt, writer, again, text);
     }
-    match journal_text(rt.alloc(), &report, text) {
+    match page_of(rt.alloc(), view, &report, text) {
         Ok(page) => write(writer, &page, report.status.number()),
         Err(NoMemory) => write(writer, b"no memory\n", 9),
     }
@@ -77,16 +86,25 @@ fn copy_of(alloc: Global, words: &[String]) -> Result<Vec<String>, AllocError> {
     Ok(copy)
 }
 
-/// The journal of a run, the line `program` and the text.
-fn journal_text<K>(
+/// What is asked for of a run's journal.
+fn page_of<K>(
     alloc: Global,
+    view: View,
     report: &Report<K, StandardDevice>,
     text: &[u8],
 ) -> Result<Vec<u8>, NoMemory> {
     let Some(ended) = &report.ended else {
         return Ok(Vec::new(alloc));
     };
-    match journal_of(alloc, ended.journal())? {
+    match view {
+        View::Trace => table_of(alloc, ended.journal()),
+        View::Why | View::Journal => journal_text(alloc, ended.journal(), text),
+    }
+}
+
+/// The text of these entries, the line `program` and the text.
+fn journal_text(alloc: Global, entries: &[Entry], text: &[u8]) -> Result<Vec<u8>, NoMemory> {
+    match journal_of(alloc, entries)? {
         Some(journal) => input_of(alloc, &journal, text),
         None => Ok(Vec::new(alloc)),
     }

@@ -1,0 +1,89 @@
+//! What an entry tells, as a row.
+
+ghost use Rattle.std.specs.Prelude.{◌≡◌, ◌++◌, OnOk, decimal, map};
+ghost use Rattle.std.specs.List.{flat_map};
+ghost use Rattle.ame_trace.specs.Table as spec;
+ghost use Rattle.ame_trace.specs.Table.{listed, made_words, answer_words};
+
+use crate::page::{append, append_column, append_told};
+use ame_journal::{Entry, EntryKind};
+use ame_term::{Loc, NoMemory};
+use itoa::Buffer;
+
+/// Adds the row of an entry with this number.
+#[tactic(auto, unfolding(crate::specs::Table::row))]
+pub(crate) fn append_row(page: &mut Vec<u8>, number: u64, entry: &Entry) -> Result<(), NoMemory>
+    ensures { OnOk result (page.new.items ≡ page.old.items ++ spec.row number entry.now) }
+{
+    append_counts(page, number, entry)?;
+    append_deed(page, entry)
+}
+
+/// Adds the columns of numbers.
+#[tactic(auto, unfolding(crate::specs::Table::counts))]
+fn append_counts(page: &mut Vec<u8>, number: u64, entry: &Entry) -> Result<(), NoMemory>
+    ensures { OnOk result (page.new.items ≡ page.old.items ++ spec.counts number entry.now) }
+{
+    append_column(page, 5, number)?;
+    append_column(page, 5, u64::from(entry.seat))?;
+    append_column(page, 7, entry.number)?;
+    append_column(page, 6, entry.steps)
+}
+
+/// Adds the column of words.
+#[tactic(auto, unfolding(crate::specs::Table::deed))]
+fn append_deed(page: &mut Vec<u8>, entry: &Entry) -> Result<(), NoMemory>
+    ensures { OnOk result (page.new.items ≡ page.old.items ++ spec.deed entry.now) }
+{
+    append(page, b" ")?;
+    append(page, kind_words(entry.kind))?;
+    append_made(page, entry.fresh.as_slice())?;
+    append_answer(page, entry.answer)?;
+    append(page, b"\n")
+}
+
+/// What entries of a kind tell.
+fn kind_words(kind: EntryKind) -> &'static [u8]
+    ensures { result.now ≡ spec.kind_words kind }
+{
+    match kind {
+        EntryKind::Ran => b"ran",
+        EntryKind::Free => b"went on outside",
+        EntryKind::Stuck => b"was taken back: a condition is false here",
+        EntryKind::Cut => b"was cut off, and taken back",
+        EntryKind::Tall => b"was taken back: a value would be too high",
+    }
+}
+
+/// Adds which locations were made, if any were.
+fn append_made(page: &mut Vec<u8>, made: &[Loc]) -> Result<(), NoMemory>
+    ensures { OnOk result (page.new.items ≡ page.old.items ++ made_words (map (λ l. l.0) made.now)) }
+{
+    if made.is_empty() {
+        return Ok(());
+    }
+    append(page, b", made")?;
+    append_listed(page, made)
+}
+
+/// Adds each location, behind a space.
+fn append_listed(page: &mut Vec<u8>, made: &[Loc]) -> Result<(), NoMemory>
+    ensures { OnOk result (page.new.items ≡ page.old.items ++ flat_map listed (map (λ l. l.0) made.now)) }
+{
+    for location in made {
+        let mut buffer = Buffer::new();
+        append(page, b" ")?;
+        append(page, buffer.format(location.0).as_bytes())?;
+    }
+    Ok(())
+}
+
+/// Adds what a device answered, if one was called.
+fn append_answer(page: &mut Vec<u8>, answer: Option<i64>) -> Result<(), NoMemory>
+    ensures { OnOk result (page.new.items ≡ page.old.items ++ answer_words answer) }
+{
+    match answer {
+        None => Ok(()),
+        Some(answer) => append_told(page, b", was answered ", answer),
+    }
+}

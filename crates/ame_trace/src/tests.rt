@@ -1,0 +1,27 @@
+//! A journal as it is shown.
+
+use crate::table_of;
+use ame_journal::Journal;
+use std::test::Fail;
+
+const JOURNAL: &[u8] =
+    b"ran 0 0 5 0\nstuck 0 1 3\nran 0 2 3\nran 31 1 11\nran 0 12 0\nfree 0 12 2 1 2 = -6\ncut 1 100000000 1234567\ntall 2 3 9\n";
+
+const TABLE: &[u8] = b"entry  seat  member  steps  what it did
+    1     0       0      5  ran, made 0
+    2     0       1      3  was taken back: a condition is false here
+    3     0       2      3  ran
+    4    31       1     11  ran
+    5     0      12      0  ran
+    6     0      12      2  went on outside, made 1 2, was answered -6
+    7     1 100000000 1234567  was cut off, and taken back
+    8     2       3      9  was taken back: a value would be too high
+";
+
+#[test]
+fn a_journal_is_shown_line_by_line(rt: HostRuntime) -> Result<(), Fail> {
+    let journal = Journal::from_text(rt.alloc(), JOURNAL).map_err(|_| "a journal")?;
+    let table = table_of(rt.alloc(), journal.entries())?;
+    assert_eq!(rt; table.as_slice(), TABLE);
+    Ok(())
+}

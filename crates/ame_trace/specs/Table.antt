@@ -4,18 +4,30 @@ use Rattle.std.specs.Fmt.{signed_decimal}
 use Rattle.std.specs.List.{flat_map}
 use Rattle.ame_journal.specs.declared.entry.Entry.{Entry}
 use Rattle.ame_journal.specs.declared.entry.EntryKind.{EntryKind}
+use Rattle.ame_trace.specs.Nexts.{next_of}
 
 -- a number in a column of this width, and a space
 abbrev pub column : ℕ → ℕ → List ℕ
 column width n = replicate (width - length (decimal n)) 32 ++ decimal n ++ codes " "
 
--- what entries of a kind tell
-abbrev pub kind_words : EntryKind → List ℕ
-kind_words EntryKind.Ran = codes "ran"
-kind_words EntryKind.Free = codes "went on outside"
-kind_words EntryKind.Stuck = codes "was taken back: a condition is false here"
-kind_words EntryKind.Cut = codes "was cut off, and taken back"
-kind_words EntryKind.Tall = codes "was taken back: a value would be too high"
+-- what steps of unprotected code tell, where the member's next entry is of this kind: a fragment that begins shows that they were over
+abbrev pub outside_words : Option EntryKind → List ℕ
+outside_words (Some EntryKind.Ran) = codes "ran unprotected code, and came back"
+outside_words (Some EntryKind.Stuck) = codes "ran unprotected code, and came back"
+outside_words _ = codes "ran unprotected code"
+
+-- what a fragment tells: that its member has a next entry shows that it came to `unprotected`
+abbrev pub fragment_words : Option EntryKind → List ℕ
+fragment_words None = codes "ran"
+fragment_words (Some kind) = codes "ran, and left for unprotected code"
+
+-- what an entry of a kind tells, where the member's next entry is of the other kind
+abbrev pub kind_words : EntryKind → Option EntryKind → List ℕ
+kind_words EntryKind.Ran next = fragment_words next
+kind_words EntryKind.Free next = outside_words next
+kind_words EntryKind.Stuck next = codes "was taken back: a condition is false here"
+kind_words EntryKind.Cut next = codes "was cut off, and taken back"
+kind_words EntryKind.Tall next = codes "was taken back: a value would be too high"
 
 -- a number behind a space
 abbrev pub listed : ℕ → List ℕ
@@ -35,18 +47,18 @@ answer_words (Some answer) = codes ", was answered " ++ signed_decimal answer
 unfoldable pub counts : ℕ → Entry → List ℕ
 counts n entry = column 5 n ++ column 5 entry.seat ++ column 7 entry.number ++ column 6 entry.steps
 
--- the column of words
-unfoldable pub deed : Entry → List ℕ
-deed entry = codes " " ++ kind_words entry.kind ++ made_words entry.fresh ++ answer_words entry.answer ++ codes "\n"
+-- the column of words, where the member's next entry is of this kind
+unfoldable pub deed : Entry → Option EntryKind → List ℕ
+deed entry next = codes " " ++ kind_words entry.kind next ++ made_words entry.fresh ++ answer_words entry.answer ++ codes "\n"
 
 -- the row of entry n
-unfoldable pub row : ℕ → Entry → List ℕ
-row n entry = counts n entry ++ deed entry
+unfoldable pub row : ℕ → Entry → Option EntryKind → List ℕ
+row n entry next = counts n entry ++ deed entry next
 
 -- the rows of entries, the first of which is entry n
 unfoldable pub rows : ℕ → List Entry → List ℕ
 rows n [] = []
-rows n (entry ∷ entries) = row n entry ++ rows (n + 1) entries
+rows n (entry ∷ entries) = row n entry (next_of entry.number entries) ++ rows (n + 1) entries
 
 -- a line that names the columns, and a row for each entry, counted from 1
 abbrev pub table : List Entry → List ℕ

@@ -1,6 +1,7 @@
 //! The journal of a run as a table that a person can follow.
 #![tactic(auto)]
 
+mod nexts;
 mod page;
 mod row;
 mod table;

@@ -10,13 +10,18 @@ use ame_journal::{Entry, EntryKind};
 use ame_term::{Loc, NoMemory};
 use itoa::Buffer;
 
-/// Adds the row of an entry with this number.
+/// Adds the row of an entry with this number, where its member's next entry is of this kind.
 #[tactic(auto, unfolding(crate::specs::Table::row))]
-pub(crate) fn append_row(page: &mut Vec<u8>, number: u64, entry: &Entry) -> Result<(), NoMemory>
-    ensures { OnOk result (page.new.items ≡ page.old.items ++ spec.row number entry.now) }
+pub(crate) fn append_row(
+    page: &mut Vec<u8>,
+    number: u64,
+    entry: &Entry,
+    next: Option<EntryKind>,
+) -> Result<(), NoMemory>
+    ensures { OnOk result (page.new.items ≡ page.old.items ++ spec.row number entry.now next) }
 {
     append_counts(page, number, entry)?;
-    append_deed(page, entry)
+    append_deed(page, entry, next)
 }
 
 /// Adds the columns of numbers.
@@ -32,26 +37,46 @@ fn append_counts(page: &mut Vec<u8>, number: u64, entry: &Entry) -> Result<(), N
 
 /// Adds the column of words.
 #[tactic(auto, unfolding(crate::specs::Table::deed))]
-fn append_deed(page: &mut Vec<u8>, entry: &Entry) -> Result<(), NoMemory>
-    ensures { OnOk result (page.new.items ≡ page.old.items ++ spec.deed entry.now) }
+fn append_deed(page: &mut Vec<u8>, entry: &Entry, next: Option<EntryKind>) -> Result<(), NoMemory>
+    ensures { OnOk result (page.new.items ≡ page.old.items ++ spec.deed entry.now next) }
 {
     append(page, b" ")?;
-    append(page, kind_words(entry.kind))?;
+    append(page, kind_words(entry.kind, next))?;
     append_made(page, entry.fresh.as_slice())?;
     append_answer(page, entry.answer)?;
     append(page, b"\n")
 }
 
-/// What entries of a kind tell.
-fn kind_words(kind: EntryKind) -> &'static [u8]
-    ensures { result.now ≡ spec.kind_words kind }
+/// What an entry of a kind tells, where the member's next entry is of the other kind.
+fn kind_words(kind: EntryKind, next: Option<EntryKind>) -> &'static [u8]
+    ensures { result.now ≡ spec.kind_words kind next }
 {
     match kind {
-        EntryKind::Ran => b"ran",
-        EntryKind::Free => b"went on outside",
+        EntryKind::Ran => fragment_words(next),
+        EntryKind::Free => outside_words(next),
         EntryKind::Stuck => b"was taken back: a condition is false here",
         EntryKind::Cut => b"was cut off, and taken back",
         EntryKind::Tall => b"was taken back: a value would be too high",
+    }
+}
+
+/// What a fragment tells: whether its member came to `unprotected`.
+fn fragment_words(next: Option<EntryKind>) -> &'static [u8]
+    ensures { result.now ≡ spec.fragment_words next }
+{
+    match next {
+        None => b"ran",
+        Some(_) => b"ran, and left for unprotected code",
+    }
+}
+
+/// What steps of unprotected code tell: whether they were over.
+fn outside_words(next: Option<EntryKind>) -> &'static [u8]
+    ensures { result.now ≡ spec.outside_words next }
+{
+    match next {
+        Some(EntryKind::Ran | EntryKind::Stuck) => b"ran unprotected code, and came back",
+        _ => b"ran unprotected code",
     }
 }
 

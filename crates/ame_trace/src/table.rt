@@ -1,11 +1,13 @@
 //! The table of a journal.
 
 ghost use Rattle.std.specs.Prelude.{◌≡◌, ◌++◌, IfOk, OnOk};
+ghost use Rattle.ame_trace.specs.Nexts as spec_nexts;
 ghost use Rattle.ame_trace.specs.Table as spec;
 
+use crate::nexts::nexts_of;
 use crate::page::append;
 use crate::row::append_row;
-use ame_journal::Entry;
+use ame_journal::{Entry, EntryKind};
 use ame_term::NoMemory;
 use std::alloc::Global;
 
@@ -13,21 +15,25 @@ use std::alloc::Global;
 pub fn table_of(alloc: Global, entries: &[Entry]) -> Result<Vec<u8>, NoMemory>
     ensures { IfOk result (λ page. page.items ≡ spec.table entries.now) }
 {
+    let nexts = nexts_of(alloc, entries)?;
     let mut page = Vec::new(alloc);
     append(&mut page, b"entry  seat  member  steps  what it did\n")?;
-    append_rows(&mut page, entries)?;
+    append_rows(&mut page, entries, &nexts)?;
     Ok(page)
 }
 
+/// Adds a row for each entry, with the kind of the next one of its member.
 #[tactic(auto, unfolding(crate::specs::Table::rows))]
-/// Adds a row for each entry.
-fn append_rows(page: &mut Vec<u8>, entries: &[Entry]) -> Result<(), NoMemory>
+fn append_rows(
+    page: &mut Vec<u8>,
+    entries: &[Entry],
+    nexts: &[Option<EntryKind>],
+) -> Result<(), NoMemory>
+    requires { nexts.now ≡ spec_nexts.nexts entries.now }
     ensures { OnOk result (page.new.items ≡ page.old.items ++ spec.rows 1 entries.now) }
 {
-    let mut number: u64 = 0;
-    for entry in entries {
-        number += 1;
-        append_row(page, number, entry)?;
+    for (index, entry) in entries.iter().enumerate() {
+        append_row(page, index as u64 + 1, entry, nexts[index])?;
     }
     Ok(())
 }

@@ -5,17 +5,19 @@ use ame_journal::Journal;
 use std::test::Fail;
 
 const JOURNAL: &[u8] =
-    b"ran 0 0 5 0\nstuck 0 1 3\nran 0 2 3\nran 0 1 11\nran 31 12 0\nfree 0 12 2 1 2 = -6\ncut 1 100000000 1234567\ntall 2 3 9\n";
+    b"ran 0 0 5 0\nstuck 0 1 3\nran 0 2 3\nran 0 1 11\nran 31 12 0\nfree 0 12 2 1 2 = -6\nfree 0 12 1\nran 0 12 4\ncut 1 100000000 1234567\ntall 2 3 9\n";
 
 const TABLE: &[u8] = b"entry  seat  member  steps  what it did
     1     0       0      5  ran, made 0
     2     0       1      3  was taken back: a condition is false here
     3     0       2      3  ran
     4     0       1     11  ran
-    5    31      12      0  ran
-    6     0      12      2  went on outside, made 1 2, was answered -6
-    7     1 100000000 1234567  was cut off, and taken back
-    8     2       3      9  was taken back: a value would be too high
+    5    31      12      0  ran, and left for unprotected code
+    6     0      12      2  ran unprotected code, made 1 2, was answered -6
+    7     0      12      1  ran unprotected code, and came back
+    8     0      12      4  ran
+    9     1 100000000 1234567  was cut off, and taken back
+   10     2       3      9  was taken back: a value would be too high
 ";
 
 #[test]

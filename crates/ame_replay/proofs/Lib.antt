@@ -1,0 +1,4 @@
+pub mod CaseLemmas
+pub mod EntryLemmas
+pub mod LineLemmas
+pub mod WalkLemmas

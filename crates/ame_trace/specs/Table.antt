@@ -1,5 +1,5 @@
 -- A journal as a table that a person can follow.
-use Rattle.std.specs.Prelude.{ℕ, ◌+◌, ◌-◌, ℤ, List, [], ◌∷◌, ◌++◌, length, replicate, Option, Some, None, codes, decimal}
+use Rattle.std.specs.Prelude.{ℕ, ◌+◌, ◌-◌, ℤ, List, [], ◌∷◌, ◌++◌, length, replicate, slice_index_or, Option, Some, None, codes, decimal}
 use Rattle.std.specs.Fmt.{signed_decimal}
 use Rattle.std.specs.List.{flat_map}
 use Rattle.ame_journal.specs.declared.entry.Entry.{Entry}
@@ -33,6 +33,10 @@ kind_words EntryKind.Tall next = codes "was taken back: a value would be too hig
 abbrev pub listed : ℕ → List ℕ
 listed n = codes " " ++ decimal n
 
+-- an integer behind a space
+abbrev pub listed_line : ℤ → List ℕ
+listed_line x = codes " " ++ signed_decimal x
+
 -- which locations were made, if any were
 abbrev pub made_words : List ℕ → List ℕ
 made_words [] = []
@@ -47,19 +51,32 @@ answer_words (Some answer) = codes ", was answered " ++ signed_decimal answer
 unfoldable pub counts : ℕ → Entry → List ℕ
 counts n entry = column 5 n ++ column 5 entry.seat ++ column 7 entry.number ++ column 6 entry.steps
 
--- the column of words, where the member's next entry is of this kind
-unfoldable pub deed : Entry → Option EntryKind → List ℕ
-deed entry next = codes " " ++ kind_words entry.kind next ++ made_words entry.fresh ++ answer_words entry.answer ++ codes "\n"
+-- which lines were printed, if any were
+abbrev pub printed_words : List ℤ → List ℕ
+printed_words [] = []
+printed_words (x ∷ printed) = codes ", printed" ++ flat_map listed_line (x ∷ printed)
+
+-- what an entry left: locations, an answer, lines
+unfoldable pub left_words : Entry → List ℤ → List ℕ
+left_words entry printed = made_words entry.fresh ++ answer_words entry.answer ++ printed_words printed
+
+-- the column of words, where the member's next entry is of this kind, and these lines were printed
+unfoldable pub deed : Entry → Option EntryKind → List ℤ → List ℕ
+deed entry next printed = codes " " ++ kind_words entry.kind next ++ left_words entry printed ++ codes "\n"
 
 -- the row of entry n
-unfoldable pub row : ℕ → Entry → Option EntryKind → List ℕ
-row n entry next = counts n entry ++ deed entry next
+unfoldable pub row : ℕ → Entry → Option EntryKind → List ℤ → List ℕ
+row n entry next printed = counts n entry ++ deed entry next printed
 
--- the rows of entries, the first of which is entry n
-unfoldable pub rows : ℕ → List Entry → List ℕ
-rows n [] = []
-rows n (entry ∷ entries) = row n entry (next_of entry.number entries) ++ rows (n + 1) entries
+-- the rows of entries, the first of which is entry n, where it is told what each entry printed
+unfoldable pub rows : ℕ → List Entry → (ℕ → List ℤ) → List ℕ
+rows n [] told = []
+rows n (entry ∷ entries) told = row n entry (next_of entry.number entries) (told n) ++ rows (n + 1) entries told
 
--- a line that names the columns, and a row for each entry, counted from 1
-abbrev pub table : List Entry → List ℕ
-table entries = codes "entry  seat  member  steps  what it did\n" ++ rows 1 entries
+-- the lines of entry n, counted from 1; none where there are fewer
+abbrev pub line_of : List (List ℤ) → ℕ → List ℤ
+line_of lines n = slice_index_or lines (n - 1) []
+
+-- a line that names the columns, and a row for each entry, counted from 1, with its lines
+abbrev pub table : List Entry → List (List ℤ) → List ℕ
+table entries lines = codes "entry  seat  member  steps  what it did\n" ++ rows 1 entries (line_of lines)

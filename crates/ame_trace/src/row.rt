@@ -3,25 +3,26 @@
 ghost use Rattle.std.specs.Prelude.{◌≡◌, ◌++◌, OnOk, decimal, map};
 ghost use Rattle.std.specs.List.{flat_map};
 ghost use Rattle.ame_trace.specs.Table as spec;
-ghost use Rattle.ame_trace.specs.Table.{listed, made_words, answer_words};
+ghost use Rattle.ame_trace.specs.Table.{listed, listed_line, made_words, answer_words, printed_words};
 
 use crate::page::{append, append_column, append_told};
 use ame_journal::{Entry, EntryKind};
 use ame_term::{Loc, NoMemory};
 use itoa::Buffer;
 
-/// Adds the row of an entry with this number, where its member's next entry is of this kind.
+/// Adds the row of an entry with this number, where its member's next entry is of this kind and these lines were printed.
 #[tactic(auto, unfolding(crate::specs::Table::row))]
 pub(crate) fn append_row(
     page: &mut Vec<u8>,
     number: u64,
     entry: &Entry,
     next: Option<EntryKind>,
+    printed: &[i64],
 ) -> Result<(), NoMemory>
-    ensures { OnOk result (page.new.items ≡ page.old.items ++ spec.row number entry.now next) }
+    ensures { OnOk result (page.new.items ≡ page.old.items ++ spec.row number entry.now next printed.now) }
 {
     append_counts(page, number, entry)?;
-    append_deed(page, entry, next)
+    append_deed(page, entry, next, printed)
 }
 
 /// Adds the columns of numbers.
@@ -37,14 +38,28 @@ fn append_counts(page: &mut Vec<u8>, number: u64, entry: &Entry) -> Result<(), N
 
 /// Adds the column of words.
 #[tactic(auto, unfolding(crate::specs::Table::deed))]
-fn append_deed(page: &mut Vec<u8>, entry: &Entry, next: Option<EntryKind>) -> Result<(), NoMemory>
-    ensures { OnOk result (page.new.items ≡ page.old.items ++ spec.deed entry.now next) }
+fn append_deed(
+    page: &mut Vec<u8>,
+    entry: &Entry,
+    next: Option<EntryKind>,
+    printed: &[i64],
+) -> Result<(), NoMemory>
+    ensures { OnOk result (page.new.items ≡ page.old.items ++ spec.deed entry.now next printed.now) }
 {
     append(page, b" ")?;
     append(page, kind_words(entry.kind, next))?;
+    append_left(page, entry, printed)?;
+    append(page, b"\n")
+}
+
+/// Adds what an entry left.
+#[tactic(auto, unfolding(crate::specs::Table::left_words))]
+fn append_left(page: &mut Vec<u8>, entry: &Entry, printed: &[i64]) -> Result<(), NoMemory>
+    ensures { OnOk result (page.new.items ≡ page.old.items ++ spec.left_words entry.now printed.now) }
+{
     append_made(page, entry.fresh.as_slice())?;
     append_answer(page, entry.answer)?;
-    append(page, b"\n")
+    append_printed(page, printed)
 }
 
 /// What an entry of a kind tells, where the member's next entry is of the other kind.
@@ -111,4 +126,25 @@ fn append_answer(page: &mut Vec<u8>, answer: Option<i64>) -> Result<(), NoMemory
         None => Ok(()),
         Some(answer) => append_told(page, b", was answered ", answer),
     }
+}
+
+/// Adds which lines were printed, if any were.
+fn append_printed(page: &mut Vec<u8>, printed: &[i64]) -> Result<(), NoMemory>
+    ensures { OnOk result (page.new.items ≡ page.old.items ++ printed_words printed.now) }
+{
+    if printed.is_empty() {
+        return Ok(());
+    }
+    append(page, b", printed")?;
+    append_lines(page, printed)
+}
+
+/// Adds each integer, behind a space.
+fn append_lines(page: &mut Vec<u8>, printed: &[i64]) -> Result<(), NoMemory>
+    ensures { OnOk result (page.new.items ≡ page.old.items ++ flat_map listed_line printed.now) }
+{
+    for line in printed {
+        append_told(page, b" ", *line)?;
+    }
+    Ok(())
 }

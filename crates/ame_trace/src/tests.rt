@@ -7,13 +7,16 @@ use std::test::Fail;
 const JOURNAL: &[u8] =
     b"ran 0 0 5 0\nstuck 0 1 3\nran 0 2 3\nran 0 1 11\nran 31 12 0\nfree 0 12 2 1 2 = -6\nfree 0 12 1\nran 0 12 4\ncut 1 100000000 1234567\ntall 2 3 9\n";
 
+/// What the first entries print.
+const LINES: [&[i64]; 6] = [&[], &[], &[], &[2], &[], &[-1, 0]];
+
 const TABLE: &[u8] = b"entry  seat  member  steps  what it did
     1     0       0      5  ran, made 0
     2     0       1      3  was taken back: a condition is false here
     3     0       2      3  ran
-    4     0       1     11  ran
+    4     0       1     11  ran, printed 2
     5    31      12      0  ran, and left for unprotected code
-    6     0      12      2  ran unprotected code, made 1 2, was answered -6
+    6     0      12      2  ran unprotected code, made 1 2, was answered -6, printed -1 0
     7     0      12      1  ran unprotected code, and came back
     8     0      12      4  ran
     9     1 100000000 1234567  was cut off, and taken back
@@ -23,7 +26,11 @@ const TABLE: &[u8] = b"entry  seat  member  steps  what it did
 #[test]
 fn a_journal_is_shown_line_by_line(rt: HostRuntime) -> Result<(), Fail> {
     let journal = Journal::from_text(rt.alloc(), JOURNAL).map_err(|_| "a journal")?;
-    let table = table_of(rt.alloc(), journal.entries())?;
+    let mut lines = Vec::new(rt.alloc());
+    for line in LINES {
+        lines.push(Vec::from_slice(rt.alloc(), line)?)?;
+    }
+    let table = table_of(rt.alloc(), journal.entries(), &lines)?;
     assert_eq!(rt; table.as_slice(), TABLE);
     Ok(())
 }

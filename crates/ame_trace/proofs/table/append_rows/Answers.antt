@@ -1,5 +1,5 @@
-use Rattle.std.proofs.Common.{◌≡◌, ◌+◌, ◌++◌, length, get_or, None, refl, ap, ◌∙◌, arith}
-use Rattle.ame_trace.specs.Table.{row}
+use Rattle.std.proofs.Common.{◌≡◌, ◌+◌, ◌-◌, ◌++◌, [], length, map, get_or, None, ap, ◌∙◌, arith}
+use Rattle.ame_trace.specs.Table.{row, line_of}
 use Rattle.ame_trace.proofs.NextLemmas.{nexts_at, length-nexts}
 use Rattle.ame_trace.proofs.RowLemmas.{rows_go_on}
 use Rattle.ame_trace.proofs.table.append_rows.Goals as goal
@@ -16,6 +16,10 @@ loop-index-preserved c =
     let entry = c.index-entries-index.result in
     let next = get_or c.args.nexts.now i None in
     let page = c.loop-index.page.items in
-    rows_go_on _ page _ entries i (i + 1) entry next c.loop-index-test.true c.loop-index.invariant refl
+    let lines = map (λ v. v.items) c.args.lines.now in
+    let printed = c.line_at.result.now in
+    let same : i ≡ i + 1 - 1 = omega arith in
+    rows_go_on (line_of lines) _ page _ entries i entry next printed c.loop-index-test.true c.loop-index.invariant
     (ap (λ told. get_or told i None) c.requires ∙ nexts_at entries i entry None c.loop-index-test.true)
-    (c.in_ok-append_row.ensures ∙ ap (λ e. page ++ row (i + 1) e next) c.index-entries-index.is)
+    (c.line_at.ensures ∙ ap (λ k. get_or lines k []) same)
+    (c.in_ok-append_row.ensures ∙ ap (λ e. page ++ row (i + 1) e next printed) c.index-entries-index.is)

@@ -8,7 +8,8 @@ use crate::explain::explain;
 use ame_app::{Report, StandardDevice, run_process};
 use ame_io::{MemSource, ReadAllFail, StdSink, write_all};
 use ame_journal::Entry;
-use ame_term::NoMemory;
+use ame_replay::lines_of;
+use ame_term::{NoMemory, copy_term};
 use ame_trace::table_of;
 use ame_why::{input_of, journal_of};
 use std::alloc::{AllocError, Global};
@@ -97,8 +98,23 @@ fn page_of<K>(
         return Ok(Vec::new(alloc));
     };
     match view {
-        View::Trace => table_of(alloc, ended.journal()),
+        View::Trace => table_of(alloc, ended.journal(), &lines_told(alloc, report)?),
         View::Why | View::Journal => journal_text(alloc, ended.journal(), text),
+    }
+}
+
+/// The lines of each entry of a run's journal; none where they aren't told.
+fn lines_told<K>(
+    alloc: Global,
+    report: &Report<K, StandardDevice>,
+) -> Result<Vec<Vec<i64>>, NoMemory> {
+    let (Some(code), Some(ended)) = (&report.code, &report.ended) else {
+        return Ok(Vec::new(alloc));
+    };
+    let program = copy_term(alloc, &code.accepted().program.term)?;
+    match lines_of(alloc, program, ended.journal())? {
+        Some(lines) => Ok(lines),
+        None => Ok(Vec::new(alloc)),
     }
 }
 

@@ -130,12 +130,15 @@ where
         ensures keeps { KeepsSeat (knows self.old.seat) (knows self.new.seat) }
         ensures through { IsThrough (knows self.new.seat) }
     {
-        let mut backoff = Backoff::new();
+        let (mut backoff, mut waits) = (Backoff::new(), 0_u32);
         for _ in rt.forever() {
             match self.turn(rt, alloc, baton, gate) {
                 Turned::Did(Point::Stopped) => return,
-                Turned::Did(Point::Idle) | Turned::Busy => pause(rt, &backoff),
-                Turned::Did(_) => backoff = Backoff::new(),
+                Turned::Did(Point::Idle) | Turned::Busy => {
+                    pause(rt, &backoff, waits);
+                    waits = waits.saturating_add(1);
+                }
+                Turned::Did(_) => (backoff, waits) = (Backoff::new(), 0),
             }
         }
         unreachable!()

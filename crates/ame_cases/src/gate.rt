@@ -1,6 +1,7 @@
 //! Two workers are inside fragments at the same time: a gate holds each of them until the other one has come so far.
 
-use crate::calls::{AMPLE, Devices, report_past, tells};
+use crate::calls::{report_of, tells};
+use crate::case::AMPLE;
 use ame_worker::{Gate, Point};
 use std::sync::atomic::{AtomicBool, AtomicU32, Ordering};
 use std::test::Fail;
@@ -86,9 +87,11 @@ impl Gate for HoldsTwo {
 #[test]
 fn the_second_fragment_commits_while_the_first_is_held(rt: HostRuntime) -> Result<(), Fail> {
     let gate = HoldsTwo::new();
+    let alloc = rt.alloc();
     let text = "(do (async (print 1)) (async (print 2)))";
+    let bytes = Vec::from_slice(alloc, text.as_bytes())?;
     let words = "run --workers 2";
-    let report = report_past(&rt, words, text.as_bytes(), &AMPLE, Devices::Nothing, &gate)?;
+    let report = report_of(&rt, words, bytes, &AMPLE, Vec::new(alloc), &gate)?;
     tells(&rt, &report, 0, "2\n1\nfinished\n", text);
     assert!(rt; gate.began_first.by_anybody());
     assert!(rt; gate.began_second.by_anybody());

@@ -2,24 +2,24 @@
 #![tactic(auto)]
 
 #[cfg(test)]
-mod bank;
-#[cfg(test)]
 mod calls;
+#[cfg(test)]
+mod case;
 #[cfg(test)]
 mod code;
 #[cfg(test)]
+mod drops;
+#[cfg(test)]
 mod gate;
+#[cfg(test)]
+mod gives;
 #[cfg(test)]
 mod labels;
 #[cfg(test)]
-mod refusals;
-#[cfg(test)]
 mod replays;
-#[cfg(test)]
-mod rows;
 #[cfg(test)]
 mod runs;
 #[cfg(test)]
-mod workers;
+mod table;
 #[cfg(test)]
 mod workload;

@@ -1,7 +1,6 @@
 //! A program of eight accounts and two hundred transfers, each of which waits until its account has the money.
 
-use crate::calls::{AMPLE, Devices, Ends, report_of, tells};
-use std::test::Fail;
+use crate::case::{AMPLE, CASE, Case, Ends, Left, Text};
 
 const BANK: &str = "\
 (let a0 (ref p 0) (let a1 (ref p 1000) (let a2 (ref p 1000) (let a3 (ref p 1000)
@@ -26,21 +25,28 @@ const BANK: &str = "\
     (async (do (blockUntil (= (get done) 200)) (print (app total unit)))))
 ))))))))))))))";
 
-#[test]
-fn no_money_is_lost(rt: HostRuntime) -> Result<(), Fail> {
-    let second_fails = Ends {
-        failing_write: 2,
-        ..AMPLE
-    };
-    let rows = [
-        ("", AMPLE, 0, "7000\n7000\nfinished\n"),
-        ("run --workers 4", AMPLE, 0, "7000\n7000\nfinished\n"),
-        ("", second_fails, 7, "7000\n"),
-        ("run --workers 4", second_fails, 7, "7000\n"),
-    ];
-    for (words, ends, number, lines) in rows {
-        let report = report_of(&rt, words, BANK.as_bytes(), &ends, Devices::Nothing)?;
-        tells(&rt, &report, number, lines, words);
-    }
-    Ok(())
-}
+pub const CASES: [Case; 2] = [
+    Case {
+        name: "no money is lost",
+        words: "run",
+        workers: &[1, 4],
+        text: Text::Whole(BANK),
+        lines: "7000\n7000\nfinished\n",
+        left: Left::Anything,
+        ..CASE
+    },
+    Case {
+        name: "the second line can't be written",
+        words: "run",
+        workers: &[1, 4],
+        text: Text::Whole(BANK),
+        ends: Ends {
+            failing_write: 2,
+            ..AMPLE
+        },
+        status: 7,
+        lines: "7000\n",
+        left: Left::Anything,
+        ..CASE
+    },
+];

@@ -48,6 +48,10 @@ pub enum Kind {
 pub struct Run {
     /// With several workers any seat may have made an entry.
     pub journal: &'static str,
+    /// What was printed by what was committed.
+    pub output: &'static [i64],
+    /// How many members are left.
+    pub members: usize,
     /// The events that counted, and the undos after the stop, with one worker.
     pub turns: u32,
     pub unwound: u32,
@@ -57,9 +61,11 @@ pub struct Run {
     pub cells: &'static [(u32, i64)],
 }
 
-/// A run that leaves nothing.
+/// A run that prints nothing and leaves nothing.
 pub const RUN: Run = Run {
     journal: "",
+    output: &[],
+    members: 0,
     turns: 0,
     unwound: 0,
     blocked: &[],

@@ -49,6 +49,7 @@ where
         (Left::Nothing, None) | (Left::Anything, Some(_)) => {}
         (Left::This(run), Some(ended)) => {
             journal_is(rt, alloc, name, ended.journal(), run.journal, alone)?;
+            assert_eq!(rt; ended.output(), run.output, "{name}");
             certificates_are(rt, name, report.blocked(), run.blocked);
             cells_are(rt, name, ended.store(), run.cells);
             if alone {

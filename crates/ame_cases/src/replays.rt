@@ -1,5 +1,8 @@
 //! Journals against the labels that they stand for, on the strong semantics as a program.
+use crate::calls::bytes_of;
+use crate::case::Left;
 use crate::runs::{LIMIT, begun, kind_of, makes};
+use crate::table::TABLE;
 use ame_journal::{Entry, EntryKind, Journal};
 use ame_strong::{Next, StrongState};
 use ame_term::{Copied, Label, Loc};
@@ -101,24 +104,30 @@ fn free(rt: &impl Abort, alloc: Global, replay: &mut Replay, entry: &Entry) -> b
     }
 }
 
-/// Whether a fragment comes to a condition that is false.
-fn fails(rt: &impl Abort, alloc: Global, replay: &Replay, entry: &Entry) -> Result<bool, Fail> {
+/// To what a fragment comes by the steps of an entry, where each can be made.
+fn comes_to(
+    rt: &impl Abort,
+    alloc: Global,
+    replay: &Replay,
+    entry: &Entry,
+) -> Result<Option<Next>, Fail> {
     let mut state = replay.state.copy(alloc)?;
-    Ok(
-        makes(rt, alloc, &mut state, Label::Activate(entry.number))
-            && steps(rt, alloc, &mut state, entry).is_some()
-            && state.next_of(None) == Next::Stuck,
-    )
+    if makes(rt, alloc, &mut state, Label::Activate(entry.number))
+        && steps(rt, alloc, &mut state, entry).is_some()
+    {
+        return Ok(Some(state.next_of(None)));
+    }
+    Ok(None)
 }
 
 /// The state after all entries of a journal, where each can be made.
 fn replayed(
     rt: &impl Abort,
     alloc: Global,
-    text: &str,
+    text: &[u8],
     journal: &str,
 ) -> Result<Option<StrongState>, Fail> {
-    let mut replay = start(alloc, text.as_bytes())?;
+    let mut replay = start(alloc, text)?;
     let lines = journal.as_bytes();
     if lines.len() > LIMIT {
         return Err("too long".into());
@@ -129,8 +138,9 @@ fn replayed(
         let is_made = match entry.kind {
             EntryKind::Ran => !is_inside && ran(rt, alloc, &mut replay, entry)?,
             EntryKind::Free => is_inside && free(rt, alloc, &mut replay, entry),
-            EntryKind::Stuck => fails(rt, alloc, &replay, entry)?,
-            EntryKind::Cut | EntryKind::Tall => false,
+            EntryKind::Stuck => comes_to(rt, alloc, &replay, entry)? == Some(Next::Stuck),
+            EntryKind::Cut => comes_to(rt, alloc, &replay, entry)?.is_some(),
+            EntryKind::Tall => false,
         };
         if !is_made {
             return Ok(None);
@@ -139,82 +149,24 @@ fn replayed(
     Ok(Some(replay.state))
 }
 
-/// A program, a journal of it, what it prints, and how many members are left.
-#[derive(Clone, Copy)]
-struct Row(&'static str, &'static str, &'static [i64], usize);
-
-const WAITS: &str =
-    "(let r (ref p 0) (do (async (do (blockUntil (= (get r) 1)) (print 10))) (async (set r 1))))";
-
-const PRINTS_FIRST: &str =
-    "(let r (ref p 0) (do (async (do (print 5) (blockUntil (= (get r) 1)))) (async (set r 1))))";
-
-const OUTSIDE: &str =
-    "(let n (ref p 0) (let x (ref u 0) (let y (ref u 0) (do (async (set n (+ (get n) 1))) \
-    (unprotected (set x 7)) yield (unprotected (set y (+ (get x) 1))) (unprotected (print (get y))) (print (get n))))))";
-
-const LOOP: &str =
-    "(app (rec p f (n Int) Unit (if (< n 3) (do (print n) (app f (+ n 1))) unit)) 1)";
-
-const CALLS: &str = "(unprotected (do (print (call 0 5)) (print (call 1 6)) (print (call 1 7))))";
-
-const ROWS: [Row; 11] = [
-    Row("unit", "ran 0 0 0\n", &[], 0),
-    Row("(print 7)", "ran 0 0 1\n", &[7], 0),
-    Row(
-        "(do (async (print 2)) (print 1))",
-        "ran 0 0 3\nran 0 1 1\n",
-        &[1, 2],
-        0,
-    ),
-    Row("(blockUntil false)", "stuck 0 0 0\n", &[], 1),
-    Row(
-        WAITS,
-        "ran 0 0 5 0\nstuck 0 1 2\nran 0 2 1\nran 0 1 5\n",
-        &[10],
-        0,
-    ),
-    Row(
-        PRINTS_FIRST,
-        "ran 0 0 5 0\nstuck 0 1 4\nran 0 2 1\nran 0 1 5\n",
-        &[5],
-        0,
-    ),
-    Row(
-        OUTSIDE,
-        "ran 0 0 8 0 1 2\nran 0 1 3\nfree 0 0 1\nfree 0 0 1\nran 0 0 1\nfree 0 0 1\nran 0 0 1\nfree 0 0 1\n\
-        free 0 0 2\nfree 0 0 1\nran 0 0 1\nfree 0 0 1\nfree 0 0 1\nfree 0 0 1\nran 0 0 3\n",
-        &[8, 1],
-        0,
-    ),
-    Row(
-        "(let r (ref p 3) (do (async (print (get r))) (set r (+ (get r) 4))))",
-        "ran 0 0 7 0\nran 0 1 2\n",
-        &[7],
-        0,
-    ),
-    Row(LOOP, "ran 0 0 16\n", &[1, 2], 0),
-    Row(
-        "(app (rec p f (x Unit) Unit (do (async (app f x)) unit)) unit)",
-        "ran 0 0 4\nran 0 1 3\nran 0 2 3\nran 0 3 3\nran 0 4 3\nran 0 5 3\nran 0 6 3\nran 0 7 3\nran 0 8 3\n\
-        ran 0 9 3\nran 0 10 3\nran 0 11 3\nran 0 12 3\nran 0 13 3\nran 0 14 3\n",
-        &[],
-        1,
-    ),
-    Row(
-        CALLS,
-        "ran 0 0 0\nfree 0 0 1 = 1\nfree 0 0 1\nfree 0 0 2 = 6\nfree 0 0 1\n",
-        &[1, 6],
-        1,
-    ),
-];
+/// The number of `tall`, whose values are too high for terms.
+const TALL: u8 = 10;
 
 #[test]
-fn journals_replay(rt: HostRuntime) -> Result<(), Fail> {
-    for Row(text, journal, output, left) in ROWS {
-        let state = replayed(&rt, rt.alloc(), text, journal)?.ok_or("a run")?;
-        assert_eq!(rt; state.output(), output, "{text}");
-        assert_eq!(rt; state.pool_len(), left, "{text}");
+fn journals_of_the_table_replay(rt: HostRuntime) -> Result<(), Fail> {
+    let alloc = rt.alloc();
+    for cases in TABLE {
+        for case in cases {
+            let name = case.name;
+            let Left::This(run) = case.left else { continue };
+            if case.status == TALL {
+                continue;
+            }
+            let text = bytes_of(alloc, case.text)?;
+            let state = replayed(&rt, alloc, &text, run.journal)?.ok_or(name)?;
+            assert_eq!(rt; state.output(), run.output, "{name}");
+            assert_eq!(rt; state.pool_len(), run.members, "{name}");
+        }
     }
     Ok(())
 }
@@ -245,7 +197,7 @@ fn journals_of_no_run_are_refused(rt: HostRuntime) -> Result<(), Fail> {
         ("(print 7)", "ran 0 0 0\n", false),
     ];
     for (text, journal, is_run) in rows {
-        let state = replayed(&rt, rt.alloc(), text, journal)?;
+        let state = replayed(&rt, rt.alloc(), text.as_bytes(), journal)?;
         assert_eq!(rt; state.is_some(), is_run, "{text} {journal}");
     }
     Ok(())

@@ -17,7 +17,8 @@ use crate::case::Case;
 use crate::gives::each_gives;
 use std::test::Fail;
 
-const TABLE: [&[Case]; 12] = [
+/// All cases, by their themes.
+pub const TABLE: [&[Case]; 12] = [
     &protected::CASES,
     &waiting::CASES,
     &outside::CASES,

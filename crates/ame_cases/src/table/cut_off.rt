@@ -6,6 +6,7 @@ const ENDLESS: Text = Text::Whole("(app (rec p f (x Unit) Unit (app f x)) unit)"
 
 const CUT: Run = Run {
     journal: "cut 0 0 50\n",
+    members: 1,
     turns: 10,
     unwound: 1,
     ..RUN
@@ -13,6 +14,7 @@ const CUT: Run = Run {
 
 const TALL: Run = Run {
     journal: "tall 0 0 2001\n",
+    members: 1,
     turns: 4,
     unwound: 1,
     ..RUN
@@ -46,6 +48,7 @@ pub const CASES: [Case; 5] = [
         left: Left::This(Run {
             journal: "ran 0 0 4\nran 0 1 3\nran 0 2 3\nran 0 3 3\nran 0 4 3\nran 0 5 3\nran 0 6 3\nran 0 7 3\nran 0 8 3\n\
                 ran 0 9 3\nran 0 10 3\nran 0 11 3\nran 0 12 3\nran 0 13 3\nran 0 14 3\n",
+            members: 1,
             turns: 30,
             ..RUN
         }),

@@ -22,6 +22,8 @@ pub const CASES: [Case; 7] = [
         heard: &[&[(5, 1)], &[(6, 6)]],
         left: Left::This(Run {
             journal: "ran 0 0 0\nfree 0 0 1 = 1\nfree 0 0 1\nfree 0 0 2 = 6\nfree 0 0 1\n",
+            output: &[1, 6],
+            members: 1,
             turns: 12,
             ..RUN
         }),
@@ -38,6 +40,7 @@ pub const CASES: [Case; 7] = [
         left: Left::This(Run {
             journal: "ran 0 0 0\nfree 0 0 1 = 5\nfree 0 0 1\nfree 0 0 2 = 3\nfree 0 0 1\nfree 0 0 2 = 1\nfree 0 0 1\n\
                 free 0 0 1\nran 0 0 0\n",
+            output: &[5, 3, 1],
             turns: 18,
             ..RUN
         }),
@@ -52,6 +55,8 @@ pub const CASES: [Case; 7] = [
         heard: &[&[(1, 4)]],
         left: Left::This(Run {
             journal: "ran 0 0 0\nfree 0 0 1 = 4\nfree 0 0 1\n",
+            output: &[4],
+            members: 1,
             turns: 8,
             ..RUN
         }),
@@ -69,6 +74,7 @@ pub const CASES: [Case; 7] = [
         heard: &[&[], &[]],
         left: Left::This(Run {
             journal: "ran 0 0 0\n",
+            members: 1,
             turns: 4,
             ..RUN
         }),
@@ -85,6 +91,8 @@ pub const CASES: [Case; 7] = [
         heard: &[&[(5, 5)], &[]],
         left: Left::This(Run {
             journal: "ran 0 0 0\nfree 0 0 1 = 5\nfree 0 0 1\n",
+            output: &[5],
+            members: 1,
             turns: 8,
             ..RUN
         }),
@@ -101,6 +109,8 @@ pub const CASES: [Case; 7] = [
         heard: &[&[(5, 5)], &[(6, 6)]],
         left: Left::This(Run {
             journal: "ran 0 0 0\nfree 0 0 1 = 5\nfree 0 0 1\nfree 0 0 2 = 6\nfree 0 0 1\n",
+            output: &[5, 6],
+            members: 1,
             turns: 12,
             ..RUN
         }),
@@ -117,6 +127,7 @@ pub const CASES: [Case; 7] = [
         left: Left::This(Run {
             journal: "ran 0 0 0\nfree 0 0 1 = 5\nfree 0 0 1\nfree 0 0 2 = 6\nfree 0 0 1\nfree 0 0 2 = 7\nfree 0 0 1\n\
                 free 0 0 1\nran 0 0 0\n",
+            output: &[5, 6, 7],
             turns: 18,
             ..RUN
         }),

@@ -6,6 +6,7 @@ use crate::case::{AMPLE, CASE, Case, Ends, Left, RUN, Run, Text};
 /// Both fragments were run.
 const BOTH: Run = Run {
     journal: "ran 0 0 3\nran 0 1 1\n",
+    output: &[1, 2],
     turns: 4,
     ..RUN
 };
@@ -82,6 +83,8 @@ pub const CASES: [Case; 10] = [
         lines: "",
         left: Left::This(Run {
             journal: "ran 0 0 3\n",
+            output: &[1],
+            members: 1,
             turns: 2,
             ..RUN
         }),

@@ -13,6 +13,7 @@ pub const CASES: [Case; 2] = [
         left: Left::This(Run {
             journal: "ran 0 0 8 0 1 2\nran 0 1 3\nfree 0 0 1\nfree 0 0 1\nran 0 0 1\nfree 0 0 1\nran 0 0 1\nfree 0 0 1\n\
                 free 0 0 2\nfree 0 0 1\nran 0 0 1\nfree 0 0 1\nfree 0 0 1\nfree 0 0 1\nran 0 0 3\n",
+            output: &[8, 1],
             turns: 36,
             cells: &[(0, 1), (1, 7), (2, 8)],
             ..RUN
@@ -27,6 +28,7 @@ pub const CASES: [Case; 2] = [
         lines: "5\nfinished\n",
         left: Left::This(Run {
             journal: "ran 0 0 4 0\nran 0 1 1\nfree 0 0 1\nfree 0 0 1\nfree 0 0 1\nran 0 0 0\n",
+            output: &[5],
             turns: 14,
             cells: &[(0, 5)],
             ..RUN

@@ -22,6 +22,7 @@ pub const CASES: [Case; 7] = [
         lines: "7\nfinished\n",
         left: Left::This(Run {
             journal: "ran 0 0 1\n",
+            output: &[7],
             turns: 2,
             ..RUN
         }),
@@ -33,6 +34,7 @@ pub const CASES: [Case; 7] = [
         lines: "1\n2\nfinished\n",
         left: Left::This(Run {
             journal: "ran 0 0 3\nran 0 1 1\n",
+            output: &[1, 2],
             turns: 4,
             ..RUN
         }),
@@ -44,6 +46,7 @@ pub const CASES: [Case; 7] = [
         lines: "7\nfinished\n",
         left: Left::This(Run {
             journal: "ran 0 0 7 0\nran 0 1 2\n",
+            output: &[7],
             turns: 8,
             cells: &[(0, 7)],
             ..RUN
@@ -58,6 +61,7 @@ pub const CASES: [Case; 7] = [
         lines: "1\n2\nfinished\n",
         left: Left::This(Run {
             journal: "ran 0 0 16\n",
+            output: &[1, 2],
             turns: 2,
             ..RUN
         }),
@@ -70,6 +74,7 @@ pub const CASES: [Case; 7] = [
         lines: "-9223372036854775808\nfinished\n",
         left: Left::This(Run {
             journal: "ran 0 0 2\n",
+            output: &[-9223372036854775808],
             turns: 2,
             ..RUN
         }),
@@ -81,6 +86,7 @@ pub const CASES: [Case; 7] = [
         lines: "3\nfinished\n",
         left: Left::This(Run {
             journal: "ran 0 0 3\n",
+            output: &[3],
             turns: 2,
             ..RUN
         }),

@@ -15,6 +15,7 @@ pub const CASES: [Case; 4] = [
         lines: "blocked 1\n",
         left: Left::This(Run {
             journal: "stuck 0 0 0\n",
+            members: 1,
             turns: 3,
             blocked: &[(0, 0, &[])],
             ..RUN
@@ -27,6 +28,7 @@ pub const CASES: [Case; 4] = [
         lines: "10\nfinished\n",
         left: Left::This(Run {
             journal: "ran 0 0 5 0\nstuck 0 1 2\nran 0 2 1\nran 0 1 5\n",
+            output: &[10],
             turns: 13,
             cells: &[(0, 1)],
             ..RUN
@@ -41,6 +43,7 @@ pub const CASES: [Case; 4] = [
         lines: "5\nfinished\n",
         left: Left::This(Run {
             journal: "ran 0 0 5 0\nstuck 0 1 4\nran 0 2 1\nran 0 1 5\n",
+            output: &[5],
             turns: 13,
             cells: &[(0, 1)],
             ..RUN
@@ -56,6 +59,8 @@ pub const CASES: [Case; 4] = [
         lines: "0\nblocked 1\n",
         left: Left::This(Run {
             journal: "ran 0 0 5 0\nran 0 1 2\nstuck 0 2 2\n",
+            output: &[0],
+            members: 1,
             turns: 10,
             blocked: &[(2, 2, &[])],
             cells: &[(0, 0)],

@@ -13,6 +13,7 @@ pub const CASES: [Case; 4] = [
         lines: "1\n2\nfinished\n",
         left: Left::This(Run {
             journal: "ran 0 0 3\nran 0 1 1\n",
+            output: &[1, 2],
             turns: 4,
             ..RUN
         }),
@@ -48,6 +49,7 @@ pub const CASES: [Case; 4] = [
         lines: "blocked 1\n",
         left: Left::This(Run {
             journal: "stuck 0 0 0\n",
+            members: 1,
             turns: 3,
             blocked: &[(0, 0, &[])],
             ..RUN

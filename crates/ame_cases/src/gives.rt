@@ -48,15 +48,28 @@ where
     match (case.left, &report.ended) {
         (Left::Nothing, None) | (Left::Anything, Some(_)) => {}
         (Left::This(run), Some(ended)) => {
-            journal_is(rt, alloc, name, ended.journal(), run.journal, alone)?;
-            assert_eq!(rt; ended.output(), run.output, "{name}");
             certificates_are(rt, name, report.blocked(), run.blocked);
-            cells_are(rt, name, ended.store(), run.cells);
-            if alone {
-                counts_are(rt, name, ended, run);
-            }
+            run_is(rt, alloc, name, ended, run, alone)?;
         }
         _ => assert!(rt; false, "{name}"),
+    }
+    Ok(())
+}
+
+/// A run left this.
+fn run_is(
+    rt: &impl Abort,
+    alloc: Global,
+    name: &str,
+    ended: &Ended<Val>,
+    run: Run,
+    alone: bool,
+) -> Result<(), Fail> {
+    journal_is(rt, alloc, name, ended.journal(), run.journal, alone)?;
+    assert_eq!(rt; ended.output(), run.output, "{name}");
+    cells_are(rt, name, ended.store(), run.cells);
+    if alone {
+        counts_are(rt, name, ended, run);
     }
     Ok(())
 }

@@ -1,5 +1,5 @@
 -- What tests tell.
-use Rattle.std.proofs.Common.{◌≡◌, ℕ, ◌==◌, ℤ, Bool, true, false, not, List, [], ◌∷◌, length, Option, Some, None, is_some, refl, arith}
+use Rattle.std.proofs.Common.{◌≡◌, ◌==◌, ℤ, Bool, true, not, List, [], ◌∷◌, length, Option, Some, None, is_some, refl, arith}
 use Rattle.ame_term.specs.declared.types.Loc.{Loc}
 use Rattle.ame_replay.specs.Walk.{numbers}
 

@@ -1,11 +1,10 @@
 -- The lines of entries, one entry after another.
-use Rattle.std.proofs.Common.{◌≡◌, ℕ, ◌+◌, ◌<◌, ◌≤◌, ℤ, true, false, List, [], ◌∷◌, ◌++◌, map, length, get_or, drop, Some, None, if◌then◌else◌, refl, sym, ap, ◌∙◌, append_assoc, append-nil}
+use Rattle.std.proofs.Common.{◌≡◌, ℕ, ◌+◌, ◌<◌, ◌≤◌, ℤ, List, [], ◌∷◌, ◌++◌, length, get_or, drop, if◌then◌else◌, sym, ap, ◌∙◌, append_assoc, append-nil}
 use Rattle.std.proofs.lemmas.List.{drop_more, drop_all}
 use Rattle.ame_journal.specs.declared.entry.Entry.{Entry}
 use Rattle.ame_journal.specs.Replayed.{Replayed}
 use Rattle.ame_journal.specs.Replay.{replay_entry}
-use Rattle.ame_journal.specs.Totals.{is_note}
-use Rattle.ame_replay.specs.Lines.{printed_between, and_those_behind, lines_from, Prints}
+use Rattle.ame_replay.specs.Lines.{and_those_behind, lines_from, Prints}
 
 -- the line of the first entry, and those of the others where it leads
 pub line_comes_first : (r t : Replayed) (entry : Entry) (line : List ℤ) (entries : List Entry) → Prints r entry line t →

@@ -1,5 +1,5 @@
 -- The lines that each entry of a journal prints.
-use Rattle.std.specs.Prelude.{◌≡◌, ℕ, ℤ, true, false, List, [], ◌∷◌, length, drop, Option, Some, None, if◌then◌else◌}
+use Rattle.std.specs.Prelude.{◌≡◌, ℤ, true, false, List, [], ◌∷◌, length, drop, Option, Some, None, if◌then◌else◌}
 use Rattle.ame_term.specs.Tree.{Tree}
 use Rattle.ame_term.specs.State.{State}
 use Rattle.ame_journal.specs.declared.entry.Entry.{Entry}

@@ -1,4 +1,4 @@
-use Rattle.std.proofs.Common.{◌≡◌, ◌+◌, ◌++◌, ℤ, List, [], ◌∷◌, map, drop, Vec, Global, arith, sym, ap, ◌∙◌, subst}
+use Rattle.std.proofs.Common.{◌+◌, ◌++◌, ℤ, List, [], ◌∷◌, map, drop, Vec, Global, arith, ap, ◌∙◌, subst}
 use Rattle.std.proofs.lemmas.List.{map-append}
 use Rattle.ame_term.specs.View.{tree_of}
 use Rattle.ame_replay.specs.Lines as spec

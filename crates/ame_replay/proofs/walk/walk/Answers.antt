@@ -1,4 +1,3 @@
-use Rattle.ame_replay.specs.Walk.{Steps}
 use Rattle.ame_replay.proofs.WalkLemmas.{walk_begins, walk_goes_on}
 use Rattle.ame_replay.proofs.walk.walk.Goals as goal
 

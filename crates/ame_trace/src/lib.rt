@@ -1,6 +1,7 @@
 //! The journal of a run as a table that a person can follow.
 #![tactic(auto)]
 
+mod forms;
 mod nexts;
 mod page;
 mod row;
@@ -8,4 +9,5 @@ mod table;
 #[cfg(test)]
 mod tests;
 
+pub use forms::{Made, forms_of};
 pub use table::table_of;

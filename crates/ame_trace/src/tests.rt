@@ -1,7 +1,8 @@
 //! A journal as it is shown.
 
-use crate::table_of;
+use crate::{Made, forms_of, table_of};
 use ame_journal::Journal;
+use ame_term::{Loc, TyNo};
 use std::test::Fail;
 
 const JOURNAL: &[u8] =
@@ -32,5 +33,35 @@ fn a_journal_is_shown_line_by_line(rt: HostRuntime) -> Result<(), Fail> {
     }
     let table = table_of(rt.alloc(), journal.entries(), &lines)?;
     assert_eq!(rt; table.as_slice(), TABLE);
+    Ok(())
+}
+
+/// Two locations, and a third one whose form isn't there.
+const MADE: [Made; 3] = [
+    Made {
+        location: Loc(0),
+        form: TyNo(0),
+    },
+    Made {
+        location: Loc(12),
+        form: TyNo(1),
+    },
+    Made {
+        location: Loc(13),
+        form: TyNo(2),
+    },
+];
+
+const FORMS: &[u8] = b"location  ref form
+       0  1:9
+      12  2:4
+      13  unknown
+";
+
+#[test]
+fn a_location_is_shown_with_its_form(rt: HostRuntime) -> Result<(), Fail> {
+    let text = b"(let r (ref p 1)\n  (ref p (get r)))";
+    let page = forms_of(rt.alloc(), text, &MADE)?;
+    assert_eq!(rt; page.as_slice(), FORMS);
     Ok(())
 }

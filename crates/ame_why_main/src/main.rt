@@ -24,9 +24,7 @@ fn main(rt: HostRuntime) -> ExitCode {
         Err(fail) => show_unread(io::writer(&rt), fail),
         Ok(text) => match view {
             View::Why => show_run(&rt, io::writer(&rt), words, &text),
-            View::Journal | View::Trace => {
-                show_ended(&rt, io::writer(&rt), words, &text, view)
-            }
+            View::Journal | View::Trace => { show_ended(&rt, io::writer(&rt), words, &text, view) }
         },
     };
     ExitCode::from(number)

@@ -6,11 +6,14 @@ ghost use Rattle.ame_lex.specs.Bytes.{max_text};
 use crate::asked::View;
 use crate::explain::explain;
 use ame_app::{Report, StandardDevice, run_process};
+use ame_engine::Ended;
 use ame_io::{MemSource, ReadAllFail, StdSink, write_all};
 use ame_journal::Entry;
 use ame_replay::lines_of;
-use ame_term::{NoMemory, copy_term};
-use ame_trace::table_of;
+use ame_store::Store;
+use ame_term::{Loc, NoMemory, copy_term, push};
+use ame_trace::{Made, forms_of, table_of};
+use ame_value::Val;
 use ame_why::{input_of, journal_of};
 use std::alloc::{AllocError, Global};
 use std::io;
@@ -44,13 +47,7 @@ where
 }
 
 /// Writes what is asked for of the journal of the run; where no run is begun, what `show_run` writes.
-pub fn show_ended<R, W>(
-    rt: &R,
-    writer: W,
-    words: Vec<String>,
-    text: &[u8],
-    view: View,
-) -> u8
+pub fn show_ended<R, W>(rt: &R, writer: W, words: Vec<String>, text: &[u8], view: View) -> u8
 where
     R: AllocGlobal + Threads + Wait + Sync,
     W: io::Write + Send + Drop,
@@ -93,14 +90,53 @@ fn page_of<K>(
     view: View,
     report: &Report<K, StandardDevice>,
     text: &[u8],
-) -> Result<Vec<u8>, NoMemory> {
+) -> Result<Vec<u8>, NoMemory>
+    requires small { length text.now ≤ max_text }
+{
     let Some(ended) = &report.ended else {
         return Ok(Vec::new(alloc));
     };
     match view {
-        View::Trace => table_of(alloc, ended.journal(), &lines_told(alloc, report)?),
+        View::Trace => trace_text(alloc, report, ended, text),
         View::Why | View::Journal => journal_text(alloc, ended.journal(), text),
     }
+}
+
+/// The table of a run's journal, and where the locations were made that are left, if there are any.
+fn trace_text<K>(
+    alloc: Global,
+    report: &Report<K, StandardDevice>,
+    ended: &Ended<Val>,
+    text: &[u8],
+) -> Result<Vec<u8>, NoMemory>
+    requires small { length text.now ≤ max_text }
+{
+    let mut page = table_of(alloc, ended.journal(), &lines_told(alloc, report)?)?;
+    let made = made_in(alloc, ended.store())?;
+    if !made.is_empty() {
+        page.push(b'\n')?;
+        page.extend_from_slice(&forms_of(alloc, text, &made)?)?;
+    }
+    Ok(page)
+}
+
+/// The locations that are left, with the forms that made them.
+fn made_in(alloc: Global, store: &Store<Val>) -> Result<Vec<Made>, NoMemory> {
+    let mut made = Vec::new(alloc);
+    for number in 0..store.len() {
+        let location = Loc(number);
+        let cell = store.cell(location);
+        if cell.live {
+            push(
+                &mut made,
+                Made {
+                    location,
+                    form: cell.ty,
+                },
+            )?;
+        }
+    }
+    Ok(made)
 }
 
 /// The lines of each entry of a run's journal; none where they aren't told.

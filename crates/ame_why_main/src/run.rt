@@ -23,6 +23,10 @@ use std::thread::Threads;
 /// The most bytes that a read of the text takes.
 const PIECE: usize = 65_536;
 
+/// The most steps of a run whose entries are replayed for their lines. A replay over terms goes down each term, so it takes stack and
+/// time by the depth of terms, which grows with the steps.
+const REPLAYED_STEPS: u64 = 10_000;
+
 /// The text as a source.
 fn source_of(alloc: Global, text: &[u8]) -> Result<MemSource, AllocError> {
     let text = Vec::from_slice(alloc, text)?;
@@ -111,7 +115,11 @@ fn trace_text<K>(
 ) -> Result<Vec<u8>, NoMemory>
     requires small { length text.now ≤ max_text }
 {
-    let mut page = table_of(alloc, ended.journal(), &lines_told(alloc, report)?)?;
+    let lines = lines_told(alloc, report)?;
+    let mut page = table_of(alloc, ended.journal(), &lines)?;
+    if lines.is_empty() {
+        page.extend_from_slice(b"\nwhat entries printed isn't told\n")?;
+    }
     let made = made_in(alloc, ended.store())?;
     if !made.is_empty() {
         page.push(b'\n')?;
@@ -139,6 +147,15 @@ fn made_in(alloc: Global, store: &Store<Val>) -> Result<Vec<Made>, NoMemory> {
     Ok(made)
 }
 
+/// The steps of all entries.
+fn steps_of(entries: &[Entry]) -> u64 {
+    let mut steps = 0_u64;
+    for entry in entries {
+        steps = steps.saturating_add(entry.steps);
+    }
+    steps
+}
+
 /// The lines of each entry of a run's journal; none where they aren't told.
 fn lines_told<K>(
     alloc: Global,
@@ -147,6 +164,9 @@ fn lines_told<K>(
     let (Some(code), Some(ended)) = (&report.code, &report.ended) else {
         return Ok(Vec::new(alloc));
     };
+    if steps_of(ended.journal()) > REPLAYED_STEPS {
+        return Ok(Vec::new(alloc));
+    }
     let program = copy_term(alloc, &code.accepted().program.term)?;
     match lines_of(alloc, program, ended.journal())? {
         Some(lines) => Ok(lines),

@@ -21,7 +21,7 @@ use crate::status::Status;
 use ame_cli::spells_one_command;
 use ame_device::Device;
 use ame_engine::{Ended, Stop};
-use ame_eval::Machine;
+use ame_fragment::Fragment;
 use ame_io::{Sink, Source};
 use ame_shell::Left;
 use ame_stands::Limits;
@@ -174,7 +174,7 @@ where
         slice: job.options.slice,
         seats: job.options.workers,
     };
-    match run_by_workers::<Machine, K, D, G, R>(rt, alloc, code, limits, sink, devices, gate) {
+    match run_by_workers::<Fragment, K, D, G, R>(rt, alloc, code, limits, sink, devices, gate) {
         Ok(left) => conclude(job, left),
         Err((sink, devices)) => turn_away(Status::NoMemory, sink, devices),
     }

@@ -6,7 +6,7 @@ ghost use Rattle.ame_types.specs.Limits.{max_devices};
 use crate::Crew;
 use ame_code::{Code, compile};
 use ame_device::Device;
-use ame_eval::Machine;
+use ame_fragment::Fragment;
 use ame_lex::lex;
 use ame_parse::parse;
 use ame_stands::Limits;
@@ -18,8 +18,8 @@ use std::test::Fail;
 /// The most bytes of a text.
 pub const LIMIT: usize = 1_048_576;
 
-/// Seats with machines of the evaluator, and devices.
-pub type Team<D> = Crew<Machine, D>;
+/// Seats with fragments of the evaluator, and devices.
+pub type Team<D> = Crew<Fragment, D>;
 
 /// The program of a text. The types aren't asked.
 pub fn read(alloc: Global, text: &str) -> Result<Program, Fail> {

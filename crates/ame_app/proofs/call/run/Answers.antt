@@ -1,8 +1,5 @@
 use denote.Param.Send.{sendable}
-use Rattle.std.proofs.Crossing.{crosses}
-use Rattle.ame_term.proofs.types.Loc.TheSendSync as loc
-use Rattle.ame_runner.proofs.wants.Wants.TheSendSync as wants
-use Rattle.ame_eval.proofs.CrossingLemmas.{evaluation_send, start_send}
+use Rattle.ame_fragment.proofs.CrossingLemmas.{fragment_send}
 use Rattle.std.proofs.Common.{subst}
 use Rattle.ame_code.specs.FlatCode.{FlatCode}
 use Rattle.ame_code.specs.Code.{program_of}
@@ -23,7 +20,7 @@ returns-in-Ok-run_by_workers-clause-ran g c =
     some-weaker c.conclude.result.ended _ _ (λ end ran. λ call devices job. ran call before job over) c.conclude.ensures.ran
 
 pub run_by_workers-requires-send-M : goal.run_by_workers-requires-send-M
-run_by_workers-requires-send-M g c κs within = search (sendable, crosses, evaluation_send, start_send, loc.the_send, wants.the_send) depth 20
+run_by_workers-requires-send-M g c κs within = search (sendable, fragment_send)
 
 pub run_by_workers-requires-send-M-Code : goal.run_by_workers-requires-send-M-Code
 run_by_workers-requires-send-M-Code g c κs within = search (sendable, code_send) depth 20

@@ -14,6 +14,3 @@ pub use seats::{Seat, SeatAt};
 pub use state::{AnyRow, Leaves, Rowed, SEAT_LIMIT};
 pub use turn::Baton;
 pub use view::{Knows, Left};
-
-#[cfg(test)]
-mod tests;

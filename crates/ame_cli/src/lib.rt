@@ -11,8 +11,6 @@ mod numbers;
 mod read;
 mod screen;
 mod syntax;
-#[cfg(test)]
-mod tests;
 mod verb;
 
 pub use bounds::Bounds;

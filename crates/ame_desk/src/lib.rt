@@ -7,8 +7,6 @@ mod desk;
 mod laws;
 mod letting_go;
 mod rows;
-#[cfg(test)]
-mod tests;
 
 pub use answer::WriteAnswer;
 pub use desk::Desk;

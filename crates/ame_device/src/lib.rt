@@ -24,6 +24,3 @@ pub use line_device::LineDevice;
 pub use list::{call_boxed, call_device};
 pub use tape::Tape;
 pub use told::{Heard, Told};
-
-#[cfg(test)]
-mod tests;

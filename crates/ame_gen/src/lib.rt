@@ -6,8 +6,6 @@ mod laws;
 mod lines;
 mod no_memory;
 mod numbers;
-#[cfg(test)]
-mod tests;
 mod text;
 mod transfers;
 

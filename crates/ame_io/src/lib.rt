@@ -11,8 +11,6 @@ mod no_memory;
 mod plan;
 mod std_sink;
 mod std_source;
-#[cfg(test)]
-mod std_tests;
 mod whole_read;
 mod whole_write;
 

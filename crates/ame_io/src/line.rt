@@ -33,24 +33,3 @@ pub fn write_line<K: Sink>(sink: &mut K, line: &Line) -> Result<(), WriteFault>
 {
     write_all(sink, line.as_str().as_bytes())
 }
-
-#[cfg(test)]
-mod tests {
-    use super::*;
-    use crate::mem_sink::MemSink;
-    use std::test::Fail;
-
-    #[test]
-    fn each_line_is_one_write(rt: HostRuntime) -> Result<(), Fail> {
-        let fails = vec![in rt.alloc(); 2u64]?;
-        let mut sink = MemSink::new(rt.alloc(), 100, 100, fails)?;
-        assert_eq!(rt; write_line(&mut sink, &integer_line(&-7)), Ok(()));
-        assert_eq!(rt;
-            write_line(&mut sink, &integer_line(&12)),
-            Err(WriteFault { gone: 0 })
-        );
-        assert_eq!(rt; write_line(&mut sink, &integer_line(&i64::MIN)), Ok(()));
-        assert_eq!(rt; sink.written(), b"-7\n-9223372036854775808\n".as_slice());
-        Ok(())
-    }
-}

@@ -90,20 +90,3 @@ impl Sink for MemSink {
         Ok(n)
     }
 }
-
-#[cfg(test)]
-mod tests {
-    use super::*;
-    use std::test::Fail;
-
-    #[test]
-    fn takes_chunks_while_there_is_room(rt: HostRuntime) -> Result<(), Fail> {
-        let fails = vec![in rt.alloc(); 1u64]?;
-        let mut sink = MemSink::new(rt.alloc(), 3, 2, fails)?;
-        for answer in [Err(Failed), Ok(2), Ok(1), Err(Failed)] {
-            assert_eq!(rt; sink.write(b"ab"), answer);
-        }
-        assert_eq!(rt; sink.written(), b"aba".as_slice());
-        Ok(())
-    }
-}

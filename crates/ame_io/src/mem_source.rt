@@ -73,28 +73,3 @@ impl Source for MemSource {
         Ok(n)
     }
 }
-
-#[cfg(test)]
-mod tests {
-    use super::*;
-    use std::test::Fail;
-
-    #[test]
-    fn gives_chunks_and_fails_where_told(rt: HostRuntime) -> Result<(), Fail> {
-        let bytes = vec![in rt.alloc(); 1u8, 2, 3, 4]?;
-        let fails = vec![in rt.alloc(); 2u64]?;
-        let mut source = MemSource::new(bytes, 3, fails);
-        let mut buf = [0; 2];
-        let answers = [
-            (Ok(2), [1, 2]),
-            (Err(Failed), [1, 2]),
-            (Ok(2), [3, 4]),
-            (Ok(0), [3, 4]),
-        ];
-        for (answer, held) in answers {
-            assert_eq!(rt; source.read(&mut buf), answer);
-            assert_eq!(rt; buf, held);
-        }
-        Ok(())
-    }
-}

@@ -32,27 +32,3 @@ pub fn write_all<K: Sink>(sink: &mut K, bytes: &[u8]) -> Result<(), WriteFault>
     }
     Ok(())
 }
-
-#[cfg(test)]
-mod tests {
-    use super::*;
-    use crate::mem_sink::MemSink;
-    use std::test::Fail;
-
-    #[test]
-    fn writes_all_or_tells_how_much(rt: HostRuntime) -> Result<(), Fail> {
-        let rows = [
-            (4, 0, Ok(()), b"1\n2\n".as_slice()),
-            (3, 0, Err(WriteFault { gone: 3 }), b"1\n2"),
-            (4, 2, Err(WriteFault { gone: 2 }), b"1\n"),
-            (0, 0, Err(WriteFault { gone: 0 }), b""),
-        ];
-        for (room, fails, answer, written) in rows {
-            let fails = vec![in rt.alloc(); fails]?;
-            let mut sink = MemSink::new(rt.alloc(), room, 2, fails)?;
-            assert_eq!(rt; write_all(&mut sink, b"1\n2\n"), answer);
-            assert_eq!(rt; sink.written(), written);
-        }
-        Ok(())
-    }
-}

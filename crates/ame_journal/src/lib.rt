@@ -8,8 +8,6 @@ mod laws;
 mod line;
 mod numbers;
 mod spelling;
-#[cfg(test)]
-mod tests;
 mod text;
 mod words;
 

@@ -12,8 +12,3 @@ mod tokens;
 pub use laws::{fault_is_first, grammar_is_reading, one_outcome, tokens_lie_within};
 pub use lexer::lex;
 pub use tokens::{Kind, LexFault, Token};
-
-#[cfg(test)]
-mod number_tests;
-#[cfg(test)]
-mod tests;

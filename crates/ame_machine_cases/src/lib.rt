@@ -19,4 +19,6 @@ mod rows;
 #[cfg(test)]
 mod texts;
 #[cfg(test)]
+mod values;
+#[cfg(test)]
 mod wants;

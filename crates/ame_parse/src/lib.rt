@@ -17,6 +17,3 @@ mod words;
 pub use fault::{ParseFault, Want};
 pub use laws::{bytes_come_first, fault_is_expected, fault_is_first, one_program, spelled_is_read};
 pub use parser::parse;
-
-#[cfg(test)]
-mod tests;

@@ -6,8 +6,6 @@ mod laws;
 mod page;
 mod print;
 mod terms;
-#[cfg(test)]
-mod tests;
 mod types;
 
 pub use laws::printed_is_read;

@@ -4,8 +4,6 @@
 mod kinds;
 mod lines;
 mod replay;
-#[cfg(test)]
-mod tests;
 mod walk;
 
 pub use lines::lines_of;

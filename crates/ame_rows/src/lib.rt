@@ -3,8 +3,6 @@
 
 mod notes;
 mod row;
-#[cfg(test)]
-mod tests;
 
 pub use notes::{Bad, ReadNote, Undo};
 pub use row::Row;

@@ -4,8 +4,6 @@
 mod cell;
 mod store;
 mod taken;
-#[cfg(test)]
-mod tests;
 
 pub use cell::Cell;
 pub use store::Store;

@@ -15,8 +15,6 @@ mod program;
 mod semantics;
 mod substitution;
 mod term;
-#[cfg(test)]
-mod tests;
 mod types;
 
 pub use accepted::Accepted;

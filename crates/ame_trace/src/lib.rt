@@ -6,8 +6,6 @@ mod nexts;
 mod page;
 mod row;
 mod table;
-#[cfg(test)]
-mod tests;
 
 pub use forms::{Made, forms_of};
 pub use table::table_of;

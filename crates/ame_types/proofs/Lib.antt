@@ -3,4 +3,3 @@ pub mod SharedLemmas
 pub mod UnaryLemmas
 pub mod Parts
 pub mod Faults
-pub mod Counts

@@ -16,6 +16,3 @@ mod unary;
 
 pub use fault::{Shown, TypeFault, TypesFail};
 pub use program::check;
-
-#[cfg(test)]
-mod tests;

@@ -4,14 +4,10 @@
 mod bytes;
 mod caret;
 mod input;
-#[cfg(test)]
-mod page_tests;
 mod placed;
 mod position;
 mod rules;
 mod spans;
-#[cfg(test)]
-mod tests;
 mod tokens;
 
 pub use bytes::explain_bytes;

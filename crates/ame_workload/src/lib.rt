@@ -3,8 +3,6 @@
 
 mod accept;
 mod laws;
-#[cfg(test)]
-mod tests;
 
 pub use accept::accepted_workload;
 pub use laws::{text_has_canonical_tokens, text_is_accepted, text_is_read, workload_is_typed};

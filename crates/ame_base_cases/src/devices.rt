@@ -1,0 +1,121 @@
+//! Each device by a few calls.
+ghost use Rattle.std.specs.Prelude.{None};
+
+use ame_device::{
+    Adder, Counter, Device, DeviceFail, FailsAt, Heard, LineDevice, Tape, call_boxed, call_device,
+};
+use ame_io::MemSink;
+use std::alloc::Global;
+use std::process::Abort;
+use std::test::Fail;
+
+/// Calls a device with each argument, and compares the answers and what it then tells.
+fn tells<D: Device>(rt: &impl Abort, device: &mut D, calls: &[(i64, Result<i64, DeviceFail>)]) {
+    let mut answered = 0;
+    for (argument, answer) in calls {
+        assert_eq!(rt; device.call(*argument), *answer);
+        if let Ok(answer) = *answer {
+            let last = device
+                .heard()
+                .and_then(|heard| heard.get(answered))
+                .copied();
+            assert_eq!(rt;
+                last,
+                Some(Heard {
+                    argument: *argument,
+                    answer
+                })
+            );
+            answered += 1;
+        }
+    }
+    assert_eq!(rt; device.heard().map(|heard| heard.len()), Some(answered));
+}
+
+const FAILED: Result<i64, DeviceFail> = Err(DeviceFail::Failed);
+
+#[test]
+fn each_answers_in_its_way(rt: HostRuntime) -> Result<(), Fail> {
+    let alloc = rt.alloc();
+    tells(&rt, &mut Counter::new(alloc), &[(9, Ok(1)), (-4, Ok(2))]);
+    let wraps = [(5, Ok(5)), (-2, Ok(3)), (i64::MAX, Ok(i64::MIN + 2))];
+    tells(&rt, &mut Adder::new(alloc), &wraps);
+    let answers = vec![in alloc; 4i64, 6]?;
+    let runs_out = [(1, Ok(4)), (2, Ok(6)), (3, FAILED), (4, FAILED)];
+    tells(&rt, &mut Tape::new(alloc, answers), &runs_out);
+    let fails_second = [(6, Ok(6)), (7, FAILED), (8, Ok(8))];
+    tells(&rt, &mut FailsAt::new(alloc, 2), &fails_second);
+    Ok(())
+}
+
+#[test]
+fn lines_are_written(rt: HostRuntime) -> Result<(), Fail> {
+    let fails = vec![in rt.alloc(); 2u64]?;
+    let sink = MemSink::new(rt.alloc(), 100, 100, fails)?;
+    let mut device = LineDevice::new(sink);
+    assert_eq!(rt; device.call(-7), Ok(1));
+    assert_eq!(rt; device.call(12), FAILED);
+    assert_eq!(rt; device.call(3), Ok(2));
+    assert_eq!(rt; device.sink.written(), b"-7\n3\n".as_slice());
+    assert!(rt; device.heard().is_none());
+    Ok(())
+}
+
+/// A device of a caller's own: it answers the argument's negative, and tells nothing.
+#[derive(Drop)]
+struct Negates;
+
+impl Device for Negates {
+    ghost device_heard = { λ _. None };
+
+    ghost device_faults = { λ _. 0 };
+
+    fn call(&mut self, argument: i64) -> Result<i64, DeviceFail> {
+        Ok(argument.wrapping_neg())
+    }
+
+    fn heard(&self) -> Option<&[Heard]> {
+        None
+    }
+}
+
+fn boxed(alloc: Global) -> Result<Vec<Box<dyn Device + Send>>, Fail> {
+    let mut devices: Vec<Box<dyn Device + Send>> = Vec::new(alloc);
+    devices.push(Box::new(alloc, Counter::new(alloc))?)?;
+    devices.push(Box::new(alloc, FailsAt::new(alloc, 2))?)?;
+    devices.push(Box::new(alloc, Negates)?)?;
+    Ok(devices)
+}
+
+#[test]
+fn one_of_a_list_is_called(rt: HostRuntime) -> Result<(), Fail> {
+    let mut devices = boxed(rt.alloc())?;
+    let calls = [(0, 5, Ok(1)), (1, 6, Ok(6)), (2, 8, Ok(-8)), (1, 7, FAILED)];
+    for (number, argument, answer) in calls {
+        assert!(rt; number < devices.len());
+        assert_eq!(rt; call_boxed(&mut devices, number, argument), answer);
+    }
+    let heard = [Some(1), Some(1), None];
+    for (device, calls) in devices.iter().zip(heard.iter()) {
+        assert_eq!(rt; device.heard().map(|heard| heard.len()), *calls);
+    }
+    let mut counters = vec![in rt.alloc(); Counter::new(rt.alloc())]?;
+    assert_eq!(rt; call_device(&mut counters, 0, 3), Ok(1));
+    Ok(())
+}
+
+fn take_to_a_thread<T: Send + Drop>(_device: T) {}
+
+#[test]
+fn devices_may_go_to_a_thread(rt: HostRuntime) -> Result<(), Fail> {
+    let alloc = rt.alloc();
+    take_to_a_thread(boxed(alloc)?);
+    take_to_a_thread((
+        Counter::new(alloc),
+        Adder::new(alloc),
+        FailsAt::new(alloc, 1),
+    ));
+    take_to_a_thread(Tape::new(alloc, Vec::new(alloc)));
+    take_to_a_thread(LineDevice::new(MemSink::new(alloc, 1, 1, Vec::new(alloc))?));
+    Ok(())
+}

@@ -1,0 +1,54 @@
+//! Values of tests: integers, and a value that takes memory.
+
+use ame_term::{Copied, NoMemory};
+use std::alloc::Global;
+
+/// A value of a test, made of a number and telling it.
+pub(crate) trait Sample: Copied + Drop {
+    fn of(alloc: Global, n: i64) -> Result<Self, NoMemory>;
+
+    fn number(&self) -> i64;
+}
+
+impl Sample for i64 {
+    fn of(_alloc: Global, n: i64) -> Result<i64, NoMemory> {
+        Ok(n)
+    }
+
+    fn number(&self) -> i64 {
+        *self
+    }
+}
+
+/// A number that is copied by hand.
+#[derive(Drop)]
+pub(crate) struct Kept(Box<i64>);
+
+impl Copied for Kept {
+    ghost use Rattle.std.specs.Prelude.{◌≡◌, refl};
+    ghost use Rattle.std.proofs.Common.{sym, ◌∙◌};
+
+    ghost same = { λ x y. x.0.value ≡ y.0.value };
+
+    ghost reflexive = { λ x. refl };
+
+    ghost symmetric = { λ x y e. sym e };
+
+    ghost transitive = { λ x y z e f. e ∙ f };
+
+    fn copy(&self, alloc: Global) -> Result<Kept, NoMemory> {
+        let kept = Box::new(alloc, *self.0)?;
+        Ok(Kept(kept))
+    }
+}
+
+impl Sample for Kept {
+    fn of(alloc: Global, n: i64) -> Result<Kept, NoMemory> {
+        let kept = Box::new(alloc, n)?;
+        Ok(Kept(kept))
+    }
+
+    fn number(&self) -> i64 {
+        *self.0
+    }
+}

@@ -1,0 +1,40 @@
+//! The lines of a small program's entries.
+
+use crate::texts::read;
+use ame_journal::Journal;
+use ame_replay::lines_of;
+use std::test::Fail;
+
+const PROGRAM: &[u8] = b"(do (async (print 2)) (unprotected (print 3)) (print 1))";
+
+const JOURNAL: &[u8] = b"ran 0 0 2\nran 0 1 1\nfree 0 0 2\nran 0 0 2\n";
+
+const LINES: [&[i64]; 4] = [&[], &[2], &[3], &[1]];
+
+#[test]
+fn each_entry_has_its_lines(rt: HostRuntime) -> Result<(), Fail> {
+    let journal = Journal::from_text(rt.alloc(), JOURNAL).map_err(|_| "a journal")?;
+    let told = lines_of(
+        rt.alloc(),
+        read(rt.alloc(), PROGRAM)?.term,
+        journal.entries(),
+    )?;
+    let lines = told.ok_or("a run")?;
+    assert_eq!(rt; lines.len(), 4);
+    for (line, expected) in lines.iter().zip(LINES) {
+        assert_eq!(rt; line.as_slice(), expected);
+    }
+    Ok(())
+}
+
+#[test]
+fn a_journal_of_another_program_has_none(rt: HostRuntime) -> Result<(), Fail> {
+    let journal = Journal::from_text(rt.alloc(), b"ran 0 0 9\n").map_err(|_| "a journal")?;
+    let told = lines_of(
+        rt.alloc(),
+        read(rt.alloc(), PROGRAM)?.term,
+        journal.entries(),
+    )?;
+    assert!(rt; told.is_none());
+    Ok(())
+}

@@ -1,0 +1,59 @@
+//! Generated texts.
+
+use ame_gen::{Numbers, SEED_LIMIT, generate};
+use std::test::Fail;
+
+/// The text for seed 1 and two transfers, written by hand.
+const SMALL: &[u8] = b"(let a0 (ref p 18)
+(let a1 (ref p 18)
+(let a2 (ref p 18)
+(let a3 (ref p 18)
+(let a4 (ref p 18)
+(let a5 (ref p 18)
+(let a6 (ref p 18)
+(let a7 (ref p 18)
+(let done (ref p 0)
+(do
+(async (do (blockUntil (not (< (get a5) 3))) (set a5 (- (get a5) 3)) (set a1 (+ (get a1) 3)) (set done (+ (get done) 1))))
+(async (do (blockUntil (not (< (get a4) 7))) (set a4 (- (get a4) 7)) (set a3 (+ (get a3) 7)) (set done (+ (get done) 1))))
+(async (do (blockUntil (= (get done) 2)) (print (get a0)) (print (get a1)) (print (get a2)) (print (get a3)) (print (get a4)) (print (get a5)) (print (get a6)) (print (get a7))))
+))))))))))
+";
+
+#[test]
+fn two_transfers(rt: HostRuntime) -> Result<(), Fail> {
+    let text = generate(rt.alloc(), 1, 2).map_err(|_| "memory")?;
+    assert!(rt; text.as_slice() == SMALL);
+    Ok(())
+}
+
+/// A transfer's line has 123 bytes, whatever its numbers are, and the rest grows with the digits of the size alone.
+#[test]
+fn lengths(rt: HostRuntime) -> Result<(), Fail> {
+    for (seed, size, len) in [
+        (0, 1, 481),
+        (65536, 1, 481),
+        (1, 2, 612),
+        (0, 4000, 492_393),
+        (65536, 4000, 492_393),
+    ] {
+        let text = generate(rt.alloc(), seed, size).map_err(|_| "memory")?;
+        assert_eq!(rt; text.len(), len);
+    }
+    Ok(())
+}
+
+/// Each number is 75 times the one before and 74 more, modulo 65,537. The greatest seed is followed by itself.
+#[test]
+fn numbers_are_drawn_in_order(rt: HostRuntime) {
+    for (seed, drawn) in [
+        (0, [74, 5624, 28652]),
+        (1, [149, 11_249, 57_305]),
+        (SEED_LIMIT, [65_536, 65_536, 65_536]),
+    ] {
+        let mut numbers = Numbers::new(seed);
+        for number in drawn {
+            assert_eq!(rt; numbers.draw(), number);
+        }
+    }
+}

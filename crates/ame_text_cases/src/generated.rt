@@ -27,22 +27,6 @@ fn two_transfers(rt: HostRuntime) -> Result<(), Fail> {
     Ok(())
 }
 
-/// A transfer's line has 123 bytes, whatever its numbers are, and the rest grows with the digits of the size alone.
-#[test]
-fn lengths(rt: HostRuntime) -> Result<(), Fail> {
-    for (seed, size, len) in [
-        (0, 1, 481),
-        (65536, 1, 481),
-        (1, 2, 612),
-        (0, 4000, 492_393),
-        (65536, 4000, 492_393),
-    ] {
-        let text = generate(rt.alloc(), seed, size).map_err(|_| "memory")?;
-        assert_eq!(rt; text.len(), len);
-    }
-    Ok(())
-}
-
 /// Each number is 75 times the one before and 74 more, modulo 65,537. The greatest seed is followed by itself.
 #[test]
 fn numbers_are_drawn_in_order(rt: HostRuntime) {

@@ -4,8 +4,6 @@
 #[cfg(test)]
 mod generated;
 #[cfg(test)]
-mod numbers;
-#[cfg(test)]
 mod pages;
 #[cfg(test)]
 mod printed;

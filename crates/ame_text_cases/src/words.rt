@@ -137,7 +137,7 @@ fn bench_with_its_numbers_in_any_places(rt: HostRuntime) -> Result<(), Fail> {
     Ok(())
 }
 
-const REFUSED: [&[&str]; 92] = [
+const REFUSED: [&[&str]; 98] = [
     // Numbers out of range, or no number words.
     &["run", "--workers=0"],
     &["run", "--workers", "0"],
@@ -238,27 +238,18 @@ const REFUSED: [&[&str]; 92] = [
     &["run", ""],
     &["", "run"],
     &["bench", "1", "2", ""],
+    // Commands of tools like this one.
+    &["check"],
+    &["resume"],
+    &["resume", "--workers", "2"],
+    &["sim", "1"],
+    &["replay"],
+    &["weak", "1", "--turns", "9"],
 ];
 
 #[test]
 fn all_else_is_usage(rt: HostRuntime) -> Result<(), Fail> {
     for words in REFUSED {
-        assert_eq!(rt; read(rt.alloc(), words)?, Err(CliFail::Usage), "{words:?}");
-    }
-    Ok(())
-}
-
-#[test]
-fn words_of_later_commands_are_usage(rt: HostRuntime) -> Result<(), Fail> {
-    let rows: [&[&str]; 6] = [
-        &["check"],
-        &["resume"],
-        &["resume", "--workers", "2"],
-        &["sim", "1"],
-        &["replay"],
-        &["weak", "1", "--turns", "9"],
-    ];
-    for words in rows {
         assert_eq!(rt; read(rt.alloc(), words)?, Err(CliFail::Usage), "{words:?}");
     }
     Ok(())

@@ -46,7 +46,7 @@ enum Told {
 type State = (i64, u64, Option<u32>, bool);
 
 /// Calls in a row, each with a seat and a location, what it tells, and the cell there afterwards.
-const STEPS: [(u32, u32, Step, Told, Option<State>); 29] = [
+const STEPS: &[(u32, u32, Step, Told, Option<State>)] = &[
     // Seat 1 reads what seat 0 wrote, and comes too late to write.
     (0, 0, Step::Born(10), Told::At(0), Some((10, 0, None, true))),
     (0, 0, Step::Read, Told::Value(10), Some((10, 0, None, true))),
@@ -209,21 +209,20 @@ fn may_grow<V>(desk: &Desk<V>) -> bool
     true
 }
 
-/// A new cell, owned by a seat or by none.
-fn make<V: Sample>(
-    desk: &mut Desk<V>,
-    seat: Option<u32>,
-    value: V,
-    input: V,
-) -> Result<Told, NoMemory> {
+/// A new cell that no seat owns.
+fn born<V: Sample>(desk: &mut Desk<V>, value: V) -> Result<Told, NoMemory> {
     if desk.cells().len() == u32::MAX {
         return Ok(Told::Unmet);
     }
-    let Some(seat) = seat else {
-        let l = desk.born(Sort::Protected, TyNo(7), value)?;
-        return Ok(Told::At(l.0));
-    };
-    if seat as usize >= desk.seats() {
+    let l = desk.born(Sort::Protected, TyNo(7), value)?;
+    Ok(Told::At(l.0))
+}
+
+/// A new cell of a seat.
+fn allocate<V: Sample>(desk: &mut Desk<V>, seat: u32, value: V, input: V) -> Result<Told, NoMemory>
+    requires { seat < length desk.old.rows }
+{
+    if desk.cells().len() == u32::MAX {
         return Ok(Told::Unmet);
     }
     let l = desk.allocate(seat, Sort::Protected, TyNo(7), value, input)?;
@@ -257,6 +256,25 @@ fn peek<V: Sample>(desk: &Desk<V>, l: Loc) -> Result<Told, NoMemory> {
     Ok(Told::Value(value.number()))
 }
 
+/// A write of unprotected code, where no seat owns the cell.
+fn put<V: Sample>(desk: &mut Desk<V>, l: Loc, value: V) -> Told
+    requires location { l.0 < length desk.old.cells }
+    requires can_grow { ForSome (slice_get desk.old.cells l.0) CanGrow }
+{
+    if desk.cells().cell(l).owner.is_some() {
+        return Told::Unmet;
+    }
+    Told::Value(desk.put(l, value).number())
+}
+
+/// Whether there is a cell at the location, and its number is far from the last one.
+fn can_grow<V>(cells: &Store<V>, l: Loc) -> bool
+    ensures location { IsTrue result → l.0 < length cells.now }
+    ensures can_grow { IsTrue result → ForSome (slice_get cells.now l.0) CanGrow }
+{
+    l.0 < cells.len() && cells.cell(l).number < 1 << 62
+}
+
 /// A call at a location, where what it needs holds.
 fn perform_at<V: Sample>(
     global: Global,
@@ -267,18 +285,13 @@ fn perform_at<V: Sample>(
 ) -> Result<Told, NoMemory>
     requires { seat < length desk.old.rows }
 {
-    if l.0 >= desk.cells().len() {
+    if !can_grow(desk.cells(), l) {
         return Ok(Told::Unmet);
     }
-    let cell = desk.cells().cell(l);
-    if cell.number >= 1 << 62 {
-        return Ok(Told::Unmet);
-    }
-    let is_free = cell.owner.is_none();
     match step {
         Step::Read => Ok(Told::Value(desk.read(seat, l)?.number())),
         Step::Write(n) => write(desk, seat, l, V::of(global, n)?, V::of(global, 0)?),
-        Step::Put(n) if is_free => Ok(Told::Value(desk.put(l, V::of(global, n)?).number())),
+        Step::Put(n) => Ok(put(desk, l, V::of(global, n)?)),
         _ => Ok(Told::Unmet),
     }
 }
@@ -321,8 +334,8 @@ fn perform<V: Sample>(
         return Ok(Told::Unmet);
     }
     match step {
-        Step::Born(n) => make(desk, None, V::of(global, n)?, V::of(global, 0)?),
-        Step::Allocate(n) => make(desk, Some(seat), V::of(global, n)?, V::of(global, 0)?),
+        Step::Born(n) => born(desk, V::of(global, n)?),
+        Step::Allocate(n) => allocate(desk, seat, V::of(global, n)?, V::of(global, 0)?),
         Step::Peek => peek(desk, l),
         _ => perform_by(global, desk, seat, l, step),
     }
@@ -339,7 +352,7 @@ fn state<V: Sample>(cells: &Store<V>, l: Loc) -> Option<State> {
 
 /// Makes the calls, and answers how many of them told and left what the table says.
 fn as_told<V: Sample>(global: Global, desk: &mut Desk<V>) -> Result<usize, NoMemory> {
-    for (count, (seat, l, step, told, after)) in STEPS.into_iter().enumerate() {
+    for (count, &(seat, l, step, told, after)) in STEPS.iter().enumerate() {
         let l = Loc(l);
         if perform(global, desk, seat, l, step)? != told || state(desk.cells(), l) != after {
             return Ok(count);

@@ -1,6 +1,7 @@
 //! Each device by a few calls.
 ghost use Rattle.std.specs.Prelude.{None};
 
+use crate::sample::sink_that_fails;
 use ame_device::{
     Adder, Counter, Device, DeviceFail, FailsAt, Heard, LineDevice, Tape, call_boxed, call_device,
 };
@@ -9,27 +10,30 @@ use std::alloc::Global;
 use std::process::Abort;
 use std::test::Fail;
 
+/// How many calls a device tells.
+fn calls_heard<D: Device>(device: &D) -> Option<usize> {
+    device.heard().map(|heard| heard.len())
+}
+
+/// The call with a number, from 0, that a device tells.
+fn heard_at<D: Device>(device: &D, number: usize) -> Option<Heard> {
+    device.heard().and_then(|heard| heard.get(number)).copied()
+}
+
 /// Calls a device with each argument, and compares the answers and what it then tells.
 fn tells<D: Device>(rt: &impl Abort, device: &mut D, calls: &[(i64, Result<i64, DeviceFail>)]) {
-    let mut answered = 0;
-    for (argument, answer) in calls {
-        assert_eq!(rt; device.call(*argument), *answer);
-        if let Ok(answer) = *answer {
-            let last = device
-                .heard()
-                .and_then(|heard| heard.get(answered))
-                .copied();
+    let mut answered = 0usize;
+    for &(argument, answer) in calls {
+        assert_eq!(rt; device.call(argument), answer);
+        if let Ok(answer) = answer {
             assert_eq!(rt;
-                last,
-                Some(Heard {
-                    argument: *argument,
-                    answer
-                })
+                heard_at(device, answered),
+                Some(Heard { argument, answer })
             );
-            answered += 1;
+            answered = answered.saturating_add(1);
         }
     }
-    assert_eq!(rt; device.heard().map(|heard| heard.len()), Some(answered));
+    assert_eq!(rt; calls_heard(device), Some(answered));
 }
 
 const FAILED: Result<i64, DeviceFail> = Err(DeviceFail::Failed);
@@ -48,14 +52,16 @@ fn each_answers_in_its_way(rt: HostRuntime) -> Result<(), Fail> {
     Ok(())
 }
 
+/// Calls of a device that writes lines and fails at the second one.
+const LINES: &[(i64, Result<i64, DeviceFail>)] = &[(-7, Ok(1)), (12, FAILED), (3, Ok(2))];
+
 #[test]
 fn lines_are_written(rt: HostRuntime) -> Result<(), Fail> {
-    let fails = vec![in rt.alloc(); 2u64]?;
-    let sink = MemSink::new(rt.alloc(), 100, 100, fails)?;
+    let sink = sink_that_fails(rt.alloc(), 2, 100, 100)?;
     let mut device = LineDevice::new(sink);
-    assert_eq!(rt; device.call(-7), Ok(1));
-    assert_eq!(rt; device.call(12), FAILED);
-    assert_eq!(rt; device.call(3), Ok(2));
+    for &(argument, answer) in LINES {
+        assert_eq!(rt; device.call(argument), answer);
+    }
     assert_eq!(rt; device.sink.written(), b"-7\n3\n".as_slice());
     assert!(rt; device.heard().is_none());
     Ok(())
@@ -87,18 +93,37 @@ fn boxed(alloc: Global) -> Result<Vec<Box<dyn Device + Send>>, Fail> {
     Ok(devices)
 }
 
+/// Calls of the boxed devices: which one, its argument and its answer.
+const CALLS: &[(usize, i64, Result<i64, DeviceFail>)] = &[
+    (0, 5, Ok(1)),
+    (1, 6, Ok(6)),
+    (2, 8, Ok(-8)),
+    (1, 7, FAILED),
+];
+
+/// How many calls each boxed device tells afterwards.
+const HEARD: &[Option<usize>] = &[Some(1), Some(1), None];
+
+/// Calls boxed devices by their numbers, and compares the answers.
+fn answer_by_number(rt: &impl Abort, devices: &mut Vec<Box<dyn Device + Send>>) {
+    for &(number, argument, answer) in CALLS {
+        assert!(rt; number < devices.len());
+        assert_eq!(rt; call_boxed(devices, number, argument), answer);
+    }
+}
+
 #[test]
 fn one_of_a_list_is_called(rt: HostRuntime) -> Result<(), Fail> {
     let mut devices = boxed(rt.alloc())?;
-    let calls = [(0, 5, Ok(1)), (1, 6, Ok(6)), (2, 8, Ok(-8)), (1, 7, FAILED)];
-    for (number, argument, answer) in calls {
-        assert!(rt; number < devices.len());
-        assert_eq!(rt; call_boxed(&mut devices, number, argument), answer);
+    answer_by_number(&rt, &mut devices);
+    for (device, calls) in devices.iter().zip(HEARD.iter()) {
+        assert_eq!(rt; calls_heard(device), *calls);
     }
-    let heard = [Some(1), Some(1), None];
-    for (device, calls) in devices.iter().zip(heard.iter()) {
-        assert_eq!(rt; device.heard().map(|heard| heard.len()), *calls);
-    }
+    Ok(())
+}
+
+#[test]
+fn one_of_a_list_of_counters_is_called(rt: HostRuntime) -> Result<(), Fail> {
     let mut counters = vec![in rt.alloc(); Counter::new(rt.alloc())]?;
     assert_eq!(rt; call_device(&mut counters, 0, 3), Ok(1));
     Ok(())

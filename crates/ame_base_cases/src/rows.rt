@@ -8,7 +8,7 @@ use crate::sample::{Kept, Sample};
 use ame_rows::{Bad, ReadNote, Row, Undo};
 use ame_store::{Cell, Store};
 use ame_term::{Loc, NoMemory, Sort, TyNo};
-use std::alloc::Global;
+use std::alloc::{AllocError, Global};
 use std::test::Fail;
 
 /// Makes a free cell.
@@ -34,25 +34,36 @@ fn write<V: Sample>(store: &mut Store<V>, seat: u32, l: Loc, value: V) {
     }
 }
 
-/// A cell that is live and free at 4, one that seat 1 took at 2, a dead one at 2, one that seat 1 made,
-/// and one that is live and free at 0.
-fn cells<V: Sample>(alloc: Global) -> Result<Store<V>, NoMemory> {
+/// Makes a cell of a seat or of none, where there is room.
+fn make<V: Sample>(store: &mut Store<V>, value: V, owner: Option<u32>) -> Result<(), NoMemory> {
+    if store.len() < u32::MAX {
+        store.alloc(Sort::Protected, TyNo(0), value, owner)?;
+    }
+    Ok(())
+}
+
+/// A cell that is live and free at 4, one at 2, and a dead one at 2.
+fn free_cells<V: Sample>(alloc: Global) -> Result<Store<V>, NoMemory> {
     let mut cells = Vec::new(alloc);
     cells.push(free(V::of(alloc, 10)?, 4, true))?;
     cells.push(free(V::of(alloc, 11)?, 2, true))?;
     cells.push(free(V::of(alloc, 12)?, 2, false))?;
-    let mut store = Store::from_cells(cells);
+    Ok(Store::from_cells(cells))
+}
+
+/// A cell that is live and free at 4, one that seat 1 took at 2, a dead one at 2, one that seat 1 made,
+/// and one that is live and free at 0.
+fn cells<V: Sample>(alloc: Global) -> Result<Store<V>, NoMemory> {
+    let mut store = free_cells::<V>(alloc)?;
     for owner in [Some(1), None] {
-        if store.len() < u32::MAX {
-            store.alloc(Sort::Protected, TyNo(0), V::of(alloc, 13)?, owner)?;
-        }
+        make(&mut store, V::of(alloc, 13)?, owner)?;
     }
     write(&mut store, 1, Loc(1), V::of(alloc, 14)?);
     Ok(store)
 }
 
 /// Seats, the locations and numbers that they read, and what isn't valid: the location, the number read and the number now.
-const READS: [(u32, &[(u32, u64)], Option<(u32, u64, u64)>); 17] = [
+const READS: &[(u32, &[(u32, u64)], Option<(u32, u64, u64)>)] = &[
     (1, &[], None),
     (1, &[(0, 4)], None),
     (0, &[(0, 4), (4, 0), (0, 4)], None),
@@ -87,6 +98,19 @@ fn are_within(notes: &[ReadNote], cells: u32) -> bool
     notes.iter().all(|note| note.loc.0 < cells)
 }
 
+/// Notes these reads in a row.
+fn note_reads<V: Sample>(
+    alloc: Global,
+    row: &mut Row<V>,
+    reads: &[(u32, u64)],
+) -> Result<(), NoMemory> {
+    for (l, number) in reads {
+        row.room()?;
+        row.note_read(Loc(*l), *number, V::of(alloc, 0)?);
+    }
+    Ok(())
+}
+
 /// What a row with these reads answers.
 fn judged<V: Sample>(
     alloc: Global,
@@ -95,10 +119,7 @@ fn judged<V: Sample>(
     reads: &[(u32, u64)],
 ) -> Result<Option<(u32, u64, u64)>, NoMemory> {
     let mut row = Row::new(alloc);
-    for (l, number) in reads {
-        row.room()?;
-        row.note_read(Loc(*l), *number, V::of(alloc, 0)?);
-    }
+    note_reads(alloc, &mut row, reads)?;
     if !are_within(row.reads(), store.len()) {
         return Err(NoMemory);
     }
@@ -111,7 +132,7 @@ fn judged<V: Sample>(
 /// How many rows of the table are answered as it says.
 fn as_told<V: Sample>(alloc: Global) -> Result<usize, NoMemory> {
     let store = cells::<V>(alloc)?;
-    for (count, (seat, reads, told)) in READS.into_iter().enumerate() {
+    for (count, &(seat, reads, told)) in READS.iter().enumerate() {
         if judged(alloc, &store, seat, reads)? != told {
             return Ok(count);
         }
@@ -140,8 +161,8 @@ fn told<V: Sample>(undo: Option<Undo<V>>) -> Option<(u32, Option<(u64, i64)>)> {
     }
 }
 
-/// Notes of each kind, in the logs and taken out again.
-fn notes<V: Sample>(alloc: Global, row: &mut Row<V>) -> Result<bool, NoMemory> {
+/// Notes a read, a write, an input and a cell that was made.
+fn note_each<V: Sample>(alloc: Global, row: &mut Row<V>) -> Result<(), NoMemory> {
     row.room()?;
     row.note_read(Loc(5), 8, V::of(alloc, 1)?);
     row.room()?;
@@ -149,6 +170,12 @@ fn notes<V: Sample>(alloc: Global, row: &mut Row<V>) -> Result<bool, NoMemory> {
     row.note_input(V::of(alloc, 2)?);
     row.room()?;
     row.note_write(Undo::Made(Loc(7)));
+    Ok(())
+}
+
+/// Whether notes of each kind are in the logs, and are taken out again.
+fn notes<V: Sample>(alloc: Global, row: &mut Row<V>) -> Result<bool, NoMemory> {
+    note_each(alloc, row)?;
     let note = ReadNote {
         loc: Loc(5),
         number: 8,
@@ -193,11 +220,15 @@ fn owns<V>(store: &Store<V>, seat: u32, l: Loc) -> bool
     }
 }
 
+/// A cell that is live and free at 2.
+fn one_cell(alloc: Global) -> Result<Store<i64>, AllocError> {
+    let cells = vec![in alloc; free(0, 2, true)]?;
+    Ok(Store::from_cells(cells))
+}
+
 #[test]
 fn a_read_of_what_was_put_back(rt: HostRuntime) -> Result<(), Fail> {
-    let mut cells = Vec::new(rt.alloc());
-    cells.push(free(0i64, 2, true))?;
-    let mut store = Store::from_cells(cells);
+    let mut store = one_cell(rt.alloc())?;
     write(&mut store, 1, Loc(0), 5);
     assert!(rt; owns(&store, 1, Loc(0)));
     assert_eq!(rt; store.read(Loc(0))?, (5, 3));

@@ -1,5 +1,8 @@
-//! Values of tests: integers, and a value that takes memory.
+//! Values of tests: integers, a value that takes memory, and a sink that fails once.
 
+ghost use Rattle.std.specs.Prelude.{◌≤◌};
+
+use ame_io::MemSink;
 use ame_term::{Copied, NoMemory};
 use std::alloc::Global;
 
@@ -51,4 +54,17 @@ impl Sample for Kept {
     fn number(&self) -> i64 {
         *self.0
     }
+}
+
+/// A sink in memory that fails at the call with this number, from 1.
+pub(crate) fn sink_that_fails(
+    alloc: Global,
+    call: u64,
+    room: usize,
+    chunk: usize,
+) -> Result<MemSink, ame_io::NoMemory>
+    requires { 1 ≤ chunk }
+{
+    let fails = vec![in alloc; call; 1]?;
+    MemSink::new(alloc, room, chunk, fails)
 }

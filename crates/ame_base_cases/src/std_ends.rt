@@ -1,7 +1,6 @@
 //! The ends of std: a pipe of the system, and a reader and a writer that fail.
-use ame_io::{
-    Failed, MemSink, MemSource, Sink, Source, StdSink, StdSource, WriteFault, read_all, write_all,
-};
+use crate::ends::has_left;
+use ame_io::{Failed, MemSink, MemSource, Sink, Source, StdSink, StdSource, WriteFault, write_all};
 use std::io;
 use std::io::{ErrorKind, Read, Write};
 use std::test::Fail;
@@ -28,17 +27,20 @@ impl Write for TakesNothing {
     }
 }
 
+/// Writes all the bytes, and closes the sink.
+fn write_and_close<K: Sink + Drop>(mut sink: K, bytes: &[u8]) -> Result<(), WriteFault> {
+    write_all(&mut sink, bytes)
+}
+
 #[test]
 fn bytes_pass_a_pipe(rt: HostRuntime) -> Result<(), Fail> {
     let (reader, writer) = io::pipe(&rt)?;
-    let mut sink = StdSink::new(writer);
-    assert_eq!(rt; write_all(&mut sink, b"one\ntwo\n"), Ok(()));
-    drop(sink);
-    let mut source = StdSource::new(reader);
     assert_eq!(rt;
-        read_all(rt.alloc(), &mut source)?.as_slice(),
-        b"one\ntwo\n".as_slice()
+        write_and_close(StdSink::new(writer), b"one\ntwo\n"),
+        Ok(())
     );
+    let mut source = StdSource::new(reader);
+    assert!(rt; has_left(rt.alloc(), &mut source, b"one\ntwo\n")?);
     Ok(())
 }
 
@@ -84,22 +86,32 @@ impl Read for ReadsLater {
     }
 }
 
+/// Kinds of errors that a reader starts with.
+const KINDS: &[ErrorKind] = &[
+    ErrorKind::Interrupted,
+    ErrorKind::WouldBlock,
+    ErrorKind::Other,
+];
+
+/// What the first two reads of two bytes answer, and what the buffer then holds.
+fn read_twice<R: Read + Drop>(
+    reader: R,
+) -> (Result<usize, Failed>, Result<usize, Failed>, [u8; 2]) {
+    let mut source = StdSource::new(reader);
+    let mut buf = [0; 2];
+    let first = source.read(&mut buf);
+    let second = source.read(&mut buf);
+    (first, second, buf)
+}
+
 #[test]
 fn the_first_error_is_answered_and_the_next_read_goes_on(rt: HostRuntime) {
-    let kinds = [
-        ErrorKind::Interrupted,
-        ErrorKind::WouldBlock,
-        ErrorKind::Other,
-    ];
-    for kind in kinds {
-        let mut source = StdSource::new(ReadsLater {
+    for &kind in KINDS {
+        let reader = ReadsLater {
             kind,
             has_failed: false,
-        });
-        let mut buf = [0; 2];
-        assert_eq!(rt; source.read(&mut buf), Err(Failed));
-        assert_eq!(rt; source.read(&mut buf), Ok(2));
-        assert_eq!(rt; buf, [7, 7]);
+        };
+        assert_eq!(rt; read_twice(reader), (Err(Failed), Ok(2), [7, 7]));
     }
 }
 

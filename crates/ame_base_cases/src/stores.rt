@@ -7,7 +7,7 @@ ghost use Rattle.ame_store.specs.Cells.{IsOwnedBy, IsDead, CanGrow};
 use crate::sample::{Kept, Sample};
 use ame_store::{Cell, Store, Taken};
 use ame_term::{Loc, NoMemory, Sort, TyNo};
-use std::alloc::Global;
+use std::alloc::{AllocError, Global};
 use std::test::Fail;
 
 /// A call of a store.
@@ -39,7 +39,7 @@ enum Told {
 type State = (i64, u64, Option<u32>, bool);
 
 /// Calls in a row, each with a location, what it tells, and the cell there afterwards.
-const STEPS: [(u32, Step, Told, State); 19] = [
+const STEPS: &[(u32, Step, Told, State)] = &[
     (
         0,
         Step::Alloc(0, Some(0)),
@@ -116,6 +116,34 @@ fn write<V: Sample>(store: &mut Store<V>, seat: u32, l: Loc, value: V) -> Told
     }
 }
 
+/// A call by the seat that owns the cell.
+fn perform_by_owner<V: Sample>(
+    global: Global,
+    store: &mut Store<V>,
+    l: Loc,
+    step: Step,
+) -> Result<Told, NoMemory>
+    requires location { l.0 < length store.old }
+    requires can_grow { ForSome (slice_get store.old l.0) CanGrow }
+{
+    let cell = store.cell(l);
+    match step {
+        Step::Release(seat) if owns(cell, seat) => store.release(seat, l),
+        Step::Restore(seat, n) if owns(cell, seat) => store.restore(seat, l, V::of(global, n)?),
+        Step::Kill(seat) if owns(cell, seat) && !cell.live => store.kill(seat, l),
+        _ => return Ok(Told::Unmet),
+    }
+    Ok(Told::Done)
+}
+
+/// A copy of a cell's value, and its number.
+fn read<V: Sample>(store: &Store<V>, l: Loc) -> Result<Told, NoMemory>
+    requires { l.0 < length store.now }
+{
+    let (value, number) = store.read(l)?;
+    Ok(Told::Copy(value.number(), number))
+}
+
 /// Makes the call, where what it needs holds.
 fn perform<V: Sample>(
     global: Global,
@@ -134,20 +162,13 @@ fn perform<V: Sample>(
         return Ok(Told::Unmet);
     }
     match step {
-        Step::Read => {
-            let (value, number) = store.read(l)?;
-            return Ok(Told::Copy(value.number(), number));
-        }
-        Step::Write(seat, n) => return Ok(write(store, seat, l, V::of(global, n)?)),
-        Step::Release(seat) if owns(cell, seat) => store.release(seat, l),
-        Step::Restore(seat, n) if owns(cell, seat) => store.restore(seat, l, V::of(global, n)?),
-        Step::Kill(seat) if owns(cell, seat) && !cell.live => store.kill(seat, l),
+        Step::Read => read(store, l),
+        Step::Write(seat, n) => Ok(write(store, seat, l, V::of(global, n)?)),
         Step::Put(n) if cell.owner.is_none() => {
-            return Ok(Told::Old(store.put(l, V::of(global, n)?).number()));
+            Ok(Told::Old(store.put(l, V::of(global, n)?).number()))
         }
-        _ => return Ok(Told::Unmet),
+        _ => perform_by_owner(global, store, l, step),
     }
-    Ok(Told::Done)
 }
 
 /// The cell at a location, where there is one.
@@ -161,7 +182,7 @@ fn state<V: Sample>(store: &Store<V>, l: Loc) -> Option<State> {
 
 /// Makes the calls, and answers how many of them told and left what the table says.
 fn as_told<V: Sample>(global: Global, store: &mut Store<V>) -> Result<usize, NoMemory> {
-    for (count, (l, step, told, after)) in STEPS.into_iter().enumerate() {
+    for (count, &(l, step, told, after)) in STEPS.iter().enumerate() {
         let l = Loc(l);
         if perform(global, store, l, step)? != told || state(store, l) != Some(after) {
             return Ok(count);
@@ -197,15 +218,32 @@ fn cell_of(n: i64, number: u64, live: bool) -> Cell<i64>
     }
 }
 
+/// Two free cells, a live one and a dead one.
+fn two_cells(alloc: Global) -> Result<Store<i64>, AllocError> {
+    let cells = vec![in alloc; cell_of(5, 8, true), cell_of(6, 0, false)]?;
+    Ok(Store::from_cells(cells))
+}
+
+/// The sort and type of the cell at a location.
+fn kind(store: &Store<i64>, l: Loc) -> (Sort, TyNo)
+    requires { l.0 < length store.now }
+{
+    let cell = store.cell(l);
+    (cell.sort, cell.ty)
+}
+
+/// Whether a store holds the two cells as they were made.
+fn holds_two_cells(store: &Store<i64>) -> bool {
+    store.len() == 2
+        && kind(store, Loc(0)) == (Sort::Unprotected, TyNo(3))
+        && state(store, Loc(0)) == Some((5, 8, None, true))
+        && state(store, Loc(1)) == Some((6, 0, None, false))
+}
+
 #[test]
 fn a_store_of_cells_that_are_there(rt: HostRuntime) -> Result<(), Fail> {
-    let cells = vec![in rt.alloc(); cell_of(5, 8, true), cell_of(6, 0, false)]?;
-    let mut store = Store::from_cells(cells);
-    assert_eq!(rt; store.len(), 2);
-    assert!(rt; store.cell(Loc(0)).sort == Sort::Unprotected);
-    assert!(rt; store.cell(Loc(0)).ty == TyNo(3));
-    assert_eq!(rt; state(&store, Loc(0)), Some((5, 8, None, true)));
-    assert_eq!(rt; state(&store, Loc(1)), Some((6, 0, None, false)));
+    let mut store = two_cells(rt.alloc())?;
+    assert!(rt; holds_two_cells(&store));
     assert_eq!(rt;
         perform(rt.alloc(), &mut store, Loc(0), Step::Write(2, 4))?,
         Told::First(5, 8)

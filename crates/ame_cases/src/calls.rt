@@ -58,6 +58,17 @@ fn failing(alloc: Global, call: u64) -> Result<Vec<u64>, Fail> {
     Ok(calls)
 }
 
+/// Words, which stand with spaces between them.
+fn words_of(alloc: Global, words: &str) -> Result<Vec<String>, Fail> {
+    let mut list = Vec::new(alloc);
+    for word in words.split(' ') {
+        if !word.is_empty() {
+            list.push(String::from_str(alloc, word)?)?;
+        }
+    }
+    Ok(list)
+}
+
 /// What is reported of words, which stand with a space between two, and a text.
 pub fn report_of<R, G>(
     rt: &R,
@@ -72,12 +83,7 @@ where
     G: Gate + Sync,
 {
     let alloc = rt.alloc();
-    let mut list = Vec::new(alloc);
-    for word in words.split(' ') {
-        if !word.is_empty() {
-            list.push(String::from_str(alloc, word)?)?;
-        }
-    }
+    let list = words_of(alloc, words)?;
     let reads = failing(alloc, ends.failing_read)?;
     let writes = failing(alloc, ends.failing_write)?;
     let mut source = MemSource::new(text, ends.read_chunk.max(1), reads);

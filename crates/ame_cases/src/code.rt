@@ -5,7 +5,7 @@ use ame_types::check;
 use std::alloc::Global;
 use std::test::Fail;
 
-const TEXTS: [(&[u8], &[&str]); 7] = [
+const TEXTS: &[(&[u8], &[&str])] = &[
     (
         b"(print 1)",
         &["Held(Int(1)) []", "One(Print, NodeNo(0)) []"],
@@ -114,7 +114,7 @@ fn code_of(alloc: Global, text: &[u8]) -> Result<Code, Fail> {
 #[test]
 fn texts_have_their_nodes(rt: HostRuntime) -> Result<(), Fail> {
     let alloc = rt.alloc();
-    for (text, nodes) in &TEXTS {
+    for (text, nodes) in TEXTS {
         let code = code_of(alloc, text)?;
         assert_eq!(rt; code.len() as usize, nodes.len());
         assert_eq!(rt; code.root(), NodeNo(code.len() - 1));

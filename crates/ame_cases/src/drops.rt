@@ -6,6 +6,7 @@ use crate::calls::{Boxed, report_of};
 use crate::case::AMPLE;
 use ame_device::{Device, DeviceFail, Heard};
 use ame_worker::NoGate;
+use std::alloc::Global;
 use std::sync::Arc;
 use std::sync::atomic::{AtomicU32, Ordering};
 use std::test::Fail;
@@ -34,15 +35,20 @@ impl Device for CountsDrops {
     }
 }
 
+/// One device, which counts its drops.
+fn boxes_of(alloc: Global, drops: &Arc<AtomicU32>) -> Result<Vec<Boxed>, Fail> {
+    let mut boxes: Vec<Boxed> = Vec::new(alloc);
+    boxes.push(Box::new(alloc, CountsDrops(drops.clone()?))?)?;
+    Ok(boxes)
+}
+
 #[test]
 fn a_device_is_dropped_once(rt: HostRuntime) -> Result<(), Fail> {
     let alloc = rt.alloc();
     for words in ["run", "run --workers 4", "help"] {
         let drops = Arc::new(alloc, AtomicU32::new(0))?;
-        let mut boxes: Vec<Boxed> = Vec::new(alloc);
-        boxes.push(Box::new(alloc, CountsDrops(drops.clone()?))?)?;
         let text = Vec::from_slice(alloc, b"(unprotected (print (call 0 5)))")?;
-        let report = report_of(&rt, words, text, &AMPLE, boxes, &NoGate)?;
+        let report = report_of(&rt, words, text, &AMPLE, boxes_of(alloc, &drops)?, &NoGate)?;
         assert_eq!(rt; report.devices.len(), 1, "{words}");
         assert_eq!(rt; drops.load(Ordering::SeqCst), 0, "{words}");
         drop(report);

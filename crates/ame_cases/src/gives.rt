@@ -1,6 +1,6 @@
 //! What a call gave, beside what it must.
 
-use crate::calls::{Boxed, boxes_of, bytes_of, report_of, tells};
+use crate::calls::{Boxed, Told, boxes_of, bytes_of, report_of, tells};
 use crate::case::{Case, Left, Run};
 use ame_device::{Device, Heard};
 use ame_engine::{Certificate, Ended};
@@ -45,6 +45,18 @@ where
     tells(rt, &report, case.status, case.lines, name);
     devices_heard(rt, name, &report.devices, case.heard);
     assert_eq!(rt; report.code.is_some(), report.ended.is_some(), "{name}");
+    left_is(rt, alloc, case, &report, alone)
+}
+
+/// A call left this.
+fn left_is(
+    rt: &impl Abort,
+    alloc: Global,
+    case: &Case,
+    report: &Told,
+    alone: bool,
+) -> Result<(), Fail> {
+    let name = case.name;
     match (case.left, &report.ended) {
         (Left::Nothing, None) | (Left::Anything, Some(_)) => {}
         (Left::This(run), Some(ended)) => {
@@ -74,19 +86,23 @@ fn run_is(
     Ok(())
 }
 
+/// A device heard these calls.
+fn heard_is(rt: &impl Abort, name: &str, told: &[Heard], calls: &[(i64, i64)]) {
+    assert_eq!(rt; told.len(), calls.len(), "{name}");
+    for (call, (argument, answer)) in told.iter().zip(calls.iter()) {
+        let wanted = Heard {
+            argument: *argument,
+            answer: *answer,
+        };
+        assert_eq!(rt; *call, wanted, "{name}");
+    }
+}
+
 /// The devices heard these calls.
 fn devices_heard(rt: &impl Abort, name: &str, devices: &[Boxed], heard: &[&[(i64, i64)]]) {
     assert_eq!(rt; devices.len(), heard.len(), "{name}");
     for (device, calls) in devices.iter().zip(heard.iter()) {
-        let told = device.heard().unwrap_or(&[]);
-        assert_eq!(rt; told.len(), calls.len(), "{name}");
-        for (call, (argument, answer)) in told.iter().zip(calls.iter()) {
-            let wanted = Heard {
-                argument: *argument,
-                answer: *answer,
-            };
-            assert_eq!(rt; *call, wanted, "{name}");
-        }
+        heard_is(rt, name, device.heard().unwrap_or(&[]), calls);
     }
 }
 
@@ -120,6 +136,21 @@ fn is_same(entry: &Entry, other: &Entry) -> bool {
         && entry.answer == other.answer
 }
 
+/// A certificate has this number, these steps and these new locations.
+fn certificate_is(
+    rt: &impl Abort,
+    name: &str,
+    certificate: &Certificate,
+    (number, steps, fresh): (u64, u64, &[Loc]),
+) {
+    assert_eq!(rt;
+        (certificate.number, certificate.steps),
+        (number, steps),
+        "{name}"
+    );
+    assert_eq!(rt; certificate.fresh.as_slice(), fresh, "{name}");
+}
+
 /// The certificates are these.
 fn certificates_are(
     rt: &impl Abort,
@@ -128,10 +159,8 @@ fn certificates_are(
     blocked: &[(u64, u64, &[Loc])],
 ) {
     assert_eq!(rt; certificates.len(), blocked.len(), "{name}");
-    for (certificate, (number, steps, fresh)) in certificates.iter().zip(blocked.iter()) {
-        assert_eq!(rt; certificate.number, *number, "{name}");
-        assert_eq!(rt; certificate.steps, *steps, "{name}");
-        assert_eq!(rt; certificate.fresh.as_slice(), *fresh, "{name}");
+    for (certificate, wanted) in certificates.iter().zip(blocked.iter()) {
+        certificate_is(rt, name, certificate, *wanted);
     }
 }
 

@@ -3,7 +3,7 @@ use crate::runs::{begun, makes};
 use ame_term::{Label, Loc, StepKind};
 use std::test::Fail;
 
-const KINDS: [StepKind; 9] = [
+const KINDS: &[StepKind] = &[
     StepKind::Local,
     StepKind::Alloc(Loc(0)),
     StepKind::Read,
@@ -19,7 +19,7 @@ const KINDS: [StepKind; 9] = [
 fn at_the_beginning_only_a_member_begins(rt: HostRuntime) -> Result<(), Fail> {
     let alloc = rt.alloc();
     let mut state = begun(alloc, b"(print 1)")?;
-    for kind in KINDS {
+    for &kind in KINDS {
         assert!(rt; !makes(&rt, alloc, &mut state, Label::Step(kind)));
         assert!(rt; !makes(&rt, alloc, &mut state, Label::Free(0, kind)));
     }
@@ -40,7 +40,7 @@ fn an_active_member_makes_the_step_of_its_redex(rt: HostRuntime) -> Result<(), F
     let alloc = rt.alloc();
     let mut state = begun(alloc, b"(print 1)")?;
     assert!(rt; makes(&rt, alloc, &mut state, Label::Activate(0)));
-    for kind in KINDS {
+    for &kind in KINDS {
         assert!(rt; !makes(&rt, alloc, &mut state, Label::Free(0, kind)));
         if kind != StepKind::Print {
             assert!(rt; !makes(&rt, alloc, &mut state, Label::Step(kind)));

@@ -5,7 +5,7 @@ use ame_engine::Stop;
 use ame_turn::Deed::*;
 use std::test::Fail;
 
-const ROWS: [Row; 6] = [
+const ROWS: &[Row] = &[
     Row {
         text: "unit",
         events: &[Event::Turns(0, &[Began, Ended, Stopped])],
@@ -92,5 +92,5 @@ const ROWS: [Row; 6] = [
 
 #[test]
 fn one_seat_runs_all_members(rt: HostRuntime) -> Result<(), Fail> {
-    play_all(&rt, rt.alloc(), &ROWS)
+    play_all(&rt, rt.alloc(), ROWS)
 }

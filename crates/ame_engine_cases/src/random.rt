@@ -1,9 +1,9 @@
 //! Seats in turns that a seed tells: after each event the journal replays to what the engine has.
 
 use crate::ends::{has_cause, have_heard};
-use crate::replay::{begun, follow, is_replayed};
-use crate::texts::team_of;
-use ame_device::FailsAt;
+use crate::replay::{Replay, begun, follow, is_replayed};
+use crate::texts::{Team, team_of};
+use ame_device::{Device, FailsAt};
 use ame_engine::{Counters, Ended, Stop};
 use ame_stands::Limits;
 use ame_value::Val;
@@ -36,7 +36,7 @@ const LOOP: Load = Load {
     ..SHORT
 };
 
-const LOADS: [Load; 12] = [
+const LOADS: &[Load] = &[
     // members that contend for cells
     Load {
         text: "(let r (ref p 0) (do (async (set r (+ (get r) 1))) (async (set r (+ (get r) 10))) (async (set r (+ (get r) 100))) \
@@ -131,6 +131,31 @@ fn fault_of(seed: u32) -> Option<u32> {
     }
 }
 
+/// Devices of which each fails at its call.
+fn devices_of(alloc: Global, load: &Load) -> Result<Vec<FailsAt>, Fail> {
+    let mut devices = Vec::new(alloc);
+    for call in load.devices {
+        devices.push(FailsAt::new(alloc, *call))?;
+    }
+    Ok(devices)
+}
+
+/// A seat has its turn, and the journal then replays to what the engine has.
+fn turn<D: Device>(
+    rt: &impl Abort,
+    alloc: Global,
+    team: &mut Team<D>,
+    replay: &mut Replay,
+    seat: u32,
+) -> Result<(), Fail> {
+    assert!(rt; seat < team.engine().limits().seats);
+    let _ = team.step(seat);
+    follow(rt, alloc, replay, team.engine().journal())?;
+    is_replayed(rt, team, replay);
+    assert_eq!(rt; replay.state.pool_len(), team.members());
+    Ok(())
+}
+
 /// A text in turns by a seed, to its end.
 fn run(rt: &impl Abort, alloc: Global, load: &Load, seed: u32) -> Result<Ended<Val>, Fail> {
     let text = load.text;
@@ -139,11 +164,7 @@ fn run(rt: &impl Abort, alloc: Global, load: &Load, seed: u32) -> Result<Ended<V
     if seats == 0 {
         return Err("no seat".into());
     }
-    let mut devices = Vec::new(alloc);
-    for call in load.devices {
-        devices.push(FailsAt::new(alloc, *call))?;
-    }
-    let mut team = team_of(alloc, text, limits, devices)?;
+    let mut team = team_of(alloc, text, limits, devices_of(alloc, load)?)?;
     let mut replay = begun(alloc, text)?;
     let mut last = seed;
     for event in 0..40_000 {
@@ -154,12 +175,7 @@ fn run(rt: &impl Abort, alloc: Global, load: &Load, seed: u32) -> Result<Ended<V
             team.stop();
         }
         last = draw(last);
-        let seat = (last >> 16) % seats;
-        assert!(rt; seat < team.engine().limits().seats);
-        let _ = team.step(seat);
-        follow(rt, alloc, &mut replay, team.engine().journal())?;
-        is_replayed(rt, &team, &replay);
-        assert_eq!(rt; replay.state.pool_len(), team.members(), "{text} {seed}");
+        turn(rt, alloc, &mut team, &mut replay, (last >> 16) % seats)?;
     }
     let Some((ended, devices)) = team.finish() else {
         return Err("at work".into());
@@ -215,7 +231,7 @@ fn journals_replay_to_what_the_engine_has(rt: HostRuntime) -> Result<(), Fail> {
         stops: Vec::new(alloc),
     };
     for seed in 0..6 {
-        for load in &LOADS {
+        for load in LOADS {
             tally.add(&run(&rt, alloc, load, seed)?)?;
         }
     }

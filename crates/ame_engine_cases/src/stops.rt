@@ -20,7 +20,7 @@ const SECOND_TRIED: Tried = Tried {
     steps: 0,
 };
 
-const ROWS: [Row; 6] = [
+const ROWS: &[Row] = &[
     // a loop is cut off, and a note tells how far it had come
     Row {
         text: "(app (rec p f (x Unit) Unit (app f x)) unit)",
@@ -118,5 +118,5 @@ const ROWS: [Row; 6] = [
 
 #[test]
 fn early_ends_are_undone(rt: HostRuntime) -> Result<(), Fail> {
-    play_all(&rt, rt.alloc(), &ROWS)
+    play_all(&rt, rt.alloc(), ROWS)
 }

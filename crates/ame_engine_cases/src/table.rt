@@ -114,9 +114,8 @@ fn happens<D: Device>(
         Event::Cell(l, value, number, owner) => {
             assert!(rt; l < team.engine().cells());
             let cell = team.engine().cell(Loc(l));
-            assert_eq!(rt; int_of(&cell.value), Some(value), "{text}");
-            assert_eq!(rt; cell.number, number, "{text}");
-            assert_eq!(rt; cell.owner, owner, "{text}");
+            let found = (int_of(&cell.value), cell.number, cell.owner);
+            assert_eq!(rt; found, (Some(value), number, owner), "{text}");
         }
         Event::WriteFault => team.stop(),
     }
@@ -148,6 +147,21 @@ fn cells_are(rt: &impl Abort, text: &str, store: &Store<Val>, cells: &[(u32, i64
     assert!(rt; cells.next().is_none(), "{text}");
 }
 
+/// A certificate has this number, these steps and these new locations.
+fn certificate_is(
+    rt: &impl Abort,
+    text: &str,
+    certificate: &Certificate,
+    (number, steps, fresh): (u64, u64, &[Loc]),
+) {
+    assert_eq!(rt;
+        (certificate.number, certificate.steps),
+        (number, steps),
+        "{text}"
+    );
+    assert_eq!(rt; certificate.fresh.as_slice(), fresh, "{text}");
+}
+
 /// The certificates are these.
 fn certificates_are(
     rt: &impl Abort,
@@ -156,10 +170,20 @@ fn certificates_are(
     blocked: &[(u64, u64, &[Loc])],
 ) {
     assert_eq!(rt; certificates.len(), blocked.len(), "{text}");
-    for (certificate, (number, steps, fresh)) in certificates.iter().zip(blocked.iter()) {
-        assert_eq!(rt; certificate.number, *number, "{text}");
-        assert_eq!(rt; certificate.steps, *steps, "{text}");
-        assert_eq!(rt; certificate.fresh.as_slice(), *fresh, "{text}");
+    for (certificate, wanted) in certificates.iter().zip(blocked.iter()) {
+        certificate_is(rt, text, certificate, *wanted);
+    }
+}
+
+/// A device heard these calls.
+fn heard_is(rt: &impl Abort, text: &str, told: &[Heard], calls: &[(i64, i64)]) {
+    assert_eq!(rt; told.len(), calls.len(), "{text}");
+    for (call, (argument, answer)) in told.iter().zip(calls.iter()) {
+        let wanted = Heard {
+            argument: *argument,
+            answer: *answer,
+        };
+        assert_eq!(rt; *call, wanted, "{text}");
     }
 }
 
@@ -167,31 +191,28 @@ fn certificates_are(
 fn devices_heard<D: Device>(rt: &impl Abort, text: &str, devices: &[D], heard: &[&[(i64, i64)]]) {
     assert_eq!(rt; devices.len(), heard.len(), "{text}");
     for (device, calls) in devices.iter().zip(heard.iter()) {
-        let told = device.heard().unwrap_or(&[]);
-        assert_eq!(rt; told.len(), calls.len(), "{text}");
-        for (call, (argument, answer)) in told.iter().zip(calls.iter()) {
-            let wanted = Heard {
-                argument: *argument,
-                answer: *answer,
-            };
-            assert_eq!(rt; *call, wanted, "{text}");
-        }
+        heard_is(rt, text, device.heard().unwrap_or(&[]), calls);
     }
+}
+
+/// So many events counted, of these kinds.
+fn counts_are(rt: &impl Abort, text: &str, ended: &Ended<Val>, row: &Row) {
+    let counters = ended.counters();
+    let counts = (counters.conflicts, counters.invalids, counters.unwound);
+    assert_eq!(rt; ended.turns(), row.turns, "{text}");
+    assert_eq!(rt; counts, row.counts, "{text}");
 }
 
 /// An engine that was taken apart tells what is left.
 fn is_left(rt: &impl Abort, alloc: Global, ended: &Ended<Val>, row: &Row) -> Result<(), Fail> {
     let text = row.text;
-    let counters = ended.counters();
-    let counts = (counters.conflicts, counters.invalids, counters.unwound);
     let journal = text_of(rt, alloc, ended.journal())?;
     assert!(rt; ended.base().is_empty(), "{text}");
     assert_eq!(rt; journal.as_slice(), row.journal.as_bytes(), "{text}");
     assert_eq!(rt; ended.output(), row.output, "{text}");
     assert_eq!(rt; ended.stopped(), Some(row.stop), "{text}");
-    assert_eq!(rt; ended.turns(), row.turns, "{text}");
-    assert_eq!(rt; counts, row.counts, "{text}");
     assert_eq!(rt; ended.tried(), row.tried, "{text}");
+    counts_are(rt, text, ended, row);
     certificates_are(rt, text, ended.certificates(), row.blocked);
     cells_are(rt, text, ended.store(), row.cells);
     Ok(())

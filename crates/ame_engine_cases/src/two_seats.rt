@@ -32,7 +32,7 @@ const SECOND_TRIED: Tried = Tried {
     steps: 0,
 };
 
-const ROWS: [Row; 8] = [
+const ROWS: &[Row] = &[
     // a read that became invalid is found at the commit
     Row {
         text: "(let x (ref p 0) (let y (ref p 0) (do (async (print (+ (get x) (get y)))) (async (do (set x 1) (set y 1))))))",
@@ -208,5 +208,5 @@ const ROWS: [Row; 8] = [
 
 #[test]
 fn two_seats_run_beside_each_other(rt: HostRuntime) -> Result<(), Fail> {
-    play_all(&rt, rt.alloc(), &ROWS)
+    play_all(&rt, rt.alloc(), ROWS)
 }

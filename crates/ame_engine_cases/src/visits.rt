@@ -8,7 +8,7 @@ use std::test::Fail;
 
 const PEEKS: &str = "(let r (ref p 0) (do (async (set r 5)) (unprotected (print (peek r)))))";
 
-const ROWS: [Row; 4] = [
+const ROWS: &[Row] = &[
     Row {
         text: "(let n (ref p 0) (let x (ref u 0) (let y (ref u 0) (do (async (set n (+ (get n) 1))) (unprotected (set x 7)) yield \
         (unprotected (set y (+ (get x) 1))) (unprotected (print (get y))) (print (get n))))))",
@@ -91,7 +91,7 @@ const ROWS: [Row; 4] = [
 ];
 
 /// With a device that counts, one that fails at its second call, and one that adds.
-const CALLS: [Row; 2] = [
+const CALLS: &[Row] = &[
     // a device that fails leaves the member as it was begun
     Row {
         text: "(unprotected (do (print (call 0 5)) (print (call 1 6)) (print (call 1 7))))",
@@ -125,13 +125,13 @@ const CALLS: [Row; 2] = [
 
 #[test]
 fn unprotected_code_is_visited(rt: HostRuntime) -> Result<(), Fail> {
-    play_all(&rt, rt.alloc(), &ROWS)
+    play_all(&rt, rt.alloc(), ROWS)
 }
 
 #[test]
 fn devices_are_called(rt: HostRuntime) -> Result<(), Fail> {
     let alloc = rt.alloc();
-    for row in &CALLS {
+    for row in CALLS {
         let mut devices: Vec<Box<dyn Device + Send>> = Vec::new(alloc);
         devices.push(Box::new(alloc, Counter::new(alloc))?)?;
         devices.push(Box::new(alloc, FailsAt::new(alloc, 2))?)?;

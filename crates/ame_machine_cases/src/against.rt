@@ -91,22 +91,46 @@ fn step(
     }
 }
 
-/// Runs the code of a text on a machine, and the text by the strong semantics; how many steps both make.
-fn steps_of_both(rt: &impl Abort, alloc: Global, code: &Code, text: &[u8]) -> Result<u64, Fail> {
-    let mut lone = Lone::start(alloc, code)?;
+/// The state of a text, whose first member is active.
+fn begun(rt: &impl Abort, alloc: Global, text: &[u8]) -> Result<StrongState, Fail> {
     let mut state = StrongState::start(alloc, read(alloc, text)?.term)?;
     assert!(rt; makes(rt, alloc, &mut state, Label::Activate(0)));
+    Ok(state)
+}
+
+/// A machine made so many steps, and printed and began what a state did.
+fn are_alike(rt: &impl Abort, lone: &Lone, state: &StrongState, made: u64) {
+    assert_eq!(rt; lone.machine.steps(), made);
+    assert_eq!(rt; lone.machine.prints(), state.output());
+    assert_eq!(rt; lone.machine.spawns() as u64, state.next().wrapping_sub(1));
+}
+
+/// Runs a machine and a state to where both rest; how many steps both make.
+fn rest_after(
+    rt: &impl Abort,
+    alloc: Global,
+    code: &Code,
+    lone: &mut Lone,
+    state: &mut StrongState,
+) -> Result<u64, Fail>
+    requires { IsAlone code.now lone.old }
+{
     for made in 0..10_000u64 {
-        assert_eq!(rt; lone.machine.steps(), made);
-        assert_eq!(rt; lone.machine.prints(), state.output());
-        assert_eq!(rt; lone.machine.spawns() as u64, state.next().wrapping_sub(1));
-        match step(rt, alloc, code, &mut lone, &mut state)? {
+        are_alike(rt, lone, state, made);
+        match step(rt, alloc, code, lone, state)? {
             Both::Go => {}
             Both::Rest => return Ok(made),
             Both::Differ => return Err("they differ".into()),
         }
     }
     Err("it ends late".into())
+}
+
+/// Runs the code of a text on a machine, and the text by the strong semantics; how many steps both make.
+fn steps_of_both(rt: &impl Abort, alloc: Global, code: &Code, text: &[u8]) -> Result<u64, Fail> {
+    let mut lone = Lone::start(alloc, code)?;
+    let mut state = begun(rt, alloc, text)?;
+    rest_after(rt, alloc, code, &mut lone, &mut state)
 }
 
 #[test]

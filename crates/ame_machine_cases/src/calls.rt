@@ -93,7 +93,7 @@ const INSIDE: &[u8] = b"(do (print 1) (unprotected (async (print 2))))";
 const FUNCTION: &[u8] =
     b"(do (print 1) (async (print 2)) (let f (fn p (x Int) (print (+ x 4))) (app f 5)))";
 
-const ROWS: [Row; 14] = [
+const ROWS: &[Row] = &[
     Row(SUMS, &[], "None false 0 0 [] 0 []"),
     Row(SUMS, &[Call::Run(1)], "Some(OutOfFuel) false 1 1 [] 0 []"),
     Row(
@@ -168,7 +168,7 @@ const ROWS: [Row; 14] = [
 #[test]
 fn machines_tell_what_they_did(rt: HostRuntime) -> Result<(), Fail> {
     let alloc = rt.alloc();
-    for Row(text, calls, shown) in ROWS {
+    for &Row(text, calls, shown) in ROWS {
         let code = code_of(alloc, text)?;
         let found = told_after(&rt, alloc, &code, calls)?;
         assert_eq!(rt; found.as_str(), shown);

@@ -7,7 +7,7 @@ use crate::texts::{code_of, run, serve};
 use ame_code::Code;
 use ame_runner::{Runner, Wants};
 use ame_term::NoMemory;
-use std::alloc::Global;
+use std::alloc::{AllocError, Global};
 use std::process::Abort;
 use std::test::Fail;
 
@@ -15,7 +15,7 @@ use std::test::Fail;
 #[derive(Clone, Copy)]
 struct Row(&'static [u8], &'static str);
 
-const ROWS: [Row; 8] = [
+const ROWS: &[Row] = &[
     Row(b"unit", "Done"),
     Row(b"(blockUntil false)", "Block"),
     Row(b"(do (blockUntil true) (print 1))", "Done"),
@@ -53,17 +53,23 @@ fn goes_on(rt: &impl Abort, code: &Code, lone: &mut Lone, want: Wants) -> Result
     serve(rt, code, lone)
 }
 
+/// One want more, behind a space.
+fn add(alloc: Global, wanted: &mut String, want: Wants) -> Result<(), AllocError> {
+    if wanted.len() > 0 {
+        wanted.push_str(" ")?;
+    }
+    let name = format!(in alloc; "{want:?}")?;
+    wanted.push_str(name.as_str())?;
+    Ok(())
+}
+
 /// All that is wanted, in order.
 fn all_wants(rt: &impl Abort, alloc: Global, code: &Code) -> Result<String, Fail> {
     let mut lone = Lone::start(alloc, code)?;
     let mut wanted = String::new(alloc);
     'wants: for _ in 0..50 {
         let want = run(rt, alloc, code, &mut lone, 1000)?;
-        if wanted.len() > 0 {
-            wanted.push_str(" ")?;
-        }
-        let name = format!(in alloc; "{want:?}")?;
-        wanted.push_str(name.as_str())?;
+        add(alloc, &mut wanted, want)?;
         if !goes_on(rt, code, &mut lone, want)? {
             return Ok(wanted);
         }
@@ -74,7 +80,7 @@ fn all_wants(rt: &impl Abort, alloc: Global, code: &Code) -> Result<String, Fail
 #[test]
 fn machines_want_in_turn(rt: HostRuntime) -> Result<(), Fail> {
     let alloc = rt.alloc();
-    for Row(text, wants) in ROWS {
+    for &Row(text, wants) in ROWS {
         let code = code_of(alloc, text)?;
         let found = all_wants(&rt, alloc, &code)?;
         assert_eq!(rt; found.as_str(), wants);

@@ -6,7 +6,7 @@ use std::alloc::Global;
 use std::test::Fail;
 
 /// Texts that are journals.
-const ACCEPTED: [&[u8]; 10] = [
+const ACCEPTED: &[&[u8]] = &[
     b"",
     b"ran 0 0 5 0\nstuck 0 1 2\nran 0 2 1\nran 0 1 5\n",
     b"ran 31 0 0\n",
@@ -20,7 +20,7 @@ const ACCEPTED: [&[u8]; 10] = [
 ];
 
 /// Texts with a bad line, and which is the first.
-const REFUSED: [(&[u8], u32); 30] = [
+const REFUSED: &[(&[u8], u32)] = &[
     (b"ran 0 0 5 0\nran 0 0 05\n", 2),
     (b"ran 0 0 0\nwalk 0 0 0\nran 0 0 00\n", 2),
     (b"ran 0 0 0\n\n", 2),
@@ -67,7 +67,7 @@ fn read(alloc: Global, text: &[u8]) -> Result<Vec<u8>, JournalFault> {
 
 #[test]
 fn journals_are_read_and_written_again(rt: HostRuntime) {
-    for text in ACCEPTED {
+    for &text in ACCEPTED {
         match read(rt.alloc(), text) {
             Ok(again) => assert!(rt; again.as_slice() == text),
             Err(_) => assert!(rt; false),
@@ -77,7 +77,7 @@ fn journals_are_read_and_written_again(rt: HostRuntime) {
 
 #[test]
 fn the_first_bad_line_is_named(rt: HostRuntime) {
-    for (text, line) in REFUSED {
+    for &(text, line) in REFUSED {
         match read(rt.alloc(), text) {
             Ok(_) => assert!(rt; false),
             Err(fault) => assert_eq!(rt; fault, JournalFault::BadLine(line)),

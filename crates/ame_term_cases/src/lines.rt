@@ -3,26 +3,28 @@
 use crate::texts::read;
 use ame_journal::Journal;
 use ame_replay::lines_of;
+use std::alloc::Global;
 use std::test::Fail;
 
 const PROGRAM: &[u8] = b"(do (async (print 2)) (unprotected (print 3)) (print 1))";
 
 const JOURNAL: &[u8] = b"ran 0 0 2\nran 0 1 1\nfree 0 0 2\nran 0 0 2\n";
 
-const LINES: [&[i64]; 4] = [&[], &[2], &[3], &[1]];
+const LINES: &[&[i64]] = &[&[], &[2], &[3], &[1]];
+
+/// The lines of each entry of a journal of the program.
+fn told(alloc: Global, journal: &Journal) -> Result<Option<Vec<Vec<i64>>>, Fail> {
+    let program = read(alloc, PROGRAM)?;
+    Ok(lines_of(alloc, program.term, journal.entries())?)
+}
 
 #[test]
 fn each_entry_has_its_lines(rt: HostRuntime) -> Result<(), Fail> {
     let journal = Journal::from_text(rt.alloc(), JOURNAL).map_err(|_| "a journal")?;
-    let told = lines_of(
-        rt.alloc(),
-        read(rt.alloc(), PROGRAM)?.term,
-        journal.entries(),
-    )?;
-    let lines = told.ok_or("a run")?;
+    let lines = told(rt.alloc(), &journal)?.ok_or("a run")?;
     assert_eq!(rt; lines.len(), 4);
     for (line, expected) in lines.iter().zip(LINES) {
-        assert_eq!(rt; line.as_slice(), expected);
+        assert_eq!(rt; line.as_slice(), *expected);
     }
     Ok(())
 }
@@ -30,11 +32,6 @@ fn each_entry_has_its_lines(rt: HostRuntime) -> Result<(), Fail> {
 #[test]
 fn a_journal_of_another_program_has_none(rt: HostRuntime) -> Result<(), Fail> {
     let journal = Journal::from_text(rt.alloc(), b"ran 0 0 9\n").map_err(|_| "a journal")?;
-    let told = lines_of(
-        rt.alloc(),
-        read(rt.alloc(), PROGRAM)?.term,
-        journal.entries(),
-    )?;
-    assert!(rt; told.is_none());
+    assert!(rt; told(rt.alloc(), &journal)?.is_none());
     Ok(())
 }

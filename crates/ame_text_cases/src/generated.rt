@@ -22,7 +22,7 @@ const SMALL: &[u8] = b"(let a0 (ref p 18)
 
 #[test]
 fn two_transfers(rt: HostRuntime) -> Result<(), Fail> {
-    let text = generate(rt.alloc(), 1, 2).map_err(|_| "memory")?;
+    let text = generate(rt.alloc(), 1, 2)?;
     assert!(rt; text.as_slice() == SMALL);
     Ok(())
 }

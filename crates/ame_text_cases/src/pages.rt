@@ -1,29 +1,43 @@
 //! Pages as they are printed.
 
-ghost use Rattle.std.specs.Prelude.{◌≤◌, length};
+ghost use Rattle.std.specs.Prelude.{◌≡◌, ◌≤◌, length, Ok};
 ghost use Rattle.ame_lex.specs.Bytes.{max_text};
+ghost use Rattle.ame_lex.specs.Reading.{tokens_of};
 
 use ame_journal::{Entry, EntryKind};
-use ame_lex::{LexFault, lex};
+use ame_lex::{LexFault, Token, lex};
 use ame_parse::{ParseFault, parse};
-use ame_term::{Locs, NoMemory};
+use ame_term::{Locs, NoMemory, Program};
 use ame_types::{TypesFail, check};
 use ame_why::{explain_bytes, explain_tokens, explain_types, input_of, journal_of};
 use std::alloc::Global;
 use std::test::Fail;
 
 /// What is told of a text; nothing where the types accept it.
-pub(crate) fn told(alloc: Global, text: &[u8]) -> Result<Vec<u8>, NoMemory>
-    requires { length text.now ≤ max_text }
+pub(crate) fn told(alloc: Global, text: &[u8]) -> Result<Vec<u8>, Fail> {
+    if text.len() > 1_048_576 {
+        return Err("too long".into());
+    }
+    let page = match lex(alloc, text) {
+        Ok(tokens) => told_of_tokens(alloc, text, &tokens),
+        Err(fault) => explain_bytes(alloc, text, fault),
+    };
+    Ok(page?)
+}
+
+/// What is told of a text by its tokens.
+fn told_of_tokens(alloc: Global, text: &[u8], tokens: &[Token]) -> Result<Vec<u8>, NoMemory>
+    requires of_text { tokens_of text.now ≡ Ok tokens.now }
+    requires small { length text.now ≤ max_text }
 {
-    let tokens = match lex(alloc, text) {
-        Ok(tokens) => tokens,
-        Err(fault) => return explain_bytes(alloc, text, fault),
-    };
-    let program = match parse(alloc, text, &tokens) {
-        Ok(program) => program,
-        Err(fault) => return explain_tokens(alloc, text, fault),
-    };
+    match parse(alloc, text, tokens) {
+        Ok(program) => told_of_program(alloc, text, program),
+        Err(fault) => explain_tokens(alloc, text, fault),
+    }
+}
+
+/// What is told of a text by its program.
+fn told_of_program(alloc: Global, text: &[u8], program: Program) -> Result<Vec<u8>, NoMemory> {
     match check(alloc, program, 2) {
         Ok(_) => Ok(Vec::new(alloc)),
         Err(TypesFail::Fault(fault)) => explain_types(alloc, text, &fault),
@@ -31,36 +45,37 @@ pub(crate) fn told(alloc: Global, text: &[u8]) -> Result<Vec<u8>, NoMemory>
     }
 }
 
+/// Texts, and what is told of them.
+const TOLD: &[(&[u8], &[u8])] = &[
+    (
+        b"(let x 1\n\t(print 7up))",
+        b"line 2, column 10:\n    \t(print 7up))\n    \t        ^\nno letter may stand directly behind a number: write a space between\n",
+    ),
+    (
+        b"(print 99999999999999999999)",
+        b"line 1, column 8:\n    (print 99999999999999999999)\n           ^\nthis number has more than 64 bits: the least is -9223372036854775808, the greatest 9223372036854775807\n",
+    ),
+    (
+        b"(do unit\n (print 1",
+        b"line 2, column 10:\n     (print 1\n             ^\nexpected `)`, found the end of the text\nthe parenthesis that is to be closed:\nline 2, column 2:\n     (print 1\n     ^\n",
+    ),
+    (
+        b"(print x)",
+        b"line 1, column 8:\n    (print x)\n           ^\nnothing around this place binds the name `x`\n",
+    ),
+    (
+        b"(print true)",
+        b"line 1, column 8:\n    (print true)\n           ^\nthis part has another type than its form wants\nfound: Bool\nwanted: Int\n",
+    ),
+    (
+        b"(unprotected (print (call 9 1)))",
+        b"line 1, column 21:\n    (unprotected (print (call 9 1)))\n                        ^\nthere is no device of this number\nfound: device 9\nwanted: a device below 2\n",
+    ),
+];
+
 #[test]
 fn faults_are_told_with_their_place(rt: HostRuntime) -> Result<(), Fail> {
-    let rows: [(&[u8], &[u8]); 6] = [
-        (
-            b"(let x 1\n\t(print 7up))",
-            b"line 2, column 10:\n    \t(print 7up))\n    \t        ^\nno letter may stand directly behind a number: write a space between\n",
-        ),
-        (
-            b"(print 99999999999999999999)",
-            b"line 1, column 8:\n    (print 99999999999999999999)\n           ^\nthis number has more than 64 bits: the least is -9223372036854775808, the greatest 9223372036854775807\n",
-        ),
-        (
-            b"(do unit\n (print 1",
-            b"line 2, column 10:\n     (print 1\n             ^\nexpected `)`, found the end of the text\nthe parenthesis that is to be closed:\nline 2, column 2:\n     (print 1\n     ^\n",
-        ),
-        (
-            b"(print x)",
-            b"line 1, column 8:\n    (print x)\n           ^\nnothing around this place binds the name `x`\n",
-        ),
-        (
-            b"(print true)",
-            b"line 1, column 8:\n    (print true)\n           ^\nthis part has another type than its form wants\nfound: Bool\nwanted: Int\n",
-        ),
-        (
-            b"(unprotected (print (call 9 1)))",
-            b"line 1, column 21:\n    (unprotected (print (call 9 1)))\n                        ^\nthere is no device of this number\nfound: device 9\nwanted: a device below 2\n",
-        ),
-    ];
-    for (text, page) in rows {
-        assert!(rt; text.len() <= 1_048_576);
+    for &(text, page) in TOLD {
         assert_eq!(rt; told(rt.alloc(), text)?.as_slice(), page);
     }
     Ok(())
@@ -83,26 +98,33 @@ fn characters_and_long_lines_keep_the_caret_in_its_column(rt: HostRuntime) -> Re
     Ok(())
 }
 
-#[test]
-fn a_run_as_one_text(rt: HostRuntime) -> Result<(), Fail> {
-    let entry = Entry {
+/// Two steps of unprotected code, the last of which was answered 6.
+fn answered(alloc: Global) -> Entry {
+    Entry {
         kind: EntryKind::Free,
         seat: 0,
         number: 0,
         steps: 2,
-        fresh: Locs::from_vec(Vec::new(rt.alloc())),
+        fresh: Locs::from_vec(Vec::new(alloc)),
         answer: Some(6),
-    };
-    let entries = vec![in rt.alloc(); entry]?;
-    match journal_of(rt.alloc(), &entries)? {
-        None => assert!(rt; false),
-        Some(journal) => {
-            let input = input_of(rt.alloc(), &journal, b"unit")?;
-            assert_eq!(rt;
-                input.as_slice(),
-                b"free 0 0 2 = 6\nprogram\nunit".as_slice()
-            );
-        }
     }
+}
+
+/// A journal of these entries and the program `unit`, as one text.
+fn input_of_unit(alloc: Global, entries: &[Entry]) -> Result<Vec<u8>, Fail> {
+    match journal_of(alloc, entries)? {
+        None => Err("no journal".into()),
+        Some(journal) => Ok(input_of(alloc, &journal, b"unit")?),
+    }
+}
+
+#[test]
+fn a_run_as_one_text(rt: HostRuntime) -> Result<(), Fail> {
+    let entries = vec![in rt.alloc(); answered(rt.alloc())]?;
+    let input = input_of_unit(rt.alloc(), &entries)?;
+    assert_eq!(rt;
+        input.as_slice(),
+        b"free 0 0 2 = 6\nprogram\nunit".as_slice()
+    );
     Ok(())
 }

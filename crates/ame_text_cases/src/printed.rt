@@ -9,11 +9,16 @@ use std::test::Fail;
 /// The canonical text of a program's text.
 fn reprinted(alloc: Global, text: &[u8]) -> Result<Vec<u8>, Fail> {
     let program = read(alloc, text)?;
-    Ok(print_program(alloc, &program).map_err(|_| "memory")?)
+    Ok(print_program(alloc, &program)?)
+}
+
+/// Whether this is the canonical text of a program's text.
+fn is_reprinted_as(alloc: Global, text: &[u8], canonical: &[u8]) -> Result<bool, Fail> {
+    Ok(reprinted(alloc, text)?.as_slice() == canonical)
 }
 
 /// Each form and each type.
-const CANONICAL: [(&[u8], &[u8]); 14] = [
+const CANONICAL: &[(&[u8], &[u8])] = &[
     (b"(do yield(print  007))", b"(do yield (print 7))"),
     (b"\tunit ; nothing", b"unit"),
     (b"-0", b"0"),
@@ -56,11 +61,12 @@ const CANONICAL: [(&[u8], &[u8]); 14] = [
 
 #[test]
 fn canonical_texts(rt: HostRuntime) -> Result<(), Fail> {
-    for (text, canonical) in CANONICAL {
-        let printed = reprinted(rt.alloc(), text)?;
-        assert_eq!(rt; printed.as_slice(), canonical);
-        let again = reprinted(rt.alloc(), printed.as_slice())?;
-        assert_eq!(rt; again.as_slice(), canonical);
+    for &(text, canonical) in CANONICAL {
+        assert!(rt; is_reprinted_as(rt.alloc(), text, canonical)?, "{text:?}");
+        assert!(rt;
+            is_reprinted_as(rt.alloc(), canonical, canonical)?,
+            "{canonical:?}"
+        );
     }
     Ok(())
 }
@@ -74,40 +80,61 @@ fn function(alloc: Global, body: Term) -> Result<Value, Fail> {
         param_ty: Ty::Unit,
         body,
     };
-    Ok(Value::Fun(boxed(alloc, function).map_err(|_| "memory")?))
+    Ok(Value::Fun(boxed(alloc, function)?))
 }
 
 fn pair(alloc: Global, first: Value, second: Value) -> Result<Value, Fail> {
-    let first = boxed(alloc, first).map_err(|_| "memory")?;
-    Ok(Value::Pair(first, boxed(alloc, second).map_err(|_| "memory")?))
+    let first = boxed(alloc, first)?;
+    Ok(Value::Pair(first, boxed(alloc, second)?))
+}
+
+/// A function whose body is a location, and one whose body is a name that isn't known.
+fn functions(alloc: Global) -> Result<Value, Fail> {
+    let location = function(alloc, Term::Held(Value::Loc(Loc(3))))?;
+    pair(alloc, location, function(alloc, Term::Var(Name(7)))?)
+}
+
+/// A term as it is printed where only the name `x` is known.
+fn printed_term(alloc: Global, term: &Term) -> Result<Vec<u8>, Fail> {
+    let mut names = Vec::new(alloc);
+    names.push(Vec::from_slice(alloc, b"x")?)?;
+    Ok(print_term(alloc, names.as_slice(), term)?)
+}
+
+/// A pair of those functions and a number.
+fn functions_and_number(alloc: Global) -> Result<Term, Fail> {
+    Ok(Term::Held(pair(alloc, functions(alloc)?, Value::Int(-5))?))
 }
 
 #[test]
 fn values_of_a_run(rt: HostRuntime) -> Result<(), Fail> {
-    let alloc = rt.alloc();
-    let mut names = Vec::new(alloc);
-    names.push(Vec::from_slice(alloc, b"x")?)?;
-    let held = function(alloc, Term::Held(Value::Loc(Loc(3))))?;
-    let held = pair(alloc, held, function(alloc, Term::Var(Name(7)))?)?;
-    let term = Term::Held(pair(alloc, held, Value::Int(-5))?);
-    let text = print_term(alloc, names.as_slice(), &term).map_err(|_| "memory")?;
+    let term = functions_and_number(rt.alloc())?;
+    let text = printed_term(rt.alloc(), &term)?;
     let expected = b"(pair (pair (fn a (x Unit) @3) (fn a (x Unit) ?7)) -5)";
     assert_eq!(rt; text.as_slice(), expected.as_slice());
     Ok(())
 }
 
+/// The type of protected references to truth values.
+fn reference_type(alloc: Global) -> Result<Ty, Fail> {
+    Ok(Ty::Ref(Sort::Protected, boxed(alloc, Ty::Bool)?))
+}
+
+/// The type of functions from unit to unit.
+fn function_type(alloc: Global) -> Result<Ty, Fail> {
+    let param = boxed(alloc, Ty::Unit)?;
+    Ok(Ty::Fun(Effect::Either, param, boxed(alloc, Ty::Unit)?))
+}
+
+/// The type of pairs of such a reference and such a function.
+fn pair_type(alloc: Global) -> Result<Ty, Fail> {
+    let first = boxed(alloc, reference_type(alloc)?)?;
+    Ok(Ty::Pair(first, boxed(alloc, function_type(alloc)?)?))
+}
+
 #[test]
 fn types(rt: HostRuntime) -> Result<(), Fail> {
-    let alloc = rt.alloc();
-    let cell = Ty::Ref(
-        Sort::Protected,
-        boxed(alloc, Ty::Bool).map_err(|_| "memory")?,
-    );
-    let param = boxed(alloc, Ty::Unit).map_err(|_| "memory")?;
-    let result = boxed(alloc, Ty::Unit).map_err(|_| "memory")?;
-    let function = boxed(alloc, Ty::Fun(Effect::Either, param, result)).map_err(|_| "memory")?;
-    let pair = Ty::Pair(boxed(alloc, cell).map_err(|_| "memory")?, function);
-    let text = print_ty(alloc, &pair).map_err(|_| "memory")?;
+    let text = print_ty(rt.alloc(), &pair_type(rt.alloc())?)?;
     let expected = b"(Pair (Ref p Bool) (Fun a Unit Unit))";
     assert_eq!(rt; text.as_slice(), expected.as_slice());
     Ok(())

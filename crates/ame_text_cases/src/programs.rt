@@ -16,10 +16,7 @@ fn read(rt: &impl Abort, alloc: Global, text: &[u8]) -> Result<Program, ParseFau
 }
 
 fn expect_fault(rt: &impl Abort, alloc: Global, text: &[u8], fault: ParseFault) {
-    match read(rt, alloc, text) {
-        Ok(_) => panic!(rt; "a program"),
-        Err(found) => assert_eq!(rt; found, fault),
-    }
+    assert_eq!(rt; read(rt, alloc, text).err(), Some(fault));
 }
 
 fn expect_program(rt: &impl Abort, alloc: Global, text: &[u8]) -> Program {
@@ -30,7 +27,7 @@ fn expect_program(rt: &impl Abort, alloc: Global, text: &[u8]) -> Program {
 }
 
 /// What must stand where the reading can't go on, at a wrong token and at the end.
-const EXPECTED: [(&[u8], u32, Want); 59] = [
+const EXPECTED: &[(&[u8], u32, Want)] = &[
     (b"", 0, Want::Term),
     (b" ; c", 4, Want::Term),
     (b")", 0, Want::Term),
@@ -94,13 +91,13 @@ const EXPECTED: [(&[u8], u32, Want); 59] = [
 
 #[test]
 fn what_is_expected(rt: HostRuntime) {
-    for (text, place, want) in EXPECTED {
+    for &(text, place, want) in EXPECTED {
         expect_fault(&rt, rt.alloc(), text, ParseFault::Expected(place, want));
     }
 }
 
 /// Names that aren't bound where they stand.
-const UNKNOWN: [(&[u8], u32); 7] = [
+const UNKNOWN: &[(&[u8], u32)] = &[
     (b"x", 0),
     (b"(let x x 1)", 7),
     (b"(let x 1 y)", 9),
@@ -112,7 +109,7 @@ const UNKNOWN: [(&[u8], u32); 7] = [
 
 #[test]
 fn unknown_names(rt: HostRuntime) {
-    for (text, place) in UNKNOWN {
+    for &(text, place) in UNKNOWN {
         expect_fault(&rt, rt.alloc(), text, ParseFault::UnknownName(place));
     }
 }
@@ -125,57 +122,66 @@ fn tokens_after_the_program(rt: HostRuntime) {
     expect_fault(&rt, alloc, b"unit(", ParseFault::Trailing(4));
 }
 
+/// Whether a term is `do` with two parts, `async` and `print`.
+fn is_async_and_print(term: &Term) -> bool {
+    match term {
+        Term::Do(parts) => {
+            parts.len() == 2
+                && matches!(&parts[0], Term::Async(_))
+                && matches!(&parts[1], Term::Print(_))
+        }
+        _ => false,
+    }
+}
+
 #[test]
 fn a_program(rt: HostRuntime) {
     let program = expect_program(&rt, rt.alloc(), b"(do (async (print 2)) (print 1))");
     assert!(rt; program.names.is_empty());
-    assert_eq!(rt;
-        program.places.as_slice(),
-        [0, 4, 11, 18, 22, 29].as_slice()
-    );
-    match &program.term {
-        Term::Do(parts) => {
-            assert_eq!(rt; parts.len(), 2);
-            assert!(rt; matches!(&parts[0], Term::Async(_)));
-            assert!(rt; matches!(&parts[1], Term::Print(_)));
-        }
-        _ => panic!(rt; "another form"),
-    }
+    assert!(rt; program.places.as_slice() == [0, 4, 11, 18, 22, 29].as_slice());
+    assert!(rt; is_async_and_print(&program.term));
 }
+
+/// Whether the names are `b` and `a`.
+fn are_b_and_a(names: &[Vec<u8>]) -> bool {
+    names.len() == 2
+        && names[0].as_slice() == b"b".as_slice()
+        && names[1].as_slice() == b"a".as_slice()
+}
+
+/// The places of the terms of the text with these names.
+const PLACES: &[u32] = &[0, 7, 9, 16, 18, 22, 22, 28, 35, 37, 44];
 
 #[test]
 fn names_by_first_appearance(rt: HostRuntime) {
     let text = b"(let b 1 (let a b (do yield (let b a (print b)))))";
     let program = expect_program(&rt, rt.alloc(), text);
-    assert_eq!(rt; program.names.len(), 2);
-    assert_eq!(rt; program.names[0].as_slice(), b"b".as_slice());
-    assert_eq!(rt; program.names[1].as_slice(), b"a".as_slice());
-    assert_eq!(rt;
-        program.places.as_slice(),
-        [0, 7, 9, 16, 18, 22, 22, 28, 35, 37, 44].as_slice()
-    );
+    assert!(rt; are_b_and_a(program.names.as_slice()));
+    assert_eq!(rt; program.places.as_slice(), PLACES);
+}
+
+/// Whether a term is a function whose own name, whose parameter and whose body are the first name.
+fn is_of_one_name(term: &Term) -> bool {
+    match term {
+        Term::Fun(function) => {
+            function.param == Name(0)
+                && matches!(&function.own, Some(own) if own.name == Name(0))
+                && matches!(&function.body, Term::Var(Name(0)))
+        }
+        _ => false,
+    }
 }
 
 #[test]
 fn a_parameter_with_the_own_name(rt: HostRuntime) {
-    let program = expect_program(
-        &rt,
-        rt.alloc(),
-        b"(rec a f (f (Fun u Int (Pair Int Bool))) Unit f)",
-    );
+    let text = b"(rec a f (f (Fun u Int (Pair Int Bool))) Unit f)";
+    let program = expect_program(&rt, rt.alloc(), text);
     assert_eq!(rt; program.names.len(), 1);
-    match &program.term {
-        Term::Fun(function) => {
-            assert_eq!(rt; function.param, Name(0));
-            assert!(rt; matches!(&function.own, Some(own) if own.name == Name(0)));
-            assert!(rt; matches!(&function.body, Term::Var(Name(0))));
-        }
-        _ => panic!(rt; "another form"),
-    }
+    assert!(rt; is_of_one_name(&program.term));
 }
 
 /// Texts with a program, of every form and type.
-const PROGRAMS: [&[u8]; 10] = [
+const PROGRAMS: &[&[u8]] = &[
     b"unit",
     b"-0",
     b"(let p 1 (let u p (let a u (print a))))",
@@ -190,7 +196,7 @@ const PROGRAMS: [&[u8]; 10] = [
 
 #[test]
 fn programs(rt: HostRuntime) {
-    for text in PROGRAMS {
+    for &text in PROGRAMS {
         let _program = expect_program(&rt, rt.alloc(), text);
     }
 }
@@ -214,51 +220,66 @@ fn nested(
     Ok(text)
 }
 
+/// What `nested` is told, and the fault of the text, if it has one.
+const NESTED: &[(&[u8], &[u8], usize, &[u8], Option<ParseFault>)] = &[
+    (b"", b"(not ", 200, b"true", None),
+    (
+        b"",
+        b"(not ",
+        201,
+        b"true",
+        Some(ParseFault::TooNested(1000)),
+    ),
+    (
+        b"(fn p (x ",
+        b"(Ref p ",
+        198,
+        b"Int",
+        Some(ParseFault::Expected(9 + 198 * 8 + 3, Want::Closing)),
+    ),
+    (
+        b"(fn p (x ",
+        b"(Ref p ",
+        199,
+        b"Int",
+        Some(ParseFault::TooNested(9 + 198 * 7)),
+    ),
+    (b"", b"(not ", 198, b"(fn p (x Int) x)", None),
+    (
+        b"",
+        b"(not ",
+        199,
+        b"(fn p (x Int) x)",
+        Some(ParseFault::TooNested(199 * 5 + 6)),
+    ),
+];
+
 #[test]
 fn two_hundred_parentheses(rt: HostRuntime) -> Result<(), Fail> {
-    let alloc = rt.alloc();
-    let fits = nested(alloc, b"", b"(not ", 200, b"true")?;
-    assert!(rt; read(&rt, alloc, fits.as_slice()).is_ok());
-    let deeper = nested(alloc, b"", b"(not ", 201, b"true")?;
-    expect_fault(&rt, alloc, deeper.as_slice(), ParseFault::TooNested(1000));
-    let ty = nested(alloc, b"(fn p (x ", b"(Ref p ", 198, b"Int")?;
-    expect_fault(
-        &rt,
-        alloc,
-        ty.as_slice(),
-        ParseFault::Expected(9 + 198 * 8 + 3, Want::Closing),
-    );
-    let deeper = nested(alloc, b"(fn p (x ", b"(Ref p ", 199, b"Int")?;
-    expect_fault(
-        &rt,
-        alloc,
-        deeper.as_slice(),
-        ParseFault::TooNested(9 + 198 * 7),
-    );
-    let param = nested(alloc, b"", b"(not ", 198, b"(fn p (x Int) x)")?;
-    assert!(rt; read(&rt, alloc, param.as_slice()).is_ok());
-    let deeper = nested(alloc, b"", b"(not ", 199, b"(fn p (x Int) x)")?;
-    expect_fault(
-        &rt,
-        alloc,
-        deeper.as_slice(),
-        ParseFault::TooNested(199 * 5 + 6),
-    );
+    for &(front, part, count, middle, fault) in NESTED {
+        let text = nested(rt.alloc(), front, part, count, middle)?;
+        assert_eq!(rt; read(&rt, rt.alloc(), text.as_slice()).err(), fault);
+    }
     Ok(())
+}
+
+const TRANSFER: &[u8] =
+    b"(async (do (blockUntil (not (< (get a) 7))) (set a (- (get a) 7)) (set b (+ (get b) 7))))\n";
+
+/// A text with so many transfers from `a` to `b`.
+fn transfers(alloc: Global, count: usize) -> Result<Vec<u8>, Fail> {
+    let mut text = Vec::from_slice(alloc, b"(let a (ref p 9) (let b (ref p 0) (do ")?;
+    for _ in 0..count {
+        text.extend_from_slice(TRANSFER)?;
+    }
+    text.extend_from_slice(b")))")?;
+    Ok(text)
 }
 
 #[test]
 fn many_parts(rt: HostRuntime) -> Result<(), Fail> {
-    let transfer =
-        b"(async (do (blockUntil (not (< (get a) 7))) (set a (- (get a) 7)) (set b (+ (get b) 7))))\n";
-    let mut text = Vec::from_slice(rt.alloc(), b"(let a (ref p 9) (let b (ref p 0) (do ")?;
-    for _ in 0..5000 {
-        text.extend_from_slice(transfer)?;
-    }
-    text.extend_from_slice(b")))")?;
-    match expect_program(&rt, rt.alloc(), text.as_slice()).term {
-        Term::Let(Name(0), _, _) => {}
-        _ => panic!(rt; "another form"),
-    }
+    let text = transfers(rt.alloc(), 5000)?;
+    let program = expect_program(&rt, rt.alloc(), text.as_slice());
+    assert!(rt; matches!(&program.term, Term::Let(Name(0), _, _)));
     Ok(())
 }

@@ -3,13 +3,14 @@
 use ame_journal::Journal;
 use ame_term::{Loc, TyNo};
 use ame_trace::{Made, forms_of, table_of};
+use std::alloc::Global;
 use std::test::Fail;
 
 const JOURNAL: &[u8] =
     b"ran 0 0 5 0\nstuck 0 1 3\nran 0 2 3\nran 0 1 11\nran 31 12 0\nfree 0 12 2 1 2 = -6\nfree 0 12 1\nran 0 12 4\ncut 1 100000000 1234567\ntall 2 3 9\n";
 
 /// What the first entries print.
-const LINES: [&[i64]; 6] = [&[], &[], &[], &[2], &[], &[-1, 0]];
+const LINES: &[&[i64]] = &[&[], &[], &[], &[2], &[], &[-1, 0]];
 
 const TABLE: &[u8] = b"entry  seat  member  steps  what it did
     1     0       0      5  ran, made 0
@@ -24,20 +25,26 @@ const TABLE: &[u8] = b"entry  seat  member  steps  what it did
    10     2       3      9  was taken back: a value would be too high
 ";
 
+/// Lines of numbers.
+fn printed(alloc: Global, numbers: &[&[i64]]) -> Result<Vec<Vec<i64>>, Fail> {
+    let mut lines = Vec::new(alloc);
+    for &line in numbers {
+        lines.push(Vec::from_slice(alloc, line)?)?;
+    }
+    Ok(lines)
+}
+
 #[test]
 fn a_journal_is_shown_line_by_line(rt: HostRuntime) -> Result<(), Fail> {
-    let journal = Journal::from_text(rt.alloc(), JOURNAL).map_err(|_| "a journal")?;
-    let mut lines = Vec::new(rt.alloc());
-    for line in LINES {
-        lines.push(Vec::from_slice(rt.alloc(), line)?)?;
-    }
+    let journal = Journal::from_text(rt.alloc(), JOURNAL)?;
+    let lines = printed(rt.alloc(), LINES)?;
     let table = table_of(rt.alloc(), journal.entries(), &lines)?;
     assert_eq!(rt; table.as_slice(), TABLE);
     Ok(())
 }
 
 /// Two locations, and a third one whose form isn't there.
-const MADE: [Made; 3] = [
+const MADE: &[Made] = &[
     Made {
         location: Loc(0),
         form: TyNo(0),
@@ -61,7 +68,7 @@ const FORMS: &[u8] = b"location  ref form
 #[test]
 fn a_location_is_shown_with_its_form(rt: HostRuntime) -> Result<(), Fail> {
     let text = b"(let r (ref p 1)\n  (ref p (get r)))";
-    let page = forms_of(rt.alloc(), text, &MADE)?;
+    let page = forms_of(rt.alloc(), text, MADE)?;
     assert_eq!(rt; page.as_slice(), FORMS);
     Ok(())
 }

@@ -5,7 +5,7 @@ use std::alloc::Global;
 use std::test::Fail;
 
 /// Texts with their tokens.
-const TOKENS: [(&[u8], &[Token]); 17] = [
+const TOKENS: &[(&[u8], &[Token])] = &[
     (
         b"(do (async (print 2)) (print 1))",
         &[
@@ -253,7 +253,7 @@ const TOKENS: [(&[u8], &[Token]); 17] = [
 ];
 
 /// Texts with their first fault.
-const FAULTS: [(&[u8], LexFault); 12] = [
+const FAULTS: &[(&[u8], LexFault)] = &[
     (b"9223372036854775808", LexFault::LongNumber(0)),
     (b" -9223372036854775809", LexFault::LongNumber(1)),
     (b"18446744073709551616", LexFault::LongNumber(0)),
@@ -268,22 +268,36 @@ const FAULTS: [(&[u8], LexFault); 12] = [
     (b"\x0b", LexFault::BadByte(0)),
 ];
 
+/// The tokens of a text.
+fn tokens_of(alloc: Global, text: &[u8]) -> Result<Vec<Token>, Fail> {
+    if text.len() > 1_048_576 {
+        return Err("too long".into());
+    }
+    Ok(lex(alloc, text)?)
+}
+
+/// Whether a text has these tokens.
+fn has_tokens(alloc: Global, text: &[u8], tokens: &[Token]) -> Result<bool, Fail> {
+    Ok(tokens_of(alloc, text)?.as_slice() == tokens)
+}
+
+/// The first fault of a text, if it has one.
+fn fault_of(alloc: Global, text: &[u8]) -> Result<Option<LexFault>, Fail> {
+    if text.len() > 1_048_576 {
+        return Err("too long".into());
+    }
+    Ok(lex(alloc, text).err())
+}
+
 #[test]
-fn texts_have_tokens_or_a_first_fault(rt: HostRuntime) {
-    for (text, tokens) in TOKENS {
-        assert!(rt; text.len() <= 1_048_576);
-        match lex(rt.alloc(), text) {
-            Ok(found) => assert!(rt; found.as_slice() == tokens),
-            Err(_) => assert!(rt; false),
-        }
+fn texts_have_tokens_or_a_first_fault(rt: HostRuntime) -> Result<(), Fail> {
+    for &(text, tokens) in TOKENS {
+        assert!(rt; has_tokens(rt.alloc(), text, tokens)?);
     }
-    for (text, fault) in FAULTS {
-        assert!(rt; text.len() <= 1_048_576);
-        match lex(rt.alloc(), text) {
-            Ok(_) => assert!(rt; false),
-            Err(found) => assert!(rt; found == fault),
-        }
+    for &(text, fault) in FAULTS {
+        assert!(rt; fault_of(rt.alloc(), text)? == Some(fault));
     }
+    Ok(())
 }
 
 /// A sign, zeros and digits.
@@ -296,41 +310,50 @@ fn spelling(alloc: Global, sign: &[u8], zeros: usize, digits: &[u8]) -> Result<V
     Ok(text)
 }
 
+/// Signs and digits, with their number if it has at most 64 bits.
+const LIMITS: &[(&[u8], &[u8], Option<i64>)] = &[
+    (b"", b"9223372036854775807", Some(i64::MAX)),
+    (b"", b"9223372036854775808", None),
+    (b"", b"18446744073709551617", None),
+    (b"-", b"9223372036854775808", Some(i64::MIN)),
+    (b"-", b"9223372036854775809", None),
+    (b"-", b"18446744073709551617", None),
+];
+
+/// Whether a number is the only token.
+fn is_number(tokens: &[Token], value: i64) -> bool {
+    tokens.len() == 1 && tokens[0].kind == Kind::Number(value)
+}
+
+/// Whether a text is this number, or one of too many bits where there is none.
+fn is_read_as(alloc: Global, text: &[u8], value: Option<i64>) -> Result<bool, Fail> {
+    match value {
+        Some(value) => Ok(is_number(tokens_of(alloc, text)?.as_slice(), value)),
+        None => Ok(fault_of(alloc, text)? == Some(LexFault::LongNumber(0))),
+    }
+}
+
 #[test]
 fn numbers_stop_at_their_limits(rt: HostRuntime) -> Result<(), Fail> {
-    let rows: [(&[u8], &[u8], Option<i64>); 6] = [
-        (b"", b"9223372036854775807", Some(i64::MAX)),
-        (b"", b"9223372036854775808", None),
-        (b"", b"18446744073709551617", None),
-        (b"-", b"9223372036854775808", Some(i64::MIN)),
-        (b"-", b"9223372036854775809", None),
-        (b"-", b"18446744073709551617", None),
-    ];
-    for (sign, digits, value) in rows {
+    for &(sign, digits, value) in LIMITS {
         for zeros in [0, 1, 1000] {
             let text = spelling(rt.alloc(), sign, zeros, digits)?;
-            assert!(rt; text.len() <= 1_048_576);
-            match (lex(rt.alloc(), &text), value) {
-                (Ok(tokens), Some(value)) => {
-                    assert_eq!(rt; tokens.len(), 1);
-                    assert_eq!(rt; tokens[0].kind, Kind::Number(value));
-                }
-                (Err(fault), None) => assert_eq!(rt; fault, LexFault::LongNumber(0)),
-                _ => assert!(rt; false, "{zeros} zeros"),
-            }
+            assert!(rt; is_read_as(rt.alloc(), &text, value)?, "{zeros} zeros");
         }
     }
     Ok(())
 }
 
+/// Whether a text has two tokens, of these kinds.
+fn has_kinds(alloc: Global, text: &[u8], first: Kind, second: Kind) -> Result<bool, Fail> {
+    let tokens = tokens_of(alloc, text)?;
+    Ok(tokens.len() == 2 && tokens[0].kind == first && tokens[1].kind == second)
+}
+
 #[test]
 fn a_sign_belongs_to_the_digit_behind_it(rt: HostRuntime) -> Result<(), Fail> {
-    let tokens = lex(rt.alloc(), b"(-1")?;
-    assert_eq!(rt; tokens.len(), 2);
-    assert_eq!(rt; tokens[1].kind, Kind::Number(-1));
-    let tokens = lex(rt.alloc(), b"--1")?;
-    assert_eq!(rt; tokens.len(), 2);
-    assert_eq!(rt; tokens[0].kind, Kind::Symbol(b'-'));
-    assert_eq!(rt; tokens[1].kind, Kind::Number(-1));
+    let number = Kind::Number(-1);
+    assert!(rt; has_kinds(rt.alloc(), b"(-1", Kind::Open, number)?);
+    assert!(rt; has_kinds(rt.alloc(), b"--1", Kind::Symbol(b'-'), number)?);
     Ok(())
 }

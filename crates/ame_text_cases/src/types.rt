@@ -28,8 +28,33 @@ fn fault(alloc: Global, text: &[u8], devices: u32) -> Result<TypeFault, Fail> {
     }
 }
 
+/// The rule that a text breaks, and the place.
+fn broken(alloc: Global, text: &[u8], devices: u32) -> Result<(u8, u32), Fail> {
+    let fault = fault(alloc, text, devices)?;
+    Ok((fault.rule, fault.place))
+}
+
+/// The program of a text that the check accepts.
+fn accepted(alloc: Global, text: &[u8], devices: u32) -> Result<Accepted, Fail> {
+    match checked(alloc, text, devices)? {
+        Ok(accepted) => Ok(accepted),
+        Err(_) => Err("not typed".into()),
+    }
+}
+
+/// How many types of locations an accepted text stores.
+fn stored(alloc: Global, text: &[u8], devices: u32) -> Result<usize, Fail> {
+    Ok(accepted(alloc, text, devices)?.ref_tys.len())
+}
+
+/// Whether the check of a text ends for lack of memory.
+fn is_too_large(alloc: Global, text: &[u8]) -> Result<bool, Fail> {
+    let checked = checked(alloc, text, 0)?;
+    Ok(matches!(&checked, Err(TypesFail::NoMemory)))
+}
+
 /// Texts, the number of devices, the rule that is broken and the place.
-const EACH_RULE: [(&[u8], u32, u8, u32); 20] = [
+const EACH_RULE: &[(&[u8], u32, u8, u32)] = &[
     (b"(print true)", 0, TYPE_MISMATCH, 7),
     (b"(app 1 1)", 0, NO_FUNCTION, 5),
     (
@@ -73,7 +98,7 @@ const EACH_RULE: [(&[u8], u32, u8, u32); 20] = [
 ];
 
 /// Texts with two faults, and the first.
-const TWO_FAULTS: [(&[u8], u32, u8, u32); 23] = [
+const TWO_FAULTS: &[(&[u8], u32, u8, u32)] = &[
     (b"(do 1 (print true))", 0, NOT_UNIT, 4),
     (b"(do unit 1 (print true))", 0, NOT_UNIT, 9),
     (
@@ -110,7 +135,7 @@ const TWO_FAULTS: [(&[u8], u32, u8, u32); 23] = [
 ];
 
 /// Texts in which code of one effect does what only the other may.
-const EFFECTS: [(&[u8], u32, u8, u32); 15] = [
+const EFFECTS: &[(&[u8], u32, u8, u32)] = &[
     (b"(print (get (ref u 1)))", 0, WRONG_SORT, 7),
     (b"(unprotected (print (get (ref p 1))))", 0, WRONG_SORT, 20),
     (
@@ -173,8 +198,11 @@ const EFFECTS: [(&[u8], u32, u8, u32); 15] = [
     (b"(unprotected (print (call 16 1)))", 16, NO_DEVICE, 20),
 ];
 
+/// All texts with a fault.
+const FAULTY: &[&[(&[u8], u32, u8, u32)]] = &[EACH_RULE, TWO_FAULTS, EFFECTS];
+
 /// Texts that are typed, the number of devices, and how many types of locations they store.
-const TYPED: [(&[u8], u32, usize); 15] = [
+const TYPED: &[(&[u8], u32, usize)] = &[
     (b"(print (get (ref p 1)))", 0, 1),
     (b"(unprotected (print (get (ref u 1))))", 0, 1),
     (b"(set (ref p 1) 1)", 0, 1),
@@ -210,13 +238,9 @@ const TYPED: [(&[u8], u32, usize); 15] = [
 
 #[test]
 fn the_first_fault_has_a_rule_and_a_place(rt: HostRuntime) -> Result<(), Fail> {
-    for table in [EACH_RULE.as_slice(), &TWO_FAULTS, &EFFECTS] {
-        for (text, devices, rule, place) in table {
-            let fault = fault(rt.alloc(), text, *devices)?;
-            assert!(rt;
-                fault.rule == *rule && fault.place == *place,
-                "{rule} at {place}"
-            );
+    for &table in FAULTY {
+        for &(text, devices, rule, place) in table {
+            assert_eq!(rt; broken(rt.alloc(), text, devices)?, (rule, place));
         }
     }
     Ok(())
@@ -224,11 +248,8 @@ fn the_first_fault_has_a_rule_and_a_place(rt: HostRuntime) -> Result<(), Fail> {
 
 #[test]
 fn typed_texts_are_accepted(rt: HostRuntime) -> Result<(), Fail> {
-    for (text, devices, stored) in TYPED {
-        match checked(rt.alloc(), text, devices)? {
-            Ok(accepted) => assert_eq!(rt; accepted.ref_tys.len(), stored),
-            Err(_) => assert!(rt; false),
-        }
+    for &(text, devices, count) in TYPED {
+        assert_eq!(rt; stored(rt.alloc(), text, devices)?, count);
     }
     Ok(())
 }
@@ -244,10 +265,8 @@ fn in_order(tys: &[Ty]) -> bool {
 #[test]
 fn stored_types_are_in_the_order_of_the_text(rt: HostRuntime) -> Result<(), Fail> {
     let text = b"(do (print (get (ref p 1))) (let x (ref u (ref p true)) unit))";
-    match checked(rt.alloc(), text, 0)? {
-        Ok(accepted) => assert!(rt; in_order(accepted.ref_tys.as_slice())),
-        Err(_) => assert!(rt; false),
-    }
+    let accepted = accepted(rt.alloc(), text, 0)?;
+    assert!(rt; in_order(accepted.ref_tys.as_slice()));
     Ok(())
 }
 
@@ -276,8 +295,8 @@ fn doublings(alloc: Global, count: usize, body: &[u8]) -> Result<Vec<u8>, Fail> 
 #[test]
 fn pairs_may_double_but_no_fault_shows_what_is_too_large(rt: HostRuntime) -> Result<(), Fail> {
     let fits = doublings(rt.alloc(), 190, b"unit")?;
-    assert!(rt; checked(rt.alloc(), &fits, 0)?.is_ok());
+    assert_eq!(rt; stored(rt.alloc(), &fits, 0)?, 0);
     let large = doublings(rt.alloc(), 60, b"(if true a a)")?;
-    assert!(rt; matches!(checked(rt.alloc(), &large, 0)?, Err(TypesFail::NoMemory)));
+    assert!(rt; is_too_large(rt.alloc(), &large)?);
     Ok(())
 }

@@ -3,18 +3,22 @@ use ame_cli::{CliFail, Command, Options, read_words};
 use std::alloc::Global;
 use std::test::Fail;
 
-const fn options(workers: u32, turns: u32, slice: u32) -> Options {
-    Options {
-        workers,
-        turns,
-        slice,
-    }
-}
-
 const DEFAULTS: Options = Options {
     workers: 1,
     turns: 1_000_000,
     slice: 1_000,
+};
+
+const FOUR_WORKERS: Options = Options {
+    workers: 4,
+    turns: 1_000_000,
+    slice: 1_000,
+};
+
+const SHORT: Options = Options {
+    workers: 1,
+    turns: 2,
+    slice: 3,
 };
 
 fn read(alloc: Global, words: &[&str]) -> Result<Result<Command, CliFail>, Fail> {
@@ -25,119 +29,128 @@ fn read(alloc: Global, words: &[&str]) -> Result<Result<Command, CliFail>, Fail>
     Ok(read_words(alloc, &list))
 }
 
+/// Whether this is answered to the words.
+fn is_read_as(
+    alloc: Global,
+    words: &[&str],
+    answer: Result<Command, CliFail>,
+) -> Result<bool, Fail> {
+    Ok(read(alloc, words)? == answer)
+}
+
+/// Words, and the workers, turns and slice that they spell.
+const RUNS: &[(&[&str], u32, u32, u32)] = &[
+    (&[], 1, 1_000_000, 1_000),
+    (&["run"], 1, 1_000_000, 1_000),
+    (&["run", "--workers", "2"], 2, 1_000_000, 1_000),
+    (&["run", "--workers=2"], 2, 1_000_000, 1_000),
+    (&["run", "--turns", "9"], 1, 9, 1_000),
+    (&["run", "--turns=9"], 1, 9, 1_000),
+    (&["run", "--slice", "7"], 1, 1_000_000, 7),
+    (&["run", "--slice=7"], 1, 1_000_000, 7),
+    (&["run", "--slice=007", "--turns", "9"], 1, 9, 7),
+    (&["run", "--turns", "9", "--slice=007"], 1, 9, 7),
+    (&["run", "--turns=9", "--workers", "3"], 3, 9, 1_000),
+    (&["run", "--workers=1", "--turns=1", "--slice=1"], 1, 1, 1),
+    (
+        &["run", "--slice", "1", "--turns", "2", "--workers", "3"],
+        3,
+        2,
+        1,
+    ),
+    (
+        &["run", "--turns", "2", "--slice=1", "--workers", "3"],
+        3,
+        2,
+        1,
+    ),
+    (
+        &["run", "--workers", "3", "--slice", "1", "--turns=2"],
+        3,
+        2,
+        1,
+    ),
+    (
+        &["run", "--workers=32", "--turns=4000000", "--slice=1000"],
+        32,
+        4_000_000,
+        1_000,
+    ),
+    (&["run", "--workers=0000000032"], 32, 1_000_000, 1_000),
+    (&["run", "--workers", "0000000001"], 1, 1_000_000, 1_000),
+    (&["run", "--turns", "0004000000"], 1, 4_000_000, 1_000),
+    (&["run", "--slice", "01"], 1, 1_000_000, 1),
+];
+
 #[test]
 fn run_with_its_options(rt: HostRuntime) -> Result<(), Fail> {
-    let rows: [(&[&str], Options); 20] = [
-        (&[], DEFAULTS),
-        (&["run"], DEFAULTS),
-        (&["run", "--workers", "2"], options(2, 1_000_000, 1_000)),
-        (&["run", "--workers=2"], options(2, 1_000_000, 1_000)),
-        (&["run", "--turns", "9"], options(1, 9, 1_000)),
-        (&["run", "--turns=9"], options(1, 9, 1_000)),
-        (&["run", "--slice", "7"], options(1, 1_000_000, 7)),
-        (&["run", "--slice=7"], options(1, 1_000_000, 7)),
-        (&["run", "--slice=007", "--turns", "9"], options(1, 9, 7)),
-        (&["run", "--turns", "9", "--slice=007"], options(1, 9, 7)),
-        (
-            &["run", "--turns=9", "--workers", "3"],
-            options(3, 9, 1_000),
-        ),
-        (
-            &["run", "--workers=1", "--turns=1", "--slice=1"],
-            options(1, 1, 1),
-        ),
-        (
-            &["run", "--slice", "1", "--turns", "2", "--workers", "3"],
-            options(3, 2, 1),
-        ),
-        (
-            &["run", "--turns", "2", "--slice=1", "--workers", "3"],
-            options(3, 2, 1),
-        ),
-        (
-            &["run", "--workers", "3", "--slice", "1", "--turns=2"],
-            options(3, 2, 1),
-        ),
-        (
-            &["run", "--workers=32", "--turns=4000000", "--slice=1000"],
-            options(32, 4_000_000, 1_000),
-        ),
-        (
-            &["run", "--workers=0000000032"],
-            options(32, 1_000_000, 1_000),
-        ),
-        (
-            &["run", "--workers", "0000000001"],
-            options(1, 1_000_000, 1_000),
-        ),
-        (
-            &["run", "--turns", "0004000000"],
-            options(1, 4_000_000, 1_000),
-        ),
-        (&["run", "--slice", "01"], options(1, 1_000_000, 1)),
-    ];
-    for (words, options) in rows {
-        assert_eq!(rt;
-            read(rt.alloc(), words)?,
-            Ok(Command::Run(options)),
+    for &(words, workers, turns, slice) in RUNS {
+        let options = Options {
+            workers,
+            turns,
+            slice,
+        };
+        assert!(rt;
+            is_read_as(rt.alloc(), words, Ok(Command::Run(options)))?,
             "{words:?}"
         );
     }
     Ok(())
 }
 
+/// Words, with the seed, the size and the options that they spell.
+const BENCHES: &[(&[&str], u32, u32, Options)] = &[
+    (&["bench", "1", "2"], 1, 2, DEFAULTS),
+    (&["bench", "--workers", "4", "1", "2"], 1, 2, FOUR_WORKERS),
+    (&["bench", "1", "--workers", "4", "2"], 1, 2, FOUR_WORKERS),
+    (&["bench", "1", "2", "--workers", "4"], 1, 2, FOUR_WORKERS),
+    (&["bench", "--workers=4", "1", "2"], 1, 2, FOUR_WORKERS),
+    (&["bench", "1", "--workers=4", "2"], 1, 2, FOUR_WORKERS),
+    (&["bench", "1", "2", "--workers=4"], 1, 2, FOUR_WORKERS),
+    (&["bench", "2", "1"], 2, 1, DEFAULTS),
+    (&["bench", "65536", "4000"], 65_536, 4_000, DEFAULTS),
+    (&["bench", "0", "1"], 0, 1, DEFAULTS),
+    (&["bench", "00001", "0000000002"], 1, 2, DEFAULTS),
+    (
+        &["bench", "--slice", "3", "4", "--turns=2", "5"],
+        4,
+        5,
+        SHORT,
+    ),
+    (
+        &[
+            "bench",
+            "--workers",
+            "1",
+            "--turns",
+            "2",
+            "--slice",
+            "3",
+            "4",
+            "5",
+        ],
+        4,
+        5,
+        SHORT,
+    ),
+    (
+        &["bench", "4", "5", "--slice=3", "--turns=2", "--workers=1"],
+        4,
+        5,
+        SHORT,
+    ),
+];
+
 #[test]
 fn bench_with_its_numbers_in_any_places(rt: HostRuntime) -> Result<(), Fail> {
-    let four = options(4, 1_000_000, 1_000);
-    let rows: [(&[&str], u32, u32, Options); 14] = [
-        (&["bench", "1", "2"], 1, 2, DEFAULTS),
-        (&["bench", "--workers", "4", "1", "2"], 1, 2, four),
-        (&["bench", "1", "--workers", "4", "2"], 1, 2, four),
-        (&["bench", "1", "2", "--workers", "4"], 1, 2, four),
-        (&["bench", "--workers=4", "1", "2"], 1, 2, four),
-        (&["bench", "1", "--workers=4", "2"], 1, 2, four),
-        (&["bench", "1", "2", "--workers=4"], 1, 2, four),
-        (&["bench", "2", "1"], 2, 1, DEFAULTS),
-        (&["bench", "65536", "4000"], 65_536, 4_000, DEFAULTS),
-        (&["bench", "0", "1"], 0, 1, DEFAULTS),
-        (&["bench", "00001", "0000000002"], 1, 2, DEFAULTS),
-        (
-            &["bench", "--slice", "3", "4", "--turns=2", "5"],
-            4,
-            5,
-            options(1, 2, 3),
-        ),
-        (
-            &[
-                "bench",
-                "--workers",
-                "1",
-                "--turns",
-                "2",
-                "--slice",
-                "3",
-                "4",
-                "5",
-            ],
-            4,
-            5,
-            options(1, 2, 3),
-        ),
-        (
-            &["bench", "4", "5", "--slice=3", "--turns=2", "--workers=1"],
-            4,
-            5,
-            options(1, 2, 3),
-        ),
-    ];
-    for (words, seed, size, options) in rows {
+    for &(words, seed, size, options) in BENCHES {
         let command = Command::Bench(seed, size, options);
-        assert_eq!(rt; read(rt.alloc(), words)?, Ok(command), "{words:?}");
+        assert!(rt; is_read_as(rt.alloc(), words, Ok(command))?, "{words:?}");
     }
     Ok(())
 }
 
-const REFUSED: [&[&str]; 98] = [
+const REFUSED: &[&[&str]] = &[
     // Numbers out of range, or no number words.
     &["run", "--workers=0"],
     &["run", "--workers", "0"],
@@ -249,19 +262,28 @@ const REFUSED: [&[&str]; 98] = [
 
 #[test]
 fn all_else_is_usage(rt: HostRuntime) -> Result<(), Fail> {
-    for words in REFUSED {
-        assert_eq!(rt; read(rt.alloc(), words)?, Err(CliFail::Usage), "{words:?}");
+    for &words in REFUSED {
+        assert!(rt;
+            is_read_as(rt.alloc(), words, Err(CliFail::Usage))?,
+            "{words:?}"
+        );
     }
     Ok(())
+}
+
+/// So many words, of which the first is `bench` and the others are numbers.
+fn long_list(alloc: Global, len: usize) -> Result<Vec<String>, Fail> {
+    let mut list = vec![in alloc; String::from_str(alloc, "bench")?]?;
+    for _ in 1..len {
+        list.push(String::from_str(alloc, "1")?)?;
+    }
+    Ok(list)
 }
 
 #[test]
 fn long_lists_are_usage(rt: HostRuntime) -> Result<(), Fail> {
     for len in [15, 16, 17, 100] {
-        let mut list = vec![in rt.alloc(); String::from_str(rt.alloc(), "bench")?]?;
-        for _ in 1..len {
-            list.push(String::from_str(rt.alloc(), "1")?)?;
-        }
+        let list = long_list(rt.alloc(), len)?;
         assert_eq!(rt;
             read_words(rt.alloc(), &list),
             Err(CliFail::Usage),

@@ -1,13 +1,11 @@
 //! The wrong and the right texts of the page on the language.
 
-ghost use Rattle.std.specs.Prelude.{◌≤◌, length};
-ghost use Rattle.ame_lex.specs.Bytes.{max_text};
-
 use crate::pages::told;
+use std::alloc::Global;
 use std::test::Fail;
 
 /// A wrong text, the place where it is refused, and a right one.
-const TEXTS: [(&str, usize, &str); 37] = [
+const TEXTS: &[(&str, usize, &str)] = &[
     ("(print 1$)", 8, "(print 1)"),
     ("(print 7up)", 8, "(let up 7 (print up))"),
     (
@@ -103,20 +101,29 @@ const TEXTS: [(&str, usize, &str); 37] = [
     ("(print (fst 1))", 12, "(print (fst (pair 1 2)))"),
 ];
 
+/// Whether a text is refused at this place of its only line.
+fn is_refused_at(alloc: Global, text: &str, place: usize) -> Result<bool, Fail> {
+    let begin = format!(in alloc; "line 1, column {}:", place.saturating_add(1))?;
+    let page = told(alloc, text.as_bytes())?;
+    Ok(page.as_slice().starts_with(begin.as_str().as_bytes()))
+}
+
+/// Whether nothing is told of a text.
+fn is_accepted(alloc: Global, text: &str) -> Result<bool, Fail> {
+    Ok(told(alloc, text.as_bytes())?.is_empty())
+}
+
+/// Whether the wrong text is refused at this place and the right one accepted.
+fn are_told_apart(alloc: Global, wrong: &str, place: usize, right: &str) -> Result<bool, Fail> {
+    Ok(is_refused_at(alloc, wrong, place)? && is_accepted(alloc, right)?)
+}
+
 #[test]
 fn wrong_texts_are_refused_at_their_place_and_right_ones_accepted(
     rt: HostRuntime,
 ) -> Result<(), Fail> {
-    for (wrong, place, right) in TEXTS {
-        let (wrong, right) = (wrong.as_bytes(), right.as_bytes());
-        assert!(rt; wrong.len() <= 1_048_576 && right.len() <= 1_048_576);
-        let page = told(rt.alloc(), wrong)?;
-        let begin = format!(in rt.alloc(); "line 1, column {}:", place.saturating_add(1))?;
-        assert!(rt;
-            page.as_slice().starts_with(begin.as_str().as_bytes()),
-            "at {place}"
-        );
-        assert!(rt; told(rt.alloc(), right)?.is_empty(), "beside {place}");
+    for &(wrong, place, right) in TEXTS {
+        assert!(rt; are_told_apart(rt.alloc(), wrong, place, right)?, "{wrong}");
     }
     Ok(())
 }

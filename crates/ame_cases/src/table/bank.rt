@@ -25,7 +25,7 @@ const BANK: &str = "\
     (async (do (blockUntil (= (get done) 200)) (print (app total unit)))))
 ))))))))))))))";
 
-pub const CASES: [Case; 2] = [
+pub const CASES: &[Case] = &[
     Case {
         name: "no money is lost",
         words: "run",

@@ -2,7 +2,7 @@
 
 use crate::case::{CASE, Case, Left, RUN, Run, Text};
 
-pub const CASES: [Case; 2] = [
+pub const CASES: &[Case] = &[
     Case {
         name: "unprotected code between fragments",
         text: Text::Whole(

@@ -155,7 +155,7 @@ const TALL: u8 = 10;
 #[test]
 fn journals_of_the_table_replay(rt: HostRuntime) -> Result<(), Fail> {
     let alloc = rt.alloc();
-    for &cases in TABLE {
+    for cases in TABLE {
         for case in cases {
             let name = case.name;
             let Left::This(run) = case.left else { continue };

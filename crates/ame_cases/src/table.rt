@@ -18,24 +18,24 @@ use crate::gives::each_gives;
 use std::test::Fail;
 
 /// All cases, by their themes.
-pub const TABLE: &[&[Case]] = &[
-    protected::CASES,
-    waiting::CASES,
-    outside::CASES,
-    devices::CASES,
-    cut_off::CASES,
-    words::CASES,
-    refused::CASES,
-    types::CASES,
-    sizes::CASES,
-    ends::CASES,
-    workers::CASES,
-    bank::CASES,
+pub const TABLE: [&[Case]; 12] = [
+    &protected::CASES,
+    &waiting::CASES,
+    &outside::CASES,
+    &devices::CASES,
+    &cut_off::CASES,
+    &words::CASES,
+    &refused::CASES,
+    &types::CASES,
+    &sizes::CASES,
+    &ends::CASES,
+    &workers::CASES,
+    &bank::CASES,
 ];
 
 #[test]
 fn each_case_gives_what_it_must(rt: HostRuntime) -> Result<(), Fail> {
-    for &cases in TABLE {
+    for cases in TABLE {
         each_gives(&rt, cases)?;
     }
     Ok(())

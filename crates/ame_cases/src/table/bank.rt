@@ -25,7 +25,7 @@ const BANK: &str = "\
     (async (do (blockUntil (= (get done) 200)) (print (app total unit)))))
 ))))))))))))))";
 
-pub const CASES: &[Case] = &[
+pub const CASES: [Case; 2] = [
     Case {
         name: "no money is lost",
         words: "run",

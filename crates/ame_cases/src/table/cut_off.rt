@@ -20,7 +20,7 @@ const TALL: Run = Run {
     ..RUN
 };
 
-pub const CASES: &[Case] = &[
+pub const CASES: [Case; 5] = [
     Case {
         name: "a loop without an end",
         words: "run --workers 1 --turns 10 --slice 5",

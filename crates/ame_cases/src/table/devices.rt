@@ -12,7 +12,7 @@ const SUMS: Text = Text::Whole(
     "(unprotected (do (print (call 1 5)) (print (call 1 -2)) (print (call 0 9))))",
 );
 
-pub const CASES: &[Case] = &[
+pub const CASES: [Case; 7] = [
     Case {
         name: "the second call of a device fails, behind one that counts",
         text: CALLS,

@@ -11,7 +11,7 @@ const BOTH: Run = Run {
     ..RUN
 };
 
-pub const CASES: &[Case] = &[
+pub const CASES: [Case; 10] = [
     Case {
         name: "each read and each write moves one byte",
         text: PRINTS,

@@ -2,7 +2,7 @@
 
 use crate::case::{CASE, Case, Left, RUN, Run, Text};
 
-pub const CASES: &[Case] = &[
+pub const CASES: [Case; 2] = [
     Case {
         name: "unprotected code between fragments",
         text: Text::Whole(

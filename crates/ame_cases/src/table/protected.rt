@@ -5,7 +5,7 @@ use crate::case::{CASE, Case, Left, RUN, Run, Text};
 /// The second fragment prints after the first, which spawned it.
 pub const PRINTS: Text = Text::Whole("(do (async (print 2)) (print 1))");
 
-pub const CASES: &[Case] = &[
+pub const CASES: [Case; 7] = [
     Case {
         name: "nothing is done",
         text: Text::Whole("unit"),

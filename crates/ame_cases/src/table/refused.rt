@@ -2,7 +2,7 @@
 
 use crate::case::{CASE, Case, Text};
 
-pub const CASES: &[Case] = &[
+pub const CASES: [Case; 6] = [
     Case {
         name: "a number of more than 64 bits",
         text: Text::Whole("9223372036854775808"),

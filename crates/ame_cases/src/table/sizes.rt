@@ -2,7 +2,7 @@
 
 use crate::case::{CASE, Case, Left, RUN, Run, Text};
 
-pub const CASES: &[Case] = &[
+pub const CASES: [Case; 5] = [
     Case {
         name: "a text of a mebibyte",
         text: Text::Pieces(&[(" ", 1_048_572), ("unit", 1)]),

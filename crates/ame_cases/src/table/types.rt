@@ -2,7 +2,7 @@
 
 use crate::case::{CASE, Case, Text};
 
-pub const CASES: &[Case] = &[
+pub const CASES: [Case; 8] = [
     Case {
         name: "a program that isn't of type Unit",
         text: Text::Whole("7"),

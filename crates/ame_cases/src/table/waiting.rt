@@ -7,7 +7,7 @@ pub const WAITS: Text = Text::Whole(
     "(let r (ref p 0) (do (async (do (blockUntil (= (get r) 1)) (print 10))) (async (set r 1))))",
 );
 
-pub const CASES: &[Case] = &[
+pub const CASES: [Case; 4] = [
     Case {
         name: "the program waits for ever",
         text: Text::Whole("(blockUntil false)"),

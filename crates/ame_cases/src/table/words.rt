@@ -4,7 +4,7 @@ use crate::case::{CASE, Case, Left, Text};
 
 const BALANCES: &str = "18\n21\n18\n25\n11\n15\n18\n18\nfinished\n";
 
-pub const CASES: &[Case] = &[
+pub const CASES: [Case; 8] = [
     Case {
         name: "no workers",
         words: "run --workers=0",

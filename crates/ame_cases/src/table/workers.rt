@@ -4,7 +4,7 @@ use super::protected::PRINTS;
 use super::waiting::WAITS;
 use crate::case::{CASE, Case, Left, RUN, Run, Text};
 
-pub const CASES: &[Case] = &[
+pub const CASES: [Case; 4] = [
     Case {
         name: "a fragment is spawned by another",
         words: "run",

@@ -10,7 +10,7 @@ use Rattle.ame_term.specs.Tree.{Typ}
 use Rattle.ame_term.specs.Shown.{TypeFault as PlainFault}
 use Rattle.ame_term.specs.Typing.{typing}
 use Rattle.ame_types.specs.declared.fault.TypeFault.{TypeFault}
-use Rattle.ame_owed.proofs.CellLemmas.{which}
+use Rattle.ame_protocol.proofs.Row.CellLemmas.{which}
 use Rattle.ame_journal.specs.Replayed.{Replayed}
 use Rattle.ame_code.specs.FlatCode.{FlatCode}
 use Rattle.ame_value.specs.declared.val.Val.{Val}
@@ -29,7 +29,7 @@ use Rattle.ame_app.specs.Calls.{Call, Given, Asks}
 use Rattle.ame_app.specs.Texts.{IsNoProgram, IsIllTyped}
 use Rattle.ame_app.specs.Causes.{RunCause, status_of, number_told}
 use Rattle.ame_app.specs.Headline.{Headline, IsTurnedAway, IsWritten, verdict_of}
-use Rattle.ame_app.specs.Complete.{IsGivenText, IsUnread, IsRefused, IsAccepted, NothingFailed, IsUnlessMemory, TellsFault, TellsRule, TellsRun, TellsText, too_long, IsComplete}
+use Rattle.ame_app.specs.Complete.{IsGivenText, IsUnread, IsRefused, IsAcceptedText, NothingFailed, IsUnlessMemory, TellsFault, TellsRule, TellsEnd, TellsText, too_long, IsComplete}
 use Rattle.ame_app.specs.Verdict.{verdict}
 use Rattle.ame_app.proofs.TurnedLemmas.{SpellOne}
 use Rattle.ame_app.proofs.GivenLemmas.{asked-given, given-more}
@@ -86,7 +86,7 @@ data Due (text : Text) (devices : ℕ) (status : Status) : Type 0 where
   is_long : status ≡ Status.Text too_long → whole_limit < length text → Due text devices status
   is_unread : (fault : TextFault) → status ≡ Status.Text fault → IsNoProgram text fault → length text ≤ whole_limit → Due text devices status
   is_refused : (fault : TypeFault) → status ≡ Status.Types fault → IsIllTyped text devices fault → length text ≤ whole_limit → Due text devices status
-  is_run : TellsRun status → IsAccepted text devices → length text ≤ whole_limit → Due text devices status
+  is_run : TellsEnd status → IsAcceptedText text devices → length text ≤ whole_limit → Due text devices status
   lacks : status ≡ Status.NoMemory → Due text devices status
 
 err-ok : {A E : Type 0} (r : Result A E) (x : A) (e : E) → r ≡ Ok x → r ≡ Err e → ⊥
@@ -123,13 +123,13 @@ module _ (text : Text) (devices : ℕ) (status : Status) where
       absurd (typed-same text devices accepted.source bad.source bad.fault accepted.reads bad.reads accepted.typed bad.breaks)
   due-refused short bad (lacks e) = subst (TellsRule text devices) (sym e) tt
 
-  due-accepted : length text ≤ whole_limit → IsAccepted text devices → Due text devices status → TellsRun status
+  due-accepted : length text ≤ whole_limit → IsAcceptedText text devices → Due text devices status → TellsEnd status
   due-accepted short good (is_long e long) = absurd (omega (arith, short, long))
   due-accepted short good (is_unread fault e unread most) = absurd (err-ok (reading text) good.source unread.why good.reads unread.reads)
   due-accepted short good (is_refused fault e ill most) =
       absurd (typed-same text devices good.source ill.source _ good.reads ill.reads good.typed ill.is)
   due-accepted short good (is_run run accepted most) = run
-  due-accepted short good (lacks e) = subst TellsRun (sym e) tt
+  due-accepted short good (lacks e) = subst TellsEnd (sym e) tt
 
 -- Where no run was begun
 
@@ -142,7 +142,7 @@ long-is fault kind place = ap (fault_at fault.place) kind ∙ ap (λ (p : ℕ). 
 short-as : (asked text : Text) → asked ≡ text → length asked ≤ whole_limit → length text ≤ whole_limit
 short-as asked text same most = subst (λ (t : Text). length t ≤ whole_limit) same most
 
-run-text : (status : Status) → TellsRun status → TellsText status
+run-text : (status : Status) → TellsEnd status → TellsText status
 run-text Status.Finished run = tt
 run-text Status.Blocked run = tt
 run-text Status.Spent run = tt
@@ -187,7 +187,7 @@ module _ (call : Call) (told : Status) where
 -- Where a run was begun, or none
 
 module _ (call : Call) (before after : Ends) (n : NothingFailed call before after) where
-  run-told : (told : Status) (number : ℕ) (options : Options) (end : End Val) (r : Replayed) → RunCause told number options end r before after → TellsRun told
+  run-told : (told : Status) (number : ℕ) (options : Options) (end : End Val) (r : Replayed) → RunCause told number options end r before after → TellsEnd told
   run-told Status.Finished number options end r c = tt
   run-told Status.Blocked number options end r c = tt
   run-told Status.Spent number options end r c = tt
@@ -223,7 +223,7 @@ module _ (one : SpellOne) (call : Call) (before after : Ends) (n : NothingFailed
       let same = same-text h.options h.text h.asked in
       let spoken = h.spoken (sink-held status (lines h.final.state.output ++ verdict_of end) before after h.output n.sink) in
       let run = run-told call before after n (status_of end.stop) (number_told end) h.options end h.final h.cause in
-      is_run (subst TellsRun (sym spoken) run) (record {
+      is_run (subst TellsEnd (sym spoken) run) (record {
         source = source_of h.compiled.accepted.program;
         reads = subst (λ (t : Text). reading t ≡ Ok (source_of h.compiled.accepted.program)) same h.program.reads;
         typed = h.program.typed;

@@ -8,7 +8,7 @@ use Rattle.ame_cli.specs.declared.command.Options.{Options}
 use Rattle.ame_cli.specs.declared.command.Command.{Command}
 use Rattle.ame_cli.specs.Grammar.{SpellsCommand}
 use Rattle.ame_app.specs.Calls.{Given, Call, Asks, IsTextOf}
-use Rattle.ame_app.specs.Complete.{IsGiven, IsGivenText}
+use Rattle.ame_app.specs.Complete.{IsTextGiven, IsGivenText}
 use Rattle.ame_app.proofs.TurnedLemmas.{SpellOne}
 
 some-same : (xs text : List ℕ) → Some xs ≡ Some text → xs ≡ text
@@ -29,13 +29,13 @@ taken-within (Some xs) (Some ys) bytes text taken e =
     let all : length bytes + length ys ≡ length text = sym (length-append bytes ys) ∙ ap length (sym taken ∙ some-same xs text e) in
     omega (arith, all)
 
-text-of : (command : Command) (source after : Given) (asked text : Text) → IsTextOf command source after asked → IsGiven command source text → asked ≡ text
+text-of : (command : Command) (source after : Given) (asked text : Text) → IsTextOf command source after asked → IsTextGiven command source text → asked ≡ text
 text-of (Command.Run options) source after asked text t given = whole-is source.left after.left asked text t.0 given
 text-of (Command.Bench seed size options) source after asked text t given = t.0 ∙ sym given
 
 module _ (one : SpellOne) (call : Call) (text : Text) (given : IsGivenText call text) where
-  given-as : (command : Command) → SpellsCommand call.words command → IsGiven command call.source text
-  given-as command spelled = subst (λ (k : Command). IsGiven k call.source text) (one call.words given.command command given.spelled spelled) given.given
+  given-as : (command : Command) → SpellsCommand call.words command → IsTextGiven command call.source text
+  given-as command spelled = subst (λ (k : Command). IsTextGiven k call.source text) (one call.words given.command command given.spelled spelled) given.given
 
   pub asked-given : (options : Options) (asked : Text) → Asks call options asked → asked ≡ text
   asked-given options asked asks =

@@ -7,12 +7,12 @@ use Rattle.ame_term.specs.State.{State}
 use Rattle.ame_term.specs.Typing.{typing, ref_types}
 use Rattle.ame_term.specs.SourceTerm.{IsSourceTerm}
 use Rattle.ame_laws.specs.Orderly.{IsOrderly}
-use Rattle.ame_soundness.proofs.Started.{reached}
+use Rattle.ame_laws.proofs.Typed.Started.{reached}
 use Rattle.ame_journal.specs.declared.entry.Entry.{Entry}
 use Rattle.ame_journal.specs.Replayed.{Replayed, begun_at}
 use Rattle.ame_journal.specs.Replay.{replay}
 use Rattle.ame_journal.proofs.LabelLemmas.{unfold-all, unfolds_all-run}
-use Rattle.ame_stands.specs.declared.types.Limits.{Limits}
+use Rattle.ame_protocol.specs.declared.types.Limits.{Limits}
 use Rattle.ame_value.specs.declared.val.Val.{Val}
 use Rattle.ame_code.specs.FlatCode.{FlatCode}
 use Rattle.ame_code.specs.Code.{program_of}
@@ -27,7 +27,7 @@ use Rattle.ame_shell.specs.Heard.{HaveHeard, HaveFailed}
 use Rattle.ame_shell.specs.Over.{AreOfSeats, IsOver}
 use Rattle.ame_app.specs.declared.status.Status.{Status}
 use Rattle.ame_app.specs.Calls.{Call}
-use Rattle.ame_app.specs.Causes.{status_of, number_by, number_told, RunCause}
+use Rattle.ame_app.specs.Causes.{status_of, number_at_stop, number_told, RunCause}
 use Rattle.ame_engine.specs.Bounds.{HasBounds}
 use Rattle.ame_app.specs.Headline.{limits_of, Headline, IsTypedState, journal_of, verdict_of, IsWritten}
 use Rattle.ame_app.specs.Jobs.{IsJobOf, Speaks}
@@ -62,14 +62,14 @@ module _ (limits : Limits) (options : Options) (r : Replayed) (end : End Val) (b
     told : end.stop ≡ Some Stop.WriteFault → status ≡ Status.WriteFault
 
   blocked-cause : IsOrderly r.state → CertifyAll r.state end.certificates → (stop : Option Stop) → end.stop ≡ stop → stop ≡ Some Stop.Blocked
-      → RunCause Status.Blocked (number_by stop end.certificates) options end r before after
+      → RunCause Status.Blocked (number_at_stop stop end.certificates) options end r before after
   blocked-cause orderly certified stop is blocked = record {
     certified = certified;
-    number_is = ap (λ (o : Option Stop). number_by o end.certificates) blocked ∙ certified-count r.state orderly end.certificates certified;
+    number_is = ap (λ (o : Option Stop). number_at_stop o end.certificates) blocked ∙ certified-count r.state orderly end.certificates certified;
   }
 
   stop-cause : (status : Status) → Causes status → (stop : Option Stop) → end.stop ≡ stop
-      → RunCause (status_of stop) (number_by stop end.certificates) options end r before after
+      → RunCause (status_of stop) (number_at_stop stop end.certificates) options end r before after
   stop-cause status c None e = tt
   stop-cause status c (Some Stop.Finished) e = c.stopped.finished e
   stop-cause status c (Some Stop.Blocked) e = blocked-cause c.orderly (c.stopped.blocked e) (Some Stop.Blocked) e refl

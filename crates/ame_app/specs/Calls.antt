@@ -13,8 +13,8 @@ pub record Given : Type 0 where
   pub left : Option (List ℕ)
   pub faults : ℕ
 
-abbrev pub given_by : {S : Type 0} → (S → Option (List ℕ)) → (S → ℕ) → S → Given
-given_by left faults source = record { left = left source; faults = faults source }
+abbrev pub what_is_given : {S : Type 0} → (S → Option (List ℕ)) → (S → ℕ) → S → Given
+what_is_given left faults source = record { left = left source; faults = faults source }
 
 -- the words of a call, what its source tells before it and after it, and how many devices it is given
 pub record Call : Type 0 where

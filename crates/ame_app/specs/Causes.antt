@@ -89,13 +89,13 @@ status_of (Some (Stop.DeviceFault device)) = Status.DeviceFault device
 status_of None = Status.NoMemory
 
 -- the number that a run's verdict line tells: how many members are blocked, or which one came to a value that is too high
-abbrev pub number_by : Option Stop → List Certificate → ℕ
-number_by (Some Stop.Blocked) certificates = length certificates
-number_by (Some (Stop.Tall number)) certificates = number
-number_by _ certificates = 0
+abbrev pub number_at_stop : Option Stop → List Certificate → ℕ
+number_at_stop (Some Stop.Blocked) certificates = length certificates
+number_at_stop (Some (Stop.Tall number)) certificates = number
+number_at_stop _ certificates = 0
 
 abbrev pub number_told : End Val → ℕ
-number_told end = number_by end.stop end.certificates
+number_told end = number_at_stop end.stop end.certificates
 
 -- so many members are left, and for each there is a certificate that its condition is false
 pub record IsBlocked (s : State) (certificates : List Certificate) (number : ℕ) : Type 0 where

@@ -20,15 +20,15 @@ use Rattle.ame_app.specs.Texts.{IsNoProgram, IsIllTyped}
 -- What is given
 
 -- the text of a command: the bytes that the source has left, where it tells them; or the generated text
-abbrev pub IsGiven : Command → Given → Text → Type 0
-IsGiven (Command.Run options) source text = source.left ≡ Some text
-IsGiven (Command.Bench seed size options) source text = text ≡ program_text seed size
+abbrev pub IsTextGiven : Command → Given → Text → Type 0
+IsTextGiven (Command.Run options) source text = source.left ≡ Some text
+IsTextGiven (Command.Bench seed size options) source text = text ≡ program_text seed size
 
 -- the words spell a command, and this is its text
 pub record IsGivenText (call : Call) (text : Text) : Type 0 where
   pub command : Command
   pub spelled : SpellsCommand call.words command
-  pub given : IsGiven command call.source text
+  pub given : IsTextGiven command call.source text
 
 -- so it is, and the text isn't too long
 pub record IsGivenShort (call : Call) (text : Text) : Type 0 where
@@ -48,7 +48,7 @@ pub record IsRefused (text : Text) (devices : ℕ) : Type 0 where
   pub breaks : typing devices source.places source.tree ≡ Err fault
 
 -- it is a program that the types accept with so many devices
-pub record IsAccepted (text : Text) (devices : ℕ) : Type 0 where
+pub record IsAcceptedText (text : Text) (devices : ℕ) : Type 0 where
   pub source : Source
   pub reads : reading text ≡ Ok source
   pub typed : typing devices source.places source.tree ≡ Ok Typ.Unit
@@ -78,19 +78,19 @@ TellsRule text devices Status.NoMemory = ⊤
 TellsRule text devices _ = ⊥
 
 -- it tells how a run ended, or memory was wanted
-abbrev pub TellsRun : Status → Type 0
-TellsRun Status.Finished = ⊤
-TellsRun Status.Blocked = ⊤
-TellsRun Status.Spent = ⊤
-TellsRun Status.Tall = ⊤
-TellsRun Status.NoMemory = ⊤
-TellsRun _ = ⊥
+abbrev pub TellsEnd : Status → Type 0
+TellsEnd Status.Finished = ⊤
+TellsEnd Status.Blocked = ⊤
+TellsEnd Status.Spent = ⊤
+TellsEnd Status.Tall = ⊤
+TellsEnd Status.NoMemory = ⊤
+TellsEnd _ = ⊥
 
 -- it tells what is so of a text, or how a run ended, or memory was wanted
 abbrev pub TellsText : Status → Type 0
 TellsText (Status.Text fault) = ⊤
 TellsText (Status.Types fault) = ⊤
-TellsText status = TellsRun status
+TellsText status = TellsEnd status
 
 -- how a text is told that has too many bytes
 abbrev pub too_long : TextFault
@@ -106,7 +106,7 @@ pub record IsComplete (call : Call) (status : Status) (before after : Ends) : Ty
   pub unread : NothingFailed call before after → (text : Text) → IsGivenShort call text → IsUnread text → TellsFault text status
   pub refused : NothingFailed call before after → (text : Text) → IsGivenShort call text → IsRefused text call.devices
       → TellsRule text call.devices status
-  pub accepted : NothingFailed call before after → (text : Text) → IsGivenShort call text → IsAccepted text call.devices → TellsRun status
+  pub accepted : NothingFailed call before after → (text : Text) → IsGivenShort call text → IsAcceptedText text call.devices → TellsEnd status
   pub sink_failed : before.write_faults < after.write_faults → status ≡ Status.WriteFault
   pub device_failed : HasNotRisen before.write_faults after.write_faults → (k : ℕ) → (told_at before.told k).faults < (told_at after.told k).faults
       → status ≡ Status.DeviceFault k

@@ -7,22 +7,22 @@ use Rattle.ame_io.specs.Writes.{AppendsFront}
 use Rattle.ame_lex.specs.Bytes.{Text}
 use Rattle.ame_term.specs.Maps.{at}
 use Rattle.ame_term.specs.State.{State}
-use Rattle.ame_soundness.specs.StoreTyping.{StoreTyping}
-use Rattle.ame_soundness.specs.TypedState.{IsTyped}
+use Rattle.ame_laws.specs.Typed.StoreTyping.{StoreTyping}
+use Rattle.ame_laws.specs.Typed.TypedState.{IsTyped}
 use Rattle.ame_store.specs.declared.cell.Cell.{Cell}
 use Rattle.ame_store.specs.Cells.{IsFree}
 use Rattle.ame_journal.specs.declared.entry.Entry.{Entry}
 use Rattle.ame_journal.specs.Replayed.{Replayed}
 use Rattle.ame_journal.specs.Replay.{replay}
-use Rattle.ame_owed.specs.Shown.{shown_cell}
-use Rattle.ame_waiting.specs.Once.{IsNotedOnce}
-use Rattle.ame_visits.specs.Opened.{cell_of, stored_in}
+use Rattle.ame_protocol.specs.Row.Shown.{shown_cell}
+use Rattle.ame_protocol.specs.Waits.Once.{IsNotedOnce}
+use Rattle.ame_protocol.specs.Visits.Opened.{cell_of, stored_in}
 use Rattle.ame_code.specs.FlatCode.{FlatCode}
 use Rattle.ame_code.specs.Code.{program_of}
 use Rattle.ame_value.specs.declared.val.Val.{Val}
 use Rattle.ame_eval.specs.Values.{value_meant}
 use Rattle.ame_cli.specs.declared.command.Options.{Options}
-use Rattle.ame_stands.specs.declared.types.Limits.{Limits}
+use Rattle.ame_protocol.specs.declared.types.Limits.{Limits}
 use Rattle.ame_engine.specs.Bounds.{HasBounds}
 use Rattle.ame_engine.specs.Causes.{NotesStop}
 use Rattle.ame_engine.specs.Ending.{End}

@@ -8,7 +8,7 @@ ghost use Rattle.ame_code.specs.Code.{program_of};
 ghost use Rattle.ame_eval.specs.Values.{value_meant};
 ghost use Rattle.ame_shell.specs.Ends.{Ends, ends_of};
 ghost use Rattle.ame_shell.specs.Over.{IsOver};
-ghost use Rattle.ame_app.specs.Calls.{Call, given_by, call_of};
+ghost use Rattle.ame_app.specs.Calls.{Call, what_is_given, call_of};
 ghost use Rattle.ame_app.specs.Causes.{RefusalCause, number_told};
 ghost use Rattle.ame_app.specs.Complete.{IsComplete};
 ghost use Rattle.ame_app.specs.Headline.{Headline, IsToldAlone, IsTurnedAway};
@@ -21,10 +21,10 @@ use crate::status::Status;
 use ame_cli::spells_one_command;
 use ame_device::Device;
 use ame_engine::{Ended, Stop};
-use ame_fragment::Fragment;
+use ame_eval::Fragment;
 use ame_io::{Sink, Source};
-use ame_shell::Left;
-use ame_stands::Limits;
+use ame_protocol::Limits;
+use ame_shell::Remains;
 use ame_team::run_by_workers;
 use ame_value::Val;
 use ame_worker::Gate;
@@ -52,17 +52,17 @@ where
     G: Gate + Sync,
     requires few { vec_len devices ≤ max_devices }
     ensures ran { IfSome result.ended (λ end. Headline (call_of (map string_bytes words.now)
-        (given_by S.left S.faults source.old) (given_by S.left S.faults source.new) (vec_len devices))
+        (what_is_given S.left S.faults source.old) (what_is_given S.left S.faults source.new) (vec_len devices))
         result.status (option_map arc_value result.code) end
         (ends_of K.written K.faults D.device_heard D.device_faults sink devices.items)
         (ends_of K.written K.faults D.device_heard D.device_faults result.sink result.devices.items)) }
     ensures turned_away { result.ended ≡ None → IsTurnedAway (call_of (map string_bytes words.now)
-        (given_by S.left S.faults source.old) (given_by S.left S.faults source.new) (vec_len devices))
+        (what_is_given S.left S.faults source.old) (what_is_given S.left S.faults source.new) (vec_len devices))
         result.status (option_map arc_value result.code)
         (ends_of K.written K.faults D.device_heard D.device_faults sink devices.items)
         (ends_of K.written K.faults D.device_heard D.device_faults result.sink result.devices.items) }
     ensures complete { IsComplete (call_of (map string_bytes words.now)
-        (given_by S.left S.faults source.old) (given_by S.left S.faults source.new) (vec_len devices))
+        (what_is_given S.left S.faults source.old) (what_is_given S.left S.faults source.new) (vec_len devices))
         result.status
         (ends_of K.written K.faults D.device_heard D.device_faults sink devices.items)
         (ends_of K.written K.faults D.device_heard D.device_faults result.sink result.devices.items) }
@@ -88,17 +88,17 @@ where
     G: Gate + Sync,
     requires few { vec_len devices ≤ max_devices }
     ensures ran { IfSome result.ended (λ end. Headline (call_of (map string_bytes words.now)
-        (given_by S.left S.faults source.old) (given_by S.left S.faults source.new) (vec_len devices))
+        (what_is_given S.left S.faults source.old) (what_is_given S.left S.faults source.new) (vec_len devices))
         result.status (option_map arc_value result.code) end
         (ends_of K.written K.faults device_heard device_faults sink devices.items)
         (ends_of K.written K.faults device_heard device_faults result.sink result.devices.items)) }
     ensures turned_away { result.ended ≡ None → IsTurnedAway (call_of (map string_bytes words.now)
-        (given_by S.left S.faults source.old) (given_by S.left S.faults source.new) (vec_len devices))
+        (what_is_given S.left S.faults source.old) (what_is_given S.left S.faults source.new) (vec_len devices))
         result.status (option_map arc_value result.code)
         (ends_of K.written K.faults device_heard device_faults sink devices.items)
         (ends_of K.written K.faults device_heard device_faults result.sink result.devices.items) }
     ensures complete { IsComplete (call_of (map string_bytes words.now)
-        (given_by S.left S.faults source.old) (given_by S.left S.faults source.new) (vec_len devices))
+        (what_is_given S.left S.faults source.old) (what_is_given S.left S.faults source.new) (vec_len devices))
         result.status
         (ends_of K.written K.faults device_heard device_faults sink devices.items)
         (ends_of K.written K.faults device_heard device_faults result.sink result.devices.items) }
@@ -124,12 +124,12 @@ where
     G: Gate + Sync,
     requires few { vec_len devices ≤ max_devices }
     ensures ran { IfSome result.ended (λ end. Headline (call_of (map string_bytes words.now)
-        (given_by S.left S.faults source.old) (given_by S.left S.faults source.new) (vec_len devices))
+        (what_is_given S.left S.faults source.old) (what_is_given S.left S.faults source.new) (vec_len devices))
         result.status (option_map arc_value result.code) end
         (ends_of K.written K.faults D.device_heard D.device_faults sink devices.items)
         (ends_of K.written K.faults D.device_heard D.device_faults result.sink result.devices.items)) }
     ensures turned_away { result.ended ≡ None → IsTurnedAway (call_of (map string_bytes words.now)
-        (given_by S.left S.faults source.old) (given_by S.left S.faults source.new) (vec_len devices))
+        (what_is_given S.left S.faults source.old) (what_is_given S.left S.faults source.new) (vec_len devices))
         result.status (option_map arc_value result.code)
         (ends_of K.written K.faults D.device_heard D.device_faults sink devices.items)
         (ends_of K.written K.faults D.device_heard D.device_faults result.sink result.devices.items) }
@@ -181,7 +181,7 @@ where
 }
 
 /// Tells how a run ended.
-fn conclude<K: Sink + Drop, D: Device>(job: Job, left: Left<Val, K, D>) -> Report<K, D>
+fn conclude<K: Sink + Drop, D: Device>(job: Job, left: Remains<Val, K, D>) -> Report<K, D>
     ensures ended { IsSome result.ended }
     ensures ran { IfSome result.ended (λ end. (call : Call) (before : Ends) → IsJobOf call (arc_value job.code) job.options
         → IsOver (program_of (arc_value job.code)) (record { turns = job.options.turns; slice = job.options.slice; seats = job.options.workers })
@@ -189,7 +189,7 @@ fn conclude<K: Sink + Drop, D: Device>(job: Job, left: Left<Val, K, D>) -> Repor
         → Headline call result.status (option_map arc_value result.code) end before
         (ends_of K.written K.faults D.device_heard D.device_faults result.sink result.devices.items)) }
 {
-    let Left {
+    let Remains {
         ended,
         mut sink,
         devices,

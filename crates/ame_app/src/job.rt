@@ -12,7 +12,7 @@ ghost use Rattle.ame_cli.specs.Ranges.{AreInRange, IsInRange};
 ghost use Rattle.ame_term.specs.Tree.{Typ};
 ghost use Rattle.ame_term.specs.View.{tree_of};
 ghost use Rattle.ame_term.specs.Typing.{typing};
-ghost use Rattle.ame_app.specs.Calls.{given_by, call_of, options_of, IsTextOf};
+ghost use Rattle.ame_app.specs.Calls.{what_is_given, call_of, options_of, IsTextOf};
 ghost use Rattle.ame_app.specs.Causes.{RefusalCause};
 ghost use Rattle.ame_app.specs.Texts.{IsProgramOf};
 ghost use Rattle.ame_app.specs.Jobs.{IsJobOf, IsTextStatus};
@@ -45,10 +45,10 @@ pub(crate) fn job_of<S: Source>(
 ) -> Result<Job, Status>
     requires few { devices ≤ max_devices }
     ensures job { IfOk result (λ job. IsJobOf (call_of (map string_bytes words.now)
-        (given_by S.left S.faults source.old) (given_by S.left S.faults source.new) devices) (arc_value job.code) job.options) }
+        (what_is_given S.left S.faults source.old) (what_is_given S.left S.faults source.new) devices) (arc_value job.code) job.options) }
     ensures ranges { IfOk result (λ job. AreInRange job.options) }
     ensures refused { IfErr result (RefusalCause (call_of (map string_bytes words.now)
-        (given_by S.left S.faults source.old) (given_by S.left S.faults source.new) devices)) }
+        (what_is_given S.left S.faults source.old) (what_is_given S.left S.faults source.new) devices)) }
 {
     match read_words(alloc, words) {
         Ok(command) => job_of_command(alloc, command, source, devices),
@@ -67,10 +67,10 @@ fn job_of_command<S: Source>(
     requires few { devices ≤ max_devices }
     requires ranges { IsInRange command }
     ensures job { IfOk result (λ job. (words : List Word) → SpellsCommand words command → IsJobOf (call_of words
-        (given_by S.left S.faults source.old) (given_by S.left S.faults source.new) devices) (arc_value job.code) job.options) }
+        (what_is_given S.left S.faults source.old) (what_is_given S.left S.faults source.new) devices) (arc_value job.code) job.options) }
     ensures ranges { IfOk result (λ job. AreInRange job.options) }
     ensures refused { IfErr result (λ status. (words : List Word) → SpellsCommand words command → RefusalCause (call_of words
-        (given_by S.left S.faults source.old) (given_by S.left S.faults source.new) devices) status) }
+        (what_is_given S.left S.faults source.old) (what_is_given S.left S.faults source.new) devices) status) }
 {
     spells_one_command();
     let text = match text_of(alloc, &command, source) {
@@ -105,10 +105,10 @@ fn options_of(command: &Command) -> Options
 /// The text of a command: all bytes of the source, or the generated text.
 fn text_of<S: Source>(alloc: Global, command: &Command, source: &mut S) -> Result<Vec<u8>, Status>
     requires ranges { IsInRange command.now }
-    ensures text { IfOk result (λ text. IsTextOf command.now (given_by S.left S.faults source.old) (given_by S.left S.faults source.new) text.items) }
+    ensures text { IfOk result (λ text. IsTextOf command.now (what_is_given S.left S.faults source.old) (what_is_given S.left S.faults source.new) text.items) }
     ensures most { IfOk result (λ text. vec_len text ≤ READ_LIMIT) }
     ensures refused { IfErr result (λ status. (words : List Word) (devices : ℕ) → SpellsCommand words command.now → RefusalCause (call_of words
-        (given_by S.left S.faults source.old) (given_by S.left S.faults source.new) devices) status) }
+        (what_is_given S.left S.faults source.old) (what_is_given S.left S.faults source.new) devices) status) }
 {
     match command {
         Command::Run(_) => match read_all(alloc, source) {

@@ -4,7 +4,7 @@ ghost use Rattle.std.specs.Prelude.{◌≡◌, [], ◌∷◌, IfOk, IfErr, IfSom
 ghost use Rattle.std.specs.Arc.{arc_value};
 ghost use Rattle.ame_device.specs.Calls.{told, all_told};
 ghost use Rattle.ame_shell.specs.Ends.{ends_of};
-ghost use Rattle.ame_app.specs.Calls.{given_by, call_of};
+ghost use Rattle.ame_app.specs.Calls.{what_is_given, call_of};
 ghost use Rattle.ame_app.specs.Complete.{IsComplete};
 ghost use Rattle.ame_app.specs.Headline.{Headline, IsToldAlone, IsTurnedAway};
 ghost use Rattle.ame_app.specs.Standard.{heard_by, faults_of, with_two_new};
@@ -49,17 +49,17 @@ where
     S: Source,
     K: Sink + Send + Drop,
     ensures ran { IfOk words (λ ws. IfSome result.ended (λ end. Headline (call_of (map string_bytes ws.items)
-        (given_by S.left S.faults source.old) (given_by S.left S.faults source.new) 2)
+        (what_is_given S.left S.faults source.old) (what_is_given S.left S.faults source.new) 2)
         result.status (option_map arc_value result.code) end
         (with_two_new (K.written sink) (K.faults sink))
         (ends_of K.written K.faults heard_by faults_of result.sink result.devices.items))) }
     ensures turned_away { IfOk words (λ ws. result.ended ≡ None → IsTurnedAway (call_of (map string_bytes ws.items)
-        (given_by S.left S.faults source.old) (given_by S.left S.faults source.new) 2)
+        (what_is_given S.left S.faults source.old) (what_is_given S.left S.faults source.new) 2)
         result.status (option_map arc_value result.code)
         (ends_of K.written K.faults heard_by faults_of sink result.devices.items)
         (ends_of K.written K.faults heard_by faults_of result.sink result.devices.items)) }
     ensures complete { IfOk words (λ ws. IsComplete (call_of (map string_bytes ws.items)
-        (given_by S.left S.faults source.old) (given_by S.left S.faults source.new) 2)
+        (what_is_given S.left S.faults source.old) (what_is_given S.left S.faults source.new) 2)
         result.status (with_two_new (K.written sink) (K.faults sink))
         (ends_of K.written K.faults heard_by faults_of result.sink result.devices.items)) }
     ensures unread { IfErr words (λ fault. (result.ended ≡ None) × IsToldAlone (unread fault) result.status (option_map arc_value result.code)

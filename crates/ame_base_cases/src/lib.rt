@@ -1,12 +1,12 @@
-//! Tests of what the runtime stands on: ends, devices, cells, logs, the desk, and the turn.
+//! Tests of what the runtime stands on: ends, devices, cells, logs, the memory, and the turn.
 #![tactic(auto)]
 
-#[cfg(test)]
-mod desks;
 #[cfg(test)]
 mod devices;
 #[cfg(test)]
 mod ends;
+#[cfg(test)]
+mod memories;
 #[cfg(test)]
 mod rows;
 #[cfg(test)]

@@ -3,9 +3,9 @@ use Rattle.std.proofs.Common.{◌≡◌, ℕ, List, [], ◌∷◌, ◌++◌, len
 use Rattle.std.proofs.lemmas.List.{append-nil, map-id, length-set}
 use Rattle.std.proofs.lemmas.List.Elements.{All-nil, All-cons}
 use Rattle.ame_baton.specs.declared.view.Knows.{Knows}
-use Rattle.ame_baton.specs.declared.view.Left.{Left}
+use Rattle.ame_baton.specs.declared.view.LastSeen.{LastSeen}
 use Rattle.ame_baton.specs.declared.tally.Tally.{Tally}
-use Rattle.ame_baton.specs.Seats.{entries_of, Takes, MayGive, Gives, Ends}
+use Rattle.ame_baton.specs.Seats.{entries_by, Takes, MayGive, Gives, HasEnded}
 use Rattle.ame_baton.specs.Tallies.{TallyStandsFor, Counts, IsAsBefore, times_of}
 use Rattle.ame_baton.proofs.Keeping.{entries_given, row_kept}
 use Rattle.ame_baton.proofs.Taking.{and_of, may_give, stands_now, row_now, set_again}
@@ -44,7 +44,7 @@ module _ (before k : Known) (t t' : Tally) (taken : Takes TallyStandsFor own bef
       (ap (λ l. slice_get l before.number) is)
 
 -- at the end a seat that left so many entries of its own is in the log so often
-pub counted_at_end : (fixed : Option ℕ) (seats : List (Left ℕ ℕ)) (t : Tally) (n times : ℕ) (it : Left ℕ ℕ) → Ends TallyStandsFor 0 own fixed seats t → slice_get seats n ≡ Some it → length it.own ≡ times → times_of n t ≡ times
+pub counted_at_end : (fixed : Option ℕ) (seats : List (LastSeen ℕ ℕ)) (t : Tally) (n times : ℕ) (it : LastSeen ℕ ℕ) → HasEnded TallyStandsFor 0 own fixed seats t → slice_get seats n ≡ Some it → length it.own ≡ times → times_of n t ≡ times
 counted_at_end fixed seats t n times it e at is =
     let log : e.entries ≡ t.log.items = and_of (λ f. TallyStandsFor t f e.rows e.entries) (e.entries ≡ t.log.items) fixed (λ f h. h.2) e.stands in
-    ap (λ l. length (entries_of own n l)) (sym log) ∙ (ap length (e.stays n it at).own ∙ is)
+    ap (λ l. length (entries_by own n l)) (sym log) ∙ (ap length (e.stays n it at).own ∙ is)

@@ -5,14 +5,14 @@ use lib.ListN.{get_elem?}
 use Rattle.crossbeam_queue.specs.Fifo.{Merges}
 use Rattle.crossbeam_queue.proofs.Lists.{set_else}
 use Rattle.ame_baton.specs.declared.view.Knows.{Knows}
-use Rattle.ame_baton.specs.declared.view.Left.{Left}
+use Rattle.ame_baton.specs.declared.view.LastSeen.{LastSeen}
 use Rattle.ame_baton.specs.Seats.{left_by, Stays}
-use Rattle.ame_baton.specs.Rule.{nothing_known, Truth, Agrees, Fits, TurnIs}
+use Rattle.ame_baton.specs.Rule.{nothing_known, Truth, Agrees, KnowsTruth, TurnIs}
 use Rattle.ame_baton.proofs.Lookups.{get_snoc, at_within, all_set}
 use Rattle.ame_baton.proofs.Reading.{Rule, beyond, not_holder, opened, seated, not_both, Place}
 
 module _ {S F R E : Type 0} (stands_for : S → F → List R → List E → Type 0) (empty : R) (seat_of : E → ℕ) where
-  turn_joined : (t : Truth F R E) (ended : List (Left R E)) (views : List (Knows F R E)) (port other : ℕ) (v u b spent : Knows F R E) (items : List S) → get_elem? views port ≡ some v → v.holds ≡ false → b.holds ≡ false
+  turn_joined : (t : Truth F R E) (ended : List (LastSeen R E)) (views : List (Knows F R E)) (port other : ℕ) (v u b spent : Knows F R E) (items : List S) → get_elem? views port ≡ some v → v.holds ≡ false → b.holds ≡ false
       → get_elem? views other ≡ some u → u.holds ≡ false → spent.holds ≡ false → TurnIs stands_for t views items → TurnIs stands_for (record t { ended = ended }) (set (set views port b) other spent) items
   turn_joined t ended views port other v u b spent [] at free bfree was ufree sfree turn =
       let apart = not_holder stands_for empty seat_of views turn.0 port turn.1 v turn.2 turn.3 at free in
@@ -30,7 +30,7 @@ module _ {S F R E : Type 0} (stands_for : S → F → List R → List E → Type
       (turn.0, all_set P (set views port b) other spent sfree (λ j w _ e. all_set P views port b bfree (λ j w ne e. turn.1 j w e) j w e))
   turn_joined t ended views port other v u b spent (y ∷ z ∷ zs) at free bfree was ufree sfree turn = absurd turn
 
-  fits_joined : (t : Truth F R E) (it : Left R E) (j : ℕ) (u : Knows F R E) → j ≢ 0 → j ≢ length t.ended + 1 → Fits seat_of t j u → Fits seat_of (record t { ended = t.ended ++ it ∷ [] }) j u
+  fits_joined : (t : Truth F R E) (it : LastSeen R E) (j : ℕ) (u : Knows F R E) → j ≢ 0 → j ≢ length t.ended + 1 → KnowsTruth seat_of t j u → KnowsTruth seat_of (record t { ended = t.ended ++ it ∷ [] }) j u
   fits_joined t it j u ne ne' fits = let long = length-append t.ended (it ∷ []) in
       ⊎_elim (λ (x : (0 < j) × (j ≤ length t.ended) × (u.fixed ≡ None) × (u.holds ≡ false)). inl (x.0, omega arith, x.2, x.3))
       (λ (x : Place (length t.ended) j × Agrees seat_of t j u). let far = beyond stands_for empty seat_of (length t.ended) j x.0 ne in
@@ -52,7 +52,7 @@ module _ {S F R E : Type 0} (stands_for : S → F → List R → List E → Type
       let within = at_within views other u was in let made = o.made in
       let vs : List (Knows F R E) = set views port both in
       let counts : length (set vs other spent) ≡ length views = length-set vs other spent ∙ length-set views port both in
-      let mine : Fits seat_of t' port both = inr (
+      let mine : KnowsTruth seat_of t' port both = inr (
         inl port_is,
         record {
           number = a.number;
@@ -62,17 +62,17 @@ module _ {S F R E : Type 0} (stands_for : S → F → List R → List E → Type
           leads = λ z. (led.0, ap (λ l. l ++ left_by u ∷ []) led.1);
         },
       ) in
-      let gone : Fits seat_of t' other spent = inl (omega arith, omega arith, refl, refl) in
+      let gone : KnowsTruth seat_of t' other spent = inl (omega arith, omega arith, refl, refl) in
       inr (
         t',
         record {
           made = made ∙ sym counts;
           enough = o.enough;
           some_left = omega arith;
-          each = all_set (Fits seat_of t') vs other spent gone (λ j w ne e. all_set (λ j w. j ≢ other → Fits seat_of t' j w) views port both (λ _. mine)
+          each = all_set (KnowsTruth seat_of t') vs other spent gone (λ j w ne e. all_set (λ j w. j ≢ other → KnowsTruth seat_of t' j w) views port both (λ _. mine)
               (λ j w ne' e' ne''. fits_joined t (left_by u) j w (λ z. ne' (z ∙ sym port_is)) (λ z. ne'' (z ∙ sym other_is)) (o.each j w e')) j w e ne);
           joined = λ i it e. ⊎_elim (λ (old : slice_get t.ended i ≡ Some it). o.joined i it old)
-              (λ (new : (i ≡ length t.ended) × (left_by u ≡ it)). subst (λ (y : ℕ × Left R E). Stays seat_of y.0 y.1 t.rows t.entries) (λ k. ((other_is ∙ ap (λ n. n + 1) (sym new.0)) k, new.1 k)) b.stays)
+              (λ (new : (i ≡ length t.ended) × (left_by u ≡ it)). subst (λ (y : ℕ × LastSeen R E). Stays seat_of y.0 y.1 t.rows t.entries) (λ k. ((other_is ∙ ap (λ n. n + 1) (sym new.0)) k, new.1 k)) b.stays)
               (get_snoc t.ended (left_by u) it i e);
           not_made = o.not_made;
           turn = turn_joined t (t.ended ++ left_by u ∷ []) views port other v u both spent items at free free was ufree refl o.turn;

@@ -4,8 +4,8 @@ use Rattle.std.proofs.lemmas.Bool.{cases_lt}
 use Rattle.std.proofs.lemmas.List.{append_cancel_left, map-set}
 use Rattle.std.proofs.lemmas.Option.{slice_get-map}
 use Rattle.ame_baton.specs.declared.view.Knows.{Knows}
-use Rattle.ame_baton.specs.declared.view.Left.{Left}
-use Rattle.ame_baton.specs.Seats.{entries_of, Takes, Gives, Ends}
+use Rattle.ame_baton.specs.declared.view.LastSeen.{LastSeen}
+use Rattle.ame_baton.specs.Seats.{entries_by, Takes, Gives, HasEnded}
 use Rattle.ame_baton.specs.Keeping.{KeepsSeat, FindsAsLeft, HasGiven, ShowsRows, ShowsEntries, IsLeftOrEmpty}
 use Rattle.ame_baton.proofs.Lookups.{get_set_here, get_there, get_within}
 use Rattle.ame_baton.proofs.Taking.{and_of, row_now, stands_now}
@@ -38,7 +38,7 @@ module _ {S F R E : Type 0} (stands_for : S → F → List R → List E → Type
     own = ap (λ (k : Knows F R E). k.own) same;
     found = row_now stands_for seat_of before after state t ∙ ap Some row;
     goes_on = t.stays.goes_on;
-    each = ap (λ n. entries_of seat_of n after.seen) number ∙ t.stays.own;
+    each = ap (λ n. entries_by seat_of n after.seen) number ∙ t.stays.own;
   }
 
   module _ (leaves : R → Type 0) where
@@ -110,12 +110,12 @@ module _ {S F R E : Type 0} (stands_for : S → F → List R → List E → Type
           ∙ slice_get-map shown holding.rows holding.number ∙ ap (option_map shown) finds.found in
           some_is (shown after.row) (shown before.row) (sym row_given ∙ ap (slice_get (rows_in given)) (number_is ∙ finds.keeps.number) ∙ same ∙ was)
 
-module _ {S F R E : Type 0} (stands_for : S → F → List R → List E → Type 0) (empty : R) (seat_of : E → ℕ) (fixed : Option F) (seats : List (Left R E)) (state : S) (e : Ends stands_for empty seat_of fixed seats state) where
+module _ {S F R E : Type 0} (stands_for : S → F → List R → List E → Type 0) (empty : R) (seat_of : E → ℕ) (fixed : Option F) (seats : List (LastSeen R E)) (state : S) (e : HasEnded stands_for empty seat_of fixed seats state) where
   pub row_at_end : (n : ℕ) (row : R) → slice_get e.rows n ≡ Some row → IsLeftOrEmpty empty seats n row
   row_at_end n row at = ⊎_elim (λ (lt : n < length seats). let there = get_there seats n lt in inl (there.0, there.1, some_is row there.0.row (sym at ∙ (e.stays n there.0 there.1).row)))
       (λ (le : length seats ≤ n). inr (le, (e.not_made n le).row row at)) (cases_lt n (length seats))
 
   -- what each row that was left is, and the empty one, each row at the end is
-  pub rows_at_end : (P : R → Type 0) → P empty → ((n : ℕ) (it : Left R E) → slice_get seats n ≡ Some it → P it.row) → (n : ℕ) (row : R) → slice_get e.rows n ≡ Some row → P row
-  rows_at_end P none each n row at = ⊎_elim (λ (x : (it : Left R E) × (slice_get seats n ≡ Some it) × (row ≡ it.row)). subst P (sym x.2) (each n x.0 x.1))
+  pub rows_at_end : (P : R → Type 0) → P empty → ((n : ℕ) (it : LastSeen R E) → slice_get seats n ≡ Some it → P it.row) → (n : ℕ) (row : R) → slice_get e.rows n ≡ Some row → P row
+  rows_at_end P none each n row at = ⊎_elim (λ (x : (it : LastSeen R E) × (slice_get seats n ≡ Some it) × (row ≡ it.row)). subst P (sym x.2) (each n x.0 x.1))
       (λ (x : (length seats ≤ n) × (row ≡ empty)). subst P (sym x.1) none) (row_at_end n row at)

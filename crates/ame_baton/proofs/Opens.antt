@@ -6,7 +6,7 @@ use lib.ListN.{get_elem?}
 use Rattle.crossbeam_queue.specs.Fifo.{Pushes, Learns}
 use Rattle.ame_baton.specs.declared.view.Knows.{Knows}
 use Rattle.ame_baton.specs.Seats.{first_seat}
-use Rattle.ame_baton.specs.Rule.{nothing_known, Truth, Agrees, Fits}
+use Rattle.ame_baton.specs.Rule.{nothing_known, Truth, Agrees, KnowsTruth}
 use Rattle.ame_baton.proofs.Lookups.{get_replicate, get_replicate_in, all_snoc}
 use Rattle.ame_baton.proofs.Reading.{Open, Rule, Place}
 
@@ -14,7 +14,7 @@ module _ {S F R E : Type 0} (stands_for : S → F → List R → List E → Type
   just_opened : (x : S) (f : F) (seats : ℕ) → 0 < seats → stands_for x f (replicate seats empty) [] → Rule stands_for empty seat_of (x ∷ []) (first_seat f seats empty ∷ [])
   just_opened x f seats some_seat stands = let t : Truth F R E = record { fixed = f; rows = replicate seats empty; entries = []; made = 1; ended = [] } in
       let w : Knows F R E = first_seat f seats empty in
-      let mine : Fits seat_of t 0 w = inr (
+      let mine : KnowsTruth seat_of t 0 w = inr (
         inl refl,
         record {
           number = refl;
@@ -30,7 +30,7 @@ module _ {S F R E : Type 0} (stands_for : S → F → List R → List E → Type
           made = refl;
           enough = omega (arith, length-replicate seats empty);
           some_left = omega arith;
-          each = all_snoc (Fits seat_of t) [] w mine (λ j u e. absurd (some-ne-none u (sym e)));
+          each = all_snoc (KnowsTruth seat_of t) [] w mine (λ j u e. absurd (some-ne-none u (sym e)));
           joined = λ i it e. cc;
           not_made = λ n le. record { row = λ r e. get_replicate seats empty r n e; none = refl };
           turn = (stands, all_snoc (λ j (u : Knows F R E). u.holds ≡ false) [] w refl (λ j u e. absurd (some-ne-none u (sym e))));

@@ -5,9 +5,9 @@ use lib.ListN.{get_elem?}
 use Rattle.crossbeam_queue.specs.Fifo.{Pops, Learns}
 use Rattle.crossbeam_queue.proofs.Lists.{set_here}
 use Rattle.ame_baton.specs.declared.view.Knows.{Knows}
-use Rattle.ame_baton.specs.declared.view.Left.{Left}
+use Rattle.ame_baton.specs.declared.view.LastSeen.{LastSeen}
 use Rattle.ame_baton.specs.Seats.{left_by, Stays, IsUntouched, IsElsewhere}
-use Rattle.ame_baton.specs.Rule.{Truth, Agrees, Fits, TurnIs, Popped}
+use Rattle.ame_baton.specs.Rule.{Truth, Agrees, KnowsTruth, TurnIs, Popped}
 use Rattle.ame_baton.proofs.Lookups.{at_within, all_set, prefix_self}
 use Rattle.ame_baton.proofs.Reading.{Rule, beyond, opened, seated, not_both, Place}
 
@@ -28,7 +28,7 @@ module _ {S F R E : Type 0} (stands_for : S → F → List R → List E → Type
   )
   turn_taken t views port v w x (y ∷ ys) at holds rows seen turn = absurd turn
 
-  popped : (t : Truth F R E) (v : Knows F R E) (x : S) (port : ℕ) → Agrees seat_of t port v → ((i : ℕ) (it : Left R E) → slice_get t.ended i ≡ Some it → Stays seat_of (i + 1) it t.rows t.entries)
+  popped : (t : Truth F R E) (v : Knows F R E) (x : S) (port : ℕ) → Agrees seat_of t port v → ((i : ℕ) (it : LastSeen R E) → slice_get t.ended i ≡ Some it → Stays seat_of (i + 1) it t.rows t.entries)
       → ((n : ℕ) → t.made ≤ n → IsUntouched empty seat_of n t.rows t.entries) → stands_for x t.fixed t.rows t.entries
       → Popped stands_for empty seat_of v x (record v { holds = true; rows = t.rows; seen = t.entries })
   popped t v x port a joined not_made stands = record {
@@ -50,7 +50,7 @@ module _ {S F R E : Type 0} (stands_for : S → F → List R → List E → Type
       let s = seated stands_for empty seat_of t (x ∷ items) views port v is o at in
       let w : Knows F R E = record v { holds = true; rows = t.rows; seen = t.entries } in
       let taken = turn_taken t views port v w x items at refl refl refl o.turn in
-      let mine : Fits seat_of t port w = inr (
+      let mine : KnowsTruth seat_of t port w = inr (
         s.0,
         record {
           number = s.1.number;
@@ -67,7 +67,7 @@ module _ {S F R E : Type 0} (stands_for : S → F → List R → List E → Type
             made = o.made ∙ sym (length-set views port w);
             enough = o.enough;
             some_left = o.some_left;
-            each = all_set (Fits seat_of t) views port w mine (λ j u ne e. o.each j u e);
+            each = all_set (KnowsTruth seat_of t) views port w mine (λ j u ne e. o.each j u e);
             joined = o.joined;
             not_made = o.not_made;
             turn = taken.1;

@@ -4,9 +4,9 @@ use mathlib.Core.Option.{some, some-injective}
 use lib.ListN.{get_elem?}
 use Rattle.crossbeam_queue.specs.Fifo.{Pushes, Learns}
 use Rattle.ame_baton.specs.declared.view.Knows.{Knows}
-use Rattle.ame_baton.specs.declared.view.Left.{Left}
-use Rattle.ame_baton.specs.Seats.{entries_of, left_by, Stays, IsUntouched, MayGive, having_given, Gives}
-use Rattle.ame_baton.specs.Rule.{nothing_known, Truth, Agrees, Fits, TurnIs}
+use Rattle.ame_baton.specs.declared.view.LastSeen.{LastSeen}
+use Rattle.ame_baton.specs.Seats.{entries_by, left_by, Stays, IsUntouched, MayGive, having_given, Gives}
+use Rattle.ame_baton.specs.Rule.{nothing_known, Truth, Agrees, KnowsTruth, TurnIs}
 use Rattle.ame_baton.proofs.Lookups.{get_within, at_within, all_set}
 use Rattle.ame_baton.proofs.Staying.{stays_else, stays_here, untouched_else}
 use Rattle.ame_baton.proofs.Reading.{Open, Rule, opened, seated, not_both, false_where_not, Place}
@@ -31,7 +31,7 @@ module _ {S F R E : Type 0} (stands_for : S → F → List R → List E → Type
         λ j u there h. turn.6 j u there h ∙ sym e,
       )
 
-  stays_given : (t : Truth F R E) (v : Knows F R E) (row : R) (added : List E) → v.rows ≡ t.rows → v.seen ≡ t.entries → All (λ e. seat_of e ≡ v.number) added → (j : ℕ) (it : Left R E) → j ≢ v.number
+  stays_given : (t : Truth F R E) (v : Knows F R E) (row : R) (added : List E) → v.rows ≡ t.rows → v.seen ≡ t.entries → All (λ e. seat_of e ≡ v.number) added → (j : ℕ) (it : LastSeen R E) → j ≢ v.number
       → Stays seat_of j it t.rows t.entries → Stays seat_of j it (set v.rows v.number row) (v.seen ++ added)
   stays_given t v row added rows seen all j it ne s = stays_else seat_of v.number j it v.rows v.seen row added ne all
       (subst (λ (y : List R × List E). Stays seat_of j it y.0 y.1) (λ i. (sym rows i, sym seen i)) s)
@@ -43,7 +43,7 @@ module _ {S F R E : Type 0} (stands_for : S → F → List R → List E → Type
 
   -- another seat's view agrees still, where only rows and entries changed
   fits_given : (t t' : Truth F R E) (j : ℕ) (u : Knows F R E) → t.fixed ≡ t'.fixed → t.made ≡ t'.made → t.ended ≡ t'.ended → length t.rows ≡ length t'.rows
-      → (Stays seat_of j (left_by u) t.rows t.entries → Stays seat_of j (left_by u) t'.rows t'.entries) → Fits seat_of t j u → Fits seat_of t' j u
+      → (Stays seat_of j (left_by u) t.rows t.entries → Stays seat_of j (left_by u) t'.rows t'.entries) → KnowsTruth seat_of t j u → KnowsTruth seat_of t' j u
   fits_given t t' j u fixed made ended long stays fits = let ends : length t.ended ≡ length t'.ended = ap length ended in
       ⊎_elim (λ (x : (0 < j) × (j ≤ length t.ended) × (u.fixed ≡ None) × (u.holds ≡ false)). inl (x.0, omega arith, x.2, x.3))
       (λ (x : Place (length t.ended) j × Agrees seat_of t j u). inr (
@@ -72,19 +72,19 @@ module _ {S F R E : Type 0} (stands_for : S → F → List R → List E → Type
       let in_rows : v.number < length v.rows = omega (arith, ap length so.0) in
       let own : Stays seat_of port (left_by w) t'.rows t'.entries = subst (λ (n : ℕ). Stays seat_of n (left_by w) t'.rows t'.entries) number
       (stays_here seat_of v.number v.rows v.seen v.own may.row may.added in_rows may.by_seat
-      (subst (λ (y : ℕ × List E). entries_of seat_of y.0 y.1 ≡ v.own) (λ i. (sym number i, sym so.1 i)) a.stays.own)) in
-      let other : (j : ℕ) (it : Left R E) → j ≢ port → Stays seat_of j it t.rows t.entries → Stays seat_of j it t'.rows t'.entries =
+      (subst (λ (y : ℕ × List E). entries_by seat_of y.0 y.1 ≡ v.own) (λ i. (sym number i, sym so.1 i)) a.stays.own)) in
+      let other : (j : ℕ) (it : LastSeen R E) → j ≢ port → Stays seat_of j it t.rows t.entries → Stays seat_of j it t'.rows t'.entries =
       λ j it ne. stays_given t v may.row may.added so.0 so.1 may.by_seat j it (λ e. ne (e ∙ number)) in
       let untouched : (n : ℕ) → n ≢ port → IsUntouched empty seat_of n t.rows t.entries → IsUntouched empty seat_of n t'.rows t'.entries =
       λ n ne. untouched_given t v may.row may.added so.0 so.1 may.by_seat n (λ e. ne (e ∙ number)) in
-      let mine : Fits seat_of t' port w = inr (s.0, record { number = number; opening = a.opening; seats = a.seats ∙ sym long; stays = own; leads = a.leads }) in
+      let mine : KnowsTruth seat_of t' port w = inr (s.0, record { number = number; opening = a.opening; seats = a.seats ∙ sym long; stays = own; leads = a.leads }) in
       inr (
         t',
         record {
           made = made ∙ sym (length-set views port w);
           enough = omega arith;
           some_left = o.some_left;
-          each = all_set (Fits seat_of t') views port w mine (λ j u ne e. fits_given t t' j u refl refl refl (sym long) (other j (left_by u) ne) (o.each j u e));
+          each = all_set (KnowsTruth seat_of t') views port w mine (λ j u ne e. fits_given t t' j u refl refl refl (sym long) (other j (left_by u) ne) (o.each j u e));
           joined = λ i it e. other (i + 1) it (not_joined (length t.ended) port i s.0 (get_within t.ended i it e)) (o.joined i it e);
           not_made = λ n le. untouched n (λ (e : n ≡ port). omega arith) (o.not_made n le);
           turn = (

@@ -1,10 +1,10 @@
 -- Seats in the order of their numbers, and what they left.
 use Rattle.std.proofs.Common.{◌≡◌, ℕ, zero, suc, ◌+◌, List, [], ◌∷◌, ◌++◌, length, map, Some, slice_get, refl, sym, ap, ◌∙◌, ⊎_elim, subst, arith}
 use Rattle.ame_baton.specs.declared.view.Knows.{Knows}
-use Rattle.ame_baton.specs.declared.view.Left.{Left}
+use Rattle.ame_baton.specs.declared.view.LastSeen.{LastSeen}
 use Rattle.ame_baton.specs.declared.seats.SeatAt.{SeatAt}
 use Rattle.ame_baton.specs.declared.turn.Baton.{Baton}
-use Rattle.ame_baton.specs.Seats.{left_by, Stays, IsElsewhere, Ends}
+use Rattle.ame_baton.specs.Seats.{left_by, Stays, IsElsewhere, HasEnded}
 use Rattle.ame_baton.specs.Rule.{OthersStay, Popped}
 use Rattle.ame_baton.specs.Batons.{IsReadySeat, AreReady}
 use Rattle.ame_baton.proofs.Lookups.{get_snoc}
@@ -29,23 +29,23 @@ pub map_snoc : {A B : Type 0} (f : A → B) (l : List A) (x : A) → map f l ++ 
 map_snoc f [] x = refl
 map_snoc f (y ∷ ys) x = ap (λ l. f y ∷ l) (map_snoc f ys x)
 
-pub kept_more : {A F R E : Type 0} (before now next : Knows F R E) (f : A → Left R E) (ys : List A) (y : A) → now ≡ record before { ended = map f ys } → next ≡ record now { ended = now.ended ++ f y ∷ [] }
+pub kept_more : {A F R E : Type 0} (before now next : Knows F R E) (f : A → LastSeen R E) (ys : List A) (y : A) → now ≡ record before { ended = map f ys } → next ≡ record now { ended = now.ended ++ f y ∷ [] }
     → next ≡ record before { ended = map f (ys ++ y ∷ []) }
 kept_more {A} {F} {R} {E} before now next f ys y is more = let grown : Knows F R E → Knows F R E = λ k. record k { ended = k.ended ++ f y ∷ [] } in
-    let ended : List (Left R E) → Knows F R E = λ l. record before { ended = l } in more ∙ (ap grown is ∙ ap ended (map_snoc f ys y))
+    let ended : List (LastSeen R E) → Knows F R E = λ l. record before { ended = l } in more ∙ (ap grown is ∙ ap ended (map_snoc f ys y))
 
 pub nothing_left : {A : Type 0} (l : List A) → length l ≡ 0 → l ≡ []
 nothing_left [] h = refl
 nothing_left (x ∷ xs) h = absurd (omega arith)
 
-module _ {S F R E : Type 0} (stands_for : S → F → List R → List E → Type 0) (empty : R) (seat_of : E → ℕ) (first : Knows F R E) (left : List (Left R E)) where
+module _ {S F R E : Type 0} (stands_for : S → F → List R → List E → Type 0) (empty : R) (seat_of : E → ℕ) (first : Knows F R E) (left : List (LastSeen R E)) where
   -- once every seat is joined the turn is nowhere else
   pub none_elsewhere : first.number ≡ 0 → first.made ≡ length left + 1 → IsElsewhere (record first { ended = left }) → ⊥
   none_elsewhere zero_is all it = let range = it.3 zero_is in let least = range.0 in let most = range.1 in omega arith
 
   -- what the first seat pops then is the end
   pub ends : (state : S) (after : Knows F R E) → first.number ≡ 0 → first.made ≡ length left + 1 → Popped stands_for empty seat_of (record first { ended = left }) state after
-      → Ends stands_for empty seat_of first.fixed (left_by first ∷ left) state
+      → HasEnded stands_for empty seat_of first.fixed (left_by first ∷ left) state
   ends state after zero_is all p = let o = p.others zero_is in record {
     rows = after.rows;
     entries = after.seen;
@@ -53,6 +53,6 @@ module _ {S F R E : Type 0} (stands_for : S → F → List R → List E → Type
     stays = each o;
     not_made = λ n le. o.not_made n (omega arith);
   } where
-    each : OthersStay empty seat_of (record first { ended = left }) after.rows after.seen → (n : ℕ) (it : Left R E) → slice_get (left_by first ∷ left) n ≡ Some it → Stays seat_of n it after.rows after.seen
-    each o zero it e = let is : left_by first ≡ it = cc in subst (λ (y : ℕ × Left R E). Stays seat_of y.0 y.1 after.rows after.seen) (λ i. (zero_is i, is i)) p.takes.stays
+    each : OthersStay empty seat_of (record first { ended = left }) after.rows after.seen → (n : ℕ) (it : LastSeen R E) → slice_get (left_by first ∷ left) n ≡ Some it → Stays seat_of n it after.rows after.seen
+    each o zero it e = let is : left_by first ≡ it = cc in subst (λ (y : ℕ × LastSeen R E). Stays seat_of y.0 y.1 after.rows after.seen) (λ i. (zero_is i, is i)) p.takes.stays
     each o (suc n) it e = let P : ℕ → Type 0 = λ k. Stays seat_of k it after.rows after.seen in let e' : n + 1 ≡ suc n = omega arith in subst P e' (o.ended n it e)

@@ -6,7 +6,7 @@ use Rattle.crossbeam_queue.specs.Fifo.{Forks}
 use Rattle.crossbeam_queue.proofs.Lists.{set_else, at_longer}
 use Rattle.ame_baton.specs.declared.view.Knows.{Knows}
 use Rattle.ame_baton.specs.Seats.{left_by, Stays, next_seat}
-use Rattle.ame_baton.specs.Rule.{Truth, Agrees, Fits, TurnIs}
+use Rattle.ame_baton.specs.Rule.{Truth, Agrees, KnowsTruth, TurnIs}
 use Rattle.ame_baton.proofs.Lookups.{get_there, all_set, all_snoc}
 use Rattle.ame_baton.proofs.Reading.{Rule, not_holder, opened, seated, not_both, Place}
 
@@ -28,7 +28,7 @@ module _ {S F R E : Type 0} (stands_for : S → F → List R → List E → Type
       (turn.0, all_snoc P (set views port l) r rfree (all_set P views port l lfree (λ j u ne e. turn.1 j u e)))
   turn_split t n views port v l r (y ∷ z ∷ zs) at free lfree rfree turn = absurd turn
 
-  fits_more : (t : Truth F R E) (j : ℕ) (u : Knows F R E) → j ≢ 0 → Fits seat_of t j u → Fits seat_of (record t { made = t.made + 1 }) j u
+  fits_more : (t : Truth F R E) (j : ℕ) (u : Knows F R E) → j ≢ 0 → KnowsTruth seat_of t j u → KnowsTruth seat_of (record t { made = t.made + 1 }) j u
   fits_more t j u ne fits = ⊎_elim (λ (x : (0 < j) × (j ≤ length t.ended) × (u.fixed ≡ None) × (u.holds ≡ false)). inl x)
       (λ (x : Place (length t.ended) j × Agrees seat_of t j u). inr (x.0, record { number = x.1.number; opening = x.1.opening; seats = x.1.seats; stays = x.1.stays; leads = λ z. absurd (ne z) })) fits
 
@@ -43,8 +43,8 @@ module _ {S F R E : Type 0} (stands_for : S → F → List R → List E → Type
       let made = o.made in let made_is = led.0 in let seats = a.seats in let some_left = o.some_left in
       let there = get_there t.rows v.made (omega arith) in
       let untouched = o.not_made v.made (omega arith) in
-      let mine : Fits seat_of t' port l = inr (s.0, record { number = a.number; opening = a.opening; seats = a.seats; stays = a.stays; leads = λ z. (ap (λ n. n + 1) made_is, led.1) }) in
-      let new : Fits seat_of t' (length (set views port l)) r = inr (
+      let mine : KnowsTruth seat_of t' port l = inr (s.0, record { number = a.number; opening = a.opening; seats = a.seats; stays = a.stays; leads = λ z. (ap (λ n. n + 1) made_is, led.1) }) in
+      let new : KnowsTruth seat_of t' (length (set views port l)) r = inr (
         inr (omega arith),
         record {
           number = made_is ∙ (made ∙ sym count);
@@ -64,7 +64,7 @@ module _ {S F R E : Type 0} (stands_for : S → F → List R → List E → Type
           made = omega (arith, length-append (set views port l) (r ∷ []));
           enough = omega arith;
           some_left = omega arith;
-          each = all_snoc (Fits seat_of t') (set views port l) r new (all_set (Fits seat_of t') views port l mine
+          each = all_snoc (KnowsTruth seat_of t') (set views port l) r new (all_set (KnowsTruth seat_of t') views port l mine
               (λ j u ne e. fits_more t j u (λ z. ne (z ∙ sym port_is)) (o.each j u e)));
           joined = o.joined;
           not_made = λ n le. o.not_made n (omega arith);

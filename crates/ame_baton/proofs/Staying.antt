@@ -2,19 +2,19 @@
 use Rattle.std.proofs.Common.{◌≡◌, ◌≢◌, ℕ, ◌<◌, ◌==◌, eq-eqb, ne_eqb, List, [], ◌∷◌, ◌++◌, length, All, set, sym, refl, ap, ◌∙◌}
 use Rattle.std.proofs.lemmas.List.{append-nil}
 use Rattle.std.proofs.lemmas.List.Elements.{filter-append, All-head, All-tail}
-use Rattle.ame_baton.specs.declared.view.Left.{Left}
-use Rattle.ame_baton.specs.Seats.{entries_of, Stays, IsUntouched}
+use Rattle.ame_baton.specs.declared.view.LastSeen.{LastSeen}
+use Rattle.ame_baton.specs.Seats.{entries_by, Stays, IsUntouched}
 use Rattle.ame_baton.proofs.Lookups.{get_set_here, get_set_else, prefix_self, prefix_more}
 
 module _ {E : Type 0} (seat_of : E → ℕ) where
-  pub entries_own : (n : ℕ) (added : List E) → All (λ e. seat_of e ≡ n) added → entries_of seat_of n added ≡ added
+  pub entries_own : (n : ℕ) (added : List E) → All (λ e. seat_of e ≡ n) added → entries_by seat_of n added ≡ added
   entries_own n [] all = refl
   entries_own n (e ∷ es) all =
       let here = eq-eqb (seat_of e) n (All-head (λ e. seat_of e ≡ n) e es all) in
       let later = entries_own n es (All-tail (λ e. seat_of e ≡ n) e es all) in
       rw here (ap (λ w. e ∷ w) later)
 
-  pub entries_none : (n m : ℕ) (added : List E) → m ≢ n → All (λ e. seat_of e ≡ n) added → entries_of seat_of m added ≡ []
+  pub entries_none : (n m : ℕ) (added : List E) → m ≢ n → All (λ e. seat_of e ≡ n) added → entries_by seat_of m added ≡ []
   entries_none n m [] ne all = refl
   entries_none n m (e ∷ es) ne all =
       let here = ne_eqb (seat_of e) m (λ is. ne (sym is ∙ All-head (λ e. seat_of e ≡ n) e es all)) in
@@ -22,12 +22,12 @@ module _ {E : Type 0} (seat_of : E → ℕ) where
       rw here later
 
   -- the entries of another number, after new ones of the number n
-  pub entries_else : (n m : ℕ) (entries added : List E) → m ≢ n → All (λ e. seat_of e ≡ n) added → entries_of seat_of m (entries ++ added) ≡ entries_of seat_of m entries
+  pub entries_else : (n m : ℕ) (entries added : List E) → m ≢ n → All (λ e. seat_of e ≡ n) added → entries_by seat_of m (entries ++ added) ≡ entries_by seat_of m entries
   entries_else n m entries added ne all =
-      filter-append (λ e. seat_of e == m) entries added ∙ (ap (λ w. entries_of seat_of m entries ++ w) (entries_none n m added ne all) ∙ append-nil (entries_of seat_of m entries))
+      filter-append (λ e. seat_of e == m) entries added ∙ (ap (λ w. entries_by seat_of m entries ++ w) (entries_none n m added ne all) ∙ append-nil (entries_by seat_of m entries))
 
 module _ {R E : Type 0} (seat_of : E → ℕ) where
-  pub stays_else : (n m : ℕ) (it : Left R E) (rows : List R) (entries : List E) (row : R) (added : List E) → m ≢ n → All (λ e. seat_of e ≡ n) added
+  pub stays_else : (n m : ℕ) (it : LastSeen R E) (rows : List R) (entries : List E) (row : R) (added : List E) → m ≢ n → All (λ e. seat_of e ≡ n) added
       → Stays seat_of m it rows entries → Stays seat_of m it (set rows n row) (entries ++ added)
   stays_else n m it rows entries row added ne all s = record {
     row = get_set_else rows n m row ne ∙ s.row;
@@ -35,12 +35,12 @@ module _ {R E : Type 0} (seat_of : E → ℕ) where
     own = entries_else seat_of n m entries added ne all ∙ s.own;
   }
 
-  pub stays_here : (n : ℕ) (rows : List R) (entries own : List E) (row : R) (added : List E) → n < length rows → All (λ e. seat_of e ≡ n) added → entries_of seat_of n entries ≡ own
+  pub stays_here : (n : ℕ) (rows : List R) (entries own : List E) (row : R) (added : List E) → n < length rows → All (λ e. seat_of e ≡ n) added → entries_by seat_of n entries ≡ own
       → Stays seat_of n (record { row = row; seen = entries ++ added; own = own ++ added }) (set rows n row) (entries ++ added)
   stays_here n rows entries own row added lt all is = record {
     row = get_set_here rows n row lt;
     goes_on = prefix_self (entries ++ added);
-    own = filter-append (λ e. seat_of e == n) entries added ∙ (ap (λ w. w ++ entries_of seat_of n added) is ∙ ap (λ w. own ++ w) (entries_own seat_of n added all));
+    own = filter-append (λ e. seat_of e == n) entries added ∙ (ap (λ w. w ++ entries_by seat_of n added) is ∙ ap (λ w. own ++ w) (entries_own seat_of n added all));
   }
 
   pub untouched_else : (empty : R) (n m : ℕ) (rows : List R) (entries : List E) (row : R) (added : List E) → m ≢ n → All (λ e. seat_of e ≡ n) added

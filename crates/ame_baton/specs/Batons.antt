@@ -2,7 +2,7 @@
 use Rattle.std.specs.Prelude.{◌≡◌, ℕ, ◌+◌, false, List, Some, map, slice_get}
 use Rattle.crossbeam_queue.specs.Passes.{view, IsPassOf}
 use Rattle.ame_baton.specs.declared.view.Knows.{Knows}
-use Rattle.ame_baton.specs.declared.view.Left.{Left}
+use Rattle.ame_baton.specs.declared.view.LastSeen.{LastSeen}
 use Rattle.ame_baton.specs.declared.seats.SeatAt.{SeatAt}
 use Rattle.ame_baton.specs.declared.turn.Baton.{Baton}
 use Rattle.ame_baton.specs.Seats.{left_by}
@@ -12,7 +12,7 @@ abbrev pub knows : {S F R E : Type 0} → SeatAt S F R E → Knows F R E
 knows seat = view seat.pass
 
 -- what each seat left
-abbrev pub left_by_each : {S F R E : Type 0} → List (SeatAt S F R E) → List (Left R E)
+abbrev pub left_by_each : {S F R E : Type 0} → List (SeatAt S F R E) → List (LastSeen R E)
 left_by_each seats = map (λ seat. left_by (knows seat)) seats
 
 -- this baton made the seat

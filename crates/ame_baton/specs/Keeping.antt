@@ -2,8 +2,8 @@
 use Rattle.std.specs.Prelude.{◌≡◌, ℕ, ◌≤◌, ◌⊎◌, true, false, List, ◌++◌, length, map, All, Some, slice_get}
 use mathlib.Core.List.{IsPrefix}
 use Rattle.ame_baton.specs.declared.view.Knows.{Knows}
-use Rattle.ame_baton.specs.declared.view.Left.{Left}
-use Rattle.ame_baton.specs.Seats.{entries_of}
+use Rattle.ame_baton.specs.declared.view.LastSeen.{LastSeen}
+use Rattle.ame_baton.specs.Seats.{entries_by}
 
 -- what no turn changes: the seat's number, the fixed part, how many seats there can be, and what seat 0 knows of the others
 pub record KeepsSeat {F R E : Type 0} (before after : Knows F R E) : Type 0 where
@@ -21,7 +21,7 @@ pub record FindsAsLeft {F R E : Type 0} (seat_of : E → ℕ) (before after : Kn
   pub own : after.own ≡ before.own
   pub found : slice_get after.rows after.number ≡ Some before.row
   pub goes_on : IsPrefix before.seen after.seen
-  pub each : entries_of seat_of after.number after.seen ≡ before.own
+  pub each : entries_by seat_of after.number after.seen ≡ before.own
 
 -- the seat gave the turn: its row is one that it may leave, and behind the entries are new ones of its own
 pub record HasGiven {F R E : Type 0} (seat_of : E → ℕ) (leaves : R → Type 0) (before after : Knows F R E) : Type 0 where
@@ -44,5 +44,5 @@ ShowsEntries {S} {F} {R} {E} stands_for entries_in =
     (state : S) (fixed : F) (rows : List R) (entries : List E) → stands_for state fixed rows entries → entries_in state ≡ entries
 
 -- the row is the one that the seat with this number left, or the empty one where there was no such seat
-abbrev pub IsLeftOrEmpty : {R E : Type 0} → R → List (Left R E) → ℕ → R → Type 0
-IsLeftOrEmpty {R} {E} empty seats n row = ((it : Left R E) × (slice_get seats n ≡ Some it) × (row ≡ it.row)) ⊎ ((length seats ≤ n) × (row ≡ empty))
+abbrev pub IsLeftOrEmpty : {R E : Type 0} → R → List (LastSeen R E) → ℕ → R → Type 0
+IsLeftOrEmpty {R} {E} empty seats n row = ((it : LastSeen R E) × (slice_get seats n ≡ Some it) × (row ≡ it.row)) ⊎ ((length seats ≤ n) × (row ≡ empty))

@@ -3,7 +3,7 @@ use Rattle.std.specs.Prelude.{◌≡◌, ℕ, ◌+◌, ◌<◌, ◌≤◌, ◌�
 use mathlib.Core.Option.{some}
 use lib.ListN.{get_elem?}
 use Rattle.ame_baton.specs.declared.view.Knows.{Knows}
-use Rattle.ame_baton.specs.declared.view.Left.{Left}
+use Rattle.ame_baton.specs.declared.view.LastSeen.{LastSeen}
 use Rattle.ame_baton.specs.Seats.{left_by, Stays, IsUntouched, Takes}
 
 -- what is known before the first state is put in; and what a seat knows once it has joined the first one
@@ -28,7 +28,7 @@ pub record Truth (F R E : Type 0) : Type 0 where
   pub rows : List R
   pub entries : List E
   pub made : ℕ
-  pub ended : List (Left R E)
+  pub ended : List (LastSeen R E)
 
 -- the seat at this place has its number, and what it left is there; the first one knows which seats there are
 pub record Agrees {F R E : Type 0} (seat_of : E → ℕ) (truth : Truth F R E) (place : ℕ) (k : Knows F R E) : Type 0 where
@@ -39,8 +39,8 @@ pub record Agrees {F R E : Type 0} (seat_of : E → ℕ) (truth : Truth F R E) (
   pub leads : place ≡ 0 → (k.made ≡ truth.made) × (k.ended ≡ truth.ended)
 
 -- the places from 1 to the number of seats that ended are spent, and every other one agrees
-abbrev pub Fits : {F R E : Type 0} → (E → ℕ) → Truth F R E → ℕ → Knows F R E → Type 0
-Fits seat_of truth place k =
+abbrev pub KnowsTruth : {F R E : Type 0} → (E → ℕ) → Truth F R E → ℕ → Knows F R E → Type 0
+KnowsTruth seat_of truth place k =
     ((0 < place) × (place ≤ length truth.ended) × (k.fixed ≡ None) × (k.holds ≡ false))
     ⊎ (((place ≡ 0) ⊎ (length truth.ended < place)) × Agrees seat_of truth place k)
 
@@ -63,8 +63,8 @@ pub record IsOpen {S F R E : Type 0} (stands_for : S → F → List R → List E
   pub made : truth.made ≡ length views
   pub enough : truth.made ≤ length truth.rows
   pub some_left : length truth.ended < truth.made
-  pub each : (place : ℕ) (k : Knows F R E) → get_elem? views place ≡ some k → Fits seat_of truth place k
-  pub joined : (i : ℕ) (it : Left R E) → slice_get truth.ended i ≡ Some it → Stays seat_of (i + 1) it truth.rows truth.entries
+  pub each : (place : ℕ) (k : Knows F R E) → get_elem? views place ≡ some k → KnowsTruth seat_of truth place k
+  pub joined : (i : ℕ) (it : LastSeen R E) → slice_get truth.ended i ≡ Some it → Stays seat_of (i + 1) it truth.rows truth.entries
   pub not_made : (n : ℕ) → truth.made ≤ n → IsUntouched empty seat_of n truth.rows truth.entries
   pub turn : TurnIs stands_for truth views items
 
@@ -77,7 +77,7 @@ Turns {F = F} {R = R} {E = E} stands_for empty seat_of items views =
 -- ---- what the first seat is told
 -- what the seats left that have joined this one is there, and no number is used that it has not given to a seat
 pub record OthersStay {F R E : Type 0} (empty : R) (seat_of : E → ℕ) (first : Knows F R E) (rows : List R) (entries : List E) : Type 0 where
-  pub ended : (i : ℕ) (it : Left R E) → slice_get first.ended i ≡ Some it → Stays seat_of (i + 1) it rows entries
+  pub ended : (i : ℕ) (it : LastSeen R E) → slice_get first.ended i ≡ Some it → Stays seat_of (i + 1) it rows entries
   pub not_made : (n : ℕ) → first.made ≤ n → IsUntouched empty seat_of n rows entries
 
 -- a pop: the seat takes the state, and the first seat finds what the others left
@@ -93,5 +93,5 @@ pub record IsFirst {F R E : Type 0} (k : Knows F R E) : Type 0 where
   pub free : k.holds ≡ false
 
 -- the first seat, with what the others left
-abbrev pub with_ended : {F R E : Type 0} → Knows F R E → List (Left R E) → Knows F R E
+abbrev pub with_ended : {F R E : Type 0} → Knows F R E → List (LastSeen R E) → Knows F R E
 with_ended first ended = record first { ended = ended }

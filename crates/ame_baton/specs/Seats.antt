@@ -2,27 +2,27 @@
 use Rattle.std.specs.Prelude.{◌≡◌, ◌≢◌, ℕ, ◌<◌, ◌≤◌, ◌==◌, true, false, List, [], ◌++◌, length, filter, All, Option, Some, IsSomeAnd, slice_get, slice_set}
 use mathlib.Core.List.{IsPrefix}
 use Rattle.ame_baton.specs.declared.view.Knows.{Knows}
-use Rattle.ame_baton.specs.declared.view.Left.{Left}
+use Rattle.ame_baton.specs.declared.view.LastSeen.{LastSeen}
 
 -- the entries of one seat, in their order
-abbrev pub entries_of : {E : Type 0} → (E → ℕ) → ℕ → List E → List E
-entries_of seat_of number entries = filter (λ e. seat_of e == number) entries
+abbrev pub entries_by : {E : Type 0} → (E → ℕ) → ℕ → List E → List E
+entries_by seat_of number entries = filter (λ e. seat_of e == number) entries
 
 -- what a seat leaves: its row, the entries that it has seen, and its own
-abbrev pub left_by : {F R E : Type 0} → Knows F R E → Left R E
+abbrev pub left_by : {F R E : Type 0} → Knows F R E → LastSeen R E
 left_by k = record { row = k.row; seen = k.seen; own = k.own }
 
 -- What was left under a number is there: its row is the row that was left, the entries go on from those that were seen,
 -- and the entries of that number are its own, each once and in order.
-pub record Stays {R E : Type 0} (seat_of : E → ℕ) (number : ℕ) (it : Left R E) (rows : List R) (entries : List E) : Type 0 where
+pub record Stays {R E : Type 0} (seat_of : E → ℕ) (number : ℕ) (it : LastSeen R E) (rows : List R) (entries : List E) : Type 0 where
   pub row : slice_get rows number ≡ Some it.row
   pub goes_on : IsPrefix it.seen entries
-  pub own : entries_of seat_of number entries ≡ it.own
+  pub own : entries_by seat_of number entries ≡ it.own
 
 -- no seat has had the number: its row, if there is one, is the empty one, and it has no entries
 pub record IsUntouched {R E : Type 0} (empty : R) (seat_of : E → ℕ) (number : ℕ) (rows : List R) (entries : List E) : Type 0 where
   pub row : (r : R) → slice_get rows number ≡ Some r → r ≡ empty
-  pub none : entries_of seat_of number entries ≡ []
+  pub none : entries_by seat_of number entries ≡ []
 
 -- seat 0 of a baton for so many seats, as it is made
 abbrev pub first_seat : {F R E : Type 0} → F → ℕ → R → Knows F R E
@@ -78,10 +78,10 @@ Gives stands_for seat_of leaves before state after =
 
 -- At the end the state stands for the fixed part of the opening. What each seat left is there, in the order of their
 -- numbers, and no other number was ever used.
-pub record Ends {S F R E : Type 0} (stands_for : S → F → List R → List E → Type 0) (empty : R) (seat_of : E → ℕ)
-    (fixed : Option F) (seats : List (Left R E)) (state : S) : Type 0 where
+pub record HasEnded {S F R E : Type 0} (stands_for : S → F → List R → List E → Type 0) (empty : R) (seat_of : E → ℕ)
+    (fixed : Option F) (seats : List (LastSeen R E)) (state : S) : Type 0 where
   pub rows : List R
   pub entries : List E
   pub stands : IsSomeAnd fixed (λ f. stands_for state f rows entries)
-  pub stays : (n : ℕ) (it : Left R E) → slice_get seats n ≡ Some it → Stays seat_of n it rows entries
+  pub stays : (n : ℕ) (it : LastSeen R E) → slice_get seats n ≡ Some it → Stays seat_of n it rows entries
   pub not_made : (n : ℕ) → length seats ≤ n → IsUntouched empty seat_of n rows entries

@@ -19,11 +19,11 @@ pub struct Knows<F, R, E> {
     /// How many seats the first one has made, itself among them. It is 0 for the others.
     pub made: u32,
     /// What the seats 1, 2 and so on left that have joined the first one.
-    pub ended: LinkedList<Left<R, E>>,
+    pub ended: LinkedList<LastSeen<R, E>>,
 }
 
 /// What a seat leaves behind.
-pub struct Left<R, E> {
+pub struct LastSeen<R, E> {
     pub row: R,
     pub seen: LinkedList<E>,
     pub own: LinkedList<E>,

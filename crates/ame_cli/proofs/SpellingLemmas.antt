@@ -18,7 +18,7 @@ use Rattle.ame_cli.specs.Limits.{word_limit}
 use Rattle.ame_cli.specs.Items.{Word, name_of, bounds_of, default_of, is_same}
 use Rattle.ame_cli.specs.Verbs.{verbs, verb_form, verb_word, verb_named, command_with}
 use Rattle.ame_cli.specs.Numbers.{is_number, number_within, numbers_within}
-use Rattle.ame_cli.specs.Settings.{setting, options_of, command_of}
+use Rattle.ame_cli.specs.Settings.{setting, options_spelled, command_of}
 use Rattle.ame_cli.specs.Screen.{may_stand, may_be_read}
 use Rattle.ame_cli.specs.Grammar.{Part, apart, joined, number, part_words, given, numbers, defaults, SpellsCommand, no_words, verb_first, SpellsNothing}
 use Rattle.ame_cli.specs.Ranges.{IsInBounds, AreInRange, IsInRange}
@@ -142,7 +142,7 @@ option_in options Turns = options.turns
 option_in options Slice = options.slice
 
 -- each option has its setting
-options_are : (allowed : List Item) (values : Item → List Word) (options : Options) → options_of allowed values ≡ Some options
+options_are : (allowed : List Item) (values : Item → List Word) (options : Options) → options_spelled allowed values ≡ Some options
     → (item : Item) → setting allowed item (values item) ≡ Some (option_in options item)
 options_are allowed values options e item =
     let w = came_from (λ workers. option_and_then (λ turns. option_map (λ slice. options_with workers turns slice) (setting allowed Slice (values Slice))) (setting allowed Turns (values Turns))) (setting allowed Workers (values Workers)) options e in
@@ -164,7 +164,7 @@ command_range _ ns options each range = assumption
 command_facts : (named : Verb) (words : List Word) (values : Item → List Word) (command : Command) → command_of named words values ≡ Some command
     → ((item : Item) → AllNumbers (values item) × (length (values item) ≤ 1)) × AllNumbers words × (length words ≡ length (verb_form named).numbers) × IsInRange command
 command_facts named words values command e =
-    let o = came_from (λ options. option_map (λ ns. command_with named ns options) (numbers_within (verb_form named).numbers words)) (options_of (verb_form named).items values) command e in
+    let o = came_from (λ options. option_map (λ ns. command_with named ns options) (numbers_within (verb_form named).numbers words)) (options_spelled (verb_form named).items values) command e in
     let n = mapped_as (λ ns. command_with named ns o.0) (numbers_within (verb_form named).numbers words) command o.2 in
     let each = λ (item : Item). setting_facts (verb_form named).items item (values item) (option_in o.0 item) (options_are (verb_form named).items values o.0 o.1 item) in
     let are = numbers_facts (verb_form named).numbers words n.0 n.1 in

@@ -17,8 +17,8 @@ setting allowed item (value ∷ []) = if list_any (is_same item) allowed then nu
 setting allowed item (value ∷ other ∷ rest) = None
 
 -- the numbers of all options, by the values that each is given
-abbrev pub options_of : List Item → (Item → List Word) → Option Options
-options_of allowed values =
+abbrev pub options_spelled : List Item → (Item → List Word) → Option Options
+options_spelled allowed values =
     option_and_then (λ workers. option_and_then (λ turns. option_map (λ slice. record { workers = workers; turns = turns; slice = slice })
     (setting allowed Slice (values Slice))) (setting allowed Turns (values Turns))) (setting allowed Workers (values Workers))
 
@@ -26,4 +26,4 @@ options_of allowed values =
 abbrev pub command_of : Verb → List Word → (Item → List Word) → Option Command
 command_of verb words values =
     option_and_then (λ options. option_map (λ numbers. command_with verb numbers options)
-    (numbers_within (verb_form verb).numbers words)) (options_of (verb_form verb).items values)
+    (numbers_within (verb_form verb).numbers words)) (options_spelled (verb_form verb).items values)

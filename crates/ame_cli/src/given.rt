@@ -48,7 +48,7 @@ fn setting_of(allowed: &[Item], item: Item, matches: &ArgMatches) -> Option<u32>
 
 /// The options that a command was given.
 fn options(allowed: &[Item], matches: &ArgMatches) -> Option<Options>
-    ensures { result ≡ spec.options_of allowed.now (λ item. values_in (name_of item) (rows_of (found_of matches.now))) }
+    ensures { result ≡ spec.options_spelled allowed.now (λ item. values_in (name_of item) (rows_of (found_of matches.now))) }
 {
     Some(Options {
         workers: setting_of(allowed, Item::Workers, matches)?,

@@ -3,7 +3,7 @@ use Rattle.std.proofs.Common.{◌≡◌, ℕ, ◌+◌, ◌<◌, false, length, O
 use Rattle.std.specs.Prelude.{unwrap_or}
 use Rattle.std.proofs.lemmas.List.{length-map}
 use Rattle.std.proofs.lemmas.List.Elements.{All-push, All-set}
-use Rattle.ame_term.specs.Tree.{Val, Tree}
+use Rattle.ame_term.specs.Tree.{Val}
 use Rattle.ame_term.specs.Act.{Act}
 use Rattle.ame_term.specs.declared.types.Sort.{Sort}
 use Rattle.ame_term.specs.declared.types.TyNo.{TyNo}
@@ -11,47 +11,48 @@ use Rattle.ame_journal.specs.Replay.{redex_act}
 use Rattle.ame_store.specs.declared.cell.Cell.{Cell}
 use Rattle.ame_store.specs.Changes.{made}
 use Rattle.ame_rows.specs.declared.notes.Undo.TheVariants.{Made}
-use Rattle.ame_local.specs.Local.{LocalState}
-use Rattle.ame_desk.specs.Contents.{Contents, row_at}
-use Rattle.ame_desk.specs.Access.{next_place, allocated_by}
-use Rattle.ame_owed.specs.Shown.{shown_cell}
-use Rattle.ame_owed.specs.SeatRun.{ComesTo}
-use Rattle.ame_runner.specs.declared.wants.Wants.{Wants}
-use Rattle.ame_runner.specs.declared.wants.Wants.TheVariants as wants
-use Rattle.ame_runner.specs.Stage.{Stage}
-use Rattle.ame_runner.specs.Need.{Need, need_of}
-use Rattle.ame_runner.specs.Input.{value_set, value_to_set}
-use Rattle.ame_runner.specs.Comes.{HasNextAct}
-use Rattle.ame_runner.specs.Sound.{IsSoundStage, CanRun}
-use Rattle.ame_runner.proofs.NeedLemmas.{comes_as}
-use Rattle.ame_stands.specs.declared.types.Task.{Task}
-use Rattle.ame_stands.specs.Parts.{Parts, task_at, attempt_of, run_in}
-use Rattle.ame_stands.specs.Shown.{shown_desk}
-use Rattle.ame_stands.specs.Stands.{Stands}
-use Rattle.ame_stands.specs.Alone.{RunsAlone}
-use Rattle.ame_stands.specs.Events.{has_allocated}
-use Rattle.ame_stands.proofs.AloneLemmas.{allocation-alone}
-use Rattle.ame_stands.proofs.AccessLemmas.{allocation-stands}
-use Rattle.ame_stands.proofs.ShownDeskLemmas.{allocation-shown}
-use Rattle.ame_waiting.specs.Waiting.{AreWaiting}
-use Rattle.ame_waiting.specs.Once.{AreNotedOnce}
-use Rattle.ame_waiting.proofs.TaskLemmas.{allocation-waiting}
-use Rattle.ame_waiting.proofs.OnceLemmas.{once-on}
+use Rattle.ame_machine.specs.Run.Local.{LocalState}
+use Rattle.ame_rows.specs.MemoryView.{MemoryView, row_at}
+use Rattle.ame_rows.specs.Access.{next_place, allocated_by}
+use Rattle.ame_protocol.specs.Row.Shown.{shown_cell}
+use Rattle.ame_protocol.specs.Row.SeatRun.{ComesTo}
+use Rattle.ame_machine.specs.declared.wants.Wants.{Wants}
+use Rattle.ame_machine.specs.declared.wants.Wants.TheVariants as wants
+use Rattle.ame_machine.specs.MachineView.{MachineView}
+use Rattle.ame_machine.specs.Need.{Need, need_of}
+use Rattle.ame_machine.specs.Input.{value_set, value_to_set}
+use Rattle.ame_machine.specs.Comes.{HasNextAct}
+use Rattle.ame_machine.specs.Sound.{IsSoundStage, CanRun}
+use Rattle.ame_machine.proofs.NeedLemmas.{comes_as}
+use Rattle.ame_protocol.specs.declared.types.Task.{Task}
+use Rattle.ame_protocol.specs.Engine.Parts.{Parts, task_at, attempt_of, run_in}
+use Rattle.ame_protocol.specs.Engine.Shown.{shown_memory}
+use Rattle.ame_protocol.specs.Engine.Simulates.{Simulates}
+use Rattle.ame_protocol.specs.Engine.Alone.{RunsExclusively}
+use Rattle.ame_protocol.specs.Engine.Events.{has_allocated}
+use Rattle.ame_protocol.proofs.Engine.AloneLemmas.{allocation-alone}
+use Rattle.ame_protocol.proofs.Engine.AccessLemmas.{allocation-stands}
+use Rattle.ame_protocol.proofs.Engine.ShownMemoryLemmas.{allocation-shown}
+use Rattle.ame_protocol.specs.Waits.Waiting.{AreWaiting}
+use Rattle.ame_protocol.specs.Waits.Once.{AreNotedOnce}
+use Rattle.ame_protocol.proofs.Waits.TaskLemmas.{allocation-waiting}
+use Rattle.ame_protocol.proofs.Waits.OnceLemmas.{once-on}
 use Rattle.ame_engine.specs.Core.{Core}
 use Rattle.ame_engine.specs.Causes.{HasCause}
 use Rattle.ame_engine.proofs.CauseLemmas.{task-more, working-cause}
 use Rattle.ame_engine.specs.Counting.{Counted, one_counted}
 use Rattle.ame_engine.specs.Seen.{parts_of, MakesEvent}
-use Rattle.ame_engine.specs.Whole.{IsGoodUndo, AreGoodNotes, IsGoodDesk, IsWhole}
+use Rattle.ame_engine.specs.Whole.{IsGoodUndo, IsGoodLog, IsGoodMemory, IsSound}
 use Rattle.ame_engine.specs.AtWork.{IsOnSeat, IsOn}
 use Rattle.ame_engine.proofs.CountLemmas.{one-counts}
 use Rattle.ame_engine.proofs.ReadLemmas.{row-good, runs-as, comes-to}
 use Rattle.ame_engine.proofs.RunLemmas.{can-run}
 use Rattle.ame_engine.specs.Lone.{IsLone}
 use Rattle.ame_engine.proofs.LoneLemmas.{allocation-lone}
-use Rattle.ame_engine.specs.Bounds.{IsBounded}
+use Rattle.ame_engine.specs.Bounds.{KeepsBounds}
 use Rattle.ame_engine.proofs.BoundLemmas.{allocation-bounded}
 use Rattle.ame_engine.specs.declared.stop.Stop.{Stop}
+use Rattle.ame_machine.specs.Meaning.{Meaning}
 
 -- The sort and the form of the cell that is wanted
 
@@ -66,13 +67,13 @@ number-wanted _ d = d
 -- Good values
 
 module _ {V : Type 0} (IsGood : V → Type 0) (seat : ℕ) (sort : Sort) (number : TyNo) (value input : V) (good : IsGood value) (good-input : IsGood input) where
-  desk-good : (c : Contents V) → IsGoodDesk IsGood c → IsGoodDesk IsGood (allocated_by seat sort number value input c)
-  desk-good c whole =
+  memory-good : (c : MemoryView V) → IsGoodMemory IsGood c → IsGoodMemory IsGood (allocated_by seat sort number value input c)
+  memory-good c whole =
       let row = row_at c.rows seat in
       let its = row-good IsGood c.rows seat whole.rows in
       record {
         cells = All-push (λ (cell : Cell V). IsGood cell.value) c.cells (made sort number value (Some seat)) whole.cells good;
-        rows = All-set (AreGoodNotes IsGood) c.rows seat _ (record {
+        rows = All-set (IsGoodLog IsGood) c.rows seat _ (record {
           inputs = All-push IsGood row.inputs input its.inputs good-input;
           undos = All-push (IsGoodUndo IsGood) row.undos (Made (next_place c.cells)) its.undos tt;
         }) whole.rows;
@@ -80,28 +81,27 @@ module _ {V : Type 0} (IsGood : V → Type 0) (seat : ℕ) (sort : Sort) (number
 
 -- The whole engine
 
-module _ {C V M : Type 0} (program : C → Tree) (devices : C → ℕ) (is_value : C → V → Type 0) (value_of : C → V → Val)
-    (is_machine : C → M → Type 0) (stage : C → M → Stage) (same : V → V → Type 0)
-    (keeps : (code : C) (v w : V) → same v w → is_value code v → is_value code w)
-    (shows : (code : C) (v w : V) → same v w → value_of code v ≡ value_of code w)
-    (core now : Core C V M) (view : core ≡ now) (whole : IsWhole program devices is_value value_of is_machine stage core)
-    (seat : ℕ) (m : M) (sort : Sort) (number : TyNo) (on : IsOn program devices value_of is_machine stage now seat m)
-    (outside : (stage now.code m).inside ≡ false) (wants-it : (stage now.code m).want ≡ Some (wants.Alloc sort number))
-    (sound : IsSoundStage (stage now.code m)) where
+module _ {C V M : Type 0} (meaning : Meaning C V M) (same : V → V → Type 0)
+    (keeps : (code : C) (v w : V) → same v w → meaning.is_value code v → meaning.is_value code w)
+    (shows : (code : C) (v w : V) → same v w → meaning.value_of code v ≡ meaning.value_of code w)
+    (core now : Core C V M) (view : core ≡ now) (whole : IsSound meaning core)
+    (seat : ℕ) (m : M) (sort : Sort) (number : TyNo) (on : IsOn meaning now seat m)
+    (outside : (meaning.stage now.code m).inside ≡ false) (wants-it : (meaning.stage now.code m).want ≡ Some (wants.Alloc sort number))
+    (sound : IsSoundStage (meaning.stage now.code m)) where
   abbrev parts : Parts
-  parts = parts_of program devices value_of stage core
+  parts = parts_of meaning core
 
-  abbrev s : Stage
-  s = stage core.code m
+  abbrev s : MachineView
+  s = meaning.stage core.code m
 
   on' : IsOnSeat parts seat s
-  on' = subst (λ (x : Core C V M). IsOnSeat (parts_of program devices value_of stage x) seat (stage x.code m)) (sym view) on.stands
+  on' = subst (λ (x : Core C V M). IsOnSeat (parts_of meaning x) seat (meaning.stage x.code m)) (sym view) on.stands
 
   outside' : s.inside ≡ false
-  outside' = subst (λ (x : Core C V M). (stage x.code m).inside ≡ false) (sym view) outside
+  outside' = subst (λ (x : Core C V M). (meaning.stage x.code m).inside ≡ false) (sym view) outside
 
   need' : Need.Alloc sort ≡ need_of s
-  need' = subst (λ (x : Core C V M). Need.Alloc sort ≡ need_of (stage x.code m)) (sym view) (sound.told (wants.Alloc sort number) wants-it)
+  need' = subst (λ (x : Core C V M). Need.Alloc sort ≡ need_of (meaning.stage x.code m)) (sym view) (sound.told (wants.Alloc sort number) wants-it)
 
   next-act : (v : Val) × HasNextAct s (Act.Allocates sort v)
   next-act = comes_as s (Need.Alloc sort) need'
@@ -112,101 +112,101 @@ module _ {C V M : Type 0} (program : C → Tree) (devices : C → ℕ) (is_value
   task : task_at parts.tasks seat ≡ Task.Running on'.attempt
   task = runs-as parts seat s on' outside'
 
-  same-count : length parts.desk.cells ≡ length core.desk.cells
-  same-count = length-map core.desk.cells (shown_cell (value_of core.code))
+  same-count : length parts.memory.cells ≡ length core.memory.cells
+  same-count = length-map core.memory.cells (shown_cell (meaning.value_of core.code))
 
-  module _ (left : now.turns < now.limits.turns) (lent value input : V) (lent-good : is_value core.code lent) (sets : value_to_set s ≡ Some (value_of core.code lent))
-      (copied : same lent value) (input-good : is_value core.code input) (place : ℕ) (stands-for : value_of core.code input ≡ Val.Loc place)
-      (place-is : place ≡ length core.desk.cells) (desk : Contents V) (is : desk ≡ allocated_by seat sort number value input core.desk) where
+  module _ (left : now.turns < now.limits.turns) (lent value input : V) (lent-good : meaning.is_value core.code lent) (sets : value_to_set s ≡ Some (meaning.value_of core.code lent))
+      (copied : same lent value) (input-good : meaning.is_value core.code input) (place : ℕ) (stands-for : meaning.value_of core.code input ≡ Val.Loc place)
+      (place-is : place ≡ length core.memory.cells) (memory : MemoryView V) (is : memory ≡ allocated_by seat sort number value input core.memory) where
     left' : core.turns < core.limits.turns
     left' = subst (λ (x : Core C V M). x.turns < x.limits.turns) (sym view) left
 
-    value-is : next-act.0 ≡ value_of core.code value
+    value-is : next-act.0 ≡ meaning.value_of core.code value
     value-is =
         let next : value_to_set s ≡ Some next-act.0 = ap value_set (ap redex_act next-act.1.1 ∙ ap (λ (a : Act). Some a) next-act.1.2) in
         ap (λ (o : Option Val). unwrap_or o next-act.0) (sym next ∙ sets) ∙ shows core.code lent value copied
 
-    input-is : value_of core.code input ≡ Val.Loc (length parts.desk.cells)
+    input-is : meaning.value_of core.code input ≡ Val.Loc (length parts.memory.cells)
     input-is = stands-for ∙ ap Val.Loc (place-is ∙ sym same-count)
 
     abbrev after : Core C V M
-    after = record core { desk = desk; turns = core.turns + 1; counters = one_counted Counted.Alloc core.counters }
+    after = record core { memory = memory; turns = core.turns + 1; counters = one_counted Counted.Alloc core.counters }
 
-    turned : Contents Val → Parts
-    turned d = record parts { desk = d; turns = parts.turns + 1 }
+    turned : MemoryView Val → Parts
+    turned d = record parts { memory = d; turns = parts.turns + 1 }
 
-    parts-allocated : parts_of program devices value_of stage after ≡ has_allocated seat sort number (value_of core.code value) parts
+    parts-allocated : parts_of meaning after ≡ has_allocated seat sort number (meaning.value_of core.code value) parts
     unfolding turned
     parts-allocated =
         ap turned
-        (ap (shown_desk (value_of core.code)) is ∙ allocation-shown (value_of core.code) seat sort number value input core.desk
-        ∙ ap (λ (u : Val). allocated_by seat sort number (value_of core.code value) u parts.desk) input-is)
+        (ap (shown_memory (meaning.value_of core.code)) is ∙ allocation-shown (meaning.value_of core.code) seat sort number value input core.memory
+        ∙ ap (λ (u : Val). allocated_by seat sort number (meaning.value_of core.code value) u parts.memory) input-is)
 
-    stands-allocated : Stands (has_allocated seat sort number (value_of core.code value) parts)
+    stands-allocated : Simulates (has_allocated seat sort number (meaning.value_of core.code value) parts)
     stands-allocated =
-        subst (λ (v : Val). Stands (has_allocated seat sort number v parts)) value-is
+        subst (λ (v : Val). Simulates (has_allocated seat sort number v parts)) value-is
         (allocation-stands parts whole.stands seat on'.attempt task s.steps comes.0 left' sort number next-act.0 comes.1)
 
-    alone-allocated : RunsAlone (has_allocated seat sort number (value_of core.code value) parts)
+    alone-allocated : RunsExclusively (has_allocated seat sort number (meaning.value_of core.code value) parts)
     alone-allocated =
-        subst (λ (v : Val). RunsAlone (has_allocated seat sort number v parts)) value-is
+        subst (λ (v : Val). RunsExclusively (has_allocated seat sort number v parts)) value-is
         (allocation-alone parts whole.stands whole.alone seat on'.attempt task s.steps comes.0 sort number next-act.0 comes.1)
 
-    lone-allocated : IsLone (has_allocated seat sort number (value_of core.code value) parts) (one_counted Counted.Alloc core.counters)
+    lone-allocated : IsLone (has_allocated seat sort number (meaning.value_of core.code value) parts) (one_counted Counted.Alloc core.counters)
     lone-allocated =
         subst (λ (v : Val). IsLone (has_allocated seat sort number v parts) (one_counted Counted.Alloc core.counters)) value-is
         (allocation-lone parts whole.stands core.counters (one_counted Counted.Alloc core.counters) whole.lone refl refl seat on'.attempt task
         s.steps comes.0 sort number next-act.0 comes.1)
 
-    waiting-allocated : AreWaiting (has_allocated seat sort number (value_of core.code value) parts)
-    waiting-allocated = allocation-waiting parts whole.stands seat on'.attempt task whole.waiting sort number (value_of core.code value)
+    waiting-allocated : AreWaiting (has_allocated seat sort number (meaning.value_of core.code value) parts)
+    waiting-allocated = allocation-waiting parts whole.stands seat on'.attempt task whole.waiting sort number (meaning.value_of core.code value)
 
     bounded-allocated : core.stop ≡ None → s.since < core.limits.slice
-        → IsBounded core.stop (one_counted Counted.Alloc core.counters) (has_allocated seat sort number (value_of core.code value) parts)
+        → KeepsBounds core.stop (one_counted Counted.Alloc core.counters) (has_allocated seat sort number (meaning.value_of core.code value) parts)
     bounded-allocated none early =
-        subst (λ (v : Val). IsBounded core.stop (one_counted Counted.Alloc core.counters) (has_allocated seat sort number v parts)) value-is
+        subst (λ (v : Val). KeepsBounds core.stop (one_counted Counted.Alloc core.counters) (has_allocated seat sort number v parts)) value-is
         (allocation-bounded parts whole.stands core.stop none (ap (λ (o : Option Stop). is_some o) none) core.counters (one_counted Counted.Alloc core.counters)
         whole.bounds refl seat on'.attempt task s.steps comes.0 (let since = on'.since in omega arith) sort number next-act.0 comes.1)
 
-    pub whole-allocated : now.stop ≡ None → (stage now.code m).since < now.limits.slice → IsWhole program devices is_value value_of is_machine stage after
+    pub whole-allocated : now.stop ≡ None → (meaning.stage now.code m).since < now.limits.slice → IsSound meaning after
     whole-allocated going early = record {
-      stands = subst Stands (sym parts-allocated) stands-allocated;
+      stands = subst Simulates (sym parts-allocated) stands-allocated;
       limits = whole.limits;
-      desk =
-          subst (IsGoodDesk (is_value core.code)) (sym is)
-          (desk-good (is_value core.code) seat sort number value input (keeps core.code lent value copied lent-good) input-good core.desk whole.desk);
+      memory =
+          subst (IsGoodMemory (meaning.is_value core.code)) (sym is)
+          (memory-good (meaning.is_value core.code) seat sort number value input (keeps core.code lent value copied lent-good) input-good core.memory whole.memory);
       members = whole.members;
       pool = whole.pool;
-      alone = subst RunsAlone (sym parts-allocated) alone-allocated;
+      alone = subst RunsExclusively (sym parts-allocated) alone-allocated;
       lone = subst (λ (x : Parts). IsLone x (one_counted Counted.Alloc core.counters)) (sym parts-allocated) lone-allocated;
-      bounds = subst (λ (x : Parts). IsBounded core.stop (one_counted Counted.Alloc core.counters) x) (sym parts-allocated)
+      bounds = subst (λ (x : Parts). KeepsBounds core.stop (one_counted Counted.Alloc core.counters) x) (sym parts-allocated)
           (bounded-allocated (subst (λ (x : Core C V M). x.stop ≡ None) (sym view) going)
-          (subst (λ (x : Core C V M). (stage x.code m).since < x.limits.slice) (sym view) early));
+          (subst (λ (x : Core C V M). (meaning.stage x.code m).since < x.limits.slice) (sym view) early));
       waiting = subst AreWaiting (sym parts-allocated) waiting-allocated;
       once = subst AreNotedOnce (sym parts-allocated)
-          (once-on parts (has_allocated seat sort number (value_of core.code value) parts) refl (λ i some. some) whole.once);
+          (once-on parts (has_allocated seat sort number (meaning.value_of core.code value) parts) refl (λ i some. some) whole.once);
       caused = subst (HasCause core.stop core.certificates) (sym parts-allocated)
-          (working-cause parts (has_allocated seat sort number (value_of core.code value) parts)
+          (working-cause parts (has_allocated seat sort number (meaning.value_of core.code value) parts)
           (task-more parts whole.stands seat on'.attempt (ap attempt_of task)) (record { program = refl; base = refl; entries = refl }) left' core.stop core.certificates whole.caused);
       counters = one-counts core.turns core.counters whole.counters Counted.Alloc;
       text = whole.text;
     }
 
     -- whatever is told of what is wanted
-    pub makes-allocated : (t : Sort) (n : TyNo) (v : Val) → (stage now.code m).want ≡ Some (wants.Alloc t n) → value_to_set (stage now.code m) ≡ Some v
-        → MakesEvent program devices value_of stage (one_counted Counted.Alloc) (has_allocated seat t n v) now after
+    pub makes-allocated : (t : Sort) (n : TyNo) (v : Val) → (meaning.stage now.code m).want ≡ Some (wants.Alloc t n) → value_to_set (meaning.stage now.code m) ≡ Some v
+        → MakesEvent meaning (one_counted Counted.Alloc) (has_allocated seat t n v) now after
     unfolding sort-wanted number-wanted
     makes-allocated t n v e set =
-        let sets-now : value_to_set (stage now.code m) ≡ Some (value_of core.code value) =
-        subst (λ (x : Core C V M). value_to_set (stage x.code m) ≡ Some (value_of core.code value)) view (sets ∙ ap Some (shows core.code lent value copied)) in
-        let one-value : value_of core.code value ≡ v = ap (λ (o : Option Val). unwrap_or o v) (sym sets-now ∙ set) in
+        let sets-now : value_to_set (meaning.stage now.code m) ≡ Some (meaning.value_of core.code value) =
+        subst (λ (x : Core C V M). value_to_set (meaning.stage x.code m) ≡ Some (meaning.value_of core.code value)) view (sets ∙ ap Some (shows core.code lent value copied)) in
+        let one-value : meaning.value_of core.code value ≡ v = ap (λ (o : Option Val). unwrap_or o v) (sym sets-now ∙ set) in
         let one-sort : sort ≡ t = ap (λ (w : Option Wants). sort-wanted w sort) (sym wants-it ∙ e) in
         let one-number : number ≡ n = ap (λ (w : Option Wants). number-wanted w number) (sym wants-it ∙ e) in
-        subst (λ (x : Val). MakesEvent program devices value_of stage (one_counted Counted.Alloc) (has_allocated seat t n x) now after) one-value
-        (subst (λ (x : Sort). MakesEvent program devices value_of stage (one_counted Counted.Alloc) (has_allocated seat x n (value_of core.code value)) now after) one-sort
-        (subst (λ (x : TyNo). MakesEvent program devices value_of stage (one_counted Counted.Alloc) (has_allocated seat sort x (value_of core.code value)) now after) one-number
-        (subst (λ (x : Core C V M). MakesEvent program devices value_of stage (one_counted Counted.Alloc) (has_allocated seat sort number (value_of core.code value)) x after) view
+        subst (λ (x : Val). MakesEvent meaning (one_counted Counted.Alloc) (has_allocated seat t n x) now after) one-value
+        (subst (λ (x : Sort). MakesEvent meaning (one_counted Counted.Alloc) (has_allocated seat x n (meaning.value_of core.code value)) now after) one-sort
+        (subst (λ (x : TyNo). MakesEvent meaning (one_counted Counted.Alloc) (has_allocated seat sort x (meaning.value_of core.code value)) now after) one-number
+        (subst (λ (x : Core C V M). MakesEvent meaning (one_counted Counted.Alloc) (has_allocated seat sort number (meaning.value_of core.code value)) x after) view
         (record { code = refl; parts = parts-allocated; counted = refl; stop = refl }))))
 
-    pub runs-allocated : now.stop ≡ None → (stage now.code m).since < now.limits.slice → (t : Stage) → IsOnSeat (parts_of program devices value_of stage after) seat t → t.inside ≡ false → CanRun t
-    runs-allocated going early t stands out = can-run (parts_of program devices value_of stage after) (whole-allocated going early).stands seat t stands out
+    pub runs-allocated : now.stop ≡ None → (meaning.stage now.code m).since < now.limits.slice → (t : MachineView) → IsOnSeat (parts_of meaning after) seat t → t.inside ≡ false → CanRun t
+    runs-allocated going early t stands out = can-run (parts_of meaning after) (whole-allocated going early).stands seat t stands out

@@ -12,36 +12,36 @@ use Rattle.ame_pool.specs.Calls.{IsAt, begun, held, machine_of}
 use Rattle.ame_pool.specs.Keeps.{is_inside_at}
 use Rattle.ame_pool.specs.Begin.{oldest}
 use Rattle.ame_pool.proofs.MemberLemmas.{find_passes, found_altered}
-use Rattle.ame_desk.specs.Contents.{Notes, no_notes, row_at}
-use Rattle.ame_runner.specs.Stage.{Stage}
-use Rattle.ame_stands.specs.declared.types.Attempt.{Attempt}
-use Rattle.ame_stands.specs.declared.types.Task.{Task}
-use Rattle.ame_stands.specs.declared.types.Tried.{Tried}
-use Rattle.ame_stands.specs.Parts.{Parts, task_at, term_at}
-use Rattle.ame_stands.specs.Tasks.{MeetsTask}
-use Rattle.ame_stands.specs.Stands.{Stands}
-use Rattle.ame_stands.specs.Alone.{RunsAlone}
-use Rattle.ame_stands.specs.Events.{begun_task, has_begun, one_turn, with_task}
-use Rattle.ame_stands.proofs.StepLemmas.{task_here}
-use Rattle.ame_stands.proofs.HomeLemmas.{begun_stands}
-use Rattle.ame_stands.proofs.AloneEvents.{begun-alone}
-use Rattle.ame_waiting.specs.Waiting.{AreWaiting}
-use Rattle.ame_waiting.specs.Once.{AreNotedOnce}
-use Rattle.ame_waiting.proofs.TaskLemmas.{begin-waiting}
-use Rattle.ame_waiting.proofs.OnceEvents.{begin-once}
+use Rattle.ame_rows.specs.MemoryView.{Log, no_log, row_at}
+use Rattle.ame_machine.specs.MachineView.{MachineView}
+use Rattle.ame_protocol.specs.declared.types.Attempt.{Attempt}
+use Rattle.ame_protocol.specs.declared.types.Task.{Task}
+use Rattle.ame_protocol.specs.declared.types.Tried.{Tried}
+use Rattle.ame_protocol.specs.Engine.Parts.{Parts, task_at, term_at}
+use Rattle.ame_protocol.specs.Engine.Tasks.{MeetsTask}
+use Rattle.ame_protocol.specs.Engine.Simulates.{Simulates}
+use Rattle.ame_protocol.specs.Engine.Alone.{RunsExclusively}
+use Rattle.ame_protocol.specs.Engine.Events.{attempt_after, begun_task, has_begun, one_turn, with_task}
+use Rattle.ame_protocol.proofs.Engine.StepLemmas.{task_here}
+use Rattle.ame_protocol.proofs.Engine.HomeLemmas.{begun_stands}
+use Rattle.ame_protocol.proofs.Engine.AloneEvents.{begun-alone}
+use Rattle.ame_protocol.specs.Waits.Waiting.{AreWaiting}
+use Rattle.ame_protocol.specs.Waits.Once.{AreNotedOnce}
+use Rattle.ame_protocol.proofs.Waits.TaskLemmas.{begin-waiting}
+use Rattle.ame_protocol.proofs.Waits.OnceEvents.{begin-once}
 use Rattle.ame_engine.specs.Core.{Core}
 use Rattle.ame_engine.specs.Causes.{HasCause}
 use Rattle.ame_engine.specs.Counting.{Counted, one_counted}
-use Rattle.ame_stands.specs.Shown.{shown_pool}
+use Rattle.ame_protocol.specs.Engine.Shown.{shown_pool}
 use Rattle.ame_engine.specs.Seen.{parts_of, term_shown, MakesEvent}
-use Rattle.ame_engine.specs.Whole.{resting_at, IsAtRest, IsWhole}
+use Rattle.ame_engine.specs.Whole.{resting_at, IsAtRest, IsSound}
 use Rattle.ame_engine.specs.AtWork.{IsOn}
-use Rattle.ame_engine.specs.Begins.{chance_by, chance_of, attempt_now, begun_by, HasBegun}
-use Rattle.ame_engine.specs.declared.chance.Chance.{Chance}
+use Rattle.ame_engine.specs.Begins.{pick_by, pick_of, begun_by, HasBegun}
+use Rattle.ame_engine.specs.declared.pick.Pick.{Pick}
 use Rattle.ame_pool.specs.declared.oldest.Oldest.{Oldest}
 use Rattle.ame_journal.specs.declared.entry.Entry.{Entry}
-use Rattle.ame_runner.specs.Sound.{CanRun}
-use Rattle.ame_stands.proofs.ShownPoolLemmas.{machine-shown, held-shown}
+use Rattle.ame_machine.specs.Sound.{CanRun}
+use Rattle.ame_protocol.proofs.Engine.ShownPoolLemmas.{machine-shown, held-shown}
 use Rattle.ame_engine.proofs.MemberLemmas.{all_altered, inside-told, ready-machine, inside-same, ready-same}
 use Rattle.ame_engine.proofs.WorkLemmas.{on-begun}
 use Rattle.ame_engine.proofs.RunLemmas.{rest-runs}
@@ -52,158 +52,156 @@ use Rattle.ame_engine.proofs.CauseLemmas.{begins-more, working-cause, empty-memb
 use Rattle.ame_engine.proofs.RollbackLemmas.{good-held}
 use Rattle.ame_engine.proofs.OldestLemmas.{oldest-shown}
 use Rattle.ame_engine.proofs.LoneLemmas.{lone-begun}
-use Rattle.ame_engine.specs.Bounds.{IsBounded, LeavesNoTry}
+use Rattle.ame_engine.specs.Bounds.{KeepsBounds, LeavesNoTry}
 use Rattle.ame_engine.proofs.BoundLemmas.{begun-bounded, idle-leaves_no_try}
+use Rattle.ame_machine.specs.Meaning.{Meaning}
 
-module _ {C V M : Type 0} (program : C → Tree) (devices : C → ℕ) (is_value : C → V → Type 0) (value_of : C → V → Val)
-    (is_machine : C → M → Type 0) (stage : C → M → Stage) where
+module _ {C V M : Type 0} (meaning : Meaning C V M) where
   -- the plain parts, once a seat has begun a member that is inside or not, with this pool
   parts-with : ℕ → ℕ → Core C V M → Bool → Roster Tree → Parts
   parts-with seat number core inside pool =
-      one_turn (with_task seat (begun_task inside (attempt_now number core)) (record (parts_of program devices value_of stage core) { pool = pool }))
+      one_turn (with_task seat (begun_task inside (attempt_after number (core.base ++ core.entries))) (record (parts_of meaning core) { pool = pool }))
 
   pub begun-parts : (seat number : ℕ) (core : Core C V M)
-      → parts_of program devices value_of stage (begun_by seat number core) ≡ has_begun seat number (parts_of program devices value_of stage core)
+      → parts_of meaning (begun_by seat number core) ≡ has_begun seat number (parts_of meaning core)
   unfolding parts-with
   begun-parts seat number core =
-      let pool = shown_pool (term_shown stage core.code) core.pool in
-      ap (parts-with seat number core (is_inside_at core.pool.members number)) (held-shown (term_shown stage core.code) number core.pool)
-      ∙ ap (λ b. parts-with seat number core b (held number pool)) (sym (inside-same (term_shown stage core.code) number core.pool))
+      let pool = shown_pool (term_shown meaning.stage core.code) core.pool in
+      ap (parts-with seat number core (is_inside_at core.pool.members number)) (held-shown (term_shown meaning.stage core.code) number core.pool)
+      ∙ ap (λ b. parts-with seat number core b (held number pool)) (sym (inside-same (term_shown meaning.stage core.code) number core.pool))
 
-  module _ (core : Core C V M) (whole : IsWhole program devices is_value value_of is_machine stage core) (seat number : ℕ)
+  module _ (core : Core C V M) (whole : IsSound meaning core) (seat number : ℕ)
       (within : seat < core.limits.seats) (idle : task_at core.tasks seat ≡ Task.Idle) (first : oldest core.pool ≡ Oldest.Member number)
       (ready : IsAt is_ready number core.pool) (left : core.turns < core.limits.turns) where
-    pub begun-stands : Stands (has_begun seat number (parts_of program devices value_of stage core))
+    pub begun-stands : Simulates (has_begun seat number (parts_of meaning core))
     begun-stands =
-        begun_stands (parts_of program devices value_of stage core) whole.stands seat number idle within
-        (ready-same (term_shown stage core.code) number core.pool ready) left
+        begun_stands (parts_of meaning core) whole.stands seat number idle within
+        (ready-same (term_shown meaning.stage core.code) number core.pool ready) left
 
-    pub begun-whole : core.stop ≡ None → IsWhole program devices is_value value_of is_machine stage (begun_by seat number core)
+    pub begun-whole : core.stop ≡ None → IsSound meaning (begun_by seat number core)
     begun-whole going = record {
-      stands = subst Stands (sym (begun-parts seat number core)) begun-stands;
+      stands = subst Simulates (sym (begun-parts seat number core)) begun-stands;
       limits = whole.limits;
-      desk = whole.desk;
-      members = all_altered number begun (IsAtRest is_machine stage core.code)
+      memory = whole.memory;
+      members = all_altered number begun (IsAtRest meaning.is_machine meaning.stage core.code)
           (λ m rests. record { machine = rests.machine; rests = rests.rests }) core.pool.members whole.members;
       pool = good-held number core.pool whole.pool;
-      alone = subst RunsAlone (sym (begun-parts seat number core))
-          (begun-alone (parts_of program devices value_of stage core) whole.stands whole.alone seat number idle within
-          (oldest-shown (term_shown stage core.code) core.pool ∙ first) (ready-same (term_shown stage core.code) number core.pool ready));
-      lone = lone-begun (parts_of program devices value_of stage core) (parts_of program devices value_of stage (begun_by seat number core)) whole.stands
+      alone = subst RunsExclusively (sym (begun-parts seat number core))
+          (begun-alone (parts_of meaning core) whole.stands whole.alone seat number idle within
+          (oldest-shown (term_shown meaning.stage core.code) core.pool ∙ first) (ready-same (term_shown meaning.stage core.code) number core.pool ready));
+      lone = lone-begun (parts_of meaning core) (parts_of meaning (begun_by seat number core)) whole.stands
           core.counters (one_counted Counted.Begin core.counters) whole.lone seat
           (let seats : length core.tasks ≡ core.limits.seats = whole.stands.bounded.tasks in omega (arith, seats, within)) refl refl refl
-          (is_inside_at core.pool.members number) (attempt_now number core) refl idle refl;
-      bounds = subst (IsBounded core.stop (one_counted Counted.Begin core.counters)) (sym (begun-parts seat number core))
-          (begun-bounded (parts_of program devices value_of stage core) whole.stands core.stop going (ap (λ (o : Option Stop). is_some o) going) core.counters
+          (is_inside_at core.pool.members number) (attempt_after number (core.base ++ core.entries)) refl idle refl;
+      bounds = subst (KeepsBounds core.stop (one_counted Counted.Begin core.counters)) (sym (begun-parts seat number core))
+          (begun-bounded (parts_of meaning core) whole.stands core.stop going (ap (λ (o : Option Stop). is_some o) going) core.counters
           (one_counted Counted.Begin core.counters) whole.bounds refl seat number idle within);
       waiting = subst AreWaiting (sym (begun-parts seat number core))
-          (begin-waiting (parts_of program devices value_of stage core) whole.waiting seat number idle);
+          (begin-waiting (parts_of meaning core) whole.waiting seat number idle);
       once = subst AreNotedOnce (sym (begun-parts seat number core))
-          (begin-once (parts_of program devices value_of stage core) seat number (ready-same (term_shown stage core.code) number core.pool ready) whole.once);
+          (begin-once (parts_of meaning core) seat number (ready-same (term_shown meaning.stage core.code) number core.pool ready) whole.once);
       caused = subst (HasCause core.stop core.certificates) (sym (begun-parts seat number core))
-          (working-cause (parts_of program devices value_of stage core) (has_begun seat number (parts_of program devices value_of stage core))
-          (begins-more (parts_of program devices value_of stage core) number (oldest-shown (term_shown stage core.code) core.pool ∙ first)) (record { program = refl; base = refl; entries = refl }) left
+          (working-cause (parts_of meaning core) (has_begun seat number (parts_of meaning core))
+          (begins-more (parts_of meaning core) number (oldest-shown (term_shown meaning.stage core.code) core.pool ∙ first)) (record { program = refl; base = refl; entries = refl }) left
           core.stop core.certificates whole.caused);
       counters = one-counts core.turns core.counters whole.counters Counted.Begin;
       text = whole.text;
     }
 
-    pub begun-makes : MakesEvent program devices value_of stage (one_counted Counted.Begin) (has_begun seat number) core (begun_by seat number core)
+    pub begun-makes : MakesEvent meaning (one_counted Counted.Begin) (has_begun seat number) core (begun_by seat number core)
     begun-makes = record { code = refl; parts = begun-parts seat number core; counted = refl; stop = refl }
 
     -- the machine of the member that begins
     module _ (held_machine : M) (found : machine_of number core.pool ≡ Some held_machine) where
       rest-by : (o : Option (Member M)) → find number core.pool.members ≡ o
-          → stage core.code held_machine ≡ resting_at (stage core.code held_machine).term (is_inside_at core.pool.members number)
+          → meaning.stage core.code held_machine ≡ resting_at (meaning.stage core.code held_machine).term (is_inside_at core.pool.members number)
       rest-by None e = absurd (some-none (sym found ∙ ap (option_map (λ (m : Member M). m.machine)) e))
         where
           some-none : ◌≡◌ {A = Option M} (Some held_machine) None → ⊥
           some-none h = cc
       rest-by (Some m) e =
-          let rests = (find_passes (IsAtRest is_machine stage core.code) number core.pool.members whole.members m e).rests in
+          let rests = (find_passes (IsAtRest meaning.is_machine meaning.stage core.code) number core.pool.members whole.members m e).rests in
           let same : m.machine ≡ held_machine = ap (λ (o : Option M). unwrap_or o held_machine) (sym (ap (option_map (λ (x : Member M). x.machine)) e) ∙ found) in
           let inside : is_inside_at core.pool.members number ≡ m.inside = inside-told core.pool.members number ∙ ap (λ (o : Option (Member M)). unwrap_or (option_map (λ (x : Member M). x.inside) o) false) e in
-          subst (λ (b : Bool). stage core.code held_machine ≡ resting_at (stage core.code held_machine).term b) (sym inside)
-          (subst (λ (x : M). stage core.code x ≡ resting_at (stage core.code x).term m.inside) same rests)
+          subst (λ (b : Bool). meaning.stage core.code held_machine ≡ resting_at (meaning.stage core.code held_machine).term b) (sym inside)
+          (subst (λ (x : M). meaning.stage core.code x ≡ resting_at (meaning.stage core.code x).term m.inside) same rests)
 
       same-machine : (o : Option (Member M)) → option_map (λ (m : Member M). m.machine) (option_map begun o) ≡ option_map (λ (m : Member M). m.machine) o
       same-machine None = refl
       same-machine (Some m) = refl
 
-      begun-starts : term_at (shown_pool (term_shown stage core.code) (held number core.pool)) number ≡ (stage core.code held_machine).term
+      begun-starts : term_at (shown_pool (term_shown meaning.stage core.code) (held number core.pool)) number ≡ (meaning.stage core.code held_machine).term
       begun-starts =
           ap (λ (o : Option Tree). unwrap_or o unit_tree)
-          (machine-shown (term_shown stage core.code) number (held number core.pool)
-          ∙ ap (option_map (term_shown stage core.code))
+          (machine-shown (term_shown meaning.stage core.code) number (held number core.pool)
+          ∙ ap (option_map (term_shown meaning.stage core.code))
           (ap (option_map (λ (m : Member M). m.machine)) (found_altered number begun (λ m. refl) core.pool.members).here
           ∙ same-machine (find number core.pool.members) ∙ found))
 
       -- a copy of it is where the seat's run stands
-      pub begun-on : (m : M) → stage core.code m ≡ stage core.code held_machine → is_machine core.code m
-          → IsOn program devices value_of is_machine stage (begun_by seat number core) seat m
+      pub begun-on : (m : M) → meaning.stage core.code m ≡ meaning.stage core.code held_machine → meaning.is_machine core.code m
+          → IsOn meaning (begun_by seat number core) seat m
       begun-on m same good = record {
         machine = good;
-        stands = on-begun (parts_of program devices value_of stage (begun_by seat number core)) seat (attempt_now number core)
-            (is_inside_at core.pool.members number) (stage core.code held_machine).term (stage core.code m)
-            (task_here core.tasks seat (begun_task (is_inside_at core.pool.members number) (attempt_now number core)) there)
-            (same ∙ rest-by (find number core.pool.members) refl) begun-starts (ap (λ (notes : Notes Val). notes.inputs) clear) refl;
+        stands = on-begun (parts_of meaning (begun_by seat number core)) seat (attempt_after number (core.base ++ core.entries))
+            (is_inside_at core.pool.members number) (meaning.stage core.code held_machine).term (meaning.stage core.code m)
+            (task_here core.tasks seat (begun_task (is_inside_at core.pool.members number) (attempt_after number (core.base ++ core.entries))) there)
+            (same ∙ rest-by (find number core.pool.members) refl) begun-starts (ap (λ (notes : Log Val). notes.inputs) clear) refl;
       }
         where
           there : seat < length core.tasks
           there = let seats : length core.tasks ≡ core.limits.seats = whole.stands.bounded.tasks in omega (arith, seats, within)
 
-          clear : row_at (parts_of program devices value_of stage core).desk.rows seat ≡ no_notes
-          clear = subst (MeetsTask (parts_of program devices value_of stage core) whole.stands.types seat) idle (whole.stands.seats seat)
+          clear : row_at (parts_of meaning core).memory.rows seat ≡ no_log
+          clear = subst (MeetsTask (parts_of meaning core) whole.stands.types seat) idle (whole.stands.seats seat)
 
       -- it rests
-      pub begun-rests : (m : M) → stage core.code m ≡ stage core.code held_machine
-          → stage core.code m ≡ resting_at (stage core.code m).term (stage core.code m).inside
+      pub begun-rests : (m : M) → meaning.stage core.code m ≡ meaning.stage core.code held_machine
+          → meaning.stage core.code m ≡ resting_at (meaning.stage core.code m).term (meaning.stage core.code m).inside
       begun-rests m same =
           let is = same ∙ rest-by (find number core.pool.members) refl in
-          is ∙ ap (λ (t : Tree). resting_at t (is_inside_at core.pool.members number)) (sym (ap (λ (x : Stage). x.term) is))
-          ∙ ap (resting_at (stage core.code m).term) (sym (ap (λ (x : Stage). x.inside) is))
+          is ∙ ap (λ (t : Tree). resting_at t (is_inside_at core.pool.members number)) (sym (ap (λ (x : MachineView). x.term) is))
+          ∙ ap (resting_at (meaning.stage core.code m).term) (sym (ap (λ (x : MachineView). x.inside) is))
 
       -- and can run
-      pub begun-runs : (m : M) → stage core.code m ≡ stage core.code held_machine → CanRun (stage core.code m)
+      pub begun-runs : (m : M) → meaning.stage core.code m ≡ meaning.stage core.code held_machine → CanRun (meaning.stage core.code m)
       begun-runs m same =
           subst CanRun (sym (same ∙ rest-by (find number core.pool.members) refl))
-          (rest-runs (parts_of program devices value_of stage core) whole.stands number (stage core.code held_machine).term (is_inside_at core.pool.members number)
-          (machine-shown (term_shown stage core.code) number core.pool ∙ ap (option_map (term_shown stage core.code)) found)
-          (inside-same (term_shown stage core.code) number core.pool))
+          (rest-runs (parts_of meaning core) whole.stands number (meaning.stage core.code held_machine).term (is_inside_at core.pool.members number)
+          (machine-shown (term_shown meaning.stage core.code) number core.pool ∙ ap (option_map (term_shown meaning.stage core.code)) found)
+          (inside-same (term_shown meaning.stage core.code) number core.pool))
 
 -- room isn't seen
-module _ {C V M : Type 0} (program : C → Tree) (devices : C → ℕ) (is_value : C → V → Type 0) (value_of : C → V → Val)
-    (is_machine : C → M → Type 0) (stage : C → M → Stage) where
-  pub whole-roomy : (core : Core C V M) → IsWhole program devices is_value value_of is_machine stage core → (tried : List Tried) → tried ≡ core.tried
-      → IsWhole program devices is_value value_of is_machine stage (record core { tried = tried })
+module _ {C V M : Type 0} (meaning : Meaning C V M) where
+  pub whole-roomy : (core : Core C V M) → IsSound meaning core → (tried : List Tried) → tried ≡ core.tried
+      → IsSound meaning (record core { tried = tried })
   whole-roomy core whole tried e =
-      subst (λ (tries : List Tried). IsWhole program devices is_value value_of is_machine stage (record core { tried = tries })) (sym e) whole
+      subst (λ (tries : List Tried). IsSound meaning (record core { tried = tries })) (sym e) whole
 
 -- what a seat meets that may begin a member
-pub chance_member : (spent : Bool) (o : Oldest) (n : ℕ) → chance_by spent o ≡ Chance.Member n → (spent ≡ false) × (o ≡ Oldest.Member n)
-chance_member true (Oldest.Member k) n e = absurd (cc)
-chance_member true Oldest.Wait n e = absurd (cc)
-chance_member true Oldest.Parked n e = absurd (cc)
-chance_member true Oldest.Empty n e = absurd (cc)
-chance_member false (Oldest.Member k) n e = (refl, ap Oldest.Member (ap number-in e))
+pub pick_member : (spent : Bool) (o : Oldest) (n : ℕ) → pick_by spent o ≡ Pick.Member n → (spent ≡ false) × (o ≡ Oldest.Member n)
+pick_member true (Oldest.Member k) n e = absurd (cc)
+pick_member true Oldest.Wait n e = absurd (cc)
+pick_member true Oldest.Parked n e = absurd (cc)
+pick_member true Oldest.Empty n e = absurd (cc)
+pick_member false (Oldest.Member k) n e = (refl, ap Oldest.Member (ap number-in e))
   where
-    number-in : Chance → ℕ
-    number-in (Chance.Member k) = k
+    number-in : Pick → ℕ
+    number-in (Pick.Member k) = k
     number-in _ = 0
-chance_member false Oldest.Wait n e = absurd (cc)
-chance_member false Oldest.Parked n e = absurd (cc)
-chance_member false Oldest.Empty n e = absurd (cc)
+pick_member false Oldest.Wait n e = absurd (cc)
+pick_member false Oldest.Parked n e = absurd (cc)
+pick_member false Oldest.Empty n e = absurd (cc)
 
-module _ {C V M : Type 0} (program : C → Tree) (devices : C → ℕ) (is_value : C → V → Type 0) (value_of : C → V → Val)
-    (is_machine : C → M → Type 0) (stage : C → M → Stage) (same : M → M → Type 0)
-    (keeps : (code : C) (m n : M) → same m n → is_machine code m → is_machine code n)
-    (shows : (code : C) (m n : M) → same m n → stage code m ≡ stage code n)
-    (core now : Core C V M) (view : core ≡ now) (whole : IsWhole program devices is_value value_of is_machine stage core) (seat number : ℕ)
+module _ {C V M : Type 0} (meaning : Meaning C V M) (same : M → M → Type 0)
+    (keeps : (code : C) (m n : M) → same m n → meaning.is_machine code m → meaning.is_machine code n)
+    (shows : (code : C) (m n : M) → same m n → meaning.stage code m ≡ meaning.stage code n)
+    (core now : Core C V M) (view : core ≡ now) (whole : IsSound meaning core) (seat number : ℕ)
     (within : seat < now.limits.seats) (idle : task_at now.tasks seat ≡ Task.Idle) (first : oldest now.pool ≡ Oldest.Member number)
     (ready : IsAt is_ready number now.pool) (left : now.turns < now.limits.turns)
     (task : Task) (inside : Bool) (attempt : Attempt) (base entries : List Entry) (pool : Roster M)
     (task_is : task ≡ begun_task inside attempt) (inside_is : inside ≡ is_inside_at core.pool.members number)
-    (attempt_is : attempt ≡ record { tried = record { number = number; at = length (base ++ entries); steps = 0 }; told = false })
+    (attempt_is : attempt ≡ record { tried = record { number = number; at = length (base ++ entries); steps = 0 }; logged = false })
     (base_is : base ≡ core.base) (entries_are : entries ≡ core.entries) (pool_is : pool ≡ held number core.pool)
     (tried : List Tried) (tried_is : tried ≡ core.tried) where
   abbrev after : Core C V M
@@ -216,13 +214,13 @@ module _ {C V M : Type 0} (program : C → Tree) (devices : C → ℕ) (is_value
   }
 
   attempt-after : List Entry → Attempt
-  attempt-after all = record { tried = record { number = number; at = length all; steps = 0 }; told = false }
+  attempt-after all = record { tried = record { number = number; at = length all; steps = 0 }; logged = false }
 
-  attempt-so : attempt ≡ attempt_now number core
+  attempt-so : attempt ≡ attempt_after number (core.base ++ core.entries)
   unfolding attempt-after
   attempt-so = attempt_is ∙ ap (λ (xs : List Entry). attempt-after (xs ++ entries)) base_is ∙ ap (λ (xs : List Entry). attempt-after (core.base ++ xs)) entries_are
 
-  task-so : task ≡ begun_task (is_inside_at core.pool.members number) (attempt_now number core)
+  task-so : task ≡ begun_task (is_inside_at core.pool.members number) (attempt_after number (core.base ++ core.entries))
   task-so = task_is ∙ ap (λ (b : Bool). begun_task b attempt) inside_is ∙ ap (begun_task (is_inside_at core.pool.members number)) attempt-so
 
   after-is : after ≡ begun_by seat number core
@@ -249,47 +247,47 @@ module _ {C V M : Type 0} (program : C → Tree) (devices : C → ℕ) (is_value
   left' : core.turns < core.limits.turns
   left' = subst (λ (x : Core C V M). x.turns < x.limits.turns) (sym view) left
 
-  pub whole-begun : now.stop ≡ None → IsWhole program devices is_value value_of is_machine stage after
-  whole-begun going = subst (IsWhole program devices is_value value_of is_machine stage) (sym after-is)
-      (begun-whole program devices is_value value_of is_machine stage core whole seat number within' idle' first' ready' left'
+  pub whole-begun : now.stop ≡ None → IsSound meaning after
+  whole-begun going = subst (IsSound meaning) (sym after-is)
+      (begun-whole meaning core whole seat number within' idle' first' ready' left'
       (subst (λ (x : Core C V M). x.stop ≡ None) (sym view) going))
 
-  makes-begun : MakesEvent program devices value_of stage (one_counted Counted.Begin) (has_begun seat number) now after
-  makes-begun = subst (λ (x : Core C V M). MakesEvent program devices value_of stage (one_counted Counted.Begin) (has_begun seat number) x after) view
-      (subst (MakesEvent program devices value_of stage (one_counted Counted.Begin) (has_begun seat number) core) (sym after-is)
-      (begun-makes program devices is_value value_of is_machine stage core whole seat number within' idle' first' ready' left'))
+  makes-begun : MakesEvent meaning (one_counted Counted.Begin) (has_begun seat number) now after
+  makes-begun = subst (λ (x : Core C V M). MakesEvent meaning (one_counted Counted.Begin) (has_begun seat number) x after) view
+      (subst (MakesEvent meaning (one_counted Counted.Begin) (has_begun seat number) core) (sym after-is)
+      (begun-makes meaning core whole seat number within' idle' first' ready' left'))
 
   module _ (m : M) (copied : ForSome (machine_of number core.pool) (λ resting. same resting m)) where
     resting : (x : M) × (machine_of number core.pool ≡ Some x)
     resting = ready-machine number core.pool ready'
 
-    good : is_machine core.code m
+    good : meaning.is_machine core.code m
     good = keeps core.code resting.0 m (copied resting.0 resting.1) (good-rests (find number core.pool.members) refl)
       where
-        good-rests : (o : Option (Member M)) → find number core.pool.members ≡ o → is_machine core.code resting.0
+        good-rests : (o : Option (Member M)) → find number core.pool.members ≡ o → meaning.is_machine core.code resting.0
         good-rests None e = absurd (none-some (sym (ap (option_map (λ (x : Member M). x.machine)) e) ∙ resting.1))
           where
             none-some : ◌≡◌ {A = Option M} None (Some resting.0) → ⊥
             none-some h = cc
         good-rests (Some x) e =
             let same-one : x.machine ≡ resting.0 = ap (λ (o : Option M). unwrap_or o resting.0) (sym (ap (option_map (λ (y : Member M). y.machine)) e) ∙ resting.1) in
-            subst (is_machine core.code) same-one
-            (find_passes (IsAtRest is_machine stage core.code) number core.pool.members whole.members x e).machine
+            subst (meaning.is_machine core.code) same-one
+            (find_passes (IsAtRest meaning.is_machine meaning.stage core.code) number core.pool.members whole.members x e).machine
 
-    on-after : IsOn program devices value_of is_machine stage after seat m
-    on-after = subst (λ (x : Core C V M). IsOn program devices value_of is_machine stage x seat m) (sym after-is)
-        (begun-on program devices is_value value_of is_machine stage core whole seat number within' idle' first' ready' left'
+    on-after : IsOn meaning after seat m
+    on-after = subst (λ (x : Core C V M). IsOn meaning x seat m) (sym after-is)
+        (begun-on meaning core whole seat number within' idle' first' ready' left'
         resting.0 resting.1 m (sym (shows core.code resting.0 m (copied resting.0 resting.1))) good)
 
-    rests-after : stage core.code m ≡ resting_at (stage core.code m).term (stage core.code m).inside
-    rests-after = begun-rests program devices is_value value_of is_machine stage core whole seat number within' idle' first' ready' left'
+    rests-after : meaning.stage core.code m ≡ resting_at (meaning.stage core.code m).term (meaning.stage core.code m).inside
+    rests-after = begun-rests meaning core whole seat number within' idle' first' ready' left'
         resting.0 resting.1 m (sym (shows core.code resting.0 m (copied resting.0 resting.1)))
 
-    runs-after : CanRun (stage core.code m)
-    runs-after = begun-runs program devices is_value value_of is_machine stage core whole seat number within' idle' first' ready' left'
+    runs-after : CanRun (meaning.stage core.code m)
+    runs-after = begun-runs meaning core whole seat number within' idle' first' ready' left'
         resting.0 resting.1 m (sym (shows core.code resting.0 m (copied resting.0 resting.1)))
 
-    pub has-begun-after : HasBegun program devices value_of is_machine stage seat number now after m
+    pub has-begun-after : HasBegun meaning seat number now after m
     has-begun-after = record { event = makes-begun; on = on-after; rests = rests-after; runs = runs-after }
 
 -- What a seat meets is the cause of a stop
@@ -297,43 +295,43 @@ module _ {C V M : Type 0} (program : C → Tree) (devices : C → ℕ) (is_value
 abbrev is-spent : {C V M : Type 0} → Core C V M → Bool
 is-spent core = if nat_lt core.turns core.limits.turns then false else true
 
-none-met : {C V M : Type 0} (core : Core C V M) (chance : Chance) → chance_of core ≡ chance → (Chance.Stopped ≡ chance → ⊥) → core.stop ≡ None
-none-met core chance e other = by core.stop refl
+none-met : {C V M : Type 0} (core : Core C V M) (pick : Pick) → pick_of core ≡ pick → (Pick.Stopped ≡ pick → ⊥) → core.stop ≡ None
+none-met core pick e other = by core.stop refl
   where
     by : (o : Option Stop) → core.stop ≡ o → core.stop ≡ None
     by None is = is
     by (Some why) is =
         absurd (other
-        (sym (ap (λ (o : Option Stop). if is_some o then Chance.Stopped else chance_by (if nat_lt core.turns core.limits.turns then false else true) (oldest core.pool)) is) ∙ e))
+        (sym (ap (λ (o : Option Stop). if is_some o then Pick.Stopped else pick_by (if nat_lt core.turns core.limits.turns then false else true) (oldest core.pool)) is) ∙ e))
 
-met-by : {C V M : Type 0} (core : Core C V M) (chance : Chance) → chance_of core ≡ chance → core.stop ≡ None
-    → chance_by (if nat_lt core.turns core.limits.turns then false else true) (oldest core.pool) ≡ chance
-met-by core chance e none =
-    sym (ap (λ (o : Option Stop). if is_some o then Chance.Stopped else chance_by (if nat_lt core.turns core.limits.turns then false else true) (oldest core.pool)) none) ∙ e
+met-by : {C V M : Type 0} (core : Core C V M) (pick : Pick) → pick_of core ≡ pick → core.stop ≡ None
+    → pick_by (if nat_lt core.turns core.limits.turns then false else true) (oldest core.pool) ≡ pick
+met-by core pick e none =
+    sym (ap (λ (o : Option Stop). if is_some o then Pick.Stopped else pick_by (if nat_lt core.turns core.limits.turns then false else true) (oldest core.pool)) none) ∙ e
 
-finished-empty : (spent : Bool) (o : Oldest) → chance_by spent o ≡ Chance.Finished → o ≡ Oldest.Empty
+finished-empty : (spent : Bool) (o : Oldest) → pick_by spent o ≡ Pick.Finished → o ≡ Oldest.Empty
 finished-empty spent Oldest.Empty e = refl
-finished-empty spent Oldest.Parked e = absurd (let clash : Chance.Blocked ≡ Chance.Finished = e in cc)
-finished-empty true Oldest.Wait e = absurd (let clash : Chance.Spent ≡ Chance.Finished = e in cc)
-finished-empty false Oldest.Wait e = absurd (let clash : Chance.Idle ≡ Chance.Finished = e in cc)
-finished-empty true (Oldest.Member k) e = absurd (let clash : Chance.Spent ≡ Chance.Finished = e in cc)
-finished-empty false (Oldest.Member k) e = absurd (let clash : Chance.Member k ≡ Chance.Finished = e in cc)
+finished-empty spent Oldest.Parked e = absurd (let clash : Pick.Blocked ≡ Pick.Finished = e in cc)
+finished-empty true Oldest.Wait e = absurd (let clash : Pick.Spent ≡ Pick.Finished = e in cc)
+finished-empty false Oldest.Wait e = absurd (let clash : Pick.Idle ≡ Pick.Finished = e in cc)
+finished-empty true (Oldest.Member k) e = absurd (let clash : Pick.Spent ≡ Pick.Finished = e in cc)
+finished-empty false (Oldest.Member k) e = absurd (let clash : Pick.Member k ≡ Pick.Finished = e in cc)
 
-blocked-parked : (spent : Bool) (o : Oldest) → chance_by spent o ≡ Chance.Blocked → o ≡ Oldest.Parked
+blocked-parked : (spent : Bool) (o : Oldest) → pick_by spent o ≡ Pick.Blocked → o ≡ Oldest.Parked
 blocked-parked spent Oldest.Parked e = refl
-blocked-parked spent Oldest.Empty e = absurd (let clash : Chance.Finished ≡ Chance.Blocked = e in cc)
-blocked-parked true Oldest.Wait e = absurd (let clash : Chance.Spent ≡ Chance.Blocked = e in cc)
-blocked-parked false Oldest.Wait e = absurd (let clash : Chance.Idle ≡ Chance.Blocked = e in cc)
-blocked-parked true (Oldest.Member k) e = absurd (let clash : Chance.Spent ≡ Chance.Blocked = e in cc)
-blocked-parked false (Oldest.Member k) e = absurd (let clash : Chance.Member k ≡ Chance.Blocked = e in cc)
+blocked-parked spent Oldest.Empty e = absurd (let clash : Pick.Finished ≡ Pick.Blocked = e in cc)
+blocked-parked true Oldest.Wait e = absurd (let clash : Pick.Spent ≡ Pick.Blocked = e in cc)
+blocked-parked false Oldest.Wait e = absurd (let clash : Pick.Idle ≡ Pick.Blocked = e in cc)
+blocked-parked true (Oldest.Member k) e = absurd (let clash : Pick.Spent ≡ Pick.Blocked = e in cc)
+blocked-parked false (Oldest.Member k) e = absurd (let clash : Pick.Member k ≡ Pick.Blocked = e in cc)
 
-spent-by : (spent : Bool) (o : Oldest) → chance_by spent o ≡ Chance.Spent → (spent ≡ true) × (o ≡ Oldest.Empty → ⊥)
-spent-by spent Oldest.Empty e = absurd (let clash : Chance.Finished ≡ Chance.Spent = e in cc)
-spent-by spent Oldest.Parked e = absurd (let clash : Chance.Blocked ≡ Chance.Spent = e in cc)
+spent-by : (spent : Bool) (o : Oldest) → pick_by spent o ≡ Pick.Spent → (spent ≡ true) × (o ≡ Oldest.Empty → ⊥)
+spent-by spent Oldest.Empty e = absurd (let clash : Pick.Finished ≡ Pick.Spent = e in cc)
+spent-by spent Oldest.Parked e = absurd (let clash : Pick.Blocked ≡ Pick.Spent = e in cc)
 spent-by true Oldest.Wait e = (refl, λ h. let clash : Oldest.Wait ≡ Oldest.Empty = h in cc)
-spent-by false Oldest.Wait e = absurd (let clash : Chance.Idle ≡ Chance.Spent = e in cc)
+spent-by false Oldest.Wait e = absurd (let clash : Pick.Idle ≡ Pick.Spent = e in cc)
 spent-by true (Oldest.Member k) e = (refl, λ h. let clash : Oldest.Member k ≡ Oldest.Empty = h in cc)
-spent-by false (Oldest.Member k) e = absurd (let clash : Chance.Member k ≡ Chance.Spent = e in cc)
+spent-by false (Oldest.Member k) e = absurd (let clash : Pick.Member k ≡ Pick.Spent = e in cc)
 
 used-up : (turns limit : ℕ) → (if nat_lt turns limit then false else true) ≡ true → limit ≤ turns
 used-up turns limit e = by (nat_lt turns limit) refl e
@@ -342,43 +340,42 @@ used-up turns limit e = by (nat_lt turns limit) refl e
     by true is h = absurd (let clash : false ≡ true = h in cc)
     by false is h = ltb-false turns limit is
 
-module _ {C V M : Type 0} (program : C → Tree) (devices : C → ℕ) (is_value : C → V → Type 0) (value_of : C → V → Val)
-    (is_machine : C → M → Type 0) (stage : C → M → Stage) (core now : Core C V M) (view : core ≡ now)
-    (whole : IsWhole program devices is_value value_of is_machine stage core) where
+module _ {C V M : Type 0} (meaning : Meaning C V M) (core now : Core C V M) (view : core ≡ now)
+    (whole : IsSound meaning core) where
   abbrev kept : Stop → Core C V M → Type 0
-  kept why x = HasCause (Some why) x.certificates (parts_of program devices value_of stage (stopped_by why x))
+  kept why x = HasCause (Some why) x.certificates (parts_of meaning (stopped_by why x))
 
-  none-kept : core.stop ≡ None → HasCause None core.certificates (parts_of program devices value_of stage core)
-  none-kept none = subst (λ (o : Option Stop). HasCause o core.certificates (parts_of program devices value_of stage core)) none whole.caused
+  none-kept : core.stop ≡ None → HasCause None core.certificates (parts_of meaning core)
+  none-kept none = subst (λ (o : Option Stop). HasCause o core.certificates (parts_of meaning core)) none whole.caused
 
-  oldest-is : (o : Oldest) → oldest core.pool ≡ o → oldest (parts_of program devices value_of stage core).pool ≡ o
-  oldest-is o e = oldest-shown (term_shown stage core.code) core.pool ∙ e
+  oldest-is : (o : Oldest) → oldest core.pool ≡ o → oldest (parts_of meaning core).pool ≡ o
+  oldest-is o e = oldest-shown (term_shown meaning.stage core.code) core.pool ∙ e
 
-  pub finished-cause : chance_of now ≡ Chance.Finished → kept Stop.Finished now
-  finished-cause e = subst (λ (x : Core C V M). kept Stop.Finished x) view (from (subst (λ (x : Core C V M). chance_of x ≡ Chance.Finished) (sym view) e))
+  pub finished-cause : pick_of now ≡ Pick.Finished → kept Stop.Finished now
+  finished-cause e = subst (λ (x : Core C V M). kept Stop.Finished x) view (from (subst (λ (x : Core C V M). pick_of x ≡ Pick.Finished) (sym view) e))
     where
-      from : chance_of core ≡ Chance.Finished → kept Stop.Finished core
+      from : pick_of core ≡ Pick.Finished → kept Stop.Finished core
       from h =
-          let none = none-met core Chance.Finished h (λ c. cc) in
+          let none = none-met core Pick.Finished h (λ c. cc) in
           let given = none-kept none in record {
-            cause = empty-members (parts_of program devices value_of stage core).pool (oldest-is Oldest.Empty (finished-empty (is-spent core) (oldest core.pool) (met-by core Chance.Finished h none)));
+            cause = empty-members (parts_of meaning core).pool (oldest-is Oldest.Empty (finished-empty (is-spent core) (oldest core.pool) (met-by core Pick.Finished h none)));
             told = given.told;
             ends = given.ends;
           }
 
-  pub spent-cause : chance_of now ≡ Chance.Spent → kept Stop.Spent now
-  spent-cause e = subst (λ (x : Core C V M). kept Stop.Spent x) view (from (subst (λ (x : Core C V M). chance_of x ≡ Chance.Spent) (sym view) e))
+  pub spent-cause : pick_of now ≡ Pick.Spent → kept Stop.Spent now
+  spent-cause e = subst (λ (x : Core C V M). kept Stop.Spent x) view (from (subst (λ (x : Core C V M). pick_of x ≡ Pick.Spent) (sym view) e))
     where
-      from : chance_of core ≡ Chance.Spent → kept Stop.Spent core
+      from : pick_of core ≡ Pick.Spent → kept Stop.Spent core
       from h =
-          let none = none-met core Chance.Spent h (λ c. cc) in
+          let none = none-met core Pick.Spent h (λ c. cc) in
           let given = none-kept none in
-          let is = spent-by (is-spent core) (oldest core.pool) (met-by core Chance.Spent h none) in
+          let is = spent-by (is-spent core) (oldest core.pool) (met-by core Pick.Spent h none) in
           let enough = used-up core.turns core.limits.turns is.0 in
           let most : core.turns ≤ core.limits.turns = whole.stands.bounded.turns in record {
             cause = record {
               turns = omega (arith, enough, most);
-              left = λ empty. is.1 (sym (oldest-shown (term_shown stage core.code) core.pool) ∙ empty-oldest (parts_of program devices value_of stage core).pool empty);
+              left = λ empty. is.1 (sym (oldest-shown (term_shown meaning.stage core.code) core.pool) ∙ empty-oldest (parts_of meaning core).pool empty);
             };
             told = given.told;
             ends = inl given.ends;
@@ -387,22 +384,22 @@ module _ {C V M : Type 0} (program : C → Tree) (devices : C → ℕ) (is_value
   pub outside-cause : (why : Stop) → is_from_outside why ≡ true → now.stop ≡ None → kept why now
   outside-cause why e none =
       subst (λ (x : Core C V M). kept why x) view
-      (fault-cause why e (parts_of program devices value_of stage core) (parts_of program devices value_of stage (stopped_by why core))
+      (fault-cause why e (parts_of meaning core) (parts_of meaning (stopped_by why core))
       core.certificates (none-kept (subst (λ (x : Core C V M). x.stop ≡ None) (sym view) none)) refl)
 
   -- a seat that begins a member: no stop is kept
-  pub member-going : (number : ℕ) → chance_of now ≡ Chance.Member number → now.stop ≡ None
-  member-going number e = none-met now (Chance.Member number) e (λ c. cc)
+  pub member-going : (number : ℕ) → pick_of now ≡ Pick.Member number → now.stop ≡ None
+  member-going number e = none-met now (Pick.Member number) e (λ c. cc)
 
   -- where a seat is idle, and it is the only one, nobody is at work
   pub idle-leaves : (seat : ℕ) → seat < now.limits.seats → task_at now.tasks seat ≡ Task.Idle
-      → LeavesNoTry Stop.Spent (parts_of program devices value_of stage now)
+      → LeavesNoTry Stop.Spent (parts_of meaning now)
   idle-leaves seat within idle =
-      subst (λ (x : Core C V M). seat < x.limits.seats → task_at x.tasks seat ≡ Task.Idle → LeavesNoTry Stop.Spent (parts_of program devices value_of stage x)) view
-      (λ there none. idle-leaves_no_try (parts_of program devices value_of stage core) whole.stands seat there none) within idle
+      subst (λ (x : Core C V M). seat < x.limits.seats → task_at x.tasks seat ≡ Task.Idle → LeavesNoTry Stop.Spent (parts_of meaning x)) view
+      (λ there none. idle-leaves_no_try (parts_of meaning core) whole.stands seat there none) within idle
 
-  pub parked-met : chance_of now ≡ Chance.Blocked → oldest now.pool ≡ Oldest.Parked
-  parked-met e = blocked-parked (is-spent now) (oldest now.pool) (met-by now Chance.Blocked e (none-met now Chance.Blocked e (λ c. cc)))
+  pub parked-met : pick_of now ≡ Pick.Blocked → oldest now.pool ≡ Oldest.Parked
+  parked-met e = blocked-parked (is-spent now) (oldest now.pool) (met-by now Pick.Blocked e (none-met now Pick.Blocked e (λ c. cc)))
 
-  pub blocked-going : chance_of now ≡ Chance.Blocked → now.stop ≡ None
-  blocked-going e = none-met now Chance.Blocked e (λ c. cc)
+  pub blocked-going : pick_of now ≡ Pick.Blocked → now.stop ≡ None
+  blocked-going e = none-met now Pick.Blocked e (λ c. cc)

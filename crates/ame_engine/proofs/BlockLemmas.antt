@@ -7,44 +7,44 @@ use Rattle.ame_term.specs.Context.{focus}
 use Rattle.ame_term.specs.declared.types.Loc.{Loc}
 use Rattle.ame_journal.specs.declared.entry.Entry.{Entry}
 use Rattle.ame_journal.specs.declared.entry.EntryKind.{EntryKind}
-use Rattle.ame_journal.specs.Log.{MayHold, IsFit}
+use Rattle.ame_journal.specs.JournalView.{MayHold, IsFit}
 use Rattle.ame_journal.specs.Replayed.{is_false_condition}
 use Rattle.ame_rows.specs.declared.notes.ReadNote.{ReadNote}
 use Rattle.ame_rows.specs.Valid.{IsValid}
-use Rattle.ame_local.specs.Local.{LocalState}
+use Rattle.ame_machine.specs.Run.Local.{LocalState}
 use Rattle.ame_pool.specs.Members.{is_busy}
 use Rattle.ame_pool.specs.Roster.{Roster}
 use Rattle.ame_pool.specs.Calls.{IsAt, noted, noted_on}
-use Rattle.ame_desk.specs.Contents.{Notes, row_at}
-use Rattle.ame_owed.specs.SeatRun.{HasUsed, AreValid}
-use Rattle.ame_owed.specs.Waiting.{read_places}
-use Rattle.ame_runner.specs.declared.wants.Wants.TheVariants as wants
-use Rattle.ame_runner.specs.Stage.{Stage, place_shown, without_footprint, with_answer}
-use Rattle.ame_runner.specs.Need.{Need}
-use Rattle.ame_runner.specs.Sound.{IsSoundStage}
-use Rattle.ame_runner.proofs.NeedLemmas.{comes_as}
-use Rattle.ame_stands.specs.declared.types.Attempt.{Attempt}
-use Rattle.ame_stands.specs.declared.types.Reason.{Reason}
-use Rattle.ame_stands.specs.declared.types.Task.{Task}
-use Rattle.ame_stands.specs.Parts.{Parts, heap_in, task_at, attempt_of, run_in}
-use Rattle.ame_stands.specs.Shown.{shown_pool}
-use Rattle.ame_stands.specs.Stands.{Stands}
-use Rattle.ame_stands.specs.Alone.{RunsAlone}
-use Rattle.ame_stands.proofs.StepLemmas.{seat_within}
-use Rattle.ame_stands.proofs.ShownDeskLemmas.{row-shown}
-use Rattle.ame_stands.proofs.ShownPoolLemmas.{noted-shown}
-use Rattle.ame_waiting.specs.Waiting.{AreWaiting}
-use Rattle.ame_waiting.specs.Once.{AreNotedOnce}
-use Rattle.ame_waiting.specs.Noted.{stuck_entry, has_noted}
-use Rattle.ame_waiting.proofs.NotedLemmas.{noted_stands, noted-alone}
-use Rattle.ame_waiting.proofs.TaskLemmas.{note-waiting}
-use Rattle.ame_waiting.proofs.OnceEvents.{note-once}
+use Rattle.ame_rows.specs.MemoryView.{Log, row_at}
+use Rattle.ame_protocol.specs.Row.SeatRun.{HasUsed, AreValid}
+use Rattle.ame_protocol.specs.Row.Waiting.{read_places}
+use Rattle.ame_machine.specs.declared.wants.Wants.TheVariants as wants
+use Rattle.ame_machine.specs.MachineView.{MachineView, place_shown, without_footprint, with_answer}
+use Rattle.ame_machine.specs.Need.{Need}
+use Rattle.ame_machine.specs.Sound.{IsSoundStage}
+use Rattle.ame_machine.proofs.NeedLemmas.{comes_as}
+use Rattle.ame_protocol.specs.declared.types.Attempt.{Attempt}
+use Rattle.ame_protocol.specs.declared.types.Reason.{Reason}
+use Rattle.ame_protocol.specs.declared.types.Task.{Task}
+use Rattle.ame_protocol.specs.Engine.Parts.{Parts, heap_in, task_at, attempt_of, run_in}
+use Rattle.ame_protocol.specs.Engine.Shown.{shown_pool}
+use Rattle.ame_protocol.specs.Engine.Simulates.{Simulates}
+use Rattle.ame_protocol.specs.Engine.Alone.{RunsExclusively}
+use Rattle.ame_protocol.proofs.Engine.StepLemmas.{seat_within}
+use Rattle.ame_protocol.proofs.Engine.ShownMemoryLemmas.{row-shown}
+use Rattle.ame_protocol.proofs.Engine.ShownPoolLemmas.{noted-shown}
+use Rattle.ame_protocol.specs.Waits.Waiting.{AreWaiting}
+use Rattle.ame_protocol.specs.Waits.Once.{AreNotedOnce}
+use Rattle.ame_protocol.specs.Waits.Noted.{stuck_entry, has_noted}
+use Rattle.ame_protocol.proofs.Waits.NotedLemmas.{noted_stands, noted-alone}
+use Rattle.ame_protocol.proofs.Waits.TaskLemmas.{note-waiting}
+use Rattle.ame_protocol.proofs.Waits.OnceEvents.{note-once}
 use Rattle.ame_engine.specs.Core.{Core}
 use Rattle.ame_engine.specs.declared.stop.Stop.{Stop}
 use Rattle.ame_engine.specs.Counting.{Counted, one_counted}
 use Rattle.ame_engine.specs.Seen.{parts_of, term_shown, MakesEvent}
 use Rattle.ame_engine.specs.Rollbacks.{IsGoodPool}
-use Rattle.ame_engine.specs.Whole.{IsAtRest, IsWhole}
+use Rattle.ame_engine.specs.Whole.{IsAtRest, IsSound}
 use Rattle.ame_engine.specs.AtWork.{IsOn}
 use Rattle.ame_engine.proofs.CauseLemmas.{going-cause}
 use Rattle.ame_engine.proofs.CommitLemmas.{sound', left', place, used, are-valid, its-runs, commit-runs, commit-few}
@@ -53,9 +53,10 @@ use Rattle.ame_engine.proofs.CrewLemmas.{busy-told}
 use Rattle.ame_engine.proofs.MemberLemmas.{all_altered}
 use Rattle.ame_engine.proofs.RollbackLemmas.{good-noted}
 use Rattle.ame_engine.proofs.LoneLemmas.{lone-left}
-use Rattle.ame_engine.specs.Bounds.{IsBounded}
+use Rattle.ame_engine.specs.Bounds.{KeepsBounds}
 use Rattle.ame_engine.proofs.BoundLemmas.{noted-bounded}
 use Rattle.ame_engine.proofs.CommitLemmas.{commit-low, commit-rolls}
+use Rattle.ame_machine.specs.Meaning.{Meaning}
 
 -- a note has no answer
 pub none-held : (kind : EntryKind) → MayHold kind None
@@ -65,58 +66,57 @@ none-held EntryKind.Stuck = search rules
 none-held EntryKind.Cut = search rules
 none-held EntryKind.Tall = search rules
 
-module _ {C V M : Type 0} (program : C → Tree) (devices : C → ℕ) (is_value : C → V → Type 0) (value_of : C → V → Val)
-    (is_machine : C → M → Type 0) (stage : C → M → Stage)
-    (core now : Core C V M) (view : core ≡ now) (whole : IsWhole program devices is_value value_of is_machine stage core) (seat : ℕ) (m : M)
-    (on : IsOn program devices value_of is_machine stage now seat m) (outside : (stage now.code m).inside ≡ false)
-    (sound : IsSoundStage (stage now.code m)) (left : now.turns < now.limits.turns) (attempt : Attempt)
-    (runs-now : task_at now.tasks seat ≡ Task.Running attempt) (valid-now : IsValid now.desk.cells seat (row_at now.desk.rows seat).reads) where
+module _ {C V M : Type 0} (meaning : Meaning C V M)
+    (core now : Core C V M) (view : core ≡ now) (whole : IsSound meaning core) (seat : ℕ) (m : M)
+    (on : IsOn meaning now seat m) (outside : (meaning.stage now.code m).inside ≡ false)
+    (sound : IsSoundStage (meaning.stage now.code m)) (left : now.turns < now.limits.turns) (attempt : Attempt)
+    (runs-now : task_at now.tasks seat ≡ Task.Running attempt) (valid-now : IsValid now.memory.cells seat (row_at now.memory.rows seat).reads) where
   abbrev parts : Parts
-  parts = parts_of program devices value_of stage core
+  parts = parts_of meaning core
 
-  abbrev s : Stage
-  s = stage core.code m
+  abbrev s : MachineView
+  s = meaning.stage core.code m
 
   abbrev number : ℕ
   number = attempt.tried.number
 
   pub block-runs : task_at core.tasks seat ≡ Task.Running attempt
-  block-runs = commit-runs program devices is_value value_of is_machine stage core now view whole seat m on outside sound left attempt runs-now valid-now
+  block-runs = commit-runs meaning core now view whole seat m on outside sound left attempt runs-now valid-now
 
   is : task_at core.tasks seat ≡ Task.Running attempt
   is = block-runs
 
   abbrev p : LocalState
-  p = (place program devices is_value value_of is_machine stage core now view whole seat m on outside sound left attempt runs-now valid-now).0
+  p = (place meaning core now view whole seat m on outside sound left attempt runs-now valid-now).0
 
   p-shown : without_footprint p ≡ with_answer None (place_shown s)
-  p-shown = (place program devices is_value value_of is_machine stage core now view whole seat m on outside sound left attempt runs-now valid-now).2
+  p-shown = (place meaning core now view whole seat m on outside sound left attempt runs-now valid-now).2
 
   p-used : HasUsed (run_in parts seat number) s.steps p
-  p-used = used program devices is_value value_of is_machine stage core now view whole seat m on outside sound left attempt runs-now valid-now
+  p-used = used meaning core now view whole seat m on outside sound left attempt runs-now valid-now
 
   reads-valid : AreValid (heap_in parts) seat (run_in parts seat number).reads
-  reads-valid = are-valid program devices is_value value_of is_machine stage core now view whole seat m on outside sound left attempt runs-now valid-now
+  reads-valid = are-valid meaning core now view whole seat m on outside sound left attempt runs-now valid-now
 
   turns-left : core.turns < core.limits.turns
-  turns-left = left' program devices is_value value_of is_machine stage core now view whole seat m on outside sound left attempt runs-now valid-now
+  turns-left = left' meaning core now view whole seat m on outside sound left attempt runs-now valid-now
 
   pub block-busy : IsAt is_busy number core.pool
   block-busy =
-      busy-told (term_shown stage core.code) number core.pool
-      (its-runs program devices is_value value_of is_machine stage core now view whole seat m on outside sound left attempt runs-now valid-now).work.busy
+      busy-told (term_shown meaning.stage core.code) number core.pool
+      (its-runs meaning core now view whole seat m on outside sound left attempt runs-now valid-now).work.busy
 
   pub note-fit : (kind : EntryKind) (entry : Entry)
       → entry ≡ record { kind = kind; seat = seat; number = number; steps = s.steps; fresh = s.fresh; answer = None } → IsFit entry
   note-fit kind entry e =
       subst IsFit (sym e) (record {
-        seat = commit-few program devices is_value value_of is_machine stage core now view whole seat m on outside sound left attempt runs-now valid-now;
+        seat = commit-few meaning core now view whole seat m on outside sound left attempt runs-now valid-now;
         answer = none-held kind;
       })
 
-  module _ (wants-it : (stage now.code m).want ≡ Some wants.Block) (going : now.stop ≡ None) where
+  module _ (wants-it : (meaning.stage now.code m).want ≡ Some wants.Block) (going : now.stop ≡ None) where
     wants' : s.want ≡ Some wants.Block
-    wants' = subst (λ (x : Core C V M). (stage x.code m).want ≡ Some wants.Block) (sym view) wants-it
+    wants' = subst (λ (x : Core C V M). (meaning.stage x.code m).want ≡ Some wants.Block) (sym view) wants-it
 
     going' : core.stop ≡ None
     going' = subst (λ (x : Core C V M). x.stop ≡ None) (sym view) going
@@ -124,11 +124,11 @@ module _ {C V M : Type 0} (program : C → Tree) (devices : C → ℕ) (is_value
     fails : is_false_condition (focus p.term) ≡ true
     fails =
         ap (λ (x : LocalState). is_false_condition (focus x.term)) p-shown
-        ∙ (comes_as s Need.Block ((sound' program devices is_value value_of is_machine stage core now view whole seat m on outside sound left attempt runs-now valid-now).told wants.Block wants')).1
+        ∙ (comes_as s Need.Block ((sound' meaning core now view whole seat m on outside sound left attempt runs-now valid-now).told wants.Block wants')).1
 
-    noted-so : Stands (has_noted seat attempt s.steps (place_shown s) parts)
+    noted-so : Simulates (has_noted seat attempt s.steps (place_shown s) parts)
     noted-so =
-        subst (λ (q : LocalState). Stands (has_noted seat attempt s.steps q parts)) p-shown
+        subst (λ (q : LocalState). Simulates (has_noted seat attempt s.steps q parts)) p-shown
         (noted_stands parts whole.stands seat attempt is turns-left s.steps p p-used reads-valid fails)
 
     waits-so : AreWaiting (has_noted seat attempt s.steps (place_shown s) parts)
@@ -136,21 +136,21 @@ module _ {C V M : Type 0} (program : C → Tree) (devices : C → ℕ) (is_value
         subst (λ (q : LocalState). AreWaiting (has_noted seat attempt s.steps q parts)) p-shown
         (note-waiting parts whole.stands seat attempt is whole.waiting s.steps p p-used reads-valid fails)
 
-    bounded-so : IsBounded core.stop (one_counted Counted.Block core.counters) (has_noted seat attempt s.steps (place_shown s) parts)
+    bounded-so : KeepsBounds core.stop (one_counted Counted.Block core.counters) (has_noted seat attempt s.steps (place_shown s) parts)
     bounded-so =
-        subst (λ (q : LocalState). IsBounded core.stop (one_counted Counted.Block core.counters) (has_noted seat attempt s.steps q parts)) p-shown
+        subst (λ (q : LocalState). KeepsBounds core.stop (one_counted Counted.Block core.counters) (has_noted seat attempt s.steps q parts)) p-shown
         (noted-bounded parts whole.stands core.stop going' (ap (λ (o : Option Stop). is_some o) going') core.counters (one_counted Counted.Block core.counters)
         whole.bounds refl seat attempt is
-        (commit-rolls program devices is_value value_of is_machine stage core now view whole seat m on outside sound left attempt runs-now valid-now)
+        (commit-rolls meaning core now view whole seat m on outside sound left attempt runs-now valid-now)
         s.steps p p-used
-        (commit-low program devices is_value value_of is_machine stage core now view whole seat m on outside sound left attempt runs-now valid-now))
+        (commit-low meaning core now view whole seat m on outside sound left attempt runs-now valid-now))
 
     -- all that the engine has then
     module _ (entry : Entry) (entry_is : entry ≡ stuck_entry seat number s.steps (place_shown s)) (row reads : List ReadNote)
-        (reads_are : reads ≡ row) (row_is : row ≡ (row_at core.desk.rows seat).reads) (locs : List Loc) (locs_are : map (λ l. l.0) locs ≡ read_places reads)
+        (reads_are : reads ≡ row) (row_is : row ≡ (row_at core.memory.rows seat).reads) (locs : List Loc) (locs_are : map (λ l. l.0) locs ≡ read_places reads)
         (before entries : List Entry) (before_is : before ≡ core.entries) (pushes : entries ≡ before ++ entry ∷ [])
         (pool : Roster M) (pool_is : pool ≡ noted number (map (λ l. l.0) locs) core.pool)
-        (later : Attempt) (later_is : later ≡ record attempt { told = true }) where
+        (later : Attempt) (later_is : later ≡ record attempt { logged = true }) where
       abbrev after : Core C V M
       after = record core {
         entries = entries;
@@ -164,58 +164,58 @@ module _ {C V M : Type 0} (program : C → Tree) (devices : C → ℕ) (is_value
       entries-are = pushes ∙ ap (λ (es : List Entry). es ++ entry ∷ []) before_is ∙ ap (λ (e : Entry). core.entries ++ e ∷ []) entry_is
 
       abbrev watched : List ℕ
-      watched = read_places (row_at parts.desk.rows seat).reads
+      watched = read_places (row_at parts.memory.rows seat).reads
 
       locs-are : map (λ (l : Loc). l.0) locs ≡ watched
       locs-are =
           locs_are ∙ ap read_places (reads_are ∙ row_is)
-          ∙ sym (ap (λ (n : Notes Val). read_places n.reads) (row-shown (value_of core.code) core.desk.rows seat))
+          ∙ sym (ap (λ (n : Log Val). read_places n.reads) (row-shown (meaning.value_of core.code) core.memory.rows seat))
 
       pool-so : pool ≡ noted number watched core.pool
       pool-so = pool_is ∙ ap (λ (ls : List ℕ). noted number ls core.pool) locs-are
 
-      pool-shown : shown_pool (term_shown stage core.code) pool ≡ noted number watched parts.pool
-      pool-shown = ap (shown_pool (term_shown stage core.code)) pool-so ∙ noted-shown (term_shown stage core.code) number watched core.pool
+      pool-shown : shown_pool (term_shown meaning.stage core.code) pool ≡ noted number watched parts.pool
+      pool-shown = ap (shown_pool (term_shown meaning.stage core.code)) pool-so ∙ noted-shown (term_shown meaning.stage core.code) number watched core.pool
 
       parts-with : List Entry → Roster Tree → Attempt → Parts
       parts-with es p a =
           record parts { entries = es; tasks = slice_set core.tasks seat (Task.Undoing a Reason.Noted); pool = p; turns = core.turns + 1 }
 
-      parts-noted : parts_of program devices value_of stage after ≡ has_noted seat attempt s.steps (place_shown s) parts
+      parts-noted : parts_of meaning after ≡ has_noted seat attempt s.steps (place_shown s) parts
       unfolding parts-with
       parts-noted = λ i. parts-with (entries-are i) (pool-shown i) (later_is i)
 
-      rest-noted : All (IsAtRest is_machine stage core.code) pool.members
+      rest-noted : All (IsAtRest meaning.is_machine meaning.stage core.code) pool.members
       rest-noted =
-          subst (λ (p : Roster M). All (IsAtRest is_machine stage core.code) p.members) (sym pool-so)
-          (all_altered number (noted_on watched) (IsAtRest is_machine stage core.code)
+          subst (λ (p : Roster M). All (IsAtRest meaning.is_machine meaning.stage core.code) p.members) (sym pool-so)
+          (all_altered number (noted_on watched) (IsAtRest meaning.is_machine meaning.stage core.code)
           (λ m rests. record { machine = rests.machine; rests = rests.rests }) core.pool.members whole.members)
 
-      pub whole-noted : IsWhole program devices is_value value_of is_machine stage after
+      pub whole-noted : IsSound meaning after
       whole-noted = record {
-        stands = subst Stands (sym parts-noted) noted-so;
+        stands = subst Simulates (sym parts-noted) noted-so;
         limits = whole.limits;
-        desk = whole.desk;
+        memory = whole.memory;
         members = rest-noted;
         pool = subst IsGoodPool (sym pool-so) (good-noted number watched core.pool whole.pool);
-        alone = subst RunsAlone (sym parts-noted) (noted-alone parts whole.stands whole.alone seat attempt is s.steps (place_shown s));
-        lone = lone-left parts (parts_of program devices value_of stage after) whole.stands core.counters (one_counted Counted.Block core.counters)
+        alone = subst RunsExclusively (sym parts-noted) (noted-alone parts whole.stands whole.alone seat attempt is s.steps (place_shown s));
+        lone = lone-left parts (parts_of meaning after) whole.stands core.counters (one_counted Counted.Block core.counters)
             whole.lone seat (seat_within core.tasks seat attempt (ap attempt_of is)) refl refl refl (Task.Undoing later Reason.Noted) refl
             (λ t e. let clash : Task.Undoing later Reason.Noted ≡ Task.Running t = e in cc);
-        bounds = subst (IsBounded core.stop (one_counted Counted.Block core.counters)) (sym parts-noted) bounded-so;
+        bounds = subst (KeepsBounds core.stop (one_counted Counted.Block core.counters)) (sym parts-noted) bounded-so;
         waiting = subst AreWaiting (sym parts-noted) waits-so;
         once = subst AreNotedOnce (sym parts-noted) (note-once parts whole.stands whole.once seat attempt s.steps (place_shown s) is);
-        caused = going-cause parts (parts_of program devices value_of stage after) core.stop going' core.certificates whole.caused
+        caused = going-cause parts (parts_of meaning after) core.stop going' core.certificates whole.caused
             (stuck_entry seat number s.steps (place_shown s)) entries-are refl;
         counters = one-counts core.turns core.counters whole.counters Counted.Block;
         text = whole.text;
       }
 
-      pub makes-noted : MakesEvent program devices value_of stage (one_counted Counted.Block)
-          (has_noted seat attempt (stage now.code m).steps (place_shown (stage now.code m))) now after
+      pub makes-noted : MakesEvent meaning (one_counted Counted.Block)
+          (has_noted seat attempt (meaning.stage now.code m).steps (place_shown (meaning.stage now.code m))) now after
       makes-noted =
-          subst (λ (x : Core C V M). MakesEvent program devices value_of stage (one_counted Counted.Block)
-          (has_noted seat attempt (stage x.code m).steps (place_shown (stage x.code m))) x after) view
+          subst (λ (x : Core C V M). MakesEvent meaning (one_counted Counted.Block)
+          (has_noted seat attempt (meaning.stage x.code m).steps (place_shown (meaning.stage x.code m))) x after) view
           (record { code = refl; parts = parts-noted; counted = refl; stop = refl })
 
 -- the locations of reads, one after another

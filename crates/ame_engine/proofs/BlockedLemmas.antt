@@ -6,7 +6,7 @@ use Rattle.std.proofs.lemmas.Option.{slice_get-get_or}
 use Rattle.std.proofs.lemmas.Bool.{eq-eqb, eqb-true, eqb-false, ltb-true, ltb-false}
 use Rattle.std.proofs.lemmas.Bool.Decides.{nat_tests}
 use Rattle.std.proofs.lemmas.List.Elements.{All-head, All-tail, All-weaker}
-use Rattle.ame_term.specs.Tree.{Val, Tree}
+use Rattle.ame_term.specs.Tree.{Tree}
 use Rattle.ame_journal.specs.declared.entry.Entry.{Entry}
 use Rattle.ame_journal.specs.Replay.{or_else}
 use Rattle.ame_pool.specs.declared.member.Member.{Member}
@@ -14,28 +14,28 @@ use Rattle.ame_pool.specs.declared.oldest.Oldest.{Oldest}
 use Rattle.ame_pool.specs.Members.{IsRising, find}
 use Rattle.ame_pool.specs.Begin.{oldest}
 use Rattle.ame_pool.specs.Calls.{inside_of}
-use Rattle.ame_runner.specs.Stage.{Stage}
-use Rattle.ame_waiting.specs.Waiting.{is_stuck, last_stuck}
-use Rattle.ame_owed.proofs.CellLemmas.{which}
-use Rattle.ame_waiting.proofs.WatchLemmas.{last-same, last-here}
+use Rattle.ame_protocol.specs.Waits.Waiting.{is_stuck, last_stuck}
+use Rattle.ame_protocol.proofs.Row.CellLemmas.{which}
+use Rattle.ame_protocol.proofs.Waits.WatchLemmas.{last-same, last-here}
 use Rattle.ame_engine.specs.declared.certificate.Certificate.{Certificate}
-use Rattle.ame_stands.specs.Parts.{Parts}
-use Rattle.ame_stands.specs.Shown.{shown_member}
-use Rattle.ame_stands.proofs.AloneEvents.{stop-alone}
-use Rattle.ame_stands.proofs.ToldLemmas.{stopped_stands, next-free}
-use Rattle.ame_waiting.proofs.TaskLemmas.{stop-waiting}
-use Rattle.ame_waiting.proofs.OnceEvents.{stop-once}
+use Rattle.ame_protocol.specs.Engine.Parts.{Parts}
+use Rattle.ame_protocol.specs.Engine.Shown.{shown_member}
+use Rattle.ame_protocol.proofs.Engine.AloneEvents.{stop-alone}
+use Rattle.ame_protocol.proofs.Engine.ToldLemmas.{stopped_stands, next-free}
+use Rattle.ame_protocol.proofs.Waits.TaskLemmas.{stop-waiting}
+use Rattle.ame_protocol.proofs.Waits.OnceEvents.{stop-once}
 use Rattle.ame_engine.specs.declared.stop.Stop.{Stop}
 use Rattle.ame_engine.specs.Core.{Core}
 use Rattle.ame_engine.specs.Causes.{certificate_of, certificates_of, certificates_in}
 use Rattle.ame_engine.specs.Certifying.{certified_by}
 use Rattle.ame_engine.specs.Seen.{parts_of, term_shown}
 use Rattle.ame_engine.specs.Stops.{blocked_by}
-use Rattle.ame_engine.specs.Whole.{IsWhole}
+use Rattle.ame_engine.specs.Whole.{IsSound}
 use Rattle.ame_engine.proofs.CauseLemmas.{going-ordinary}
 use Rattle.ame_engine.proofs.CrewLemmas.{none-told}
 use Rattle.ame_engine.proofs.OldestLemmas.{oldest-shown}
 use Rattle.ame_engine.proofs.BoundLemmas.{stop-bounded}
+use Rattle.ame_machine.specs.Meaning.{Meaning}
 
 ne-eqb : (a b : ℕ) → (a ≡ b → ⊥) → (a == b) ≡ false
 ne-eqb a b apart = by (a == b) refl
@@ -276,17 +276,16 @@ module _ (journal : List Entry) (ns : List ℕ) (i d : ℕ) (below : i < length 
 
 -- The whole engine
 
-module _ {C V M : Type 0} (program : C → Tree) (devices : C → ℕ) (is_value : C → V → Type 0) (value_of : C → V → Val)
-    (is_machine : C → M → Type 0) (stage : C → M → Stage) (core now : Core C V M) (view : core ≡ now)
-    (whole : IsWhole program devices is_value value_of is_machine stage core) where
+module _ {C V M : Type 0} (meaning : Meaning C V M) (core now : Core C V M) (view : core ≡ now)
+    (whole : IsSound meaning core) where
   abbrev parts : Parts
-  parts = parts_of program devices value_of stage core
+  parts = parts_of meaning core
 
   -- all numbers are below the next one
   pub numbers-all : numbers-below core.next core.pool.members ≡ map (λ m. m.number) core.pool.members
   numbers-all =
       below-all core.next core.pool.members
-      (λ i above. none-told (term_shown stage core.code) i core.pool (next-free parts whole.stands i above))
+      (λ i above. none-told (term_shown meaning.stage core.code) i core.pool (next-free parts whole.stands i above))
 
   pub numbers-end : (k : ℕ) → core.next ≤ k → k ≤ core.next → (ns : List ℕ) → ns ≡ numbers-below k now.pool.members → ns ≡ map (λ m. m.number) now.pool.members
   numbers-end k most least ns so_far =
@@ -314,7 +313,7 @@ module _ {C V M : Type 0} (program : C → Tree) (devices : C → ℕ) (is_value
     ns-are : ns ≡ map (λ (m : Member Tree). m.number) parts.pool.members
     ns-are =
         subst (λ (x : Core C V M). ns ≡ map (λ m. m.number) x.pool.members) (sym view) ns_are
-        ∙ sym (shown-numbers (term_shown stage core.code) core.pool.members)
+        ∙ sym (shown-numbers (term_shown meaning.stage core.code) core.pool.members)
 
     pub certificates-in : certificates ≡ certificates_in parts
     certificates-in =
@@ -324,11 +323,11 @@ module _ {C V M : Type 0} (program : C → Tree) (devices : C → ℕ) (is_value
     abbrev after : Core C V M
     after = record core { stop = Some Stop.Blocked; certificates = certificates }
 
-    pub whole-blocked : IsWhole program devices is_value value_of is_machine stage after
+    pub whole-blocked : IsSound meaning after
     whole-blocked = record {
       stands = stopped_stands parts whole.stands;
       limits = whole.limits;
-      desk = whole.desk;
+      memory = whole.memory;
       members = whole.members;
       pool = whole.pool;
       alone = stop-alone parts whole.alone;
@@ -339,7 +338,7 @@ module _ {C V M : Type 0} (program : C → Tree) (devices : C → ℕ) (is_value
       waiting = stop-waiting parts whole.waiting;
       once = stop-once parts whole.once;
       caused = record {
-        cause = oldest-shown (term_shown stage core.code) core.pool ∙ subst (λ (x : Core C V M). oldest x.pool ≡ Oldest.Parked) (sym view) parked;
+        cause = oldest-shown (term_shown meaning.stage core.code) core.pool ∙ subst (λ (x : Core C V M). oldest x.pool ≡ Oldest.Parked) (sym view) parked;
         told = certificates-in;
         ends = going-ordinary parts parts core.stop (subst (λ (x : Core C V M). x.stop ≡ None) (sym view) going) core.certificates whole.caused;
       };
@@ -347,7 +346,7 @@ module _ {C V M : Type 0} (program : C → Tree) (devices : C → ℕ) (is_value
       text = whole.text;
     }
 
-    pub makes-blocked : after ≡ blocked_by (certificates_in (parts_of program devices value_of stage now)) now
+    pub makes-blocked : after ≡ blocked_by (certificates_in (parts_of meaning now)) now
     makes-blocked =
         ap (λ (cs : List Certificate). blocked_by cs core) certificates-in
-        ∙ ap (λ (x : Core C V M). blocked_by (certificates_in (parts_of program devices value_of stage x)) x) view
+        ∙ ap (λ (x : Core C V M). blocked_by (certificates_in (parts_of meaning x)) x) view

@@ -13,15 +13,15 @@ use Rattle.ame_pool.specs.Members.{find, is_parked, altered}
 use Rattle.ame_pool.specs.Roster.{Roster}
 use Rattle.ame_pool.specs.Calls.{IsAt, at_home, at_rest}
 use Rattle.ame_pool.specs.Begin.{oldest, oldest_or_wait, first_to_begin, members_of}
-use Rattle.ame_stands.specs.declared.types.Limits.{Limits}
-use Rattle.ame_stands.specs.declared.types.Attempt.{Attempt}
-use Rattle.ame_stands.specs.declared.types.Reason.{Reason}
-use Rattle.ame_stands.specs.declared.types.Task.{Task}
-use Rattle.ame_stands.specs.Parts.{Parts, whole_journal, task_at, attempt_of}
-use Rattle.ame_stands.specs.Tasks.{is_busy_as, is_noted_for, RunsProtected, Visits, Undoes, MeetsTask}
-use Rattle.ame_stands.specs.Stands.{Stands}
-use Rattle.ame_stands.specs.Events.{brought_home}
-use Rattle.ame_stands.proofs.PoolLemmas.{found-at}
+use Rattle.ame_protocol.specs.declared.types.Limits.{Limits}
+use Rattle.ame_protocol.specs.declared.types.Attempt.{Attempt}
+use Rattle.ame_protocol.specs.declared.types.Reason.{Reason}
+use Rattle.ame_protocol.specs.declared.types.Task.{Task}
+use Rattle.ame_protocol.specs.Engine.Parts.{Parts, whole_journal, task_at, attempt_of}
+use Rattle.ame_protocol.specs.Engine.Tasks.{is_busy_as, is_noted_for, RunsProtected, Visits, Undoes, MeetsTask}
+use Rattle.ame_protocol.specs.Engine.Simulates.{Simulates}
+use Rattle.ame_protocol.specs.Engine.Events.{brought_home}
+use Rattle.ame_protocol.proofs.Engine.PoolLemmas.{found-at}
 use Rattle.ame_engine.specs.declared.certificate.Certificate.{Certificate}
 use Rattle.ame_engine.specs.declared.stop.Stop.{Stop}
 use Rattle.ame_engine.specs.Stops.{is_from_outside}
@@ -88,7 +88,7 @@ busy-more parts number noted busy =
     }
 
 -- so it is where a seat has one
-pub task-more : (parts : Parts) → Stands parts → (seat : ℕ) (attempt : Attempt) → attempt_of (task_at parts.tasks seat) ≡ Some attempt → HasMore parts
+pub task-more : (parts : Parts) → Simulates parts → (seat : ℕ) (attempt : Attempt) → attempt_of (task_at parts.tasks seat) ≡ Some attempt → HasMore parts
 task-more parts s seat attempt has = by (task_at parts.tasks seat) has (s.seats seat)
   where
     by : (t : Task) → attempt_of t ≡ Some attempt → MeetsTask parts s.types seat t → HasMore parts

@@ -10,37 +10,37 @@ use Rattle.ame_store.specs.Cells.{IsOwnedBy}
 use Rattle.ame_rows.specs.declared.notes.ReadNote.{ReadNote}
 use Rattle.ame_rows.specs.Valid.{IsValidAt, IsValidRead, IsValid}
 use Rattle.ame_journal.specs.declared.entry.Entry.{Entry}
-use Rattle.ame_local.specs.Local.{LocalState, local}
+use Rattle.ame_machine.specs.Run.Local.{LocalState, local}
 use Rattle.ame_pool.specs.declared.member.Member.{Member}
 use Rattle.ame_pool.specs.Members.{find}
-use Rattle.ame_pool.specs.Begin.{is_worn}
+use Rattle.ame_pool.specs.Begin.{is_exhausted}
 use Rattle.ame_pool.specs.Calls.{IsAt}
-use Rattle.ame_desk.specs.Contents.{Notes, row_at}
-use Rattle.ame_owed.specs.Heap.{cell_at}
-use Rattle.ame_owed.specs.Shown.{shown_cell}
-use Rattle.ame_owed.specs.SeatRun.{HasUsed, AreValid}
-use Rattle.ame_runner.specs.Stage.{Stage, running_side}
-use Rattle.ame_stands.specs.declared.types.Attempt.{Attempt}
-use Rattle.ame_stands.specs.declared.types.Reason.{Reason}
-use Rattle.ame_stands.specs.declared.types.Task.{Task}
-use Rattle.ame_stands.specs.Parts.{Parts, heap_in, task_at, attempt_of, term_at, run_in}
-use Rattle.ame_stands.specs.Tasks.{is_busy_as, RunsProtected, MeetsTask}
-use Rattle.ame_stands.specs.Stands.{Stands}
-use Rattle.ame_stands.specs.Alone.{is_of_protected, HasWorn, RunsAlone}
-use Rattle.ame_stands.specs.Events.{has_checked, has_turned_back, checked_attempt}
-use Rattle.ame_stands.proofs.StepLemmas.{seat_within}
-use Rattle.ame_stands.proofs.PoolLemmas.{found-at}
-use Rattle.ame_stands.proofs.AloneLemmas.{no-other-owner}
-use Rattle.ame_stands.proofs.AloneEvents.{stop-alone, checked_alone}
-use Rattle.ame_stands.proofs.ShownDeskLemmas.{row-shown}
-use Rattle.ame_stands.proofs.DeskEvents.{desk-valid, valid-desk}
-use Rattle.ame_stands.proofs.TurnLemmas.{checked_stands, turned_back}
-use Rattle.ame_stands.proofs.ToldLemmas.{stopped_stands}
-use Rattle.ame_waiting.specs.Waiting.{AreWaiting}
-use Rattle.ame_waiting.specs.Once.{AreNotedOnce}
-use Rattle.ame_waiting.proofs.TaskLemmas.{stop-waiting, retask-waiting}
-use Rattle.ame_waiting.proofs.OnceLemmas.{once-on}
-use Rattle.ame_waiting.proofs.OnceEvents.{stop-once}
+use Rattle.ame_rows.specs.MemoryView.{Log, row_at}
+use Rattle.ame_protocol.specs.Row.Heap.{cell_at}
+use Rattle.ame_protocol.specs.Row.Shown.{shown_cell}
+use Rattle.ame_protocol.specs.Row.SeatRun.{HasUsed, AreValid}
+use Rattle.ame_machine.specs.MachineView.{MachineView, running_side}
+use Rattle.ame_protocol.specs.declared.types.Attempt.{Attempt}
+use Rattle.ame_protocol.specs.declared.types.Reason.{Reason}
+use Rattle.ame_protocol.specs.declared.types.Task.{Task}
+use Rattle.ame_protocol.specs.Engine.Parts.{Parts, heap_in, task_at, attempt_of, term_at, run_in}
+use Rattle.ame_protocol.specs.Engine.Tasks.{is_busy_as, RunsProtected, MeetsTask}
+use Rattle.ame_protocol.specs.Engine.Simulates.{Simulates}
+use Rattle.ame_protocol.specs.Engine.Alone.{is_of_protected, IsExhausted, RunsExclusively}
+use Rattle.ame_protocol.specs.Engine.Events.{has_checked, has_turned_back, checked_attempt}
+use Rattle.ame_protocol.proofs.Engine.StepLemmas.{seat_within}
+use Rattle.ame_protocol.proofs.Engine.PoolLemmas.{found-at}
+use Rattle.ame_protocol.proofs.Engine.AloneLemmas.{no-other-owner}
+use Rattle.ame_protocol.proofs.Engine.AloneEvents.{stop-alone, checked_alone}
+use Rattle.ame_protocol.proofs.Engine.ShownMemoryLemmas.{row-shown}
+use Rattle.ame_protocol.proofs.Engine.MemoryEvents.{memory-valid, valid-memory}
+use Rattle.ame_protocol.proofs.Engine.TurnLemmas.{checked_stands, turned_back}
+use Rattle.ame_protocol.proofs.Engine.ToldLemmas.{stopped_stands}
+use Rattle.ame_protocol.specs.Waits.Waiting.{AreWaiting}
+use Rattle.ame_protocol.specs.Waits.Once.{AreNotedOnce}
+use Rattle.ame_protocol.proofs.Waits.TaskLemmas.{stop-waiting, retask-waiting}
+use Rattle.ame_protocol.proofs.Waits.OnceLemmas.{once-on}
+use Rattle.ame_protocol.proofs.Waits.OnceEvents.{stop-once}
 use Rattle.ame_engine.specs.declared.stop.Stop.{Stop}
 use Rattle.ame_engine.specs.declared.counters.Counters.{Counters}
 use Rattle.ame_engine.specs.Core.{Core}
@@ -49,7 +49,7 @@ use Rattle.ame_engine.specs.Causes.{HasCause}
 use Rattle.ame_engine.specs.Counting.{Counted, one_counted, CountsTurns}
 use Rattle.ame_engine.specs.Seen.{parts_of, term_shown, MakesEvent}
 use Rattle.ame_engine.specs.Rollbacks.{MayBeRolledBack}
-use Rattle.ame_engine.specs.Whole.{IsWhole}
+use Rattle.ame_engine.specs.Whole.{IsSound}
 use Rattle.ame_engine.specs.AtWork.{working, IsOnSeat, IsOn}
 use Rattle.ame_engine.proofs.ReadLemmas.{place-by, runs-as}
 use Rattle.ame_engine.proofs.CountLemmas.{one-counts}
@@ -57,9 +57,10 @@ use Rattle.ame_engine.proofs.CauseLemmas.{task-more, working-cause}
 use Rattle.ame_engine.proofs.RollbackLemmas.{may-roll}
 use Rattle.ame_engine.proofs.AloneLemmas.{turned_alone}
 use Rattle.ame_engine.proofs.LoneLemmas.{no-other, lone-never, lone-on}
-use Rattle.ame_bounds.proofs.ShownLemmas.{turns-shown}
-use Rattle.ame_engine.specs.Bounds.{refusals, IsBounded, LeavesNoTry}
+use Rattle.ame_protocol.proofs.Bounds.ShownLemmas.{turns-shown}
+use Rattle.ame_engine.specs.Bounds.{refusals, KeepsBounds, LeavesNoTry}
 use Rattle.ame_engine.proofs.BoundLemmas.{stop-bounded, back-bounded, check-bounded}
+use Rattle.ame_machine.specs.Meaning.{Meaning}
 
 -- Valid reads are so at the shown cells.
 
@@ -106,53 +107,52 @@ its-task {C} {V} {M} core now view seat held has t a e f =
     (working-within core.tasks seat held (subst (λ (x : Core C V M). working (task_at x.tasks seat) ≡ Some held) (sym view) has)) e ∙ f
 
 -- where the run has used all inputs
-has-used : (parts : Parts) (seat : ℕ) (s : Stage) (on : IsOnSeat parts seat s) → s.inside ≡ false
+has-used : (parts : Parts) (seat : ℕ) (s : MachineView) (on : IsOnSeat parts seat s) → s.inside ≡ false
     → (p : LocalState) × HasUsed (run_in parts seat on.attempt.tried.number) s.steps p
 has-used parts seat s on outside =
     let start = term_at parts.pool on.attempt.tried.number in
-    let inputs = (row_at parts.desk.rows seat).inputs in
+    let inputs = (row_at parts.memory.rows seat).inputs in
     let place = place-by (local (running_side s) start inputs s.steps) s on.run in
     (place.0, record { ran = subst (λ (x : Side). local x start inputs s.steps ≡ Some place.0) (ap side_told outside) place.1; used = place.3 })
 
-module _ {C V M : Type 0} (program : C → Tree) (devices : C → ℕ) (is_value : C → V → Type 0) (value_of : C → V → Val)
-    (is_machine : C → M → Type 0) (stage : C → M → Stage) where
+module _ {C V M : Type 0} (meaning : Meaning C V M) where
   -- a stop is kept
-  pub whole-stopped : (core : Core C V M) (why : Stop) → IsWhole program devices is_value value_of is_machine stage core → core.stop ≡ None
-      → LeavesNoTry why (parts_of program devices value_of stage core)
-      → HasCause (Some why) core.certificates (parts_of program devices value_of stage (record core { stop = Some why }))
-      → IsWhole program devices is_value value_of is_machine stage (record core { stop = Some why })
+  pub whole-stopped : (core : Core C V M) (why : Stop) → IsSound meaning core → core.stop ≡ None
+      → LeavesNoTry why (parts_of meaning core)
+      → HasCause (Some why) core.certificates (parts_of meaning (record core { stop = Some why }))
+      → IsSound meaning (record core { stop = Some why })
   whole-stopped core why whole none leaves cause = record {
-    stands = stopped_stands (parts_of program devices value_of stage core) whole.stands;
+    stands = stopped_stands (parts_of meaning core) whole.stands;
     limits = whole.limits;
-    desk = whole.desk;
+    memory = whole.memory;
     members = whole.members;
     pool = whole.pool;
-    alone = stop-alone (parts_of program devices value_of stage core) whole.alone;
+    alone = stop-alone (parts_of meaning core) whole.alone;
     lone = record { counts = whole.lone.counts; valid = whole.lone.valid };
-    bounds = stop-bounded (parts_of program devices value_of stage core) whole.stands core.stop none (ap (λ (o : Option Stop). is_some o) none) core.counters
+    bounds = stop-bounded (parts_of meaning core) whole.stands core.stop none (ap (λ (o : Option Stop). is_some o) none) core.counters
         core.counters whole.bounds refl why leaves;
-    waiting = stop-waiting (parts_of program devices value_of stage core) whole.waiting;
-    once = stop-once (parts_of program devices value_of stage core) whole.once;
+    waiting = stop-waiting (parts_of meaning core) whole.waiting;
+    once = stop-once (parts_of meaning core) whole.once;
     caused = cause;
     counters = whole.counters;
     text = whole.text;
   }
 
   -- where it is the first, and has its cause
-  pub whole-kept : (core now : Core C V M) → core ≡ now → (why : Stop) → IsWhole program devices is_value value_of is_machine stage core → core.stop ≡ None
-      → (now.stop ≡ None → HasCause (Some why) now.certificates (parts_of program devices value_of stage (stopped_by why now)))
-      → (now.stop ≡ None → LeavesNoTry why (parts_of program devices value_of stage now))
-      → IsWhole program devices is_value value_of is_machine stage (record core { stop = Some why })
+  pub whole-kept : (core now : Core C V M) → core ≡ now → (why : Stop) → IsSound meaning core → core.stop ≡ None
+      → (now.stop ≡ None → HasCause (Some why) now.certificates (parts_of meaning (stopped_by why now)))
+      → (now.stop ≡ None → LeavesNoTry why (parts_of meaning now))
+      → IsSound meaning (record core { stop = Some why })
   whole-kept core now view why whole none cause leaves =
       whole-stopped core why whole none
-      (subst (λ (x : Core C V M). x.stop ≡ None → LeavesNoTry why (parts_of program devices value_of stage x)) (sym view) leaves none)
-      (subst (λ (x : Core C V M). x.stop ≡ None → HasCause (Some why) x.certificates (parts_of program devices value_of stage (stopped_by why x))) (sym view) cause none)
+      (subst (λ (x : Core C V M). x.stop ≡ None → LeavesNoTry why (parts_of meaning x)) (sym view) leaves none)
+      (subst (λ (x : Core C V M). x.stop ≡ None → HasCause (Some why) x.certificates (parts_of meaning (stopped_by why x))) (sym view) cause none)
 
-  module _ (core now : Core C V M) (view : core ≡ now) (whole : IsWhole program devices is_value value_of is_machine stage core) (seat : ℕ) (m : M)
-      (on : IsOn program devices value_of is_machine stage now seat m) (outside : (stage now.code m).inside ≡ false)
+  module _ (core now : Core C V M) (view : core ≡ now) (whole : IsSound meaning core) (seat : ℕ) (m : M)
+      (on : IsOn meaning now seat m) (outside : (meaning.stage now.code m).inside ≡ false)
       (left : now.turns < now.limits.turns) (attempt : Attempt) (is : task_at core.tasks seat ≡ Task.Running attempt) where
     abbrev parts : Parts
-    parts = parts_of program devices value_of stage core
+    parts = parts_of meaning core
 
     left' : core.turns < core.limits.turns
     left' = subst (λ (x : Core C V M). x.turns < x.limits.turns) (sym view) left
@@ -175,28 +175,28 @@ module _ {C V M : Type 0} (program : C → Tree) (devices : C → ℕ) (is_value
         let runs : RunsProtected parts whole.stands.types seat attempt = subst (MeetsTask parts whole.stands.types seat) is (whole.stands.seats seat) in
         found-at parts.pool its-number (is_busy_as false) runs.work.busy
 
-    pub still-rolls : (IsAt is_worn its-number parts.pool → ⊥) → MayBeRolledBack its-number now.pool
+    pub still-rolls : (IsAt is_exhausted its-number parts.pool → ⊥) → MayBeRolledBack its-number now.pool
     still-rolls fresh =
         subst (λ (x : Core C V M). MayBeRolledBack its-number x.pool) view
-        (may-roll (term_shown stage core.code) its-number core.pool whole.pool there.0 there.1 fresh)
+        (may-roll (term_shown meaning.stage core.code) its-number core.pool whole.pool there.0 there.1 fresh)
 
     pub whole-back : (counters : Counters) → CountsTurns (core.turns + 1) counters → refusals counters ≡ refusals core.counters + 1 → now.stop ≡ None
-        → (is_some core.stop ≡ false → IsAt is_worn attempt.tried.number parts.pool → ⊥)
-        → (core.limits.seats ≡ 1 → ⊥) → IsWhole program devices is_value value_of is_machine stage (after-bad counters)
+        → (is_some core.stop ≡ false → IsAt is_exhausted attempt.tried.number parts.pool → ⊥)
+        → (core.limits.seats ≡ 1 → ⊥) → IsSound meaning (after-bad counters)
     whole-back counters counts refused going fresh crowded = record {
       stands = turned_back parts whole.stands seat attempt is left';
       limits = whole.limits;
-      desk = whole.desk;
+      memory = whole.memory;
       members = whole.members;
       pool = whole.pool;
       alone = turned_alone parts whole.alone seat attempt is fresh;
-      lone = lone-never (parts_of program devices value_of stage (after-bad counters)) counters crowded;
+      lone = lone-never (parts_of meaning (after-bad counters)) counters crowded;
       bounds =
           let none : core.stop ≡ None = subst (λ (x : Core C V M). x.stop ≡ None) (sym view) going in
           let still = ap (λ (o : Option Stop). is_some o) none in
           back-bounded parts whole.stands core.stop none still core.counters counters whole.bounds refused seat attempt is
-          (turns-shown (term_shown stage core.code) its-number core.pool
-          (may-roll (term_shown stage core.code) its-number core.pool whole.pool there.0 there.1 (fresh still)))
+          (turns-shown (term_shown meaning.stage core.code) its-number core.pool
+          (may-roll (term_shown meaning.stage core.code) its-number core.pool whole.pool there.0 there.1 (fresh still)))
           crowded;
       waiting = retask-waiting parts whole.stands seat attempt is whole.waiting (Task.Undoing attempt Reason.RolledBack);
       once = once-on parts (has_turned_back seat attempt parts) refl (λ i some. some) whole.once;
@@ -206,56 +206,56 @@ module _ {C V M : Type 0} (program : C → Tree) (devices : C → ℕ) (is_value
       text = whole.text;
     }
 
-    worn-there : IsAt is_worn its-number parts.pool → HasWorn parts seat attempt
-    worn-there worn = record { task = ap is_of_protected is; has = ap attempt_of is; worn = worn }
+    exhausted-there : IsAt is_exhausted its-number parts.pool → IsExhausted parts seat attempt
+    exhausted-there exhausted = record { task = ap is_of_protected is; has = ap attempt_of is; exhausted = exhausted }
 
-    -- a worn one meets no cell of another seat
-    pub unworn-apart : (l owner : ℕ) → IsOwnedBy owner (cell_at (heap_in parts) l) → (owner ≡ seat → ⊥) → IsAt is_worn its-number parts.pool → ⊥
-    unworn-apart l owner own apart worn = apart (no-other-owner parts whole.stands whole.alone seat attempt (worn-there worn) l owner own)
+    -- an exhausted one meets no cell of another seat
+    pub unexhausted-apart : (l owner : ℕ) → IsOwnedBy owner (cell_at (heap_in parts) l) → (owner ≡ seat → ⊥) → IsAt is_exhausted its-number parts.pool → ⊥
+    unexhausted-apart l owner own apart exhausted = apart (no-other-owner parts whole.stands whole.alone seat attempt (exhausted-there exhausted) l owner own)
 
-    valid-by_parts : AreValid (heap_in parts) seat (row_at parts.desk.rows seat).reads → IsValid core.desk.cells seat (row_at core.desk.rows seat).reads
+    valid-by_parts : AreValid (heap_in parts) seat (row_at parts.memory.rows seat).reads → IsValid core.memory.cells seat (row_at core.memory.rows seat).reads
     valid-by_parts valid =
-        shown-valid (value_of core.code) core.desk.cells seat (row_at core.desk.rows seat).reads
-        (subst (IsValid parts.desk.cells seat) (ap (λ (n : Notes Val). n.reads) (row-shown (value_of core.code) core.desk.rows seat))
-        (valid-desk parts.desk seat (row_at parts.desk.rows seat).reads valid))
+        shown-valid (meaning.value_of core.code) core.memory.cells seat (row_at core.memory.rows seat).reads
+        (subst (IsValid parts.memory.cells seat) (ap (λ (n : Log Val). n.reads) (row-shown (meaning.value_of core.code) core.memory.rows seat))
+        (valid-memory parts.memory seat (row_at parts.memory.rows seat).reads valid))
 
     -- and its reads are valid until a stop is kept
-    pub unworn-invalid : (IsValid core.desk.cells seat (row_at core.desk.rows seat).reads → ⊥) → is_some core.stop ≡ false
-        → IsAt is_worn its-number parts.pool → ⊥
-    unworn-invalid invalid going worn = invalid (valid-by_parts (whole.alone.valid going seat attempt (worn-there worn)))
+    pub unexhausted-invalid : (IsValid core.memory.cells seat (row_at core.memory.rows seat).reads → ⊥) → is_some core.stop ≡ false
+        → IsAt is_exhausted its-number parts.pool → ⊥
+    unexhausted-invalid invalid going exhausted = invalid (valid-by_parts (whole.alone.valid going seat attempt (exhausted-there exhausted)))
 
     -- the only seat meets no such cell either, and its reads are valid
     pub crowded-apart : (l owner : ℕ) → IsOwnedBy owner (cell_at (heap_in parts) l) → (owner ≡ seat → ⊥) → core.limits.seats ≡ 1 → ⊥
     crowded-apart l owner own apart one = apart (no-other parts whole.stands one seat attempt (ap attempt_of is) l owner own)
 
-    pub crowded-invalid : (IsValid core.desk.cells seat (row_at core.desk.rows seat).reads → ⊥) → core.limits.seats ≡ 1 → ⊥
+    pub crowded-invalid : (IsValid core.memory.cells seat (row_at core.memory.rows seat).reads → ⊥) → core.limits.seats ≡ 1 → ⊥
     crowded-invalid invalid one = invalid (valid-by_parts (whole.lone.valid one seat attempt is))
 
-    pub rolls-invalid : (IsValid core.desk.cells seat (row_at core.desk.rows seat).reads → ⊥) → (a : Attempt) → now.stop ≡ None → task_at now.tasks seat ≡ Task.Running a
+    pub rolls-invalid : (IsValid core.memory.cells seat (row_at core.memory.rows seat).reads → ⊥) → (a : Attempt) → now.stop ≡ None → task_at now.tasks seat ≡ Task.Running a
         → MayBeRolledBack a.tried.number now.pool
     rolls-invalid invalid a none e =
         subst (λ (x : Attempt). MayBeRolledBack x.tried.number now.pool) (its-attempt a e)
-        (still-rolls (unworn-invalid invalid (ap (λ (o : Option Stop). is_some o) (subst (λ (x : Core C V M). x.stop ≡ None) (sym view) none))))
+        (still-rolls (unexhausted-invalid invalid (ap (λ (o : Option Stop). is_some o) (subst (λ (x : Core C V M). x.stop ≡ None) (sym view) none))))
 
     -- or its row is valid
-    module _ (full : (stage now.code m).since ≡ now.limits.slice) (steps : ℕ) (steps_are : steps ≡ (stage now.code m).steps)
-        (valid : IsValid core.desk.cells seat (row_at core.desk.rows seat).reads) (later : Attempt) (base entries : List Entry)
+    module _ (full : (meaning.stage now.code m).since ≡ now.limits.slice) (steps : ℕ) (steps_are : steps ≡ (meaning.stage now.code m).steps)
+        (valid : IsValid core.memory.cells seat (row_at core.memory.rows seat).reads) (later : Attempt) (base entries : List Entry)
         (later_is : later ≡ record attempt { tried = record attempt.tried { at = length (base ++ entries); steps = steps } })
         (base_is : base ≡ core.base) (entries_are : entries ≡ core.entries) where
-      abbrev s : Stage
-      s = stage core.code m
+      abbrev s : MachineView
+      s = meaning.stage core.code m
 
       on' : IsOnSeat parts seat s
-      on' = subst (λ (x : Core C V M). IsOnSeat (parts_of program devices value_of stage x) seat (stage x.code m)) (sym view) on.stands
+      on' = subst (λ (x : Core C V M). IsOnSeat (parts_of meaning x) seat (meaning.stage x.code m)) (sym view) on.stands
 
       outside' : s.inside ≡ false
-      outside' = subst (λ (x : Core C V M). (stage x.code m).inside ≡ false) (sym view) outside
+      outside' = subst (λ (x : Core C V M). (meaning.stage x.code m).inside ≡ false) (sym view) outside
 
       full' : s.since ≡ core.limits.slice
-      full' = subst (λ (x : Core C V M). (stage x.code m).since ≡ x.limits.slice) (sym view) full
+      full' = subst (λ (x : Core C V M). (meaning.stage x.code m).since ≡ x.limits.slice) (sym view) full
 
       steps-are : steps ≡ s.steps
-      steps-are = subst (λ (x : Core C V M). steps ≡ (stage x.code m).steps) (sym view) steps_are
+      steps-are = subst (λ (x : Core C V M). steps ≡ (meaning.stage x.code m).steps) (sym view) steps_are
 
       one-attempt : on'.attempt ≡ attempt
       one-attempt = ap (λ (t : Task). unwrap_or (working t) attempt) (sym (runs-as parts seat s on' outside') ∙ is)
@@ -268,11 +268,11 @@ module _ {C V M : Type 0} (program : C → Tree) (devices : C → ℕ) (is_value
 
       are-valid : AreValid (heap_in parts) seat (run_in parts seat attempt.tried.number).reads
       are-valid =
-          desk-valid parts.desk seat (row_at parts.desk.rows seat).reads
-          (subst (IsValid parts.desk.cells seat) (sym (ap (λ (n : Notes Val). n.reads) (row-shown (value_of core.code) core.desk.rows seat)))
-          (valid-shown (value_of core.code) core.desk.cells seat (row_at core.desk.rows seat).reads valid))
+          memory-valid parts.memory seat (row_at parts.memory.rows seat).reads
+          (subst (IsValid parts.memory.cells seat) (sym (ap (λ (n : Log Val). n.reads) (row-shown (meaning.value_of core.code) core.memory.rows seat)))
+          (valid-shown (meaning.value_of core.code) core.memory.cells seat (row_at core.memory.rows seat).reads valid))
 
-      checked-core : Stands (has_checked seat s.steps attempt parts)
+      checked-core : Simulates (has_checked seat s.steps attempt parts)
       checked-core =
           checked_stands parts whole.stands seat attempt is left' s.steps used.0 used.1
           (let a = whole.limits.some_slice in let b = since in let d = full' in omega arith)
@@ -295,23 +295,23 @@ module _ {C V M : Type 0} (program : C → Tree) (devices : C → ℕ) (is_value
       after-valid =
           record core { tasks = slice_set core.tasks seat (Task.Running later); turns = core.turns + 1; counters = one_counted Counted.Check core.counters }
 
-      parts-valid : parts_of program devices value_of stage after-valid ≡ has_checked seat s.steps attempt parts
+      parts-valid : parts_of meaning after-valid ≡ has_checked seat s.steps attempt parts
       unfolding with-later later-with
-      parts-valid = ap (λ (a : Attempt). parts_of program devices value_of stage (with-later a)) later-so
+      parts-valid = ap (λ (a : Attempt). parts_of meaning (with-later a)) later-so
 
-      pub whole-valid : now.stop ≡ None → IsWhole program devices is_value value_of is_machine stage after-valid
+      pub whole-valid : now.stop ≡ None → IsSound meaning after-valid
       whole-valid going = record {
-        stands = subst Stands (sym parts-valid) checked-core;
+        stands = subst Simulates (sym parts-valid) checked-core;
         limits = whole.limits;
-        desk = whole.desk;
+        memory = whole.memory;
         members = whole.members;
         pool = whole.pool;
-        alone = subst RunsAlone (sym parts-valid) (checked_alone parts whole.alone seat s.steps attempt is are-valid);
-        lone = lone-on parts (parts_of program devices value_of stage after-valid) whole.stands core.counters (one_counted Counted.Check core.counters)
+        alone = subst RunsExclusively (sym parts-valid) (checked_alone parts whole.alone seat s.steps attempt is are-valid);
+        lone = lone-on parts (parts_of meaning after-valid) whole.stands core.counters (one_counted Counted.Check core.counters)
             whole.lone seat (seat_within core.tasks seat attempt (ap attempt_of is)) refl refl refl (Task.Running later) refl refl (λ t e. (attempt, is));
         bounds =
             let none : core.stop ≡ None = subst (λ (x : Core C V M). x.stop ≡ None) (sym view) going in
-            subst (IsBounded core.stop (one_counted Counted.Check core.counters)) (sym parts-valid)
+            subst (KeepsBounds core.stop (one_counted Counted.Check core.counters)) (sym parts-valid)
             (check-bounded parts whole.stands core.stop none (ap (λ (o : Option Stop). is_some o) none) core.counters (one_counted Counted.Check core.counters)
             whole.bounds refl seat attempt is s.steps (let b = since in let d = full' in omega arith));
         waiting = subst AreWaiting (sym parts-valid)
@@ -325,8 +325,8 @@ module _ {C V M : Type 0} (program : C → Tree) (devices : C → ℕ) (is_value
       }
 
       pub makes-valid : (a : Attempt) → task_at now.tasks seat ≡ Task.Running a
-          → MakesEvent program devices value_of stage (one_counted Counted.Check) (has_checked seat (stage now.code m).steps a) now after-valid
+          → MakesEvent meaning (one_counted Counted.Check) (has_checked seat (meaning.stage now.code m).steps a) now after-valid
       makes-valid a e =
-          subst (λ (x : Attempt). MakesEvent program devices value_of stage (one_counted Counted.Check) (has_checked seat (stage now.code m).steps x) now after-valid) (its-attempt a e)
-          (subst (λ (x : Core C V M). MakesEvent program devices value_of stage (one_counted Counted.Check) (has_checked seat (stage x.code m).steps attempt) x after-valid) view
+          subst (λ (x : Attempt). MakesEvent meaning (one_counted Counted.Check) (has_checked seat (meaning.stage now.code m).steps x) now after-valid) (its-attempt a e)
+          (subst (λ (x : Core C V M). MakesEvent meaning (one_counted Counted.Check) (has_checked seat (meaning.stage x.code m).steps attempt) x after-valid) view
           (record { code = refl; parts = parts-valid; counted = refl; stop = refl }))

@@ -13,60 +13,60 @@ use Rattle.ame_term.specs.Context.{focus}
 use Rattle.ame_term.specs.State.{at_value, at_unprotected}
 use Rattle.ame_term.specs.declared.types.Loc.{Loc}
 use Rattle.ame_journal.specs.declared.entry.Entry.{Entry}
-use Rattle.ame_journal.specs.Log.{IsFit}
+use Rattle.ame_journal.specs.JournalView.{IsFit}
 use Rattle.ame_store.specs.declared.cell.Cell.{Cell}
 use Rattle.ame_store.specs.Cells.{CanGrow, IsOwnedBy}
-use Rattle.ame_owed.specs.Heap.{cell_at}
+use Rattle.ame_protocol.specs.Row.Heap.{cell_at}
 use Rattle.ame_store.specs.Changes.{released}
 use Rattle.ame_rows.specs.declared.notes.Undo.{Undo}
 use Rattle.ame_rows.specs.declared.notes.Undo.TheVariants.{Wrote, Made}
 use Rattle.ame_rows.specs.Valid.{IsValid}
-use Rattle.ame_local.specs.Local.{LocalState, local}
+use Rattle.ame_machine.specs.Run.Local.{LocalState, local}
 use Rattle.ame_pool.specs.Members.{IsRising, find, is_busy}
 use Rattle.ame_pool.specs.Roster.{Roster}
 use Rattle.ame_pool.specs.Calls.{IsAt, exchanged, removed, with_room}
-use Rattle.ame_desk.specs.Contents.{Notes, Contents, no_notes, row_at}
-use Rattle.ame_desk.specs.Access.{is_owned_by}
-use Rattle.ame_desk.specs.Entries.{named_by, places}
-use Rattle.ame_desk.specs.LettingGo.{released_by, released_all}
-use Rattle.ame_owed.specs.Shown.{shown_cell, shown_undo}
-use Rattle.ame_owed.specs.SeatRun.{HasUsed, AreValid}
-use Rattle.ame_runner.specs.declared.wants.Wants.{Wants}
-use Rattle.ame_runner.specs.declared.wants.Wants.TheVariants as wants
-use Rattle.ame_runner.specs.Stage.{Stage, running_side, place_shown, without_footprint, with_answer}
-use Rattle.ame_runner.specs.Need.{Need}
-use Rattle.ame_runner.specs.Sound.{IsSoundStage}
-use Rattle.ame_runner.proofs.NeedLemmas.{comes_as}
-use Rattle.ame_stands.specs.declared.types.Attempt.{Attempt}
-use Rattle.ame_stands.specs.declared.types.Task.{Task}
-use Rattle.ame_stands.specs.Parts.{Parts, heap_in, task_at, term_at, attempt_of, member_of, run_in}
-use Rattle.ame_stands.specs.Shown.{shown_desk, shown_notes, shown_pool}
-use Rattle.ame_stands.specs.Tasks.{is_busy_as, RunsProtected}
-use Rattle.ame_stands.specs.Stands.{Stands}
-use Rattle.ame_stands.specs.Alone.{RunsAlone}
-use Rattle.ame_stands.specs.Events.{woken_for, with_newcomers, ran_entry, has_ended, has_left}
-use Rattle.ame_stands.proofs.StepLemmas.{seat_within}
-use Rattle.ame_stands.proofs.AccessLemmas.{runs}
-use Rattle.ame_stands.proofs.AloneEvents.{ended-alone, left-alone}
-use Rattle.ame_stands.proofs.CommitLemmas.{below-next, ended_stands, left_stands}
-use Rattle.ame_stands.proofs.DeskEvents.{desk-valid}
-use Rattle.ame_stands.proofs.GrowthLemmas.{keeps-on, woken-keeps, woken-free, newcomers-keep}
-use Rattle.ame_stands.proofs.ShownDeskLemmas.{row-shown, release-shown}
-use Rattle.ame_stands.proofs.ShownPoolLemmas.{removed-shown}
-use Rattle.ame_stands.proofs.ToldLemmas.{cells-grow, next-free}
-use Rattle.ame_waiting.specs.Waiting.{AreWaiting}
-use Rattle.ame_waiting.specs.Once.{AreNotedOnce}
-use Rattle.ame_waiting.proofs.CommitLemmas.{owned-named, ended-waiting, left-waiting}
-use Rattle.ame_waiting.proofs.OnceEvents.{ended-once, left-once}
+use Rattle.ame_rows.specs.MemoryView.{Log, MemoryView, no_log, row_at}
+use Rattle.ame_rows.specs.Access.{is_owned_by}
+use Rattle.ame_rows.specs.Entries.{named_by, places}
+use Rattle.ame_rows.specs.LettingGo.{released_by, released_all}
+use Rattle.ame_protocol.specs.Row.Shown.{shown_cell, shown_undo}
+use Rattle.ame_protocol.specs.Row.SeatRun.{HasUsed, AreValid}
+use Rattle.ame_machine.specs.declared.wants.Wants.{Wants}
+use Rattle.ame_machine.specs.declared.wants.Wants.TheVariants as wants
+use Rattle.ame_machine.specs.MachineView.{MachineView, running_side, place_shown, without_footprint, with_answer}
+use Rattle.ame_machine.specs.Need.{Need}
+use Rattle.ame_machine.specs.Sound.{IsSoundStage}
+use Rattle.ame_machine.proofs.NeedLemmas.{comes_as}
+use Rattle.ame_protocol.specs.declared.types.Attempt.{Attempt}
+use Rattle.ame_protocol.specs.declared.types.Task.{Task}
+use Rattle.ame_protocol.specs.Engine.Parts.{Parts, heap_in, task_at, term_at, attempt_of, member_of, run_in}
+use Rattle.ame_protocol.specs.Engine.Shown.{shown_memory, shown_notes, shown_pool}
+use Rattle.ame_protocol.specs.Engine.Tasks.{is_busy_as, RunsProtected}
+use Rattle.ame_protocol.specs.Engine.Simulates.{Simulates}
+use Rattle.ame_protocol.specs.Engine.Alone.{RunsExclusively}
+use Rattle.ame_protocol.specs.Engine.Events.{woken_for, with_newcomers, ran_entry, has_ended, has_left}
+use Rattle.ame_protocol.proofs.Engine.StepLemmas.{seat_within}
+use Rattle.ame_protocol.proofs.Engine.AccessLemmas.{runs}
+use Rattle.ame_protocol.proofs.Engine.AloneEvents.{ended-alone, left-alone}
+use Rattle.ame_protocol.proofs.Engine.CommitLemmas.{below-next, ended_stands, left_stands}
+use Rattle.ame_protocol.proofs.Engine.MemoryEvents.{memory-valid}
+use Rattle.ame_protocol.proofs.Engine.GrowthLemmas.{keeps-on, woken-keeps, woken-free, newcomers-keep}
+use Rattle.ame_protocol.proofs.Engine.ShownMemoryLemmas.{row-shown, release-shown}
+use Rattle.ame_protocol.proofs.Engine.ShownPoolLemmas.{removed-shown}
+use Rattle.ame_protocol.proofs.Engine.ToldLemmas.{cells-grow, next-free}
+use Rattle.ame_protocol.specs.Waits.Waiting.{AreWaiting}
+use Rattle.ame_protocol.specs.Waits.Once.{AreNotedOnce}
+use Rattle.ame_protocol.proofs.Waits.CommitLemmas.{owned-named, ended-waiting, left-waiting}
+use Rattle.ame_protocol.proofs.Waits.OnceEvents.{ended-once, left-once}
 use Rattle.ame_engine.specs.Core.{Core}
 use Rattle.ame_engine.specs.declared.stop.Stop.{Stop}
 use Rattle.ame_engine.proofs.CauseLemmas.{going-cause}
 use Rattle.ame_engine.specs.Counting.{Counted, one_counted}
 use Rattle.ame_engine.specs.Rollbacks.{IsGoodPool}
 use Rattle.ame_engine.specs.Seen.{parts_of, term_shown, MakesEvent}
-use Rattle.ame_engine.specs.Whole.{IsGoodUndo, AreGoodNotes, IsGoodDesk, IsAtRest, IsWhole}
+use Rattle.ame_engine.specs.Whole.{IsGoodUndo, IsGoodLog, IsGoodMemory, IsAtRest, IsSound}
 use Rattle.ame_engine.specs.AtWork.{working, IsOnSeat, IsOn}
-use Rattle.ame_engine.specs.Committing.{commits, owned_places, ended_at, left_at, all_woken}
+use Rattle.ame_engine.specs.Committing.{commits, owned_places, ended_at, left_at}
 use Rattle.ame_engine.proofs.ReadLemmas.{runs-as}
 use Rattle.ame_engine.proofs.CheckLemmas.{valid-shown}
 use Rattle.ame_engine.proofs.CountLemmas.{one-counts}
@@ -74,11 +74,12 @@ use Rattle.ame_engine.proofs.LoneLemmas.{lone-left}
 use Rattle.ame_engine.proofs.RollbackLemmas.{rising-shown}
 use Rattle.ame_engine.proofs.OwnedLemmas.{owned-are}
 use Rattle.ame_engine.proofs.CrewLemmas.{woken-rest, woken-good, all-woken-shown, busy-told, none-told, room-used, all-woken-room}
-use Rattle.ame_bounds.specs.Rollbacks.{IsWithinRollbacks}
-use Rattle.ame_bounds.proofs.ShownLemmas.{within-shown}
-use Rattle.ame_engine.specs.Bounds.{IsBounded}
+use Rattle.ame_protocol.specs.Bounds.Rollbacks.{IsWithinRollbacks}
+use Rattle.ame_protocol.proofs.Bounds.ShownLemmas.{within-shown}
+use Rattle.ame_engine.specs.Bounds.{KeepsBounds}
 use Rattle.ame_engine.proofs.BoundLemmas.{ended-bounded, left-bounded}
 use Rattle.ame_engine.specs.declared.counters.Counters.{Counters}
+use Rattle.ame_machine.specs.Meaning.{Meaning}
 
 -- what the machine wants
 pub which-want : (o : Option Wants) → commits o ≡ true → (o ≡ Some wants.Done) ⊎ (o ≡ Some wants.Leave)
@@ -98,7 +99,7 @@ which-want (Some wants.Tall) e = absurd (let clash : false ≡ true = e in cc)
 which-want (Some wants.OutOfFuel) e = absurd (let clash : false ≡ true = e in cc)
 
 -- where the run stands, by what the machine shows
-pub shown-place : (o : Option LocalState) (s : Stage) → option_map without_footprint o ≡ Some (with_answer None (place_shown s))
+pub shown-place : (o : Option LocalState) (s : MachineView) → option_map without_footprint o ≡ Some (with_answer None (place_shown s))
     → (p : LocalState) × (o ≡ Some p) × (without_footprint p ≡ with_answer None (place_shown s))
 shown-place None s e = absurd (let clash : ◌≡◌ {A = Option LocalState} None (Some (with_answer None (place_shown s))) = e in cc)
 shown-place (Some p) s e = (p, refl, ap (λ (o : Option LocalState). option_map_or (λ x. x) o (without_footprint p)) e)
@@ -124,11 +125,11 @@ module _ {V : Type 0} (IsGood : V → Type 0) (seat : ℕ) where
       by true = good
       by false = good
 
-  pub desk-released : (c : Contents V) → IsGoodDesk IsGood c → IsGoodDesk IsGood (released_all seat c)
-  desk-released c good = record {
+  pub memory-released : (c : MemoryView V) → IsGoodMemory IsGood c → IsGoodMemory IsGood (released_all seat c)
+  memory-released c good = record {
     cells = All-map (λ (cell : Cell V). IsGood cell.value) (released_by seat) c.cells
         (All-weaker (λ (cell : Cell V). IsGood cell.value) (λ cell. IsGood (released_by seat cell).value) released-good c.cells good.cells);
-    rows = All-set (AreGoodNotes IsGood) c.rows seat no_notes (record { inputs = All-nil IsGood; undos = All-nil (IsGoodUndo IsGood) }) good.rows;
+    rows = All-set (IsGoodLog IsGood) c.rows seat no_log (record { inputs = All-nil IsGood; undos = All-nil (IsGoodUndo IsGood) }) good.rows;
   }
 
 all-grow : {V : Type 0} (view : V → Val) (cells : List (Cell V)) → All CanGrow (map (shown_cell view) cells) → All CanGrow cells
@@ -139,32 +140,31 @@ all-grow view (cell ∷ cells) all =
 
 -- The whole engine
 
-module _ {C V M : Type 0} (program : C → Tree) (devices : C → ℕ) (is_value : C → V → Type 0) (value_of : C → V → Val)
-    (is_machine : C → M → Type 0) (stage : C → M → Stage)
-    (core now : Core C V M) (view : core ≡ now) (whole : IsWhole program devices is_value value_of is_machine stage core) (seat : ℕ) (m : M)
-    (on : IsOn program devices value_of is_machine stage now seat m) (outside : (stage now.code m).inside ≡ false)
-    (sound : IsSoundStage (stage now.code m)) (left : now.turns < now.limits.turns) (attempt : Attempt)
-    (runs-now : task_at now.tasks seat ≡ Task.Running attempt) (valid-now : IsValid now.desk.cells seat (row_at now.desk.rows seat).reads) where
+module _ {C V M : Type 0} (meaning : Meaning C V M)
+    (core now : Core C V M) (view : core ≡ now) (whole : IsSound meaning core) (seat : ℕ) (m : M)
+    (on : IsOn meaning now seat m) (outside : (meaning.stage now.code m).inside ≡ false)
+    (sound : IsSoundStage (meaning.stage now.code m)) (left : now.turns < now.limits.turns) (attempt : Attempt)
+    (runs-now : task_at now.tasks seat ≡ Task.Running attempt) (valid-now : IsValid now.memory.cells seat (row_at now.memory.rows seat).reads) where
   abbrev parts : Parts
-  parts = parts_of program devices value_of stage core
+  parts = parts_of meaning core
 
-  abbrev s : Stage
-  s = stage core.code m
+  abbrev s : MachineView
+  s = meaning.stage core.code m
 
   abbrev number : ℕ
   number = attempt.tried.number
 
   abbrev shown : Roster M → Roster Tree
-  shown pool = shown_pool (term_shown stage core.code) pool
+  shown pool = shown_pool (term_shown meaning.stage core.code) pool
 
   pub on' : IsOnSeat parts seat s
-  on' = subst (λ (x : Core C V M). IsOnSeat (parts_of program devices value_of stage x) seat (stage x.code m)) (sym view) on.stands
+  on' = subst (λ (x : Core C V M). IsOnSeat (parts_of meaning x) seat (meaning.stage x.code m)) (sym view) on.stands
 
   outside' : s.inside ≡ false
-  outside' = subst (λ (x : Core C V M). (stage x.code m).inside ≡ false) (sym view) outside
+  outside' = subst (λ (x : Core C V M). (meaning.stage x.code m).inside ≡ false) (sym view) outside
 
   pub sound' : IsSoundStage s
-  sound' = subst (λ (x : Core C V M). IsSoundStage (stage x.code m)) (sym view) sound
+  sound' = subst (λ (x : Core C V M). IsSoundStage (meaning.stage x.code m)) (sym view) sound
 
   pub left' : core.turns < core.limits.turns
   left' = subst (λ (x : Core C V M). x.turns < x.limits.turns) (sym view) left
@@ -172,11 +172,11 @@ module _ {C V M : Type 0} (program : C → Tree) (devices : C → ℕ) (is_value
   is : task_at core.tasks seat ≡ Task.Running attempt
   is = subst (λ (x : Core C V M). task_at x.tasks seat ≡ Task.Running attempt) (sym view) runs-now
 
-  valid : IsValid core.desk.cells seat (row_at core.desk.rows seat).reads
-  valid = subst (λ (x : Core C V M). IsValid x.desk.cells seat (row_at x.desk.rows seat).reads) (sym view) valid-now
+  valid : IsValid core.memory.cells seat (row_at core.memory.rows seat).reads
+  valid = subst (λ (x : Core C V M). IsValid x.memory.cells seat (row_at x.memory.rows seat).reads) (sym view) valid-now
 
-  machine' : is_machine core.code m
-  machine' = subst (λ (x : Core C V M). is_machine x.code m) (sym view) on.machine
+  machine' : meaning.is_machine core.code m
+  machine' = subst (λ (x : Core C V M). meaning.is_machine x.code m) (sym view) on.machine
 
   pub one-attempt : on'.attempt ≡ attempt
   one-attempt = ap (λ (t : Task). unwrap_or (working t) attempt) (sym (runs-as parts seat s on' outside') ∙ is)
@@ -187,17 +187,17 @@ module _ {C V M : Type 0} (program : C → Tree) (devices : C → ℕ) (is_value
       let since : s.steps ≡ s.since + attempt.tried.steps = subst (λ (a : Attempt). s.steps ≡ s.since + a.tried.steps) one-attempt on'.since in omega arith
 
   pub commit-rolls : IsWithinRollbacks parts.pool
-  commit-rolls = within-shown (term_shown stage core.code) core.pool whole.pool.few
+  commit-rolls = within-shown (term_shown meaning.stage core.code) core.pool whole.pool.few
 
   pub place : (p : LocalState)
-      × (local (running_side s) (term_at parts.pool on'.attempt.tried.number) (row_at parts.desk.rows seat).inputs s.steps ≡ Some p)
+      × (local (running_side s) (term_at parts.pool on'.attempt.tried.number) (row_at parts.memory.rows seat).inputs s.steps ≡ Some p)
       × (without_footprint p ≡ with_answer None (place_shown s))
-  place = shown-place (local (running_side s) (term_at parts.pool on'.attempt.tried.number) (row_at parts.desk.rows seat).inputs s.steps) s on'.run
+  place = shown-place (local (running_side s) (term_at parts.pool on'.attempt.tried.number) (row_at parts.memory.rows seat).inputs s.steps) s on'.run
 
   pub used : HasUsed (run_in parts seat number) s.steps place.0
   used =
       let start = term_at parts.pool on'.attempt.tried.number in
-      let inputs = (row_at parts.desk.rows seat).inputs in
+      let inputs = (row_at parts.memory.rows seat).inputs in
       subst (λ (a : Attempt). HasUsed (run_in parts seat a.tried.number) s.steps place.0) one-attempt
       (record {
         ran = subst (λ (x : Side). local x start inputs s.steps ≡ Some place.0) (ap side_told outside') place.1;
@@ -206,9 +206,9 @@ module _ {C V M : Type 0} (program : C → Tree) (devices : C → ℕ) (is_value
 
   pub are-valid : AreValid (heap_in parts) seat (run_in parts seat number).reads
   are-valid =
-      desk-valid parts.desk seat (row_at parts.desk.rows seat).reads
-      (subst (IsValid parts.desk.cells seat) (sym (ap (λ (n : Notes Val). n.reads) (row-shown (value_of core.code) core.desk.rows seat)))
-      (valid-shown (value_of core.code) core.desk.cells seat (row_at core.desk.rows seat).reads valid))
+      memory-valid parts.memory seat (row_at parts.memory.rows seat).reads
+      (subst (IsValid parts.memory.cells seat) (sym (ap (λ (n : Log Val). n.reads) (row-shown (meaning.value_of core.code) core.memory.rows seat)))
+      (valid-shown (meaning.value_of core.code) core.memory.cells seat (row_at core.memory.rows seat).reads valid))
 
   pub its-runs : RunsProtected parts whole.stands.types seat attempt
   its-runs = runs parts whole.stands seat attempt is
@@ -219,12 +219,12 @@ module _ {C V M : Type 0} (program : C → Tree) (devices : C → ℕ) (is_value
   pub commit-within : seat < length core.tasks
   commit-within = seat_within core.tasks seat attempt (ap attempt_of is)
 
-  pub commit-seat : seat < length core.desk.rows
+  pub commit-seat : seat < length core.memory.rows
   commit-seat =
       let within = commit-within in
       let tasks : length core.tasks ≡ core.limits.seats = whole.stands.bounded.tasks in
-      let rows : length parts.desk.rows ≡ core.limits.seats = whole.stands.bounded.rows in
-      let plain : length parts.desk.rows ≡ length core.desk.rows = length-map core.desk.rows (shown_notes (value_of core.code)) in
+      let rows : length parts.memory.rows ≡ core.limits.seats = whole.stands.bounded.rows in
+      let plain : length parts.memory.rows ≡ length core.memory.rows = length-map core.memory.rows (shown_notes (meaning.value_of core.code)) in
       omega (arith, within, tasks, rows, plain)
 
   pub commit-few : seat < 32
@@ -236,48 +236,48 @@ module _ {C V M : Type 0} (program : C → Tree) (devices : C → ℕ) (is_value
   pub commit-fit : (entry : Entry) → entry ≡ ran_entry seat number s.steps (place_shown s) → IsFit entry
   commit-fit entry e = subst IsFit (sym e) (record { seat = commit-few; answer = search rules })
 
-  pub commit-grows : All CanGrow core.desk.cells
-  commit-grows = all-grow (value_of core.code) core.desk.cells (cells-grow parts whole.stands (let h = whole.limits.turns in omega arith))
+  pub commit-grows : All CanGrow core.memory.cells
+  commit-grows = all-grow (meaning.value_of core.code) core.memory.cells (cells-grow parts whole.stands (let h = whole.limits.turns in omega arith))
 
   -- the locations that it owns
-  module _ (owned : List Loc) (same : IsPermutation (places (row_at core.desk.rows seat).undos) (map (λ l. l.0) owned))
+  module _ (owned : List Loc) (same : IsPermutation (places (row_at core.memory.rows seat).undos) (map (λ l. l.0) owned))
       (rising : IsStrictlyIncreasing (map (λ l. l.0) owned)) where
     abbrev ls : List ℕ
     ls = map (λ (l : Loc). l.0) owned
 
-    places-same : places (row_at parts.desk.rows seat).undos ≡ places (row_at core.desk.rows seat).undos
+    places-same : places (row_at parts.memory.rows seat).undos ≡ places (row_at core.memory.rows seat).undos
     places-same =
-        ap (λ (n : Notes Val). places n.undos) (row-shown (value_of core.code) core.desk.rows seat)
-        ∙ places-shown (value_of core.code) (row_at core.desk.rows seat).undos
+        ap (λ (n : Log Val). places n.undos) (row-shown (meaning.value_of core.code) core.memory.rows seat)
+        ∙ places-shown (meaning.value_of core.code) (row_at core.memory.rows seat).undos
 
-    ls-are : ls ≡ owned_places seat parts.desk.cells
+    ls-are : ls ≡ owned_places seat parts.memory.cells
     ls-are =
-        owned-are seat parts.desk.cells (row_at parts.desk.rows seat).undos (whole.stands.consistent.logs seat) ls
+        owned-are seat parts.memory.cells (row_at parts.memory.rows seat).undos (whole.stands.consistent.logs seat) ls
         (subst (λ (ns : List ℕ). IsPermutation ns ls) (sym places-same) same) rising
 
-    woken-there : (l : ℕ) → IsOwnedBy seat (cell_at (heap_in parts) l) → Contains (owned_places seat parts.desk.cells) l
+    woken-there : (l : ℕ) → IsOwnedBy seat (cell_at (heap_in parts) l) → Contains (owned_places seat parts.memory.cells) l
     woken-there l own =
         subst (λ (ns : List ℕ). Contains ns l) ls-are
         (owned-named parts seat ls whole.stands (subst (λ (ns : List ℕ). IsPermutation ns ls) (sym places-same) same) l own)
 
     -- the pool, with room for the new members and with those that are woken
     module _ (count : ℕ) (count_is : count ≡ length s.spawns) (roomy waked : Roster M) (roomy_is : roomy ≡ with_room count core.pool)
-        (slice : List Loc) (slice_is : slice ≡ owned) (wakes : waked ≡ all_woken (map (λ l. l.0) slice) roomy) where
-      waked_is : waked ≡ all_woken ls roomy
-      waked_is = wakes ∙ ap (λ (xs : List Loc). all_woken (map (λ l. l.0) xs) roomy) slice_is
+        (slice : List Loc) (slice_is : slice ≡ owned) (wakes : waked ≡ woken_for (map (λ l. l.0) slice) roomy) where
+      waked_is : waked ≡ woken_for ls roomy
+      waked_is = wakes ∙ ap (λ (xs : List Loc). woken_for (map (λ l. l.0) xs) roomy) slice_is
 
       abbrev plain_roomy : Roster Tree
       plain_roomy = with_room count parts.pool
 
       waked-shown : shown waked ≡ woken_for ls plain_roomy
-      waked-shown = ap shown waked_is ∙ all-woken-shown (term_shown stage core.code) ls roomy ∙ ap (λ (p : Roster M). woken_for ls (shown p)) roomy_is
+      waked-shown = ap shown waked_is ∙ all-woken-shown (term_shown meaning.stage core.code) ls roomy ∙ ap (λ (p : Roster M). woken_for ls (shown p)) roomy_is
 
       plain-free : (i : ℕ) → core.next ≤ i → find i (woken_for ls plain_roomy).members ≡ None
       plain-free = woken-free core.next ls plain_roomy (λ i above. next-free parts whole.stands i above)
 
       pub commit-fresh : (i : ℕ) → core.next ≤ i → find i waked.members ≡ None
       commit-fresh i above =
-          none-told (term_shown stage core.code) i waked (ap (λ (p : Roster Tree). find i p.members) waked-shown ∙ plain-free i above)
+          none-told (term_shown meaning.stage core.code) i waked (ap (λ (p : Roster Tree). find i p.members) waked-shown ∙ plain-free i above)
 
       pub commit-room : count ≤ waked.room
       commit-room =
@@ -297,32 +297,32 @@ module _ {C V M : Type 0} (program : C → Tree) (devices : C → ℕ) (is_value
             let keeps =
             keeps-on plain_roomy (woken_for ls plain_roomy) (with_newcomers core.next s.spawns (woken_for ls plain_roomy)) number
             (woken-keeps ls plain_roomy number) (newcomers-keep core.next s.spawns (woken_for ls plain_roomy) plain-free number below) in
-            busy-told (term_shown stage core.code) number joined
+            busy-told (term_shown meaning.stage core.code) number joined
             (subst (IsAt (is_busy_as false) number) (sym joined-plain) (keeps.busy false its-runs.work.busy))
 
         -- all that the engine has then
-        module _ (next-machine : M) (final : Roster M) (kept : stage core.code next-machine ≡ record s { spawns = [] })
-            (ended : (stage core.code next-machine).want ≡ Some wants.Done → final ≡ removed number joined)
-            (gone : (stage core.code next-machine).want ≡ Some wants.Leave
-            → shown final ≡ exchanged number (stage core.code next-machine).term true (shown joined))
-            (join-machine : is_machine core.code m → is_machine core.code next-machine)
-            (join-rests : is_machine core.code m → All (IsAtRest is_machine stage core.code) waked.members → All (IsAtRest is_machine stage core.code) joined.members)
-            (send-rests : is_machine core.code next-machine → All (IsAtRest is_machine stage core.code) joined.members
-            → All (IsAtRest is_machine stage core.code) final.members)
+        module _ (next-machine : M) (final : Roster M) (kept : meaning.stage core.code next-machine ≡ record s { spawns = [] })
+            (ended : (meaning.stage core.code next-machine).want ≡ Some wants.Done → final ≡ removed number joined)
+            (gone : (meaning.stage core.code next-machine).want ≡ Some wants.Leave
+            → shown final ≡ exchanged number (meaning.stage core.code next-machine).term true (shown joined))
+            (join-machine : meaning.is_machine core.code m → meaning.is_machine core.code next-machine)
+            (join-rests : meaning.is_machine core.code m → All (IsAtRest meaning.is_machine meaning.stage core.code) waked.members → All (IsAtRest meaning.is_machine meaning.stage core.code) joined.members)
+            (send-rests : meaning.is_machine core.code next-machine → All (IsAtRest meaning.is_machine meaning.stage core.code) joined.members
+            → All (IsAtRest meaning.is_machine meaning.stage core.code) final.members)
             (join-good : IsGoodPool waked → IsGoodPool joined) (send-good : IsGoodPool joined → IsGoodPool final)
-            (desk : Contents V) (desk_is : desk ≡ released_all seat core.desk)
+            (memory : MemoryView V) (memory_is : memory ≡ released_all seat core.memory)
             (printed output prints : List ℤ) (prints_are : prints ≡ s.prints) (printed_is : printed ≡ core.output) (appends : output ≡ printed ++ prints)
             (written text added bytes : List ℕ) (told : List ℤ) (told_are : told ≡ s.prints) (bytes_are : bytes ≡ lines told) (added_is : added ≡ bytes)
             (written_is : written ≡ core.text) (writes : text ≡ written ++ added)
             (before entries : List Entry) (entry : Entry) (entry_is : entry ≡ ran_entry seat number s.steps (place_shown s))
             (before_is : before ≡ core.entries) (pushes : entries ≡ before ++ entry ∷ []) (next : ℕ) (next_is : next ≡ core.next + count) where
-          rests : All (IsAtRest is_machine stage core.code) final.members
+          rests : All (IsAtRest meaning.is_machine meaning.stage core.code) final.members
           rests =
               send-rests (join-machine machine')
               (join-rests machine'
-              (subst (λ (p : Roster M). All (IsAtRest is_machine stage core.code) p.members) (sym waked_is)
-              (woken-rest is_machine stage core.code ls roomy
-              (subst (λ (p : Roster M). All (IsAtRest is_machine stage core.code) p.members) (sym roomy_is) whole.members))))
+              (subst (λ (p : Roster M). All (IsAtRest meaning.is_machine meaning.stage core.code) p.members) (sym waked_is)
+              (woken-rest meaning.is_machine meaning.stage core.code ls roomy
+              (subst (λ (p : Roster M). All (IsAtRest meaning.is_machine meaning.stage core.code) p.members) (sym roomy_is) whole.members))))
 
           roomy-good : IsGoodPool (with_room count core.pool)
           roomy-good = record { rising = whole.pool.rising; few = whole.pool.few }
@@ -335,7 +335,7 @@ module _ {C V M : Type 0} (program : C → Tree) (devices : C → ℕ) (is_value
           abbrev after : Core C V M
           after = record core {
             entries = entries;
-            desk = desk;
+            memory = memory;
             tasks = slice_set core.tasks seat Task.Idle;
             pool = final;
             output = output;
@@ -360,13 +360,13 @@ module _ {C V M : Type 0} (program : C → Tree) (devices : C → ℕ) (is_value
           next-is : next ≡ core.next + length s.spawns
           next-is = next_is ∙ ap (λ (n : ℕ). core.next + n) count_is
 
-          desk-shown : shown_desk (value_of core.code) desk ≡ released_all seat parts.desk
-          desk-shown = ap (shown_desk (value_of core.code)) desk_is ∙ release-shown (value_of core.code) seat core.desk
+          memory-shown : shown_memory (meaning.value_of core.code) memory ≡ released_all seat parts.memory
+          memory-shown = ap (shown_memory (meaning.value_of core.code)) memory_is ∙ release-shown (meaning.value_of core.code) seat core.memory
 
-          parts-with : Contents Val → Roster Tree → List ℤ → List Entry → ℕ → Parts
+          parts-with : MemoryView Val → Roster Tree → List ℤ → List Entry → ℕ → Parts
           parts-with d p o es n = record parts {
             entries = es;
-            desk = d;
+            memory = d;
             tasks = slice_set core.tasks seat Task.Idle;
             pool = p;
             output = o;
@@ -375,54 +375,54 @@ module _ {C V M : Type 0} (program : C → Tree) (devices : C → ℕ) (is_value
           }
 
           -- the parts, by the pool
-          parts-by : (pool : Roster Tree) → shown final ≡ pool → parts_of program devices value_of stage after
-              ≡ parts-with (released_all seat parts.desk) pool (core.output ++ s.prints)
+          parts-by : (pool : Roster Tree) → shown final ≡ pool → parts_of meaning after
+              ≡ parts-with (released_all seat parts.memory) pool (core.output ++ s.prints)
               (core.entries ++ ran_entry seat number s.steps (place_shown s) ∷ []) (core.next + length s.spawns)
           unfolding parts-with
-          parts-by pool e = λ i. parts-with (desk-shown i) (e i) (output-is i) (entries-are i) (next-is i)
+          parts-by pool e = λ i. parts-with (memory-shown i) (e i) (output-is i) (entries-are i) (next-is i)
 
-          next-wants : (stage core.code next-machine).want ≡ s.want
-          next-wants = ap (λ (x : Stage). x.want) kept
+          next-wants : (meaning.stage core.code next-machine).want ≡ s.want
+          next-wants = ap (λ (x : MachineView). x.want) kept
 
-          next-term : (stage core.code next-machine).term ≡ s.term
-          next-term = ap (λ (x : Stage). x.term) kept
+          next-term : (meaning.stage core.code next-machine).term ≡ s.term
+          next-term = ap (λ (x : MachineView). x.term) kept
 
           term-is : place.0.term ≡ s.term
           term-is = ap (λ (x : LocalState). x.term) place.2
 
           rising' : IsRising parts.pool.members
-          rising' = rising-shown (term_shown stage core.code) core.pool whole.pool.rising
+          rising' = rising-shown (term_shown meaning.stage core.code) core.pool whole.pool.rising
 
           -- its member has ended
           module _ (done : s.want ≡ Some wants.Done) where
-            pub ended-parts : parts_of program devices value_of stage after ≡ ended_at seat number s parts
+            pub ended-parts : parts_of meaning after ≡ ended_at seat number s parts
             unfolding parts-with
             ended-parts =
                 parts-by (removed number (with_newcomers core.next s.spawns (woken_for ls parts.pool)))
-                (ap shown (ended (next-wants ∙ done)) ∙ removed-shown (term_shown stage core.code) number joined ∙ ap (removed number) joined-shown)
+                (ap shown (ended (next-wants ∙ done)) ∙ removed-shown (term_shown meaning.stage core.code) number joined ∙ ap (removed number) joined-shown)
                 ∙ ap (λ (ns : List ℕ). has_ended seat number s.steps (place_shown s) ns parts) ls-are
 
             at-value : at_value (focus place.0.term) ≡ true
             at-value = ap (λ (t : Tree). at_value (focus t)) term-is ∙ (comes_as s Need.Done (sound'.told wants.Done done)).1
 
-            ended-stands : Stands (ended_at seat number s parts)
+            ended-stands : Simulates (ended_at seat number s parts)
             ended-stands =
-                subst (λ (q : LocalState). Stands (has_ended seat number s.steps q (owned_places seat parts.desk.cells) parts)) place.2
-                (ended_stands parts whole.stands seat attempt is left' s.steps place.0 used are-valid (owned_places seat parts.desk.cells) rising' at-value)
+                subst (λ (q : LocalState). Simulates (has_ended seat number s.steps q (owned_places seat parts.memory.cells) parts)) place.2
+                (ended_stands parts whole.stands seat attempt is left' s.steps place.0 used are-valid (owned_places seat parts.memory.cells) rising' at-value)
 
-            its-ended-alone : RunsAlone (ended_at seat number s parts)
+            its-ended-alone : RunsExclusively (ended_at seat number s parts)
             its-ended-alone =
-                subst (λ (q : LocalState). RunsAlone (has_ended seat number s.steps q (owned_places seat parts.desk.cells) parts)) place.2
-                (ended-alone parts whole.stands whole.alone seat attempt is left' s.steps place.0 used are-valid (owned_places seat parts.desk.cells) rising')
+                subst (λ (q : LocalState). RunsExclusively (has_ended seat number s.steps q (owned_places seat parts.memory.cells) parts)) place.2
+                (ended-alone parts whole.stands whole.alone seat attempt is left' s.steps place.0 used are-valid (owned_places seat parts.memory.cells) rising')
 
             ended-waits : AreWaiting (ended_at seat number s parts)
             ended-waits =
-                subst (λ (q : LocalState). AreWaiting (has_ended seat number s.steps q (owned_places seat parts.desk.cells) parts)) place.2
-                (ended-waiting parts whole.stands whole.waiting seat attempt is s.steps place.0 used are-valid (owned_places seat parts.desk.cells) woken-there rising')
+                subst (λ (q : LocalState). AreWaiting (has_ended seat number s.steps q (owned_places seat parts.memory.cells) parts)) place.2
+                (ended-waiting parts whole.stands whole.waiting seat attempt is s.steps place.0 used are-valid (owned_places seat parts.memory.cells) woken-there rising')
 
           -- or has come to `unprotected`
           module _ (leaves : s.want ≡ Some wants.Leave) where
-            pub left-parts : parts_of program devices value_of stage after ≡ left_at seat number s parts
+            pub left-parts : parts_of meaning after ≡ left_at seat number s parts
             unfolding parts-with
             left-parts =
                 parts-by (exchanged number s.term true (with_newcomers core.next s.spawns (woken_for ls parts.pool)))
@@ -433,85 +433,85 @@ module _ {C V M : Type 0} (program : C → Tree) (devices : C → ℕ) (is_value
             at-unprotected : at_unprotected (focus place.0.term) ≡ true
             at-unprotected = ap (λ (t : Tree). at_unprotected (focus t)) term-is ∙ (comes_as s Need.Leave (sound'.told wants.Leave leaves)).1
 
-            left-stands : Stands (left_at seat number s parts)
+            left-stands : Simulates (left_at seat number s parts)
             left-stands =
-                subst (λ (q : LocalState). Stands (has_left seat number s.steps q (owned_places seat parts.desk.cells) parts)) place.2
-                (left_stands parts whole.stands seat attempt is left' s.steps place.0 used are-valid (owned_places seat parts.desk.cells) at-unprotected)
+                subst (λ (q : LocalState). Simulates (has_left seat number s.steps q (owned_places seat parts.memory.cells) parts)) place.2
+                (left_stands parts whole.stands seat attempt is left' s.steps place.0 used are-valid (owned_places seat parts.memory.cells) at-unprotected)
 
-            its-left-alone : RunsAlone (left_at seat number s parts)
+            its-left-alone : RunsExclusively (left_at seat number s parts)
             its-left-alone =
-                subst (λ (q : LocalState). RunsAlone (has_left seat number s.steps q (owned_places seat parts.desk.cells) parts)) place.2
-                (left-alone parts whole.stands whole.alone seat attempt is left' s.steps place.0 used are-valid (owned_places seat parts.desk.cells))
+                subst (λ (q : LocalState). RunsExclusively (has_left seat number s.steps q (owned_places seat parts.memory.cells) parts)) place.2
+                (left-alone parts whole.stands whole.alone seat attempt is left' s.steps place.0 used are-valid (owned_places seat parts.memory.cells))
 
             left-waits : AreWaiting (left_at seat number s parts)
             left-waits =
-                subst (λ (q : LocalState). AreWaiting (has_left seat number s.steps q (owned_places seat parts.desk.cells) parts)) place.2
-                (left-waiting parts whole.stands whole.waiting seat attempt is s.steps place.0 used are-valid (owned_places seat parts.desk.cells) woken-there)
+                subst (λ (q : LocalState). AreWaiting (has_left seat number s.steps q (owned_places seat parts.memory.cells) parts)) place.2
+                (left-waiting parts whole.stands whole.waiting seat attempt is s.steps place.0 used are-valid (owned_places seat parts.memory.cells) woken-there)
 
           record KeepsAll (x : Parts) : Type 0 where
-            stands : Stands x
-            alone : RunsAlone x
+            stands : Simulates x
+            alone : RunsExclusively x
             waiting : AreWaiting x
             once : AreNotedOnce x
 
-          all-by : (s.want ≡ Some wants.Done) ⊎ (s.want ≡ Some wants.Leave) → KeepsAll (parts_of program devices value_of stage after)
+          all-by : (s.want ≡ Some wants.Done) ⊎ (s.want ≡ Some wants.Leave) → KeepsAll (parts_of meaning after)
           all-by (inl done) = subst (λ (x : Parts). KeepsAll x) (sym (ended-parts done)) (record {
             stands = ended-stands done;
             alone = its-ended-alone done;
             waiting = ended-waits done;
-            once = ended-once parts whole.once seat number s.steps (place_shown s) (owned_places seat parts.desk.cells);
+            once = ended-once parts whole.once seat number s.steps (place_shown s) (owned_places seat parts.memory.cells);
           })
           all-by (inr leaves) = subst (λ (x : Parts). KeepsAll x) (sym (left-parts leaves)) (record {
             stands = left-stands leaves;
             alone = its-left-alone leaves;
             waiting = left-waits leaves;
-            once = left-once parts whole.once seat number s.steps (place_shown s) (owned_places seat parts.desk.cells);
+            once = left-once parts whole.once seat number s.steps (place_shown s) (owned_places seat parts.memory.cells);
           })
 
           abbrev counted : Counters
           counted = one_counted Counted.Commit core.counters
 
           bounded-by : core.stop ≡ None → (s.want ≡ Some wants.Done) ⊎ (s.want ≡ Some wants.Leave)
-              → IsBounded core.stop counted (parts_of program devices value_of stage after)
+              → KeepsBounds core.stop counted (parts_of meaning after)
           bounded-by none (inl done) =
-              subst (λ (x : Parts). IsBounded core.stop counted x) (sym (ended-parts done))
-              (subst (λ (q : LocalState). IsBounded core.stop counted (has_ended seat number s.steps q (owned_places seat parts.desk.cells) parts)) place.2
+              subst (λ (x : Parts). KeepsBounds core.stop counted x) (sym (ended-parts done))
+              (subst (λ (q : LocalState). KeepsBounds core.stop counted (has_ended seat number s.steps q (owned_places seat parts.memory.cells) parts)) place.2
               (ended-bounded parts whole.stands core.stop none (ap (λ (o : Option Stop). is_some o) none) core.counters counted whole.bounds refl seat attempt is
-              commit-rolls s.steps place.0 used commit-low rising' (owned_places seat parts.desk.cells)))
+              commit-rolls s.steps place.0 used commit-low rising' (owned_places seat parts.memory.cells)))
           bounded-by none (inr leaves) =
-              subst (λ (x : Parts). IsBounded core.stop counted x) (sym (left-parts leaves))
-              (subst (λ (q : LocalState). IsBounded core.stop counted (has_left seat number s.steps q (owned_places seat parts.desk.cells) parts)) place.2
+              subst (λ (x : Parts). KeepsBounds core.stop counted x) (sym (left-parts leaves))
+              (subst (λ (q : LocalState). KeepsBounds core.stop counted (has_left seat number s.steps q (owned_places seat parts.memory.cells) parts)) place.2
               (left-bounded parts whole.stands core.stop none (ap (λ (o : Option Stop). is_some o) none) core.counters counted whole.bounds refl seat attempt is
-              commit-rolls s.steps place.0 used commit-low (owned_places seat parts.desk.cells)))
+              commit-rolls s.steps place.0 used commit-low (owned_places seat parts.memory.cells)))
 
-          pub whole-committed : commits s.want ≡ true → now.stop ≡ None → IsWhole program devices is_value value_of is_machine stage after
+          pub whole-committed : commits s.want ≡ true → now.stop ≡ None → IsSound meaning after
           whole-committed committing going = record {
             stands = (all-by (which-want s.want committing)).stands;
             limits = whole.limits;
-            desk = subst (IsGoodDesk (is_value core.code)) (sym desk_is) (desk-released (is_value core.code) seat core.desk whole.desk);
+            memory = subst (IsGoodMemory (meaning.is_value core.code)) (sym memory_is) (memory-released (meaning.is_value core.code) seat core.memory whole.memory);
             members = rests;
             pool = good;
             alone = (all-by (which-want s.want committing)).alone;
-            lone = lone-left parts (parts_of program devices value_of stage after) whole.stands core.counters (one_counted Counted.Commit core.counters)
+            lone = lone-left parts (parts_of meaning after) whole.stands core.counters (one_counted Counted.Commit core.counters)
                 whole.lone seat commit-within refl refl refl Task.Idle refl (λ t e. let clash : Task.Idle ≡ Task.Running t = e in cc);
             bounds = bounded-by (subst (λ (x : Core C V M). x.stop ≡ None) (sym view) going) (which-want s.want committing);
             waiting = (all-by (which-want s.want committing)).waiting;
             once = (all-by (which-want s.want committing)).once;
-            caused = going-cause parts (parts_of program devices value_of stage after) core.stop
+            caused = going-cause parts (parts_of meaning after) core.stop
                 (subst (λ (x : Core C V M). x.stop ≡ None) (sym view) going) core.certificates whole.caused
                 (ran_entry seat number s.steps (place_shown s)) entries-are refl;
             counters = one-counts core.turns core.counters whole.counters Counted.Commit;
             text = text-is;
           }
 
-          pub makes-ended : (stage now.code m).want ≡ Some wants.Done
-              → MakesEvent program devices value_of stage (one_counted Counted.Commit) (ended_at seat number (stage now.code m)) now after
+          pub makes-ended : (meaning.stage now.code m).want ≡ Some wants.Done
+              → MakesEvent meaning (one_counted Counted.Commit) (ended_at seat number (meaning.stage now.code m)) now after
           makes-ended done =
-              subst (λ (x : Core C V M). MakesEvent program devices value_of stage (one_counted Counted.Commit) (ended_at seat number (stage x.code m)) x after) view
-              (record { code = refl; parts = ended-parts (subst (λ (x : Core C V M). (stage x.code m).want ≡ Some wants.Done) (sym view) done); counted = refl; stop = refl })
+              subst (λ (x : Core C V M). MakesEvent meaning (one_counted Counted.Commit) (ended_at seat number (meaning.stage x.code m)) x after) view
+              (record { code = refl; parts = ended-parts (subst (λ (x : Core C V M). (meaning.stage x.code m).want ≡ Some wants.Done) (sym view) done); counted = refl; stop = refl })
 
-          pub makes-left : (stage now.code m).want ≡ Some wants.Leave
-              → MakesEvent program devices value_of stage (one_counted Counted.Commit) (left_at seat number (stage now.code m)) now after
+          pub makes-left : (meaning.stage now.code m).want ≡ Some wants.Leave
+              → MakesEvent meaning (one_counted Counted.Commit) (left_at seat number (meaning.stage now.code m)) now after
           makes-left leaves =
-              subst (λ (x : Core C V M). MakesEvent program devices value_of stage (one_counted Counted.Commit) (left_at seat number (stage x.code m)) x after) view
-              (record { code = refl; parts = left-parts (subst (λ (x : Core C V M). (stage x.code m).want ≡ Some wants.Leave) (sym view) leaves); counted = refl; stop = refl })
+              subst (λ (x : Core C V M). MakesEvent meaning (one_counted Counted.Commit) (left_at seat number (meaning.stage x.code m)) x after) view
+              (record { code = refl; parts = left-parts (subst (λ (x : Core C V M). (meaning.stage x.code m).want ≡ Some wants.Leave) (sym view) leaves); counted = refl; stop = refl })

@@ -11,18 +11,17 @@ use Rattle.ame_pool.specs.Members.{find, except, is_busy}
 use Rattle.ame_pool.specs.Roster.{Roster}
 use Rattle.ame_pool.specs.Waking.{stirred_by}
 use Rattle.ame_pool.specs.Calls.{IsAt, newcomer, renewed, joined, exchanged, removed, woken, with_room}
-use Rattle.ame_runner.specs.declared.wants.Wants.{Wants}
-use Rattle.ame_runner.specs.declared.wants.Wants.TheVariants as wants
-use Rattle.ame_runner.specs.Stage.{Stage, starting_at}
-use Rattle.ame_runner.specs.Move.{tells_leave, settled_stage}
-use Rattle.ame_stands.specs.Shown.{shown_member, shown_pool}
-use Rattle.ame_stands.specs.Tasks.{is_busy_as}
-use Rattle.ame_stands.specs.Events.{woken_for, with_newcomers}
-use Rattle.ame_stands.proofs.ShownPoolLemmas.{found-shown, woken-shown, exchanged-shown}
+use Rattle.ame_machine.specs.declared.wants.Wants.{Wants}
+use Rattle.ame_machine.specs.declared.wants.Wants.TheVariants as wants
+use Rattle.ame_machine.specs.MachineView.{MachineView, starting_at}
+use Rattle.ame_machine.specs.Move.{tells_leave, settled_stage}
+use Rattle.ame_protocol.specs.Engine.Shown.{shown_member, shown_pool}
+use Rattle.ame_protocol.specs.Engine.Tasks.{is_busy_as}
+use Rattle.ame_protocol.specs.Engine.Events.{woken_for, with_newcomers}
+use Rattle.ame_protocol.proofs.Engine.ShownPoolLemmas.{found-shown, woken-shown, exchanged-shown}
 use Rattle.ame_engine.specs.Rollbacks.{IsGoodPool}
 use Rattle.ame_engine.specs.Seen.{term_shown}
 use Rattle.ame_engine.specs.Whole.{resting_at, IsAtRest}
-use Rattle.ame_engine.specs.Committing.{all_woken}
 use Rattle.ame_engine.proofs.MemberLemmas.{all_altered}
 use Rattle.ame_engine.proofs.RollbackLemmas.{good-woken}
 
@@ -38,7 +37,7 @@ all_except n P (m ∷ ms) all =
 
 -- so do all that are woken, if what wakes them leaves it
 pub all-woken-pass : {M : Type 0} (P : Member M → Type 0) → ((l : ℕ) (m : Member M) → P m → P (stirred_by l m)) → (ls : List ℕ) (pool : Roster M)
-    → All P pool.members → All P (all_woken ls pool).members
+    → All P pool.members → All P (woken_for ls pool).members
 all-woken-pass P keeps [] pool all = all
 all-woken-pass P keeps (l ∷ ls) pool all =
     all-woken-pass P keeps ls (woken l pool)
@@ -46,37 +45,37 @@ all-woken-pass P keeps (l ∷ ls) pool all =
 
 -- one location more
 pub woken-more : {M : Type 0} (locs : List Loc) (i : ℕ) (d : Loc) (pool new start : Roster M) → i < length locs → new ≡ woken (get_or locs i d).0 pool
-    → all_woken (map (λ l. l.0) (drop i locs)) pool ≡ start → all_woken (map (λ l. l.0) (drop (i + 1) locs)) new ≡ start
+    → woken_for (map (λ l. l.0) (drop i locs)) pool ≡ start → woken_for (map (λ l. l.0) (drop (i + 1) locs)) new ≡ start
 woken-more {M} locs i d pool new start below is before =
-    ap (all_woken (map (λ l. l.0) (drop (i + 1) locs))) is
-    ∙ sym (ap (λ (ls : List Loc). all_woken (map (λ l. l.0) ls) pool) (drop_more locs i d below)) ∙ before
+    ap (woken_for (map (λ l. l.0) (drop (i + 1) locs))) is
+    ∙ sym (ap (λ (ls : List Loc). woken_for (map (λ l. l.0) ls) pool) (drop_more locs i d below)) ∙ before
 
 -- and no more
 pub woken-end : {M : Type 0} (locs : List Loc) (i : ℕ) (pool start : Roster M) → length locs ≤ i
-    → all_woken (map (λ l. l.0) (drop i locs)) pool ≡ start → pool ≡ start
-woken-end locs i pool start all before = sym (ap (λ (ls : List Loc). all_woken (map (λ l. l.0) ls) pool) (drop_all i locs all)) ∙ before
+    → woken_for (map (λ l. l.0) (drop i locs)) pool ≡ start → pool ≡ start
+woken-end locs i pool start all before = sym (ap (λ (ls : List Loc). woken_for (map (λ l. l.0) ls) pool) (drop_all i locs all)) ∙ before
 
-module _ {C M : Type 0} (is_machine : C → M → Type 0) (stage : C → M → Stage) (code : C) where
+module _ {C M : Type 0} (is_machine : C → M → Type 0) (stage : C → M → MachineView) (code : C) where
   pub woken-rest : (ls : List ℕ) (pool : Roster M) → All (IsAtRest is_machine stage code) pool.members
-      → All (IsAtRest is_machine stage code) (all_woken ls pool).members
+      → All (IsAtRest is_machine stage code) (woken_for ls pool).members
   woken-rest = all-woken-pass (IsAtRest is_machine stage code) (λ l m rests. record { machine = rests.machine; rests = rests.rests })
 
-pub woken-good : {M : Type 0} (ls : List ℕ) (pool : Roster M) → IsGoodPool pool → IsGoodPool (all_woken ls pool)
+pub woken-good : {M : Type 0} (ls : List ℕ) (pool : Roster M) → IsGoodPool pool → IsGoodPool (woken_for ls pool)
 woken-good [] pool good = good
 woken-good (l ∷ ls) pool good = woken-good ls (woken l pool) (good-woken l pool good)
 
 -- a member goes on inside, with no more than its term
-module _ {C M : Type 0} (is_machine : C → M → Type 0) (stage : C → M → Stage) (code : C) (number : ℕ) (pool new : Roster M) where
+module _ {C M : Type 0} (is_machine : C → M → Type 0) (stage : C → M → MachineView) (code : C) (number : ℕ) (pool new : Roster M) where
   module _ (at settled : M) (settles : stage code settled ≡ settled_stage (stage code at)) (is : new ≡ exchanged number settled true pool) where
     pub left-shown : shown_pool (term_shown stage code) new ≡ exchanged number (stage code at).term true (shown_pool (term_shown stage code) pool)
     left-shown =
         ap (shown_pool (term_shown stage code)) is ∙ exchanged-shown (term_shown stage code) number settled true pool
-        ∙ ap (λ (s : Stage). exchanged number s.term true (shown_pool (term_shown stage code) pool)) settles
+        ∙ ap (λ (s : MachineView). exchanged number s.term true (shown_pool (term_shown stage code) pool)) settles
 
     settled-rests : (stage code at).want ≡ Some wants.Leave → stage code settled ≡ resting_at (stage code settled).term true
     settled-rests leaves =
         settles ∙ ap (λ (o : Option Wants). record (starting_at (stage code at).term) { inside = tells_leave o || (stage code at).inside }) leaves
-        ∙ sym (ap (λ (s : Stage). resting_at s.term true) settles)
+        ∙ sym (ap (λ (s : MachineView). resting_at s.term true) settles)
 
     pub left-rests : (stage code at).want ≡ Some wants.Leave → is_machine code settled → All (IsAtRest is_machine stage code) pool.members
         → All (IsAtRest is_machine stage code) new.members
@@ -91,7 +90,7 @@ module _ {C M : Type 0} (is_machine : C → M → Type 0) (stage : C → M → S
       subst (λ (p : Roster M). All (IsAtRest is_machine stage code) p.members) (sym is) (all_except number (IsAtRest is_machine stage code) pool.members all)
 
 module _ {M : Type 0} (term : M → Tree) where
-  pub all-woken-shown : (ls : List ℕ) (pool : Roster M) → shown_pool term (all_woken ls pool) ≡ woken_for ls (shown_pool term pool)
+  pub all-woken-shown : (ls : List ℕ) (pool : Roster M) → shown_pool term (woken_for ls pool) ≡ woken_for ls (shown_pool term pool)
   all-woken-shown [] pool = refl
   all-woken-shown (l ∷ ls) pool = all-woken-shown ls (woken l pool) ∙ ap (woken_for ls) (woken-shown term l pool)
 
@@ -147,6 +146,6 @@ room-used next bodies ls pool places e =
     ∙ newcomers-room next bodies (woken_for ls pool) room
     (ap (λ (n : ℕ). max pool.room n) e ∙ ap (λ (n : ℕ). max n (length bodies)) (sym (woken-room ls pool)))
 
-pub all-woken-room : {M : Type 0} (ls : List ℕ) (pool : Roster M) → (all_woken ls pool).room ≡ pool.room
+pub all-woken-room : {M : Type 0} (ls : List ℕ) (pool : Roster M) → (woken_for ls pool).room ≡ pool.room
 all-woken-room [] pool = refl
 all-woken-room (l ∷ ls) pool = all-woken-room ls (woken l pool)

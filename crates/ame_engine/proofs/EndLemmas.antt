@@ -13,32 +13,32 @@ use Rattle.ame_pool.specs.declared.member.Member.{Member}
 use Rattle.ame_pool.specs.declared.oldest.Oldest.{Oldest}
 use Rattle.ame_pool.specs.Members.{IsRising, find}
 use Rattle.ame_pool.specs.Begin.{oldest}
-use Rattle.ame_desk.specs.Contents.{Notes, row_at}
-use Rattle.ame_owed.specs.Shown.{shown_undo}
-use Rattle.ame_runner.specs.Stage.{Stage}
-use Rattle.ame_stands.specs.declared.types.Task.{Task}
-use Rattle.ame_stands.specs.Parts.{Parts, whole_journal, task_at}
-use Rattle.ame_stands.specs.Stands.{Stands}
-use Rattle.ame_stands.proofs.ShownDeskLemmas.{row-shown}
-use Rattle.ame_waiting.specs.Certificates.{IsCertificate, HasCertificate}
-use Rattle.ame_waiting.proofs.CertificateLemmas.{blocked-certificates}
-use Rattle.ame_visits.proofs.EndLemmas.{idle-clear, all-stored, state-empty, pool-empty}
+use Rattle.ame_rows.specs.MemoryView.{Log, row_at}
+use Rattle.ame_protocol.specs.Row.Shown.{shown_undo}
+use Rattle.ame_protocol.specs.declared.types.Task.{Task}
+use Rattle.ame_protocol.specs.Engine.Parts.{Parts, whole_journal, task_at}
+use Rattle.ame_protocol.specs.Engine.Simulates.{Simulates}
+use Rattle.ame_protocol.proofs.Engine.ShownMemoryLemmas.{row-shown}
+use Rattle.ame_protocol.specs.Waits.Certificates.{IsCertificate, HasCertificate}
+use Rattle.ame_protocol.proofs.Waits.CertificateLemmas.{blocked-certificates}
+use Rattle.ame_protocol.proofs.Visits.EndLemmas.{idle-clear, all-stored, state-empty, pool-empty}
 use Rattle.ame_engine.specs.declared.certificate.Certificate.{Certificate}
 use Rattle.ame_engine.specs.declared.stop.Stop.{Stop}
 use Rattle.ame_engine.specs.Core.{Core}
 use Rattle.ame_engine.specs.Faults.{LeadsToCall}
 use Rattle.ame_engine.specs.Causes.{certificate_of, certificates_of, certificates_in, HasCause}
 use Rattle.ame_engine.specs.Seen.{parts_of, term_shown}
-use Rattle.ame_engine.specs.Whole.{IsWhole}
+use Rattle.ame_engine.specs.Whole.{IsSound}
 use Rattle.ame_engine.specs.Ending.{Rise, CertifyAll, HasStopped, IsEnd, end_of}
 use Rattle.ame_engine.proofs.CauseLemmas.{empty-oldest}
 use Rattle.ame_engine.proofs.RollbackLemmas.{rising-shown}
 use Rattle.ame_pool.specs.Standings.{max_rollbacks}
-use Rattle.ame_bounds.specs.Rollbacks.{IsWithinRollbacks}
-use Rattle.ame_bounds.proofs.ShownLemmas.{within-shown}
-use Rattle.ame_bounds.proofs.FewBounds.{refusals-bounded, tries-bounded}
-use Rattle.ame_bounds.proofs.PaidEntries.{turns-bounded}
-use Rattle.ame_engine.specs.Bounds.{refusals, IsBounded, HasBounds}
+use Rattle.ame_protocol.specs.Bounds.Rollbacks.{IsWithinRollbacks}
+use Rattle.ame_protocol.proofs.Bounds.ShownLemmas.{within-shown}
+use Rattle.ame_protocol.proofs.Bounds.FewBounds.{refusals-bounded, tries-bounded}
+use Rattle.ame_protocol.proofs.Bounds.PaidEntries.{turns-bounded}
+use Rattle.ame_engine.specs.Bounds.{refusals, KeepsBounds, HasBounds}
+use Rattle.ame_machine.specs.Meaning.{Meaning}
 
 -- One certificate a member
 
@@ -111,24 +111,23 @@ machine-some (Some m) h = refl
 
 -- The whole engine
 
-module _ {C V M : Type 0} (program : C → Tree) (devices : C → ℕ) (is_value : C → V → Type 0) (value_of : C → V → Val)
-    (is_machine : C → M → Type 0) (stage : C → M → Stage) (core : Core C V M)
-    (whole : IsWhole program devices is_value value_of is_machine stage core) (idle : (seat : ℕ) → task_at core.tasks seat ≡ Task.Idle) where
+module _ {C V M : Type 0} (meaning : Meaning C V M) (core : Core C V M)
+    (whole : IsSound meaning core) (idle : (seat : ℕ) → task_at core.tasks seat ≡ Task.Idle) where
   abbrev parts : Parts
-  parts = parts_of program devices value_of stage core
+  parts = parts_of meaning core
 
-  abbrev s : Stands parts
+  abbrev s : Simulates parts
   s = whole.stands
 
   abbrev state : State
   state = s.r.state
 
   -- nothing is left to undo
-  pub end-clear : (seat : ℕ) → (row_at core.desk.rows seat).undos ≡ []
+  pub end-clear : (seat : ℕ) → (row_at core.memory.rows seat).undos ≡ []
   end-clear seat =
-      map-none (shown_undo (value_of core.code)) (row_at core.desk.rows seat).undos
-      (sym (ap (λ (n : Notes Val). n.undos) (row-shown (value_of core.code) core.desk.rows seat))
-      ∙ ap (λ (n : Notes Val). n.undos) (idle-clear parts s seat (idle seat)))
+      map-none (shown_undo (meaning.value_of core.code)) (row_at core.memory.rows seat).undos
+      (sym (ap (λ (n : Log Val). n.undos) (row-shown (meaning.value_of core.code) core.memory.rows seat))
+      ∙ ap (λ (n : Log Val). n.undos) (idle-clear parts s seat (idle seat)))
 
   certify : oldest parts.pool ≡ Oldest.Parked → core.certificates ≡ certificates_in parts → CertifyAll state core.certificates
   certify parked are = subst (CertifyAll state) (sym are) (record {
@@ -149,7 +148,7 @@ module _ {C V M : Type 0} (program : C → Tree) (devices : C → ℕ) (is_value
   })
     where
       rising : IsRising parts.pool.members
-      rising = rising-shown (term_shown stage core.code) core.pool whole.pool.rising
+      rising = rising-shown (term_shown meaning.stage core.code) core.pool whole.pool.rising
 
       all : Certified (whole_journal parts) state parts.pool.members (certificates_in parts)
       all = certified (whole_journal parts) state parts.pool.members (blocked-certificates parts s whole.waiting parked rising)
@@ -178,26 +177,26 @@ module _ {C V M : Type 0} (program : C → Tree) (devices : C → ℕ) (is_value
       untold (Some Stop.WriteFault) b other = b.told
       untold (Some (Stop.DeviceFault device)) b other = b.told
 
-  has-bounds : (stop : Option Stop) → IsBounded stop core.counters parts
-      → HasBounds (program core.code) core.limits s.r core.base core.entries core.turns core.counters core.tried stop
+  has-bounds : (stop : Option Stop) → KeepsBounds stop core.counters parts
+      → HasBounds (meaning.program core.code) core.limits s.r core.base core.entries core.turns core.counters core.tried stop
   has-bounds stop b = record {
     rollbacks =
         subst (λ (n : ℕ). refusals core.counters ≤ max_rollbacks * (n + length core.entries)) (sym s.stands.next)
-        (refusals-bounded (refusals core.counters) parts s b.few (rising-shown (term_shown stage core.code) core.pool whole.pool.rising) within);
+        (refusals-bounded (refusals core.counters) parts s b.few (rising-shown (term_shown meaning.stage core.code) core.pool whole.pool.rising) within);
     tries = tries-bounded (refusals core.counters) parts b.few within;
     sound = s.sound;
     spent = λ e.
-        let spent : IsBounded (Some Stop.Spent) core.counters parts = subst (λ (o : Option Stop). IsBounded o core.counters parts) e b in
+        let spent : KeepsBounds (Some Stop.Spent) core.counters parts = subst (λ (o : Option Stop). KeepsBounds o core.counters parts) e b in
         turns-bounded parts spent.paid idle;
     untried = λ one e.
-        let spent : IsBounded (Some Stop.Spent) core.counters parts = subst (λ (o : Option Stop). IsBounded o core.counters parts) e b in
+        let spent : KeepsBounds (Some Stop.Spent) core.counters parts = subst (λ (o : Option Stop). KeepsBounds o core.counters parts) e b in
         (spent.untried one).none;
   }
     where
       within : IsWithinRollbacks parts.pool
-      within = within-shown (term_shown stage core.code) core.pool whole.pool.few
+      within = within-shown (term_shown meaning.stage core.code) core.pool whole.pool.few
 
-  pub is-end : All IsFree core.desk.cells → IsEnd (program core.code) core.limits (value_of core.code) (end_of core)
+  pub is-end : All IsFree core.memory.cells → IsEnd (meaning.program core.code) core.limits (meaning.value_of core.code) (end_of core)
   is-end free = record {
     r = s.r;
     replays = s.stands.replayed;
@@ -210,18 +209,17 @@ module _ {C V M : Type 0} (program : C → Tree) (devices : C → ℕ) (is_value
     bounds = has-bounds core.stop whole.bounds;
   }
 
-module _ {C V M : Type 0} (program : C → Tree) (devices : C → ℕ) (is_value : C → V → Type 0) (value_of : C → V → Val)
-    (is_machine : C → M → Type 0) (stage : C → M → Stage) (core now : Core C V M) (view : core ≡ now)
-    (whole : IsWhole program devices is_value value_of is_machine stage core) (idle : (seat : ℕ) → task_at now.tasks seat ≡ Task.Idle)
-    (cells : List (Cell V)) (cells_are : cells ≡ core.desk.cells) (free : ((seat : ℕ) → (row_at core.desk.rows seat).undos ≡ []) → All IsFree cells) where
+module _ {C V M : Type 0} (meaning : Meaning C V M) (core now : Core C V M) (view : core ≡ now)
+    (whole : IsSound meaning core) (idle : (seat : ℕ) → task_at now.tasks seat ≡ Task.Idle)
+    (cells : List (Cell V)) (cells_are : cells ≡ core.memory.cells) (free : ((seat : ℕ) → (row_at core.memory.rows seat).undos ≡ []) → All IsFree cells) where
   idle' : (seat : ℕ) → task_at core.tasks seat ≡ Task.Idle
   idle' = subst (λ (x : Core C V M). (seat : ℕ) → task_at x.tasks seat ≡ Task.Idle) (sym view) idle
 
   pub all-free : All IsFree cells
-  all-free = free (end-clear program devices is_value value_of is_machine stage core whole idle')
+  all-free = free (end-clear meaning core whole idle')
 
-  pub ends-so : IsEnd (program now.code) now.limits (value_of now.code) (record (end_of core) { cells = cells })
+  pub ends-so : IsEnd (meaning.program now.code) now.limits (meaning.value_of now.code) (record (end_of core) { cells = cells })
   ends-so =
-      subst (λ (x : Core C V M). IsEnd (program x.code) x.limits (value_of x.code) (record (end_of core) { cells = cells })) view
-      (subst (λ (cs : List (Cell V)). IsEnd (program core.code) core.limits (value_of core.code) (record (end_of core) { cells = cs })) (sym cells_are)
-      (is-end program devices is_value value_of is_machine stage core whole idle' (subst (All IsFree) cells_are all-free)))
+      subst (λ (x : Core C V M). IsEnd (meaning.program x.code) x.limits (meaning.value_of x.code) (record (end_of core) { cells = cells })) view
+      (subst (λ (cs : List (Cell V)). IsEnd (meaning.program core.code) core.limits (meaning.value_of core.code) (record (end_of core) { cells = cs })) (sym cells_are)
+      (is-end meaning core whole idle' (subst (All IsFree) cells_are all-free)))

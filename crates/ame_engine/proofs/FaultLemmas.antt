@@ -13,9 +13,9 @@ use Rattle.ame_term.specs.declared.semantics.Label.{Label}
 use Rattle.ame_laws.proofs.MapLemmas.{at-change_same}
 use Rattle.ame_journal.specs.Labels.{free_labels}
 use Rattle.ame_journal.proofs.LabelLemmas.{run-two, run-one}
-use Rattle.ame_local.specs.Local.{LocalState, begun_with, local}
-use Rattle.ame_local.proofs.RunLemmas.{Acts, step-is}
-use Rattle.ame_visits.proofs.PlaceLemmas.{alone}
+use Rattle.ame_machine.specs.Run.Local.{LocalState, begun_with, local}
+use Rattle.ame_machine.proofs.Run.RunLemmas.{Acts, step-is}
+use Rattle.ame_protocol.proofs.Visits.PlaceLemmas.{alone}
 
 -- the labels of so many steps alone
 abbrev alone-labels : ℕ → ℕ → List Label

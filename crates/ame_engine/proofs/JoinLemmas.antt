@@ -8,11 +8,11 @@ use Rattle.ame_pool.specs.Members.{find, placed}
 use Rattle.ame_pool.specs.Roster.{Roster}
 use Rattle.ame_pool.specs.Calls.{newcomer, joined}
 use Rattle.ame_pool.proofs.MemberLemmas.{found_placed}
-use Rattle.ame_runner.specs.Stage.{Stage, starting_at}
-use Rattle.ame_runner.specs.Move.{first_spawn, after_first_spawn}
-use Rattle.ame_stands.specs.Shown.{shown_pool}
-use Rattle.ame_stands.specs.Events.{with_newcomers}
-use Rattle.ame_stands.proofs.ShownPoolLemmas.{joined-shown}
+use Rattle.ame_machine.specs.MachineView.{MachineView, starting_at}
+use Rattle.ame_machine.specs.Move.{first_spawn, after_first_spawn}
+use Rattle.ame_protocol.specs.Engine.Shown.{shown_pool}
+use Rattle.ame_protocol.specs.Engine.Events.{with_newcomers}
+use Rattle.ame_protocol.proofs.Engine.ShownPoolLemmas.{joined-shown}
 use Rattle.ame_engine.specs.Seen.{term_shown}
 use Rattle.ame_engine.specs.Rollbacks.{IsGoodPool}
 use Rattle.ame_engine.specs.Whole.{resting_at, IsAtRest}
@@ -29,15 +29,15 @@ all_placed P new (m ∷ ms) good all =
     ]
 
 -- the first new member that is taken
-first-split : (xs : List Tree) (x : Stage) → Some x ≡ option_map starting_at (slice_get xs 0) → (body : Tree) × (rest : List Tree) × (xs ≡ body ∷ rest) × (x ≡ starting_at body)
-first-split [] x e = absurd (let clash : ◌≡◌ {A = Option Stage} (Some x) None = e in cc)
-first-split (body ∷ rest) x e = (body, rest, refl, ap (λ (o : Option Stage). unwrap_or o x) e)
+first-split : (xs : List Tree) (x : MachineView) → Some x ≡ option_map starting_at (slice_get xs 0) → (body : Tree) × (rest : List Tree) × (xs ≡ body ∷ rest) × (x ≡ starting_at body)
+first-split [] x e = absurd (let clash : ◌≡◌ {A = Option MachineView} (Some x) None = e in cc)
+first-split (body ∷ rest) x e = (body, rest, refl, ap (λ (o : Option MachineView). unwrap_or o x) e)
 
 first-none : (xs : List Tree) → None ≡ option_map starting_at (slice_get xs 0) → xs ≡ []
 first-none [] e = refl
-first-none (body ∷ rest) e = absurd (let clash : ◌≡◌ {A = Option Stage} None (Some (starting_at body)) = e in cc)
+first-none (body ∷ rest) e = absurd (let clash : ◌≡◌ {A = Option MachineView} None (Some (starting_at body)) = e in cc)
 
-module _ {C M : Type 0} (is_machine : C → M → Type 0) (stage : C → M → Stage) (first end : ℕ) (start : Roster M) (began : M) where
+module _ {C M : Type 0} (is_machine : C → M → Type 0) (stage : C → M → MachineView) (first end : ℕ) (start : Roster M) (began : M) where
   -- The new members that are left take the numbers from this one on, and do to the pool what all did to the one before.
   pub record Joining (number : ℕ) (pool : Roster M) (at : M) : Type 0 where
     pub becomes : (code : C) → with_newcomers number (stage code at).spawns (shown_pool (term_shown stage code) pool)
@@ -48,7 +48,7 @@ module _ {C M : Type 0} (is_machine : C → M → Type 0) (stage : C → M → S
     pub rests : (code : C) → is_machine code began → All (IsAtRest is_machine stage code) start.members → All (IsAtRest is_machine stage code) pool.members
     pub good : IsGoodPool start → IsGoodPool pool
     pub machine : (code : C) → is_machine code began → is_machine code at
-    pub kept : (code : C) → ◌≡◌ {A = Stage} (record (stage code at) { spawns = [] }) (record (stage code began) { spawns = [] })
+    pub kept : (code : C) → ◌≡◌ {A = MachineView} (record (stage code at) { spawns = [] }) (record (stage code began) { spawns = [] })
 
   pub joining-starts : ((code : C) → first + length (stage code began).spawns ≡ end) → end ≤ first + start.room
       → ((k : ℕ) → first ≤ k → find k start.members ≡ None) → Joining first start began
@@ -92,12 +92,12 @@ module _ {C M : Type 0} (is_machine : C → M → Type 0) (stage : C → M → S
       split code = first-split (stage code at).spawns (stage code member) (first-is code)
 
       left-is : (code : C) → (stage code later).spawns ≡ (split code).1
-      left-is code = ap (λ (s : Stage). s.spawns) (rest code) ∙ ap (λ (xs : List Tree). drop 1 xs) (split code).2
+      left-is code = ap (λ (s : MachineView). s.spawns) (rest code) ∙ ap (λ (xs : List Tree). drop 1 xs) (split code).2
 
       newcomer-rests : (code : C) → is_machine code at → IsAtRest is_machine stage code (newcomer number member false)
       newcomer-rests code machine = record {
         machine = taken code machine;
-        rests = (split code).3 ∙ sym (ap (λ (s : Stage). resting_at s.term false) (split code).3);
+        rests = (split code).3 ∙ sym (ap (λ (s : MachineView). resting_at s.term false) (split code).3);
       }
 
       joins : (code : C) → with_newcomers (number + 1) (stage code later).spawns (shown_pool (term_shown stage code) larger)
@@ -108,7 +108,7 @@ module _ {C M : Type 0} (is_machine : C → M → Type 0) (stage : C → M → S
           ap (λ (xs : List Tree). with_newcomers (number + 1) xs (shown_pool (term_shown stage code) larger)) (left-is code)
           ∙ ap (with_newcomers (number + 1) (split code).1)
           (joined-shown (term_shown stage code) number member false pool
-          ∙ ap (λ (s : Stage). joined (newcomer number s.term false) shown) (split code).3)
+          ∙ ap (λ (s : MachineView). joined (newcomer number s.term false) shown) (split code).3)
           ∙ sym (ap (λ (xs : List Tree). with_newcomers number xs shown) (split code).2)
 
       counts : (code : C) → number + 1 + length (stage code later).spawns ≡ end
@@ -128,7 +128,7 @@ module _ {C M : Type 0} (is_machine : C → M → Type 0) (stage : C → M → S
             all_placed (IsAtRest is_machine stage code) (newcomer number member false) pool.members (newcomer-rests code (j.machine code machine)) (j.rests code machine all);
         good = λ start_good. good-joined number member false pool (j.fresh number (omega arith)) (j.good start_good);
         machine = λ code machine. keeps code (j.machine code machine);
-        kept = λ code. ap (λ (s : Stage). record s { spawns = [] }) (rest code) ∙ j.kept code;
+        kept = λ code. ap (λ (s : MachineView). record s { spawns = [] }) (rest code) ∙ j.kept code;
       }
 
   module _ (pool : Roster M) (at : M) (j : Joining end pool at) where
@@ -142,8 +142,8 @@ module _ {C M : Type 0} (is_machine : C → M → Type 0) (stage : C → M → S
     pub joined-all : (code : C) → shown_pool (term_shown stage code) pool ≡ with_newcomers first (stage code began).spawns (shown_pool (term_shown stage code) start)
     joined-all code = sym (ap (λ (xs : List Tree). with_newcomers end xs (shown_pool (term_shown stage code) pool)) (ended code)) ∙ j.becomes code
 
-    pub joined-stage : (code : C) → ◌≡◌ {A = Stage} (stage code at) (record (stage code began) { spawns = [] })
+    pub joined-stage : (code : C) → ◌≡◌ {A = MachineView} (stage code at) (record (stage code began) { spawns = [] })
     joined-stage code =
         let s = stage code at in
-        let with-spawns : List Tree → Stage = λ (xs : List Tree). record s { spawns = xs } in
+        let with-spawns : List Tree → MachineView = λ (xs : List Tree). record s { spawns = xs } in
         ap with-spawns (ended code) ∙ j.kept code

@@ -2,42 +2,42 @@
 use Rattle.std.proofs.Common.{◌≡◌, ℕ, ◌+◌, ◌<◌, inl, inr, true, false, List, [], ◌∷◌, ◌++◌, get_or, length, Option, Some, None, refl, sym, ap, ◌∙◌, subst, arith, ◌≤◌}
 use Rattle.std.specs.Prelude.{IsSome, is_some, option_map, slice_set}
 use Rattle.std.proofs.lemmas.List.Elements.{All-nil}
-use Rattle.ame_term.specs.Tree.{Val, Tree}
+use Rattle.ame_term.specs.Tree.{Val}
 use Rattle.ame_term.specs.Frame.{Side, side_told}
 use Rattle.ame_journal.specs.declared.entry.Entry.{Entry}
 use Rattle.ame_journal.specs.declared.entry.EntryKind.{EntryKind}
-use Rattle.ame_journal.specs.Log.{IsFit}
+use Rattle.ame_journal.specs.JournalView.{IsFit}
 use Rattle.ame_rows.specs.Valid.{IsValidRead, IsValid}
-use Rattle.ame_local.specs.Local.{LocalState, local}
+use Rattle.ame_machine.specs.Run.Local.{LocalState, local}
 use Rattle.ame_pool.specs.Calls.{IsAt}
-use Rattle.ame_desk.specs.Contents.{Notes, row_at}
-use Rattle.ame_owed.specs.SeatRun.{HasUsed, AreValid}
-use Rattle.ame_runner.specs.declared.wants.Wants.TheVariants as wants
-use Rattle.ame_runner.specs.Stage.{Stage, running_side, place_shown, without_footprint, with_answer}
-use Rattle.ame_runner.specs.Need.{Need, need_of}
-use Rattle.ame_runner.specs.Sound.{IsSoundStage}
-use Rattle.ame_runner.proofs.LowLemmas.{too-high}
-use Rattle.ame_stands.specs.declared.types.Attempt.{Attempt}
-use Rattle.ame_stands.specs.declared.types.Task.{Task}
-use Rattle.ame_stands.specs.Parts.{Parts, heap_in, task_at, term_at, attempt_of, run_in}
-use Rattle.ame_stands.specs.Tasks.{is_busy_as, Visits, RunsProtected, MeetsTask}
-use Rattle.ame_stands.specs.Stands.{Stands}
-use Rattle.ame_stands.specs.Alone.{RunsAlone}
-use Rattle.ame_stands.proofs.StepLemmas.{seat_within}
-use Rattle.ame_stands.proofs.DeskEvents.{desk-valid, valid-desk}
-use Rattle.ame_stands.proofs.ShownDeskLemmas.{row-shown}
-use Rattle.ame_waiting.specs.Waiting.{AreWaiting}
-use Rattle.ame_waiting.specs.Once.{AreNotedOnce}
-use Rattle.ame_waiting.proofs.VisitLemmas.{told-waiting, told-once}
-use Rattle.ame_visits.specs.Stops.{MayBeNoted, told_task, note_entry, has_been_cut, has_grown_tall}
-use Rattle.ame_visits.proofs.NoteLemmas.{cut-stands, tall-stands, cut-alone, tall-alone}
+use Rattle.ame_rows.specs.MemoryView.{Log, row_at}
+use Rattle.ame_protocol.specs.Row.SeatRun.{HasUsed, AreValid}
+use Rattle.ame_machine.specs.declared.wants.Wants.TheVariants as wants
+use Rattle.ame_machine.specs.MachineView.{MachineView, running_side, place_shown, without_footprint, with_answer}
+use Rattle.ame_machine.specs.Need.{Need, need_of}
+use Rattle.ame_machine.specs.Sound.{IsSoundStage}
+use Rattle.ame_machine.proofs.LowLemmas.{too-high}
+use Rattle.ame_protocol.specs.declared.types.Attempt.{Attempt}
+use Rattle.ame_protocol.specs.declared.types.Task.{Task}
+use Rattle.ame_protocol.specs.Engine.Parts.{Parts, heap_in, task_at, term_at, attempt_of, run_in}
+use Rattle.ame_protocol.specs.Engine.Tasks.{is_busy_as, Visits, RunsProtected, MeetsTask}
+use Rattle.ame_protocol.specs.Engine.Simulates.{Simulates}
+use Rattle.ame_protocol.specs.Engine.Alone.{RunsExclusively}
+use Rattle.ame_protocol.proofs.Engine.StepLemmas.{seat_within}
+use Rattle.ame_protocol.proofs.Engine.MemoryEvents.{memory-valid, valid-memory}
+use Rattle.ame_protocol.proofs.Engine.ShownMemoryLemmas.{row-shown}
+use Rattle.ame_protocol.specs.Waits.Waiting.{AreWaiting}
+use Rattle.ame_protocol.specs.Waits.Once.{AreNotedOnce}
+use Rattle.ame_protocol.proofs.Waits.VisitLemmas.{told-waiting, told-once}
+use Rattle.ame_protocol.specs.Visits.Stops.{MayBeNoted, told_task, note_entry, has_been_cut, has_grown_tall}
+use Rattle.ame_protocol.proofs.Visits.NoteLemmas.{cut-stands, tall-stands, cut-alone, tall-alone}
 use Rattle.ame_engine.specs.declared.stop.Stop.{Stop}
 use Rattle.ame_engine.specs.Core.{Core}
 use Rattle.ame_engine.specs.Causes.{EndsWith, HasCause}
 use Rattle.ame_engine.specs.Counting.{Counted, one_counted}
 use Rattle.ame_engine.specs.Seen.{parts_of, MakesLastEvent}
 use Rattle.ame_engine.specs.Stops.{stopped_by}
-use Rattle.ame_engine.specs.Whole.{IsWhole}
+use Rattle.ame_engine.specs.Whole.{IsSound}
 use Rattle.ame_engine.specs.AtWork.{is_free, working, IsOnSeat, IsOn}
 use Rattle.ame_engine.proofs.CauseLemmas.{task-more, going-ordinary, going-untold}
 use Rattle.ame_engine.proofs.BlockLemmas.{none-held}
@@ -45,8 +45,9 @@ use Rattle.ame_engine.proofs.CheckLemmas.{shown-valid, task-read, valid-shown}
 use Rattle.ame_engine.proofs.CommitLemmas.{shown-place}
 use Rattle.ame_engine.proofs.CountLemmas.{one-counts}
 use Rattle.ame_engine.proofs.LoneLemmas.{lone-on, told-ran}
-use Rattle.ame_engine.specs.Bounds.{IsBounded, LeavesNoTry}
+use Rattle.ame_engine.specs.Bounds.{KeepsBounds, LeavesNoTry}
 use Rattle.ame_engine.proofs.BoundLemmas.{cut-bounded, tall-bounded, busy-leaves_no_try}
+use Rattle.ame_machine.specs.Meaning.{Meaning}
 
 -- a seat that runs code has an attempt
 pub working-has : (t : Task) (a : Attempt) → working t ≡ Some a → attempt_of t ≡ Some a
@@ -56,24 +57,23 @@ working-has (Task.Free b) a e = e
 working-has (Task.Undoing b reason) a e = absurd (let clash : ◌≡◌ {A = Option Attempt} None (Some a) = e in cc)
 
 -- which is told then
-told-has : (t : Task) (a : Attempt) → working t ≡ Some a → attempt_of (told_task t) ≡ Some (record a { told = true })
+told-has : (t : Task) (a : Attempt) → working t ≡ Some a → attempt_of (told_task t) ≡ Some (record a { logged = true })
 told-has Task.Idle a e = absurd (let clash : ◌≡◌ {A = Option Attempt} None (Some a) = e in cc)
-told-has (Task.Running b) a e = let same : b ≡ a = cc in ap (λ (x : Attempt). Some (record x { told = true })) same
-told-has (Task.Free b) a e = let same : b ≡ a = cc in ap (λ (x : Attempt). Some (record x { told = true })) same
+told-has (Task.Running b) a e = let same : b ≡ a = cc in ap (λ (x : Attempt). Some (record x { logged = true })) same
+told-has (Task.Free b) a e = let same : b ≡ a = cc in ap (λ (x : Attempt). Some (record x { logged = true })) same
 told-has (Task.Undoing b reason) a e = absurd (let clash : ◌≡◌ {A = Option Attempt} None (Some a) = e in cc)
 
-module _ {C V M : Type 0} (program : C → Tree) (devices : C → ℕ) (is_value : C → V → Type 0) (value_of : C → V → Val)
-    (is_machine : C → M → Type 0) (stage : C → M → Stage)
-    (core now : Core C V M) (view : core ≡ now) (whole : IsWhole program devices is_value value_of is_machine stage core) (seat : ℕ) (m : M)
-    (on : IsOn program devices value_of is_machine stage now seat m) where
+module _ {C V M : Type 0} (meaning : Meaning C V M)
+    (core now : Core C V M) (view : core ≡ now) (whole : IsSound meaning core) (seat : ℕ) (m : M)
+    (on : IsOn meaning now seat m) where
   abbrev parts : Parts
-  parts = parts_of program devices value_of stage core
+  parts = parts_of meaning core
 
-  abbrev s : Stage
-  s = stage core.code m
+  abbrev s : MachineView
+  s = meaning.stage core.code m
 
   pub on' : IsOnSeat parts seat s
-  on' = subst (λ (x : Core C V M). IsOnSeat (parts_of program devices value_of stage x) seat (stage x.code m)) (sym view) on.stands
+  on' = subst (λ (x : Core C V M). IsOnSeat (parts_of meaning x) seat (meaning.stage x.code m)) (sym view) on.stands
 
   abbrev attempt : Attempt
   attempt = on'.attempt
@@ -112,9 +112,9 @@ module _ {C V M : Type 0} (program : C → Tree) (devices : C → ℕ) (is_value
 
   -- where its run stands
   place : (p : LocalState)
-      × (local (running_side s) (term_at parts.pool number) (row_at parts.desk.rows seat).inputs s.steps ≡ Some p)
+      × (local (running_side s) (term_at parts.pool number) (row_at parts.memory.rows seat).inputs s.steps ≡ Some p)
       × (without_footprint p ≡ with_answer None (place_shown s))
-  place = shown-place (local (running_side s) (term_at parts.pool number) (row_at parts.desk.rows seat).inputs s.steps) s on'.run
+  place = shown-place (local (running_side s) (term_at parts.pool number) (row_at parts.memory.rows seat).inputs s.steps) s on'.run
 
   busy : IsAt (is_busy_as false) number parts.pool
   busy = by task refl on'.has
@@ -132,40 +132,40 @@ module _ {C V M : Type 0} (program : C → Tree) (devices : C → ℕ) (is_value
       by (Task.Undoing a reason) e h = absurd (let clash : ◌≡◌ {A = Option Attempt} None (Some attempt) = h in cc)
 
   -- a seat whose reads aren't valid runs protected code
-  pub invalid-runs : (IsValid core.desk.cells seat (row_at core.desk.rows seat).reads → ⊥) → task ≡ Task.Running attempt
+  pub invalid-runs : (IsValid core.memory.cells seat (row_at core.memory.rows seat).reads → ⊥) → task ≡ Task.Running attempt
   invalid-runs invalid = by task refl on'.has
     where
       by : (t : Task) → task ≡ t → working t ≡ Some attempt → task ≡ Task.Running attempt
       by Task.Idle e h = absurd (let clash : ◌≡◌ {A = Option Attempt} None (Some attempt) = h in cc)
       by (Task.Running a) e h = let same : a ≡ attempt = cc in e ∙ ap Task.Running same
-      by (Task.Free a) e h = absurd (invalid (subst (IsValid core.desk.cells seat) (sym none) (All-nil (IsValidRead core.desk.cells seat))))
+      by (Task.Free a) e h = absurd (invalid (subst (IsValid core.memory.cells seat) (sym none) (All-nil (IsValidRead core.memory.cells seat))))
         where
-          none : (row_at core.desk.rows seat).reads ≡ []
+          none : (row_at core.memory.rows seat).reads ≡ []
           none =
               let visits : Visits parts whole.stands.types seat a = subst (MeetsTask parts whole.stands.types seat) e (whole.stands.seats seat) in
-              sym (ap (λ (n : Notes Val). n.reads) (row-shown (value_of core.code) core.desk.rows seat)) ∙ ap (λ (n : Notes Val). n.reads) visits.clear
+              sym (ap (λ (n : Log Val). n.reads) (row-shown (meaning.value_of core.code) core.memory.rows seat)) ∙ ap (λ (n : Log Val). n.reads) visits.clear
       by (Task.Undoing a reason) e h = absurd (let clash : ◌≡◌ {A = Option Attempt} None (Some attempt) = h in cc)
 
-  pub invalid-outside : (IsValid core.desk.cells seat (row_at core.desk.rows seat).reads → ⊥) → (stage now.code m).inside ≡ false
+  pub invalid-outside : (IsValid core.memory.cells seat (row_at core.memory.rows seat).reads → ⊥) → (meaning.stage now.code m).inside ≡ false
   invalid-outside invalid =
-      subst (λ (x : Core C V M). (stage x.code m).inside ≡ false) view (on'.side ∙ ap is_free (invalid-runs invalid))
+      subst (λ (x : Core C V M). (meaning.stage x.code m).inside ≡ false) view (on'.side ∙ ap is_free (invalid-runs invalid))
 
-  pub turned-runs : (IsValid core.desk.cells seat (row_at core.desk.rows seat).reads → ⊥) → (t : Task) → t ≡ get_or core.tasks seat t
+  pub turned-runs : (IsValid core.memory.cells seat (row_at core.memory.rows seat).reads → ⊥) → (t : Task) → t ≡ get_or core.tasks seat t
       → (its : Attempt) → attempt_of t ≡ Some its → task ≡ Task.Running its
   turned-runs invalid t e its is = invalid-runs invalid ∙ ap Task.Running (sym (last-its t e its is))
 
-  module _ (valid-now : IsValid now.desk.cells seat (row_at now.desk.rows seat).reads) (going : now.stop ≡ None) where
-    valid : IsValid core.desk.cells seat (row_at core.desk.rows seat).reads
-    valid = subst (λ (x : Core C V M). IsValid x.desk.cells seat (row_at x.desk.rows seat).reads) (sym view) valid-now
+  module _ (valid-now : IsValid now.memory.cells seat (row_at now.memory.rows seat).reads) (going : now.stop ≡ None) where
+    valid : IsValid core.memory.cells seat (row_at core.memory.rows seat).reads
+    valid = subst (λ (x : Core C V M). IsValid x.memory.cells seat (row_at x.memory.rows seat).reads) (sym view) valid-now
 
     going' : core.stop ≡ None
     going' = subst (λ (x : Core C V M). x.stop ≡ None) (sym view) going
 
     reads-valid : AreValid (heap_in parts) seat (run_in parts seat number).reads
     reads-valid =
-        desk-valid parts.desk seat (row_at parts.desk.rows seat).reads
-        (subst (IsValid parts.desk.cells seat) (sym (ap (λ (n : Notes Val). n.reads) (row-shown (value_of core.code) core.desk.rows seat)))
-        (valid-shown (value_of core.code) core.desk.cells seat (row_at core.desk.rows seat).reads valid))
+        memory-valid parts.memory seat (row_at parts.memory.rows seat).reads
+        (subst (IsValid parts.memory.cells seat) (sym (ap (λ (n : Log Val). n.reads) (row-shown (meaning.value_of core.code) core.memory.rows seat)))
+        (valid-shown (meaning.value_of core.code) core.memory.cells seat (row_at core.memory.rows seat).reads valid))
 
     may : MayBeNoted parts seat task (running_side s) number s.steps place.0
     may = by task refl on'.has
@@ -176,7 +176,7 @@ module _ {C V M : Type 0} (program : C → Tree) (devices : C → ℕ) (is_value
             let same : a ≡ attempt = cc in
             let side : running_side s ≡ Side.Protected = ap side_told (on'.side ∙ ap is_free e) in
             let used : HasUsed (run_in parts seat number) s.steps place.0 = record {
-              ran = subst (λ (x : Side). local x (term_at parts.pool number) (row_at parts.desk.rows seat).inputs s.steps ≡ Some place.0) side place.1;
+              ran = subst (λ (x : Side). local x (term_at parts.pool number) (row_at parts.memory.rows seat).inputs s.steps ≡ Some place.0) side place.1;
               used = ap (λ (x : LocalState). x.inputs) place.2;
             } in
             subst (λ (x : Side). MayBeNoted parts seat (Task.Running a) x number s.steps place.0) (sym side)
@@ -186,12 +186,12 @@ module _ {C V M : Type 0} (program : C → Tree) (devices : C → ℕ) (is_value
             let same : a ≡ attempt = cc in
             let side : running_side s ≡ Side.Unprotected = ap side_told (on'.side ∙ ap is_free e) in
             let visits : Visits parts whole.stands.types seat a = subst (MeetsTask parts whole.stands.types seat) e (whole.stands.seats seat) in
-            let none : (row_at parts.desk.rows seat).inputs ≡ [] = ap (λ (n : Notes Val). n.inputs) visits.clear in
+            let none : (row_at parts.memory.rows seat).inputs ≡ [] = ap (λ (n : Log Val). n.inputs) visits.clear in
             subst (λ (x : Side). MayBeNoted parts seat (Task.Free a) x number s.steps place.0) (sym side)
             (subst (λ (x : Attempt). MayBeNoted parts seat (Task.Free x) Side.Unprotected number s.steps place.0) (sym same)
             (MayBeNoted.free attempt s.steps place.0
             (subst (λ (inputs : List Val). local Side.Unprotected (term_at parts.pool number) inputs s.steps ≡ Some place.0) none
-            (subst (λ (x : Side). local x (term_at parts.pool number) (row_at parts.desk.rows seat).inputs s.steps ≡ Some place.0) side place.1))))
+            (subst (λ (x : Side). local x (term_at parts.pool number) (row_at parts.memory.rows seat).inputs s.steps ≡ Some place.0) side place.1))))
         by (Task.Undoing a reason) e h = absurd (let clash : ◌≡◌ {A = Option Attempt} None (Some attempt) = h in cc)
 
     last-few : seat < 32
@@ -211,7 +211,7 @@ module _ {C V M : Type 0} (program : C → Tree) (devices : C → ℕ) (is_value
       entries-are : entries ≡ core.entries ++ note_entry kind seat number s.steps (place_shown s) ∷ []
       entries-are = pushes ∙ ap (λ (es : List Entry). es ++ entry ∷ []) before_is ∙ ap (λ (e : Entry). core.entries ++ e ∷ []) entry_is
 
-      pub last-places : attempt_of later ≡ Some (record attempt { told = true })
+      pub last-places : attempt_of later ≡ Some (record attempt { logged = true })
       last-places = ap attempt_of later_is ∙ told-has task attempt on'.has
 
       ends-so : EndsWith kind entries
@@ -253,40 +253,40 @@ module _ {C V M : Type 0} (program : C → Tree) (devices : C → ℕ) (is_value
         cut-with : List Entry → Task → Parts
         cut-with es t = record parts { entries = es; tasks = slice_set core.tasks seat t; turns = core.turns; stopped = true }
 
-        cut-parts : parts_of program devices value_of stage after-cut ≡ has_been_cut seat number s.steps (place_shown s) task parts
+        cut-parts : parts_of meaning after-cut ≡ has_been_cut seat number s.steps (place_shown s) task parts
         unfolding cut-with
         cut-parts = λ i. cut-with (cut-entries i) (cut-later i)
 
         used-up' : core.turns ≡ core.limits.turns
         used-up' = subst (λ (x : Core C V M). x.turns ≡ x.limits.turns) (sym view) used_up
 
-        cut-so : Stands (has_been_cut seat number s.steps (place_shown s) task parts)
+        cut-so : Simulates (has_been_cut seat number s.steps (place_shown s) task parts)
         cut-so =
-            subst (λ (q : LocalState). Stands (has_been_cut seat number s.steps q task parts)) place.2
+            subst (λ (q : LocalState). Simulates (has_been_cut seat number s.steps q task parts)) place.2
             (cut-stands parts seat task (running_side s) number s.steps place.0 refl may whole.stands)
 
-        cut-alone-so : RunsAlone (has_been_cut seat number s.steps (place_shown s) task parts)
+        cut-alone-so : RunsExclusively (has_been_cut seat number s.steps (place_shown s) task parts)
         cut-alone-so =
-            subst (λ (q : LocalState). RunsAlone (has_been_cut seat number s.steps q task parts)) place.2
+            subst (λ (q : LocalState). RunsExclusively (has_been_cut seat number s.steps q task parts)) place.2
             (cut-alone parts seat task (running_side s) number s.steps place.0 refl may whole.alone)
 
-        cut-bounded-so : IsBounded (Some Stop.Spent) core.counters (has_been_cut seat number s.steps (place_shown s) task parts)
+        cut-bounded-so : KeepsBounds (Some Stop.Spent) core.counters (has_been_cut seat number s.steps (place_shown s) task parts)
         cut-bounded-so =
-            subst (λ (q : LocalState). IsBounded (Some Stop.Spent) core.counters (has_been_cut seat number s.steps q task parts)) place.2
+            subst (λ (q : LocalState). KeepsBounds (Some Stop.Spent) core.counters (has_been_cut seat number s.steps q task parts)) place.2
             (cut-bounded parts whole.stands core.stop going' (ap (λ (o : Option Stop). is_some o) going') core.counters core.counters whole.bounds refl
             seat task (running_side s) number s.steps place.0 refl may last-low)
 
-        pub whole-cut : IsWhole program devices is_value value_of is_machine stage after-cut
+        pub whole-cut : IsSound meaning after-cut
         whole-cut = record {
-          stands = subst Stands (sym cut-parts) cut-so;
+          stands = subst Simulates (sym cut-parts) cut-so;
           limits = whole.limits;
-          desk = whole.desk;
+          memory = whole.memory;
           members = whole.members;
           pool = whole.pool;
-          alone = subst RunsAlone (sym cut-parts) cut-alone-so;
-          lone = lone-on parts (parts_of program devices value_of stage after-cut) whole.stands core.counters core.counters whole.lone seat last-within
+          alone = subst RunsExclusively (sym cut-parts) cut-alone-so;
+          lone = lone-on parts (parts_of meaning after-cut) whole.stands core.counters core.counters whole.lone seat last-within
               refl refl refl later refl refl (λ t e. told-ran task t (sym cut-later ∙ e));
-          bounds = subst (IsBounded (Some Stop.Spent) core.counters) (sym cut-parts) cut-bounded-so;
+          bounds = subst (KeepsBounds (Some Stop.Spent) core.counters) (sym cut-parts) cut-bounded-so;
           waiting = subst AreWaiting (sym cut-parts)
               (told-waiting parts seat number (ap (λ (o : Option Attempt). option_map (λ (x : Attempt). x.tried.number) o) last-has) busy (note_entry EntryKind.Cut seat number s.steps (place_shown s)) refl
               (told_task task) (core.turns) true whole.waiting);
@@ -303,20 +303,20 @@ module _ {C V M : Type 0} (program : C → Tree) (devices : C → ℕ) (is_value
         }
 
         pub makes-cut : (a : Attempt) → working (task_at now.tasks seat) ≡ Some a
-            → MakesLastEvent program devices value_of stage (Stop.Spent) (λ c. c)
-            (has_been_cut seat a.tried.number (stage now.code m).steps (place_shown (stage now.code m)) (task_at now.tasks seat)) now after-cut
+            → MakesLastEvent meaning (Stop.Spent) (λ c. c)
+            (has_been_cut seat a.tried.number (meaning.stage now.code m).steps (place_shown (meaning.stage now.code m)) (task_at now.tasks seat)) now after-cut
         makes-cut a e =
-            subst (λ (b : Attempt). MakesLastEvent program devices value_of stage (Stop.Spent) (λ c. c)
-            (has_been_cut seat b.tried.number (stage now.code m).steps (place_shown (stage now.code m)) (task_at now.tasks seat)) now after-cut) (last-attempt a e)
-            (subst (λ (x : Core C V M). MakesLastEvent program devices value_of stage (Stop.Spent) (λ c. c)
-            (has_been_cut seat number (stage x.code m).steps (place_shown (stage x.code m)) (task_at x.tasks seat)) x after-cut) view
+            subst (λ (b : Attempt). MakesLastEvent meaning (Stop.Spent) (λ c. c)
+            (has_been_cut seat b.tried.number (meaning.stage now.code m).steps (place_shown (meaning.stage now.code m)) (task_at now.tasks seat)) now after-cut) (last-attempt a e)
+            (subst (λ (x : Core C V M). MakesLastEvent meaning (Stop.Spent) (λ c. c)
+            (has_been_cut seat number (meaning.stage x.code m).steps (place_shown (meaning.stage x.code m)) (task_at x.tasks seat)) x after-cut) view
             (record { code = refl; parts = cut-parts; counted = refl; stop = refl }))
 
-        pub cut-told : attempt_of later ≡ Some (record attempt { told = true })
+        pub cut-told : attempt_of later ≡ Some (record attempt { logged = true })
         cut-told = last-places EntryKind.Cut entry cut-entry before entries before_is pushes later cut-later
 
     -- its next value would be too high
-    module _ (left : now.turns < now.limits.turns) (sound : IsSoundStage (stage now.code m)) (grows : (stage now.code m).want ≡ Some wants.Tall)
+    module _ (left : now.turns < now.limits.turns) (sound : IsSoundStage (meaning.stage now.code m)) (grows : (meaning.stage now.code m).want ≡ Some wants.Tall)
         (t : Task) (t_is : t ≡ get_or core.tasks seat t) (its : Attempt) (its_is : attempt_of t ≡ Some its)
         (entry : Entry) (entry_is' : entry ≡ note_entry EntryKind.Tall seat its.tried.number s.steps (place_shown s)) where
       tall-attempt : its ≡ attempt
@@ -342,7 +342,7 @@ module _ {C V M : Type 0} (program : C → Tree) (devices : C → ℕ) (is_value
         tall-with : List Entry → Task → Parts
         tall-with es t = record parts { entries = es; tasks = slice_set core.tasks seat t; turns = core.turns + 1; stopped = true }
 
-        tall-parts : parts_of program devices value_of stage after-tall ≡ has_grown_tall seat number s.steps (place_shown s) task parts
+        tall-parts : parts_of meaning after-tall ≡ has_grown_tall seat number s.steps (place_shown s) task parts
         unfolding tall-with
         tall-parts = λ i. tall-with (tall-entries i) (tall-later i)
 
@@ -351,42 +351,42 @@ module _ {C V M : Type 0} (program : C → Tree) (devices : C → ℕ) (is_value
 
         high : Need.Tall ≡ need_of s
         high =
-            subst (λ (x : Core C V M). Need.Tall ≡ need_of (stage x.code m)) (sym view) (sound.told wants.Tall grows)
+            subst (λ (x : Core C V M). Need.Tall ≡ need_of (meaning.stage x.code m)) (sym view) (sound.told wants.Tall grows)
 
         low : IsSoundStage s
-        low = subst (λ (x : Core C V M). IsSoundStage (stage x.code m)) (sym view) sound
+        low = subst (λ (x : Core C V M). IsSoundStage (meaning.stage x.code m)) (sym view) sound
 
-        tall-so : Stands (has_grown_tall seat number s.steps (place_shown s) task parts)
+        tall-so : Simulates (has_grown_tall seat number s.steps (place_shown s) task parts)
         tall-so =
-            subst (λ (q : LocalState). Stands (has_grown_tall seat number s.steps q task parts)) place.2
+            subst (λ (q : LocalState). Simulates (has_grown_tall seat number s.steps q task parts)) place.2
             (tall-stands parts seat task (running_side s) number s.steps place.0 refl may whole.stands left'
             (too-high s place.0 low.low (sym high) (ap (λ (x : LocalState). x.term) place.2)))
 
-        tall-alone-so : RunsAlone (has_grown_tall seat number s.steps (place_shown s) task parts)
+        tall-alone-so : RunsExclusively (has_grown_tall seat number s.steps (place_shown s) task parts)
         tall-alone-so =
-            subst (λ (q : LocalState). RunsAlone (has_grown_tall seat number s.steps q task parts)) place.2
+            subst (λ (q : LocalState). RunsExclusively (has_grown_tall seat number s.steps q task parts)) place.2
             (tall-alone parts seat task (running_side s) number s.steps place.0 refl may whole.alone)
 
-        tall-bounded-so : IsBounded (Some (Stop.Tall its.tried.number)) (one_counted Counted.Tall core.counters)
+        tall-bounded-so : KeepsBounds (Some (Stop.Tall its.tried.number)) (one_counted Counted.Tall core.counters)
             (has_grown_tall seat number s.steps (place_shown s) task parts)
         tall-bounded-so =
-            subst (λ (q : LocalState). IsBounded (Some (Stop.Tall its.tried.number)) (one_counted Counted.Tall core.counters)
+            subst (λ (q : LocalState). KeepsBounds (Some (Stop.Tall its.tried.number)) (one_counted Counted.Tall core.counters)
             (has_grown_tall seat number s.steps q task parts)) place.2
             (tall-bounded parts whole.stands core.stop going' (ap (λ (o : Option Stop). is_some o) going') core.counters (one_counted Counted.Tall core.counters)
             whole.bounds refl seat task (running_side s) number s.steps place.0 refl may last-low its.tried.number)
 
-        pub whole-tall : IsWhole program devices is_value value_of is_machine stage after-tall
+        pub whole-tall : IsSound meaning after-tall
         unfolding ends-so on'
         whole-tall = record {
-          stands = subst Stands (sym tall-parts) tall-so;
+          stands = subst Simulates (sym tall-parts) tall-so;
           limits = whole.limits;
-          desk = whole.desk;
+          memory = whole.memory;
           members = whole.members;
           pool = whole.pool;
-          alone = subst RunsAlone (sym tall-parts) tall-alone-so;
-          lone = lone-on parts (parts_of program devices value_of stage after-tall) whole.stands core.counters (one_counted Counted.Tall core.counters)
+          alone = subst RunsExclusively (sym tall-parts) tall-alone-so;
+          lone = lone-on parts (parts_of meaning after-tall) whole.stands core.counters (one_counted Counted.Tall core.counters)
               whole.lone seat last-within refl refl refl later refl refl (λ t e. told-ran task t (sym tall-later ∙ e));
-          bounds = subst (IsBounded (Some (Stop.Tall its.tried.number)) (one_counted Counted.Tall core.counters)) (sym tall-parts) tall-bounded-so;
+          bounds = subst (KeepsBounds (Some (Stop.Tall its.tried.number)) (one_counted Counted.Tall core.counters)) (sym tall-parts) tall-bounded-so;
           waiting = subst AreWaiting (sym tall-parts)
               (told-waiting parts seat number (ap (λ (o : Option Attempt). option_map (λ (x : Attempt). x.tried.number) o) last-has) busy (note_entry EntryKind.Tall seat number s.steps (place_shown s)) refl
               (told_task task) (core.turns + 1) true whole.waiting);
@@ -403,26 +403,25 @@ module _ {C V M : Type 0} (program : C → Tree) (devices : C → ℕ) (is_value
         }
 
         pub makes-tall : (a : Attempt) → working (task_at now.tasks seat) ≡ Some a
-            → MakesLastEvent program devices value_of stage (Stop.Tall a.tried.number) (one_counted Counted.Tall)
-            (has_grown_tall seat a.tried.number (stage now.code m).steps (place_shown (stage now.code m)) (task_at now.tasks seat)) now after-tall
+            → MakesLastEvent meaning (Stop.Tall a.tried.number) (one_counted Counted.Tall)
+            (has_grown_tall seat a.tried.number (meaning.stage now.code m).steps (place_shown (meaning.stage now.code m)) (task_at now.tasks seat)) now after-tall
         makes-tall a e =
-            subst (λ (b : Attempt). MakesLastEvent program devices value_of stage (Stop.Tall b.tried.number) (one_counted Counted.Tall)
-            (has_grown_tall seat b.tried.number (stage now.code m).steps (place_shown (stage now.code m)) (task_at now.tasks seat)) now after-tall) (last-attempt a e)
-            (subst (λ (x : Core C V M). MakesLastEvent program devices value_of stage (Stop.Tall number) (one_counted Counted.Tall)
-            (has_grown_tall seat number (stage x.code m).steps (place_shown (stage x.code m)) (task_at x.tasks seat)) x after-tall) view
+            subst (λ (b : Attempt). MakesLastEvent meaning (Stop.Tall b.tried.number) (one_counted Counted.Tall)
+            (has_grown_tall seat b.tried.number (meaning.stage now.code m).steps (place_shown (meaning.stage now.code m)) (task_at now.tasks seat)) now after-tall) (last-attempt a e)
+            (subst (λ (x : Core C V M). MakesLastEvent meaning (Stop.Tall number) (one_counted Counted.Tall)
+            (has_grown_tall seat number (meaning.stage x.code m).steps (place_shown (meaning.stage x.code m)) (task_at x.tasks seat)) x after-tall) view
             (record { code = refl; parts = tall-parts; counted = refl; stop = ap (λ (a : Attempt). Some (Stop.Tall a.tried.number)) tall-attempt }))
 
-        pub tall-told : attempt_of later ≡ Some (record attempt { told = true })
+        pub tall-told : attempt_of later ≡ Some (record attempt { logged = true })
         tall-told = last-places EntryKind.Tall entry tall-entry before entries before_is pushes later tall-later
 
 -- Where a seat has a member at work, and the turns are used up, that is a cause to stop.
 
-module _ {C V M : Type 0} (program : C → Tree) (devices : C → ℕ) (is_value : C → V → Type 0) (value_of : C → V → Val)
-    (is_machine : C → M → Type 0) (stage : C → M → Stage)
-    (core now : Core C V M) (view : core ≡ now) (whole : IsWhole program devices is_value value_of is_machine stage core) (seat : ℕ)
+module _ {C V M : Type 0} (meaning : Meaning C V M)
+    (core now : Core C V M) (view : core ≡ now) (whole : IsSound meaning core) (seat : ℕ)
     (has : IsSome (attempt_of (task_at now.tasks seat))) (used_up : now.turns ≡ now.limits.turns) where
   abbrev spent : Core C V M → Type 0
-  spent x = HasCause (Some Stop.Spent) x.certificates (parts_of program devices value_of stage (stopped_by Stop.Spent x))
+  spent x = HasCause (Some Stop.Spent) x.certificates (parts_of meaning (stopped_by Stop.Spent x))
 
   there : (o : Option Attempt) → IsSome o → (a : Attempt) × (o ≡ Some a)
   there None h = absurd (let clash : false ≡ true = h in cc)
@@ -432,10 +431,10 @@ module _ {C V M : Type 0} (program : C → Tree) (devices : C → ℕ) (is_value
   spent-kept none = subst (λ (x : Core C V M). spent x) view (record {
     cause = record {
       turns = subst (λ (x : Core C V M). x.turns ≡ x.limits.turns) (sym view) used_up;
-      left = (task-more (parts_of program devices value_of stage core) whole.stands seat its.0 its.1).empty;
+      left = (task-more (parts_of meaning core) whole.stands seat its.0 its.1).empty;
     };
-    told = going-untold (parts_of program devices value_of stage core) (parts_of program devices value_of stage core) core.stop none' core.certificates whole.caused;
-    ends = inl (going-ordinary (parts_of program devices value_of stage core) (parts_of program devices value_of stage core) core.stop none' core.certificates whole.caused);
+    told = going-untold (parts_of meaning core) (parts_of meaning core) core.stop none' core.certificates whole.caused;
+    ends = inl (going-ordinary (parts_of meaning core) (parts_of meaning core) core.stop none' core.certificates whole.caused);
   })
     where
       none' : core.stop ≡ None
@@ -445,17 +444,17 @@ module _ {C V M : Type 0} (program : C → Tree) (devices : C → ℕ) (is_value
       its = there (attempt_of (task_at core.tasks seat)) (subst (λ (x : Core C V M). IsSome (attempt_of (task_at x.tasks seat))) (sym view) has)
 
   -- with one seat no try follows, where it runs no code whose reads are valid
-  pub spent-leaves : (IsValid now.desk.cells seat (row_at now.desk.rows seat).reads → working (task_at now.tasks seat) ≡ None) → now.stop ≡ None
-      → LeavesNoTry Stop.Spent (parts_of program devices value_of stage now)
+  pub spent-leaves : (IsValid now.memory.cells seat (row_at now.memory.rows seat).reads → working (task_at now.tasks seat) ≡ None) → now.stop ≡ None
+      → LeavesNoTry Stop.Spent (parts_of meaning now)
   spent-leaves stuck none =
-      subst (λ (x : Core C V M). (IsValid x.desk.cells seat (row_at x.desk.rows seat).reads → working (task_at x.tasks seat) ≡ None) → x.stop ≡ None
-      → IsSome (attempt_of (task_at x.tasks seat)) → LeavesNoTry Stop.Spent (parts_of program devices value_of stage x)) view from stuck none has
+      subst (λ (x : Core C V M). (IsValid x.memory.cells seat (row_at x.memory.rows seat).reads → working (task_at x.tasks seat) ≡ None) → x.stop ≡ None
+      → IsSome (attempt_of (task_at x.tasks seat)) → LeavesNoTry Stop.Spent (parts_of meaning x)) view from stuck none has
     where
-      from : (IsValid core.desk.cells seat (row_at core.desk.rows seat).reads → working (task_at core.tasks seat) ≡ None) → core.stop ≡ None
-          → IsSome (attempt_of (task_at core.tasks seat)) → LeavesNoTry Stop.Spent (parts_of program devices value_of stage core)
+      from : (IsValid core.memory.cells seat (row_at core.memory.rows seat).reads → working (task_at core.tasks seat) ≡ None) → core.stop ≡ None
+          → IsSome (attempt_of (task_at core.tasks seat)) → LeavesNoTry Stop.Spent (parts_of meaning core)
       from stuck none has =
           let its = there (attempt_of (task_at core.tasks seat)) has in
-          busy-leaves_no_try (parts_of program devices value_of stage core) whole.stands core.stop none core.counters whole.bounds whole.lone seat its.0 its.1
-          (λ valid. stuck (shown-valid (value_of core.code) core.desk.cells seat (row_at core.desk.rows seat).reads
-          (subst (IsValid (parts_of program devices value_of stage core).desk.cells seat) (ap (λ (n : Notes Val). n.reads) (row-shown (value_of core.code) core.desk.rows seat))
-          (valid-desk (parts_of program devices value_of stage core).desk seat (row_at (parts_of program devices value_of stage core).desk.rows seat).reads valid))))
+          busy-leaves_no_try (parts_of meaning core) whole.stands core.stop none core.counters whole.bounds whole.lone seat its.0 its.1
+          (λ valid. stuck (shown-valid (meaning.value_of core.code) core.memory.cells seat (row_at core.memory.rows seat).reads
+          (subst (IsValid (parts_of meaning core).memory.cells seat) (ap (λ (n : Log Val). n.reads) (row-shown (meaning.value_of core.code) core.memory.rows seat))
+          (valid-memory (parts_of meaning core).memory seat (row_at (parts_of meaning core).memory.rows seat).reads valid))))

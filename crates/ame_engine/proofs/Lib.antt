@@ -28,7 +28,7 @@ pub mod BlockLemmas
 pub mod BlockedLemmas
 pub mod LastLemmas
 pub mod VisitPlaceLemmas
-pub mod VisitDeskLemmas
+pub mod VisitMemoryLemmas
 pub mod VisitStepLemmas
 pub mod VisitEndLemmas
 pub mod VisitCallLemmas

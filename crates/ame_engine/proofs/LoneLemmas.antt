@@ -9,33 +9,33 @@ use Rattle.ame_term.specs.declared.types.TyNo.{TyNo}
 use Rattle.ame_store.specs.declared.cell.Cell.{Cell}
 use Rattle.ame_store.specs.Cells.{HasItsParity, IsFree, IsOwnedBy}
 use Rattle.ame_store.specs.Changes.{made}
-use Rattle.ame_local.specs.Local.{LocalState}
-use Rattle.ame_desk.specs.Contents.{Contents, Notes, no_notes, row_at}
-use Rattle.ame_owed.specs.Heap.{Heap, cell_at}
-use Rattle.ame_owed.specs.SeatRun.{SeatRun, ComesTo, IsValidNote, AreValid}
-use Rattle.ame_owed.proofs.CellLemmas.{free_or_owned}
-use Rattle.ame_owed.proofs.LoneLemmas.{read-valid, valid-taken, valid-again, valid-new}
-use Rattle.ame_stands.specs.declared.types.Limits.{Limits}
-use Rattle.ame_stands.specs.declared.types.Attempt.{Attempt}
-use Rattle.ame_stands.specs.declared.types.Task.{Task}
-use Rattle.ame_stands.specs.Logged.{heap_of, logged_run, read_by}
-use Rattle.ame_stands.specs.Parts.{Parts, heap_in, task_at, attempt_of, term_at, run_in}
-use Rattle.ame_stands.specs.Tasks.{MeetsTask}
-use Rattle.ame_stands.specs.Stands.{Stands}
-use Rattle.ame_stands.specs.Alone.{is_of_protected}
-use Rattle.ame_stands.specs.Events.{begun_task, has_read, has_written, has_allocated}
-use Rattle.ame_stands.proofs.DeskEvents.{read-heap, read-outside, read-own, write-first, write-later, first-run, later-run, allocation-becomes, allocation-run}
-use Rattle.ame_stands.proofs.StepLemmas.{seat_within, task_here, owned_or_not}
-use Rattle.ame_stands.proofs.AccessLemmas.{runs, within, read-there, write-there}
-use Rattle.ame_stands.proofs.AloneLemmas.{owner-protected}
-use Rattle.ame_visits.specs.Stops.{told_task}
+use Rattle.ame_machine.specs.Run.Local.{LocalState}
+use Rattle.ame_rows.specs.MemoryView.{MemoryView, Log, no_log, row_at}
+use Rattle.ame_protocol.specs.Row.Heap.{Heap, cell_at}
+use Rattle.ame_protocol.specs.Row.SeatRun.{SeatRun, ComesTo, IsValidNote, AreValid}
+use Rattle.ame_protocol.proofs.Row.CellLemmas.{free_or_owned}
+use Rattle.ame_protocol.proofs.Row.LoneLemmas.{read-valid, valid-taken, valid-again, valid-new}
+use Rattle.ame_protocol.specs.declared.types.Limits.{Limits}
+use Rattle.ame_protocol.specs.declared.types.Attempt.{Attempt}
+use Rattle.ame_protocol.specs.declared.types.Task.{Task}
+use Rattle.ame_protocol.specs.Engine.Logged.{heap_of, logged_run, read_by}
+use Rattle.ame_protocol.specs.Engine.Parts.{Parts, heap_in, task_at, attempt_of, term_at, run_in}
+use Rattle.ame_protocol.specs.Engine.Tasks.{MeetsTask}
+use Rattle.ame_protocol.specs.Engine.Simulates.{Simulates}
+use Rattle.ame_protocol.specs.Engine.Alone.{is_of_protected}
+use Rattle.ame_protocol.specs.Engine.Events.{begun_task, has_read, has_written, has_allocated}
+use Rattle.ame_protocol.proofs.Engine.MemoryEvents.{read-heap, read-outside, read-own, write-first, write-later, first-run, later-run, allocation-becomes, allocation-run}
+use Rattle.ame_protocol.proofs.Engine.StepLemmas.{seat_within, task_here, owned_or_not}
+use Rattle.ame_protocol.proofs.Engine.AccessLemmas.{runs, within, read-there, write-there}
+use Rattle.ame_protocol.proofs.Engine.AloneLemmas.{owner-protected}
+use Rattle.ame_protocol.specs.Visits.Stops.{told_task}
 use Rattle.ame_engine.specs.declared.counters.Counters.{Counters}
 use Rattle.ame_engine.specs.Counting.{one_undone}
 use Rattle.ame_engine.specs.Lone.{IsUndisturbed, IsLone}
 
 -- The one seat
 
-module _ (parts : Parts) (s : Stands parts) (one : parts.limits.seats ≡ 1) where
+module _ (parts : Parts) (s : Simulates parts) (one : parts.limits.seats ≡ 1) where
   pub only-seat : (k : ℕ) (t : Attempt) → attempt_of (task_at parts.tasks k) ≡ Some t → k ≡ 0
   only-seat k t has =
       let below : k < length parts.tasks = seat_within parts.tasks k t has in
@@ -76,10 +76,10 @@ pub lone-never : (parts : Parts) (counters : Counters) → (parts.limits.seats �
 lone-never parts counters apart = record { counts = λ one. absurd (apart one); valid = λ one k t run. absurd (apart one) }
 
 -- an event of a seat that is neither a conflict nor finds that a read isn't valid
-module _ (parts new : Parts) (s : Stands parts) (counters later : Counters) (lone : IsLone parts counters) (seat : ℕ) (there : seat < length parts.tasks)
+module _ (parts new : Parts) (s : Simulates parts) (counters later : Counters) (lone : IsLone parts counters) (seat : ℕ) (there : seat < length parts.tasks)
     (limits : new.limits ≡ parts.limits) (conflicts : later.conflicts ≡ counters.conflicts) (invalids : later.invalids ≡ counters.invalids) where
   lone-as : length new.tasks ≡ length parts.tasks
-      → (parts.limits.seats ≡ 1 → (t : Attempt) → task_at new.tasks seat ≡ Task.Running t → AreValid (heap_in new) seat (row_at new.desk.rows seat).reads)
+      → (parts.limits.seats ≡ 1 → (t : Attempt) → task_at new.tasks seat ≡ Task.Running t → AreValid (heap_in new) seat (row_at new.memory.rows seat).reads)
       → IsLone new later
   lone-as same valid = record {
     counts = λ one. let c = lone.counts (was one) in record { conflicts = conflicts ∙ c.conflicts; invalids = invalids ∙ c.invalids };
@@ -89,16 +89,16 @@ module _ (parts new : Parts) (s : Stands parts) (counters later : Counters) (lon
       was : new.limits.seats ≡ 1 → parts.limits.seats ≡ 1
       was one = sym (ap (λ (l : Limits). l.seats) limits) ∙ one
 
-      by : parts.limits.seats ≡ 1 → (k : ℕ) (t : Attempt) → task_at new.tasks k ≡ Task.Running t → AreValid (heap_in new) k (row_at new.desk.rows k).reads
+      by : parts.limits.seats ≡ 1 → (k : ℕ) (t : Attempt) → task_at new.tasks k ≡ Task.Running t → AreValid (heap_in new) k (row_at new.memory.rows k).reads
       by one k t run =
           let below : k < length new.tasks = seat_within new.tasks k t (ap attempt_of run) in
           let count : length parts.tasks ≡ parts.limits.seats = s.bounded.tasks in
           let is : seat ≡ k = omega (arith, below, same, count, one, there) in
-          subst (λ (m : ℕ). AreValid (heap_in new) m (row_at new.desk.rows m).reads) is (valid one t (ap (task_at new.tasks) is ∙ run))
+          subst (λ (m : ℕ). AreValid (heap_in new) m (row_at new.memory.rows m).reads) is (valid one t (ap (task_at new.tasks) is ∙ run))
 
   -- the seat's next task
   pub lone-next : (next : Task) → new.tasks ≡ set parts.tasks seat next
-      → (parts.limits.seats ≡ 1 → (t : Attempt) → next ≡ Task.Running t → AreValid (heap_in new) seat (row_at new.desk.rows seat).reads)
+      → (parts.limits.seats ≡ 1 → (t : Attempt) → next ≡ Task.Running t → AreValid (heap_in new) seat (row_at new.memory.rows seat).reads)
       → IsLone new later
   lone-next next tasks valid =
       lone-as (ap length tasks ∙ length-set parts.tasks seat next)
@@ -110,28 +110,28 @@ module _ (parts new : Parts) (s : Stands parts) (counters later : Counters) (lon
 
   -- it begins
   pub lone-begun : (inside : Bool) (attempt : Attempt) → new.tasks ≡ set parts.tasks seat (begun_task inside attempt) → task_at parts.tasks seat ≡ Task.Idle
-      → new.desk ≡ parts.desk → IsLone new later
-  lone-begun inside attempt tasks idle desk =
+      → new.memory ≡ parts.memory → IsLone new later
+  lone-begun inside attempt tasks idle memory =
       lone-next (begun_task inside attempt) tasks
       (λ one t run. subst (AreValid (heap_in new) seat) (sym none) (All-nil (IsValidNote (heap_in new) seat)))
     where
-      clear : row_at parts.desk.rows seat ≡ no_notes
+      clear : row_at parts.memory.rows seat ≡ no_log
       clear = subst (MeetsTask parts s.types seat) idle (s.seats seat)
 
-      none : (row_at new.desk.rows seat).reads ≡ []
-      none = ap (λ (d : Contents Val). (row_at d.rows seat).reads) desk ∙ ap (λ (n : Notes Val). n.reads) clear
+      none : (row_at new.memory.rows seat).reads ≡ []
+      none = ap (λ (d : MemoryView Val). (row_at d.rows seat).reads) memory ∙ ap (λ (n : Log Val). n.reads) clear
 
   -- it runs on, or an entry tells what it has at work
-  pub lone-on : (next : Task) → new.tasks ≡ set parts.tasks seat next → new.desk ≡ parts.desk
+  pub lone-on : (next : Task) → new.tasks ≡ set parts.tasks seat next → new.memory ≡ parts.memory
       → ((t : Attempt) → next ≡ Task.Running t → (a : Attempt) × (task_at parts.tasks seat ≡ Task.Running a)) → IsLone new later
-  lone-on next tasks desk ran =
+  lone-on next tasks memory ran =
       lone-next next tasks
       (λ one t run. let before = ran t run in
-      subst (λ (d : Contents Val). AreValid (heap_of d) seat (row_at d.rows seat).reads) (sym desk) (lone.valid one seat before.0 before.1))
+      subst (λ (d : MemoryView Val). AreValid (heap_of d) seat (row_at d.rows seat).reads) (sym memory) (lone.valid one seat before.0 before.1))
 
   -- it reads, writes or makes a cell
   pub lone-access : (attempt : Attempt) → task_at parts.tasks seat ≡ Task.Running attempt → new.tasks ≡ parts.tasks
-      → (parts.limits.seats ≡ 1 → AreValid (heap_in parts) seat (row_at parts.desk.rows seat).reads → AreValid (heap_in new) seat (row_at new.desk.rows seat).reads)
+      → (parts.limits.seats ≡ 1 → AreValid (heap_in parts) seat (row_at parts.memory.rows seat).reads → AreValid (heap_in new) seat (row_at new.memory.rows seat).reads)
       → IsLone new later
   lone-access attempt task tasks on = lone-as (ap length tasks) (λ one t run. on one (lone.valid one seat attempt task))
 
@@ -157,39 +157,39 @@ undone-invalids false c = refl
 even-there : (cell : Cell Val) → HasItsParity cell → IsFree cell → cell.number % 2 ≡ 0
 even-there cell h free = subst (λ (o : Option ℕ). MatchOption o (cell.number % 2 ≡ 0) (λ _. cell.number % 2 ≡ 1)) free h
 
-module _ (parts : Parts) (s : Stands parts) (counters later : Counters) (lone : IsLone parts counters) (conflicts : later.conflicts ≡ counters.conflicts)
+module _ (parts : Parts) (s : Simulates parts) (counters later : Counters) (lone : IsLone parts counters) (conflicts : later.conflicts ≡ counters.conflicts)
     (invalids : later.invalids ≡ counters.invalids) (seat : ℕ) (attempt : Attempt) (task : task_at parts.tasks seat ≡ Task.Running attempt)
     (n : ℕ) (p : LocalState) where
   abbrev run : SeatRun
   run = run_in parts seat attempt.tried.number
 
-  in_rows : seat < length parts.desk.rows
+  in_rows : seat < length parts.memory.rows
   in_rows = within parts s seat attempt task
 
-  kept : (desk : Contents Val) (turns : ℕ)
+  kept : (memory : MemoryView Val) (turns : ℕ)
       → (parts.limits.seats ≡ 1 → AreValid (heap_in parts) seat run.reads
-      → AreValid (heap_of desk) seat (logged_run (term_at parts.pool attempt.tried.number) (row_at desk.rows seat)).reads)
-      → IsLone (record parts { desk = desk; turns = turns }) later
-  kept desk turns on =
-      lone-access parts (record parts { desk = desk; turns = turns }) s counters later lone seat (seat_within parts.tasks seat attempt (ap attempt_of task))
+      → AreValid (heap_of memory) seat (logged_run (term_at parts.pool attempt.tried.number) (row_at memory.rows seat)).reads)
+      → IsLone (record parts { memory = memory; turns = turns }) later
+  kept memory turns on =
+      lone-access parts (record parts { memory = memory; turns = turns }) s counters later lone seat (seat_within parts.tasks seat attempt (ap attempt_of task))
       refl conflicts invalids attempt task refl on
 
   pub read-lone : (l : Loc) → ComesTo run (Act.Reads l.0) n p → HasItsParity (cell_at (heap_in parts) l.0) → IsLone (has_read seat l parts) later
-  read-lone l comes parity = kept (read_by seat l parts.desk) (parts.turns + 1) (λ one valid. by one valid (owned_or_not seat (cell_at (heap_in parts) l.0)))
+  read-lone l comes parity = kept (read_by seat l parts.memory) (parts.turns + 1) (λ one valid. by one valid (owned_or_not seat (cell_at (heap_in parts) l.0)))
     where
-      same : heap_of (read_by seat l parts.desk) ≡ heap_in parts
-      same = read-heap parts.desk seat in_rows l
+      same : heap_of (read_by seat l parts.memory) ≡ heap_in parts
+      same = read-heap parts.memory seat in_rows l
 
       by : parts.limits.seats ≡ 1 → AreValid (heap_in parts) seat run.reads → IsOwnedBy seat (cell_at (heap_in parts) l.0) ⊎ (IsOwnedBy seat (cell_at (heap_in parts) l.0) → ⊥)
-          → AreValid (heap_of (read_by seat l parts.desk)) seat (logged_run (term_at parts.pool attempt.tried.number) (row_at (read_by seat l parts.desk).rows seat)).reads
+          → AreValid (heap_of (read_by seat l parts.memory)) seat (logged_run (term_at parts.pool attempt.tried.number) (row_at (read_by seat l parts.memory).rows seat)).reads
       by one valid (inl own) =
-          let is = read-own parts.desk seat in_rows l (read-there parts s seat attempt task n p l comes).0 own (term_at parts.pool attempt.tried.number) in
-          subst (λ (h : Heap). AreValid h seat (logged_run (term_at parts.pool attempt.tried.number) (row_at (read_by seat l parts.desk).rows seat)).reads) (sym same)
+          let is = read-own parts.memory seat in_rows l (read-there parts s seat attempt task n p l comes).0 own (term_at parts.pool attempt.tried.number) in
+          subst (λ (h : Heap). AreValid h seat (logged_run (term_at parts.pool attempt.tried.number) (row_at (read_by seat l parts.memory).rows seat)).reads) (sym same)
           (subst (λ (r : SeatRun). AreValid (heap_in parts) seat r.reads) (sym is) valid)
       by one valid (inr apart) =
-          let is = read-outside parts.desk seat in_rows l (read-there parts s seat attempt task n p l comes).0 apart (term_at parts.pool attempt.tried.number) in
+          let is = read-outside parts.memory seat in_rows l (read-there parts s seat attempt task n p l comes).0 apart (term_at parts.pool attempt.tried.number) in
           let free = free-else parts s one seat attempt (ap attempt_of task) l.0 apart in
-          subst (λ (h : Heap). AreValid h seat (logged_run (term_at parts.pool attempt.tried.number) (row_at (read_by seat l parts.desk).rows seat)).reads) (sym same)
+          subst (λ (h : Heap). AreValid h seat (logged_run (term_at parts.pool attempt.tried.number) (row_at (read_by seat l parts.memory).rows seat)).reads) (sym same)
           (subst (λ (r : SeatRun). AreValid (heap_in parts) seat r.reads) (sym is)
           (read-valid parts.devices s.types (heap_in parts) seat run l n p valid (runs parts s seat attempt task).scoped comes free
           (even-there (cell_at (heap_in parts) l.0) parity free)))
@@ -197,24 +197,24 @@ module _ (parts : Parts) (s : Stands parts) (counters later : Counters) (lone : 
   pub write-first_lone : (l : Loc) (v : Val) → ComesTo run (Act.Writes l.0 v) n p → IsFree (cell_at (heap_in parts) l.0) → IsLone (has_written seat l v parts) later
   write-first_lone l v comes free =
       let there = (write-there parts s seat attempt task n p l v comes).0 in
-      let desk = (has_written seat l v parts).desk in
-      kept desk (parts.turns + 1) (λ one valid.
-      subst (λ (r : SeatRun). AreValid (heap_of desk) seat r.reads) (sym (first-run parts.desk seat l v in_rows there free (term_at parts.pool attempt.tried.number)))
-      (valid-taken (heap_in parts) (heap_of desk) seat l.0 run.reads (runs parts s seat attempt task).owes.notes valid v free (write-first parts.desk seat l v there free)))
+      let memory = (has_written seat l v parts).memory in
+      kept memory (parts.turns + 1) (λ one valid.
+      subst (λ (r : SeatRun). AreValid (heap_of memory) seat r.reads) (sym (first-run parts.memory seat l v in_rows there free (term_at parts.pool attempt.tried.number)))
+      (valid-taken (heap_in parts) (heap_of memory) seat l.0 run.reads (runs parts s seat attempt task).owes.notes valid v free (write-first parts.memory seat l v there free)))
 
   pub write-later_lone : (l : Loc) (v : Val) → ComesTo run (Act.Writes l.0 v) n p → IsOwnedBy seat (cell_at (heap_in parts) l.0) → IsLone (has_written seat l v parts) later
   write-later_lone l v comes own =
       let there = (write-there parts s seat attempt task n p l v comes).0 in
-      let desk = (has_written seat l v parts).desk in
-      kept desk (parts.turns + 1) (λ one valid.
-      subst (λ (r : SeatRun). AreValid (heap_of desk) seat r.reads) (sym (later-run parts.desk seat l v in_rows there own (term_at parts.pool attempt.tried.number)))
-      (valid-again (heap_in parts) (heap_of desk) seat l.0 run.reads (runs parts s seat attempt task).owes.notes valid v (write-later parts.desk seat l v there own)))
+      let memory = (has_written seat l v parts).memory in
+      kept memory (parts.turns + 1) (λ one valid.
+      subst (λ (r : SeatRun). AreValid (heap_of memory) seat r.reads) (sym (later-run parts.memory seat l v in_rows there own (term_at parts.pool attempt.tried.number)))
+      (valid-again (heap_in parts) (heap_of memory) seat l.0 run.reads (runs parts s seat attempt task).owes.notes valid v (write-later parts.memory seat l v there own)))
 
   pub allocation-lone : (sort : Sort) (ty : TyNo) (v : Val) → ComesTo run (Act.Allocates sort v) n p → IsLone (has_allocated seat sort ty v parts) later
   allocation-lone sort ty v comes =
-      let place = length parts.desk.cells in
-      let desk = (has_allocated seat sort ty v parts).desk in
-      kept desk (parts.turns + 1) (λ one valid.
-      subst (λ (r : SeatRun). AreValid (heap_of desk) seat r.reads) (sym (allocation-run parts.desk seat sort ty v in_rows (term_at parts.pool attempt.tried.number)))
-      (valid-new (heap_in parts) (heap_of desk) seat place run.reads (runs parts s seat attempt task).owes.notes valid (made sort ty v (Some seat))
-      (λ there. let h : place < length parts.desk.cells = there in omega arith) (allocation-becomes parts.desk seat sort ty v)))
+      let place = length parts.memory.cells in
+      let memory = (has_allocated seat sort ty v parts).memory in
+      kept memory (parts.turns + 1) (λ one valid.
+      subst (λ (r : SeatRun). AreValid (heap_of memory) seat r.reads) (sym (allocation-run parts.memory seat sort ty v in_rows (term_at parts.pool attempt.tried.number)))
+      (valid-new (heap_in parts) (heap_of memory) seat place run.reads (runs parts s seat attempt task).owes.notes valid (made sort ty v (Some seat))
+      (λ there. let h : place < length parts.memory.cells = there in omega arith) (allocation-becomes parts.memory seat sort ty v)))

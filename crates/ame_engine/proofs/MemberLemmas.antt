@@ -9,8 +9,8 @@ use Rattle.ame_pool.specs.Members.{find, altered, is_ready}
 use Rattle.ame_pool.specs.Roster.{Roster}
 use Rattle.ame_pool.specs.Calls.{IsAt, machine_of}
 use Rattle.ame_pool.specs.Keeps.{is_inside_at}
-use Rattle.ame_stands.specs.Shown.{shown_member, shown_pool}
-use Rattle.ame_stands.proofs.ShownPoolLemmas.{found-shown, inside-shown}
+use Rattle.ame_protocol.specs.Engine.Shown.{shown_member, shown_pool}
+use Rattle.ame_protocol.proofs.Engine.ShownPoolLemmas.{found-shown, inside-shown}
 
 module _ {M : Type 0} where
   -- what all members pass, all pass once one is altered, if that one does then

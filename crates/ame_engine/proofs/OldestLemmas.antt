@@ -8,9 +8,9 @@ use Rattle.ame_pool.specs.declared.member.Member.{Member}
 use Rattle.ame_pool.specs.declared.oldest.Oldest.{Oldest}
 use Rattle.ame_pool.specs.Members.{find, is_busy, is_parked}
 use Rattle.ame_pool.specs.Roster.{Roster}
-use Rattle.ame_pool.specs.Begin.{is_protected, is_worn_protected, some_busy, may_begin_beside, may_begin, first_to_begin, members_of, oldest_or_wait, oldest}
-use Rattle.ame_stands.specs.Shown.{shown_member, shown_pool}
-use Rattle.ame_stands.proofs.ShownPoolLemmas.{found-shown}
+use Rattle.ame_pool.specs.Begin.{is_protected, is_exhausted_protected, some_busy, may_begin_beside, may_begin, first_to_begin, members_of, oldest_or_wait, oldest}
+use Rattle.ame_protocol.specs.Engine.Shown.{shown_member, shown_pool}
+use Rattle.ame_protocol.proofs.Engine.ShownPoolLemmas.{found-shown}
 
 module _ {M : Type 0} (term : M → Tree) where
   abbrev show : Member M → Member Tree
@@ -24,12 +24,12 @@ module _ {M : Type 0} (term : M → Tree) where
 
   may-shown : (ms older : List (Member M)) (m : Member M) → may_begin (map show ms) (map show older) (show m) ≡ may_begin ms older m
   may-shown ms older m =
-      ap (λ (b : Bool). may_begin_beside b (some_busy is_worn_protected (map show ms)) (list_any is_worn_protected (map show older)) m)
+      ap (λ (b : Bool). may_begin_beside b (some_busy is_exhausted_protected (map show ms)) (list_any is_exhausted_protected (map show older)) m)
       (some-shown (λ x. is_busy x && is_protected x) (λ x. is_busy x && is_protected x) (λ x. refl) ms)
-      ∙ ap (λ (b : Bool). may_begin_beside (some_busy is_protected ms) b (list_any is_worn_protected (map show older)) m)
-      (some-shown (λ x. is_busy x && is_worn_protected x) (λ x. is_busy x && is_worn_protected x) (λ x. refl) ms)
-      ∙ ap (λ (b : Bool). may_begin_beside (some_busy is_protected ms) (some_busy is_worn_protected ms) b m)
-      (some-shown is_worn_protected is_worn_protected (λ x. refl) older)
+      ∙ ap (λ (b : Bool). may_begin_beside (some_busy is_protected ms) b (list_any is_exhausted_protected (map show older)) m)
+      (some-shown (λ x. is_busy x && is_exhausted_protected x) (λ x. is_busy x && is_exhausted_protected x) (λ x. refl) ms)
+      ∙ ap (λ (b : Bool). may_begin_beside (some_busy is_protected ms) (some_busy is_exhausted_protected ms) b m)
+      (some-shown is_exhausted_protected is_exhausted_protected (λ x. refl) older)
 
   first-shown : (ms older ready : List (Member M)) → first_to_begin (map show ms) (map show older) (map show ready) ≡ first_to_begin ms older ready
   first-shown ms older [] = refl

@@ -12,10 +12,10 @@ use Rattle.std.proofs.lemmas.List.Kept.{AllPairs-from_increasing, IsStrictlyIncr
 use Rattle.std.proofs.lemmas.List.Sorted.{Contains-permutation, IsPermutation-sym}
 use Rattle.ame_store.specs.declared.cell.Cell.{Cell}
 use Rattle.ame_rows.specs.declared.notes.Undo.{Undo}
-use Rattle.ame_desk.specs.Access.{is_owned_by}
-use Rattle.ame_desk.specs.Entries.{named_by, places, entry_at, OwnsAsLogged, IsLogOf}
-use Rattle.ame_desk.proofs.LogLemmas.{entry_owned, has_entry}
-use Rattle.ame_desk.proofs.LettingGoLemmas.{owned_is, is_owned}
+use Rattle.ame_rows.specs.Access.{is_owned_by}
+use Rattle.ame_rows.specs.Entries.{named_by, places, entry_at, OwnsAsLogged, IsLogOf}
+use Rattle.ame_rows.proofs.LogLemmas.{entry_owned, has_entry}
+use Rattle.ame_rows.proofs.LettingGoLemmas.{owned_is, is_owned}
 use Rattle.ame_engine.specs.Committing.{owned_places}
 
 -- Rising numbers

@@ -3,18 +3,18 @@ use Rattle.std.proofs.Common.{◌≡◌, ℕ, ◌+◌, ◌<◌, ◌≤◌, Bool,
 use Rattle.std.specs.Prelude.{if◌then◌else◌}
 use Rattle.std.proofs.lemmas.List.Folds.{sum_by-replicate}
 use Rattle.std.proofs.lemmas.List.Sums.{sum_by-set, count_by-le-length}
-use Rattle.ame_stands.specs.declared.types.Attempt.{Attempt}
-use Rattle.ame_stands.specs.declared.types.Task.{Task}
-use Rattle.ame_stands.specs.Parts.{task_at, attempt_of}
-use Rattle.ame_stands.proofs.StepLemmas.{seat_within}
+use Rattle.ame_protocol.specs.declared.types.Attempt.{Attempt}
+use Rattle.ame_protocol.specs.declared.types.Task.{Task}
+use Rattle.ame_protocol.specs.Engine.Parts.{task_at, attempt_of}
+use Rattle.ame_protocol.proofs.Engine.StepLemmas.{seat_within}
 use Rattle.ame_engine.specs.Places.{is_untold, HasPlacesFor}
 
 -- by its attempt
-untold-is : (task : Task) (attempt : Attempt) → attempt_of task ≡ Some attempt → is_untold task ≡ not attempt.told
+untold-is : (task : Task) (attempt : Attempt) → attempt_of task ≡ Some attempt → is_untold task ≡ not attempt.logged
 untold-is Task.Idle attempt e = absurd (let clash : attempt_of Task.Idle ≡ Some attempt = e in cc)
-untold-is (Task.Running a) attempt e = let same : a ≡ attempt = cc in ap (λ (x : Attempt). not x.told) same
-untold-is (Task.Free a) attempt e = let same : a ≡ attempt = cc in ap (λ (x : Attempt). not x.told) same
-untold-is (Task.Undoing a reason) attempt e = let same : a ≡ attempt = cc in ap (λ (x : Attempt). not x.told) same
+untold-is (Task.Running a) attempt e = let same : a ≡ attempt = cc in ap (λ (x : Attempt). not x.logged) same
+untold-is (Task.Free a) attempt e = let same : a ≡ attempt = cc in ap (λ (x : Attempt). not x.logged) same
+untold-is (Task.Undoing a reason) attempt e = let same : a ≡ attempt = cc in ap (λ (x : Attempt). not x.logged) same
 
 -- once a seat has another task
 count-set : (tasks : List Task) (seat : ℕ) (task : Task) → seat < length tasks
@@ -38,11 +38,11 @@ module _ (tasks : List Task) (seat tries places : ℕ) (attempt : Attempt) (has 
   within : seat < length tasks
   within = seat_within tasks seat attempt has
 
-  told-there : is_untold (task_at tasks seat) ≡ not attempt.told
+  told-there : is_untold (task_at tasks seat) ≡ not attempt.logged
   told-there = untold-is (task_at tasks seat) attempt has
 
   -- the seat goes on with an attempt that is told where this one is
-  pub places-kept : (task : Task) (later : Attempt) → attempt_of task ≡ Some later → later.told ≡ attempt.told → HasPlacesFor (set tasks seat task) tries places
+  pub places-kept : (task : Task) (later : Attempt) → attempt_of task ≡ Some later → later.logged ≡ attempt.logged → HasPlacesFor (set tasks seat task) tries places
   places-kept task later its same =
       let one = count-set tasks seat task within in
       let is : is_untold task ≡ is_untold (task_at tasks seat) = untold-is task later its ∙ ap not same ∙ sym told-there in
@@ -50,7 +50,7 @@ module _ (tasks : List Task) (seat tries places : ℕ) (attempt : Attempt) (has 
       let all = enough in omega (arith, one, both, all)
 
   -- or with one that an entry tells
-  pub places-told : (task : Task) (later : Attempt) → attempt_of task ≡ Some later → later.told ≡ true → HasPlacesFor (set tasks seat task) tries places
+  pub places-told : (task : Task) (later : Attempt) → attempt_of task ≡ Some later → later.logged ≡ true → HasPlacesFor (set tasks seat task) tries places
   places-told task later its told =
       let one = count-set tasks seat task within in
       let no : ◌≡◌ {A = ℕ} (cond (is_untold task) 1 0) 0 = ap (λ (b : Bool). cond b 1 0) (untold-is task later its ∙ ap not told) in
@@ -61,17 +61,17 @@ module _ (tasks : List Task) (seat tries places : ℕ) (attempt : Attempt) (has 
   places-freed = let one = count-set tasks seat Task.Idle within in let all = enough in omega (arith, one, all)
 
   -- it has a place for its try
-  pub place-there : attempt.told ≡ false → tries < places
+  pub place-there : attempt.logged ≡ false → tries < places
   place-there told =
       let one = count-set tasks seat Task.Idle within in
       let yes : ◌≡◌ {A = ℕ} (cond (is_untold (task_at tasks seat)) 1 0) 1 = ap (λ (b : Bool). cond b 1 0) (told-there ∙ ap not told) in
       let all = enough in omega (arith, one, yes, all)
 
   -- the seat is idle then, and the try is told unless an entry tells it
-  pub places-home : HasPlacesFor (set tasks seat Task.Idle) (if attempt.told then tries else tries + 1) places
-  places-home = by attempt.told refl
+  pub places-home : HasPlacesFor (set tasks seat Task.Idle) (if attempt.logged then tries else tries + 1) places
+  places-home = by attempt.logged refl
     where
-      by : (b : Bool) → attempt.told ≡ b → HasPlacesFor (set tasks seat Task.Idle) (if b then tries else tries + 1) places
+      by : (b : Bool) → attempt.logged ≡ b → HasPlacesFor (set tasks seat Task.Idle) (if b then tries else tries + 1) places
       by true told =
           let one = count-set tasks seat Task.Idle within in
           let no : ◌≡◌ {A = ℕ} (cond (is_untold (task_at tasks seat)) 1 0) 0 = ap (λ (b : Bool). cond b 1 0) (told-there ∙ ap not told) in
@@ -81,7 +81,7 @@ module _ (tasks : List Task) (seat tries places : ℕ) (attempt : Attempt) (has 
           let yes : ◌≡◌ {A = ℕ} (cond (is_untold (task_at tasks seat)) 1 0) 1 = ap (λ (b : Bool). cond b 1 0) (told-there ∙ ap not told) in
           let all = enough in omega (arith, one, yes, all)
 
-  pub places-gone : (later capacity : ℕ) → later ≡ (if attempt.told then tries else tries + 1) → capacity ≡ places → HasPlacesFor (set tasks seat Task.Idle) later capacity
+  pub places-gone : (later capacity : ℕ) → later ≡ (if attempt.logged then tries else tries + 1) → capacity ≡ places → HasPlacesFor (set tasks seat Task.Idle) later capacity
   places-gone later capacity e f =
       subst (λ (n : ℕ). HasPlacesFor (set tasks seat Task.Idle) n capacity) (sym e)
-      (subst (λ (p : ℕ). HasPlacesFor (set tasks seat Task.Idle) (if attempt.told then tries else tries + 1) p) (sym f) places-home)
+      (subst (λ (p : ℕ). HasPlacesFor (set tasks seat Task.Idle) (if attempt.logged then tries else tries + 1) p) (sym f) places-home)

@@ -5,71 +5,72 @@ use Rattle.std.specs.Option.{option_map_or}
 use Rattle.std.proofs.lemmas.List.{length-map}
 use Rattle.std.proofs.lemmas.Option.{slice_get-map, get_or_from_slice_get}
 use Rattle.std.proofs.lemmas.List.Elements.{All-push, All-set, All-nil, All-head, All-tail}
-use Rattle.ame_term.specs.Tree.{Val, Tree}
+use Rattle.ame_term.specs.Tree.{Val}
 use Rattle.ame_term.specs.Frame.{Side, side_told}
 use Rattle.ame_term.specs.Context.{Focus, focus}
 use Rattle.ame_term.specs.Act.{Act}
 use Rattle.ame_term.specs.declared.types.Loc.{Loc}
 use Rattle.ame_store.specs.declared.cell.Cell.{Cell}
 use Rattle.ame_store.specs.Cells.{HasItsParity}
-use Rattle.ame_local.specs.Local.{LocalState, local}
-use Rattle.ame_desk.specs.Contents.{Notes, Contents, row_at, by_seat}
-use Rattle.ame_desk.specs.Access.{noted_read}
-use Rattle.ame_owed.specs.Heap.{no_cell, cell_at, IsCell}
-use Rattle.ame_owed.specs.SeatRun.{ComesTo}
-use Rattle.ame_runner.specs.Stage.{Stage, place_shown, running_side, without_footprint, with_answer}
-use Rattle.ame_runner.specs.Need.{Need, need_of}
-use Rattle.ame_runner.specs.Comes.{HasNextAct}
-use Rattle.ame_runner.proofs.NeedLemmas.{comes_as}
-use Rattle.ame_stands.specs.declared.types.Attempt.{Attempt}
-use Rattle.ame_stands.specs.declared.types.Task.{Task}
-use Rattle.ame_stands.specs.Parts.{Parts, heap_in, task_at, attempt_of, run_in, term_at}
-use Rattle.ame_stands.specs.Stands.{Stands}
-use Rattle.ame_stands.specs.Alone.{RunsAlone}
-use Rattle.ame_stands.specs.Events.{has_read}
-use Rattle.ame_stands.proofs.StepLemmas.{seat_within}
-use Rattle.ame_stands.proofs.AccessLemmas.{read-there, read-stands}
-use Rattle.ame_stands.proofs.AloneLemmas.{read-alone}
-use Rattle.ame_waiting.specs.Waiting.{AreWaiting}
-use Rattle.ame_waiting.specs.Once.{AreNotedOnce}
-use Rattle.ame_waiting.proofs.TaskLemmas.{read-waiting}
-use Rattle.ame_waiting.proofs.OnceLemmas.{once-on}
+use Rattle.ame_machine.specs.Run.Local.{LocalState, local}
+use Rattle.ame_rows.specs.MemoryView.{Log, MemoryView, row_at, by_seat}
+use Rattle.ame_rows.specs.Access.{noted_read}
+use Rattle.ame_protocol.specs.Row.Heap.{no_cell, cell_at, IsCell}
+use Rattle.ame_protocol.specs.Row.SeatRun.{ComesTo}
+use Rattle.ame_machine.specs.MachineView.{MachineView, place_shown, running_side, without_footprint, with_answer}
+use Rattle.ame_machine.specs.Need.{Need, need_of}
+use Rattle.ame_machine.specs.Comes.{HasNextAct}
+use Rattle.ame_machine.proofs.NeedLemmas.{comes_as}
+use Rattle.ame_protocol.specs.declared.types.Attempt.{Attempt}
+use Rattle.ame_protocol.specs.declared.types.Task.{Task}
+use Rattle.ame_protocol.specs.Engine.Parts.{Parts, heap_in, task_at, attempt_of, run_in, term_at}
+use Rattle.ame_protocol.specs.Engine.Simulates.{Simulates}
+use Rattle.ame_protocol.specs.Engine.Alone.{RunsExclusively}
+use Rattle.ame_protocol.specs.Engine.Events.{has_read}
+use Rattle.ame_protocol.proofs.Engine.StepLemmas.{seat_within}
+use Rattle.ame_protocol.proofs.Engine.AccessLemmas.{read-there, read-stands}
+use Rattle.ame_protocol.proofs.Engine.AloneLemmas.{read-alone}
+use Rattle.ame_protocol.specs.Waits.Waiting.{AreWaiting}
+use Rattle.ame_protocol.specs.Waits.Once.{AreNotedOnce}
+use Rattle.ame_protocol.proofs.Waits.TaskLemmas.{read-waiting}
+use Rattle.ame_protocol.proofs.Waits.OnceLemmas.{once-on}
 use Rattle.ame_engine.specs.Core.{Core}
 use Rattle.ame_engine.specs.Causes.{HasCause}
 use Rattle.ame_engine.proofs.CauseLemmas.{task-more, working-cause}
 use Rattle.ame_engine.specs.Counting.{Counted, one_counted}
-use Rattle.ame_owed.specs.Shown.{shown_cell}
-use Rattle.ame_stands.specs.Shown.{shown_notes}
-use Rattle.ame_stands.proofs.ShownDeskLemmas.{read-shown}
-use Rattle.ame_desk.specs.Access.{IsRead}
-use Rattle.ame_desk.proofs.LookupLemmas.{get_there, all_at}
+use Rattle.ame_protocol.specs.Row.Shown.{shown_cell}
+use Rattle.ame_protocol.specs.Engine.Shown.{shown_notes}
+use Rattle.ame_protocol.proofs.Engine.ShownMemoryLemmas.{read-shown}
+use Rattle.ame_rows.specs.Access.{IsRead}
+use Rattle.ame_rows.proofs.LookupLemmas.{get_there, all_at}
 use Rattle.ame_engine.specs.Seen.{parts_of}
-use Rattle.ame_engine.specs.Whole.{IsGoodUndo, AreGoodNotes, IsWhole}
+use Rattle.ame_engine.specs.Whole.{IsGoodUndo, IsGoodLog, IsSound}
 use Rattle.ame_engine.specs.AtWork.{IsOnSeat, is_free, working}
 use Rattle.ame_engine.proofs.CountLemmas.{one-counts}
 use Rattle.ame_engine.specs.Lone.{IsLone}
 use Rattle.ame_engine.proofs.LoneLemmas.{read-lone}
 use Rattle.ame_engine.specs.declared.stop.Stop.{Stop}
-use Rattle.ame_engine.specs.Bounds.{IsBounded}
+use Rattle.ame_engine.specs.Bounds.{KeepsBounds}
 use Rattle.ame_engine.proofs.BoundLemmas.{read-bounded}
+use Rattle.ame_machine.specs.Meaning.{Meaning}
 
 -- Good values
 
 module _ {V : Type 0} (IsGood : V → Type 0) where
-  pub row-good : (rows : List (Notes V)) (seat : ℕ) → All (AreGoodNotes IsGood) rows → AreGoodNotes IsGood (row_at rows seat)
+  pub row-good : (rows : List (Log V)) (seat : ℕ) → All (IsGoodLog IsGood) rows → IsGoodLog IsGood (row_at rows seat)
   row-good [] seat all = record { inputs = All-nil IsGood; undos = All-nil (IsGoodUndo IsGood) }
-  row-good (r ∷ rows) zero all = All-head (AreGoodNotes IsGood) r rows all
-  row-good (r ∷ rows) (suc seat) all = row-good rows seat (All-tail (AreGoodNotes IsGood) r rows all)
+  row-good (r ∷ rows) zero all = All-head (IsGoodLog IsGood) r rows all
+  row-good (r ∷ rows) (suc seat) all = row-good rows seat (All-tail (IsGoodLog IsGood) r rows all)
 
-  pub read-good : (seat : ℕ) (l : Loc) (input : V) → IsGood input → (o : Option (Cell V)) (notes : Notes V) → AreGoodNotes IsGood notes
-      → AreGoodNotes IsGood (option_map_or (λ cell. noted_read seat l input cell notes) o notes)
+  pub read-good : (seat : ℕ) (l : Loc) (input : V) → IsGood input → (o : Option (Cell V)) (notes : Log V) → IsGoodLog IsGood notes
+      → IsGoodLog IsGood (option_map_or (λ cell. noted_read seat l input cell notes) o notes)
   read-good seat l input good None notes all = all
   read-good seat l input good (Some cell) notes all =
       record { inputs = All-push IsGood notes.inputs input all.inputs good; undos = all.undos }
 
 -- Where the run stands
 
-pub place-by : (o : Option LocalState) (s : Stage) → option_map without_footprint o ≡ Some (with_answer None (place_shown s))
+pub place-by : (o : Option LocalState) (s : MachineView) → option_map without_footprint o ≡ Some (with_answer None (place_shown s))
     → (p : LocalState) × (o ≡ Some p) × (p.term ≡ s.term) × (p.inputs ≡ [])
 place-by None s e = absurd (none-some e)
   where
@@ -86,15 +87,15 @@ running-attempt (Task.Free b) a e free = cc
 running-attempt (Task.Undoing b reason) a e free = cc
 
 -- the task of a seat that runs protected code
-pub runs-as : (parts : Parts) (seat : ℕ) (s : Stage) (on : IsOnSeat parts seat s) → s.inside ≡ false → task_at parts.tasks seat ≡ Task.Running on.attempt
+pub runs-as : (parts : Parts) (seat : ℕ) (s : MachineView) (on : IsOnSeat parts seat s) → s.inside ≡ false → task_at parts.tasks seat ≡ Task.Running on.attempt
 runs-as parts seat s on outside = running-attempt (task_at parts.tasks seat) on.attempt on.has (sym on.side ∙ outside)
 
 -- where the run has come to an act
-pub comes-to : (parts : Parts) (seat : ℕ) (s : Stage) (on : IsOnSeat parts seat s) (act : Act) → s.inside ≡ false → HasNextAct s act
+pub comes-to : (parts : Parts) (seat : ℕ) (s : MachineView) (on : IsOnSeat parts seat s) (act : Act) → s.inside ≡ false → HasNextAct s act
     → (p : LocalState) × ComesTo (run_in parts seat on.attempt.tried.number) act s.steps p
 comes-to parts seat s on act outside there =
     let start = term_at parts.pool on.attempt.tried.number in
-    let inputs = (row_at parts.desk.rows seat).inputs in
+    let inputs = (row_at parts.memory.rows seat).inputs in
     let place = place-by (local (running_side s) start inputs s.steps) s on.run in
     let side : running_side s ≡ Side.Protected = ap side_told outside in (
       place.0,
@@ -110,98 +111,97 @@ comes-to parts seat s on act outside there =
 
 -- The whole engine
 
-module _ {C V M : Type 0} (program : C → Tree) (devices : C → ℕ) (is_value : C → V → Type 0) (value_of : C → V → Val)
-    (is_machine : C → M → Type 0) (stage : C → M → Stage) where
-  -- a seat that runs code is one of the desk
-  pub seat-in_rows : (core : Core C V M) → IsWhole program devices is_value value_of is_machine stage core → (seat : ℕ) (attempt : Attempt)
-      → task_at core.tasks seat ≡ Task.Running attempt → seat < length core.desk.rows
+module _ {C V M : Type 0} (meaning : Meaning C V M) where
+  -- a seat that runs code is one of the memory
+  pub seat-in_rows : (core : Core C V M) → IsSound meaning core → (seat : ℕ) (attempt : Attempt)
+      → task_at core.tasks seat ≡ Task.Running attempt → seat < length core.memory.rows
   seat-in_rows core whole seat attempt task =
       let within : seat < length core.tasks = seat_within core.tasks seat attempt (ap attempt_of task) in
       let tasks : length core.tasks ≡ core.limits.seats = whole.stands.bounded.tasks in
-      let rows : length (map (shown_notes (value_of core.code)) core.desk.rows) ≡ core.limits.seats = whole.stands.bounded.rows in
-      let plain = length-map core.desk.rows (shown_notes (value_of core.code)) in
+      let rows : length (map (shown_notes (meaning.value_of core.code)) core.memory.rows) ≡ core.limits.seats = whole.stands.bounded.rows in
+      let plain = length-map core.memory.rows (shown_notes (meaning.value_of core.code)) in
       omega (arith, within, tasks, rows, plain)
 
-  module _ (core : Core C V M) (whole : IsWhole program devices is_value value_of is_machine stage core) (seat : ℕ) (m : M) (l : Loc)
-      (on : IsOnSeat (parts_of program devices value_of stage core) seat (stage core.code m)) (outside : (stage core.code m).inside ≡ false)
-      (need : Need.Read l.0 ≡ need_of (stage core.code m)) where
+  module _ (core : Core C V M) (whole : IsSound meaning core) (seat : ℕ) (m : M) (l : Loc)
+      (on : IsOnSeat (parts_of meaning core) seat (meaning.stage core.code m)) (outside : (meaning.stage core.code m).inside ≡ false)
+      (need : Need.Read l.0 ≡ need_of (meaning.stage core.code m)) where
     abbrev parts : Parts
-    parts = parts_of program devices value_of stage core
+    parts = parts_of meaning core
 
-    comes : (p : LocalState) × ComesTo (run_in parts seat on.attempt.tried.number) (Act.Reads l.0) (stage core.code m).steps p
-    comes = comes-to parts seat (stage core.code m) on (Act.Reads l.0) outside (comes_as (stage core.code m) (Need.Read l.0) need)
+    comes : (p : LocalState) × ComesTo (run_in parts seat on.attempt.tried.number) (Act.Reads l.0) (meaning.stage core.code m).steps p
+    comes = comes-to parts seat (meaning.stage core.code m) on (Act.Reads l.0) outside (comes_as (meaning.stage core.code m) (Need.Read l.0) need)
 
     task : task_at parts.tasks seat ≡ Task.Running on.attempt
-    task = runs-as parts seat (stage core.code m) on outside
+    task = runs-as parts seat (meaning.stage core.code m) on outside
 
     -- a cell is there
-    pub read-within : l.0 < length core.desk.cells
+    pub read-within : l.0 < length core.memory.cells
     read-within =
-        let there : IsCell (heap_in parts) l.0 = (read-there parts whole.stands seat on.attempt task (stage core.code m).steps comes.0 l comes.1).0 in
-        subst (λ (n : ℕ). l.0 < n) (length-map core.desk.cells (shown_cell (value_of core.code))) there
+        let there : IsCell (heap_in parts) l.0 = (read-there parts whole.stands seat on.attempt task (meaning.stage core.code m).steps comes.0 l comes.1).0 in
+        subst (λ (n : ℕ). l.0 < n) (length-map core.memory.cells (shown_cell (meaning.value_of core.code))) there
 
     -- what is in place there, as plain data
-    pub in-place : (cell : Cell V) → slice_get core.desk.cells l.0 ≡ Some cell → (cell_at (heap_in parts) l.0).value ≡ value_of core.code cell.value
+    pub in-place : (cell : Cell V) → slice_get core.memory.cells l.0 ≡ Some cell → (cell_at (heap_in parts) l.0).value ≡ meaning.value_of core.code cell.value
     in-place cell there =
         ap (λ (c : Cell Val). c.value)
-        (get_or_from_slice_get parts.desk.cells l.0 (shown_cell (value_of core.code) cell) no_cell
-        (slice_get-map (shown_cell (value_of core.code)) core.desk.cells l.0 ∙ ap (option_map (shown_cell (value_of core.code))) there))
+        (get_or_from_slice_get parts.memory.cells l.0 (shown_cell (meaning.value_of core.code) cell) no_cell
+        (slice_get-map (shown_cell (meaning.value_of core.code)) core.memory.cells l.0 ∙ ap (option_map (shown_cell (meaning.value_of core.code))) there))
 
-    module _ (left : core.turns < core.limits.turns) (same : V → V → Type 0) (shows : (v w : V) → same v w → value_of core.code w ≡ value_of core.code v)
-        (keeps : (v w : V) → same v w → is_value core.code v → is_value core.code w) (notes : Notes V)
-        (row : IsRead same seat l core.desk.cells (row_at core.desk.rows seat) notes) where
+    module _ (left : core.turns < core.limits.turns) (same : V → V → Type 0) (shows : (v w : V) → same v w → meaning.value_of core.code w ≡ meaning.value_of core.code v)
+        (keeps : (v w : V) → same v w → meaning.is_value core.code v → meaning.is_value core.code w) (notes : Log V)
+        (row : IsRead same seat l core.memory.cells (row_at core.memory.rows seat) notes) where
       -- the engine after the read
       abbrev pub read_with : Core C V M
-      read_with = record core { desk = by_seat seat core.desk.cells notes core.desk; turns = core.turns + 1; counters = one_counted Counted.Read core.counters }
+      read_with = record core { memory = by_seat seat core.memory.cells notes core.memory; turns = core.turns + 1; counters = one_counted Counted.Read core.counters }
 
-      turned : Contents Val → Parts
-      turned desk = record parts { desk = desk; turns = parts.turns + 1 }
+      turned : MemoryView Val → Parts
+      turned memory = record parts { memory = memory; turns = parts.turns + 1 }
 
-      pub read-parts : parts_of program devices value_of stage read_with ≡ has_read seat l parts
+      pub read-parts : parts_of meaning read_with ≡ has_read seat l parts
       unfolding turned
-      read-parts = ap turned (read-shown (value_of core.code) same shows seat l core.desk notes read-within row)
+      read-parts = ap turned (read-shown (meaning.value_of core.code) same shows seat l core.memory notes read-within row)
 
-      there : (cell : Cell V) × (slice_get core.desk.cells l.0 ≡ Some cell)
-      there = get_there core.desk.cells l.0 read-within
+      there : (cell : Cell V) × (slice_get core.memory.cells l.0 ≡ Some cell)
+      there = get_there core.memory.cells l.0 read-within
 
       -- each value is good that is the same as the one in place
-      good-same : (v : V) → same there.0.value v → is_value core.code v
+      good-same : (v : V) → same there.0.value v → meaning.is_value core.code v
       good-same v h =
           keeps there.0.value v h
-          (all_at (λ (cell : Cell V). is_value core.code cell.value) core.desk.cells l.0 there.0 read-within there.1 whole.desk.cells)
+          (all_at (λ (cell : Cell V). meaning.is_value core.code cell.value) core.memory.cells l.0 there.0 read-within there.1 whole.memory.cells)
 
-      good-row : AreGoodNotes (is_value core.code) notes
-      good-row = subst (AreGoodNotes (is_value core.code)) (sym row.becomes)
-          (read-good (is_value core.code) seat l row.input (good-same row.input (row.copied there.0 there.1)) (slice_get core.desk.cells l.0)
-          (row_at core.desk.rows seat) (row-good (is_value core.code) core.desk.rows seat whole.desk.rows))
+      good-row : IsGoodLog (meaning.is_value core.code) notes
+      good-row = subst (IsGoodLog (meaning.is_value core.code)) (sym row.becomes)
+          (read-good (meaning.is_value core.code) seat l row.input (good-same row.input (row.copied there.0 there.1)) (slice_get core.memory.cells l.0)
+          (row_at core.memory.rows seat) (row-good (meaning.is_value core.code) core.memory.rows seat whole.memory.rows))
 
       -- its number is even exactly where it has no owner
-      its-parity : All HasItsParity core.desk.cells → HasItsParity (cell_at (heap_in parts) l.0)
+      its-parity : All HasItsParity core.memory.cells → HasItsParity (cell_at (heap_in parts) l.0)
       its-parity parity =
           subst HasItsParity
-          (sym (get_or_from_slice_get parts.desk.cells l.0 (shown_cell (value_of core.code) there.0) no_cell
-          (slice_get-map (shown_cell (value_of core.code)) core.desk.cells l.0 ∙ ap (option_map (shown_cell (value_of core.code))) there.1)))
-          (all_at HasItsParity core.desk.cells l.0 there.0 read-within there.1 parity)
+          (sym (get_or_from_slice_get parts.memory.cells l.0 (shown_cell (meaning.value_of core.code) there.0) no_cell
+          (slice_get-map (shown_cell (meaning.value_of core.code)) core.memory.cells l.0 ∙ ap (option_map (shown_cell (meaning.value_of core.code))) there.1)))
+          (all_at HasItsParity core.memory.cells l.0 there.0 read-within there.1 parity)
 
-      pub read-whole : core.stop ≡ None → (stage core.code m).since < core.limits.slice → All HasItsParity core.desk.cells
-          → IsWhole program devices is_value value_of is_machine stage read_with
+      pub read-whole : core.stop ≡ None → (meaning.stage core.code m).since < core.limits.slice → All HasItsParity core.memory.cells
+          → IsSound meaning read_with
       read-whole going early parity = record {
-        stands = subst Stands (sym read-parts) (read-stands parts whole.stands seat on.attempt task (stage core.code m).steps comes.0 left l comes.1);
+        stands = subst Simulates (sym read-parts) (read-stands parts whole.stands seat on.attempt task (meaning.stage core.code m).steps comes.0 left l comes.1);
         limits = whole.limits;
-        desk = record {
-          cells = whole.desk.cells;
-          rows = All-set (AreGoodNotes (is_value core.code)) core.desk.rows seat notes good-row whole.desk.rows;
+        memory = record {
+          cells = whole.memory.cells;
+          rows = All-set (IsGoodLog (meaning.is_value core.code)) core.memory.rows seat notes good-row whole.memory.rows;
         };
         members = whole.members;
         pool = whole.pool;
-        alone = subst RunsAlone (sym read-parts)
-            (read-alone parts whole.stands whole.alone seat on.attempt task (stage core.code m).steps comes.0 l comes.1 (its-parity parity));
+        alone = subst RunsExclusively (sym read-parts)
+            (read-alone parts whole.stands whole.alone seat on.attempt task (meaning.stage core.code m).steps comes.0 l comes.1 (its-parity parity));
         lone = subst (λ (x : Parts). IsLone x (one_counted Counted.Read core.counters)) (sym read-parts)
             (read-lone parts whole.stands core.counters (one_counted Counted.Read core.counters) whole.lone refl refl seat on.attempt task
-            (stage core.code m).steps comes.0 l comes.1 (its-parity parity));
-        bounds = subst (IsBounded core.stop (one_counted Counted.Read core.counters)) (sym read-parts)
+            (meaning.stage core.code m).steps comes.0 l comes.1 (its-parity parity));
+        bounds = subst (KeepsBounds core.stop (one_counted Counted.Read core.counters)) (sym read-parts)
             (read-bounded parts whole.stands core.stop going (ap (λ (o : Option Stop). is_some o) going) core.counters (one_counted Counted.Read core.counters)
-            whole.bounds refl seat on.attempt task (stage core.code m).steps comes.0 (let since = on.since in omega arith) l comes.1);
+            whole.bounds refl seat on.attempt task (meaning.stage core.code m).steps comes.0 (let since = on.since in omega arith) l comes.1);
         waiting = subst AreWaiting (sym read-parts) (read-waiting parts whole.stands seat on.attempt task whole.waiting l);
         once = subst AreNotedOnce (sym read-parts) (once-on parts (has_read seat l parts) refl (λ i some. some) whole.once);
         caused = subst (HasCause core.stop core.certificates) (sym read-parts)

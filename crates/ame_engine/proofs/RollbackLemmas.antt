@@ -10,11 +10,11 @@ use Rattle.ame_pool.specs.Found.{IsFoundAfter}
 use Rattle.ame_pool.specs.Standings.{max_rollbacks, rolled}
 use Rattle.ame_pool.specs.Waking.{stirred_by}
 use Rattle.ame_pool.specs.Roster.{Roster}
-use Rattle.ame_pool.specs.Begin.{is_worn}
+use Rattle.ame_pool.specs.Begin.{is_exhausted}
 use Rattle.ame_pool.specs.Calls.{IsAt, newcomer, begun, at_home, renewed, noted_on, at_rest, joined, held, home, exchanged, removed, noted, parked, woken}
 use Rattle.ame_pool.proofs.MemberLemmas.{all_after, found_altered, found_placed, found_except, find_passes, rising_map}
-use Rattle.ame_stands.specs.Shown.{shown_member, shown_pool}
-use Rattle.ame_stands.proofs.ShownPoolLemmas.{found-shown}
+use Rattle.ame_protocol.specs.Engine.Shown.{shown_member, shown_pool}
+use Rattle.ame_protocol.proofs.Engine.ShownPoolLemmas.{found-shown}
 use Rattle.ame_engine.specs.Rollbacks.{IsGoodPool, MayBeRolledBack}
 
 few-rolled : (b : Bool) (n : ℕ) → n ≤ max_rollbacks → rolled b n ≤ max_rollbacks
@@ -80,29 +80,29 @@ module _ {M : Type 0} where
     few = All-map IsFew (stirred_by l) pool.members (All-weaker IsFew (λ m. IsFew (stirred_by l m)) (λ m h. h) pool.members good.few);
   }
 
-  -- one that is there and isn't worn may be rolled back once more
-  pub rolls-on : (n : ℕ) (pool : Roster M) → IsGoodPool pool → (m : Member M) → find n pool.members ≡ Some m → (IsAt is_worn n pool → ⊥) → MayBeRolledBack n pool
+  -- one that is there and isn't exhausted may be rolled back once more
+  pub rolls-on : (n : ℕ) (pool : Roster M) → IsGoodPool pool → (m : Member M) → find n pool.members ≡ Some m → (IsAt is_exhausted n pool → ⊥) → MayBeRolledBack n pool
   rolls-on n pool good m is fresh =
-      subst (λ (o : Option (Member M)). IsSomeAnd o (λ x. x.rollbacks < max_rollbacks)) (sym is) (below m.rollbacks few not-worn)
+      subst (λ (o : Option (Member M)). IsSomeAnd o (λ x. x.rollbacks < max_rollbacks)) (sym is) (below m.rollbacks few not-exhausted)
     where
       few : m.rollbacks ≤ max_rollbacks
       few = find_passes IsFew n pool.members good.few m is
 
-      not-worn : IsTrue (m.rollbacks == max_rollbacks) → ⊥
-      not-worn h = fresh (subst (λ (o : Option (Member M)). IsSomeAnd o (λ x. IsTrue (is_worn x))) (sym is) h)
+      not-exhausted : IsTrue (m.rollbacks == max_rollbacks) → ⊥
+      not-exhausted h = fresh (subst (λ (o : Option (Member M)). IsSomeAnd o (λ x. IsTrue (is_exhausted x))) (sym is) h)
 
       below : (k : ℕ) → k ≤ max_rollbacks → (IsTrue (k == max_rollbacks) → ⊥) → k < max_rollbacks
       below k le ne = let apart : k ≡ max_rollbacks → ⊥ = (λ e. ne (eq-eqb k max_rollbacks e)) in omega (arith, le, apart)
 
 module _ {M : Type 0} (term : M → Tree) where
-  worn-by : (o : Option (Member M)) → IsSomeAnd o (λ m. IsTrue (is_worn m)) → IsSomeAnd (option_map (shown_member term) o) (λ m. IsTrue (is_worn m))
-  worn-by None h = h
-  worn-by (Some m) h = h
+  exhausted-by : (o : Option (Member M)) → IsSomeAnd o (λ m. IsTrue (is_exhausted m)) → IsSomeAnd (option_map (shown_member term) o) (λ m. IsTrue (is_exhausted m))
+  exhausted-by None h = h
+  exhausted-by (Some m) h = h
 
-  -- a worn member is so by its term
-  pub worn-same : (n : ℕ) (pool : Roster M) → IsAt is_worn n pool → IsAt is_worn n (shown_pool term pool)
-  worn-same n pool h =
-      subst (λ (o : Option (Member Tree)). IsSomeAnd o (λ m. IsTrue (is_worn m))) (sym (found-shown term n pool.members)) (worn-by (find n pool.members) h)
+  -- an exhausted member is so by its term
+  pub exhausted-same : (n : ℕ) (pool : Roster M) → IsAt is_exhausted n pool → IsAt is_exhausted n (shown_pool term pool)
+  exhausted-same n pool h =
+      subst (λ (o : Option (Member Tree)). IsSomeAnd o (λ m. IsTrue (is_exhausted m))) (sym (found-shown term n pool.members)) (exhausted-by (find n pool.members) h)
 
   -- numbers rise among terms
   pub rising-shown : (pool : Roster M) → IsRising pool.members → IsRising (shown_pool term pool).members
@@ -115,12 +115,12 @@ module _ {M : Type 0} (term : M → Tree) where
       by [] h = h
       by (m ∷ ms) h = (above m.number ms h.0, by ms h.1)
 
-  -- one that is there by its term and isn't worn may be rolled back once more
+  -- one that is there by its term and isn't exhausted may be rolled back once more
   pub may-roll : (n : ℕ) (pool : Roster M) → IsGoodPool pool → (x : Member Tree) → find n (shown_pool term pool).members ≡ Some x
-      → (IsAt is_worn n (shown_pool term pool) → ⊥) → MayBeRolledBack n pool
+      → (IsAt is_exhausted n (shown_pool term pool) → ⊥) → MayBeRolledBack n pool
   may-roll n pool good x is fresh = by (find n pool.members) refl
     where
       by : (o : Option (Member M)) → find n pool.members ≡ o → MayBeRolledBack n pool
       by None e =
           absurd (let clash : ◌≡◌ {A = Option (Member Tree)} None (Some x) = sym (found-shown term n pool.members ∙ ap (option_map (shown_member term)) e) ∙ is in cc)
-      by (Some m) e = rolls-on n pool good m e (λ worn. fresh (worn-same n pool worn))
+      by (Some m) e = rolls-on n pool good m e (λ exhausted. fresh (exhausted-same n pool exhausted))

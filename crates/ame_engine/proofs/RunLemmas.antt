@@ -6,29 +6,29 @@ use Rattle.ame_term.specs.Context.{focus}
 use Rattle.ame_term.specs.State.{at_unprotected}
 use Rattle.ame_term.specs.Maps.{at}
 use Rattle.ame_laws.proofs.MapLemmas.{each-at}
-use Rattle.ame_soundness.specs.TypedState.{IsMember}
+use Rattle.ame_laws.specs.Typed.TypedState.{IsMember}
 use Rattle.ame_journal.specs.Replayed.{has_such}
 use Rattle.ame_journal.proofs.ReachedLemmas.{calm-replayed}
 use Rattle.ame_pool.specs.Calls.{machine_of}
 use Rattle.ame_pool.specs.Keeps.{is_inside_at}
-use Rattle.ame_local.specs.Fit.{IsTypedThroughout}
-use Rattle.ame_desk.specs.Contents.{row_at}
-use Rattle.ame_owed.specs.Scoped.{live_types}
-use Rattle.ame_runner.specs.Stage.{Stage}
-use Rattle.ame_runner.specs.Sound.{CanRun}
-use Rattle.ame_runner.proofs.RunnableLemmas.{runs-typed}
-use Rattle.ame_stands.specs.Parts.{Parts, whole_journal, heap_in, term_at}
-use Rattle.ame_stands.specs.Tasks.{RunsProtected, MeetsTask}
-use Rattle.ame_stands.specs.Stands.{Stands}
+use Rattle.ame_machine.specs.Run.Fit.{IsTypedThroughout}
+use Rattle.ame_rows.specs.MemoryView.{row_at}
+use Rattle.ame_protocol.specs.Row.Scoped.{live_types}
+use Rattle.ame_machine.specs.MachineView.{MachineView}
+use Rattle.ame_machine.specs.Sound.{CanRun}
+use Rattle.ame_machine.proofs.RunnableLemmas.{runs-typed}
+use Rattle.ame_protocol.specs.Engine.Parts.{Parts, whole_journal, heap_in, term_at}
+use Rattle.ame_protocol.specs.Engine.Tasks.{RunsProtected, MeetsTask}
+use Rattle.ame_protocol.specs.Engine.Simulates.{Simulates}
 use Rattle.ame_engine.specs.Whole.{resting_at}
 use Rattle.ame_engine.specs.AtWork.{IsOnSeat}
 use Rattle.ame_engine.proofs.ReadLemmas.{runs-as}
 
 -- a machine that is where a seat's run of protected code stands can run
-pub can-run : (parts : Parts) (s : Stands parts) (seat : ℕ) (m : Stage) → IsOnSeat parts seat m → m.inside ≡ false → CanRun m
+pub can-run : (parts : Parts) (s : Simulates parts) (seat : ℕ) (m : MachineView) → IsOnSeat parts seat m → m.inside ≡ false → CanRun m
 can-run parts s seat m on outside =
     let start = term_at parts.pool on.attempt.tried.number in
-    let inputs = (row_at parts.desk.rows seat).inputs in
+    let inputs = (row_at parts.memory.rows seat).inputs in
     let runs : RunsProtected parts s.types seat on.attempt = subst (MeetsTask parts s.types seat) (runs-as parts seat m on outside) (s.seats seat) in
     let typed = subst (λ (x : Side). IsTypedThroughout parts.devices s.types x start inputs Typ.Unit) (sym (ap side_told outside)) runs.typed.places in
     (parts.devices, s.types, runs-typed parts.devices s.types start inputs m typed on.run (λ inside. absurd (both inside)))
@@ -37,7 +37,7 @@ can-run parts s seat m on outside =
     both inside = cc
 
 -- a machine of a member that is at rest can run
-pub rest-runs : (parts : Parts) (s : Stands parts) (number : ℕ) (t : Tree) (inside : Bool) → machine_of number parts.pool ≡ Some t
+pub rest-runs : (parts : Parts) (s : Simulates parts) (number : ℕ) (t : Tree) (inside : Bool) → machine_of number parts.pool ≡ Some t
     → is_inside_at parts.pool.members number ≡ inside → CanRun (resting_at t inside)
 rest-runs parts s number t inside found is =
     let there : at s.r.state.members number ≡ Some t = s.stands.members number ∙ found in

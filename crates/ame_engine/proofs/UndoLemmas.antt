@@ -11,36 +11,35 @@ use Rattle.ame_rows.specs.declared.notes.Undo.TheVariants.{Wrote, Made}
 use Rattle.ame_pool.specs.declared.member.Member.{Member}
 use Rattle.ame_pool.specs.Roster.{Roster}
 use Rattle.ame_pool.specs.Calls.{at_home, at_rest}
-use Rattle.ame_desk.specs.Contents.{Notes, Contents, no_notes, row_at}
-use Rattle.ame_desk.specs.Entries.{named_by}
-use Rattle.ame_desk.specs.Access.{changed_at}
-use Rattle.ame_desk.specs.LettingGo.{undone_by, last_entry, notes_undone, undone_last}
-use Rattle.ame_owed.specs.Shown.{shown_cell}
-use Rattle.ame_runner.specs.Stage.{Stage}
-use Rattle.ame_stands.specs.declared.types.Attempt.{Attempt}
-use Rattle.ame_stands.specs.declared.types.Reason.{Reason}
-use Rattle.ame_stands.specs.declared.types.Task.{Task}
-use Rattle.ame_stands.specs.Parts.{Parts, task_at, attempt_of}
-use Rattle.ame_stands.specs.Shown.{shown_pool}
-use Rattle.ame_stands.specs.Tasks.{Visits, MeetsTask}
-use Rattle.ame_stands.specs.Stands.{Stands}
-use Rattle.ame_stands.specs.Alone.{is_of_protected, RunsAlone}
-use Rattle.ame_stands.specs.Events.{brought_home, with_try, has_undone, has_gone_home}
-use Rattle.ame_stands.proofs.StepLemmas.{seat_within}
-use Rattle.ame_stands.proofs.HomeLemmas.{undoing_more, undoing_home, running_more, running_home, free_home}
-use Rattle.ame_stands.proofs.AloneEvents.{more-alone, home-alone}
-use Rattle.ame_stands.proofs.ShownDeskLemmas.{undo-shown}
-use Rattle.ame_stands.proofs.ShownPoolLemmas.{home-shown, parked-shown}
-use Rattle.ame_waiting.specs.Waiting.{AreWaiting}
-use Rattle.ame_waiting.specs.Once.{AreNotedOnce}
-use Rattle.ame_waiting.proofs.UndoLemmas.{undoing-more, undoing-home, running-more, running-home, free-home}
-use Rattle.ame_waiting.proofs.OnceEvents.{undone-once, undoing-once, running-once, free-once}
+use Rattle.ame_rows.specs.MemoryView.{Log, MemoryView, no_log, row_at}
+use Rattle.ame_rows.specs.Entries.{named_by}
+use Rattle.ame_rows.specs.Access.{changed_at}
+use Rattle.ame_rows.specs.LettingGo.{undone_by, last_entry, notes_undone, undone_last}
+use Rattle.ame_protocol.specs.Row.Shown.{shown_cell}
+use Rattle.ame_protocol.specs.declared.types.Attempt.{Attempt}
+use Rattle.ame_protocol.specs.declared.types.Reason.{Reason}
+use Rattle.ame_protocol.specs.declared.types.Task.{Task}
+use Rattle.ame_protocol.specs.Engine.Parts.{Parts, task_at, attempt_of}
+use Rattle.ame_protocol.specs.Engine.Shown.{shown_pool}
+use Rattle.ame_protocol.specs.Engine.Tasks.{Visits, MeetsTask}
+use Rattle.ame_protocol.specs.Engine.Simulates.{Simulates}
+use Rattle.ame_protocol.specs.Engine.Alone.{is_of_protected, RunsExclusively}
+use Rattle.ame_protocol.specs.Engine.Events.{brought_home, with_try, has_undone, has_gone_home}
+use Rattle.ame_protocol.proofs.Engine.StepLemmas.{seat_within}
+use Rattle.ame_protocol.proofs.Engine.HomeLemmas.{undoing_more, undoing_home, running_more, running_home, free_home}
+use Rattle.ame_protocol.proofs.Engine.AloneEvents.{more-alone, home-alone}
+use Rattle.ame_protocol.proofs.Engine.ShownMemoryLemmas.{undo-shown}
+use Rattle.ame_protocol.proofs.Engine.ShownPoolLemmas.{home-shown, parked-shown}
+use Rattle.ame_protocol.specs.Waits.Waiting.{AreWaiting}
+use Rattle.ame_protocol.specs.Waits.Once.{AreNotedOnce}
+use Rattle.ame_protocol.proofs.Waits.UndoLemmas.{undoing-more, undoing-home, running-more, running-home, free-home}
+use Rattle.ame_protocol.proofs.Waits.OnceEvents.{undone-once, undoing-once, running-once, free-once}
 use Rattle.ame_engine.specs.declared.counters.Counters.{Counters}
 use Rattle.ame_engine.specs.Core.{Core}
 use Rattle.ame_engine.specs.declared.stop.Stop.{Stop}
 use Rattle.ame_engine.specs.Counting.{Counted, one_undone, CountsTurns}
 use Rattle.ame_engine.specs.Seen.{parts_of, term_shown, MakesEvent}
-use Rattle.ame_engine.specs.Whole.{IsGoodUndo, AreGoodNotes, IsGoodDesk, IsAtRest, IsWhole}
+use Rattle.ame_engine.specs.Whole.{IsGoodUndo, IsGoodLog, IsGoodMemory, IsAtRest, IsSound}
 use Rattle.ame_engine.specs.Undoing.{is_undoing, reason_to_undo, home_for}
 use Rattle.ame_engine.specs.Rollbacks.{IsGoodPool}
 use Rattle.ame_engine.proofs.CountLemmas.{one-counts, unwound-counts}
@@ -50,9 +49,10 @@ use Rattle.ame_engine.proofs.ReadLemmas.{row-good}
 use Rattle.ame_engine.proofs.RollbackLemmas.{good-home, good-parked}
 use Rattle.ame_engine.specs.Lone.{IsLone}
 use Rattle.ame_engine.proofs.LoneLemmas.{lone-left, undone-conflicts, undone-invalids}
-use Rattle.ame_engine.specs.Bounds.{IsBounded}
+use Rattle.ame_engine.specs.Bounds.{KeepsBounds}
 use Rattle.ame_engine.proofs.BoundLemmas.{undone-bounded, home-bounded}
 use Rattle.ame_engine.proofs.CountLemmas.{undone-refused}
+use Rattle.ame_machine.specs.Meaning.{Meaning}
 
 -- what all pass, one that is there passes
 all-get : {A : Type 0} (P : A → Type 0) (xs : List A) (i : ℕ) (x : A) → All P xs → slice_get xs i ≡ Some x → P x
@@ -67,11 +67,11 @@ module _ {V : Type 0} (IsGood : V → Type 0) where
   undone-good (Wrote l number old) cell its good = its
   undone-good (Made l) cell its good = good
 
-  module _ (seat : ℕ) (c : Contents V) (whole : IsGoodDesk IsGood c) where
-    abbrev row : Notes V
+  module _ (seat : ℕ) (c : MemoryView V) (whole : IsGoodMemory IsGood c) where
+    abbrev row : Log V
     row = row_at c.rows seat
 
-    good : AreGoodNotes IsGood row
+    good : IsGoodLog IsGood row
     good = row-good IsGood c.rows seat whole.rows
 
     changed-by : (u : Undo V) → IsGoodUndo IsGood u → (o : Option (Cell V)) → slice_get c.cells (named_by u) ≡ o
@@ -87,14 +87,14 @@ module _ {V : Type 0} (IsGood : V → Type 0) where
     cells-by (Some u) e =
         changed-by u (all-get (IsGoodUndo IsGood) row.undos (length row.undos - 1) u good.undos e) (slice_get c.cells (named_by u)) refl
 
-    notes-by : (b : Bool) → AreGoodNotes IsGood (cond b (record row { undos = take (length row.undos - 1) row.undos }) no_notes)
+    notes-by : (b : Bool) → IsGoodLog IsGood (cond b (record row { undos = take (length row.undos - 1) row.undos }) no_log)
     notes-by true = record { inputs = good.inputs; undos = All-take (IsGoodUndo IsGood) (length row.undos - 1) row.undos good.undos }
     notes-by false = record { inputs = All-nil IsGood; undos = All-nil (IsGoodUndo IsGood) }
 
-    pub undo-good : IsGoodDesk IsGood (undone_last seat c)
+    pub undo-good : IsGoodMemory IsGood (undone_last seat c)
     undo-good = record {
       cells = cells-by (last_entry row.undos) refl;
-      rows = All-set (AreGoodNotes IsGood) c.rows seat (notes_undone row) (notes-by (nat_lt 1 (length row.undos))) whole.rows;
+      rows = All-set (IsGoodLog IsGood) c.rows seat (notes_undone row) (notes-by (nat_lt 1 (length row.undos))) whole.rows;
     }
 
 -- numbers are far from the last one where those of the shown cells are
@@ -124,13 +124,12 @@ module _ {M : Type 0} where
 
 -- The whole engine
 
-module _ {C V M : Type 0} (program : C → Tree) (devices : C → ℕ) (is_value : C → V → Type 0) (value_of : C → V → Val)
-    (is_machine : C → M → Type 0) (stage : C → M → Stage) where
-  module _ (core : Core C V M) (whole : IsWhole program devices is_value value_of is_machine stage core) (seat : ℕ) (attempt : Attempt)
+module _ {C V M : Type 0} (meaning : Meaning C V M) where
+  module _ (core : Core C V M) (whole : IsSound meaning core) (seat : ℕ) (attempt : Attempt)
       (has : attempt_of (task_at core.tasks seat) ≡ Some attempt) (undoes : is_some core.stop ≡ false → is_undoing (task_at core.tasks seat) ≡ true)
       (left : is_some core.stop ≡ false → core.turns < core.limits.turns) where
     abbrev parts : Parts
-    parts = parts_of program devices value_of stage core
+    parts = parts_of meaning core
 
     abbrev task : Task
     task = task_at core.tasks seat
@@ -139,25 +138,25 @@ module _ {C V M : Type 0} (program : C → Tree) (devices : C → ℕ) (is_value
     reason = reason_to_undo task
 
     abbrev undos : List (Undo Val)
-    undos = (row_at parts.desk.rows seat).undos
+    undos = (row_at parts.memory.rows seat).undos
 
     -- nothing is logged of unprotected code
     free-clear : (a : Attempt) → task ≡ Task.Free a → undos ≡ []
     free-clear a e =
         let visits : Visits parts whole.stands.types seat a = subst (MeetsTask parts whole.stands.types seat) e (whole.stands.seats seat) in
-        ap (λ (n : Notes Val). n.undos) visits.clear
+        ap (λ (n : Log Val). n.undos) visits.clear
 
-    more-stands : 1 < length undos → Stands (has_undone seat attempt reason parts)
+    more-stands : 1 < length undos → Simulates (has_undone seat attempt reason parts)
     more-stands more = by task refl has
       where
-        by : (t : Task) → task ≡ t → attempt_of t ≡ Some attempt → Stands (has_undone seat attempt (reason_to_undo t) parts)
+        by : (t : Task) → task ≡ t → attempt_of t ≡ Some attempt → Simulates (has_undone seat attempt (reason_to_undo t) parts)
         by Task.Idle e h = absurd (let clash : attempt_of Task.Idle ≡ Some attempt = h in cc)
         by (Task.Running a) e h = let same : a ≡ attempt = cc in running_more parts seat attempt whole.stands (e ∙ ap Task.Running same) left more
         by (Task.Free a) e h = absurd (let none = ap (λ (us : List (Undo Val)). length us) (free-clear a e) in omega (arith, none, more))
         by (Task.Undoing a r) e h =
             let same : a ≡ attempt = cc in undoing_more parts seat attempt r whole.stands (e ∙ ap (λ (x : Attempt). Task.Undoing x r) same) left more
 
-    more-runs_alone : 1 < length undos → RunsAlone (has_undone seat attempt reason parts)
+    more-runs_alone : 1 < length undos → RunsExclusively (has_undone seat attempt reason parts)
     more-runs_alone more = more-alone parts whole.alone seat attempt reason has (protected task refl has) (λ going e. not-running going e)
       where
         protected : (t : Task) → task ≡ t → attempt_of t ≡ Some attempt → is_of_protected t ≡ true
@@ -169,17 +168,17 @@ module _ {C V M : Type 0} (program : C → Tree) (devices : C → ℕ) (is_value
         not-running : is_some core.stop ≡ false → task ≡ Task.Running attempt → ⊥
         not-running going e = let clash : false ≡ true = sym (ap is_undoing e) ∙ undoes going in cc
 
-    home-stands : length undos ≤ 1 → Stands (has_gone_home seat attempt reason parts)
+    home-stands : length undos ≤ 1 → Simulates (has_gone_home seat attempt reason parts)
     home-stands few = by task refl has
       where
-        by : (t : Task) → task ≡ t → attempt_of t ≡ Some attempt → Stands (has_gone_home seat attempt (reason_to_undo t) parts)
+        by : (t : Task) → task ≡ t → attempt_of t ≡ Some attempt → Simulates (has_gone_home seat attempt (reason_to_undo t) parts)
         by Task.Idle e h = absurd (let clash : attempt_of Task.Idle ≡ Some attempt = h in cc)
         by (Task.Running a) e h = let same : a ≡ attempt = cc in running_home parts seat attempt whole.stands (e ∙ ap Task.Running same) left few
         by (Task.Free a) e h = let same : a ≡ attempt = cc in free_home parts seat attempt whole.stands (e ∙ ap Task.Free same) left
         by (Task.Undoing a r) e h =
             let same : a ≡ attempt = cc in undoing_home parts seat attempt r whole.stands (e ∙ ap (λ (x : Attempt). Task.Undoing x r) same) left few
 
-    home-runs_alone : RunsAlone (has_gone_home seat attempt reason parts)
+    home-runs_alone : RunsExclusively (has_gone_home seat attempt reason parts)
     home-runs_alone = home-alone parts whole.stands whole.alone seat attempt reason has (λ going. protected task (undoes going))
       where
         protected : (t : Task) → is_undoing t ≡ true → is_of_protected t ≡ true
@@ -252,54 +251,54 @@ module _ {C V M : Type 0} (program : C → Tree) (devices : C → ℕ) (is_value
     -- other entries are left
     abbrev pub undone_core : Core C V M
     undone_core = record core {
-      desk = undone_last seat core.desk;
+      memory = undone_last seat core.memory;
       tasks = slice_set core.tasks seat (Task.Undoing attempt reason);
       turns = undo_turns;
       counters = undo_counters;
     }
 
-    abbrev undone-with : Contents Val → ℕ → Parts
-    undone-with desk turns = record parts { desk = desk; tasks = slice_set core.tasks seat (Task.Undoing attempt reason); turns = turns }
+    abbrev undone-with : MemoryView Val → ℕ → Parts
+    undone-with memory turns = record parts { memory = memory; tasks = slice_set core.tasks seat (Task.Undoing attempt reason); turns = turns }
 
-    abbrev last : Contents Val
-    last = undone_last seat parts.desk
+    abbrev last : MemoryView Val
+    last = undone_last seat parts.memory
 
     undone-by_stop : (b : Bool) → undone-with last (if b then core.turns else core.turns + 1)
         ≡ (if b then undone-with last core.turns else undone-with last (core.turns + 1))
     undone-by_stop true = refl
     undone-by_stop false = refl
 
-    undone-parts : parts_of program devices value_of stage undone_core ≡ has_undone seat attempt reason parts
-    undone-parts = ap (λ (d : Contents Val). undone-with d undo_turns) (undo-shown (value_of core.code) seat core.desk) ∙ undone-by_stop (is_some core.stop)
+    undone-parts : parts_of meaning undone_core ≡ has_undone seat attempt reason parts
+    undone-parts = ap (λ (d : MemoryView Val). undone-with d undo_turns) (undo-shown (meaning.value_of core.code) seat core.memory) ∙ undone-by_stop (is_some core.stop)
 
-    pub undone-whole : 1 < length undos → IsWhole program devices is_value value_of is_machine stage undone_core
+    pub undone-whole : 1 < length undos → IsSound meaning undone_core
     undone-whole more = record {
-      stands = subst Stands (sym undone-parts) (more-stands more);
+      stands = subst Simulates (sym undone-parts) (more-stands more);
       limits = whole.limits;
-      desk = undo-good (is_value core.code) seat core.desk whole.desk;
+      memory = undo-good (meaning.is_value core.code) seat core.memory whole.memory;
       members = whole.members;
       pool = whole.pool;
-      alone = subst RunsAlone (sym undone-parts) (more-runs_alone more);
-      lone = lone-undone (parts_of program devices value_of stage undone_core) (Task.Undoing attempt reason) refl refl
+      alone = subst RunsExclusively (sym undone-parts) (more-runs_alone more);
+      lone = lone-undone (parts_of meaning undone_core) (Task.Undoing attempt reason) refl refl
           (λ t e. let clash : Task.Undoing attempt reason ≡ Task.Running t = e in cc);
-      bounds = subst (IsBounded core.stop undo_counters) (sym undone-parts)
+      bounds = subst (KeepsBounds core.stop undo_counters) (sym undone-parts)
           (undone-bounded parts whole.stands core.stop core.counters undo_counters (undone-refused (is_some core.stop) core.counters) whole.bounds seat attempt
           task refl has undoes more);
       waiting = subst AreWaiting (sym undone-parts) (more-waiting more);
       once = subst AreNotedOnce (sym undone-parts) (undone-once parts whole.once seat attempt reason);
-      caused = undoing-cause parts (parts_of program devices value_of stage undone_core) more-there (record { program = refl; base = refl; entries = refl }) refl more-there.empty
+      caused = undoing-cause parts (parts_of meaning undone_core) more-there (record { program = refl; base = refl; entries = refl }) refl more-there.empty
           core.stop (undo-turns core.stop) core.certificates whole.caused;
       counters = counts;
       text = whole.text;
     }
 
-    pub undone-makes : MakesEvent program devices value_of stage (one_undone (is_some core.stop)) (has_undone seat attempt reason) core undone_core
+    pub undone-makes : MakesEvent meaning (one_undone (is_some core.stop)) (has_undone seat attempt reason) core undone_core
     undone-makes = record { code = refl; parts = undone-parts; counted = refl; stop = refl }
 
     -- none is left
     abbrev pub gone_core : Core C V M
     gone_core = record core {
-      desk = undone_last seat core.desk;
+      memory = undone_last seat core.memory;
       tasks = slice_set core.tasks seat Task.Idle;
       pool = home_for reason attempt.tried.number core.pool;
       turns = undo_turns;
@@ -307,9 +306,9 @@ module _ {C V M : Type 0} (program : C → Tree) (devices : C → ℕ) (is_value
       tried = with_try attempt core.tried;
     }
 
-    abbrev gone-with : Contents Val → Roster Tree → ℕ → Parts
-    gone-with desk pool turns =
-        record parts { desk = desk; tasks = slice_set core.tasks seat Task.Idle; pool = pool; turns = turns; tried = with_try attempt core.tried }
+    abbrev gone-with : MemoryView Val → Roster Tree → ℕ → Parts
+    gone-with memory pool turns =
+        record parts { memory = memory; tasks = slice_set core.tasks seat Task.Idle; pool = pool; turns = turns; tried = with_try attempt core.tried }
 
     abbrev home_pool : Roster Tree
     home_pool = brought_home reason attempt.tried.number parts.pool
@@ -319,36 +318,36 @@ module _ {C V M : Type 0} (program : C → Tree) (devices : C → ℕ) (is_value
     gone-by_stop true = refl
     gone-by_stop false = refl
 
-    gone-parts : parts_of program devices value_of stage gone_core ≡ has_gone_home seat attempt reason parts
+    gone-parts : parts_of meaning gone_core ≡ has_gone_home seat attempt reason parts
     gone-parts =
-        ap (λ (d : Contents Val). gone-with d (shown_pool (term_shown stage core.code) (home_for reason attempt.tried.number core.pool)) undo_turns)
-        (undo-shown (value_of core.code) seat core.desk)
-        ∙ ap (λ (p : Roster Tree). gone-with last p undo_turns) (gone-shown (term_shown stage core.code) reason attempt.tried.number core.pool)
+        ap (λ (d : MemoryView Val). gone-with d (shown_pool (term_shown meaning.stage core.code) (home_for reason attempt.tried.number core.pool)) undo_turns)
+        (undo-shown (meaning.value_of core.code) seat core.memory)
+        ∙ ap (λ (p : Roster Tree). gone-with last p undo_turns) (gone-shown (term_shown meaning.stage core.code) reason attempt.tried.number core.pool)
         ∙ gone-by_stop (is_some core.stop)
 
-    pub gone-whole : length undos ≤ 1 → IsWhole program devices is_value value_of is_machine stage gone_core
+    pub gone-whole : length undos ≤ 1 → IsSound meaning gone_core
     gone-whole few = record {
-      stands = subst Stands (sym gone-parts) (home-stands few);
+      stands = subst Simulates (sym gone-parts) (home-stands few);
       limits = whole.limits;
-      desk = undo-good (is_value core.code) seat core.desk whole.desk;
-      members = rest-home (IsAtRest is_machine stage core.code) (λ b m r. record { machine = r.machine; rests = r.rests })
+      memory = undo-good (meaning.is_value core.code) seat core.memory whole.memory;
+      members = rest-home (IsAtRest meaning.is_machine meaning.stage core.code) (λ b m r. record { machine = r.machine; rests = r.rests })
           (λ m r. record { machine = r.machine; rests = r.rests }) reason attempt.tried.number core.pool whole.members;
       pool = good-gone reason attempt.tried.number core.pool whole.pool;
-      alone = subst RunsAlone (sym gone-parts) home-runs_alone;
-      lone = lone-undone (parts_of program devices value_of stage gone_core) Task.Idle refl refl
+      alone = subst RunsExclusively (sym gone-parts) home-runs_alone;
+      lone = lone-undone (parts_of meaning gone_core) Task.Idle refl refl
           (λ t e. let clash : Task.Idle ≡ Task.Running t = e in cc);
-      bounds = subst (IsBounded core.stop undo_counters) (sym gone-parts)
+      bounds = subst (KeepsBounds core.stop undo_counters) (sym gone-parts)
           (home-bounded parts whole.stands core.stop core.counters undo_counters (undone-refused (is_some core.stop) core.counters) whole.bounds seat attempt
           task refl has undoes few);
       waiting = subst AreWaiting (sym gone-parts) (home-waiting few);
       once = subst AreNotedOnce (sym gone-parts) home-once;
-      caused = undoing-cause parts (parts_of program devices value_of stage gone_core) more-there (record { program = refl; base = refl; entries = refl }) refl
-          (subst (λ (p : Roster Tree). p.members ≡ [] → ⊥) (sym (gone-shown (term_shown stage core.code) reason attempt.tried.number core.pool))
+      caused = undoing-cause parts (parts_of meaning gone_core) more-there (record { program = refl; base = refl; entries = refl }) refl
+          (subst (λ (p : Roster Tree). p.members ≡ [] → ⊥) (sym (gone-shown (term_shown meaning.stage core.code) reason attempt.tried.number core.pool))
           (home-some reason attempt.tried.number parts.pool more-there.empty))
           core.stop (undo-turns core.stop) core.certificates whole.caused;
       counters = counts;
       text = whole.text;
     }
 
-    pub gone-makes : MakesEvent program devices value_of stage (one_undone (is_some core.stop)) (has_gone_home seat attempt reason) core gone_core
+    pub gone-makes : MakesEvent meaning (one_undone (is_some core.stop)) (has_gone_home seat attempt reason) core gone_core
     gone-makes = record { code = refl; parts = gone-parts; counted = refl; stop = refl }

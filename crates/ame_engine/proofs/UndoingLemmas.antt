@@ -8,30 +8,30 @@ use Rattle.ame_pool.specs.declared.member.Member.{Member}
 use Rattle.ame_pool.specs.Members.{find}
 use Rattle.ame_pool.specs.Roster.{Roster}
 use Rattle.ame_pool.specs.Calls.{IsAt}
-use Rattle.ame_desk.specs.Contents.{Notes, Contents, row_at}
-use Rattle.ame_desk.specs.LettingGo.{undone_last}
-use Rattle.ame_runner.specs.Stage.{Stage}
-use Rattle.ame_stands.specs.declared.types.Attempt.{Attempt}
-use Rattle.ame_stands.specs.declared.types.Reason.{Reason}
-use Rattle.ame_stands.specs.declared.types.Task.{Task}
-use Rattle.ame_stands.specs.declared.types.Tried.{Tried}
-use Rattle.ame_stands.specs.Parts.{task_at, attempt_of}
-use Rattle.ame_stands.specs.Shown.{shown_notes, shown_member, shown_pool}
-use Rattle.ame_stands.specs.Tasks.{is_busy_as, is_noted_for, MeetsTask}
-use Rattle.ame_stands.specs.Events.{with_try, has_undone, has_gone_home}
-use Rattle.ame_stands.proofs.StepLemmas.{seat_within}
-use Rattle.ame_stands.proofs.ToldLemmas.{cells-grow}
-use Rattle.ame_stands.proofs.ShownDeskLemmas.{row-shown}
-use Rattle.ame_stands.proofs.ShownPoolLemmas.{found-shown}
-use Rattle.ame_owed.specs.Shown.{shown_undo}
+use Rattle.ame_rows.specs.MemoryView.{Log, MemoryView, row_at}
+use Rattle.ame_rows.specs.LettingGo.{undone_last}
+use Rattle.ame_protocol.specs.declared.types.Attempt.{Attempt}
+use Rattle.ame_protocol.specs.declared.types.Reason.{Reason}
+use Rattle.ame_protocol.specs.declared.types.Task.{Task}
+use Rattle.ame_protocol.specs.declared.types.Tried.{Tried}
+use Rattle.ame_protocol.specs.Engine.Parts.{task_at, attempt_of}
+use Rattle.ame_protocol.specs.Engine.Shown.{shown_notes, shown_member, shown_pool}
+use Rattle.ame_protocol.specs.Engine.Tasks.{is_busy_as, is_noted_for, MeetsTask}
+use Rattle.ame_protocol.specs.Engine.Events.{with_try, has_undone, has_gone_home}
+use Rattle.ame_protocol.proofs.Engine.StepLemmas.{seat_within}
+use Rattle.ame_protocol.proofs.Engine.ToldLemmas.{cells-grow}
+use Rattle.ame_protocol.proofs.Engine.ShownMemoryLemmas.{row-shown}
+use Rattle.ame_protocol.proofs.Engine.ShownPoolLemmas.{found-shown}
+use Rattle.ame_protocol.specs.Row.Shown.{shown_undo}
 use Rattle.ame_engine.specs.declared.counters.Counters.{Counters}
 use Rattle.ame_engine.specs.Core.{Core}
 use Rattle.ame_engine.specs.Counting.{one_undone}
 use Rattle.ame_engine.specs.Seen.{parts_of, term_shown, MakesEvent}
-use Rattle.ame_engine.specs.Whole.{IsWhole}
+use Rattle.ame_engine.specs.Whole.{IsSound}
 use Rattle.ame_engine.specs.Undoing.{is_undoing, reason_to_undo, is_busy_for, home_for}
 use Rattle.ame_engine.proofs.CheckLemmas.{task-read}
 use Rattle.ame_engine.proofs.UndoLemmas.{grow-shown, undone-whole, undone-makes, gone-whole, gone-makes}
+use Rattle.ame_machine.specs.Meaning.{Meaning}
 
 -- an attempt that is there
 pub attempt-in : (o : Option Attempt) → IsSome o → (a : Attempt) × (o ≡ Some a)
@@ -52,9 +52,8 @@ module _ {M : Type 0} (term : M → Tree) where
       busy-by reason (find n pool.members)
       (subst (λ (o : Option (Member Tree)). IsSomeAnd o (λ m. IsTrue (is_busy_as (is_noted_for reason) m))) (found-shown term n pool.members) h)
 
-module _ {C V M : Type 0} (program : C → Tree) (devices : C → ℕ) (is_value : C → V → Type 0) (value_of : C → V → Val)
-    (is_machine : C → M → Type 0) (stage : C → M → Stage)
-    (core now : Core C V M) (view : core ≡ now) (whole : IsWhole program devices is_value value_of is_machine stage core) (seat : ℕ)
+module _ {C V M : Type 0} (meaning : Meaning C V M)
+    (core now : Core C V M) (view : core ≡ now) (whole : IsSound meaning core) (seat : ℕ)
     (busy : IsSome (attempt_of (task_at now.tasks seat))) (undoes : is_some now.stop ≡ false → IsTrue (is_undoing (task_at now.tasks seat)))
     (left : is_some now.stop ≡ false → now.turns < now.limits.turns) where
   busy' : (a : Attempt) × (attempt_of (task_at core.tasks seat) ≡ Some a)
@@ -69,18 +68,18 @@ module _ {C V M : Type 0} (program : C → Tree) (devices : C → ℕ) (is_value
   pub undo-within : seat < length core.tasks
   undo-within = seat_within core.tasks seat busy'.0 busy'.1
 
-  pub undo-rows : seat < length core.desk.rows
+  pub undo-rows : seat < length core.memory.rows
   undo-rows =
       let within = undo-within in
       let tasks : length core.tasks ≡ core.limits.seats = whole.stands.bounded.tasks in
-      let rows : length (parts_of program devices value_of stage core).desk.rows ≡ core.limits.seats = whole.stands.bounded.rows in
-      let plain : length (parts_of program devices value_of stage core).desk.rows ≡ length core.desk.rows = length-map core.desk.rows (shown_notes (value_of core.code)) in
+      let rows : length (parts_of meaning core).memory.rows ≡ core.limits.seats = whole.stands.bounded.rows in
+      let plain : length (parts_of meaning core).memory.rows ≡ length core.memory.rows = length-map core.memory.rows (shown_notes (meaning.value_of core.code)) in
       omega (arith, within, tasks, rows, plain)
 
-  pub undo-grows : All CanGrow core.desk.cells
+  pub undo-grows : All CanGrow core.memory.cells
   undo-grows =
-      grow-shown (value_of core.code) core.desk.cells
-      (cells-grow (parts_of program devices value_of stage core) whole.stands (let h = whole.limits.turns in omega arith))
+      grow-shown (meaning.value_of core.code) core.memory.cells
+      (cells-grow (parts_of meaning core) whole.stands (let h = whole.limits.turns in omega arith))
 
   pub undo-few : is_some core.stop ≡ false → core.turns < 4000000
   undo-few going = let h = left' going in let limit = whole.limits.turns in omega arith
@@ -104,29 +103,29 @@ module _ {C V M : Type 0} (program : C → Tree) (devices : C → ℕ) (is_value
         subst (λ (r : Reason). IsAt (is_busy_for r) attempt.tried.number core.pool) (sym why-so)
         (by (task_at core.tasks seat) (whole.stands.seats seat) has-it)
       where
-        by : (task : Task) → MeetsTask (parts_of program devices value_of stage core) whole.stands.types seat task → attempt_of task ≡ Some attempt
+        by : (task : Task) → MeetsTask (parts_of meaning core) whole.stands.types seat task → attempt_of task ≡ Some attempt
             → IsAt (is_busy_for (reason_to_undo task)) attempt.tried.number core.pool
         by Task.Idle h e = absurd (let clash : attempt_of Task.Idle ≡ Some attempt = e in cc)
         by (Task.Running a) h e =
             let same : a ≡ attempt = cc in
             subst (λ (x : Attempt). IsAt (is_busy_for Reason.Stopped) x.tried.number core.pool) same
-            (busy-same (term_shown stage core.code) Reason.Stopped a.tried.number core.pool h.work.busy)
+            (busy-same (term_shown meaning.stage core.code) Reason.Stopped a.tried.number core.pool h.work.busy)
         by (Task.Free a) h e =
             let same : a ≡ attempt = cc in
             subst (λ (x : Attempt). IsAt (is_busy_for Reason.Stopped) x.tried.number core.pool) same
-            (busy-same (term_shown stage core.code) Reason.Stopped a.tried.number core.pool h.work.busy)
+            (busy-same (term_shown meaning.stage core.code) Reason.Stopped a.tried.number core.pool h.work.busy)
         by (Task.Undoing a r) h e =
             let same : a ≡ attempt = cc in
             subst (λ (x : Attempt). IsAt (is_busy_for r) x.tried.number core.pool) same
-            (busy-same (term_shown stage core.code) r a.tried.number core.pool h.work.busy)
+            (busy-same (term_shown meaning.stage core.code) r a.tried.number core.pool h.work.busy)
 
     -- how many entries there are, by plain data
-    many : length (row_at (parts_of program devices value_of stage core).desk.rows seat).undos ≡ length (row_at core.desk.rows seat).undos
+    many : length (row_at (parts_of meaning core).memory.rows seat).undos ≡ length (row_at core.memory.rows seat).undos
     many =
-        ap (λ (n : Notes Val). length n.undos) (row-shown (value_of core.code) core.desk.rows seat)
-        ∙ length-map (row_at core.desk.rows seat).undos (shown_undo (value_of core.code))
+        ap (λ (n : Log Val). length n.undos) (row-shown (meaning.value_of core.code) core.memory.rows seat)
+        ∙ length-map (row_at core.memory.rows seat).undos (shown_undo (meaning.value_of core.code))
 
-    module _ (desk : Contents V) (desk-is : desk ≡ undone_last seat core.desk) (stopped : Bool) (stopped-is : stopped ≡ is_some core.stop)
+    module _ (memory : MemoryView V) (memory-is : memory ≡ undone_last seat core.memory) (stopped : Bool) (stopped-is : stopped ≡ is_some core.stop)
         (turns : ℕ) (turns-is : turns ≡ (if stopped then core.turns else core.turns + 1))
         (counters : Counters) (counters-is : counters ≡ one_undone stopped core.counters) where
       turns-so : turns ≡ (if is_some core.stop then core.turns else core.turns + 1)
@@ -137,41 +136,41 @@ module _ {C V M : Type 0} (program : C → Tree) (devices : C → ℕ) (is_value
 
       -- other entries are left
       abbrev after-more : Core C V M
-      after-more = record core { desk = desk; tasks = slice_set core.tasks seat (Task.Undoing attempt reason); turns = turns; counters = counters }
+      after-more = record core { memory = memory; tasks = slice_set core.tasks seat (Task.Undoing attempt reason); turns = turns; counters = counters }
 
       after-undone : after-more ≡ record core {
-        desk = undone_last seat core.desk;
+        memory = undone_last seat core.memory;
         tasks = slice_set core.tasks seat (Task.Undoing attempt (reason_to_undo (task_at core.tasks seat)));
         turns = if is_some core.stop then core.turns else core.turns + 1;
         counters = one_undone (is_some core.stop) core.counters;
       }
       after-undone = λ i. record core {
-        desk = desk-is i;
+        memory = memory-is i;
         tasks = slice_set core.tasks seat (Task.Undoing attempt (why-so i));
         turns = turns-so i;
         counters = counters-so i;
       }
 
-      pub whole-undone : 1 < length (row_at core.desk.rows seat).undos → IsWhole program devices is_value value_of is_machine stage after-more
+      pub whole-undone : 1 < length (row_at core.memory.rows seat).undos → IsSound meaning after-more
       whole-undone more =
-          subst (IsWhole program devices is_value value_of is_machine stage) (sym after-undone)
-          (undone-whole program devices is_value value_of is_machine stage core whole seat attempt has-it undoes' left' (let e = many in omega arith))
+          subst (IsSound meaning) (sym after-undone)
+          (undone-whole meaning core whole seat attempt has-it undoes' left' (let e = many in omega arith))
 
-      makes-core : MakesEvent program devices value_of stage (one_undone (is_some core.stop)) (has_undone seat attempt (reason_to_undo (task_at core.tasks seat))) core after-more
+      makes-core : MakesEvent meaning (one_undone (is_some core.stop)) (has_undone seat attempt (reason_to_undo (task_at core.tasks seat))) core after-more
       makes-core =
-          subst (MakesEvent program devices value_of stage (one_undone (is_some core.stop)) (has_undone seat attempt (reason_to_undo (task_at core.tasks seat))) core)
-          (sym after-undone) (undone-makes program devices is_value value_of is_machine stage core whole seat attempt has-it undoes' left')
+          subst (MakesEvent meaning (one_undone (is_some core.stop)) (has_undone seat attempt (reason_to_undo (task_at core.tasks seat))) core)
+          (sym after-undone) (undone-makes meaning core whole seat attempt has-it undoes' left')
 
       its-own : (a : Attempt) → attempt_of (task_at now.tasks seat) ≡ Some a → attempt ≡ a
       its-own a e =
           let both : Some attempt ≡ Some a = sym has-it ∙ subst (λ (x : Core C V M). attempt_of (task_at x.tasks seat) ≡ Some a) (sym view) e in cc
 
       pub makes-undone : (a : Attempt) → attempt_of (task_at now.tasks seat) ≡ Some a
-          → MakesEvent program devices value_of stage (one_undone (is_some now.stop)) (has_undone seat a (reason_to_undo (task_at now.tasks seat))) now after-more
+          → MakesEvent meaning (one_undone (is_some now.stop)) (has_undone seat a (reason_to_undo (task_at now.tasks seat))) now after-more
       makes-undone a e =
-          subst (λ (x : Core C V M). MakesEvent program devices value_of stage (one_undone (is_some x.stop)) (has_undone seat a (reason_to_undo (task_at x.tasks seat))) x after-more)
+          subst (λ (x : Core C V M). MakesEvent meaning (one_undone (is_some x.stop)) (has_undone seat a (reason_to_undo (task_at x.tasks seat))) x after-more)
           view
-          (subst (λ (x : Attempt). MakesEvent program devices value_of stage (one_undone (is_some core.stop)) (has_undone seat x (reason_to_undo (task_at core.tasks seat))) core after-more)
+          (subst (λ (x : Attempt). MakesEvent meaning (one_undone (is_some core.stop)) (has_undone seat x (reason_to_undo (task_at core.tasks seat))) core after-more)
           (its-own a e) makes-core)
 
       -- none is left
@@ -180,10 +179,10 @@ module _ {C V M : Type 0} (program : C → Tree) (devices : C → ℕ) (is_value
         pool-so = pool-is ∙ ap (λ (r : Reason). home_for r attempt.tried.number core.pool) why-so
 
         abbrev after-gone : Core C V M
-        after-gone = record core { desk = desk; tasks = slice_set core.tasks seat Task.Idle; pool = pool; turns = turns; counters = counters; tried = tried }
+        after-gone = record core { memory = memory; tasks = slice_set core.tasks seat Task.Idle; pool = pool; turns = turns; counters = counters; tried = tried }
 
         after-home : after-gone ≡ record core {
-          desk = undone_last seat core.desk;
+          memory = undone_last seat core.memory;
           tasks = slice_set core.tasks seat Task.Idle;
           pool = home_for (reason_to_undo (task_at core.tasks seat)) attempt.tried.number core.pool;
           turns = if is_some core.stop then core.turns else core.turns + 1;
@@ -191,7 +190,7 @@ module _ {C V M : Type 0} (program : C → Tree) (devices : C → ℕ) (is_value
           tried = with_try attempt core.tried;
         }
         after-home = λ i. record core {
-          desk = desk-is i;
+          memory = memory-is i;
           tasks = slice_set core.tasks seat Task.Idle;
           pool = pool-so i;
           turns = turns-so i;
@@ -199,18 +198,18 @@ module _ {C V M : Type 0} (program : C → Tree) (devices : C → ℕ) (is_value
           tried = tried-is i;
         }
 
-        pub whole-gone : (1 < length (row_at core.desk.rows seat).undos → ⊥) → IsWhole program devices is_value value_of is_machine stage after-gone
+        pub whole-gone : (1 < length (row_at core.memory.rows seat).undos → ⊥) → IsSound meaning after-gone
         whole-gone few =
-            subst (IsWhole program devices is_value value_of is_machine stage) (sym after-home)
-            (gone-whole program devices is_value value_of is_machine stage core whole seat attempt has-it undoes' left'
+            subst (IsSound meaning) (sym after-home)
+            (gone-whole meaning core whole seat attempt has-it undoes' left'
             (let e = many in omega (arith, e, few)))
 
         pub makes-gone : (a : Attempt) → attempt_of (task_at now.tasks seat) ≡ Some a
-            → MakesEvent program devices value_of stage (one_undone (is_some now.stop)) (has_gone_home seat a (reason_to_undo (task_at now.tasks seat))) now after-gone
+            → MakesEvent meaning (one_undone (is_some now.stop)) (has_gone_home seat a (reason_to_undo (task_at now.tasks seat))) now after-gone
         makes-gone a e =
-            subst (λ (x : Core C V M). MakesEvent program devices value_of stage (one_undone (is_some x.stop)) (has_gone_home seat a (reason_to_undo (task_at x.tasks seat))) x after-gone)
+            subst (λ (x : Core C V M). MakesEvent meaning (one_undone (is_some x.stop)) (has_gone_home seat a (reason_to_undo (task_at x.tasks seat))) x after-gone)
             view
-            (subst (λ (x : Attempt). MakesEvent program devices value_of stage (one_undone (is_some core.stop)) (has_gone_home seat x (reason_to_undo (task_at core.tasks seat))) core after-gone)
+            (subst (λ (x : Attempt). MakesEvent meaning (one_undone (is_some core.stop)) (has_gone_home seat x (reason_to_undo (task_at core.tasks seat))) core after-gone)
             (its-own a e)
-            (subst (MakesEvent program devices value_of stage (one_undone (is_some core.stop)) (has_gone_home seat attempt (reason_to_undo (task_at core.tasks seat))) core)
-            (sym after-home) (gone-makes program devices is_value value_of is_machine stage core whole seat attempt has-it undoes' left')))
+            (subst (MakesEvent meaning (one_undone (is_some core.stop)) (has_gone_home seat attempt (reason_to_undo (task_at core.tasks seat))) core)
+            (sym after-home) (gone-makes meaning core whole seat attempt has-it undoes' left')))

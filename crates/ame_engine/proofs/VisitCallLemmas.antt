@@ -9,38 +9,38 @@ use Rattle.ame_device.specs.declared.told.Told.{Told}
 use Rattle.ame_device.specs.Calls.{CallsOne}
 use Rattle.ame_journal.specs.declared.entry.Entry.{Entry}
 use Rattle.ame_journal.specs.Replayed.{Replayed}
-use Rattle.ame_local.specs.Local.{LocalState}
+use Rattle.ame_machine.specs.Run.Local.{LocalState}
 use Rattle.ame_pool.specs.Members.{is_busy}
 use Rattle.ame_pool.specs.Roster.{Roster}
 use Rattle.ame_pool.specs.Calls.{IsAt, is_running, at_home, home, exchanged, with_room}
-use Rattle.ame_owed.specs.SeatRun.{StandsAt}
-use Rattle.ame_runner.specs.declared.wants.Wants.{Wants}
-use Rattle.ame_runner.specs.declared.wants.Wants.TheVariants as wants
-use Rattle.ame_runner.specs.Stage.{Stage, place_shown, with_answer}
-use Rattle.ame_runner.specs.Need.{Need, need_of, need_told}
-use Rattle.ame_runner.specs.Move.{after_input, fed_stage}
-use Rattle.ame_runner.specs.Comes.{HasNextAct}
-use Rattle.ame_runner.specs.Sound.{IsSoundStage}
-use Rattle.ame_runner.specs.Acting.{replaced_by}
-use Rattle.ame_runner.proofs.NeedLemmas.{comes_as}
-use Rattle.ame_runner.proofs.FeedLemmas.{fed-answer}
-use Rattle.ame_stands.specs.declared.types.Attempt.{Attempt}
-use Rattle.ame_stands.specs.declared.types.Reason.{Reason}
-use Rattle.ame_stands.specs.declared.types.Task.{Task}
-use Rattle.ame_stands.specs.Parts.{Parts, task_at, attempt_of, member_of, term_at}
-use Rattle.ame_stands.proofs.StepLemmas.{seat_within}
-use Rattle.ame_stands.specs.Shown.{shown_pool}
-use Rattle.ame_stands.specs.Tasks.{Visits}
-use Rattle.ame_stands.specs.Stands.{Stands}
-use Rattle.ame_stands.specs.Alone.{RunsAlone}
-use Rattle.ame_stands.specs.Events.{with_newcomers}
-use Rattle.ame_stands.proofs.ShownPoolLemmas.{home-shown}
-use Rattle.ame_visits.specs.Visit.{StepsTo, free_entry, has_been_refused}
-use Rattle.ame_visits.proofs.PlaceLemmas.{visits, alone, calm, term-there, is-inside, call-met}
-use Rattle.ame_visits.proofs.RefuseLemmas.{refused-stands, refused-alone}
-use Rattle.ame_waiting.specs.Waiting.{AreWaiting}
-use Rattle.ame_waiting.specs.Once.{AreNotedOnce}
-use Rattle.ame_waiting.proofs.VisitLemmas.{refused-waiting, refused-once}
+use Rattle.ame_protocol.specs.Row.SeatRun.{StandsAt}
+use Rattle.ame_machine.specs.declared.wants.Wants.{Wants}
+use Rattle.ame_machine.specs.declared.wants.Wants.TheVariants as wants
+use Rattle.ame_machine.specs.MachineView.{MachineView, place_shown, with_answer}
+use Rattle.ame_machine.specs.Need.{Need, need_of, need_told}
+use Rattle.ame_machine.specs.Move.{after_input, fed_stage}
+use Rattle.ame_machine.specs.Comes.{HasNextAct}
+use Rattle.ame_machine.specs.Sound.{IsSoundStage}
+use Rattle.ame_machine.specs.Acting.{replaced_by}
+use Rattle.ame_machine.proofs.NeedLemmas.{comes_as}
+use Rattle.ame_machine.proofs.FeedLemmas.{fed-answer}
+use Rattle.ame_protocol.specs.declared.types.Attempt.{Attempt}
+use Rattle.ame_protocol.specs.declared.types.Reason.{Reason}
+use Rattle.ame_protocol.specs.declared.types.Task.{Task}
+use Rattle.ame_protocol.specs.Engine.Parts.{Parts, task_at, attempt_of, member_of, term_at}
+use Rattle.ame_protocol.proofs.Engine.StepLemmas.{seat_within}
+use Rattle.ame_protocol.specs.Engine.Shown.{shown_pool}
+use Rattle.ame_protocol.specs.Engine.Tasks.{Visits}
+use Rattle.ame_protocol.specs.Engine.Simulates.{Simulates}
+use Rattle.ame_protocol.specs.Engine.Alone.{RunsExclusively}
+use Rattle.ame_protocol.specs.Engine.Events.{with_newcomers}
+use Rattle.ame_protocol.proofs.Engine.ShownPoolLemmas.{home-shown}
+use Rattle.ame_protocol.specs.Visits.Visit.{StepsTo, free_entry, has_been_refused}
+use Rattle.ame_protocol.proofs.Visits.PlaceLemmas.{visits, alone, calm, term-there, is-inside, call-met}
+use Rattle.ame_protocol.proofs.Visits.RefuseLemmas.{refused-stands, refused-alone}
+use Rattle.ame_protocol.specs.Waits.Waiting.{AreWaiting}
+use Rattle.ame_protocol.specs.Waits.Once.{AreNotedOnce}
+use Rattle.ame_protocol.proofs.Waits.VisitLemmas.{refused-waiting, refused-once}
 use Rattle.ame_engine.specs.Causes.{HasCause}
 use Rattle.ame_engine.specs.Faults.{ComesToCall, LeadsToCall}
 use Rattle.ame_engine.specs.declared.engine.free.change.Change.TheVariants as changes
@@ -49,7 +49,7 @@ use Rattle.ame_engine.specs.Core.{Core}
 use Rattle.ame_engine.specs.Counting.{Counted, one_counted}
 use Rattle.ame_engine.specs.Rollbacks.{IsGoodPool}
 use Rattle.ame_engine.specs.Seen.{parts_of, term_shown, MakesEvent, MakesLastEvent}
-use Rattle.ame_engine.specs.Whole.{IsAtRest, IsWhole}
+use Rattle.ame_engine.specs.Whole.{IsAtRest, IsSound}
 use Rattle.ame_engine.specs.AtWork.{working, IsOnSeat, IsOn}
 use Rattle.ame_engine.specs.Visiting.{IsVisiting, VisitsTo, IsVisitTo, visited_at, SettlesThere, HasComeHome}
 use Rattle.ame_engine.proofs.CauseLemmas.{refused-cause}
@@ -62,16 +62,16 @@ use Rattle.ame_engine.proofs.CrewLemmas.{busy-told}
 use Rattle.ame_engine.proofs.UndoingLemmas.{busy-same}
 use Rattle.ame_engine.proofs.VisitPlaceLemmas.{visits-as, visit-steps, visit-is, visit-settles}
 use Rattle.ame_engine.proofs.VisitEndLemmas.{room-stays, whole-visited, makes-visited}
-use Rattle.ame_engine.specs.Bounds.{IsBounded}
+use Rattle.ame_engine.specs.Bounds.{KeepsBounds}
 use Rattle.ame_engine.proofs.BoundLemmas.{refused-bounded}
 use Rattle.ame_engine.proofs.VisitPlaceLemmas.{visit-grows}
+use Rattle.ame_machine.specs.Meaning.{Meaning}
 
-module _ {C V M : Type 0} (program : C → Tree) (devices : C → ℕ) (is_value : C → V → Type 0) (value_of : C → V → Val)
-    (is_machine : C → M → Type 0) (stage : C → M → Stage)
-    (core now : Core C V M) (view : core ≡ now) (whole : IsWhole program devices is_value value_of is_machine stage core) (seat : ℕ) (attempt : Attempt)
+module _ {C V M : Type 0} (meaning : Meaning C V M)
+    (core now : Core C V M) (view : core ≡ now) (whole : IsSound meaning core) (seat : ℕ) (attempt : Attempt)
     (task-now : task_at now.tasks seat ≡ Task.Free attempt) (left : now.turns < now.limits.turns) where
   abbrev parts : Parts
-  parts = parts_of program devices value_of stage core
+  parts = parts_of meaning core
 
   abbrev number : ℕ
   number = attempt.tried.number
@@ -88,7 +88,7 @@ module _ {C V M : Type 0} (program : C → Tree) (devices : C → ℕ) (is_value
   -- A device refused
 
   pub refuse-running : IsAt is_running number core.pool
-  refuse-running = busy-same (term_shown stage core.code) Reason.Stopped number core.pool its-visit.work.busy
+  refuse-running = busy-same (term_shown meaning.stage core.code) Reason.Stopped number core.pool its-visit.work.busy
 
   module _ (device : ℕ) (pool : Roster M) (pool_is : pool ≡ home number false core.pool) where
     abbrev after-refused : Core C V M
@@ -108,65 +108,65 @@ module _ {C V M : Type 0} (program : C → Tree) (devices : C → ℕ) (is_value
       stopped = true;
     }
 
-    refused-parts : parts_of program devices value_of stage after-refused ≡ has_been_refused seat number parts
+    refused-parts : parts_of meaning after-refused ≡ has_been_refused seat number parts
     unfolding parts-with
-    refused-parts = ap parts-with (ap (shown_pool (term_shown stage core.code)) pool_is ∙ home-shown (term_shown stage core.code) number false core.pool)
+    refused-parts = ap parts-with (ap (shown_pool (term_shown meaning.stage core.code)) pool_is ∙ home-shown (term_shown meaning.stage core.code) number false core.pool)
 
-    pub whole-refused : now.stop ≡ None → LeadsToCall (parts_of program devices value_of stage now) device
-        → IsWhole program devices is_value value_of is_machine stage after-refused
+    pub whole-refused : now.stop ≡ None → LeadsToCall (parts_of meaning now) device
+        → IsSound meaning after-refused
     whole-refused going leads = record {
-      stands = subst Stands (sym refused-parts) (refused-stands parts whole.stands seat attempt is left');
+      stands = subst Simulates (sym refused-parts) (refused-stands parts whole.stands seat attempt is left');
       limits = whole.limits;
-      desk = whole.desk;
+      memory = whole.memory;
       members =
-          subst (λ (p : Roster M). All (IsAtRest is_machine stage core.code) p.members) (sym pool_is)
-          (all_altered number (at_home false) (IsAtRest is_machine stage core.code) (λ m rests. record { machine = rests.machine; rests = rests.rests })
+          subst (λ (p : Roster M). All (IsAtRest meaning.is_machine meaning.stage core.code) p.members) (sym pool_is)
+          (all_altered number (at_home false) (IsAtRest meaning.is_machine meaning.stage core.code) (λ m rests. record { machine = rests.machine; rests = rests.rests })
           core.pool.members whole.members);
       pool = subst IsGoodPool (sym pool_is) (good-home number false core.pool whole.pool);
-      alone = subst RunsAlone (sym refused-parts) (refused-alone parts whole.stands seat attempt is whole.alone);
-      lone = lone-left parts (parts_of program devices value_of stage after-refused) whole.stands core.counters (one_counted Counted.Free core.counters)
+      alone = subst RunsExclusively (sym refused-parts) (refused-alone parts whole.stands seat attempt is whole.alone);
+      lone = lone-left parts (parts_of meaning after-refused) whole.stands core.counters (one_counted Counted.Free core.counters)
           whole.lone seat (seat_within core.tasks seat attempt (ap attempt_of is)) refl refl refl Task.Idle refl
           (λ t e. let clash : Task.Idle ≡ Task.Running t = e in cc);
       bounds =
           let none : core.stop ≡ None = subst (λ (x : Core C V M). x.stop ≡ None) (sym view) going in
-          subst (IsBounded (Some (Stop.DeviceFault device)) (one_counted Counted.Free core.counters)) (sym refused-parts)
+          subst (KeepsBounds (Some (Stop.DeviceFault device)) (one_counted Counted.Free core.counters)) (sym refused-parts)
           (refused-bounded parts whole.stands core.stop none (ap (λ (o : Option Stop). is_some o) none) core.counters (one_counted Counted.Free core.counters)
           whole.bounds refl seat attempt is device);
       waiting = subst AreWaiting (sym refused-parts)
           (refused-waiting parts seat number (ap member_of is) its-visit.work.busy (parts.turns + 1) true whole.waiting);
       once = subst AreNotedOnce (sym refused-parts) (refused-once parts seat number (ap member_of is) its-visit.work.busy (parts.turns + 1) true whole.once);
-      caused = refused-cause device parts (parts_of program devices value_of stage after-refused) core.certificates
+      caused = refused-cause device parts (parts_of meaning after-refused) core.certificates
           (subst (λ (o : Option Stop). HasCause o core.certificates parts) (subst (λ (x : Core C V M). x.stop ≡ None) (sym view) going) whole.caused)
           (record { program = refl; base = refl; entries = refl })
-          (subst (λ (x : Core C V M). LeadsToCall (parts_of program devices value_of stage x) device) (sym view) leads);
+          (subst (λ (x : Core C V M). LeadsToCall (parts_of meaning x) device) (sym view) leads);
       counters = one-counts core.turns core.counters whole.counters Counted.Free;
       text = whole.text;
     }
 
-    pub makes-refused : MakesLastEvent program devices value_of stage (Stop.DeviceFault device) (one_counted Counted.Free) (has_been_refused seat number) now after-refused
+    pub makes-refused : MakesLastEvent meaning (Stop.DeviceFault device) (one_counted Counted.Free) (has_been_refused seat number) now after-refused
     makes-refused =
-        subst (λ (x : Core C V M). MakesLastEvent program devices value_of stage (Stop.DeviceFault device) (one_counted Counted.Free) (has_been_refused seat number)
+        subst (λ (x : Core C V M). MakesLastEvent meaning (Stop.DeviceFault device) (one_counted Counted.Free) (has_been_refused seat number)
         x after-refused) view
         (record { code = refl; parts = refused-parts; counted = refl; stop = refl })
 
   -- A device is called
 
-  module _ (m : M) (on-now : IsOn program devices value_of is_machine stage now seat m) (visiting : IsVisiting (stage now.code m))
-      (sound : IsSoundStage (stage now.code m)) (device : ℕ) (argument : ℤ) (wants-now : (stage now.code m).want ≡ Some (wants.Device device argument)) where
-    abbrev s : Stage
-    s = stage core.code m
+  module _ (m : M) (on-now : IsOn meaning now seat m) (visiting : IsVisiting (meaning.stage now.code m))
+      (sound : IsSoundStage (meaning.stage now.code m)) (device : ℕ) (argument : ℤ) (wants-now : (meaning.stage now.code m).want ≡ Some (wants.Device device argument)) where
+    abbrev s : MachineView
+    s = meaning.stage core.code m
 
     on : IsOnSeat parts seat s
-    on = subst (λ (x : Core C V M). IsOnSeat (parts_of program devices value_of stage x) seat (stage x.code m)) (sym view) on-now.stands
+    on = subst (λ (x : Core C V M). IsOnSeat (parts_of meaning x) seat (meaning.stage x.code m)) (sym view) on-now.stands
 
     visits-here : IsVisiting s
-    visits-here = subst (λ (x : Core C V M). IsVisiting (stage x.code m)) (sym view) visiting
+    visits-here = subst (λ (x : Core C V M). IsVisiting (meaning.stage x.code m)) (sym view) visiting
 
     sound' : IsSoundStage s
-    sound' = subst (λ (x : Core C V M). IsSoundStage (stage x.code m)) (sym view) sound
+    sound' = subst (λ (x : Core C V M). IsSoundStage (meaning.stage x.code m)) (sym view) sound
 
     wants-it : s.want ≡ Some (wants.Device device argument)
-    wants-it = subst (λ (x : Core C V M). (stage x.code m).want ≡ Some (wants.Device device argument)) (sym view) wants-now
+    wants-it = subst (λ (x : Core C V M). (meaning.stage x.code m).want ≡ Some (wants.Device device argument)) (sym view) wants-now
 
     one-attempt : on.attempt ≡ attempt
     one-attempt = ap (λ (t : Task). unwrap_or (working t) attempt) (sym (visits-as parts seat s on visits-here.inside) ∙ is)
@@ -190,17 +190,17 @@ module _ {C V M : Type 0} (program : C → Tree) (devices : C → ℕ) (is_value
       acts = next-act.2;
     }
 
-    device-there : device < devices core.code
+    device-there : device < meaning.devices core.code
     device-there = call-met parts whole.stands seat attempt is s.steps (place_shown s) steps device argument stands-at
 
-    pub call-within : (count : ℕ) → devices now.code ≤ count → device < count
+    pub call-within : (count : ℕ) → meaning.devices now.code ≤ count → device < count
     call-within count enough =
-        let there : device < devices now.code = subst (λ (x : Core C V M). device < devices x.code) view device-there in omega (arith, there, enough)
+        let there : device < meaning.devices now.code = subst (λ (x : Core C V M). device < meaning.devices x.code) view device-there in omega (arith, there, enough)
 
-    pub call-steps : (begun : Entry) → begun ≡ free_entry seat number s.steps (place_shown s) → (stage now.code m).steps + 1 < 2 ^ 64 → begun.steps + 1 < 2 ^ 64
+    pub call-steps : (begun : Entry) → begun ≡ free_entry seat number s.steps (place_shown s) → (meaning.stage now.code m).steps + 1 < 2 ^ 64 → begun.steps + 1 < 2 ^ 64
     call-steps begun e few =
         let same : begun.steps ≡ s.steps = ap (λ (x : Entry). x.steps) e in
-        let here : s.steps + 1 < 2 ^ 64 = subst (λ (x : Core C V M). (stage x.code m).steps + 1 < 2 ^ 64) (sym view) few in omega (arith, same, here)
+        let here : s.steps + 1 < 2 ^ 64 = subst (λ (x : Core C V M). (meaning.stage x.code m).steps + 1 < 2 ^ 64) (sym view) few in omega (arith, same, here)
 
     -- the member comes to the call by the steps that it made
     comes-here : ComesToCall whole.stands.r device
@@ -221,9 +221,9 @@ module _ {C V M : Type 0} (program : C → Tree) (devices : C → ℕ) (is_value
           calls = stands-at.acts;
         }
 
-    pub call-led : (entries : List Entry) → entries ≡ core.entries → LeadsToCall (parts_of program devices value_of stage (record core { entries = entries })) device
+    pub call-led : (entries : List Entry) → entries ≡ core.entries → LeadsToCall (parts_of meaning (record core { entries = entries })) device
     call-led entries are =
-        subst (λ (es : List Entry). LeadsToCall (parts_of program devices value_of stage (record core { entries = es })) device) (sym are)
+        subst (λ (es : List Entry). LeadsToCall (parts_of meaning (record core { entries = es })) device) (sym are)
         (λ r there.
         let same : whole.stands.r ≡ r = ap (λ (o : Option Replayed). unwrap_or o r) (sym whole.stands.stands.replayed ∙ there) in
         subst (λ (x : Replayed). ComesToCall x device) same comes-here)
@@ -235,45 +235,45 @@ module _ {C V M : Type 0} (program : C → Tree) (devices : C → ℕ) (is_value
     no-spawns = ap (λ (p : LocalState). p.spawns) (alone (term_at parts.pool number) s.steps (place_shown s) steps)
 
     pub call-busy : IsAt is_busy number core.pool
-    call-busy = busy-told (term_shown stage core.code) number core.pool its-visit.work.busy
+    call-busy = busy-told (term_shown meaning.stage core.code) number core.pool its-visit.work.busy
 
     -- and answers
-    module _ (answer : ℤ) (n : M) (machine : is_machine core.code n) (fed : after_input s.want (Val.Int answer) s ≡ Some (stage core.code n))
+    module _ (answer : ℤ) (n : M) (machine : meaning.is_machine core.code n) (fed : after_input s.want (Val.Int answer) s ≡ Some (meaning.stage core.code n))
         (before after : List Told) (called : CallsOne before device argument (Ok answer) after) where
-      fed' : fed_stage (Val.Int answer) s ≡ Some (stage core.code n)
+      fed' : fed_stage (Val.Int answer) s ≡ Some (meaning.stage core.code n)
       fed' = ap (λ (o : Option Wants). after_input o (Val.Int answer) s) (sym wants-it) ∙ fed
 
-      pub visits-called : VisitsTo s parts.desk before (Some answer) (stage core.code n) parts.desk after
-      visits-called = VisitsTo.calls device argument answer (stage core.code n) after wants-it called fed'
+      pub visits-called : VisitsTo s parts.memory before (Some answer) (meaning.stage core.code n) parts.memory after
+      visits-called = VisitsTo.calls device argument answer (meaning.stage core.code n) after wants-it called fed'
 
-      visit-called : IsVisitTo parts number (Some answer) (stage core.code n) parts.desk
+      visit-called : IsVisitTo parts number (Some answer) (meaning.stage core.code n) parts.memory
       visit-called =
-          subst (λ (k : ℕ). IsVisitTo parts k (Some answer) (stage core.code n) parts.desk) one-number
-          (visit-is parts whole.stands seat s on visits-here.inside sound' visits-here before (Some answer) (stage core.code n) parts.desk after visits-called)
+          subst (λ (k : ℕ). IsVisitTo parts k (Some answer) (meaning.stage core.code n) parts.memory) one-number
+          (visit-is parts whole.stands seat s on visits-here.inside sound' visits-here before (Some answer) (meaning.stage core.code n) parts.memory after visits-called)
 
-      settles-called : SettlesThere (stage core.code n)
+      settles-called : SettlesThere (meaning.stage core.code n)
       settles-called =
-          visit-settles parts whole.stands seat s on visits-here.inside sound' visits-here before (Some answer) (stage core.code n) parts.desk after visits-called
+          visit-settles parts whole.stands seat s on visits-here.inside sound' visits-here before (Some answer) (meaning.stage core.code n) parts.memory after visits-called
 
-      stage-is : stage core.code n ≡ replaced_by (Tree.Held (Val.Int answer)) s
+      stage-is : meaning.stage core.code n ≡ replaced_by (Tree.Held (Val.Int answer)) s
       stage-is =
-          ap (λ (o : Option Stage). unwrap_or o (stage core.code n)) (sym fed' ∙ fed-answer V s (wants.Device device argument) answer need-there refl)
+          ap (λ (o : Option MachineView). unwrap_or o (meaning.stage core.code n)) (sym fed' ∙ fed-answer V s (wants.Device device argument) answer need-there refl)
 
-      low-called : attempt.tried.steps ≤ (stage core.code n).steps
+      low-called : attempt.tried.steps ≤ (meaning.stage core.code n).steps
       low-called =
           let since : s.steps ≡ s.since + attempt.tried.steps = subst (λ (a : Attempt). s.steps ≡ s.since + a.tried.steps) one-attempt on.since in
-          let grows = visit-grows s parts.desk before (Some answer) (stage core.code n) parts.desk after visits-called in omega (arith, since, grows)
+          let grows = visit-grows s parts.memory before (Some answer) (meaning.stage core.code n) parts.memory after visits-called in omega (arith, since, grows)
 
-      none-printed : (stage core.code n).prints ≡ []
-      none-printed = ap (λ (x : Stage). x.prints) stage-is ∙ bare
+      none-printed : (meaning.stage core.code n).prints ≡ []
+      none-printed = ap (λ (x : MachineView). x.prints) stage-is ∙ bare
 
-      none-made : (stage core.code n).spawns ≡ []
-      none-made = ap (λ (x : Stage). x.spawns) stage-is ∙ no-spawns
+      none-made : (meaning.stage core.code n).spawns ≡ []
+      none-made = ap (λ (x : MachineView). x.spawns) stage-is ∙ no-spawns
 
-      with-spawns : List Tree → Stage
-      with-spawns xs = record (stage core.code n) { spawns = xs }
+      with-spawns : List Tree → MachineView
+      with-spawns xs = record (meaning.stage core.code n) { spawns = xs }
 
-      keeps-stage : stage core.code n ≡ record (stage core.code n) { spawns = [] }
+      keeps-stage : meaning.stage core.code n ≡ record (meaning.stage core.code n) { spawns = [] }
       unfolding with-spawns
       keeps-stage = ap with-spawns none-made
 
@@ -281,15 +281,15 @@ module _ {C V M : Type 0} (program : C → Tree) (devices : C → ℕ) (is_value
           (entry_is : entry ≡ record begun { steps = begun.steps + 1; answer = Some answer })
           (entries old-entries : List Entry) (old_is : old-entries ≡ core.entries) (pushes : entries ≡ old-entries ++ entry ∷ [])
           (final : Roster M)
-          (sends : shown_pool (term_shown stage core.code) final
-          ≡ exchanged number (stage core.code n).term (stage core.code n).inside (shown_pool (term_shown stage core.code) core.pool))
-          (send-rests : is_machine core.code n → SettlesThere (stage core.code n) → All (IsAtRest is_machine stage core.code) core.pool.members
-          → All (IsAtRest is_machine stage core.code) final.members)
+          (sends : shown_pool (term_shown meaning.stage core.code) final
+          ≡ exchanged number (meaning.stage core.code n).term (meaning.stage core.code n).inside (shown_pool (term_shown meaning.stage core.code) core.pool))
+          (send-rests : meaning.is_machine core.code n → SettlesThere (meaning.stage core.code n) → All (IsAtRest meaning.is_machine meaning.stage core.code) core.pool.members
+          → All (IsAtRest meaning.is_machine meaning.stage core.code) final.members)
           (send-good : IsGoodPool core.pool → IsGoodPool final) where
-        entry-so : entry ≡ free_entry seat number (stage core.code n).steps (with_answer (Some answer) (place_shown (stage core.code n)))
+        entry-so : entry ≡ free_entry seat number (meaning.stage core.code n).steps (with_answer (Some answer) (place_shown (meaning.stage core.code n)))
         entry-so =
             entry_is ∙ ap (λ (e : Entry). record e { steps = e.steps + 1; answer = Some answer }) begun_is
-            ∙ sym (ap (λ (x : Stage). free_entry seat number x.steps (with_answer (Some answer) (place_shown x))) stage-is)
+            ∙ sym (ap (λ (x : MachineView). free_entry seat number x.steps (with_answer (Some answer) (place_shown x))) stage-is)
 
         abbrev after-called : Core C V M
         after-called = record core {
@@ -300,37 +300,37 @@ module _ {C V M : Type 0} (program : C → Tree) (devices : C → ℕ) (is_value
           counters = one_counted Counted.Free core.counters;
         }
 
-        joined-same : shown_pool (term_shown stage core.code) core.pool
-            ≡ with_newcomers core.next (stage core.code n).spawns (shown_pool (term_shown stage core.code) (with_room 0 core.pool))
+        joined-same : shown_pool (term_shown meaning.stage core.code) core.pool
+            ≡ with_newcomers core.next (meaning.stage core.code n).spawns (shown_pool (term_shown meaning.stage core.code) (with_room 0 core.pool))
         joined-same =
-            sym (ap (λ (xs : List Tree). with_newcomers core.next xs (shown_pool (term_shown stage core.code) (with_room 0 core.pool))) none-made
-            ∙ ap (shown_pool (term_shown stage core.code)) (room-stays core.pool 0 [] refl refl))
+            sym (ap (λ (xs : List Tree). with_newcomers core.next xs (shown_pool (term_shown meaning.stage core.code) (with_room 0 core.pool))) none-made
+            ∙ ap (shown_pool (term_shown meaning.stage core.code)) (room-stays core.pool 0 [] refl refl))
 
-        pub whole-called : now.stop ≡ None → IsWhole program devices is_value value_of is_machine stage after-called
+        pub whole-called : now.stop ≡ None → IsSound meaning after-called
         whole-called going =
-            whole-visited program devices is_value value_of is_machine stage core core refl whole seat attempt is left' n (Some answer) changes.Stays visit-called
+            whole-visited meaning core core refl whole seat attempt is left' n (Some answer) changes.Stays visit-called
             0 (sym (ap (λ (xs : List Tree). length xs) none-made)) (with_room 0 core.pool) refl core.pool joined-same n final keeps-stage sends machine settles-called
-            (λ h. h) (λ h all. all) send-rests (λ h. record { rising = h.rising; few = h.few }) send-good core.desk refl tt
+            (λ h. h) (λ h all. all) send-rests (λ h. record { rising = h.rising; few = h.few }) send-good core.memory refl tt
             core.output core.output [] (sym none-printed) refl (sym (append-nil core.output)) core.text core.text [] [] [] (sym none-printed) refl refl refl (sym (append-nil core.text))
             old-entries entries entry entry-so old_is pushes core.next (omega arith)
             (subst (λ (x : Core C V M). x.stop ≡ None) (sym view) going) low-called
 
-        makes-called : MakesEvent program devices value_of stage (one_counted Counted.Free)
-            (visited_at seat number (Some answer) (stage core.code n) parts.desk) core after-called
+        makes-called : MakesEvent meaning (one_counted Counted.Free)
+            (visited_at seat number (Some answer) (meaning.stage core.code n) parts.memory) core after-called
         makes-called =
-            makes-visited program devices is_value value_of is_machine stage core core refl whole seat attempt is left' n (Some answer) changes.Stays visit-called
+            makes-visited meaning core core refl whole seat attempt is left' n (Some answer) changes.Stays visit-called
             0 (sym (ap (λ (xs : List Tree). length xs) none-made)) (with_room 0 core.pool) refl core.pool joined-same n final keeps-stage sends machine settles-called
-            (λ h. h) (λ h all. all) send-rests (λ h. record { rising = h.rising; few = h.few }) send-good core.desk refl tt
+            (λ h. h) (λ h all. all) send-rests (λ h. record { rising = h.rising; few = h.few }) send-good core.memory refl tt
             core.output core.output [] (sym none-printed) refl (sym (append-nil core.output)) core.text core.text [] [] [] (sym none-printed) refl refl refl (sym (append-nil core.text))
             old-entries entries entry entry-so old_is pushes core.next (omega arith)
 
-        pub home-called : HasComeHome program devices value_of stage seat number (stage now.code m) before after now after-called
+        pub home-called : HasComeHome meaning seat number (meaning.stage now.code m) before after now after-called
         home-called =
-            subst (λ (x : Core C V M). HasComeHome program devices value_of stage seat number (stage x.code m) before after x after-called) view
+            subst (λ (x : Core C V M). HasComeHome meaning seat number (meaning.stage x.code m) before after x after-called) view
             (record {
               answer = Some answer;
-              comes = stage core.code n;
-              desk = parts.desk;
+              comes = meaning.stage core.code n;
+              memory = parts.memory;
               visits = visits-called;
               visit = visit-called;
               event = makes-called;

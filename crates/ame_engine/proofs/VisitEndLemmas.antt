@@ -5,67 +5,68 @@ use Rattle.ame_io.specs.Lines.{lines}
 use Rattle.ame_io.proofs.LinesLemmas.{lines-append}
 use Rattle.ame_term.specs.Tree.{Val, Tree}
 use Rattle.ame_journal.specs.declared.entry.Entry.{Entry}
-use Rattle.ame_journal.specs.Log.{IsFit}
-use Rattle.ame_local.specs.Local.{LocalState}
+use Rattle.ame_journal.specs.JournalView.{IsFit}
+use Rattle.ame_machine.specs.Run.Local.{LocalState}
 use Rattle.ame_pool.specs.declared.member.Member.{Member}
 use Rattle.ame_pool.specs.Members.{find, is_busy}
 use Rattle.ame_pool.specs.Roster.{Roster}
 use Rattle.ame_pool.specs.Calls.{IsAt, renewed, exchanged, with_room}
-use Rattle.ame_desk.specs.Contents.{Contents}
-use Rattle.ame_runner.specs.Stage.{Stage, starting_at, place_shown, with_answer}
-use Rattle.ame_runner.specs.Move.{settled_stage}
-use Rattle.ame_stands.specs.declared.types.Attempt.{Attempt}
-use Rattle.ame_stands.specs.declared.types.Task.{Task}
-use Rattle.ame_stands.specs.Parts.{Parts, task_at, attempt_of, member_of}
-use Rattle.ame_stands.specs.Shown.{shown_desk, shown_pool}
-use Rattle.ame_stands.specs.Tasks.{is_busy_as, Visits}
-use Rattle.ame_stands.specs.Stands.{Stands}
-use Rattle.ame_stands.specs.Alone.{RunsAlone}
-use Rattle.ame_stands.specs.Events.{with_newcomers}
-use Rattle.ame_stands.proofs.StepLemmas.{seat_within}
-use Rattle.ame_stands.proofs.GrowthLemmas.{newcomers-keep}
-use Rattle.ame_stands.proofs.ShownPoolLemmas.{exchanged-shown}
-use Rattle.ame_stands.proofs.ToldLemmas.{next-free}
-use Rattle.ame_visits.specs.Visit.{free_entry, has_visited}
-use Rattle.ame_visits.proofs.PlaceLemmas.{visits}
-use Rattle.ame_visits.proofs.VisitLemmas.{Visited, visited}
-use Rattle.ame_visits.proofs.StandLemmas.{below-next, visit-stands}
-use Rattle.ame_visits.proofs.AloneLemmas.{visit-alone}
-use Rattle.ame_waiting.specs.Waiting.{AreWaiting}
-use Rattle.ame_waiting.specs.Once.{AreNotedOnce}
-use Rattle.ame_waiting.proofs.VisitLemmas.{visit-waiting, visit-once}
+use Rattle.ame_rows.specs.MemoryView.{MemoryView}
+use Rattle.ame_machine.specs.MachineView.{MachineView, starting_at, place_shown, with_answer}
+use Rattle.ame_machine.specs.Move.{settled_stage}
+use Rattle.ame_protocol.specs.declared.types.Attempt.{Attempt}
+use Rattle.ame_protocol.specs.declared.types.Task.{Task}
+use Rattle.ame_protocol.specs.Engine.Parts.{Parts, task_at, attempt_of, member_of}
+use Rattle.ame_protocol.specs.Engine.Shown.{shown_memory, shown_pool}
+use Rattle.ame_protocol.specs.Engine.Tasks.{is_busy_as, Visits}
+use Rattle.ame_protocol.specs.Engine.Simulates.{Simulates}
+use Rattle.ame_protocol.specs.Engine.Alone.{RunsExclusively}
+use Rattle.ame_protocol.specs.Engine.Events.{with_newcomers}
+use Rattle.ame_protocol.proofs.Engine.StepLemmas.{seat_within}
+use Rattle.ame_protocol.proofs.Engine.GrowthLemmas.{newcomers-keep}
+use Rattle.ame_protocol.proofs.Engine.ShownPoolLemmas.{exchanged-shown}
+use Rattle.ame_protocol.proofs.Engine.ToldLemmas.{next-free}
+use Rattle.ame_protocol.specs.Visits.Visit.{free_entry, has_visited}
+use Rattle.ame_protocol.proofs.Visits.PlaceLemmas.{visits}
+use Rattle.ame_protocol.proofs.Visits.VisitLemmas.{Visited, visited}
+use Rattle.ame_protocol.proofs.Visits.StandLemmas.{below-next, visit-stands}
+use Rattle.ame_protocol.proofs.Visits.AloneLemmas.{visit-alone}
+use Rattle.ame_protocol.specs.Waits.Waiting.{AreWaiting}
+use Rattle.ame_protocol.specs.Waits.Once.{AreNotedOnce}
+use Rattle.ame_protocol.proofs.Waits.VisitLemmas.{visit-waiting, visit-once}
 use Rattle.ame_engine.specs.declared.engine.free.change.Change.{Change}
 use Rattle.ame_engine.specs.Core.{Core}
 use Rattle.ame_engine.specs.Counting.{Counted, one_counted}
 use Rattle.ame_engine.specs.Rollbacks.{IsGoodPool}
 use Rattle.ame_engine.specs.Seen.{parts_of, term_shown, MakesEvent}
-use Rattle.ame_engine.specs.Whole.{resting_at, IsAtRest, IsGoodDesk, IsWhole}
+use Rattle.ame_engine.specs.Whole.{resting_at, IsAtRest, IsGoodMemory, IsSound}
 use Rattle.ame_engine.specs.Visiting.{IsVisitTo, visited_at, SettlesThere, changed_by, IsGoodChange}
 use Rattle.ame_engine.proofs.CauseLemmas.{going-cause}
 use Rattle.ame_engine.proofs.CountLemmas.{one-counts}
 use Rattle.ame_engine.proofs.LoneLemmas.{lone-left}
 use Rattle.ame_engine.proofs.MemberLemmas.{all_altered}
 use Rattle.ame_engine.proofs.CrewLemmas.{busy-told, none-told, room-used}
-use Rattle.ame_engine.proofs.VisitDeskLemmas.{changed-good, changed-shown}
-use Rattle.ame_bounds.proofs.ShownLemmas.{within-shown}
-use Rattle.ame_engine.specs.Bounds.{IsBounded}
+use Rattle.ame_engine.proofs.VisitMemoryLemmas.{changed-good, changed-shown}
+use Rattle.ame_protocol.proofs.Bounds.ShownLemmas.{within-shown}
+use Rattle.ame_engine.specs.Bounds.{KeepsBounds}
 use Rattle.ame_engine.proofs.BoundLemmas.{visited-bounded}
 use Rattle.ame_engine.specs.declared.stop.Stop.{Stop}
+use Rattle.ame_machine.specs.Meaning.{Meaning}
 
 -- A member goes home with no more than its term
 
-module _ {C M : Type 0} (is_machine : C → M → Type 0) (stage : C → M → Stage) (code : C) (number : ℕ) (pool new : Roster M) (at settled : M) (inside : Bool)
+module _ {C M : Type 0} (is_machine : C → M → Type 0) (stage : C → M → MachineView) (code : C) (number : ℕ) (pool new : Roster M) (at settled : M) (inside : Bool)
     (inside-is : inside ≡ (stage code at).inside) (settles : stage code settled ≡ settled_stage (stage code at)) (is : new ≡ exchanged number settled inside pool) where
   pub sent-shown : shown_pool (term_shown stage code) new ≡ exchanged number (stage code at).term (stage code at).inside (shown_pool (term_shown stage code) pool)
   sent-shown =
       ap (shown_pool (term_shown stage code)) is ∙ exchanged-shown (term_shown stage code) number settled inside pool
-      ∙ ap (λ (s : Stage). exchanged number s.term inside (shown_pool (term_shown stage code) pool)) settles
+      ∙ ap (λ (s : MachineView). exchanged number s.term inside (shown_pool (term_shown stage code) pool)) settles
       ∙ ap (λ (b : Bool). exchanged number (stage code at).term b (shown_pool (term_shown stage code) pool)) inside-is
 
   settled-rests : SettlesThere (stage code at) → stage code settled ≡ resting_at (stage code settled).term inside
   settled-rests there =
       settles ∙ ap (λ (b : Bool). record (starting_at (stage code at).term) { inside = b }) (there ∙ sym inside-is)
-      ∙ sym (ap (λ (s : Stage). resting_at s.term inside) settles)
+      ∙ sym (ap (λ (s : MachineView). resting_at s.term inside) settles)
 
   pub sent-rests : SettlesThere (stage code at) → is_machine code settled → All (IsAtRest is_machine stage code) pool.members
       → All (IsAtRest is_machine stage code) new.members
@@ -83,18 +84,17 @@ room-stays pool count bodies is none =
 
 -- The whole engine
 
-module _ {C V M : Type 0} (program : C → Tree) (devices : C → ℕ) (is_value : C → V → Type 0) (value_of : C → V → Val)
-    (is_machine : C → M → Type 0) (stage : C → M → Stage)
-    (core now : Core C V M) (view : core ≡ now) (whole : IsWhole program devices is_value value_of is_machine stage core) (seat : ℕ) (attempt : Attempt)
+module _ {C V M : Type 0} (meaning : Meaning C V M)
+    (core now : Core C V M) (view : core ≡ now) (whole : IsSound meaning core) (seat : ℕ) (attempt : Attempt)
     (task-now : task_at now.tasks seat ≡ Task.Free attempt) (left : now.turns < now.limits.turns) where
   abbrev parts : Parts
-  parts = parts_of program devices value_of stage core
+  parts = parts_of meaning core
 
   abbrev number : ℕ
   number = attempt.tried.number
 
   abbrev shown : Roster M → Roster Tree
-  shown pool = shown_pool (term_shown stage core.code) pool
+  shown pool = shown_pool (term_shown meaning.stage core.code) pool
 
   is : task_at core.tasks seat ≡ Task.Free attempt
   is = subst (λ (x : Core C V M). task_at x.tasks seat ≡ Task.Free attempt) (sym view) task-now
@@ -117,38 +117,38 @@ module _ {C V M : Type 0} (program : C → Tree) (devices : C → ℕ) (is_value
       let tasks : length core.tasks ≡ core.limits.seats = whole.stands.bounded.tasks in
       let few = whole.limits.seats in omega (arith, within, tasks, few)
 
-  pub end-fit : (entry : Entry) (m : M) → entry ≡ free_entry seat number (stage core.code m).steps (place_shown (stage core.code m)) → IsFit entry
+  pub end-fit : (entry : Entry) (m : M) → entry ≡ free_entry seat number (meaning.stage core.code m).steps (place_shown (meaning.stage core.code m)) → IsFit entry
   end-fit entry m e = subst IsFit (sym e) (record { seat = end-few; answer = tt })
 
-  pub called-fit : (begun entry : Entry) (m : M) (answer : ℤ) → begun ≡ free_entry seat number (stage core.code m).steps (place_shown (stage core.code m))
+  pub called-fit : (begun entry : Entry) (m : M) (answer : ℤ) → begun ≡ free_entry seat number (meaning.stage core.code m).steps (place_shown (meaning.stage core.code m))
       → entry ≡ record begun { steps = begun.steps + 1; answer = Some answer } → IsFit entry
   called-fit begun entry m answer e f =
       subst IsFit (sym (f ∙ ap (λ (x : Entry). record x { steps = x.steps + 1; answer = Some answer }) e)) (record { seat = end-few; answer = tt })
 
   -- a machine has come to where the visit ends
   module _ (m : M) (answer : Option ℤ) (change : Change V)
-      (visit-now : IsVisitTo (parts_of program devices value_of stage now) number answer (stage now.code m)
-      (changed_by (value_of now.code) change (parts_of program devices value_of stage now).desk)) where
-    abbrev s : Stage
-    s = stage core.code m
+      (visit-now : IsVisitTo (parts_of meaning now) number answer (meaning.stage now.code m)
+      (changed_by (meaning.value_of now.code) change (parts_of meaning now).memory)) where
+    abbrev s : MachineView
+    s = meaning.stage core.code m
 
-    abbrev plain : Contents Val
-    plain = changed_by (value_of core.code) change parts.desk
+    abbrev plain : MemoryView Val
+    plain = changed_by (meaning.value_of core.code) change parts.memory
 
     visit : IsVisitTo parts number answer s plain
     visit =
-        subst (λ (x : Core C V M). IsVisitTo (parts_of program devices value_of stage x) number answer (stage x.code m)
-        (changed_by (value_of x.code) change (parts_of program devices value_of stage x).desk)) (sym view) visit-now
+        subst (λ (x : Core C V M). IsVisitTo (parts_of meaning x) number answer (meaning.stage x.code m)
+        (changed_by (meaning.value_of x.code) change (parts_of meaning x).memory)) (sym view) visit-now
 
-    stands-visited : Stands (visited_at seat number answer s plain parts)
+    stands-visited : Simulates (visited_at seat number answer s plain parts)
     stands-visited =
-        subst (λ (q : LocalState). Stands (has_visited seat number s.steps q s.inside plain parts)) visit.shows
+        subst (λ (q : LocalState). Simulates (has_visited seat number s.steps q s.inside plain parts)) visit.shows
         (visit-stands parts whole.stands seat attempt is s.steps visit.place s.inside plain
         (visited parts whole.stands seat attempt is s.steps visit.place s.inside plain visit.visit) left')
 
-    alone-visited : RunsAlone (visited_at seat number answer s plain parts)
+    alone-visited : RunsExclusively (visited_at seat number answer s plain parts)
     alone-visited =
-        subst (λ (q : LocalState). RunsAlone (has_visited seat number s.steps q s.inside plain parts)) visit.shows
+        subst (λ (q : LocalState). RunsExclusively (has_visited seat number s.steps q s.inside plain parts)) visit.shows
         (visit-alone parts whole.stands whole.alone seat attempt is s.steps visit.place s.inside plain
         (visited parts whole.stands seat attempt is s.steps visit.place s.inside plain visit.visit))
 
@@ -162,7 +162,7 @@ module _ {C V M : Type 0} (program : C → Tree) (devices : C → ℕ) (is_value
 
       pub end-fresh : (i : ℕ) → core.next ≤ i → find i roomy.members ≡ None
       end-fresh i above =
-          ap (λ (ms : List (Member M)). find i ms) members-same ∙ none-told (term_shown stage core.code) i core.pool (plain-free i above)
+          ap (λ (ms : List (Member M)). find i ms) members-same ∙ none-told (term_shown meaning.stage core.code) i core.pool (plain-free i above)
 
       pub end-room : count ≤ roomy.room
       end-room = let a : roomy.room ≡ max core.pool.room count = ap (λ (p : Roster M). p.room) roomy_is in omega (arith, a)
@@ -176,38 +176,38 @@ module _ {C V M : Type 0} (program : C → Tree) (devices : C → ℕ) (is_value
         pub end-busy : IsAt is_busy number joined
         end-busy =
             let below = below-next parts whole.stands seat number (ap member_of is) in
-            busy-told (term_shown stage core.code) number joined
+            busy-told (term_shown meaning.stage core.code) number joined
             (subst (IsAt (is_busy_as false) number) (sym joined-shown)
             ((newcomers-keep core.next s.spawns parts.pool plain-free number below).busy false its-visit.work.busy))
 
         -- all that the engine has then
-        module _ (sent : M) (final : Roster M) (kept : stage core.code sent ≡ record s { spawns = [] })
-            (sends : shown final ≡ exchanged number (stage core.code sent).term (stage core.code sent).inside (shown joined))
-            (machine-now : is_machine now.code m) (settles-now : SettlesThere (stage now.code m))
-            (join-machine : is_machine core.code m → is_machine core.code sent)
-            (join-rests : is_machine core.code m → All (IsAtRest is_machine stage core.code) roomy.members → All (IsAtRest is_machine stage core.code) joined.members)
-            (send-rests : is_machine core.code sent → SettlesThere (stage core.code sent) → All (IsAtRest is_machine stage core.code) joined.members
-            → All (IsAtRest is_machine stage core.code) final.members)
+        module _ (sent : M) (final : Roster M) (kept : meaning.stage core.code sent ≡ record s { spawns = [] })
+            (sends : shown final ≡ exchanged number (meaning.stage core.code sent).term (meaning.stage core.code sent).inside (shown joined))
+            (machine-now : meaning.is_machine now.code m) (settles-now : SettlesThere (meaning.stage now.code m))
+            (join-machine : meaning.is_machine core.code m → meaning.is_machine core.code sent)
+            (join-rests : meaning.is_machine core.code m → All (IsAtRest meaning.is_machine meaning.stage core.code) roomy.members → All (IsAtRest meaning.is_machine meaning.stage core.code) joined.members)
+            (send-rests : meaning.is_machine core.code sent → SettlesThere (meaning.stage core.code sent) → All (IsAtRest meaning.is_machine meaning.stage core.code) joined.members
+            → All (IsAtRest meaning.is_machine meaning.stage core.code) final.members)
             (join-good : IsGoodPool roomy → IsGoodPool joined) (send-good : IsGoodPool joined → IsGoodPool final)
-            (desk : Contents V) (desk_is : desk ≡ changed_by (λ v. v) change core.desk) (good-now : IsGoodChange (is_value now.code) change)
+            (memory : MemoryView V) (memory_is : memory ≡ changed_by (λ v. v) change core.memory) (good-now : IsGoodChange (meaning.is_value now.code) change)
             (printed output prints : List ℤ) (prints_are : prints ≡ s.prints) (printed_is : printed ≡ core.output) (appends : output ≡ printed ++ prints)
             (written text added bytes : List ℕ) (told : List ℤ) (told_are : told ≡ s.prints) (bytes_are : bytes ≡ lines told) (added_is : added ≡ bytes)
             (written_is : written ≡ core.text) (writes : text ≡ written ++ added)
             (before entries : List Entry) (entry : Entry) (entry_is : entry ≡ free_entry seat number s.steps (with_answer answer (place_shown s)))
             (before_is : before ≡ core.entries) (pushes : entries ≡ before ++ entry ∷ []) (next : ℕ) (next_is : next ≡ core.next + count) where
-          machine' : is_machine core.code m
-          machine' = subst (λ (x : Core C V M). is_machine x.code m) (sym view) machine-now
+          machine' : meaning.is_machine core.code m
+          machine' = subst (λ (x : Core C V M). meaning.is_machine x.code m) (sym view) machine-now
 
           settles' : SettlesThere s
-          settles' = subst (λ (x : Core C V M). SettlesThere (stage x.code m)) (sym view) settles-now
+          settles' = subst (λ (x : Core C V M). SettlesThere (meaning.stage x.code m)) (sym view) settles-now
 
-          good-change : IsGoodChange (is_value core.code) change
-          good-change = subst (λ (x : Core C V M). IsGoodChange (is_value x.code) change) (sym view) good-now
+          good-change : IsGoodChange (meaning.is_value core.code) change
+          good-change = subst (λ (x : Core C V M). IsGoodChange (meaning.is_value x.code) change) (sym view) good-now
 
-          rests : All (IsAtRest is_machine stage core.code) final.members
+          rests : All (IsAtRest meaning.is_machine meaning.stage core.code) final.members
           rests =
               send-rests (join-machine machine') (subst SettlesThere (sym kept) settles')
-              (join-rests machine' (subst (λ (ms : List (Member M)). All (IsAtRest is_machine stage core.code) ms) (sym members-same) whole.members))
+              (join-rests machine' (subst (λ (ms : List (Member M)). All (IsAtRest meaning.is_machine meaning.stage core.code) ms) (sym members-same) whole.members))
 
           roomy-good : IsGoodPool (with_room count core.pool)
           roomy-good = record { rising = whole.pool.rising; few = whole.pool.few }
@@ -218,7 +218,7 @@ module _ {C V M : Type 0} (program : C → Tree) (devices : C → ℕ) (is_value
           abbrev after : Core C V M
           after = record core {
             entries = entries;
-            desk = desk;
+            memory = memory;
             tasks = slice_set core.tasks seat Task.Idle;
             pool = final;
             output = output;
@@ -243,18 +243,18 @@ module _ {C V M : Type 0} (program : C → Tree) (devices : C → ℕ) (is_value
           next-is : next ≡ core.next + length s.spawns
           next-is = next_is ∙ ap (λ (n : ℕ). core.next + n) count_is
 
-          desk-shown : shown_desk (value_of core.code) desk ≡ plain
-          desk-shown = ap (shown_desk (value_of core.code)) desk_is ∙ changed-shown (value_of core.code) change core.desk
+          memory-shown : shown_memory (meaning.value_of core.code) memory ≡ plain
+          memory-shown = ap (shown_memory (meaning.value_of core.code)) memory_is ∙ changed-shown (meaning.value_of core.code) change core.memory
 
           pool-shown : shown final ≡ exchanged number s.term s.inside (with_newcomers core.next s.spawns parts.pool)
           pool-shown =
-              sends ∙ ap (λ (x : Stage). exchanged number x.term x.inside (shown joined)) kept
+              sends ∙ ap (λ (x : MachineView). exchanged number x.term x.inside (shown joined)) kept
               ∙ ap (exchanged number s.term s.inside) joined-shown
 
-          parts-with : Contents Val → Roster Tree → List ℤ → List Entry → ℕ → Parts
+          parts-with : MemoryView Val → Roster Tree → List ℤ → List Entry → ℕ → Parts
           parts-with d p o es n = record parts {
             entries = es;
-            desk = d;
+            memory = d;
             tasks = slice_set core.tasks seat Task.Idle;
             pool = p;
             output = o;
@@ -262,9 +262,9 @@ module _ {C V M : Type 0} (program : C → Tree) (devices : C → ℕ) (is_value
             turns = core.turns + 1;
           }
 
-          visited-parts : parts_of program devices value_of stage after ≡ visited_at seat number answer s plain parts
+          visited-parts : parts_of meaning after ≡ visited_at seat number answer s plain parts
           unfolding parts-with
-          visited-parts = λ i. parts-with (desk-shown i) (pool-shown i) (output-is i) (entries-are i) (next-is i)
+          visited-parts = λ i. parts-with (memory-shown i) (pool-shown i) (output-is i) (entries-are i) (next-is i)
 
           is-visited : Visited parts whole.stands seat number s.steps visit.place s.inside plain
           is-visited = visited parts whole.stands seat attempt is s.steps visit.place s.inside plain visit.visit
@@ -281,39 +281,39 @@ module _ {C V M : Type 0} (program : C → Tree) (devices : C → ℕ) (is_value
               whole.stands plain s.term s.inside s.spawns (parts.output ++ s.prints) (parts.next + length s.spawns) (parts.turns + 1) whole.once
 
           bounded-visited : core.stop ≡ None → attempt.tried.steps ≤ s.steps
-              → IsBounded core.stop (one_counted Counted.Free core.counters) (visited_at seat number answer s plain parts)
+              → KeepsBounds core.stop (one_counted Counted.Free core.counters) (visited_at seat number answer s plain parts)
           bounded-visited none low =
-              subst (λ (q : LocalState). IsBounded core.stop (one_counted Counted.Free core.counters) (has_visited seat number s.steps q s.inside plain parts)) visit.shows
+              subst (λ (q : LocalState). KeepsBounds core.stop (one_counted Counted.Free core.counters) (has_visited seat number s.steps q s.inside plain parts)) visit.shows
               (visited-bounded parts whole.stands core.stop none (ap (λ (o : Option Stop). is_some o) none) core.counters (one_counted Counted.Free core.counters)
-              whole.bounds refl seat attempt is (within-shown (term_shown stage core.code) core.pool whole.pool.few) s.steps visit.place s.inside plain visit.visit low)
+              whole.bounds refl seat attempt is (within-shown (term_shown meaning.stage core.code) core.pool whole.pool.few) s.steps visit.place s.inside plain visit.visit low)
 
-          pub whole-visited : now.stop ≡ None → attempt.tried.steps ≤ (stage now.code m).steps
-              → IsWhole program devices is_value value_of is_machine stage after
+          pub whole-visited : now.stop ≡ None → attempt.tried.steps ≤ (meaning.stage now.code m).steps
+              → IsSound meaning after
           whole-visited going low = record {
-            stands = subst Stands (sym visited-parts) stands-visited;
+            stands = subst Simulates (sym visited-parts) stands-visited;
             limits = whole.limits;
-            desk = subst (IsGoodDesk (is_value core.code)) (sym desk_is) (changed-good (is_value core.code) change core.desk good-change whole.desk);
+            memory = subst (IsGoodMemory (meaning.is_value core.code)) (sym memory_is) (changed-good (meaning.is_value core.code) change core.memory good-change whole.memory);
             members = rests;
             pool = good;
-            alone = subst RunsAlone (sym visited-parts) alone-visited;
-            lone = lone-left parts (parts_of program devices value_of stage after) whole.stands core.counters (one_counted Counted.Free core.counters)
+            alone = subst RunsExclusively (sym visited-parts) alone-visited;
+            lone = lone-left parts (parts_of meaning after) whole.stands core.counters (one_counted Counted.Free core.counters)
                 whole.lone seat end-within refl refl refl Task.Idle refl (λ t e. let clash : Task.Idle ≡ Task.Running t = e in cc);
-            bounds = subst (IsBounded core.stop (one_counted Counted.Free core.counters)) (sym visited-parts)
+            bounds = subst (KeepsBounds core.stop (one_counted Counted.Free core.counters)) (sym visited-parts)
                 (bounded-visited (subst (λ (x : Core C V M). x.stop ≡ None) (sym view) going)
-                (subst (λ (x : Core C V M). attempt.tried.steps ≤ (stage x.code m).steps) (sym view) low));
+                (subst (λ (x : Core C V M). attempt.tried.steps ≤ (meaning.stage x.code m).steps) (sym view) low));
             waiting = subst AreWaiting (sym visited-parts) waits-visited;
             once = subst AreNotedOnce (sym visited-parts) once-visited;
-            caused = going-cause parts (parts_of program devices value_of stage after) core.stop
+            caused = going-cause parts (parts_of meaning after) core.stop
                 (subst (λ (x : Core C V M). x.stop ≡ None) (sym view) going) core.certificates whole.caused
                 (free_entry seat number s.steps (with_answer answer (place_shown s))) entries-are refl;
             counters = one-counts core.turns core.counters whole.counters Counted.Free;
             text = text-is;
           }
 
-          pub makes-visited : MakesEvent program devices value_of stage (one_counted Counted.Free)
-              (visited_at seat number answer (stage now.code m)
-              (changed_by (value_of now.code) change (parts_of program devices value_of stage now).desk)) now after
+          pub makes-visited : MakesEvent meaning (one_counted Counted.Free)
+              (visited_at seat number answer (meaning.stage now.code m)
+              (changed_by (meaning.value_of now.code) change (parts_of meaning now).memory)) now after
           makes-visited =
-              subst (λ (x : Core C V M). MakesEvent program devices value_of stage (one_counted Counted.Free)
-              (visited_at seat number answer (stage x.code m) (changed_by (value_of x.code) change (parts_of program devices value_of stage x).desk)) x after) view
+              subst (λ (x : Core C V M). MakesEvent meaning (one_counted Counted.Free)
+              (visited_at seat number answer (meaning.stage x.code m) (changed_by (meaning.value_of x.code) change (parts_of meaning x).memory)) x after) view
               (record { code = refl; parts = visited-parts; counted = refl; stop = refl })

@@ -10,27 +10,27 @@ use Rattle.ame_term.specs.State.{closed_value}
 use Rattle.ame_term.specs.declared.types.TyNo.{TyNo}
 use Rattle.ame_device.specs.declared.told.Told.{Told}
 use Rattle.ame_journal.specs.Replay.{redex_act}
-use Rattle.ame_local.specs.Local.{LocalState, begun_with, fed, refilled_in, local}
-use Rattle.ame_local.proofs.RunLemmas.{one-more}
-use Rattle.ame_desk.specs.Contents.{Notes, Contents, row_at}
-use Rattle.ame_owed.specs.SeatRun.{StandsAt}
-use Rattle.ame_runner.specs.declared.wants.Wants.{Wants}
-use Rattle.ame_runner.specs.declared.wants.Wants.TheVariants as wants
-use Rattle.ame_runner.specs.Stage.{Stage, running_side, place_shown, without_footprint, with_answer, OnRun}
-use Rattle.ame_runner.specs.Need.{Need, need_of, need_told}
-use Rattle.ame_runner.specs.Move.{fed_stage, closed_stage, closed_with, tells_leave, answer_given}
-use Rattle.ame_runner.specs.Input.{value_set, value_to_set}
-use Rattle.ame_runner.specs.Comes.{HasNextAct}
-use Rattle.ame_runner.specs.Sound.{IsSoundStage}
-use Rattle.ame_runner.proofs.NeedLemmas.{comes_as}
-use Rattle.ame_runner.proofs.MoveLemmas.{map-gave, on-place, fed-to, on-fed}
-use Rattle.ame_stands.specs.declared.types.Attempt.{Attempt}
-use Rattle.ame_stands.specs.declared.types.Task.{Task}
-use Rattle.ame_stands.specs.Parts.{Parts, task_at, term_at}
-use Rattle.ame_stands.specs.Stands.{Stands}
-use Rattle.ame_visits.specs.ByAct.{IsGivenBy, desk_after}
-use Rattle.ame_visits.specs.Visit.{closed_at, StepsTo, IsVisit}
-use Rattle.ame_visits.proofs.PlaceLemmas.{visits, alone}
+use Rattle.ame_machine.specs.Run.Local.{LocalState, begun_with, fed, refilled_in, local}
+use Rattle.ame_machine.proofs.Run.RunLemmas.{one-more}
+use Rattle.ame_rows.specs.MemoryView.{Log, MemoryView, row_at}
+use Rattle.ame_protocol.specs.Row.SeatRun.{StandsAt}
+use Rattle.ame_machine.specs.declared.wants.Wants.{Wants}
+use Rattle.ame_machine.specs.declared.wants.Wants.TheVariants as wants
+use Rattle.ame_machine.specs.MachineView.{MachineView, running_side, place_shown, without_footprint, with_answer, OnRun}
+use Rattle.ame_machine.specs.Need.{Need, need_of, need_told}
+use Rattle.ame_machine.specs.Move.{fed_stage, closed_stage, closed_with, tells_leave, answer_given}
+use Rattle.ame_machine.specs.Input.{value_set, value_to_set}
+use Rattle.ame_machine.specs.Comes.{HasNextAct}
+use Rattle.ame_machine.specs.Sound.{IsSoundStage}
+use Rattle.ame_machine.proofs.NeedLemmas.{comes_as}
+use Rattle.ame_machine.proofs.MoveLemmas.{map-gave, on-place, fed-to, on-fed}
+use Rattle.ame_protocol.specs.declared.types.Attempt.{Attempt}
+use Rattle.ame_protocol.specs.declared.types.Task.{Task}
+use Rattle.ame_protocol.specs.Engine.Parts.{Parts, task_at, term_at}
+use Rattle.ame_protocol.specs.Engine.Simulates.{Simulates}
+use Rattle.ame_protocol.specs.Visits.ByAct.{IsGivenBy, memory_after}
+use Rattle.ame_protocol.specs.Visits.Visit.{closed_at, StepsTo, IsVisit}
+use Rattle.ame_protocol.proofs.Visits.PlaceLemmas.{visits, alone}
 use Rattle.ame_engine.specs.AtWork.{is_free, working, IsOnSeat}
 use Rattle.ame_engine.specs.Visiting.{IsVisiting, VisitsTo, IsVisitTo, SettlesThere}
 
@@ -41,35 +41,35 @@ free-attempt (Task.Free b) a e free = ap Task.Free (ap (λ (o : Option Attempt).
 free-attempt (Task.Undoing b reason) a e free = cc
 
 -- a visit takes back no step
-grows-fed : (s : Stage) (v : Val) (n : Stage) → fed_stage v s ≡ Some n → s.steps ≤ n.steps
-grows-fed s v n e = let x = fed-to v s n e in let more = ap (λ (z : Stage). z.steps) x.is in omega (arith, more)
+grows-fed : (s : MachineView) (v : Val) (n : MachineView) → fed_stage v s ≡ Some n → s.steps ≤ n.steps
+grows-fed s v n e = let x = fed-to v s n e in let more = ap (λ (z : MachineView). z.steps) x.is in omega (arith, more)
 
-pub visit-grows : (s : Stage) (desk : Contents Val) (before : List Told) (answer : Option ℤ) (n : Stage) (later : Contents Val) (after : List Told)
-    → VisitsTo s desk before answer n later after → s.steps ≤ n.steps
-visit-grows s desk before _ _ _ _ (VisitsTo.rests still) = omega arith
-visit-grows s desk before _ _ _ _ (VisitsTo.reads l v n its is fed) = grows-fed s v n fed
-visit-grows s desk before _ _ _ _ (VisitsTo.peeks l v n its is fed) = grows-fed s v n fed
-visit-grows s desk before _ _ _ _ (VisitsTo.writes l v n its sets fed) = grows-fed s Val.Unit n fed
-visit-grows s desk before _ _ _ _ (VisitsTo.makes sort number v n its sets fed) = grows-fed s (Val.Loc (length desk.cells)) n fed
-visit-grows s desk before _ _ _ _ (VisitsTo.spawns n its fed) = grows-fed s Val.Unit n fed
-visit-grows s desk before _ _ _ _ (VisitsTo.prints i n its fed) = grows-fed s Val.Unit n fed
-visit-grows s desk before _ _ _ _ (VisitsTo.closes n its closes) =
-    let x = map-gave (closed_with s) (closed_value (focus s.term)) n closes in let more = ap (λ (z : Stage). z.steps) x.2 in omega (arith, more)
-visit-grows s desk before _ _ _ _ (VisitsTo.calls device argument answer n after its called fed) = grows-fed s (Val.Int answer) n fed
+pub visit-grows : (s : MachineView) (memory : MemoryView Val) (before : List Told) (answer : Option ℤ) (n : MachineView) (later : MemoryView Val) (after : List Told)
+    → VisitsTo s memory before answer n later after → s.steps ≤ n.steps
+visit-grows s memory before _ _ _ _ (VisitsTo.rests still) = omega arith
+visit-grows s memory before _ _ _ _ (VisitsTo.reads l v n its is fed) = grows-fed s v n fed
+visit-grows s memory before _ _ _ _ (VisitsTo.peeks l v n its is fed) = grows-fed s v n fed
+visit-grows s memory before _ _ _ _ (VisitsTo.writes l v n its sets fed) = grows-fed s Val.Unit n fed
+visit-grows s memory before _ _ _ _ (VisitsTo.makes sort number v n its sets fed) = grows-fed s (Val.Loc (length memory.cells)) n fed
+visit-grows s memory before _ _ _ _ (VisitsTo.spawns n its fed) = grows-fed s Val.Unit n fed
+visit-grows s memory before _ _ _ _ (VisitsTo.prints i n its fed) = grows-fed s Val.Unit n fed
+visit-grows s memory before _ _ _ _ (VisitsTo.closes n its closes) =
+    let x = map-gave (closed_with s) (closed_value (focus s.term)) n closes in let more = ap (λ (z : MachineView). z.steps) x.2 in omega (arith, more)
+visit-grows s memory before _ _ _ _ (VisitsTo.calls device argument answer n after its called fed) = grows-fed s (Val.Int answer) n fed
 
 -- the task of a seat that visits
-pub visits-as : (parts : Parts) (seat : ℕ) (s : Stage) (on : IsOnSeat parts seat s) → s.inside ≡ true → task_at parts.tasks seat ≡ Task.Free on.attempt
+pub visits-as : (parts : Parts) (seat : ℕ) (s : MachineView) (on : IsOnSeat parts seat s) → s.inside ≡ true → task_at parts.tasks seat ≡ Task.Free on.attempt
 visits-as parts seat s on inside = free-attempt (task_at parts.tasks seat) on.attempt on.has (sym on.side ∙ inside)
 
-module _ (parts : Parts) (stands : Stands parts) (seat : ℕ) (s : Stage) (on : IsOnSeat parts seat s) (inside : s.inside ≡ true) where
+module _ (parts : Parts) (stands : Simulates parts) (seat : ℕ) (s : MachineView) (on : IsOnSeat parts seat s) (inside : s.inside ≡ true) where
   abbrev start : Tree
   start = term_at parts.pool on.attempt.tried.number
 
   task : task_at parts.tasks seat ≡ Task.Free on.attempt
   task = visits-as parts seat s on inside
 
-  none-given : (row_at parts.desk.rows seat).inputs ≡ []
-  none-given = ap (λ (notes : Notes Val). notes.inputs) (visits parts stands seat on.attempt task).clear
+  none-given : (row_at parts.memory.rows seat).inputs ≡ []
+  none-given = ap (λ (notes : Log Val). notes.inputs) (visits parts stands seat on.attempt task).clear
 
   on-alone : OnRun start [] s
   on-alone = subst (λ (inputs : List Val). OnRun start inputs s) none-given on.run
@@ -85,11 +85,11 @@ module _ (parts : Parts) (stands : Stands parts) (seat : ℕ) (s : Stage) (on : 
       ran ∙ ap Some (same ∙ o.shown)
 
   -- an act with what it is given
-  module _ (act : Act) (at : HasNextAct s act) (v : Val) (given : IsGivenBy parts.desk act v) (ty : TyNo) (n : Stage) (e : fed_stage v s ≡ Some n) where
+  module _ (act : Act) (at : HasNextAct s act) (v : Val) (given : IsGivenBy parts.memory act v) (ty : TyNo) (n : MachineView) (e : fed_stage v s ≡ Some n) where
     unprotected-side : running_side s ≡ Side.Unprotected
     unprotected-side = ap side_told inside
 
-    pub acted-visit : IsVisitTo parts on.attempt.tried.number (answer_given (Some act) v) n (desk_after ty act parts.desk)
+    pub acted-visit : IsVisitTo parts on.attempt.tried.number (answer_given (Some act) v) n (memory_after ty act parts.memory)
     acted-visit =
         let x = fed-to v s n e in
         let which : Some (act_of x.redex) ≡ Some act = sym (ap redex_act x.stands) ∙ ap redex_act at.1 ∙ ap (λ (a : Act). Some a) at.2 in
@@ -99,10 +99,10 @@ module _ (parts : Parts) (stands : Stands parts) (seat : ℕ) (s : Stage) (on : 
         let gives : fed act Side.Unprotected v (place_shown s) ≡ Some x.made =
         subst (λ (z : Side). fed act z v (place_shown s) ≡ Some x.made) unprotected-side
         (ap (λ (a : Act). fed a (running_side s) v (place_shown s)) (sym acts) ∙ x.gives) in
-        let steps : n.steps ≡ s.steps + 1 = ap (λ (z : Stage). z.steps) x.is in
-        let still : n.inside ≡ true = ap (λ (z : Stage). z.inside) x.is ∙ inside in
+        let steps : n.steps ≡ s.steps + 1 = ap (λ (z : MachineView). z.steps) x.is in
+        let still : n.inside ≡ true = ap (λ (z : MachineView). z.inside) x.is ∙ inside in
         let q = refilled_in s.term x.made in
-        let visit : IsVisit parts on.attempt.tried.number (s.steps + 1) q true (desk_after ty act parts.desk) =
+        let visit : IsVisit parts on.attempt.tried.number (s.steps + 1) q true (memory_after ty act parts.memory) =
         IsVisit.acted s.steps (place_shown s) act v x.made ty visit-steps stands_at given gives in
         let more = one-more Side.Unprotected (begun_with start []) (place_shown s) x.redex v s.steps x.made visit-steps refl refl
         (x.stands ∙ ap (λ (z : Side). Focus.AtRedex z x.redex) unprotected-side) (ap (λ (a : Act). fed a Side.Unprotected v (place_shown s)) acts ∙ gives) in
@@ -115,26 +115,26 @@ module _ (parts : Parts) (stands : Stands parts) (seat : ℕ) (s : Stage) (on : 
         record {
           place = q;
           visit =
-              subst (λ (b : Bool). IsVisit parts on.attempt.tried.number n.steps q b (desk_after ty act parts.desk)) (sym still)
-              (subst (λ (i : ℕ). IsVisit parts on.attempt.tried.number i q true (desk_after ty act parts.desk)) (sym steps) visit);
+              subst (λ (b : Bool). IsVisit parts on.attempt.tried.number n.steps q b (memory_after ty act parts.memory)) (sym still)
+              (subst (λ (i : ℕ). IsVisit parts on.attempt.tried.number i q true (memory_after ty act parts.memory)) (sym steps) visit);
           shows =
               ap (λ (o : Option LocalState). unwrap_or o q) both
               ∙ ap (λ (o : Option Act). with_answer (answer_given o v) (place_shown n)) (ap redex_act at.1 ∙ ap (λ (a : Act). Some a) at.2);
         }
 
   -- the close
-  pub closed-visit : (n : Stage) → closed_stage s ≡ Some n → IsVisitTo parts on.attempt.tried.number None n parts.desk
+  pub closed-visit : (n : MachineView) → closed_stage s ≡ Some n → IsVisitTo parts on.attempt.tried.number None n parts.memory
   closed-visit n e =
       let x = map-gave (closed_with s) (closed_value (focus s.term)) n e in
-      subst (λ (z : Stage). IsVisitTo parts on.attempt.tried.number None z parts.desk) x.2
+      subst (λ (z : MachineView). IsVisitTo parts on.attempt.tried.number None z parts.memory) x.2
       (record { place = closed_at x.0 (place_shown s); visit = IsVisit.closed s.steps (place_shown s) x.0 visit-steps x.1; shows = refl })
 
   -- steps alone
-  pub rested-visit : 0 < s.steps → IsVisitTo parts on.attempt.tried.number None s parts.desk
+  pub rested-visit : 0 < s.steps → IsVisitTo parts on.attempt.tried.number None s parts.memory
   rested-visit some = record {
     place = place_shown s;
     visit =
-        subst (λ (b : Bool). IsVisit parts on.attempt.tried.number s.steps (place_shown s) b parts.desk) (sym inside)
+        subst (λ (b : Bool). IsVisit parts on.attempt.tried.number s.steps (place_shown s) b parts.memory) (sym inside)
         (IsVisit.stepped s.steps (place_shown s) some visit-steps);
     shows = refl;
   }
@@ -149,8 +149,8 @@ module _ (parts : Parts) (stands : Stands parts) (seat : ℕ) (s : Stage) (on : 
         (sym its ∙ sym (ap value_set (ap redex_act at.1 ∙ ap (λ (a : Act). Some a) at.2)) ∙ is)
 
     -- each visit is one of the replayed state
-    pub visit-is : (answer : Option ℤ) (n : Stage) (desk : Contents Val) (after : List Told) → VisitsTo s parts.desk before answer n desk after
-        → IsVisitTo parts on.attempt.tried.number answer n desk
+    pub visit-is : (answer : Option ℤ) (n : MachineView) (memory : MemoryView Val) (after : List Told) → VisitsTo s parts.memory before answer n memory after
+        → IsVisitTo parts on.attempt.tried.number answer n memory
     visit-is _ _ _ _ (VisitsTo.rests still) = rested-visit (comes.moved still)
     visit-is _ _ _ _ (VisitsTo.reads l v n its is fed) =
         acted-visit (Act.Reads l.0) (comes_as s (Need.Read l.0) (need-there (wants.Read l) its)) v is (record { 0 = 0 }) n fed
@@ -159,13 +159,13 @@ module _ (parts : Parts) (stands : Stands parts) (seat : ℕ) (s : Stage) (on : 
     visit-is _ _ _ _ (VisitsTo.writes l v n its sets fed) =
         let c = comes_as s (Need.Write l.0) (need-there (wants.Write l) its) in
         let act = Act.Writes l.0 c.0 in
-        subst (λ (w : Val). IsVisitTo parts on.attempt.tried.number None n (desk_after (record { 0 = 0 }) (Act.Writes l.0 w) parts.desk)) (set-there act c.1 c.0 v refl sets)
+        subst (λ (w : Val). IsVisitTo parts on.attempt.tried.number None n (memory_after (record { 0 = 0 }) (Act.Writes l.0 w) parts.memory)) (set-there act c.1 c.0 v refl sets)
         (acted-visit act c.1 Val.Unit tt (record { 0 = 0 }) n fed)
     visit-is _ _ _ _ (VisitsTo.makes sort number v n its sets fed) =
         let c = comes_as s (Need.Alloc sort) (need-there (wants.Alloc sort number) its) in
         let act = Act.Allocates sort c.0 in
-        subst (λ (w : Val). IsVisitTo parts on.attempt.tried.number None n (desk_after number (Act.Allocates sort w) parts.desk)) (set-there act c.1 c.0 v refl sets)
-        (acted-visit act c.1 (Val.Loc (length parts.desk.cells)) refl number n fed)
+        subst (λ (w : Val). IsVisitTo parts on.attempt.tried.number None n (memory_after number (Act.Allocates sort w) parts.memory)) (set-there act c.1 c.0 v refl sets)
+        (acted-visit act c.1 (Val.Loc (length parts.memory.cells)) refl number n fed)
     visit-is _ _ _ _ (VisitsTo.spawns n its fed) =
         let c = comes_as s Need.Spawn (need-there wants.Spawn its) in acted-visit (Act.Spawns c.1.0) c.1.1 Val.Unit tt (record { 0 = 0 }) n fed
     visit-is _ _ _ _ (VisitsTo.prints i n its fed) =
@@ -176,22 +176,22 @@ module _ (parts : Parts) (stands : Stands parts) (seat : ℕ) (s : Stage) (on : 
         acted-visit (Act.Calls device argument) c.1 (Val.Int answer) tt (record { 0 = 0 }) n fed
 
     -- a machine that was fed settles where it is
-    settles-fed : (v : Val) (n : Stage) → fed_stage v s ≡ Some n → SettlesThere n
-    settles-fed v n e = let x = fed-to v s n e in ap (λ (o : Option Wants). tells_leave o || n.inside) (ap (λ (z : Stage). z.want) x.is)
+    settles-fed : (v : Val) (n : MachineView) → fed_stage v s ≡ Some n → SettlesThere n
+    settles-fed v n e = let x = fed-to v s n e in ap (λ (o : Option Wants). tells_leave o || n.inside) (ap (λ (z : MachineView). z.want) x.is)
 
     settles-here : (b : Bool) → (b || s.inside) ≡ s.inside
     settles-here true = sym inside
     settles-here false = refl
 
-    pub visit-settles : (answer : Option ℤ) (n : Stage) (desk : Contents Val) (after : List Told) → VisitsTo s parts.desk before answer n desk after → SettlesThere n
+    pub visit-settles : (answer : Option ℤ) (n : MachineView) (memory : MemoryView Val) (after : List Told) → VisitsTo s parts.memory before answer n memory after → SettlesThere n
     visit-settles _ _ _ _ (VisitsTo.rests still) = settles-here (tells_leave s.want)
     visit-settles _ _ _ _ (VisitsTo.reads l v n its is fed) = settles-fed v n fed
     visit-settles _ _ _ _ (VisitsTo.peeks l v n its is fed) = settles-fed v n fed
     visit-settles _ _ _ _ (VisitsTo.writes l v n its sets fed) = settles-fed Val.Unit n fed
-    visit-settles _ _ _ _ (VisitsTo.makes sort number v n its sets fed) = settles-fed (Val.Loc (length parts.desk.cells)) n fed
+    visit-settles _ _ _ _ (VisitsTo.makes sort number v n its sets fed) = settles-fed (Val.Loc (length parts.memory.cells)) n fed
     visit-settles _ _ _ _ (VisitsTo.spawns n its fed) = settles-fed Val.Unit n fed
     visit-settles _ _ _ _ (VisitsTo.prints i n its fed) = settles-fed Val.Unit n fed
     visit-settles _ _ _ _ (VisitsTo.closes n its closes) =
         let x = map-gave (closed_with s) (closed_value (focus s.term)) n closes in
-        ap (λ (o : Option Wants). tells_leave o || n.inside) (ap (λ (z : Stage). z.want) (sym x.2))
+        ap (λ (o : Option Wants). tells_leave o || n.inside) (ap (λ (z : MachineView). z.want) (sym x.2))
     visit-settles _ _ _ _ (VisitsTo.calls device argument answer n after its called fed) = settles-fed (Val.Int answer) n fed

@@ -4,7 +4,7 @@ use Rattle.std.specs.Prelude.{ℤ, slice_get, unwrap_or}
 use Rattle.std.specs.Option.{ForSome}
 use Rattle.std.proofs.lemmas.List.{length-map}
 use Rattle.std.proofs.lemmas.Option.{slice_get-map, get_or_from_slice_get}
-use Rattle.ame_term.specs.Tree.{Val, Tree}
+use Rattle.ame_term.specs.Tree.{Val}
 use Rattle.ame_term.specs.Frame.{Side, side_told}
 use Rattle.ame_term.specs.Context.{Focus}
 use Rattle.ame_term.specs.Act.{Act}
@@ -14,40 +14,41 @@ use Rattle.ame_term.specs.declared.types.TyNo.{TyNo}
 use Rattle.ame_device.specs.declared.told.Told.{Told}
 use Rattle.ame_store.specs.declared.cell.Cell.{Cell}
 use Rattle.ame_store.specs.Cells.{IsFree, CanGrow}
-use Rattle.ame_local.specs.Local.{LocalState}
-use Rattle.ame_desk.specs.Committed.{committed}
-use Rattle.ame_desk.proofs.LookupLemmas.{all_at}
-use Rattle.ame_owed.specs.Heap.{no_cell, cell_at, IsCell}
-use Rattle.ame_owed.specs.SeatRun.{StandsAt}
-use Rattle.ame_owed.specs.Shown.{shown_cell}
-use Rattle.ame_owed.specs.Free.{MeetsLive}
-use Rattle.ame_runner.specs.declared.wants.Wants.{Wants}
-use Rattle.ame_runner.specs.declared.wants.Wants.TheVariants as wants
-use Rattle.ame_runner.specs.declared.wants.Input.TheVariants as input
-use Rattle.ame_runner.specs.Stage.{Stage, place_shown}
-use Rattle.ame_runner.specs.Need.{Need, need_of, need_told}
-use Rattle.ame_runner.specs.Move.{after_input}
-use Rattle.ame_runner.specs.Input.{is_wanted, value_to_set}
-use Rattle.ame_runner.specs.Comes.{HasNextAct}
-use Rattle.ame_runner.specs.Sound.{IsSoundStage}
-use Rattle.ame_runner.specs.Acting.{takes_input}
-use Rattle.ame_runner.proofs.NeedLemmas.{comes_as}
-use Rattle.ame_runner.proofs.FeedLemmas.{fed-location}
-use Rattle.ame_stands.specs.declared.types.Task.{Task}
-use Rattle.ame_stands.specs.Parts.{Parts, heap_in, task_at, term_at}
-use Rattle.ame_stands.proofs.ShownDeskLemmas.{committed-shown}
-use Rattle.ame_stands.proofs.ToldLemmas.{cells-grow, cells-few}
-use Rattle.ame_visits.specs.Visit.{StepsTo}
-use Rattle.ame_visits.proofs.PlaceLemmas.{alone, read-met, write-met, peek-met, free-there, in-place, some-there}
+use Rattle.ame_machine.specs.Run.Local.{LocalState}
+use Rattle.ame_rows.specs.Committed.{committed}
+use Rattle.ame_rows.proofs.LookupLemmas.{all_at}
+use Rattle.ame_protocol.specs.Row.Heap.{no_cell, cell_at, IsCell}
+use Rattle.ame_protocol.specs.Row.SeatRun.{StandsAt}
+use Rattle.ame_protocol.specs.Row.Shown.{shown_cell}
+use Rattle.ame_protocol.specs.Row.Free.{MeetsLive}
+use Rattle.ame_machine.specs.declared.wants.Wants.{Wants}
+use Rattle.ame_machine.specs.declared.wants.Wants.TheVariants as wants
+use Rattle.ame_machine.specs.declared.wants.Input.TheVariants as input
+use Rattle.ame_machine.specs.MachineView.{MachineView, place_shown}
+use Rattle.ame_machine.specs.Need.{Need, need_of, need_told}
+use Rattle.ame_machine.specs.Move.{after_input}
+use Rattle.ame_machine.specs.Input.{is_wanted, value_to_set}
+use Rattle.ame_machine.specs.Comes.{HasNextAct}
+use Rattle.ame_machine.specs.Sound.{IsSoundStage}
+use Rattle.ame_machine.specs.Acting.{takes_input}
+use Rattle.ame_machine.proofs.NeedLemmas.{comes_as}
+use Rattle.ame_machine.proofs.FeedLemmas.{fed-location}
+use Rattle.ame_protocol.specs.declared.types.Task.{Task}
+use Rattle.ame_protocol.specs.Engine.Parts.{Parts, heap_in, task_at, term_at}
+use Rattle.ame_protocol.proofs.Engine.ShownMemoryLemmas.{committed-shown}
+use Rattle.ame_protocol.proofs.Engine.ToldLemmas.{cells-grow, cells-few}
+use Rattle.ame_protocol.specs.Visits.Visit.{StepsTo}
+use Rattle.ame_protocol.proofs.Visits.PlaceLemmas.{alone, read-met, write-met, peek-met, free-there, in-place, some-there}
 use Rattle.ame_engine.specs.declared.engine.free.change.Change.{Change}
 use Rattle.ame_engine.specs.declared.engine.free.change.Change.TheVariants as changes
 use Rattle.ame_engine.specs.Core.{Core}
 use Rattle.ame_engine.specs.Seen.{parts_of}
-use Rattle.ame_engine.specs.Whole.{IsWhole}
+use Rattle.ame_engine.specs.Whole.{IsSound}
 use Rattle.ame_engine.specs.AtWork.{IsOnSeat, IsOn}
 use Rattle.ame_engine.specs.Visiting.{IsVisiting, VisitsTo, HasMadeItsStep}
 use Rattle.ame_engine.proofs.VisitPlaceLemmas.{visits-as, visit-steps}
-use Rattle.ame_engine.proofs.VisitDeskLemmas.{committed-good}
+use Rattle.ame_engine.proofs.VisitMemoryLemmas.{committed-good}
+use Rattle.ame_machine.specs.Meaning.{Meaning}
 
 some-before : {X Y : Type 0} (f : X → Y) (o : Option X) → IsSome (option_map f o) → IsSome o
 some-before f None h = h
@@ -57,27 +58,26 @@ the-some : {X : Type 0} (o : Option X) → IsSome o → (x : X) × (o ≡ Some x
 the-some None h = absurd (let clash : false ≡ true = h in cc)
 the-some (Some x) h = (x, refl)
 
-abbrev Reads : Stage → Loc → Type 0
+abbrev Reads : MachineView → Loc → Type 0
 Reads s l = (s.want ≡ Some (wants.Read l)) ⊎ (s.want ≡ Some (wants.Peek l))
 
-wanted-value : {V : Type 0} (s : Stage) (l : Loc) (v : V) → Reads s l → is_wanted s.want (input.Value v) ≡ true
+wanted-value : {V : Type 0} (s : MachineView) (l : Loc) (v : V) → Reads s l → is_wanted s.want (input.Value v) ≡ true
 wanted-value s l v (inl e) = ap (λ (o : Option Wants). is_wanted o (input.Value v)) e
 wanted-value s l v (inr e) = ap (λ (o : Option Wants). is_wanted o (input.Value v)) e
 
-abbrev IsAccepted : Stage → Type 0
+abbrev IsAccepted : MachineView → Type 0
 IsAccepted s = (s.want ≡ Some wants.Spawn) ⊎ (((i : ℤ) × (s.want ≡ Some (wants.Print i))) ⊎ (s.want ≡ Some wants.Close))
 
-wanted-unit : (V : Type 0) (s : Stage) → IsAccepted s → is_wanted {V = V} s.want input.Unit ≡ true
+wanted-unit : (V : Type 0) (s : MachineView) → IsAccepted s → is_wanted {V = V} s.want input.Unit ≡ true
 wanted-unit V s (inl e) = ap (λ (o : Option Wants). is_wanted {V = V} o input.Unit) e
 wanted-unit V s (inr (inl e)) = ap (λ (o : Option Wants). is_wanted {V = V} o input.Unit) e.1
 wanted-unit V s (inr (inr e)) = ap (λ (o : Option Wants). is_wanted {V = V} o input.Unit) e
 
 -- It is left where it stands
 
-module _ {C V M : Type 0} (program : C → Tree) (devices : C → ℕ) (is_value : C → V → Type 0) (value_of : C → V → Val)
-    (is_machine : C → M → Type 0) (stage : C → M → Stage) (core : Core C V M) (m : M) where
-  pub served-left : is_machine core.code m → takes_input (stage core.code m).want ≡ false
-      → HasMadeItsStep program devices is_value value_of is_machine stage core m m changes.Stays
+module _ {C V M : Type 0} (meaning : Meaning C V M) (core : Core C V M) (m : M) where
+  pub served-left : meaning.is_machine core.code m → takes_input (meaning.stage core.code m).want ≡ false
+      → HasMadeItsStep meaning core m m changes.Stays
   served-left machine still = record { machine = machine; visits = λ told. VisitsTo.rests still; good = tt; fits = tt; lone = λ clash. absurd (none clash) }
     where
       none : false ≡ true → ⊥
@@ -85,33 +85,32 @@ module _ {C V M : Type 0} (program : C → Tree) (devices : C → ℕ) (is_value
 
 -- It is given what it wants
 
-module _ {C V M : Type 0} (program : C → Tree) (devices : C → ℕ) (is_value : C → V → Type 0) (value_of : C → V → Val)
-    (is_machine : C → M → Type 0) (stage : C → M → Stage) (same : V → V → Type 0)
-    (keeps : (code : C) (v w : V) → same v w → is_value code v → is_value code w)
-    (shows : (code : C) (v w : V) → same v w → value_of code v ≡ value_of code w)
-    (core now : Core C V M) (view : core ≡ now) (whole : IsWhole program devices is_value value_of is_machine stage core)
-    (m : M) (on-now : (seat : ℕ) × IsOn program devices value_of is_machine stage now seat m) (visiting : IsVisiting (stage now.code m))
-    (sound : IsSoundStage (stage now.code m)) where
+module _ {C V M : Type 0} (meaning : Meaning C V M) (same : V → V → Type 0)
+    (keeps : (code : C) (v w : V) → same v w → meaning.is_value code v → meaning.is_value code w)
+    (shows : (code : C) (v w : V) → same v w → meaning.value_of code v ≡ meaning.value_of code w)
+    (core now : Core C V M) (view : core ≡ now) (whole : IsSound meaning core)
+    (m : M) (on-now : (seat : ℕ) × IsOn meaning now seat m) (visiting : IsVisiting (meaning.stage now.code m))
+    (sound : IsSoundStage (meaning.stage now.code m)) where
   abbrev parts : Parts
-  parts = parts_of program devices value_of stage core
+  parts = parts_of meaning core
 
-  abbrev s : Stage
-  s = stage core.code m
+  abbrev s : MachineView
+  s = meaning.stage core.code m
 
   abbrev Served : Core C V M → M → Change V → Type 0
-  Served x n change = HasMadeItsStep program devices is_value value_of is_machine stage x m n change
+  Served x n change = HasMadeItsStep meaning x m n change
 
   abbrev seat : ℕ
   seat = on-now.0
 
   on : IsOnSeat parts seat s
-  on = subst (λ (x : Core C V M). IsOnSeat (parts_of program devices value_of stage x) on-now.0 (stage x.code m)) (sym view) on-now.1.stands
+  on = subst (λ (x : Core C V M). IsOnSeat (parts_of meaning x) on-now.0 (meaning.stage x.code m)) (sym view) on-now.1.stands
 
   inside : s.inside ≡ true
-  inside = subst (λ (x : Core C V M). (stage x.code m).inside ≡ true) (sym view) visiting.inside
+  inside = subst (λ (x : Core C V M). (meaning.stage x.code m).inside ≡ true) (sym view) visiting.inside
 
   sound' : IsSoundStage s
-  sound' = subst (λ (x : Core C V M). IsSoundStage (stage x.code m)) (sym view) sound
+  sound' = subst (λ (x : Core C V M). IsSoundStage (meaning.stage x.code m)) (sym view) sound
 
   task : task_at parts.tasks seat ≡ Task.Free on.attempt
   task = visits-as parts seat s on inside
@@ -126,19 +125,19 @@ module _ {C V M : Type 0} (program : C → Tree) (devices : C → ℕ) (is_value
   need-there w e = sound'.told w e
 
   -- what it wants, told of the engine as it is seen
-  wants-here : (w : Wants) → (stage now.code m).want ≡ Some w → s.want ≡ Some w
-  wants-here w e = subst (λ (x : Core C V M). (stage x.code m).want ≡ Some w) (sym view) e
+  wants-here : (w : Wants) → (meaning.stage now.code m).want ≡ Some w → s.want ≡ Some w
+  wants-here w e = subst (λ (x : Core C V M). (meaning.stage x.code m).want ≡ Some w) (sym view) e
 
-  cells-are : length parts.desk.cells ≡ length core.desk.cells
-  cells-are = length-map core.desk.cells (shown_cell (value_of core.code))
+  cells-are : length parts.memory.cells ≡ length core.memory.cells
+  cells-are = length-map core.memory.cells (shown_cell (meaning.value_of core.code))
 
   -- It reads or peeks
 
-  module _ (l : Loc) (wants-now : Reads (stage now.code m) l) where
+  module _ (l : Loc) (wants-now : Reads (meaning.stage now.code m) l) where
     reads : Reads s l
-    reads = subst (λ (x : Core C V M). Reads (stage x.code m) l) (sym view) wants-now
+    reads = subst (λ (x : Core C V M). Reads (meaning.stage x.code m) l) (sym view) wants-now
 
-    some-shown : Reads s l → IsSome (committed parts.desk l.0)
+    some-shown : Reads s l → IsSome (committed parts.memory l.0)
     some-shown (inl e) =
         let c = comes_as s (Need.Read l.0) (need-there (wants.Read l) e) in
         let met = read-met parts whole.stands seat on.attempt task s.steps (place_shown s) steps l.0 (stands-at (Act.Reads l.0) c) in
@@ -147,13 +146,13 @@ module _ {C V M : Type 0} (program : C → Tree) (devices : C → ℕ) (is_value
         let c = comes_as s (Need.Peek l.0) (need-there (wants.Peek l) e) in
         some-there parts whole.stands l.0 (peek-met parts whole.stands seat on.attempt task s.steps (place_shown s) steps l.0 (stands-at (Act.Peeks l.0) c.1))
 
-    pub some-core : IsSome (committed core.desk l.0)
+    pub some-core : IsSome (committed core.memory l.0)
     some-core =
-        some-before (value_of core.code) (committed core.desk l.0) (subst (λ (o : Option Val). IsSome o) (committed-shown (value_of core.code) core.desk l.0) (some-shown reads))
+        some-before (meaning.value_of core.code) (committed core.memory l.0) (subst (λ (o : Option Val). IsSome o) (committed-shown (meaning.value_of core.code) core.memory l.0) (some-shown reads))
 
-    module _ (value : V) (copied : IfSome (committed core.desk l.0) (λ held. same held value)) where
-      held : (x : V) × (committed core.desk l.0 ≡ Some x)
-      held = the-some (committed core.desk l.0) some-core
+    module _ (value : V) (copied : IfSome (committed core.memory l.0) (λ held. same held value)) where
+      held : (x : V) × (committed core.memory l.0 ≡ Some x)
+      held = the-some (committed core.memory l.0) some-core
 
       same-held : same held.0 value
       same-held = subst (λ (o : Option V). IfSome o (λ x. same x value)) held.1 copied
@@ -161,25 +160,25 @@ module _ {C V M : Type 0} (program : C → Tree) (devices : C → ℕ) (is_value
       pub given-wanted : is_wanted s.want (input.Value value) ≡ true
       given-wanted = wanted-value s l value reads
 
-      pub given-good : is_value core.code value
+      pub given-good : meaning.is_value core.code value
       given-good =
-          keeps core.code held.0 value same-held (committed-good (is_value core.code) core.desk l.0 held.0 whole.desk held.1)
+          keeps core.code held.0 value same-held (committed-good (meaning.is_value core.code) core.memory l.0 held.0 whole.memory held.1)
 
-      is-committed : committed parts.desk l.0 ≡ Some (value_of core.code value)
+      is-committed : committed parts.memory l.0 ≡ Some (meaning.value_of core.code value)
       is-committed =
-          committed-shown (value_of core.code) core.desk l.0 ∙ ap (option_map (value_of core.code)) held.1
+          committed-shown (meaning.value_of core.code) core.memory l.0 ∙ ap (option_map (meaning.value_of core.code)) held.1
           ∙ ap Some (shows core.code held.0 value same-held)
 
-      module _ (n : M) (machine : is_machine core.code n) (fed : after_input s.want (value_of core.code value) s ≡ Some (stage core.code n)) where
-        visits-given : Reads s l → (told : List Told) → VisitsTo s parts.desk told None (stage core.code n) parts.desk told
+      module _ (n : M) (machine : meaning.is_machine core.code n) (fed : after_input s.want (meaning.value_of core.code value) s ≡ Some (meaning.stage core.code n)) where
+        visits-given : Reads s l → (told : List Told) → VisitsTo s parts.memory told None (meaning.stage core.code n) parts.memory told
         visits-given (inl e) told =
-            VisitsTo.reads l (value_of core.code value) (stage core.code n) e is-committed
-            (ap (λ (o : Option Wants). after_input o (value_of core.code value) s) (sym e) ∙ fed)
+            VisitsTo.reads l (meaning.value_of core.code value) (meaning.stage core.code n) e is-committed
+            (ap (λ (o : Option Wants). after_input o (meaning.value_of core.code value) s) (sym e) ∙ fed)
         visits-given (inr e) told =
-            VisitsTo.peeks l (value_of core.code value) (stage core.code n) e is-committed
-            (ap (λ (o : Option Wants). after_input o (value_of core.code value) s) (sym e) ∙ fed)
+            VisitsTo.peeks l (meaning.value_of core.code value) (meaning.stage core.code n) e is-committed
+            (ap (λ (o : Option Wants). after_input o (meaning.value_of core.code value) s) (sym e) ∙ fed)
 
-        pub served-given : HasMadeItsStep program devices is_value value_of is_machine stage now m n changes.Stays
+        pub served-given : HasMadeItsStep meaning now m n changes.Stays
         served-given =
             subst (λ (x : Core C V M). Served x n changes.Stays) view
             (record { machine = machine; visits = visits-given reads; good = tt; fits = tt; lone = λ clash. absurd (none clash) })
@@ -189,7 +188,7 @@ module _ {C V M : Type 0} (program : C → Tree) (devices : C → ℕ) (is_value
 
   -- It writes
 
-  module _ (l : Loc) (wants-now : (stage now.code m).want ≡ Some (wants.Write l)) where
+  module _ (l : Loc) (wants-now : (meaning.stage now.code m).want ≡ Some (wants.Write l)) where
     writes : s.want ≡ Some (wants.Write l)
     writes = wants-here (wants.Write l) wants-now
 
@@ -203,32 +202,32 @@ module _ {C V M : Type 0} (program : C → Tree) (devices : C → ℕ) (is_value
     there : IsCell (heap_in parts) l.0
     there = met.there
 
-    within : l.0 < length core.desk.cells
+    within : l.0 < length core.memory.cells
     within = subst (λ (n : ℕ). l.0 < n) cells-are there
 
-    shown-there : (cell : Cell V) → slice_get core.desk.cells l.0 ≡ Some cell → slice_get parts.desk.cells l.0 ≡ Some (shown_cell (value_of core.code) cell)
-    shown-there cell e = slice_get-map (shown_cell (value_of core.code)) core.desk.cells l.0 ∙ ap (option_map (shown_cell (value_of core.code))) e
+    shown-there : (cell : Cell V) → slice_get core.memory.cells l.0 ≡ Some cell → slice_get parts.memory.cells l.0 ≡ Some (shown_cell (meaning.value_of core.code) cell)
+    shown-there cell e = slice_get-map (shown_cell (meaning.value_of core.code)) core.memory.cells l.0 ∙ ap (option_map (shown_cell (meaning.value_of core.code))) e
 
-    is-free : ForSome (slice_get core.desk.cells l.0) IsFree
+    is-free : ForSome (slice_get core.memory.cells l.0) IsFree
     is-free = λ cell e.
-        let is : cell_at (heap_in parts) l.0 ≡ shown_cell (value_of core.code) cell =
-        get_or_from_slice_get parts.desk.cells l.0 (shown_cell (value_of core.code) cell) no_cell (shown-there cell e) in
+        let is : cell_at (heap_in parts) l.0 ≡ shown_cell (meaning.value_of core.code) cell =
+        get_or_from_slice_get parts.memory.cells l.0 (shown_cell (meaning.value_of core.code) cell) no_cell (shown-there cell e) in
         sym (ap (λ (x : Cell Val). x.owner) is) ∙ free-there parts whole.stands l.0 met
 
-    grows : ForSome (slice_get core.desk.cells l.0) CanGrow
+    grows : ForSome (slice_get core.memory.cells l.0) CanGrow
     grows = λ cell e.
-        all_at CanGrow parts.desk.cells l.0 (shown_cell (value_of core.code) cell) there (shown-there cell e)
+        all_at CanGrow parts.memory.cells l.0 (shown_cell (meaning.value_of core.code) cell) there (shown-there cell e)
         (cells-grow parts whole.stands (let h = whole.limits.turns in omega arith))
 
-    module _ (lent value : V) (lent-good : is_value core.code lent) (sets : value_to_set s ≡ Some (value_of core.code lent)) (copied : same lent value)
-        (n : M) (machine : is_machine core.code n) (fed : after_input s.want Val.Unit s ≡ Some (stage core.code n)) where
-      pub served-written : HasMadeItsStep program devices is_value value_of is_machine stage now m n (changes.Puts l value)
+    module _ (lent value : V) (lent-good : meaning.is_value core.code lent) (sets : value_to_set s ≡ Some (meaning.value_of core.code lent)) (copied : same lent value)
+        (n : M) (machine : meaning.is_machine core.code n) (fed : after_input s.want Val.Unit s ≡ Some (meaning.stage core.code n)) where
+      pub served-written : HasMadeItsStep meaning now m n (changes.Puts l value)
       served-written =
           subst (λ (x : Core C V M). Served x n (changes.Puts l value)) view
           (record {
             machine = machine;
             visits =
-                λ told. VisitsTo.writes l (value_of core.code value) (stage core.code n) writes (sets ∙ ap Some (shows core.code lent value copied))
+                λ told. VisitsTo.writes l (meaning.value_of core.code value) (meaning.stage core.code n) writes (sets ∙ ap Some (shows core.code lent value copied))
                 (ap (λ (o : Option Wants). after_input o Val.Unit s) (sym writes) ∙ fed);
             good = keeps core.code lent value copied lent-good;
             fits = (within, is-free, grows);
@@ -240,7 +239,7 @@ module _ {C V M : Type 0} (program : C → Tree) (devices : C → ℕ) (is_value
 
   -- It makes a cell
 
-  module _ (sort : Sort) (number : TyNo) (wants-now : (stage now.code m).want ≡ Some (wants.Alloc sort number)) where
+  module _ (sort : Sort) (number : TyNo) (wants-now : (meaning.stage now.code m).want ≡ Some (wants.Alloc sort number)) where
     allocates : s.want ≡ Some (wants.Alloc sort number)
     allocates = wants-here (wants.Alloc sort number) wants-now
 
@@ -248,30 +247,30 @@ module _ {C V M : Type 0} (program : C → Tree) (devices : C → ℕ) (is_value
     nothing-held =
         ap (λ (p : LocalState). p.spawns) (alone (term_at parts.pool on.attempt.tried.number) s.steps (place_shown s) steps)
 
-    module _ (lent value : V) (lent-good : is_value core.code lent) (sets : value_to_set s ≡ Some (value_of core.code lent)) (copied : same lent value)
-        (place : ℕ) (place-is : place ≡ length core.desk.cells)
-        (n : M) (machine : is_machine core.code n) (fed : after_input s.want (Val.Loc place) s ≡ Some (stage core.code n)) where
-      at-end : place ≡ length parts.desk.cells
+    module _ (lent value : V) (lent-good : meaning.is_value core.code lent) (sets : value_to_set s ≡ Some (meaning.value_of core.code lent)) (copied : same lent value)
+        (place : ℕ) (place-is : place ≡ length core.memory.cells)
+        (n : M) (machine : meaning.is_machine core.code n) (fed : after_input s.want (Val.Loc place) s ≡ Some (meaning.stage core.code n)) where
+      at-end : place ≡ length parts.memory.cells
       at-end = place-is ∙ sym cells-are
 
-      fed-alloc : after_input (Some (wants.Alloc sort number)) (Val.Loc (length parts.desk.cells)) s ≡ Some (stage core.code n)
+      fed-alloc : after_input (Some (wants.Alloc sort number)) (Val.Loc (length parts.memory.cells)) s ≡ Some (meaning.stage core.code n)
       fed-alloc =
-          ap (λ (o : Option Wants). after_input o (Val.Loc (length parts.desk.cells)) s) (sym allocates)
+          ap (λ (o : Option Wants). after_input o (Val.Loc (length parts.memory.cells)) s) (sym allocates)
           ∙ ap (λ (k : ℕ). after_input s.want (Val.Loc k) s) (sym at-end) ∙ fed
 
-      none-made : (stage core.code n).spawns ≡ []
+      none-made : (meaning.stage core.code n).spawns ≡ []
       none-made =
-          let l : Loc = record { 0 = length parts.desk.cells } in
+          let l : Loc = record { 0 = length parts.memory.cells } in
           let is = fed-location V s (wants.Alloc sort number) l (need-there (wants.Alloc sort number) allocates) refl in
-          ap (λ (o : Option Stage). (unwrap_or o (stage core.code n)).spawns) (sym fed-alloc ∙ is) ∙ nothing-held
+          ap (λ (o : Option MachineView). (unwrap_or o (meaning.stage core.code n)).spawns) (sym fed-alloc ∙ is) ∙ nothing-held
 
-      pub served-made : HasMadeItsStep program devices is_value value_of is_machine stage now m n (changes.Makes sort number value)
+      pub served-made : HasMadeItsStep meaning now m n (changes.Makes sort number value)
       served-made =
           subst (λ (x : Core C V M). Served x n (changes.Makes sort number value)) view
           (record {
             machine = machine;
             visits =
-                λ told. VisitsTo.makes sort number (value_of core.code value) (stage core.code n) allocates (sets ∙ ap Some (shows core.code lent value copied)) fed-alloc;
+                λ told. VisitsTo.makes sort number (meaning.value_of core.code value) (meaning.stage core.code n) allocates (sets ∙ ap Some (shows core.code lent value copied)) fed-alloc;
             good = keeps core.code lent value copied lent-good;
             fits = subst (λ (k : ℕ). k < 4294967295) cells-are (cells-few parts whole.stands whole.limits.turns);
             lone = λ _. none-made;
@@ -279,23 +278,23 @@ module _ {C V M : Type 0} (program : C → Tree) (devices : C → ℕ) (is_value
 
   -- It spawns, prints or closes
 
-  pub accepted-here : IsAccepted (stage now.code m) → IsAccepted s
-  accepted-here wants-now = subst (λ (x : Core C V M). IsAccepted (stage x.code m)) (sym view) wants-now
+  pub accepted-here : IsAccepted (meaning.stage now.code m) → IsAccepted s
+  accepted-here wants-now = subst (λ (x : Core C V M). IsAccepted (meaning.stage x.code m)) (sym view) wants-now
 
-  pub accepted-wanted : IsAccepted (stage now.code m) → is_wanted {V = V} s.want input.Unit ≡ true
+  pub accepted-wanted : IsAccepted (meaning.stage now.code m) → is_wanted {V = V} s.want input.Unit ≡ true
   accepted-wanted wants-now = wanted-unit V s (accepted-here wants-now)
 
-  module _ (wants-now : IsAccepted (stage now.code m)) (n : M) (machine : is_machine core.code n)
-      (fed : after_input s.want Val.Unit s ≡ Some (stage core.code n)) where
-    fed-as : (w : Wants) → s.want ≡ Some w → after_input (Some w) Val.Unit s ≡ Some (stage core.code n)
+  module _ (wants-now : IsAccepted (meaning.stage now.code m)) (n : M) (machine : meaning.is_machine core.code n)
+      (fed : after_input s.want Val.Unit s ≡ Some (meaning.stage core.code n)) where
+    fed-as : (w : Wants) → s.want ≡ Some w → after_input (Some w) Val.Unit s ≡ Some (meaning.stage core.code n)
     fed-as w e = ap (λ (o : Option Wants). after_input o Val.Unit s) (sym e) ∙ fed
 
-    visits-accepted : IsAccepted s → (told : List Told) → VisitsTo s parts.desk told None (stage core.code n) parts.desk told
-    visits-accepted (inl e) told = VisitsTo.spawns (stage core.code n) e (fed-as wants.Spawn e)
-    visits-accepted (inr (inl e)) told = VisitsTo.prints e.0 (stage core.code n) e.1 (fed-as (wants.Print e.0) e.1)
-    visits-accepted (inr (inr e)) told = VisitsTo.closes (stage core.code n) e (fed-as wants.Close e)
+    visits-accepted : IsAccepted s → (told : List Told) → VisitsTo s parts.memory told None (meaning.stage core.code n) parts.memory told
+    visits-accepted (inl e) told = VisitsTo.spawns (meaning.stage core.code n) e (fed-as wants.Spawn e)
+    visits-accepted (inr (inl e)) told = VisitsTo.prints e.0 (meaning.stage core.code n) e.1 (fed-as (wants.Print e.0) e.1)
+    visits-accepted (inr (inr e)) told = VisitsTo.closes (meaning.stage core.code n) e (fed-as wants.Close e)
 
-    pub served-accepted : HasMadeItsStep program devices is_value value_of is_machine stage now m n changes.Stays
+    pub served-accepted : HasMadeItsStep meaning now m n changes.Stays
     served-accepted =
         subst (λ (x : Core C V M). Served x n changes.Stays) view
         (record { machine = machine; visits = visits-accepted (accepted-here wants-now); good = tt; fits = tt; lone = λ clash. absurd (none clash) })

@@ -1,11 +1,11 @@
 -- A machine that is where a seat's run stands.
 use Rattle.std.proofs.Common.{◌≡◌, ℕ, ◌+◌, Bool, true, false, List, [], Some, refl, sym, ap, ◌∙◌, subst, arith}
 use Rattle.ame_term.specs.Tree.{Val, Tree}
-use Rattle.ame_desk.specs.Contents.{row_at}
-use Rattle.ame_runner.specs.Stage.{Stage, OnRun}
-use Rattle.ame_stands.specs.declared.types.Attempt.{Attempt}
-use Rattle.ame_stands.specs.Parts.{Parts, task_at, term_at}
-use Rattle.ame_stands.specs.Events.{begun_task}
+use Rattle.ame_rows.specs.MemoryView.{row_at}
+use Rattle.ame_machine.specs.MachineView.{MachineView, OnRun}
+use Rattle.ame_protocol.specs.declared.types.Attempt.{Attempt}
+use Rattle.ame_protocol.specs.Engine.Parts.{Parts, task_at, term_at}
+use Rattle.ame_protocol.specs.Engine.Events.{begun_task}
 use Rattle.ame_engine.specs.Whole.{resting_at}
 use Rattle.ame_engine.specs.AtWork.{is_free, working, IsOnSeat}
 
@@ -22,17 +22,17 @@ begun-side true a = refl
 begun-side false a = refl
 
 -- A machine at rest is where the run of a seat stands that has begun it.
-pub on-begun : (parts : Parts) (seat : ℕ) (a : Attempt) (inside : Bool) (t : Tree) (s : Stage) → task_at parts.tasks seat ≡ begun_task inside a
-    → s ≡ resting_at t inside → term_at parts.pool a.tried.number ≡ t → (row_at parts.desk.rows seat).inputs ≡ [] → a.tried.steps ≡ 0
+pub on-begun : (parts : Parts) (seat : ℕ) (a : Attempt) (inside : Bool) (t : Tree) (s : MachineView) → task_at parts.tasks seat ≡ begun_task inside a
+    → s ≡ resting_at t inside → term_at parts.pool a.tried.number ≡ t → (row_at parts.memory.rows seat).inputs ≡ [] → a.tried.steps ≡ 0
     → IsOnSeat parts seat s
 on-begun parts seat a inside t s task rests starts none steps = record {
   attempt = a;
   has = ap working task ∙ begun-works inside a;
-  side = ap (λ (x : Stage). x.inside) rests ∙ sym (ap is_free task ∙ begun-side inside a);
-  run = subst (λ (x : Stage). OnRun (term_at parts.pool a.tried.number) (row_at parts.desk.rows seat).inputs x) (sym rests)
+  side = ap (λ (x : MachineView). x.inside) rests ∙ sym (ap is_free task ∙ begun-side inside a);
+  run = subst (λ (x : MachineView). OnRun (term_at parts.pool a.tried.number) (row_at parts.memory.rows seat).inputs x) (sym rests)
       (subst (λ (inputs : List Val). OnRun (term_at parts.pool a.tried.number) inputs (resting_at t inside)) (sym none)
       (subst (λ (start : Tree). OnRun start [] (resting_at t inside)) (sym starts) (begun-on t inside)));
-  since = ap (λ (x : Stage). x.steps) rests ∙ since-by ∙ sym (ap (λ (x : Stage). x.since + a.tried.steps) rests);
+  since = ap (λ (x : MachineView). x.steps) rests ∙ since-by ∙ sym (ap (λ (x : MachineView). x.since + a.tried.steps) rests);
 }
   where
     since-by : 0 ≡ 0 + a.tried.steps

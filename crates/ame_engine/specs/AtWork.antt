@@ -1,17 +1,17 @@
 -- A machine that is where the run of a seat stands.
 use Rattle.std.specs.Prelude.{◌≡◌, ℕ, ◌+◌, Bool, true, false, Option, Some, None}
-use Rattle.ame_term.specs.Tree.{Val, Tree}
 use Rattle.ame_term.specs.declared.types.Loc.{Loc}
 use Rattle.ame_term.specs.declared.types.Sort.{Sort}
 use Rattle.ame_term.specs.declared.types.TyNo.{TyNo}
-use Rattle.ame_desk.specs.Contents.{row_at}
-use Rattle.ame_runner.specs.declared.wants.Wants.TheVariants as wants
-use Rattle.ame_runner.specs.Stage.{Stage, OnRun}
-use Rattle.ame_stands.specs.declared.types.Attempt.{Attempt}
-use Rattle.ame_stands.specs.declared.types.Task.{Task}
-use Rattle.ame_stands.specs.Parts.{Parts, task_at, term_at}
+use Rattle.ame_rows.specs.MemoryView.{row_at}
+use Rattle.ame_machine.specs.declared.wants.Wants.TheVariants as wants
+use Rattle.ame_machine.specs.MachineView.{MachineView, OnRun}
+use Rattle.ame_protocol.specs.declared.types.Attempt.{Attempt}
+use Rattle.ame_protocol.specs.declared.types.Task.{Task}
+use Rattle.ame_protocol.specs.Engine.Parts.{Parts, task_at, term_at}
 use Rattle.ame_engine.specs.Core.{Core}
 use Rattle.ame_engine.specs.Seen.{parts_of}
+use Rattle.ame_machine.specs.Meaning.{Meaning}
 
 -- the attempt of a seat that runs code
 abbrev pub working : Task → Option Attempt
@@ -25,40 +25,39 @@ is_free (Task.Free attempt) = true
 is_free _ = false
 
 -- A stage is where the run of this seat's member has used all inputs; it counts the steps from the last valid check on.
-pub record IsOnSeat (parts : Parts) (seat : ℕ) (s : Stage) : Type 0 where
+pub record IsOnSeat (parts : Parts) (seat : ℕ) (s : MachineView) : Type 0 where
   pub attempt : Attempt
   pub has : working (task_at parts.tasks seat) ≡ Some attempt
   pub side : s.inside ≡ is_free (task_at parts.tasks seat)
-  pub run : OnRun (term_at parts.pool attempt.tried.number) (row_at parts.desk.rows seat).inputs s
+  pub run : OnRun (term_at parts.pool attempt.tried.number) (row_at parts.memory.rows seat).inputs s
   pub since : s.steps ≡ s.since + attempt.tried.steps
 
 -- protected code has come to a read
-pub record IsReading (s : Stage) : Type 0 where
+pub record IsReading (s : MachineView) : Type 0 where
   pub l : Loc
   pub wants : s.want ≡ Some (wants.Read l)
   pub outside : s.inside ≡ false
 
 -- or to a write
-pub record IsWriting (s : Stage) : Type 0 where
+pub record IsWriting (s : MachineView) : Type 0 where
   pub l : Loc
   pub wants : s.want ≡ Some (wants.Write l)
   pub outside : s.inside ≡ false
 
 -- or to an allocation
-pub record IsAllocating (s : Stage) : Type 0 where
+pub record IsAllocating (s : MachineView) : Type 0 where
   pub sort : Sort
   pub number : TyNo
   pub wants : s.want ≡ Some (wants.Alloc sort number)
   pub outside : s.inside ≡ false
 
 -- or to a condition that is false
-pub record IsBlocking (s : Stage) : Type 0 where
+pub record IsBlocking (s : MachineView) : Type 0 where
   pub wants : s.want ≡ Some wants.Block
   pub outside : s.inside ≡ false
 
-module _ {C V M : Type 0} (program : C → Tree) (devices : C → ℕ) (value_of : C → V → Val) (is_machine : C → M → Type 0)
-    (stage : C → M → Stage) where
+module _ {C V M : Type 0} (meaning : Meaning C V M) where
   -- a machine of the code is there
   pub record IsOn (core : Core C V M) (seat : ℕ) (m : M) : Type 0 where
-    pub machine : is_machine core.code m
-    pub stands : IsOnSeat (parts_of program devices value_of stage core) seat (stage core.code m)
+    pub machine : meaning.is_machine core.code m
+    pub stands : IsOnSeat (parts_of meaning core) seat (meaning.stage core.code m)

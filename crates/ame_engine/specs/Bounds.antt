@@ -4,15 +4,15 @@ use Rattle.ame_term.specs.Tree.{Tree}
 use Rattle.ame_journal.specs.declared.entry.Entry.{Entry}
 use Rattle.ame_journal.specs.Replayed.{Replayed}
 use Rattle.ame_pool.specs.Standings.{max_rollbacks}
-use Rattle.ame_owed.specs.Tries.{IsSoundTry}
-use Rattle.ame_stands.specs.declared.types.Attempt.{Attempt}
-use Rattle.ame_stands.specs.declared.types.Limits.{Limits}
-use Rattle.ame_stands.specs.declared.types.Tried.{Tried}
-use Rattle.ame_stands.specs.Parts.{Parts, task_at, attempt_of}
-use Rattle.ame_bounds.specs.FewRollbacks.{HasFewRollbacks}
-use Rattle.ame_bounds.specs.Spent.{paid, HasPaidTurns}
-use Rattle.ame_bounds.specs.Tries.{HasFewTries}
-use Rattle.ame_bounds.specs.Untried.{IsUntried}
+use Rattle.ame_protocol.specs.Row.Tries.{IsSoundTry}
+use Rattle.ame_protocol.specs.declared.types.Attempt.{Attempt}
+use Rattle.ame_protocol.specs.declared.types.Limits.{Limits}
+use Rattle.ame_protocol.specs.declared.types.Tried.{Tried}
+use Rattle.ame_protocol.specs.Engine.Parts.{Parts, task_at, attempt_of}
+use Rattle.ame_protocol.specs.Bounds.FewRollbacks.{HasFewRollbacks}
+use Rattle.ame_protocol.specs.Bounds.Spent.{paid, HasPaidTurns}
+use Rattle.ame_protocol.specs.Bounds.Tries.{HasFewTries}
+use Rattle.ame_protocol.specs.Bounds.Untried.{IsUntried}
 use Rattle.ame_engine.specs.declared.counters.Counters.{Counters}
 use Rattle.ame_engine.specs.declared.stop.Stop.{Stop}
 
@@ -32,7 +32,7 @@ IsUntriedUntil (Some Stop.Spent) parts = IsUntried parts
 IsUntriedUntil _ parts = Unit {0}
 
 -- Rollbacks and tries are few, the turns are paid, and with one seat there is no try.
-pub record IsBounded (stop : Option Stop) (counters : Counters) (parts : Parts) : Type 0 where
+pub record KeepsBounds (stop : Option Stop) (counters : Counters) (parts : Parts) : Type 0 where
   pub few : HasFewRollbacks (refusals counters) parts
   pub paid : ArePaid stop parts
   pub untried : parts.limits.seats ≡ 1 → IsUntriedUntil stop parts
@@ -40,7 +40,7 @@ pub record IsBounded (stop : Option Stop) (counters : Counters) (parts : Parts) 
 -- What is so where a stop is kept, so that no try follows: with one seat, where the turns are used up, an entry tells of what is at work.
 abbrev pub LeavesNoTry : Stop → Parts → Type 0
 LeavesNoTry Stop.Spent parts =
-    parts.limits.seats ≡ 1 → (seat : ℕ) (attempt : Attempt) → attempt_of (task_at parts.tasks seat) ≡ Some attempt → attempt.told ≡ true
+    parts.limits.seats ≡ 1 → (seat : ℕ) (attempt : Attempt) → attempt_of (task_at parts.tasks seat) ≡ Some attempt → attempt.logged ≡ true
 LeavesNoTry _ parts = Unit {0}
 
 -- What this tells of a base, of the entries that were added to it, and of the tries that left none, which lead to a state: the answers

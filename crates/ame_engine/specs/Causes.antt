@@ -4,8 +4,8 @@ use Rattle.ame_journal.specs.declared.entry.Entry.{Entry}
 use Rattle.ame_journal.specs.declared.entry.EntryKind.{EntryKind}
 use Rattle.ame_pool.specs.declared.oldest.Oldest.{Oldest}
 use Rattle.ame_pool.specs.Begin.{oldest}
-use Rattle.ame_stands.specs.Parts.{Parts, whole_journal}
-use Rattle.ame_waiting.specs.Waiting.{last_stuck}
+use Rattle.ame_protocol.specs.Engine.Parts.{Parts, whole_journal}
+use Rattle.ame_protocol.specs.Waits.Waiting.{last_stuck}
 use Rattle.ame_engine.specs.declared.certificate.Certificate.{Certificate}
 use Rattle.ame_engine.specs.declared.stop.Stop.{Stop}
 use Rattle.ame_engine.specs.Faults.{LeadsToCall}

@@ -2,15 +2,15 @@
 use Rattle.std.specs.Prelude.{ℕ, ℤ, List, Option}
 use Rattle.ame_journal.specs.declared.entry.Entry.{Entry}
 use Rattle.ame_pool.specs.Roster.{Roster}
-use Rattle.ame_desk.specs.Contents.{Contents}
-use Rattle.ame_stands.specs.declared.types.Limits.{Limits}
-use Rattle.ame_stands.specs.declared.types.Tried.{Tried}
-use Rattle.ame_stands.specs.declared.types.Task.{Task}
+use Rattle.ame_rows.specs.MemoryView.{MemoryView}
+use Rattle.ame_protocol.specs.declared.types.Limits.{Limits}
+use Rattle.ame_protocol.specs.declared.types.Tried.{Tried}
+use Rattle.ame_protocol.specs.declared.types.Task.{Task}
 use Rattle.ame_engine.specs.declared.certificate.Certificate.{Certificate}
 use Rattle.ame_engine.specs.declared.stop.Stop.{Stop}
 use Rattle.ame_engine.specs.declared.counters.Counters.{Counters}
 
--- The code, the limits and the entries from which it was opened stay. The rest are the journal, the desk with its cells and
+-- The code, the limits and the entries from which it was opened stay. The rest are the journal, the memory with its cells and
 -- the logs of each seat, what each seat is at, the members with their machines, the output and its text as bytes, the next
 -- member's number, the events that counted, in all and of each kind, the tries that left no entry, the stop that is kept, and
 -- what tells that each member is blocked, where that is the stop.
@@ -19,7 +19,7 @@ pub record Core (C V M : Type 0) : Type 0 where
   pub limits : Limits
   pub base : List Entry
   pub entries : List Entry
-  pub desk : Contents V
+  pub memory : MemoryView V
   pub tasks : List Task
   pub pool : Roster M
   pub output : List ℤ

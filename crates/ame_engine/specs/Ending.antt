@@ -8,12 +8,12 @@ use Rattle.ame_store.specs.Cells.{IsFree}
 use Rattle.ame_journal.specs.declared.entry.Entry.{Entry}
 use Rattle.ame_journal.specs.Replayed.{Replayed}
 use Rattle.ame_journal.specs.Replay.{replay}
-use Rattle.ame_owed.specs.Shown.{shown_cell}
-use Rattle.ame_stands.specs.declared.types.Limits.{Limits}
-use Rattle.ame_stands.specs.declared.types.Tried.{Tried}
-use Rattle.ame_waiting.specs.Certificates.{IsCertificate}
-use Rattle.ame_waiting.specs.Once.{IsNotedOnce}
-use Rattle.ame_visits.specs.Opened.{cell_of, stored_in}
+use Rattle.ame_protocol.specs.Row.Shown.{shown_cell}
+use Rattle.ame_protocol.specs.declared.types.Limits.{Limits}
+use Rattle.ame_protocol.specs.declared.types.Tried.{Tried}
+use Rattle.ame_protocol.specs.Waits.Certificates.{IsCertificate}
+use Rattle.ame_protocol.specs.Waits.Once.{IsNotedOnce}
+use Rattle.ame_protocol.specs.Visits.Opened.{cell_of, stored_in}
 use Rattle.ame_engine.specs.declared.certificate.Certificate.{Certificate}
 use Rattle.ame_engine.specs.declared.counters.Counters.{Counters}
 use Rattle.ame_engine.specs.declared.stop.Stop.{Stop}
@@ -40,7 +40,7 @@ abbrev pub end_of : {C V M : Type 0} → Core C V M → End V
 end_of core = record {
   base = core.base;
   entries = core.entries;
-  cells = core.desk.cells;
+  cells = core.memory.cells;
   output = core.output;
   turns = core.turns;
   counters = core.counters;

@@ -10,7 +10,7 @@ use Rattle.ame_term.specs.declared.semantics.StepKind.{StepKind}
 use Rattle.ame_journal.specs.Replayed.{Replayed, is_inside}
 use Rattle.ame_journal.specs.Replay.{replay}
 use Rattle.ame_journal.specs.Labels.{free_labels}
-use Rattle.ame_stands.specs.Parts.{Parts, whole_journal}
+use Rattle.ame_protocol.specs.Engine.Parts.{Parts, whole_journal}
 
 -- A member that is inside can make so many steps under `unprotected`, each of which its term alone determines, and stands then
 -- at a call of this device.

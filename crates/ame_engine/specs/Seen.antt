@@ -1,29 +1,30 @@
 -- The parts of an engine as plain data, by what its code's values and machines stand for.
-use Rattle.std.specs.Prelude.{◌≡◌, ℕ, Some, is_some}
-use Rattle.ame_term.specs.Tree.{Val, Tree}
-use Rattle.ame_runner.specs.Stage.{Stage}
-use Rattle.ame_stands.specs.Parts.{Parts}
-use Rattle.ame_stands.specs.Shown.{shown_desk, shown_pool}
+use Rattle.std.specs.Prelude.{◌≡◌, Some, is_some}
+use Rattle.ame_term.specs.Tree.{Tree}
+use Rattle.ame_machine.specs.MachineView.{MachineView}
+use Rattle.ame_protocol.specs.Engine.Parts.{Parts}
+use Rattle.ame_protocol.specs.Engine.Shown.{shown_memory, shown_pool}
 use Rattle.ame_engine.specs.declared.counters.Counters.{Counters}
 use Rattle.ame_engine.specs.declared.stop.Stop.{Stop}
 use Rattle.ame_engine.specs.Core.{Core}
+use Rattle.ame_machine.specs.Meaning.{Meaning}
 
 -- the term for which a machine stands
-abbrev pub term_shown : {C M : Type 0} → (C → M → Stage) → C → M → Tree
+abbrev pub term_shown : {C M : Type 0} → (C → M → MachineView) → C → M → Tree
 term_shown stage code m = (stage code m).term
 
-module _ {C V M : Type 0} (program : C → Tree) (devices : C → ℕ) (value_of : C → V → Val) (stage : C → M → Stage) where
+module _ {C V M : Type 0} (meaning : Meaning C V M) where
   -- the plain parts
   abbrev pub parts_of : Core C V M → Parts
   parts_of core = record {
-    program = program core.code;
-    devices = devices core.code;
+    program = meaning.program core.code;
+    devices = meaning.devices core.code;
     limits = core.limits;
     base = core.base;
     entries = core.entries;
-    desk = shown_desk (value_of core.code) core.desk;
+    memory = shown_memory (meaning.value_of core.code) core.memory;
     tasks = core.tasks;
-    pool = shown_pool (term_shown stage core.code) core.pool;
+    pool = shown_pool (term_shown meaning.stage core.code) core.pool;
     output = core.output;
     next = core.next;
     turns = core.turns;

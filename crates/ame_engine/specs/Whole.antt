@@ -1,17 +1,17 @@
 -- What each engine keeps.
 use Rattle.std.specs.Prelude.{◌≡◌, ℕ, ◌≤◌, Bool, All}
 use Rattle.ame_io.specs.Lines.{lines}
-use Rattle.ame_term.specs.Tree.{Val, Tree}
+use Rattle.ame_term.specs.Tree.{Tree}
 use Rattle.ame_rows.specs.declared.notes.Undo.{Undo}
 use Rattle.ame_rows.specs.declared.notes.Undo.TheVariants.{Wrote, Made}
 use Rattle.ame_pool.specs.declared.member.Member.{Member}
-use Rattle.ame_desk.specs.Contents.{Notes, Contents}
-use Rattle.ame_runner.specs.Stage.{Stage, starting_at}
-use Rattle.ame_stands.specs.declared.types.Limits.{Limits}
-use Rattle.ame_stands.specs.Stands.{Stands}
-use Rattle.ame_stands.specs.Alone.{RunsAlone}
-use Rattle.ame_waiting.specs.Waiting.{AreWaiting}
-use Rattle.ame_waiting.specs.Once.{AreNotedOnce}
+use Rattle.ame_rows.specs.MemoryView.{Log, MemoryView}
+use Rattle.ame_machine.specs.MachineView.{MachineView, starting_at}
+use Rattle.ame_protocol.specs.declared.types.Limits.{Limits}
+use Rattle.ame_protocol.specs.Engine.Simulates.{Simulates}
+use Rattle.ame_protocol.specs.Engine.Alone.{RunsExclusively}
+use Rattle.ame_protocol.specs.Waits.Waiting.{AreWaiting}
+use Rattle.ame_protocol.specs.Waits.Once.{AreNotedOnce}
 use Rattle.ame_engine.specs.Counting.{CountsTurns}
 use Rattle.ame_engine.specs.Core.{Core}
 use Rattle.ame_engine.specs.Seen.{parts_of}
@@ -19,7 +19,8 @@ use Rattle.ame_engine.specs.Rollbacks.{IsGoodPool}
 use Rattle.ame_engine.specs.Places.{HasPlacesFor}
 use Rattle.ame_engine.specs.Causes.{HasCause}
 use Rattle.ame_engine.specs.Lone.{IsLone}
-use Rattle.ame_engine.specs.Bounds.{IsBounded}
+use Rattle.ame_engine.specs.Bounds.{KeepsBounds}
+use Rattle.ame_machine.specs.Meaning.{Meaning}
 
 -- the limits of an engine
 pub record AreLimits (limits : Limits) : Type 0 where
@@ -37,48 +38,47 @@ module _ {V : Type 0} (IsGood : V → Type 0) where
   IsGoodUndo (Made l) = Unit {0}
 
   -- each value of the logs
-  pub record AreGoodNotes (notes : Notes V) : Type 0 where
+  pub record IsGoodLog (notes : Log V) : Type 0 where
     pub inputs : All IsGood notes.inputs
     pub undos : All IsGoodUndo notes.undos
 
-  -- each value at a desk
-  pub record IsGoodDesk (desk : Contents V) : Type 0 where
-    pub cells : All (λ cell. IsGood cell.value) desk.cells
-    pub rows : All AreGoodNotes desk.rows
+  -- each value in a shared memory
+  pub record IsGoodMemory (memory : MemoryView V) : Type 0 where
+    pub cells : All (λ cell. IsGood cell.value) memory.cells
+    pub rows : All IsGoodLog memory.rows
 
 -- a machine that has made no step, and holds nothing back
-abbrev pub resting_at : Tree → Bool → Stage
+abbrev pub resting_at : Tree → Bool → MachineView
 resting_at term inside = record (starting_at term) { inside = inside }
 
-module _ {C M : Type 0} (is_machine : C → M → Type 0) (stage : C → M → Stage) where
+module _ {C M : Type 0} (is_machine : C → M → Type 0) (stage : C → M → MachineView) where
   -- a member's machine is one of the code, and rests
   pub record IsAtRest (code : C) (m : Member M) : Type 0 where
     pub machine : is_machine code m.machine
     pub rests : stage code m.machine ≡ resting_at (stage code m.machine).term m.inside
 
-module _ {C V M : Type 0} (program : C → Tree) (devices : C → ℕ) (is_value : C → V → Type 0) (value_of : C → V → Val)
-    (is_machine : C → M → Type 0) (stage : C → M → Stage) where
-  -- The plain parts stand for the state to which the journal leads, the limits are in range, each value at the desk is one of
+module _ {C V M : Type 0} (meaning : Meaning C V M) where
+  -- The plain parts stand for the state to which the journal leads, the limits are in range, each value in the memory is one of
   -- the code, and the members' machines are at rest. No member was rolled back more often than it may be, and one that was so
   -- as often runs alone. With one seat nothing is met that another seat did. Rollbacks and tries are few, and the turns are
   -- paid. Who waits has a note that tells so, and none is noted twice without a commit between. A kept stop has its cause. Each
   -- turn is counted by its kind, and the text is the lines of the output.
-  pub record IsWhole (core : Core C V M) : Type 0 where
-    pub stands : Stands (parts_of program devices value_of stage core)
+  pub record IsSound (core : Core C V M) : Type 0 where
+    pub stands : Simulates (parts_of meaning core)
     pub limits : AreLimits core.limits
-    pub desk : IsGoodDesk (is_value core.code) core.desk
-    pub members : All (IsAtRest is_machine stage core.code) core.pool.members
+    pub memory : IsGoodMemory (meaning.is_value core.code) core.memory
+    pub members : All (IsAtRest meaning.is_machine meaning.stage core.code) core.pool.members
     pub pool : IsGoodPool core.pool
-    pub alone : RunsAlone (parts_of program devices value_of stage core)
-    pub lone : IsLone (parts_of program devices value_of stage core) core.counters
-    pub bounds : IsBounded core.stop core.counters (parts_of program devices value_of stage core)
-    pub waiting : AreWaiting (parts_of program devices value_of stage core)
-    pub once : AreNotedOnce (parts_of program devices value_of stage core)
-    pub caused : HasCause core.stop core.certificates (parts_of program devices value_of stage core)
+    pub alone : RunsExclusively (parts_of meaning core)
+    pub lone : IsLone (parts_of meaning core) core.counters
+    pub bounds : KeepsBounds core.stop core.counters (parts_of meaning core)
+    pub waiting : AreWaiting (parts_of meaning core)
+    pub once : AreNotedOnce (parts_of meaning core)
+    pub caused : HasCause core.stop core.certificates (parts_of meaning core)
     pub counters : CountsTurns core.turns core.counters
     pub text : core.text ≡ lines core.output
 
   -- What each engine keeps besides, which contracts don't see: the list of so many tries has free places for those that may follow.
   pub record IsEngine (core : Core C V M) (tries capacity : ℕ) : Type 0 where
-    pub whole : IsWhole core
+    pub whole : IsSound core
     pub places : HasPlacesFor core.tasks tries capacity

@@ -7,7 +7,7 @@ use crate::certificate::Certificate;
 use crate::counters::Counters;
 use crate::stop::Stop;
 use ame_journal::{Entry, Journal};
-use ame_stands::Tried;
+use ame_protocol::Tried;
 use ame_store::Store;
 use std::marker::Model;
 

@@ -2,18 +2,18 @@
 
 ghost use Rattle.std.specs.Prelude.{◌≡◌, ◌<◌, length, slice_get, option_copied, Some};
 ghost use Rattle.ame_io.specs.Lines.{lines};
-ghost use Rattle.ame_desk.specs.Committed.{committed as committed_at};
-ghost use Rattle.ame_stands.specs.Parts.{task_at};
+ghost use Rattle.ame_rows.specs.Committed.{committed as committed_at};
+ghost use Rattle.ame_protocol.specs.Engine.Parts.{task_at};
 ghost use Rattle.ame_engine.specs.Lone.{IsUndisturbed};
 
 use crate::certificate::Certificate;
 use crate::counters::Counters;
 use crate::stop::Stop;
-use ame_desk::Desk;
 use ame_journal::{Entry, Journal};
+use ame_machine::Runner;
 use ame_pool::Pool;
-use ame_runner::Runner;
-use ame_stands::{Limits, Task, Tried};
+use ame_protocol::{Limits, Task, Tried};
+use ame_rows::Memory;
 use ame_store::Cell;
 use ame_term::Loc;
 use std::marker::Model;
@@ -47,7 +47,7 @@ where
     limits: Limits,
     base: Journal,
     journal: Journal,
-    desk: Desk<M::Value>,
+    memory: Memory<M::Value>,
     tasks: Vec<Task>,
     pool: Pool<M>,
     output: Vec<i64>,
@@ -70,7 +70,7 @@ where
             limits: _,
             base: _,
             journal: _,
-            desk: _,
+            memory: _,
             tasks: _,
             pool: _,
             output: _,
@@ -102,7 +102,7 @@ where
       limits = e.limits;
       base = e.base.entries;
       entries = e.journal.entries;
-      desk = e.desk;
+      memory = e.memory;
       tasks = e.tasks.items;
       pool = e.pool;
       output = e.output.items;
@@ -115,12 +115,12 @@ where
       certificates = e.certificates.items;
     } };
 
-    ghost invariant = { λ e. IsEngine M.program M.devices M.is_value M.value_of M.is_machine M.stage (record {
+    ghost invariant = { λ e. IsEngine M.meaning (record {
       code = arc_value e.code;
       limits = e.limits;
       base = e.base.entries;
       entries = e.journal.entries;
-      desk = e.desk;
+      memory = e.memory;
       tasks = e.tasks.items;
       pool = e.pool;
       output = e.output.items;
@@ -220,23 +220,23 @@ where
 
     /// The number of cells.
     pub fn cells(&self) -> u32
-        ensures { result ≡ length self.now.desk.cells }
+        ensures { result ≡ length self.now.memory.cells }
     {
-        self.desk.cells().len()
+        self.memory.cells().len()
     }
 
     /// The cell at a location.
     pub fn cell(&self, l: Loc) -> &Cell<M::Value>
-        requires { l.0 < length self.now.desk.cells }
-        ensures { Some result.now ≡ slice_get self.now.desk.cells l.0 }
+        requires { l.0 < length self.now.memory.cells }
+        ensures { Some result.now ≡ slice_get self.now.memory.cells l.0 }
     {
-        self.desk.cells().cell(l)
+        self.memory.cells().cell(l)
     }
 
     /// The committed value of a location: where a seat owns the cell, the one that it found there.
     pub fn committed(&self, l: Loc) -> Option<&M::Value>
-        ensures { option_copied result ≡ committed_at self.now.desk l.0 }
+        ensures { option_copied result ≡ committed_at self.now.memory l.0 }
     {
-        self.desk.committed(l)
+        self.memory.committed(l)
     }
 }

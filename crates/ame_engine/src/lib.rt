@@ -3,10 +3,10 @@
 
 mod answer;
 mod certificate;
-mod chance;
 mod counters;
 mod ended;
 mod engine;
+mod pick;
 mod stop;
 
 pub use answer::{Begin, Checked, Freed, Noted, Undone, Wrote};

@@ -2,7 +2,7 @@
 
 ghost use Rattle.std.specs.Prelude.{◌≡◌, ◌<◌, ◌≤◌, ℕ, IfOk, IfSome, true, false, replicate, slice_index_or, vec_len};
 ghost use Rattle.std.specs.Arc.{arc_value};
-ghost use Rattle.ame_stands.specs.Events.{started};
+ghost use Rattle.ame_protocol.specs.Engine.Events.{started};
 ghost use Rattle.ame_engine.specs.Seen.{parts_of};
 ghost use Rattle.ame_engine.specs.Ending.{end_of};
 ghost use Rattle.ame_engine.specs.declared.stop.Stop.{Stop};
@@ -15,10 +15,10 @@ ghost use Rattle.ame_engine_cases.specs.Crew.{HasDone};
 
 use ame_device::Device;
 use ame_engine::{Ended, Engine, Stop};
-use ame_runner::{Runner, Wants};
-use ame_stands::Limits;
+use ame_machine::{Runner, Wants};
+use ame_protocol::Limits;
 use ame_term::NoMemory;
-use ame_turn::{Deed, Turned, Work, act, prepare, work_that_fits_is_prepared};
+use ame_turn::{Deed, Turned, Work, act, prepare};
 use std::alloc::Global;
 use std::marker::Model;
 use std::mem;
@@ -65,7 +65,7 @@ where
 
     ghost view = { λ c. c.engine };
 
-    ghost invariant = { λ c. IsCrew M.program M.devices M.value_of M.is_machine M.stage c.engine (arc_value c.code) c.seats.items (vec_len c.devices) };
+    ghost invariant = { λ c. IsCrew M.meaning c.engine (arc_value c.code) c.seats.items (vec_len c.devices) };
 }
 
 /// So many seats with nothing at hand.
@@ -104,12 +104,11 @@ where
     M::Code: Drop,
     requires same { code.now ≡ engine.now.code }
     requires limits { AreLimits engine.now.limits }
-    requires fits { Fits M.program M.devices M.value_of M.is_machine M.stage engine.now seat work.old }
-    ensures fits { Fits M.program M.devices M.value_of M.is_machine M.stage engine.now seat work.new }
-    ensures ready { result ≡ false → IsReadyWork M.stage engine.now.code engine.now.limits.slice work.new }
+    requires fits { Fits M.meaning engine.now seat work.old }
+    ensures fits { Fits M.meaning engine.now seat work.new }
+    ensures ready { result ≡ false → IsReadyWork M.meaning.stage engine.now.code engine.now.limits.slice work.new }
 {
     engine.stands();
-    work_that_fits_is_prepared::<M>();
     let slice = engine.limits().slice;
     prepare(alloc, code, slice, work).is_err() && prepare(alloc, code, slice, work).is_err()
 }
@@ -147,8 +146,8 @@ where
         devices: Vec<D>,
     ) -> Result<Crew<M, D>, NoMemory>
         requires limits { AreLimits limits }
-        requires devices { M.devices code ≤ vec_len devices }
-        ensures { IfOk result (λ engine. parts_of M.program M.devices M.value_of M.stage engine ≡ started (M.program code) (M.devices code) limits 0) }
+        requires devices { M.meaning.devices code ≤ vec_len devices }
+        ensures { IfOk result (λ engine. parts_of M.meaning engine ≡ started (M.meaning.program code) (M.meaning.devices code) limits 0) }
     {
         let code = Arc::new(alloc, code)?;
         let engine = Engine::start(alloc, Arc::try_clone(&code)?, limits)?;
@@ -177,7 +176,7 @@ where
     /// A seat has its turn, for which its machine is prepared first.
     pub fn step(&mut self, seat: u32) -> Deed
         requires { seat < self.old.limits.seats }
-        ensures { HasDone M.program M.devices M.value_of M.stage seat self.old self.new result }
+        ensures { HasDone M.meaning seat self.old self.new result }
     {
         let alloc = *self.seats.allocator();
         let mut work = mem::replace(&mut self.seats[seat as usize], Work::Idle);

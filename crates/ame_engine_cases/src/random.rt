@@ -5,7 +5,7 @@ use crate::replay::{Replay, begun, follow, is_replayed};
 use crate::texts::{Team, team_of};
 use ame_device::{Device, FailsAt};
 use ame_engine::{Counters, Ended, Stop};
-use ame_stands::Limits;
+use ame_protocol::Limits;
 use ame_value::Val;
 use std::alloc::Global;
 use std::process::Abort;

@@ -2,7 +2,7 @@
 
 use crate::table::{Event, ONE_SEAT, Row, TWO_SEATS, play_all};
 use ame_engine::Stop;
-use ame_stands::{Limits, Tried};
+use ame_protocol::{Limits, Tried};
 use ame_turn::Deed::*;
 use std::test::Fail;
 

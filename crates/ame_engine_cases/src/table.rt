@@ -4,7 +4,7 @@ use crate::texts::{Team, team_of};
 use ame_device::{Counter, Device, Heard};
 use ame_engine::{Certificate, Ended, Stop};
 use ame_journal::{Entry, EntryKind, Journal};
-use ame_stands::{Limits, Tried};
+use ame_protocol::{Limits, Tried};
 use ame_store::Store;
 use ame_term::{Copied, Loc};
 use ame_turn::Deed;

@@ -2,8 +2,8 @@
 
 use crate::table::{Event, Row, TWO_SEATS, play_all};
 use ame_engine::Stop;
+use ame_protocol::{Limits, Tried};
 use ame_rows::Bad;
-use ame_stands::{Limits, Tried};
 use ame_term::Loc;
 use ame_turn::Deed::*;
 use std::test::Fail;

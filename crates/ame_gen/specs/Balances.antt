@@ -8,8 +8,8 @@ abbrev pub initial_balance : ℕ → ℕ
 initial_balance size = 9 * size
 
 -- what an account pays in a transfer
-abbrev pub paid : ℕ → Transfer → ℕ
-paid account t = if t.from == account then t.amount else 0
+abbrev pub paid_out : ℕ → Transfer → ℕ
+paid_out account t = if t.from == account then t.amount else 0
 
 -- what an account gets in a transfer
 abbrev pub got : ℕ → Transfer → ℕ
@@ -17,4 +17,4 @@ got account t = if t.to == account then t.amount else 0
 
 -- what an account has when all transfers were made
 abbrev pub balance : ℕ → ℕ → ℕ → ℕ
-balance seed size account = initial_balance size + sum_by (got account) (transfers seed size) - sum_by (paid account) (transfers seed size)
+balance seed size account = initial_balance size + sum_by (got account) (transfers seed size) - sum_by (paid_out account) (transfers seed size)

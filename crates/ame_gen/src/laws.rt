@@ -1,7 +1,7 @@
 //! What holds of the transfers and of the text. Each is a fact for proofs, and does nothing.
 ghost use Rattle.std.specs.Prelude.{◌≡◌, ◌≤◌, ◌<◌, ◌*◌, ◌+◌, ℕ, All, [], ◌∷◌, length, map, sum, sum_by};
 ghost use Rattle.ame_gen.specs.Transfers.{accounts, transfers, IsTransfer};
-ghost use Rattle.ame_gen.specs.Balances.{initial_balance, paid, balance};
+ghost use Rattle.ame_gen.specs.Balances.{initial_balance, paid_out, balance};
 ghost use Rattle.ame_gen.specs.Template.{program_text};
 ghost use Rattle.ame_gen.specs.declared.text.TheConstants.{SIZE_LIMIT};
 
@@ -13,7 +13,7 @@ pub fn transfers_are_valid()
 /// What an account pays in all is at most what it has at the beginning. So it never lacks money, in whatever
 /// order the transfers are made.
 pub fn money_suffices()
-    ensures { (seed size account : ℕ) → sum_by (paid account) (transfers seed size) ≤ initial_balance size }
+    ensures { (seed size account : ℕ) → sum_by (paid_out account) (transfers seed size) ≤ initial_balance size }
 {}
 
 /// All accounts together have at the end what they had at the beginning.

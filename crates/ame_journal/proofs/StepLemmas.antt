@@ -10,7 +10,7 @@ use Rattle.ame_term.specs.State.{State, after, performed, performed_on, reduced_
 use Rattle.ame_term.specs.declared.semantics.StepKind.{StepKind}
 use Rattle.ame_term.specs.declared.semantics.Label.{Label}
 use Rattle.ame_laws.proofs.MapLemmas.{at-put_other}
-use Rattle.ame_soundness.proofs.MakingLemmas.{same_step-true}
+use Rattle.ame_laws.proofs.Typed.MakingLemmas.{same_step-true}
 use Rattle.ame_journal.specs.Replayed.{Replayed, is_at_unprotected, has_such, staying, entering}
 use Rattle.ame_journal.specs.Replay.{redex_act, member_act, making_name, left_or_ended, or_else}
 

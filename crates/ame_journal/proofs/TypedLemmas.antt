@@ -3,9 +3,9 @@ use Rattle.std.proofs.Common.{◌≡◌, ℕ, List, Some}
 use Rattle.ame_term.specs.Tree.{Typ, Tree}
 use Rattle.ame_term.specs.SourceTerm.{IsSourceTerm}
 use Rattle.ame_term.specs.Typing.{Accepts}
-use Rattle.ame_soundness.specs.StoreTyping.{StoreTyping}
-use Rattle.ame_soundness.specs.TypedState.{IsTyped}
-use Rattle.ame_soundness.proofs.Started.{reached}
+use Rattle.ame_laws.specs.Typed.StoreTyping.{StoreTyping}
+use Rattle.ame_laws.specs.Typed.TypedState.{IsTyped}
+use Rattle.ame_laws.proofs.Typed.Started.{reached}
 use Rattle.ame_journal.specs.declared.entry.Entry.{Entry}
 use Rattle.ame_journal.specs.Replayed.{Replayed, begun_at}
 use Rattle.ame_journal.specs.Replay.{replay}

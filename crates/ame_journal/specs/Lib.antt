@@ -1,4 +1,4 @@
-pub mod Log
+pub mod JournalView
 pub mod Replayed
 pub mod Labels
 pub mod Replay

@@ -7,7 +7,7 @@ use Rattle.std.specs.Int.{w64}
 use Rattle.ame_journal.specs.declared.entry.EntryKind.{EntryKind}
 use Rattle.ame_journal.specs.declared.line.Head.{Head}
 use Rattle.ame_journal.specs.Kinds.{kind_word}
-use Rattle.ame_journal.specs.Log.{MayHold}
+use Rattle.ame_journal.specs.JournalView.{MayHold}
 
 -- the words of a head, and those behind it
 abbrev pub head_words : Head → List (List ℕ) → List (List ℕ)

@@ -5,7 +5,7 @@ use Rattle.std.specs.Fmt.{signed_decimal}
 use Rattle.std.specs.List.{join_with_byte, flat_map}
 use Rattle.ame_journal.specs.declared.entry.Entry.{Entry}
 use Rattle.ame_journal.specs.declared.fault.JournalFault.{JournalFault}
-use Rattle.ame_journal.specs.Log.{IsFit}
+use Rattle.ame_journal.specs.JournalView.{IsFit}
 use Rattle.ame_journal.specs.Kinds.{kind_word}
 
 -- the words for an answer, where there is one

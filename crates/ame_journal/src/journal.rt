@@ -1,7 +1,7 @@
 //! A list of entries that grows at its end.
 
 ghost use Rattle.std.specs.Prelude.{◌≡◌, ◌+◌, ◌-◌, ◌^◌, ◌<◌, ◌≤◌, min, [], ◌∷◌, ◌++◌, All, OnOk, OnErr};
-ghost use Rattle.ame_journal.specs.Log.{IsFit};
+ghost use Rattle.ame_journal.specs.JournalView.{IsFit};
 ghost use Rattle.ame_journal.specs.Totals.{without_notes, total_steps};
 
 use crate::entry::Entry;
@@ -18,9 +18,9 @@ pub struct Journal {
 
 impl Model for Journal {
     ghost use Rattle.std.specs.Prelude.{◌-◌, All, vec_len, vec_capacity};
-    ghost use Rattle.ame_journal.specs.Log.{Log, IsFit};
+    ghost use Rattle.ame_journal.specs.JournalView.{JournalView, IsFit};
 
-    ghost Value = { Log };
+    ghost Value = { JournalView };
 
     ghost view = { λ a. record { entries = a.entries.items; room = vec_capacity a.entries - vec_len a.entries } };
 

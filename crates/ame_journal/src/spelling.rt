@@ -3,7 +3,7 @@
 ghost use Rattle.std.specs.Prelude.{◌≡◌, ◌++◌, ◌<◌, ◌^◌, All, FitsSigned, IfSome, OnOk, decimal, map};
 ghost use Rattle.std.specs.Int.{w64};
 ghost use Rattle.std.specs.List.{flat_map};
-ghost use Rattle.ame_journal.specs.Log.{IsFit};
+ghost use Rattle.ame_journal.specs.JournalView.{IsFit};
 ghost use Rattle.ame_journal.specs.Text.{entry_line, IsSpellable};
 ghost use Rattle.ame_journal.specs.Lines.{part_of, answer_text};
 

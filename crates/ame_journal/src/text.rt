@@ -2,7 +2,7 @@
 
 ghost use Rattle.std.specs.Prelude.{◌≡◌, ◌==◌, ◌++◌, ◌<◌, ◌≤◌, ◌^◌, [], ◌∷◌, IfOk, IfErr, MatchOption, OnOk, length};
 ghost use Rattle.std.specs.List.{position_or_len};
-ghost use Rattle.ame_journal.specs.Log.{IsFit};
+ghost use Rattle.ame_journal.specs.JournalView.{IsFit};
 ghost use Rattle.ame_journal.specs.Text.{IsText, Explains};
 ghost use Rattle.ame_journal.specs.Lines.{Lacks, IsCut, ReadsLine, ReadsNoLine};
 

@@ -16,3 +16,4 @@ pub mod HeightLemmas
 pub mod EnclosedLemmas
 pub mod RefsLemmas
 pub mod ScopedNames
+pub mod Typed

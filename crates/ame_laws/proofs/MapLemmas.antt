@@ -264,6 +264,57 @@ module _ {X : Type 0} where
   put-last (e ∷ es) ys k y rise =
       rw (greater e.0 k (all_mid e.0 es ys k y rise.0)) (ap (λ (r : List (ℕ × X)). e ∷ r) (put-last es ys k y rise.1))
 
+  -- Two maps that find the same are one.
+
+  at-first : (e : ℕ × X) (es : List (ℕ × X)) → at (e ∷ es) e.0 ≡ Some e.1
+  at-first e es = rw (is_at-here e.0)
+
+  at-later : (e : ℕ × X) (es : List (ℕ × X)) (n : ℕ) → (e.0 ≡ n → ⊥) → at (e ∷ es) n ≡ at es n
+  at-later e es n apart = rw (is_at-apart n e.0 apart)
+
+  above_all : (es : List (ℕ × X)) (e f : ℕ × X) → e.0 < f.0 → AllByRecursion (λ k. nat_cmp f.0 k ≡ Less) (keys_of es)
+      → at (f ∷ es) e.0 ≡ None
+  above_all es e f below all =
+      at-below_all (f ∷ es) e.0 (
+        less-from_lt e.0 f.0 below,
+        all-numbers (λ k. nat_cmp f.0 k ≡ Less) (λ k. nat_cmp e.0 k ≡ Less)
+            (λ k above. let more : f.0 < k = lt-from_less f.0 k above in less-from_lt e.0 k (omega arith)) (keys_of es) all,
+      )
+
+  -- where one map finds what another can't have
+  clash_of : (e : ℕ × X) (es fs : List (ℕ × X)) → at (e ∷ es) e.0 ≡ at fs e.0 → at fs e.0 ≡ None → ⊥
+  clash_of e es fs same none = let both : ◌≡◌ {A = Option X} (Some e.1) None = sym (at-first e es) ∙ same ∙ none in cc
+
+  tails_alike : (e f : ℕ × X) (es fs : List (ℕ × X)) → e.0 ≡ f.0 → AllByRecursion (λ k. nat_cmp e.0 k ≡ Less) (keys_of es)
+      → AllByRecursion (λ k. nat_cmp f.0 k ≡ Less) (keys_of fs) → ((n : ℕ) → at (e ∷ es) n ≡ at (f ∷ fs) n) → (n : ℕ) → at es n ≡ at fs n
+  tails_alike e f es fs heads all others same n = by (is_at (nat_cmp n) e.0) refl
+    where
+      by : (b : Bool) → is_at (nat_cmp n) e.0 ≡ b → at es n ≡ at fs n
+      by true is =
+          let here : n ≡ e.0 = is_at-same n e.0 is in
+          ap (at es) here ∙ at-below_all es e.0 all ∙ sym (ap (at fs) (here ∙ heads) ∙ at-below_all fs f.0 others)
+      by false is =
+          let apart = is_at-differs n e.0 is in
+          sym (at-later e es n apart) ∙ same n ∙ at-later f fs n (λ here. apart (heads ∙ here))
+
+  pub found-alike : (es fs : List (ℕ × X)) → NumbersRise es → NumbersRise fs → ((n : ℕ) → at es n ≡ at fs n) → es ≡ fs
+  unfolding IsStrictlySortedBy
+  found-alike [] [] rise others same = refl
+  found-alike [] (f ∷ fs) rise others same = absurd (clash_of f fs [] (sym (same f.0)) refl)
+  found-alike (e ∷ es) [] rise others same = absurd (clash_of e es [] (same e.0) refl)
+  found-alike (e ∷ es) (f ∷ fs) rise others same = by (nat_cmp e.0 f.0) (ranked e.0 f.0 (nat_cmp e.0 f.0) refl) (found-alike es fs rise.1 others.1)
+    where
+      by : (o : Ordering) → MatchOrdering o (e.0 < f.0) (e.0 ≡ f.0) (f.0 < e.0) → (((n : ℕ) → at es n ≡ at fs n) → es ≡ fs)
+          → ◌≡◌ {A = List (ℕ × X)} (e ∷ es) (f ∷ fs)
+      by Less h rest = absurd (clash_of e es (f ∷ fs) (same e.0) (above_all fs e f h others.0))
+      by Greater h rest = absurd (clash_of f fs (e ∷ es) (sym (same f.0)) (above_all es f e h rise.0))
+      by Equal h rest =
+          let both : ◌≡◌ {A = Option X} (Some e.1) (Some f.1) =
+          sym (at-first e es) ∙ same e.0 ∙ ap (at (f ∷ fs)) h ∙ at-first f fs in
+          let value : e.1 ≡ f.1 = cc in
+          let head : e ≡ f = λ i. (h i, value i) in
+          λ i. head i ∷ rest (tails_alike e f es fs h rise.0 others.0 same) i
+
 -- What holds of all values.
 
 module _ {X : Type 0} (P : X → Type 0) where

@@ -84,7 +84,7 @@ spawns s body = record {
   next = omega arith;
 }
 
-changes : (s : State) (n : ℕ) (t : Tree) → GoesOn s (record s { members = change s.members n t })
+pub changes : (s : State) (n : ℕ) (t : Tree) → GoesOn s (record s { members = change s.members n t })
 changes s n t = record {
   orderly = λ o. record {
     members_rise = rise-change s.members n t o.members_rise;
@@ -133,7 +133,7 @@ ends s n = record {
 leads : (s : State) (r : Tree × State) (u : Tree) (t : State) → Some (u, t) ≡ Some r → GoesOn s t → GoesOn s r.1
 leads s r u t e g = let same : t ≡ r.1 = cc in goes-to same g
 
-performed-goes : (kind : StepKind) (act : Act) (s : State) (r : Tree × State) → performed kind act s ≡ Some r → GoesOn s r.1
+pub performed-goes : (kind : StepKind) (act : Act) (s : State) (r : Tree × State) → performed kind act s ≡ Some r → GoesOn s r.1
 performed-goes kind (Act.Becomes term) s r e = leads s r term s e (goes-same s)
 performed-goes kind (Act.Allocates sort v) s r e =
     let k = and_then-gave (allocated v s) (fresh_location kind) r e in
@@ -165,7 +165,7 @@ reduced-goes side kind (Focus.AtRedex under redex) s r e =
     performed-goes kind (act_of redex) s r
     (if-gave (makes side kind (act_of redex)) (performed kind (act_of redex) s) r (if-gave (same_side side under) _ r e))
 
-reduce-goes : (side : Side) (kind : StepKind) (i : ℕ) (s t : State) → reduce side kind i s ≡ Some t → GoesOn s t
+pub reduce-goes : (side : Side) (kind : StepKind) (i : ℕ) (s t : State) → reduce side kind i s ≡ Some t → GoesOn s t
 reduce-goes side kind i s t e =
     let k = and_then-gave (λ term. option_map (rewritten i term) (reduced_at side kind (focus term) s)) (at s.members i) t e in
     let h = map-gave (rewritten i k.0) (reduced_at side kind (focus k.0) s) t k.2 in
@@ -194,7 +194,7 @@ ended-goes i s t e =
     let same : record s { members = without s.members i; active = None } ≡ t = cc in
     goes-to same (ends s i)
 
-closed-goes : (i : ℕ) (s t : State) → closed i s ≡ Some t → GoesOn s t
+pub closed-goes : (i : ℕ) (s t : State) → closed i s ≡ Some t → GoesOn s t
 closed-goes i s t e =
     let k = and_then-gave (λ term. option_map (λ v. record s { members = change s.members i (fill term (Tree.Held v)) }) (closed_value (focus term))) (at s.members i) t e in
     let h = map-gave (λ v. record s { members = change s.members i (fill k.0 (Tree.Held v)) }) (closed_value (focus k.0)) t k.2 in
@@ -223,14 +223,3 @@ start-orderly program = record {
   members_below = (omega arith, tt);
   active_there = λ i e. cc;
 }
-
-pub nobody-active : (s : State) → IsOrderly s → s.members ≡ [] → s.active ≡ None
-nobody-active s o empty = by s.active refl
-  where
-    by : (active : Option ℕ) → s.active ≡ active → active ≡ None
-    by None is = refl
-    by (Some i) is =
-        let there : is_some (at s.members i) ≡ true = o.active_there i is in
-        let gone : is_some (at s.members i) ≡ false = ap (λ (ms : List (ℕ × Tree)). is_some (at ms i)) empty in
-        let clash : false ≡ true = sym gone ∙ there in
-        cc

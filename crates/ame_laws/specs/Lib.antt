@@ -7,3 +7,4 @@ pub mod Rules
 pub mod Orderly
 pub mod Holds
 pub mod Enclosed
+pub mod Typed

@@ -7,7 +7,7 @@ use Rattle.ame_lex.specs.declared.tokens.LexFault.{LexFault}
 use Rattle.ame_lex.specs.declared.tokens.LexFault.TheVariants.{BadByte}
 use Rattle.ame_lex.specs.Bytes.{Text}
 use Rattle.ame_lex.specs.Grammar.{IsNumber, plain, negative, number, IsFault, bad_byte, long_number, letter_after_number, Lexes, finished, blank, comment, token, later, faulty}
-use Rattle.ame_lex.specs.Faults.{StandsAt, HasTokens}
+use Rattle.ame_lex.specs.Faults.{IsFaultAt, HasTokens}
 use Rattle.ame_lex.specs.Reading.{LexOutcome, with_first, token_at}
 use Rattle.ame_lex.proofs.Cuts.{EndsSo, run-on, number-on, token-on, ends_at_once, ends_alike, ends_alike_some}
 use Rattle.ame_lex.proofs.Growing.{still_long}
@@ -95,7 +95,7 @@ record Before (start : ℕ) (tail : Text) (place : ℕ) : Type 0 where
 at_once : (start : ℕ) (tail : Text) → Before start tail start
 at_once start tail = record { part = []; tokens = []; cut = record { after = tail; split = refl; ends = ends_at_once tail }; len = sym (add-zero start); lexes = finished }
 
-before_fault : {start : ℕ} {tail : Text} {fault : LexFault} (place : ℕ) → IsFault start tail fault → StandsAt fault place → Before start tail place
+before_fault : {start : ℕ} {tail : Text} {fault : LexFault} (place : ℕ) → IsFault start tail fault → IsFaultAt fault place → Before start tail place
 before_fault place (bad_byte {at = start} {b = b} {rest = rest} nothing) e = subst (Before start (b ∷ rest)) e (at_once start (b ∷ rest))
 before_fault place (long_number {at = start} {text = tail} n long) e = subst (Before start tail) e (at_once start tail)
 before_fault place (letter_after_number {at = start} {text = tail} {spelling = spelling} {rest = rest} {value = value} n fit letter) e =
@@ -117,7 +117,7 @@ take-part text front tail part place cut split len =
     let e : place ≡ length (front ++ part) = omega (arith, len, length-append front part) in
     ap (take place) whole ∙ ap (λ n. take n ((front ++ part) ++ cut.after)) e ∙ take-append_seam (front ++ part) cut.after
 
-pub tokens_before : (text : Text) (fault : LexFault) (place : ℕ) → Lexes 0 text (Err fault) → StandsAt fault place → HasTokens (take place text)
+pub tokens_before : (text : Text) (fault : LexFault) (place : ℕ) → Lexes 0 text (Err fault) → IsFaultAt fault place → HasTokens (take place text)
 tokens_before text fault place l at =
     let r = reaches l in
     let before = before_fault place r.here at in (

@@ -11,7 +11,7 @@ abbrev pub HasTokens : Text → Type 0
 HasTokens text = (tokens : List Token) × Lexes 0 text (Ok tokens)
 
 -- the fault is one of the text, at this place
-abbrev pub StandsAt : LexFault → ℕ → Type 0
-StandsAt (BadByte place) at = place ≡ at
-StandsAt (LongNumber place) at = place ≡ at
-StandsAt NoMemory at = ⊥
+abbrev pub IsFaultAt : LexFault → ℕ → Type 0
+IsFaultAt (BadByte place) at = place ≡ at
+IsFaultAt (LongNumber place) at = place ≡ at
+IsFaultAt NoMemory at = ⊥

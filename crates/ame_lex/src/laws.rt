@@ -3,7 +3,7 @@
 ghost use Rattle.std.specs.Prelude.{◌≡◌, ◌+◌, ◌↔◌, ◌++◌, ℕ, List, Result, Ok, Err, length, take, All};
 ghost use Rattle.ame_lex.specs.declared.tokens.Token.{Token};
 ghost use Rattle.ame_lex.specs.declared.tokens.LexFault.{LexFault};
-ghost use Rattle.ame_lex.specs.Faults.{HasTokens, StandsAt};
+ghost use Rattle.ame_lex.specs.Faults.{HasTokens, IsFaultAt};
 ghost use Rattle.ame_lex.specs.Grammar.{Lexes};
 ghost use Rattle.ame_lex.specs.Reading.{tokens_of};
 ghost use Rattle.ame_lex.specs.Tokens.{IsWithin, InOrder, IsSpelled};
@@ -27,7 +27,7 @@ pub fn tokens_lie_within()
 
 /// A fault is the first: the text before it has tokens, and no text that begins with the faulty one has.
 pub fn fault_is_first()
-    ensures before { (text : List ℕ) (fault : LexFault) (place : ℕ) → Lexes 0 text (Err fault) → StandsAt fault place → HasTokens (take place text) }
+    ensures before { (text : List ℕ) (fault : LexFault) (place : ℕ) → Lexes 0 text (Err fault) → IsFaultAt fault place → HasTokens (take place text) }
     ensures bad_byte { (text : List ℕ) (place : ℕ) → Lexes 0 text (Err (LexFault.BadByte place)) → Lexes 0 (take (place + 1) text) (Err (LexFault.BadByte place)) }
     ensures stays { (text more : List ℕ) (fault : LexFault) → Lexes 0 text (Err fault) → Lexes 0 (text ++ more) (Err fault) }
 {}

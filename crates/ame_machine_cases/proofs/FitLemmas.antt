@@ -9,44 +9,44 @@ use Rattle.ame_term.specs.declared.types.Effect.{Effect}
 use Rattle.ame_term.specs.declared.types.Sort.{Sort}
 use Rattle.ame_laws.proofs.FrameLemmas.{found}
 use Rattle.ame_journal.specs.Replay.{redex_act}
-use Rattle.ame_soundness.specs.StoreTyping.{StoreTyping}
-use Rattle.ame_soundness.specs.Fragment.{IsValueOf, effect_at}
-use Rattle.ame_soundness.specs.TypedAct.{IsTypedAct}
-use Rattle.ame_soundness.specs.TypedState.{IsStored, IsMember}
-use Rattle.ame_soundness.proofs.FrameTypes.{placed}
-use Rattle.ame_local.specs.Fit.{IsFitFor}
-use Rattle.ame_runner.specs.declared.wants.Wants.{Wants}
-use Rattle.ame_runner.specs.declared.wants.Wants.TheVariants as wants
-use Rattle.ame_runner.specs.declared.wants.Input.TheVariants as input
-use Rattle.ame_runner.specs.Stage.{Stage, running_side}
-use Rattle.ame_runner.specs.Need.{Need, need_of, need_told}
-use Rattle.ame_runner.specs.Move.{after_input, fed_stage}
-use Rattle.ame_runner.specs.Input.{is_wanted, value_set, value_to_set}
-use Rattle.ame_runner.specs.Sound.{IsRunnable}
-use Rattle.ame_runner.specs.Comes.{HasNextAct}
-use Rattle.ame_runner.proofs.NeedLemmas.{comes_as}
-use Rattle.ame_runner.proofs.RunnableLemmas.{runs-fed, runs-closed}
+use Rattle.ame_laws.specs.Typed.StoreTyping.{StoreTyping}
+use Rattle.ame_laws.specs.Typed.Fragment.{IsValueOf, effect_at}
+use Rattle.ame_laws.specs.Typed.TypedAct.{IsTypedAct}
+use Rattle.ame_laws.specs.Typed.TypedState.{IsStored, IsMember}
+use Rattle.ame_laws.proofs.Typed.FrameTypes.{placed}
+use Rattle.ame_machine.specs.Run.Fit.{IsFitFor}
+use Rattle.ame_machine.specs.declared.wants.Wants.{Wants}
+use Rattle.ame_machine.specs.declared.wants.Wants.TheVariants as wants
+use Rattle.ame_machine.specs.declared.wants.Input.TheVariants as input
+use Rattle.ame_machine.specs.MachineView.{MachineView, running_side}
+use Rattle.ame_machine.specs.Need.{Need, need_of, need_told}
+use Rattle.ame_machine.specs.Move.{after_input, fed_stage}
+use Rattle.ame_machine.specs.Input.{is_wanted, value_set, value_to_set}
+use Rattle.ame_machine.specs.Sound.{IsRunnable}
+use Rattle.ame_machine.specs.Comes.{HasNextAct}
+use Rattle.ame_machine.proofs.NeedLemmas.{comes_as}
+use Rattle.ame_machine.proofs.RunnableLemmas.{runs-fed, runs-closed}
 use Rattle.ame_value.specs.declared.val.Val.{Val as Held}
 use Rattle.ame_machine_cases.specs.Alone.{TakesFrom}
 
 -- two redexes at which a term stands are one
-one-redex : (s : Stage) (r q : Tree) → focus s.term ≡ Focus.AtRedex (running_side s) r → focus s.term ≡ Focus.AtRedex (running_side s) q → r ≡ q
+one-redex : (s : MachineView) (r q : Tree) → focus s.term ≡ Focus.AtRedex (running_side s) r → focus s.term ≡ Focus.AtRedex (running_side s) q → r ≡ q
 one-redex s r q e f =
     let one : Focus.AtRedex (running_side s) r ≡ Focus.AtRedex (running_side s) q = sym e ∙ f in
     cc
 
 module _ (devices : ℕ) (types : StoreTyping) where
-  fits-next : (s : Stage) (act : Act) (v : Val) → HasNextAct s act → IsFitFor devices types act v
+  fits-next : (s : MachineView) (act : Act) (v : Val) → HasNextAct s act → IsFitFor devices types act v
       → (r : Tree) → focus s.term ≡ Focus.AtRedex (running_side s) r → IsFitFor devices types (act_of r) v
   fits-next s act v next fit r stands =
       subst (λ (a : Act). IsFitFor devices types a v) (sym next.2 ∙ ap act_of (one-redex s next.0 r next.1 stands)) fit
 
-  pub goes-on : (s t : Stage) (act : Act) (v : Val) → IsRunnable devices types s → HasNextAct s act → IsFitFor devices types act v → fed_stage v s ≡ Some t
+  pub goes-on : (s t : MachineView) (act : Act) (v : Val) → IsRunnable devices types s → HasNextAct s act → IsFitFor devices types act v → fed_stage v s ≡ Some t
       → IsRunnable devices types t
   goes-on s t act v runs next fit e = runs-fed devices types v s t runs e (fits-next s act v next fit)
 
   -- the act of the redex is typed
-  pub typed-next : (s : Stage) (act : Act) → IsRunnable devices types s → HasNextAct s act
+  pub typed-next : (s : MachineView) (act : Act) → IsRunnable devices types s → HasNextAct s act
       → (q : Effect) × (t : Typ) × IsTypedAct devices types q t act
   typed-next s act runs next =
       let f = found s.term next.0 (running_side s) next.1 in
@@ -54,7 +54,7 @@ module _ (devices : ℕ) (types : StoreTyping) where
       let q = effect_at (side_of f.frames) Effect.Protected in
       (q, at.part_type, subst (λ (a : Act). IsTypedAct devices types q at.part_type a) next.2 (at.act_typed f.redex))
 
-  module _ (s t : Stage) (runs : IsRunnable devices types s) where
+  module _ (s t : MachineView) (runs : IsRunnable devices types s) where
     pub read-by : (o : Option Wants) (l : ℕ) (v : Val) → ((want : Wants) → o ≡ Some want → need_told want ≡ need_of s) → TakesFrom l o
         → IsStored devices types l v → after_input o v s ≡ Some t → IsRunnable devices types t
     read-by (Some (wants.Read at)) l v told takes stored e =
@@ -84,11 +84,11 @@ module _ (devices : ℕ) (types : StoreTyping) where
         goes-on s t (Act.Calls device asked) (Val.Int n) runs next.1 tt e
     answer-by _ n told takes e = cc
 
-  told-act : (s : Stage) (act : Act) → HasNextAct s act → value_to_set s ≡ value_set (Some act)
+  told-act : (s : MachineView) (act : Act) → HasNextAct s act → value_to_set s ≡ value_set (Some act)
   told-act s act next = ap (λ (f : Focus). value_set (redex_act f)) next.1 ∙ ap (λ (a : Act). value_set (Some a)) next.2
 
   -- what is written is of its location's type
-  pub written-typed : (s : Stage) (l : ℕ) (v : Val) → IsRunnable devices types s → Need.Write l ≡ need_of s → value_to_set s ≡ Some v → IsStored devices types l v
+  pub written-typed : (s : MachineView) (l : ℕ) (v : Val) → IsRunnable devices types s → Need.Write l ≡ need_of s → value_to_set s ≡ Some v → IsStored devices types l v
   written-typed s l v runs told sets =
       let next = comes_as s (Need.Write l) told in
       let typed = (typed-next s (Act.Writes l next.0) runs next.1).2 in
@@ -97,7 +97,7 @@ module _ (devices : ℕ) (types : StoreTyping) where
       subst (λ (z : Val). IsStored devices types l z) same ((typed.0, typed.1), typed.2, typed.3)
 
   -- what is set at a new location has a type
-  pub made-typed : (s : Stage) (sort : Sort) (v : Val) → IsRunnable devices types s → Need.Alloc sort ≡ need_of s → value_to_set s ≡ Some v
+  pub made-typed : (s : MachineView) (sort : Sort) (v : Val) → IsRunnable devices types s → Need.Alloc sort ≡ need_of s → value_to_set s ≡ Some v
       → (content : Typ) × IsValueOf devices types v content × HasNextAct s (Act.Allocates sort v)
   made-typed s sort v runs told sets =
       let next = comes_as s (Need.Alloc sort) told in

@@ -4,12 +4,12 @@ use Rattle.std.specs.Prelude.{if◌then◌else◌, ◌==◌}
 use Rattle.std.specs.List.{AllByRecursion}
 use Rattle.ame_term.specs.Tree.{Typ, Val, Tree}
 use Rattle.ame_term.specs.declared.types.Sort.{Sort}
-use Rattle.ame_soundness.specs.StoreTyping.{StoreTyping, Grows}
-use Rattle.ame_soundness.specs.Fragment.{IsValueOf}
-use Rattle.ame_soundness.specs.TypedState.{IsStored, IsMember}
-use Rattle.ame_soundness.proofs.Weaken.{weaken_cells, weaken_value}
-use Rattle.ame_runner.specs.Stage.{Stage}
-use Rattle.ame_runner.specs.Sound.{IsRunnable}
+use Rattle.ame_laws.specs.Typed.StoreTyping.{StoreTyping, Grows}
+use Rattle.ame_laws.specs.Typed.Fragment.{IsValueOf}
+use Rattle.ame_laws.specs.Typed.TypedState.{IsStored, IsMember}
+use Rattle.ame_laws.proofs.Typed.Weaken.{weaken_cells, weaken_value}
+use Rattle.ame_machine.specs.MachineView.{MachineView}
+use Rattle.ame_machine.specs.Sound.{IsRunnable}
 
 abbrev pub with_type : ℕ → Sort × Typ → StoreTyping → StoreTyping
 with_type n cell types l = if l == n then Some cell else types l
@@ -44,7 +44,7 @@ module _ (devices : ℕ) (types later : StoreTyping) (grows : Grows types later)
   members-grown [] all = tt
   members-grown (body ∷ bodies) all = (member-grown body all.0, members-grown bodies all.1)
 
-  pub runs-grown : (s : Stage) → IsRunnable devices types s → IsRunnable devices later s
+  pub runs-grown : (s : MachineView) → IsRunnable devices types s → IsRunnable devices later s
   runs-grown s h = record { member = member-grown s.term h.member; members = members-grown s.spawns h.members; standing = h.standing }
 
   pub value-grown : (v : Val) (t : Typ) → IsValueOf devices types v t → IsValueOf devices later v t

@@ -6,7 +6,7 @@ use crate::lone::Lone;
 use crate::made_up::made_up;
 use crate::texts::{code_of, read, run, serve};
 use ame_code::Code;
-use ame_runner::{Runner, Wants};
+use ame_machine::{Runner, Wants};
 use ame_strong::{Next, StepFail, StrongState};
 use ame_term::{Label, Loc, NoMemory, StepKind};
 use std::alloc::Global;

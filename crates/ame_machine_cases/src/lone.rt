@@ -7,7 +7,7 @@ ghost use Rattle.ame_eval.specs.Machines.{stage_by};
 use crate::cells::Cell;
 use ame_code::Code;
 use ame_eval::Machine;
-use ame_runner::{Runner, Wants};
+use ame_machine::{Runner, Wants};
 use ame_term::{Copied, NoMemory};
 use std::alloc::Global;
 

@@ -5,7 +5,7 @@ ghost use Rattle.ame_machine_cases.specs.Alone.{IsAlone};
 use crate::lone::Lone;
 use crate::texts::{code_of, run, serve};
 use ame_code::Code;
-use ame_runner::{Runner, Wants};
+use ame_machine::{Runner, Wants};
 use ame_term::NoMemory;
 use std::alloc::{AllocError, Global};
 use std::process::Abort;

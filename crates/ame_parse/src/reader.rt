@@ -30,11 +30,11 @@ impl<'a> Model for Reader<'a> {
 
     ghost Value = { Input };
 
-    ghost use Rattle.ame_parse.specs.Cursor.{input_of, IsReady};
+    ghost use Rattle.ame_parse.specs.Cursor.{input_of, IsReadyCursor};
 
     ghost view = { input_of };
 
-    ghost invariant = { IsReady };
+    ghost invariant = { IsReadyCursor };
 }
 
 impl<'a> Reader<'a> {

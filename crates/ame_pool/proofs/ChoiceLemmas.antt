@@ -1,16 +1,16 @@
 -- The front of the order and the counts decide who begins.
 use Rattle.std.proofs.Common.{◌≡◌, ◌<◌, ◌≤◌, ◌+◌, ◌==◌, ◌&&◌, ℕ, Bool, true, false, cond, not, List, [], ◌∷◌, length, Some, None, IsSomeAnd, IsTrue, refl, sym, ap, ◌∙◌, arith, ◌++◌, Option}
-use Rattle.ame_pool.proofs.Words.{cases_Bool, Member, Oldest, Counts, find, is_ready, is_busy, is_parked, Roster, Register, is_protected, is_worn, is_worn_protected, some_busy, may_begin_beside, may_begin, first_to_begin, members_of, oldest, oldest_or_wait, Queues, front, idle, is_inside_at, IsKept, ◌||◌, nat_lt, filter, list_any, list_all, count_by, nat_tests, count_by-le-length, list_any-append}
+use Rattle.ame_pool.proofs.Words.{cases_Bool, Member, Oldest, Counts, find, is_ready, is_busy, is_parked, Roster, Register, is_protected, is_exhausted, is_exhausted_protected, some_busy, may_begin_beside, may_begin, first_to_begin, members_of, oldest, oldest_or_wait, Queues, front, idle, is_inside_at, IsKept, ◌||◌, nat_lt, filter, list_any, list_all, count_by, nat_tests, count_by-le-length, list_any-append}
 use Rattle.ame_pool.proofs.MemberLemmas.{count_cons, find_number, which}
 use Rattle.ame_pool.proofs.CountLemmas.{kinds}
 use Rattle.ame_pool.proofs.OrderLemmas.{order_ready}
 
--- ---- truth values: i stands inside, w is worn; p and b tell that a protected and a worn one are busy, o that a worn one is older
--- beside a busy protected one, and a worn one that is busy or older, none begins but from inside
+-- ---- truth values: i stands inside, w is exhausted; p and b tell that a protected and an exhausted one are busy, o that an exhausted one is older
+-- beside a busy protected one, and an exhausted one that is busy or older, none begins but from inside
 blocked : (i w p b o : Bool) → p ≡ true → (b || o) ≡ true → cond i true (cond w (not p) (not b && not o)) ≡ i
 blocked i w p b o hp hb = grind (arith, hp, hb, cases_Bool i, cases_Bool w, cases_Bool b)
 
--- the first one may not begin only where a protected one is busy, and where it is worn or a worn one is busy
+-- the first one may not begin only where a protected one is busy, and where it is exhausted or an exhausted one is busy
 first_waits : (i w p b : Bool) → (b ≡ true → p ≡ true) → cond i true (cond w (not p) (not b && not false)) ≡ false
     → (i ≡ false) × (p ≡ true) × ((b || ((not i && w) || false)) ≡ true)
 first_waits i w p b up h = (
@@ -23,10 +23,10 @@ or_left : (b o x : Bool) → (b || o) ≡ true → (b || (o || x)) ≡ true
 or_left b o x h = grind (arith, h, cases_Bool b, cases_Bool o)
 
 module _ {M : Type 0} where
-  -- who is worn and protected is protected
-  worn_is_protected : (ms : List (Member M)) → some_busy is_worn_protected ms ≡ true → some_busy is_protected ms ≡ true
-  worn_is_protected [] h = h
-  worn_is_protected (m ∷ ms) h = grind (arith, h, worn_is_protected ms, cases_Bool (is_busy m), cases_Bool m.inside)
+  -- who is exhausted and protected is protected
+  exhausted_is_protected : (ms : List (Member M)) → some_busy is_exhausted_protected ms ≡ true → some_busy is_protected ms ≡ true
+  exhausted_is_protected [] h = h
+  exhausted_is_protected (m ∷ ms) h = grind (arith, h, exhausted_is_protected ms, cases_Bool (is_busy m), cases_Bool m.inside)
 
   -- the number of the first one inside
   abbrev first_inside : List (Member M) → Option ℕ
@@ -36,15 +36,15 @@ module _ {M : Type 0} where
   module _ (ms : List (Member M)) where
     -- once a protected one may not begin, the first one inside begins
     inside_begins : some_busy is_protected ms ≡ true → (ready older : List (Member M))
-        → (some_busy is_worn_protected ms || list_any is_worn_protected older) ≡ true
+        → (some_busy is_exhausted_protected ms || list_any is_exhausted_protected older) ≡ true
         → first_to_begin ms older ready ≡ first_inside ready
-    inside_begins busy [] older worn = refl
-    inside_begins busy (m ∷ ready) older worn =
+    inside_begins busy [] older exhausted = refl
+    inside_begins busy (m ∷ ready) older exhausted =
         let may : may_begin ms older m ≡ m.inside
-        = blocked m.inside (is_worn m) (some_busy is_protected ms) (some_busy is_worn_protected ms) (list_any is_worn_protected older) busy worn in
-        let still : (some_busy is_worn_protected ms || list_any is_worn_protected (older ++ m ∷ [])) ≡ true
-        = rw (list_any-append is_worn_protected older (m ∷ []))
-        (or_left (some_busy is_worn_protected ms) (list_any is_worn_protected older) (is_worn_protected m || false) worn) in
+        = blocked m.inside (is_exhausted m) (some_busy is_protected ms) (some_busy is_exhausted_protected ms) (list_any is_exhausted_protected older) busy exhausted in
+        let still : (some_busy is_exhausted_protected ms || list_any is_exhausted_protected (older ++ m ∷ [])) ≡ true
+        = rw (list_any-append is_exhausted_protected older (m ∷ []))
+        (or_left (some_busy is_exhausted_protected ms) (list_any is_exhausted_protected older) (is_exhausted_protected m || false) exhausted) in
         ap (λ b. cond b (Some m.number) (first_to_begin ms (older ++ m ∷ []) ready)) may
         ∙ ap (λ o. cond m.inside (Some m.number) o) (inside_begins busy ready (older ++ m ∷ []) still)
 
@@ -62,7 +62,7 @@ module _ {M : Type 0} where
         ≡ cond b (Some n) (front (filter (is_inside_at ms) (n ∷ ns)))) [
           | true ↦ λ e. ap Some (find_number n ms m f)
           | false ↦ λ e.
-              let w = first_waits m.inside (is_worn m) (some_busy is_protected ms) (some_busy is_worn_protected ms) (worn_is_protected ms) e in
+              let w = first_waits m.inside (is_exhausted m) (some_busy is_protected ms) (some_busy is_exhausted_protected ms) (exhausted_is_protected ms) e in
               let out : is_inside_at ms n ≡ false = rw (f, is_inside_at) w.0 in
               let same : filter (is_inside_at ms) (n ∷ ns) ≡ filter (is_inside_at ms) ns = rw out refl in
               inside_begins w.1 (members_of ms ns) (m ∷ []) w.2 ∙ inside_front ns ∙ ap front (sym same)
@@ -120,10 +120,10 @@ module _ {M : Type 0} where
     idle_waits e = any_counts is_busy reg.list ∙ grind (arith, nat_tests, e, h.counted.busy, cases_Bool (nat_lt 0 c.busy), cases_Bool (nat_lt 0 c.parked))
 
     -- and where the front may not begin
-    pub held_up : (m : Member M) → may_begin_beside (nat_lt 0 c.protected) (nat_lt 0 c.worn) false m ≡ false → list_any is_busy reg.list ≡ true
+    pub held_up : (m : Member M) → may_begin_beside (nat_lt 0 c.protected) (nat_lt 0 c.exhausted) false m ≡ false → list_any is_busy reg.list ≡ true
     held_up m e =
-        let some : 0 < c.protected + c.worn = grind (arith, nat_tests, e, cases_Bool m.inside, cases_Bool (is_worn m)) in
-        any_counts is_busy reg.list ∙ grind (arith, nat_tests, some, h.counted.protected, h.counted.worn, kind_counts is_busy is_protected reg.list, kind_counts is_busy is_worn_protected reg.list)
+        let some : 0 < c.protected + c.exhausted = grind (arith, nat_tests, e, cases_Bool m.inside, cases_Bool (is_exhausted m)) in
+        any_counts is_busy reg.list ∙ grind (arith, nat_tests, some, h.counted.protected, h.counted.exhausted, kind_counts is_busy is_protected reg.list, kind_counts is_busy is_exhausted_protected reg.list)
 
     -- the oldest one inside is ready
     pub inside_ready : (n : ℕ) → front q.inside ≡ Some n → IsSomeAnd (find n reg.list) (λ m. IsTrue (is_ready m))
@@ -134,14 +134,14 @@ module _ {M : Type 0} where
         front_counts p n (x ∷ xs) e = grind (arith, nat_tests, cases_Bool (p x), e, count_cons (λ k. k == n) x xs, front_counts p n xs)
 
     module _ (n : ℕ) (first : front q.order ≡ Some n) (m : Member M) (found : find n reg.list ≡ Some m) where
-      flags : may_begin reg.list [] m ≡ may_begin_beside (nat_lt 0 c.protected) (nat_lt 0 c.worn) false m
+      flags : may_begin reg.list [] m ≡ may_begin_beside (nat_lt 0 c.protected) (nat_lt 0 c.exhausted) false m
       flags =
           let p : some_busy is_protected reg.list ≡ nat_lt 0 c.protected = any_counts (λ m. is_busy m && is_protected m) reg.list ∙ ap (nat_lt 0) (sym h.counted.protected) in
-          let w : some_busy is_worn_protected reg.list ≡ nat_lt 0 c.worn = any_counts (λ m. is_busy m && is_worn_protected m) reg.list ∙ ap (nat_lt 0) (sym h.counted.worn) in
-          ap (λ b. may_begin_beside b (some_busy is_worn_protected reg.list) false m) p ∙ ap (λ b. may_begin_beside (nat_lt 0 c.protected) b false m) w
+          let w : some_busy is_exhausted_protected reg.list ≡ nat_lt 0 c.exhausted = any_counts (λ m. is_busy m && is_exhausted_protected m) reg.list ∙ ap (nat_lt 0) (sym h.counted.exhausted) in
+          ap (λ b. may_begin_beside b (some_busy is_exhausted_protected reg.list) false m) p ∙ ap (λ b. may_begin_beside (nat_lt 0 c.protected) b false m) w
 
       -- the front decides
-      pub front_is : (s : Roster M) → roster ≡ s → (b : Bool) → b ≡ may_begin_beside (nat_lt 0 c.protected) (nat_lt 0 c.worn) false m
+      pub front_is : (s : Roster M) → roster ≡ s → (b : Bool) → b ≡ may_begin_beside (nat_lt 0 c.protected) (nat_lt 0 c.exhausted) false m
           → oldest_or_wait (cond b (Some n) (front q.inside)) ≡ oldest s
       front_is s view b may =
           let rest = front_some q.order n first in

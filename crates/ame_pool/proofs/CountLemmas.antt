@@ -1,6 +1,6 @@
 -- The counts after an edit of the list.
 use Rattle.std.proofs.Common.{◌≡◌, ◌+◌, ◌&&◌, ℕ, true, List, [], ◌∷◌, length, Some, refl, ap, arith}
-use Rattle.ame_pool.proofs.Words.{Member, Standing, Counts, is_ready, is_busy, is_parked, find, altered, placed, except, is_busy_protected, is_busy_worn, counted, CountsIn, AreCounted, count_by}
+use Rattle.ame_pool.proofs.Words.{Member, Standing, Counts, is_ready, is_busy, is_parked, find, altered, placed, except, is_busy_protected, is_busy_exhausted, counted, CountsIn, AreCounted, count_by}
 use Rattle.ame_pool.proofs.MemberLemmas.{count_cons, count_altered, count_placed, count_except, standing_is}
 
 module _ {M : Type 0} where
@@ -15,7 +15,7 @@ module _ {M : Type 0} where
   ready_counted m e c =
       let ready : m.standing ≡ Standing.Ready = grind (arith, standing_is m.standing, e) in
       let z : (k : ℕ) → k + 0 ≡ k = λ k. omega arith in
-      rw (ready, z c.busy, z c.protected, z c.worn, z c.parked) refl
+      rw (ready, z c.busy, z c.protected, z c.exhausted, z c.parked) refl
 
   module _ (ms : List (Member M)) (c : Counts) (h : AreCounted ms c) where
     -- ---- one member more
@@ -25,7 +25,7 @@ module _ {M : Type 0} where
         record {
           busy = omega (arith, h.busy, count_placed new is_busy ms, ap (λ (x : Counts). x.busy) none);
           protected = omega (arith, h.protected, count_placed new is_busy_protected ms, ap (λ (x : Counts). x.protected) none);
-          worn = omega (arith, h.worn, count_placed new is_busy_worn ms, ap (λ (x : Counts). x.worn) none);
+          exhausted = omega (arith, h.exhausted, count_placed new is_busy_exhausted ms, ap (λ (x : Counts). x.exhausted) none);
           parked = omega (arith, h.parked, count_placed new is_parked ms, ap (λ (x : Counts). x.parked) none);
         }
 
@@ -35,7 +35,7 @@ module _ {M : Type 0} where
       counted_altered f d c' a b = record {
         busy = omega (arith, h.busy, ap (λ (x : Counts). x.busy) a, ap (λ (x : Counts). x.busy) b, count_altered n f is_busy ms m found);
         protected = omega (arith, h.protected, ap (λ (x : Counts). x.protected) a, ap (λ (x : Counts). x.protected) b, count_altered n f is_busy_protected ms m found);
-        worn = omega (arith, h.worn, ap (λ (x : Counts). x.worn) a, ap (λ (x : Counts). x.worn) b, count_altered n f is_busy_worn ms m found);
+        exhausted = omega (arith, h.exhausted, ap (λ (x : Counts). x.exhausted) a, ap (λ (x : Counts). x.exhausted) b, count_altered n f is_busy_exhausted ms m found);
         parked = omega (arith, h.parked, ap (λ (x : Counts). x.parked) a, ap (λ (x : Counts). x.parked) b, count_altered n f is_parked ms m found);
       }
 
@@ -44,7 +44,7 @@ module _ {M : Type 0} where
       counted_except c' a = record {
         busy = omega (arith, h.busy, ap (λ (x : Counts). x.busy) a, count_except n is_busy ms m found);
         protected = omega (arith, h.protected, ap (λ (x : Counts). x.protected) a, count_except n is_busy_protected ms m found);
-        worn = omega (arith, h.worn, ap (λ (x : Counts). x.worn) a, count_except n is_busy_worn ms m found);
+        exhausted = omega (arith, h.exhausted, ap (λ (x : Counts). x.exhausted) a, count_except n is_busy_exhausted ms m found);
         parked = omega (arith, h.parked, ap (λ (x : Counts). x.parked) a, count_except n is_parked ms m found);
       }
 
@@ -53,6 +53,6 @@ module _ {M : Type 0} where
       counts_in = record {
         busy = omega (arith, h.busy, count_except n is_busy ms m found);
         protected = omega (arith, h.protected, count_except n is_busy_protected ms m found);
-        worn = omega (arith, h.worn, count_except n is_busy_worn ms m found);
+        exhausted = omega (arith, h.exhausted, count_except n is_busy_exhausted ms m found);
         parked = omega (arith, h.parked, count_except n is_parked ms m found);
       }

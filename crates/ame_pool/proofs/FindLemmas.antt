@@ -1,6 +1,6 @@
 -- Whom the index names, after an edit of the members and of the index.
 use Rattle.std.proofs.Common.{◌≡◌, ◌==◌, ◌&&◌, ℕ, Bool, true, false, not, List, [], map, Option, Some, None, option_map, refl, sym, ap, subst, ◌∙◌, inl, inr, arith, ◌∷◌}
-use Rattle.ame_pool.proofs.Words.{cases_Bool, cases_eq, Loc, Member, Turn, find, IsFoundAfter, Roster, begun, joined, held, removed, turned, turned_at, has, lists, among, untouched, waits_for, IsBetween, IsListedAfter, IsWatched, ◌||◌, BTreeSet, list_any}
+use Rattle.ame_pool.proofs.Words.{cases_Bool, cases_eq, Loc, Member, Transition, find, IsFoundAfter, Roster, begun, joined, held, removed, after_transition, turned_at, has, lists, among, untouched, waits_for, IsBetween, IsListedAfter, IsWatched, ◌||◌, BTreeSet, list_any}
 use Rattle.ame_pool.proofs.MemberLemmas.{found_altered, found_placed, found_except}
 use Rattle.ame_pool.proofs.StandingLemmas.{turned_number}
 use Rattle.ame_pool.proofs.IndexLemmas.{listed_as, listed_then}
@@ -53,8 +53,8 @@ module _ {M : Type 0} {s : Roster M} {ix : BTreeSet (ℕ × ℕ)} (h : IsWatched
     still t f edit u = watched_after t edit (Some (f m)) (ap (option_map f) found) (listed_still n) (λ k. listed_at k ∙ sym (ap (has k) u))
 
     -- it watches what it watched
-    pub watched_same : (to : Turn M) → untouched (turned to m).standing ≡ untouched m.standing → IsWatched (turned_at n to s) ix
-    watched_same to u = still (turned_at n to s) (turned to) (found_altered n (turned to) (turned_number to) s.members) u
+    pub watched_same : (to : Transition M) → untouched (after_transition to m).standing ≡ untouched m.standing → IsWatched (turned_at n to s) ix
+    watched_same to u = still (turned_at n to s) (after_transition to) (found_altered n (after_transition to) (turned_number to) s.members) u
 
     pub watched_held : untouched m.standing ≡ [] → IsWatched (held n s) ix
     watched_held u = still (held n s) begun (found_altered n begun (λ _. refl) s.members) (sym u)
@@ -68,9 +68,9 @@ module _ {M : Type 0} {s : Roster M} {ix : BTreeSet (ℕ × ℕ)} (h : IsWatched
         cleared : IsListedAfter n (λ _. false) ix ix'
         cleared = listed_as step (λ k. cleared_table (among k locs) (lists ix k n) (listed_here k))
 
-        pub watched_cleared : (to : Turn M) → untouched (turned to m).standing ≡ [] → IsWatched (turned_at n to s) ix'
+        pub watched_cleared : (to : Transition M) → untouched (after_transition to m).standing ≡ [] → IsWatched (turned_at n to s) ix'
         watched_cleared to none =
-            watched_after (turned_at n to s) (found_altered n (turned to) (turned_number to) s.members) (Some (turned to m)) (ap (option_map (turned to)) found)
+            watched_after (turned_at n to s) (found_altered n (after_transition to) (turned_number to) s.members) (Some (after_transition to m)) (ap (option_map (after_transition to)) found)
             cleared (λ k. sym (ap (has k) none))
 
         -- it left
@@ -78,12 +78,12 @@ module _ {M : Type 0} {s : Roster M} {ix : BTreeSet (ℕ × ℕ)} (h : IsWatched
         watched_except = watched_after (removed n s) (found_except n s.members h.rising) None refl cleared (λ _. refl)
 
       -- a new list in place of that one
-      pub watched_noted : (to : Turn M) (list : List Loc) → untouched (turned to m).standing ≡ map (λ (l : Loc). l.0) list → {mid ix' : BTreeSet (ℕ × ℕ)}
+      pub watched_noted : (to : Transition M) (list : List Loc) → untouched (after_transition to m).standing ≡ map (λ (l : Loc). l.0) list → {mid ix' : BTreeSet (ℕ × ℕ)}
           → IsListedAfter n (λ k. among k list || lists ix k n) ix mid
           → IsListedAfter n (λ k. not (among k locs && not (among k list)) && lists mid k n) mid ix' → IsWatched (turned_at n to s) ix'
       watched_noted to list u {mid} first then =
-          watched_after (turned_at n to s) (found_altered n (turned to) (turned_number to) s.members) (Some (turned to m))
-          (ap (option_map (turned to)) found) (listed_then first then)
+          watched_after (turned_at n to s) (found_altered n (after_transition to) (turned_number to) s.members) (Some (after_transition to m))
+          (ap (option_map (after_transition to)) found) (listed_then first then)
           (λ k. noted_table (among k list) (among k locs) (lists ix k n) (lists mid k n) (listed_here k) (first.here k)
           ∙ sym (ap (has k) u ∙ list_any-map (λ (l : Loc). l.0) (λ q. q == k) list))
 

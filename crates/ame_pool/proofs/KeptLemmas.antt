@@ -2,7 +2,7 @@
 use Rattle.std.proofs.Common.{◌≡◌, ◌<◌, ◌≤◌, ◌+◌, ◌-◌, ◌^◌, ℕ, Bool, true, false, cond, List, [], ◌∷◌, ◌++◌, length, Option, Some, None, option_map, IsSome, IsSomeAnd, IsTrue, refl, sym, ap, subst, ◌∙◌, arith}
 use Rattle.std.proofs.lemmas.Option.{none-some, same_Some}
 use Rattle.ame_pool.specs.Standings.{max_rollbacks}
-use Rattle.ame_pool.proofs.Words.{IsFoundAfter, Member, Turn, Counts, find, altered, placed, except, is_ready, Register, Roster, Queues, HasPlace, pushed, taken, counted, IsAt, skipping, begun, turned, is_readied, is_readied_at, turned_at, IsOrderOf, is_inside_at, IsKept, filter, count_by-le-length, length-filter}
+use Rattle.ame_pool.proofs.Words.{IsFoundAfter, Member, Transition, Counts, find, altered, placed, except, is_ready, Register, Roster, Queues, HasPlace, pushed, taken, counted, IsAt, skipping, begun, after_transition, is_readied, is_readied_at, turned_at, IsOrderOf, is_inside_at, IsKept, filter, count_by-le-length, length-filter}
 use Rattle.ame_pool.proofs.MemberLemmas.{count_all, find_passes, which, all_after, found_altered, length_altered, found_placed, length_placed, found_except, length_except}
 use Rattle.ame_pool.proofs.OrderLemmas.{filter_push, filter_skipping, absent, unready, order_short, order_shorter, ordered_same, ordered_readied, ordered_held, ordered_placed, ordered_except, inside_at, inside_same, inside_but}
 use Rattle.ame_pool.proofs.CountLemmas.{kinds, counted_altered, counted_placed, counted_except}
@@ -33,22 +33,22 @@ module _ {M : Type 0} where
   at_weaker p q up n a s view need = let o = opened p n a s view need in rw o.found (up o.member o.passes)
 
   -- what a turn makes of the pool
-  pub turned_pool : (n : ℕ) (to : Turn M) (a s : Roster M) → a ≡ s → (m : Member M) → find n a.members ≡ Some m → (b : Bool) → is_readied to m ≡ b
-      → turned_at n to a ≡ record s { members = altered n (turned to) s.members; order = s.order ++ cond b (n ∷ []) [] }
+  pub turned_pool : (n : ℕ) (to : Transition M) (a s : Roster M) → a ≡ s → (m : Member M) → find n a.members ≡ Some m → (b : Bool) → is_readied to m ≡ b
+      → turned_at n to a ≡ record s { members = altered n (after_transition to) s.members; order = s.order ++ cond b (n ∷ []) [] }
   turned_pool n to a s view m found b e =
       let at : is_readied_at n to a ≡ b = rw (found, is_readied_at) e in
-      rw at (ap (λ (x : Roster M). let r : Roster M = record x { members = altered n (turned to) x.members; order = x.order ++ cond b (n ∷ []) [] } in r) view)
+      rw at (ap (λ (x : Roster M). let r : Roster M = record x { members = altered n (after_transition to) x.members; order = x.order ++ cond b (n ∷ []) [] } in r) view)
 
   -- the altered member is found
-  module _ (n : ℕ) (to : Turn M) (ms : List (Member M)) (m : Member M) (found : find n ms ≡ Some m) where
-    pub found_turned : find n (altered n (turned to) ms) ≡ Some (turned to m)
-    found_turned = (found_altered n (turned to) (turned_number to) ms).here ∙ ap (option_map (turned to)) found
+  module _ (n : ℕ) (to : Transition M) (ms : List (Member M)) (m : Member M) (found : find n ms ≡ Some m) where
+    pub found_turned : find n (altered n (after_transition to) ms) ≡ Some (after_transition to m)
+    found_turned = (found_altered n (after_transition to) (turned_number to) ms).here ∙ ap (option_map (after_transition to)) found
 
-    pub there_turned : IsSome (find n (altered n (turned to) ms))
+    pub there_turned : IsSome (find n (altered n (after_transition to) ms))
     there_turned = rw found_turned refl
 
-    pub read_turned : (o : Member M) → Some o ≡ find n (altered n (turned to) ms) → o ≡ turned to m
-    read_turned o e = let same : Some o ≡ Some (turned to m) = e ∙ found_turned in cc
+    pub read_turned : (o : Member M) → Some o ≡ find n (altered n (after_transition to) ms) → o ≡ after_transition to m
+    read_turned o e = let same : Some o ≡ Some (after_transition to m) = e ∙ found_turned in cc
 
 module _ {M : Type 0} {reg : Register M} {q : Queues} {c : Counts} (h : IsKept reg q c) where
   -- ---- what there is room for
@@ -75,15 +75,15 @@ module _ {M : Type 0} {reg : Register M} {q : Queues} {c : Counts} (h : IsKept r
         record { order = order; inside = omega (arith, order, inside_short) }
 
     -- ---- its turn
-    module _ (to : Turn M) (d c' : Counts) (leave : c ≡ counted m d) (enter : c' ≡ counted (turned to m) d) where
+    module _ (to : Transition M) (d c' : Counts) (leave : c ≡ counted m d) (enter : c' ≡ counted (after_transition to m) d) where
       abbrev new : List (Member M)
-      new = altered n (turned to) reg.list
+      new = altered n (after_transition to) reg.list
 
-      edit : IsFoundAfter n (option_map (turned to)) reg.list new
-      edit = found_altered n (turned to) (turned_number to) reg.list
+      edit : IsFoundAfter n (option_map (after_transition to)) reg.list new
+      edit = found_altered n (after_transition to) (turned_number to) reg.list
 
-      inside_new : is_inside_at new n ≡ (turned to m).inside
-      inside_new = inside_at n new (turned to m) (found_turned n to reg.list m found)
+      inside_new : is_inside_at new n ≡ (after_transition to m).inside
+      inside_new = inside_at n new (after_transition to m) (found_turned n to reg.list m found)
 
       turned_kept : (q' : Queues) → q'.places ≡ q.places → IsOrderOf new q'.order → q'.inside ≡ filter (is_inside_at new) q'.order
           → IsKept (record reg { list = new }) q' c'
@@ -92,41 +92,41 @@ module _ {M : Type 0} {reg : Register M} {q : Queues} {c : Counts} (h : IsKept r
           rising = edit.rising h.sound.rising;
           ordered = ordered;
           rollbacks = all_after edit h.sound.rising few h.sound.rollbacks (λ o e.
-              subst few (same_Some (turned to m) o (ap (option_map (turned to)) (sym found) ∙ e))
+              subst few (same_Some (after_transition to m) o (ap (option_map (after_transition to)) (sym found) ∙ e))
               ((turn_is to m).few (find_passes few n reg.list h.sound.rollbacks m found)));
         };
         inside = inside;
-        counted = counted_altered reg.list c h.counted n m found (turned to) d c' leave enter;
-        fits = omega (arith, h.fits, places, length_altered n (turned to) reg.list);
+        counted = counted_altered reg.list c h.counted n m found (after_transition to) d c' leave enter;
+        fits = omega (arith, h.fits, places, length_altered n (after_transition to) reg.list);
         small = omega (arith, h.small, places);
       }
 
-      kept_unready : (r : Bool) → is_ready m ≡ false → is_ready (turned to m) ≡ r
-          → IsKept (record reg { list = new }) (cond r (pushed n (turned to m).inside q) q) c'
+      kept_unready : (r : Bool) → is_ready m ≡ false → is_ready (after_transition to m) ≡ r
+          → IsKept (record reg { list = new }) (cond r (pushed n (after_transition to m).inside q) q) c'
       kept_unready false was is =
-          turned_kept q refl (ordered_same reg.list q.order h.sound.ordered n (turned to) (turned_number to) m found (is ∙ sym was))
+          turned_kept q refl (ordered_same reg.list q.order h.sound.ordered n (after_transition to) (turned_number to) m found (is ∙ sym was))
           (h.inside ∙ inside_but edit q.order (unready reg.list q.order h.sound n m found was))
       kept_unready true was is =
-          turned_kept (pushed n (turned to m).inside q) refl (ordered_readied reg.list q.order h.sound.ordered n (turned to) (turned_number to) m found was is)
-          (ap (λ l. cond (turned to m).inside (l ++ n ∷ []) l) (h.inside ∙ inside_but edit q.order (unready reg.list q.order h.sound n m found was))
-          ∙ filter_push (is_inside_at new) q.order n (turned to m).inside inside_new)
+          turned_kept (pushed n (after_transition to m).inside q) refl (ordered_readied reg.list q.order h.sound.ordered n (after_transition to) (turned_number to) m found was is)
+          (ap (λ l. cond (after_transition to m).inside (l ++ n ∷ []) l) (h.inside ∙ inside_but edit q.order (unready reg.list q.order h.sound n m found was))
+          ∙ filter_push (is_inside_at new) q.order n (after_transition to m).inside inside_new)
 
-      pub kept_held : is_ready m ≡ true → is_ready (turned to m) ≡ false → (turned to m).inside ≡ m.inside
+      pub kept_held : is_ready m ≡ true → is_ready (after_transition to m) ≡ false → (after_transition to m).inside ≡ m.inside
           → IsKept (record reg { list = new }) (taken n m.inside q) c'
       kept_held was is same =
-          turned_kept (taken n m.inside q) refl (ordered_held reg.list q.order h.sound.ordered n (turned to) (turned_number to) m found was is)
+          turned_kept (taken n m.inside q) refl (ordered_held reg.list q.order h.sound.ordered n (after_transition to) (turned_number to) m found was is)
           (ap (λ l. cond m.inside (skipping n l) l) (h.inside ∙ inside_same edit (inside_at n reg.list m found ∙ sym same ∙ sym inside_new) q.order)
           ∙ filter_skipping (is_inside_at new) n q.order m.inside (inside_new ∙ same))
 
-    pub kept_turn : is_ready m ≡ false → (to : Turn M) (reg' : Register M) → reg' ≡ record reg { list = altered n (turned to) reg.list }
+    pub kept_turn : is_ready m ≡ false → (to : Transition M) (reg' : Register M) → reg' ≡ record reg { list = altered n (after_transition to) reg.list }
         → (r : Bool) → Some r ≡ option_map (is_readied to) (find n reg.list) → (d c' : Counts) → c ≡ counted m d → (o : Member M) → Some o ≡ find n reg'.list → c' ≡ counted o d
         → (q' : Queues) → q' ≡ cond r (pushed n o.inside q) q → IsKept reg' q' c'
     kept_turn was to reg' new r told d c' leave o read enter q' queue =
-        let same : o ≡ turned to m = read_turned n to reg.list m found o (rw new at read) in
+        let same : o ≡ after_transition to m = read_turned n to reg.list m found o (rw new at read) in
         let readied : Some r ≡ Some (is_readied to m) = told ∙ ap (option_map (is_readied to)) found in
-        let is : is_ready (turned to m) ≡ r = (turn_is to m).ready was ∙ (let e : is_readied to m ≡ r = cc in e) in
+        let is : is_ready (after_transition to m) ≡ r = (turn_is to m).ready was ∙ (let e : is_readied to m ≡ r = cc in e) in
         let entered = enter ∙ ap (λ x. counted x d) same in
-        let line : q' ≡ cond r (pushed n (turned to m).inside q) q = queue ∙ ap (λ (x : Member M). cond r (pushed n x.inside q) q) same in
+        let line : q' ≡ cond r (pushed n (after_transition to m).inside q) q = queue ∙ ap (λ (x : Member M). cond r (pushed n x.inside q) q) same in
         rw (new, line) (kept_unready to d c' leave entered r was is)
 
     -- ---- it leaves

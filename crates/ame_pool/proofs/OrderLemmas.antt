@@ -1,6 +1,6 @@
 -- The order of the ready members, and of those inside, after an edit of the list.
 use Rattle.std.proofs.Common.{◌≡◌, ◌≢◌, ◌<◌, ◌≤◌, ◌+◌, ◌==◌, ◌&&◌, ℕ, Bool, true, false, cond, List, [], ◌∷◌, ◌++◌, length, Option, Some, None, IsSomeAnd, IsTrue, refl, sym, ap, subst, ◌∙◌, inl, inr, arith}
-use Rattle.ame_pool.proofs.Words.{cases_Bool, Member, Standing, IsRising, IsFoundAfter, is_ready, find, altered, placed, except, skipping, front, IsOrderOf, IsSound, is_inside_at, count_by, filter, nat_tests, cases_eq, length-append, append-nil, filter_agree, filter-append, sum_by_push, count_by-le-length}
+use Rattle.ame_pool.proofs.Words.{cases_Bool, Member, Standing, IsRising, IsFoundAfter, is_ready, find, altered, placed, except, skipping, front, IsOrderOf, AreInOrder, is_inside_at, count_by, filter, nat_tests, cases_eq, length-append, append-nil, filter_agree, filter-append, sum_by_push, count_by-le-length}
 use Rattle.ame_pool.proofs.MemberLemmas.{count_cons, count_all, none_above, find_number, count_altered, length_altered, count_placed, count_except}
 
 module _ {M : Type 0} where
@@ -53,7 +53,7 @@ module _ {M : Type 0} where
   ready_some (Some m) some = grind (arith, cases_Bool (is_ready m), some)
 
   -- the order has whoever is ready once, and nobody else
-  module _ (ms : List (Member M)) (order : List ℕ) (s : IsSound ms order) (n : ℕ) where
+  module _ (ms : List (Member M)) (order : List ℕ) (s : AreInOrder ms order) (n : ℕ) where
     at_number : count_by (λ k. k == n) order ≡ ready_of (find n ms)
     at_number = s.ordered (λ k. k == n) ∙ counted_at n ms s.rising
 
@@ -70,7 +70,7 @@ module _ {M : Type 0} where
     unready m found was = at_number ∙ ap ready_of found ∙ rw was refl
 
   -- the oldest one is ready
-  pub front_ready : (ms : List (Member M)) (order : List ℕ) → IsSound ms order → (n : ℕ) → front order ≡ Some n → IsSomeAnd (find n ms) (λ m. IsTrue (is_ready m))
+  pub front_ready : (ms : List (Member M)) (order : List ℕ) → AreInOrder ms order → (n : ℕ) → front order ≡ Some n → IsSomeAnd (find n ms) (λ m. IsTrue (is_ready m))
   front_ready ms [] s n e = cc
   front_ready ms (x ∷ xs) s n e = let same : x ≡ n = cc in order_ready ms (x ∷ xs) s n (grind (arith, nat_tests, same, count_cons (λ k. k == n) x xs))
 

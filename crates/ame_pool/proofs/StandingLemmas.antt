@@ -1,6 +1,6 @@
 -- What a member's standing tells, and what a turn makes of it.
 use Rattle.std.proofs.Common.{◌≡◌, ◌≤◌, ℕ, Bool, true, false, refl, arith}
-use Rattle.ame_pool.proofs.Words.{Member, Standing, Turn, is_ready, is_busy, rolled, settled, is_touched, stirred, is_waiting_for, untouched, is_away, turned, is_readied}
+use Rattle.ame_pool.proofs.Words.{Member, Standing, Transition, is_ready, is_busy, rolled, settled, is_touched, stirred, is_waiting_for, untouched, is_away, after_transition, is_readied}
 use Rattle.ame_pool.proofs.MemberLemmas.{standing_is}
 
 abbrev ready : Standing → Bool
@@ -22,20 +22,20 @@ settled_untouched s = grind (arith, standing_is s)
 
 module _ {M : Type 0} where
   -- a turn keeps the number and no more than eight rollbacks, and who isn't ready is ready then where the turn says so
-  pub record IsTurn (to : Turn M) (m : Member M) : Type 0 where
-    pub number : (turned to m).number ≡ m.number
-    pub few : m.rollbacks ≤ 8 → (turned to m).rollbacks ≤ 8
-    pub ready : is_ready m ≡ false → is_ready (turned to m) ≡ is_readied to m
+  pub record IsTurn (to : Transition M) (m : Member M) : Type 0 where
+    pub number : (after_transition to m).number ≡ m.number
+    pub few : m.rollbacks ≤ 8 → (after_transition to m).rollbacks ≤ 8
+    pub ready : is_ready m ≡ false → is_ready (after_transition to m) ≡ is_readied to m
 
-  pub turn_is : (to : Turn M) (m : Member M) → IsTurn to m
-  turn_is Turn.Begin m = record { number = refl; few = λ h. h; ready = λ h. refl }
-  turn_is (Turn.Home b) m = record { number = refl; few = rolled_le b m.rollbacks; ready = λ h. refl }
-  turn_is (Turn.Renew x i) m = record { number = refl; few = λ h. omega arith; ready = λ h. refl }
-  turn_is (Turn.Watch locs) m = record { number = refl; few = λ h. omega arith; ready = λ h. refl }
-  turn_is Turn.Settle m = record { number = refl; few = λ h. h; ready = settled_ready m.standing }
-  turn_is (Turn.Stir l) m = record { number = refl; few = λ h. h; ready = stirred_ready l.0 m.standing }
+  pub turn_is : (to : Transition M) (m : Member M) → IsTurn to m
+  turn_is Transition.Begin m = record { number = refl; few = λ h. h; ready = λ h. refl }
+  turn_is (Transition.Home b) m = record { number = refl; few = rolled_le b m.rollbacks; ready = λ h. refl }
+  turn_is (Transition.Renew x i) m = record { number = refl; few = λ h. omega arith; ready = λ h. refl }
+  turn_is (Transition.Watch locs) m = record { number = refl; few = λ h. omega arith; ready = λ h. refl }
+  turn_is Transition.Settle m = record { number = refl; few = λ h. h; ready = settled_ready m.standing }
+  turn_is (Transition.Stir l) m = record { number = refl; few = λ h. h; ready = stirred_ready l.0 m.standing }
 
-  pub turned_number : (to : Turn M) (m : Member M) → (turned to m).number ≡ m.number
+  pub turned_number : (to : Transition M) (m : Member M) → (after_transition to m).number ≡ m.number
   turned_number to m = (turn_is to m).number
 
   -- ---- who is away

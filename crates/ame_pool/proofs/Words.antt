@@ -1,10 +1,10 @@
 -- The words of the crate that its proofs speak of.
-pub use Rattle.ame_pool.specs.Begin.{first_to_begin, is_protected, is_worn, is_worn_protected, may_begin, may_begin_beside, members_of, oldest, oldest_or_wait, some_busy}
+pub use Rattle.ame_pool.specs.Begin.{first_to_begin, is_protected, is_exhausted, is_exhausted_protected, may_begin, may_begin_beside, members_of, oldest, oldest_or_wait, some_busy}
 pub use Rattle.ame_pool.specs.Calls.{IsAt, at_home, at_rest, begun, held, is_noted, is_running, joined, machine_of, newcomer, noted, noted_on, removed, renewed, skipping, woken}
-pub use Rattle.ame_pool.specs.Counts.{AreCounted, CountsIn, counted, idle, is_busy_protected, is_busy_worn}
+pub use Rattle.ame_pool.specs.Counts.{AreCounted, CountsIn, counted, idle, is_busy_protected, is_busy_exhausted}
 pub use Rattle.ame_pool.specs.Found.{IsFoundAfter}
 pub use Rattle.ame_pool.specs.Index.{IsBetween, IsListedAfter, among, lists, pair_cmp, untouched, waits_for}
-pub use Rattle.ame_pool.specs.Keeps.{IsKept, IsOrderOf, IsSound, IsWatched, is_inside_at}
+pub use Rattle.ame_pool.specs.Keeps.{IsKept, IsOrderOf, AreInOrder, IsWatched, is_inside_at}
 pub use Rattle.ame_pool.specs.Line.{IsPlaceOf, Row, StartsFull, is_gap, is_of, numbers_in}
 pub use Rattle.ame_pool.specs.Members.{IsRising, altered, except, find, is_busy, is_parked, is_ready, placed}
 pub use Rattle.ame_pool.specs.Numbered.{AreRising, IsEntryGap, IsEntryOf, IsNumbered, IsSlotOf, behind, filed, key_of, members_at, only}
@@ -13,7 +13,7 @@ pub use Rattle.ame_pool.specs.Register.{Register}
 pub use Rattle.ame_pool.specs.Roster.{Roster}
 pub use Rattle.ame_pool.specs.Standings.{is_touched, rolled, settled}
 pub use Rattle.ame_pool.specs.Stirs.{is_watching, is_woken_at, stirred_at}
-pub use Rattle.ame_pool.specs.Turns.{is_away, is_readied, is_readied_at, turned, turned_at}
+pub use Rattle.ame_pool.specs.Turns.{is_away, is_readied, is_readied_at, after_transition, turned_at}
 pub use Rattle.ame_pool.specs.Waking.{has, is_waiting_for, is_woken_by, stirred, stirred_by, touched_by, woken_by}
 pub use Rattle.ame_pool.specs.declared.counts.Counts.{Counts}
 pub use Rattle.ame_pool.specs.declared.line.Entry.{Entry}
@@ -22,7 +22,7 @@ pub use Rattle.ame_pool.specs.declared.member.Standing.{Standing}
 pub use Rattle.ame_pool.specs.declared.member.Watch.{Watch}
 pub use Rattle.ame_pool.specs.declared.numbers.Numbered.{Numbered}
 pub use Rattle.ame_pool.specs.declared.oldest.Oldest.{Oldest}
-pub use Rattle.ame_pool.specs.declared.turn.Turn.{Turn}
+pub use Rattle.ame_pool.specs.declared.turn.Transition.{Transition}
 pub use Rattle.ame_term.specs.declared.types.Loc.{Loc}
 pub use Rattle.slab.specs.Slab.{ContainsKey, Slab, Updates, get, with_value}
 pub use Rattle.std.proofs.lemmas.Bool.{cases_Bool, cases_eq, cases_lt, cond_both}

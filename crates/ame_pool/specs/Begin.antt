@@ -16,26 +16,26 @@ module _ {M : Type 0} where
   is_protected m = not m.inside
 
   -- it was rolled back as often as it may be
-  abbrev pub is_worn : Member M → Bool
-  is_worn m = m.rollbacks == max_rollbacks
+  abbrev pub is_exhausted : Member M → Bool
+  is_exhausted m = m.rollbacks == max_rollbacks
 
-  abbrev pub is_worn_protected : Member M → Bool
-  is_worn_protected m = is_protected m && is_worn m
+  abbrev pub is_exhausted_protected : Member M → Bool
+  is_exhausted_protected m = is_protected m && is_exhausted m
 
   -- some busy member is of this kind
   abbrev pub some_busy : (Member M → Bool) → List (Member M) → Bool
   some_busy kind ms = list_any (λ m. is_busy m && kind m) ms
 
-  -- A ready member may begin: inside always; a worn one where no protected member is busy; else where
-  -- no worn one is busy or older.
+  -- A ready member may begin: inside always; an exhausted one where no protected member is busy; else where
+  -- no exhausted one is busy or older.
   abbrev pub may_begin_beside : Bool → Bool → Bool → Member M → Bool
-  may_begin_beside protected_busy worn_busy worn_older m =
-      cond m.inside true (cond (is_worn m) (not protected_busy) (not worn_busy && not worn_older))
+  may_begin_beside protected_busy exhausted_busy exhausted_older m =
+      cond m.inside true (cond (is_exhausted m) (not protected_busy) (not exhausted_busy && not exhausted_older))
 
   -- a ready member may begin, where these ready ones are older
   abbrev pub may_begin : List (Member M) → List (Member M) → Member M → Bool
   may_begin ms older m =
-      may_begin_beside (some_busy is_protected ms) (some_busy is_worn_protected ms) (list_any is_worn_protected older) m
+      may_begin_beside (some_busy is_protected ms) (some_busy is_exhausted_protected ms) (list_any is_exhausted_protected older) m
 
   -- the first of the ready members that may begin
   abbrev pub first_to_begin : List (Member M) → List (Member M) → List (Member M) → Option ℕ

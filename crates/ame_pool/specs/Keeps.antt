@@ -17,7 +17,7 @@ module _ {M : Type 0} where
   IsOrderOf ms order = (p : ℕ → Bool) → count_by p order ≡ count_by (λ m. is_ready m && p m.number) ms
 
   -- rising numbers, an order of the ready members, and no more rollbacks than may be
-  pub record IsSound (ms : List (Member M)) (order : List ℕ) : Type 0 where
+  pub record AreInOrder (ms : List (Member M)) (order : List ℕ) : Type 0 where
     pub rising : IsRising ms
     pub ordered : IsOrderOf ms order
     pub rollbacks : All (λ m. m.rollbacks ≤ max_rollbacks) ms
@@ -28,7 +28,7 @@ module _ {M : Type 0} where
 
   -- a sound pool, the ready ones inside in the same order, the counts, and places for its members and for those that may join
   pub record IsKept (members : Register M) (ready : Queues) (counts : Counts) : Type 0 where
-    pub sound : IsSound members.list ready.order
+    pub sound : AreInOrder members.list ready.order
     pub inside : ready.inside ≡ filter (is_inside_at members.list) ready.order
     pub counted : AreCounted members.list counts
     pub fits : length members.list + members.room ≤ ready.places

@@ -1,7 +1,7 @@
 -- What becomes of one member, and of the pool with it.
 use Rattle.std.specs.Prelude.{ℕ, Bool, true, false, not, cond, [], ◌∷◌, ◌++◌, Some, None}
 use Rattle.ame_pool.specs.declared.member.Member.{Member}
-use Rattle.ame_pool.specs.declared.turn.Turn.{Turn}
+use Rattle.ame_pool.specs.declared.turn.Transition.{Transition}
 use Rattle.ame_pool.specs.Members.{is_ready, find, altered}
 use Rattle.ame_pool.specs.Standings.{is_touched}
 use Rattle.ame_pool.specs.Waking.{stirred_by, is_woken_by}
@@ -14,30 +14,30 @@ module _ {M : Type 0} where
   is_away m = not (is_ready m)
 
   -- the member after a turn
-  abbrev pub turned : Turn M → Member M → Member M
-  turned Turn.Begin m = begun m
-  turned (Turn.Home rolled_back) m = at_home rolled_back m
-  turned (Turn.Renew machine inside) m = renewed machine inside m
-  turned (Turn.Watch locs) m = noted_on locs m
-  turned Turn.Settle m = at_rest m
-  turned (Turn.Stir l) m = stirred_by l.0 m
+  abbrev pub after_transition : Transition M → Member M → Member M
+  after_transition Transition.Begin m = begun m
+  after_transition (Transition.Home rolled_back) m = at_home rolled_back m
+  after_transition (Transition.Renew machine inside) m = renewed machine inside m
+  after_transition (Transition.Watch locs) m = noted_on locs m
+  after_transition Transition.Settle m = at_rest m
+  after_transition (Transition.Stir l) m = stirred_by l.0 m
 
   -- the turn makes it ready
-  abbrev pub is_readied : Turn M → Member M → Bool
-  is_readied Turn.Begin m = false
-  is_readied (Turn.Home rolled_back) m = true
-  is_readied (Turn.Renew machine inside) m = true
-  is_readied (Turn.Watch locs) m = false
-  is_readied Turn.Settle m = is_touched m.standing
-  is_readied (Turn.Stir l) m = is_woken_by l.0 m
+  abbrev pub is_readied : Transition M → Member M → Bool
+  is_readied Transition.Begin m = false
+  is_readied (Transition.Home rolled_back) m = true
+  is_readied (Transition.Renew machine inside) m = true
+  is_readied (Transition.Watch locs) m = false
+  is_readied Transition.Settle m = is_touched m.standing
+  is_readied (Transition.Stir l) m = is_woken_by l.0 m
 
   -- the turn makes the member with the number ready
-  abbrev pub is_readied_at : ℕ → Turn M → Roster M → Bool
+  abbrev pub is_readied_at : ℕ → Transition M → Roster M → Bool
   is_readied_at number to s = elim (find number s.members) [ None ↦ false | Some m ↦ is_readied to m ]
 
   -- the member with the number after a turn, and the youngest ready one where that makes it ready
-  abbrev pub turned_at : ℕ → Turn M → Roster M → Roster M
+  abbrev pub turned_at : ℕ → Transition M → Roster M → Roster M
   turned_at number to s = record s {
-    members = altered number (turned to) s.members;
+    members = altered number (after_transition to) s.members;
     order = s.order ++ cond (is_readied_at number to s) (number ∷ []) [];
   }

@@ -1,7 +1,7 @@
 //! How many members are busy or parked.
 
 ghost use Rattle.std.specs.Prelude.{◌≡◌, ◌+◌, ◌<◌, ◌≤◌, ◌^◌, false, nat_lt};
-ghost use Rattle.ame_pool.specs.Begin.{is_protected, is_worn_protected, may_begin_beside};
+ghost use Rattle.ame_pool.specs.Begin.{is_protected, is_exhausted_protected, may_begin_beside};
 ghost use Rattle.ame_pool.specs.Members.{is_busy, is_parked};
 
 use crate::member::{Member, ROLLBACK_LIMIT, Standing};
@@ -12,7 +12,7 @@ use crate::oldest::Oldest;
 pub struct Counts {
     pub busy: usize,
     pub protected: usize,
-    pub worn: usize,
+    pub exhausted: usize,
     pub parked: usize,
 }
 
@@ -35,8 +35,8 @@ impl<M> Member<M> {
         !self.inside
     }
 
-    fn is_worn_protected(&self) -> bool
-        ensures { result ≡ is_worn_protected self.now }
+    fn is_exhausted_protected(&self) -> bool
+        ensures { result ≡ is_exhausted_protected self.now }
     {
         !self.inside && self.rollbacks == ROLLBACK_LIMIT
     }
@@ -47,12 +47,12 @@ impl Counts {
 
     /// Of no member.
     pub fn new() -> Counts
-        ensures { result ≡ record { busy = 0; protected = 0; worn = 0; parked = 0 } }
+        ensures { result ≡ record { busy = 0; protected = 0; exhausted = 0; parked = 0 } }
     {
         Counts {
             busy: 0,
             protected: 0,
-            worn: 0,
+            exhausted: 0,
             parked: 0,
         }
     }
@@ -61,14 +61,14 @@ impl Counts {
     pub fn enter<M>(&mut self, member: &Member<M>)
         requires busy { self.old.busy < 2 ^ 63 }
         requires protected { self.old.protected < 2 ^ 63 }
-        requires worn { self.old.worn < 2 ^ 63 }
+        requires exhausted { self.old.exhausted < 2 ^ 63 }
         requires parked { self.old.parked < 2 ^ 63 }
         ensures { self.new ≡ counted member.now self.old }
     {
         if member.is_busy() {
             self.busy += 1;
             self.protected += member.is_protected() as usize;
-            self.worn += member.is_worn_protected() as usize;
+            self.exhausted += member.is_exhausted_protected() as usize;
         }
         self.parked += member.is_parked() as usize;
     }
@@ -81,7 +81,7 @@ impl Counts {
         if member.is_busy() {
             self.busy -= 1;
             self.protected -= member.is_protected() as usize;
-            self.worn -= member.is_worn_protected() as usize;
+            self.exhausted -= member.is_exhausted_protected() as usize;
         }
         self.parked -= member.is_parked() as usize;
     }
@@ -101,14 +101,14 @@ impl Counts {
 
     /// Whether the oldest ready member may begin.
     pub fn may_begin<M>(&self, member: &Member<M>) -> bool
-        ensures { result ≡ may_begin_beside (nat_lt 0 self.now.protected) (nat_lt 0 self.now.worn) false member.now }
+        ensures { result ≡ may_begin_beside (nat_lt 0 self.now.protected) (nat_lt 0 self.now.exhausted) false member.now }
     {
         if member.inside {
             true
         } else if member.rollbacks == ROLLBACK_LIMIT {
             self.protected == 0
         } else {
-            self.worn == 0
+            self.exhausted == 0
         }
     }
 }

@@ -3,7 +3,6 @@
 
 mod counts;
 mod index;
-mod laws;
 mod line;
 mod member;
 mod members;
@@ -14,9 +13,10 @@ mod ready;
 mod roll;
 #[cfg(test)]
 mod tests;
+mod theorems;
 mod turn;
 
-pub use laws::{found_after_calls, found_are_all};
 pub use member::{Member, ROLLBACK_LIMIT, Standing, Watch};
 pub use oldest::Oldest;
 pub use pool::Pool;
+pub use theorems::found_are_all;

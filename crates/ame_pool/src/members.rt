@@ -7,7 +7,7 @@ ghost use Rattle.ame_pool.specs.Numbered.{AreRising, IsSlotOf, only, members_at}
 
 use crate::member::Member;
 use crate::numbers::{Numbered, enter, known_slot, slot_of};
-use crate::turn::Turn;
+use crate::turn::Transition;
 use ame_term::NoMemory;
 use slab::Slab;
 use std::alloc::Global;
@@ -87,7 +87,7 @@ fn drop_stale<M>(numbers: &mut Vec<Numbered>, slots: &Slab<Member<M>>)
 
 impl<M: Drop> Members<M> {
     ghost use Rattle.ame_pool.specs.Members.{find, altered, placed, except};
-    ghost use Rattle.ame_pool.specs.Turns.{turned, is_readied};
+    ghost use Rattle.ame_pool.specs.Turns.{after_transition, is_readied};
     ghost use Rattle.ame_pool.specs.Register.{vacant};
 
     /// No members. It takes no memory.
@@ -138,7 +138,7 @@ impl<M: Drop> Members<M> {
     }
 
     /// The seat of a member, which no other one has meanwhile.
-    pub fn seat(&self, number: u64) -> usize {
+    pub fn slot(&self, number: u64) -> usize {
         match slot_of(self.numbers.as_slice(), number) {
             Some(key) => key,
             None => 0,
@@ -168,9 +168,9 @@ impl<M: Drop> Members<M> {
     }
 
     /// A member's turn; the answer tells whether this makes it ready.
-    pub fn turn(&mut self, number: u64, to: Turn<M>) -> bool
+    pub fn turn(&mut self, number: u64, to: Transition<M>) -> bool
         requires { IsSome (find number self.old.list) }
-        ensures members { self.new ≡ record self.old { list = altered number (turned to) self.old.list } }
+        ensures members { self.new ≡ record self.old { list = altered number (after_transition to) self.old.list } }
         ensures readied { Some result ≡ option_map (is_readied to) (find number self.old.list) }
     {
         let key = slot_in(&self.slots, &self.numbers, number);

@@ -8,7 +8,7 @@ use crate::index::{first, unwatch, watch};
 use crate::member::Member;
 use crate::oldest::Oldest;
 use crate::roll::Roll;
-use crate::turn::Turn;
+use crate::turn::Transition;
 use ame_term::{Loc, Locs, NoMemory};
 use std::alloc::Global;
 use std::collections::BTreeSet;
@@ -41,7 +41,7 @@ impl<M: Drop> Pool<M> {
     ghost use Rattle.ame_pool.specs.Members.{find, is_ready, is_busy};
     ghost use Rattle.ame_pool.specs.Roster.{nobody};
     ghost use Rattle.ame_pool.specs.Begin.{oldest as oldest_of};
-    ghost use Rattle.ame_pool.specs.Keeps.{IsSound};
+    ghost use Rattle.ame_pool.specs.Keeps.{AreInOrder};
     ghost use Rattle.ame_pool.specs.Stirs.{is_watching, stirred_at};
     ghost use Rattle.ame_pool.specs.Calls.{IsAt, is_running, is_noted, with_room, joined, newcomer, held, home as homed, exchanged, removed, noted, parked, woken, machine_of, inside_of};
 
@@ -82,7 +82,7 @@ impl<M: Drop> Pool<M> {
     /// The machine of a member.
     pub fn machine(&self, number: u64) -> Option<&M>
         ensures machine { option_copied result ≡ machine_of number self.now }
-        ensures sound { IsSound self.now.members self.now.order }
+        ensures sound { AreInOrder self.now.members self.now.order }
     {
         match self.roll.get(number) {
             Some(member) => Some(&member.machine),
@@ -118,7 +118,7 @@ impl<M: Drop> Pool<M> {
         requires { IsAt is_running number self.old }
         ensures { self.new ≡ homed number rolled_back self.old }
     {
-        self.roll.turn(number, Turn::Home(rolled_back));
+        self.roll.turn(number, Transition::Home(rolled_back));
     }
 
     /// A busy member is the youngest ready one, with another machine.
@@ -128,7 +128,7 @@ impl<M: Drop> Pool<M> {
     {
         let member = self.roll.member(number);
         unwatch(&mut self.index, number, member.untouched(), &[]);
-        self.roll.turn(number, Turn::Renew(machine, inside));
+        self.roll.turn(number, Transition::Renew(machine, inside));
     }
 
     /// A busy member leaves the pool.
@@ -154,7 +154,8 @@ impl<M: Drop> Pool<M> {
             return Err(refusal);
         }
         unwatch(&mut self.index, number, member.untouched(), locs.as_slice());
-        self.roll.turn(number, Turn::Watch(Locs::from_vec(locs)));
+        self.roll
+            .turn(number, Transition::Watch(Locs::from_vec(locs)));
         Ok(())
     }
 
@@ -163,7 +164,7 @@ impl<M: Drop> Pool<M> {
         requires { IsAt is_noted number self.old }
         ensures { self.new ≡ parked number self.old }
     {
-        self.roll.turn(number, Turn::Settle);
+        self.roll.turn(number, Transition::Settle);
     }
 
     /// A location was written that this member watches.
@@ -173,7 +174,7 @@ impl<M: Drop> Pool<M> {
     {
         let member = self.roll.member(number);
         unwatch(&mut self.index, number, member.untouched(), &[]);
-        self.roll.turn(number, Turn::Stir(l));
+        self.roll.turn(number, Transition::Stir(l));
     }
 
     /// A location was written: every parked member that waits for it is ready, in order of numbers, and every busy one
@@ -191,7 +192,7 @@ impl<M: Drop> Pool<M> {
         ensures oldest { result ≡ oldest_of self.now }
         ensures ready { (n : ℕ) → result ≡ Oldest.Member n → IsAt is_ready n self.now }
         ensures waits { result ≡ Oldest.Wait → IsTrue (list_any is_busy self.now.members) }
-        ensures sound { IsSound self.now.members self.now.order }
+        ensures sound { AreInOrder self.now.members self.now.order }
     {
         self.roll.oldest()
     }

@@ -8,7 +8,7 @@ use crate::member::{Member, Standing};
 use crate::members::Members;
 use crate::oldest::Oldest;
 use crate::ready::Ready;
-use crate::turn::Turn;
+use crate::turn::Transition;
 use ame_term::NoMemory;
 use std::alloc::Global;
 use std::marker::Model;
@@ -40,7 +40,7 @@ impl<M: Drop> Roll<M> {
     ghost use Rattle.ame_pool.specs.Members.{find, is_ready, is_busy};
     ghost use Rattle.ame_pool.specs.Roster.{nobody};
     ghost use Rattle.ame_pool.specs.Begin.{oldest as oldest_of};
-    ghost use Rattle.ame_pool.specs.Keeps.{IsSound};
+    ghost use Rattle.ame_pool.specs.Keeps.{AreInOrder};
     ghost use Rattle.ame_pool.specs.Turns.{is_away, turned_at};
     ghost use Rattle.ame_pool.specs.Calls.{IsAt, with_room, joined, newcomer, held, removed, machine_of};
 
@@ -81,13 +81,13 @@ impl<M: Drop> Roll<M> {
             rollbacks: 0,
             standing: Standing::Ready,
         });
-        self.ready.push(number, self.members.seat(number), inside);
+        self.ready.push(number, self.members.slot(number), inside);
     }
 
     /// The member with a number, if there is one.
     pub fn get(&self, number: u64) -> Option<&Member<M>>
         ensures member { option_copied result ≡ find number self.now.members }
-        ensures sound { IsSound self.now.members self.now.order }
+        ensures sound { AreInOrder self.now.members self.now.order }
     {
         self.members.get(number)
     }
@@ -105,15 +105,15 @@ impl<M: Drop> Roll<M> {
         requires { IsAt is_ready number self.old }
         ensures { self.new ≡ held number self.old }
     {
-        self.members.turn(number, Turn::Begin);
+        self.members.turn(number, Transition::Begin);
         let member = self.members.member(number);
         self.counts.enter(member);
         self.ready
-            .take(number, self.members.seat(number), member.inside);
+            .take(number, self.members.slot(number), member.inside);
     }
 
     /// The turn of a member that is busy or parked. Where it is ready then, it is the youngest ready one.
-    pub fn turn(&mut self, number: u64, to: Turn<M>)
+    pub fn turn(&mut self, number: u64, to: Transition<M>)
         requires { IsAt is_away number self.old }
         ensures { self.new ≡ turned_at number to self.old }
     {
@@ -122,7 +122,7 @@ impl<M: Drop> Roll<M> {
         let member = self.members.member(number);
         self.counts.enter(member);
         if is_readied {
-            let seat = self.members.seat(number);
+            let seat = self.members.slot(number);
             self.ready.push(number, seat, member.inside);
         }
     }
@@ -149,7 +149,7 @@ impl<M: Drop> Roll<M> {
         ensures oldest { result ≡ oldest_of self.now }
         ensures ready { (n : ℕ) → result ≡ Oldest.Member n → IsAt is_ready n self.now }
         ensures waits { result ≡ Oldest.Wait → IsTrue (list_any is_busy self.now.members) }
-        ensures sound { IsSound self.now.members self.now.order }
+        ensures sound { AreInOrder self.now.members self.now.order }
     {
         let Some(number) = self.ready.first() else {
             return self.counts.idle();

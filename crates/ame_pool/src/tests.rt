@@ -350,7 +350,7 @@ fn a_touched_member_is_ready(rt: HostRuntime) -> Result<(), Fail> {
 }
 
 #[test]
-fn a_worn_member_begins_alone(rt: HostRuntime) -> Result<(), Fail> {
+fn a_exhausted_member_begins_alone(rt: HostRuntime) -> Result<(), Fail> {
     use Step::*;
     let alloc = rt.alloc();
     expect(
@@ -392,7 +392,7 @@ fn a_worn_member_begins_alone(rt: HostRuntime) -> Result<(), Fail> {
 }
 
 #[test]
-fn a_worn_member_is_passed_by_no_protected_one(rt: HostRuntime) -> Result<(), Fail> {
+fn a_exhausted_member_is_passed_by_no_protected_one(rt: HostRuntime) -> Result<(), Fail> {
     use Step::*;
     let alloc = rt.alloc();
     expect(
@@ -425,7 +425,7 @@ fn a_worn_member_is_passed_by_no_protected_one(rt: HostRuntime) -> Result<(), Fa
 }
 
 #[test]
-fn a_worn_member_is_passed_from_inside(rt: HostRuntime) -> Result<(), Fail> {
+fn a_exhausted_member_is_passed_from_inside(rt: HostRuntime) -> Result<(), Fail> {
     use Step::*;
     let alloc = rt.alloc();
     let begun = [Add(1, false), Wear(1), Add(2, true), Hold(1)];
@@ -456,8 +456,8 @@ fn a_worn_member_is_passed_from_inside(rt: HostRuntime) -> Result<(), Fail> {
 fn rollbacks_end_at_eight(rt: HostRuntime) -> Result<(), Fail> {
     use Step::*;
     let alloc = rt.alloc();
-    let worn = run(&rt, alloc, &[Add(1, false), Wear(1)])?;
-    assert!(&rt; rollbacks(&worn, 1) == Some(8));
+    let exhausted = run(&rt, alloc, &[Add(1, false), Wear(1)])?;
+    assert!(&rt; rollbacks(&exhausted, 1) == Some(8));
     let noted = run(&rt, alloc, &[Add(1, false), Wear(1), Hold(1), Note(1, 0)])?;
     assert!(&rt; rollbacks(&noted, 1) == Some(0));
     Ok(())

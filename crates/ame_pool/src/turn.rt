@@ -1,14 +1,14 @@
 //! What becomes of a member.
 
 ghost use Rattle.std.specs.Prelude.{◌≡◌};
-ghost use Rattle.ame_pool.specs.Turns.{turned, is_readied};
+ghost use Rattle.ame_pool.specs.Turns.{after_transition, is_readied};
 
 use crate::member::Member;
 use ame_term::{Loc, Locs};
 
 /// What becomes of a member.
 #[derive(Drop)]
-pub enum Turn<M> {
+pub enum Transition<M> {
     /// A seat runs it.
     Begin,
     /// It is ready again, and perhaps it was rolled back.
@@ -25,29 +25,29 @@ pub enum Turn<M> {
 
 impl<M: Drop> Member<M> {
     /// The answer tells whether this makes it ready.
-    pub fn turn(&mut self, to: Turn<M>) -> bool
-        ensures member { self.new ≡ turned to self.old }
+    pub fn turn(&mut self, to: Transition<M>) -> bool
+        ensures member { self.new ≡ after_transition to self.old }
         ensures readied { result ≡ is_readied to self.old }
     {
         match to {
-            Turn::Begin => {
+            Transition::Begin => {
                 self.begin();
                 false
             }
-            Turn::Home(rolled_back) => {
+            Transition::Home(rolled_back) => {
                 self.go_home(rolled_back);
                 true
             }
-            Turn::Renew(machine, inside) => {
+            Transition::Renew(machine, inside) => {
                 self.renew(machine, inside);
                 true
             }
-            Turn::Watch(locs) => {
+            Transition::Watch(locs) => {
                 self.watch(locs);
                 false
             }
-            Turn::Settle => self.settle(),
-            Turn::Stir(l) => self.stir(l),
+            Transition::Settle => self.settle(),
+            Transition::Stir(l) => self.stir(l),
         }
     }
 }

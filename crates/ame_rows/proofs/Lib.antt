@@ -1,1 +1,10 @@
 pub mod ValidLemmas
+pub mod LookupLemmas
+pub mod EntryLemmas
+pub mod LogLemmas
+pub mod KeptLemmas
+pub mod CommittedLemmas
+pub mod AccessLemmas
+pub mod LettingGoLemmas
+pub mod FieldLemmas
+pub mod RisingLemmas

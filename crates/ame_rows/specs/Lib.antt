@@ -1,2 +1,9 @@
-pub mod Logs
+pub mod Log
 pub mod Valid
+pub mod MemoryView
+pub mod Entries
+pub mod Consistent
+pub mod Committed
+pub mod Access
+pub mod LettingGo
+pub mod Rollback

@@ -1,7 +1,7 @@
 //! A row: the logs of one seat.
 
 ghost use Rattle.std.specs.Prelude.{◌≡◌, ◌-◌, ◌<◌, ◌∷◌, ◌++◌, ◌↔◌, [], length, All, IsNone, IfNone, IfSome, OnOk};
-ghost use Rattle.ame_rows.specs.Logs.{HasPlaces, Keeps, empty};
+ghost use Rattle.ame_rows.specs.Log.{HasPlaces, Keeps, empty};
 ghost use Rattle.ame_rows.specs.Valid.{IsValid, IsFirstBad};
 
 use crate::notes::{Bad, ReadNote, Undo};
@@ -22,9 +22,9 @@ pub struct Row<V> {
 
 impl<V> Model for Row<V> {
     ghost use Rattle.std.specs.Prelude.{◌-◌, vec_len, vec_capacity};
-    ghost use Rattle.ame_rows.specs.Logs.{Logs};
+    ghost use Rattle.ame_rows.specs.Log.{RoomyLog};
 
-    ghost Value = { Logs V };
+    ghost Value = { RoomyLog V };
 
     ghost view = { λ r. record {
       reads = r.reads.items;
@@ -62,7 +62,7 @@ impl<V> Row<V> {
         Ok(())
     }
 
-    /// Logs a read, whose value is the next input.
+    /// RoomyLog a read, whose value is the next input.
     pub fn note_read(&mut self, loc: Loc, number: u64, input: V)
         requires for_read { 0 < self.old.room.reads }
         requires for_input { 0 < self.old.room.inputs }
@@ -87,7 +87,7 @@ impl<V> Row<V> {
         self.inputs.push_reserved(input);
     }
 
-    /// Logs how to undo a write or a new cell.
+    /// RoomyLog how to undo a write or a new cell.
     pub fn note_write(&mut self, undo: Undo<V>)
         requires { 0 < self.old.room.undos }
         ensures { self.new ≡ record self.old {

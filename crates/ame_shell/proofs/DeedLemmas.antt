@@ -2,32 +2,32 @@
 use Rattle.std.proofs.Common.{◌≡◌, ℕ, ◌<◌, inl, inr, Bool, true, false, List, [], ◌∷◌, ◌++◌, Option, Some, None, append_assoc, refl, sym, ap, ◌∙◌, subst}
 use Rattle.std.specs.Prelude.{ℤ, is_some, unwrap_or, if◌then◌else◌}
 use Rattle.std.proofs.lemmas.List.Elements.{All-push}
-use Rattle.ame_term.specs.Tree.{Val, Tree}
+use Rattle.ame_term.specs.Tree.{Val}
 use Rattle.ame_io.specs.Counts.{HasRisen}
 use Rattle.ame_device.specs.declared.told.Told.{Told}
 use Rattle.ame_journal.specs.declared.entry.Entry.{Entry}
 use Rattle.ame_journal.specs.declared.entry.EntryKind.{EntryKind}
 use Rattle.ame_journal.specs.Calls.{device_calls}
-use Rattle.ame_desk.specs.Contents.{Contents}
-use Rattle.ame_desk.specs.LettingGo.{undone_last}
-use Rattle.ame_runner.specs.Stage.{Stage, place_shown, with_answer}
-use Rattle.ame_runner.specs.Sound.{IsSoundStage}
-use Rattle.ame_stands.specs.declared.types.Attempt.{Attempt}
-use Rattle.ame_stands.specs.declared.types.Limits.{Limits}
-use Rattle.ame_stands.specs.declared.types.Task.{Task}
-use Rattle.ame_stands.specs.Parts.{Parts, whole_journal, task_at}
-use Rattle.ame_stands.specs.Stands.{Stands}
-use Rattle.ame_stands.specs.Events.{one_turn, undo_turn, with_task, with_desk, with_try, brought_home, ran_entry, has_begun, has_read, has_written, has_allocated, has_checked, has_turned_back, has_undone, has_gone_home}
-use Rattle.ame_waiting.specs.Noted.{stuck_entry, has_noted}
-use Rattle.ame_visits.specs.Visit.{free_entry}
-use Rattle.ame_visits.specs.Stops.{note_entry, has_been_cut, has_grown_tall}
-use Rattle.ame_visits.proofs.CallLemmas.{silent-entry}
+use Rattle.ame_rows.specs.MemoryView.{MemoryView}
+use Rattle.ame_rows.specs.LettingGo.{undone_last}
+use Rattle.ame_machine.specs.MachineView.{MachineView, place_shown, with_answer}
+use Rattle.ame_machine.specs.Sound.{IsSoundStage}
+use Rattle.ame_protocol.specs.declared.types.Attempt.{Attempt}
+use Rattle.ame_protocol.specs.declared.types.Limits.{Limits}
+use Rattle.ame_protocol.specs.declared.types.Task.{Task}
+use Rattle.ame_protocol.specs.Engine.Parts.{Parts, whole_journal, task_at}
+use Rattle.ame_protocol.specs.Engine.Simulates.{Simulates}
+use Rattle.ame_protocol.specs.Engine.Events.{one_turn, undo_turn, with_task, with_memory, with_try, brought_home, ran_entry, has_begun, has_read, has_written, has_allocated, has_checked, has_turned_back, has_undone, has_gone_home}
+use Rattle.ame_protocol.specs.Waits.Noted.{stuck_entry, has_noted}
+use Rattle.ame_protocol.specs.Visits.Visit.{free_entry}
+use Rattle.ame_protocol.specs.Visits.Stops.{note_entry, has_been_cut, has_grown_tall}
+use Rattle.ame_protocol.proofs.Visits.CallLemmas.{silent-entry}
 use Rattle.ame_engine.specs.declared.counters.Counters.{Counters}
-use Rattle.ame_engine.specs.declared.chance.Chance.{Chance}
+use Rattle.ame_engine.specs.declared.pick.Pick.{Pick}
 use Rattle.ame_engine.specs.declared.certificate.Certificate.{Certificate}
 use Rattle.ame_engine.specs.declared.stop.Stop.{Stop}
 use Rattle.ame_engine.specs.AtWork.{working, IsOnSeat}
-use Rattle.ame_engine.specs.Begins.{chance_of}
+use Rattle.ame_engine.specs.Begins.{pick_of}
 use Rattle.ame_engine.specs.Causes.{certificates_in}
 use Rattle.ame_engine.specs.Committing.{ended_at, left_at}
 use Rattle.ame_engine.specs.Core.{Core}
@@ -48,6 +48,7 @@ use Rattle.ame_shell.proofs.HeardLemmas.{heard-silent, heard-failed}
 use Rattle.ame_shell.proofs.ToldLemmas.{fail-count, failed-heard, failed-one, called-faults}
 use Rattle.ame_shell.proofs.StopLemmas.{is_quiet, GoesQuietly, stops-by, quiet-failed}
 use Rattle.ame_shell.proofs.VisitLemmas.{visit-heard}
+use Rattle.ame_machine.specs.Meaning.{Meaning}
 
 -- a journal grows by one entry of this seat that tells no answer, or not at all
 pub data Adds (seat : ℕ) (old new : List Entry) : Type 0 where
@@ -104,11 +105,11 @@ undo-output parts = by parts.stopped
     by true = refl
     by false = refl
 
-module _ {C V M : Type 0} (program : C → Tree) (devices : C → ℕ) (value_of : C → V → Val) (stage : C → M → Stage) where
+module _ {C V M : Type 0} (meaning : Meaning C V M) where
   abbrev parts : Core C V M → Parts
-  parts core = parts_of program devices value_of stage core
+  parts core = parts_of meaning core
 
-  -- an event of which devices are told nothing
+  -- an event of which meaning.devices are told nothing
   pub record IsRecorded (seat : ℕ) (old new : Core C V M) : Type 0 where
     pub code : new.code ≡ old.code
     pub limits : new.limits ≡ old.limits
@@ -137,13 +138,13 @@ module _ {C V M : Type 0} (program : C → Tree) (devices : C → ℕ) (value_of
       output = ap (λ (p : Parts). p.output) is ∙ output;
     }
 
-    event-silent : (counts : Counters → Counters) (event : Parts → Parts) → MakesEvent program devices value_of stage counts event old new
+    event-silent : (counts : Counters → Counters) (event : Parts → Parts) → MakesEvent meaning counts event old new
         → (event (parts old)).limits ≡ old.limits → (event (parts old)).base ≡ old.base → Adds seat old.entries (event (parts old)).entries
         → (event (parts old)).output ≡ old.output → IsSilent seat old new
     event-silent counts event m limits base adds output = silent-by (event (parts old)) m.code m.parts limits base adds output (GoesQuietly.stays m.stop)
 
     last-silent : (why : Stop) (counts : Counters → Counters) (event : Parts → Parts) → is_quiet why ≡ true → old.stop ≡ None
-        → MakesLastEvent program devices value_of stage why counts event old new
+        → MakesLastEvent meaning why counts event old new
         → (event (parts old)).limits ≡ old.limits → (event (parts old)).base ≡ old.base → Adds seat old.entries (event (parts old)).entries
         → (event (parts old)).output ≡ old.output → IsSilent seat old new
     last-silent why counts event quiet going m limits base adds output =
@@ -158,26 +159,26 @@ module _ {C V M : Type 0} (program : C → Tree) (devices : C → ℕ) (value_of
         silent-by (parts (stopped_by why old)) (ap (λ (c : Core C V M). c.code) is) (ap parts is) refl refl (Adds.nothing refl) refl
         (subst (λ (c : Core C V M). GoesQuietly old.stop c.stop) (sym is) (stops-by why quiet old.stop))
 
-    block-going : (o : Option Stop) (x : Chance) → (if is_some o then Chance.Stopped else x) ≡ Chance.Blocked → o ≡ None
+    block-going : (o : Option Stop) (x : Pick) → (if is_some o then Pick.Stopped else x) ≡ Pick.Blocked → o ≡ None
     block-going None x e = refl
     block-going (Some why) x e = cc
 
-    block-silent : (certificates : List Certificate) → chance_of old ≡ Chance.Blocked → new ≡ blocked_by certificates old → IsSilent seat old new
-    block-silent certificates chance is =
+    block-silent : (certificates : List Certificate) → pick_of old ≡ Pick.Blocked → new ≡ blocked_by certificates old → IsSilent seat old new
+    block-silent certificates pick is =
         silent-by (parts (blocked_by certificates old)) (ap (λ (c : Core C V M). c.code) is) (ap parts is) refl refl (Adds.nothing refl) refl
-        (GoesQuietly.stops Stop.Blocked refl (block-going old.stop _ chance) (ap (λ (c : Core C V M). c.stop) is))
+        (GoesQuietly.stops Stop.Blocked refl (block-going old.stop _ pick) (ap (λ (c : Core C V M). c.stop) is))
 
     -- what a seat meets that stops
-    stops-silent : (certificates : List Certificate) (chance : Chance) → chance_of old ≡ chance → StopsBy certificates chance old new → IsSilent seat old new
-    stops-silent certificates Chance.Stopped e h = same-silent h
-    stops-silent certificates Chance.Finished e h = stop-silent Stop.Finished refl h
-    stops-silent certificates Chance.Blocked e h = block-silent certificates e h
-    stops-silent certificates Chance.Spent e h = stop-silent Stop.Spent refl h
-    stops-silent certificates Chance.Idle e h = absurd h
-    stops-silent certificates (Chance.Member number) e h = absurd h
+    stops-silent : (certificates : List Certificate) (pick : Pick) → pick_of old ≡ pick → StopsBy certificates pick old new → IsSilent seat old new
+    stops-silent certificates Pick.Stopped e h = same-silent h
+    stops-silent certificates Pick.Finished e h = stop-silent Stop.Finished refl h
+    stops-silent certificates Pick.Blocked e h = block-silent certificates e h
+    stops-silent certificates Pick.Spent e h = stop-silent Stop.Spent refl h
+    stops-silent certificates Pick.Idle e h = absurd h
+    stops-silent certificates (Pick.Member number) e h = absurd h
 
     -- the turns are used up
-    spends-silent : (hand at : Option Stage) → old.stop ≡ None → Spends program devices value_of stage seat hand old new at → IsSilent seat old new
+    spends-silent : (hand at : Option MachineView) → old.stop ≡ None → Spends meaning seat hand old new at → IsSilent seat old new
     spends-silent hand None going h = stop-silent Stop.Spent refl h
     spends-silent hand (Some s) going (inl cut) =
         let number = cut.attempt.tried.number in
@@ -185,10 +186,10 @@ module _ {C V M : Type 0} (program : C → Tree) (devices : C → ℕ) (value_of
         refl refl (Adds.one (note_entry EntryKind.Cut seat number s.steps (place_shown s)) refl refl refl) refl
     spends-silent hand (Some s) going (inr h) = stop-silent Stop.Spent refl h.1
 
-    -- the rest of what changes neither devices nor the output
-    module _ (hand : Option Stage) (before after : List Told) where
+    -- the rest of what changes neither meaning.devices nor the output
+    module _ (hand : Option MachineView) (before after : List Told) where
       abbrev Makes : Deed → Type 0
-      Makes deed = IsMade program devices value_of stage seat hand old new before after deed
+      Makes deed = IsMade meaning seat hand old new before after deed
 
       pub deed-silent : (deed : Deed) → is_to_flush deed ≡ false → is_visit deed ≡ false → Makes deed → IsSilent seat old new
       deed-silent Deed.Began e f h = event-silent (one_counted Counted.Begin) (has_begun seat h.0) h.2 refl refl (Adds.nothing refl) refl
@@ -221,13 +222,13 @@ module _ {C V M : Type 0} (program : C → Tree) (devices : C → ℕ) (value_of
       deed-silent Deed.Spent e f h = spends-silent hand hand h.0.going h.1
       deed-silent Deed.Undid e f h =
           let task = task_at old.tasks seat in
-          let undone = with_task seat (Task.Undoing h.0 (reason_to_undo task)) (with_desk (undone_last seat (parts old).desk) (parts old)) in
+          let undone = with_task seat (Task.Undoing h.0 (reason_to_undo task)) (with_memory (undone_last seat (parts old).memory) (parts old)) in
           event-silent (one_undone (is_some old.stop)) (has_undone seat h.0 (reason_to_undo task)) h.2.event
           (undo-limits undone) (undo-base undone) (Adds.nothing (undo-entries undone)) (undo-output undone)
       deed-silent Deed.WentHome e f h =
           let task = task_at old.tasks seat in
           let gone = with_task seat Task.Idle (record (parts old) {
-            desk = undone_last seat (parts old).desk;
+            memory = undone_last seat (parts old).memory;
             pool = brought_home (reason_to_undo task) h.0.tried.number (parts old).pool;
             tried = with_try h.0 (parts old).tried;
           }) in
@@ -241,20 +242,20 @@ module _ {C V M : Type 0} (program : C → Tree) (devices : C → ℕ) (value_of
 
   -- Devices have heard what the journal tells
 
-  module _ (seat : ℕ) (old new : Core C V M) (stands : Stands (parts old)) (within : seat < old.limits.seats) (opening : Opening C) where
+  module _ (seat : ℕ) (old new : Core C V M) (stands : Simulates (parts old)) (within : seat < old.limits.seats) (opening : Opening C) where
     heard-adds : (told : List Told) → new.code ≡ old.code → new.base ≡ old.base → Adds seat old.entries new.entries
-        → HaveHeard (program old.code) (old.base ++ old.entries) opening.ends.told told → HaveHeard (program new.code) (new.base ++ new.entries) opening.ends.told told
+        → HaveHeard (meaning.program old.code) (old.base ++ old.entries) opening.ends.told told → HaveHeard (meaning.program new.code) (new.base ++ new.entries) opening.ends.told told
     heard-adds told code base adds h =
-        subst (λ (c : C). HaveHeard (program c) (new.base ++ new.entries) opening.ends.told told) (sym code)
-        (subst (λ (b : List Entry). HaveHeard (program old.code) (b ++ new.entries) opening.ends.told told) (sym base) (by adds))
+        subst (λ (c : C). HaveHeard (meaning.program c) (new.base ++ new.entries) opening.ends.told told) (sym code)
+        (subst (λ (b : List Entry). HaveHeard (meaning.program old.code) (b ++ new.entries) opening.ends.told told) (sym base) (by adds))
       where
-        by : Adds seat old.entries new.entries → HaveHeard (program old.code) (old.base ++ new.entries) opening.ends.told told
-        by (Adds.nothing same) = subst (λ (es : List Entry). HaveHeard (program old.code) (old.base ++ es) opening.ends.told told) (sym same) h
+        by : Adds seat old.entries new.entries → HaveHeard (meaning.program old.code) (old.base ++ new.entries) opening.ends.told told
+        by (Adds.nothing same) = subst (λ (es : List Entry). HaveHeard (meaning.program old.code) (old.base ++ es) opening.ends.told told) (sym same) h
         by (Adds.one entry is its none) =
-            heard-silent (program old.code) opening.ends.told (old.base ++ old.entries) (old.base ++ new.entries) told
-            (λ k. ap (device_calls k (program old.code)) (behind old.base old.entries new.entries entry is) ∙ silent-entry (parts old) stands k entry none) h
+            heard-silent (meaning.program old.code) opening.ends.told (old.base ++ old.entries) (old.base ++ new.entries) told
+            (λ k. ap (device_calls k (meaning.program old.code)) (behind old.base old.entries new.entries entry is) ∙ silent-entry (parts old) stands k entry none) h
 
-    pub recorded-opened : (told : List Told) → IsRecorded seat old new → IsOpenedSo program opening old told → IsOpenedSo program opening new told
+    pub recorded-opened : (told : List Told) → IsRecorded seat old new → IsOpenedSo meaning.program opening old told → IsOpenedSo meaning.program opening new told
     recorded-opened told r o = record {
       code = r.code ∙ o.code;
       limits = r.limits ∙ o.limits;
@@ -266,7 +267,7 @@ module _ {C V M : Type 0} (program : C → Tree) (devices : C → ℕ) (value_of
 
     -- A commit, and a visit
 
-    ended-recorded : (s : Stage) (a : Attempt) → MakesEvent program devices value_of stage (one_counted Counted.Commit) (ended_at seat a.tried.number s) old new
+    ended-recorded : (s : MachineView) (a : Attempt) → MakesEvent meaning (one_counted Counted.Commit) (ended_at seat a.tried.number s) old new
         → IsRecorded seat old new
     ended-recorded s a m = record {
       code = m.code;
@@ -276,7 +277,7 @@ module _ {C V M : Type 0} (program : C → Tree) (devices : C → ℕ) (value_of
       stop = GoesQuietly.stays m.stop;
     }
 
-    left-recorded : (s : Stage) (a : Attempt) → MakesEvent program devices value_of stage (one_counted Counted.Commit) (left_at seat a.tried.number s) old new
+    left-recorded : (s : MachineView) (a : Attempt) → MakesEvent meaning (one_counted Counted.Commit) (left_at seat a.tried.number s) old new
         → IsRecorded seat old new
     left-recorded s a m = record {
       code = m.code;
@@ -287,8 +288,8 @@ module _ {C V M : Type 0} (program : C → Tree) (devices : C → ℕ) (value_of
     }
 
     -- no device fails by a visit that comes home
-    visit-faults : (s : Stage) (before : List Told) (a : Option ℤ) (n : Stage) (desk : Contents Val) (after : List Told)
-        → VisitsTo s (parts old).desk before a n desk after → NoneFailed before after
+    visit-faults : (s : MachineView) (before : List Told) (a : Option ℤ) (n : MachineView) (memory : MemoryView Val) (after : List Told)
+        → VisitsTo s (parts old).memory before a n memory after → NoneFailed before after
     visit-faults s before _ _ _ _ (VisitsTo.rests still) = λ k. refl
     visit-faults s before _ _ _ _ (VisitsTo.reads l v n its is fed) = λ k. refl
     visit-faults s before _ _ _ _ (VisitsTo.peeks l v n its is fed) = λ k. refl
@@ -299,38 +300,38 @@ module _ {C V M : Type 0} (program : C → Tree) (devices : C → ℕ) (value_of
     visit-faults s before _ _ _ _ (VisitsTo.closes n its closes) = λ k. refl
     visit-faults s before _ _ _ after (VisitsTo.calls device argument answer n _ its called fed) = called-faults before after device argument answer called
 
-    module _ (s : Stage) (on : IsOnSeat (parts old) seat s) (sound : IsSoundStage s) (inside : s.inside ≡ true) (a : Attempt)
-        (task : task_at old.tasks seat ≡ Task.Free a) (before after : List Told) (o : IsOpenedSo program opening old before) where
+    module _ (s : MachineView) (on : IsOnSeat (parts old) seat s) (sound : IsSoundStage s) (inside : s.inside ≡ true) (a : Attempt)
+        (task : task_at old.tasks seat ≡ Task.Free a) (before after : List Told) (o : IsOpenedSo meaning.program opening old before) where
       one-number : on.attempt.tried.number ≡ a.tried.number
       one-number =
           ap (λ (t : Task). (unwrap_or (working t) a).tried.number) (sym (visits-as (parts old) seat s on inside) ∙ task)
 
-      home-opened : old.stop ≡ None → HasComeHome program devices value_of stage seat a.tried.number s before after old new → IsOpenedSo program opening new after
+      home-opened : old.stop ≡ None → HasComeHome meaning seat a.tried.number s before after old new → IsOpenedSo meaning.program opening new after
       home-opened going h =
           let m = h.event in
           let entry = free_entry seat a.tried.number h.comes.steps (with_answer h.answer (place_shown h.comes)) in
           let limits : new.limits ≡ old.limits = ap (λ (p : Parts). p.limits) m.parts in
           let entries : new.entries ≡ old.entries ++ entry ∷ [] = ap (λ (p : Parts). p.entries) m.parts in
-          let heard : HaveHeard (program old.code) (whole_journal (visited_at seat on.attempt.tried.number h.answer h.comes h.desk (parts old))) opening.ends.told after =
-          visit-heard (parts old) stands seat s on inside sound opening.ends.told before o.heard h.answer h.comes h.desk after h.visits in
-          let numbered : HaveHeard (program old.code) (whole_journal (visited_at seat a.tried.number h.answer h.comes h.desk (parts old))) opening.ends.told after =
-          subst (λ (i : ℕ). HaveHeard (program old.code) (whole_journal (visited_at seat i h.answer h.comes h.desk (parts old))) opening.ends.told after) one-number heard in
+          let heard : HaveHeard (meaning.program old.code) (whole_journal (visited_at seat on.attempt.tried.number h.answer h.comes h.memory (parts old))) opening.ends.told after =
+          visit-heard (parts old) stands seat s on inside sound opening.ends.told before o.heard h.answer h.comes h.memory after h.visits in
+          let numbered : HaveHeard (meaning.program old.code) (whole_journal (visited_at seat a.tried.number h.answer h.comes h.memory (parts old))) opening.ends.told after =
+          subst (λ (i : ℕ). HaveHeard (meaning.program old.code) (whole_journal (visited_at seat i h.answer h.comes h.memory (parts old))) opening.ends.told after) one-number heard in
           record {
             code = m.code ∙ o.code;
             limits = limits ∙ o.limits;
             base = ap (λ (p : Parts). p.base) m.parts ∙ o.base;
             seats = subst (λ (l : Limits). AreOfSeats l.seats new.entries) (sym limits) (seats-last old.limits.seats old.entries new.entries entry entries within o.seats);
             heard =
-                subst (λ (c : C). HaveHeard (program c) (new.base ++ new.entries) opening.ends.told after) (sym m.code)
-                (subst (λ (p : Parts). HaveHeard (program old.code) (whole_journal p) opening.ends.told after) (sym m.parts) numbered);
+                subst (λ (c : C). HaveHeard (meaning.program c) (new.base ++ new.entries) opening.ends.told after) (sym m.code)
+                (subst (λ (p : Parts). HaveHeard (meaning.program old.code) (whole_journal p) opening.ends.told after) (sym m.parts) numbered);
             failed =
                 subst (λ (x : Option Stop). HaveFailed x opening.ends.told after) (sym (m.stop ∙ going))
                 (none-then opening.ends.told before after (subst (λ (x : Option Stop). HaveFailed x opening.ends.told before) going o.failed)
-                (visit-faults s before h.answer h.comes h.desk after h.visits));
+                (visit-faults s before h.answer h.comes h.memory after h.visits));
           }
 
-      refused-opened : old.stop ≡ None → (device : ℕ) → HasBeenRefused program devices value_of stage seat a.tried.number device s before after old new
-          → IsOpenedSo program opening new after
+      refused-opened : old.stop ≡ None → (device : ℕ) → HasBeenRefused meaning seat a.tried.number device s before after old new
+          → IsOpenedSo meaning.program opening new after
       refused-opened going device h =
           let m = h.event in
           let limits : new.limits ≡ old.limits = ap (λ (p : Parts). p.limits) m.parts in
@@ -343,7 +344,7 @@ module _ {C V M : Type 0} (program : C → Tree) (devices : C → ℕ) (value_of
             seats = subst (λ (l : Limits). AreOfSeats l.seats new.entries) (sym limits) (subst (AreOfSeats old.limits.seats) (sym entries) o.seats);
             heard =
                 heard-adds after m.code base (Adds.nothing entries)
-                (heard-failed (program old.code) opening.ends.told (old.base ++ old.entries) before after (fail-count before after device h.argument h.fails)
+                (heard-failed (meaning.program old.code) opening.ends.told (old.base ++ old.entries) before after (fail-count before after device h.argument h.fails)
                 (failed-heard before after device h.argument h.fails) o.heard);
             failed =
                 subst (λ (x : Option Stop). HaveFailed x opening.ends.told after) (sym m.stop)
@@ -353,19 +354,19 @@ module _ {C V M : Type 0} (program : C → Tree) (devices : C → ℕ) (value_of
 
     -- Every deed
 
-    module _ (hand : Option Stage) (at-hand : (s : Stage) → hand ≡ Some s → IsOnSeat (parts old) seat s × IsSoundStage s) (before after : List Told) where
+    module _ (hand : Option MachineView) (at-hand : (s : MachineView) → hand ≡ Some s → IsOnSeat (parts old) seat s × IsSoundStage s) (before after : List Told) where
       abbrev Done : Deed → Type 0
-      Done deed = IsDone program devices value_of stage seat hand old new before after deed
+      Done deed = IsDone meaning seat hand old new before after deed
 
-      quietly : (deed : Deed) → is_to_flush deed ≡ false → is_visit deed ≡ false → Done deed → IsOpenedSo program opening old before → IsOpenedSo program opening new after
+      quietly : (deed : Deed) → is_to_flush deed ≡ false → is_visit deed ≡ false → Done deed → IsOpenedSo meaning.program opening old before → IsOpenedSo meaning.program opening new after
       quietly deed e f h o =
-          subst (λ (ts : List Told). IsOpenedSo program opening new ts) (sym (h.quiet f))
+          subst (λ (ts : List Told). IsOpenedSo meaning.program opening new ts) (sym (h.quiet f))
           (recorded-opened before (deed-silent seat old new hand before after deed e f h.event).recorded o)
 
-      recorded : (deed : Deed) → is_visit deed ≡ false → Done deed → IsRecorded seat old new → IsOpenedSo program opening old before → IsOpenedSo program opening new after
-      recorded deed f h r o = subst (λ (ts : List Told). IsOpenedSo program opening new ts) (sym (h.quiet f)) (recorded-opened before r o)
+      recorded : (deed : Deed) → is_visit deed ≡ false → Done deed → IsRecorded seat old new → IsOpenedSo meaning.program opening old before → IsOpenedSo meaning.program opening new after
+      recorded deed f h r o = subst (λ (ts : List Told). IsOpenedSo meaning.program opening new ts) (sym (h.quiet f)) (recorded-opened before r o)
 
-      pub deed-opened : (deed : Deed) → Done deed → IsOpenedSo program opening old before → IsOpenedSo program opening new after
+      pub deed-opened : (deed : Deed) → Done deed → IsOpenedSo meaning.program opening old before → IsOpenedSo meaning.program opening new after
       deed-opened Deed.Began h o = quietly Deed.Began refl refl h o
       deed-opened Deed.Waited h o = quietly Deed.Waited refl refl h o
       deed-opened Deed.Stopped h o = quietly Deed.Stopped refl refl h o
@@ -404,8 +405,8 @@ module _ {C V M : Type 0} (program : C → Tree) (devices : C → ℕ) (value_of
     pub more : List ℤ
     pub output : new.output ≡ old.output ++ more
 
-  module _ (seat : ℕ) (hand : Option Stage) (old new : Core C V M) (before after : List Told) where
-    pub deed-more : (deed : Deed) → is_to_flush deed ≡ true → IsDone program devices value_of stage seat hand old new before after deed → HasMore old new
+  module _ (seat : ℕ) (hand : Option MachineView) (old new : Core C V M) (before after : List Told) where
+    pub deed-more : (deed : Deed) → is_to_flush deed ≡ true → IsDone meaning seat hand old new before after deed → HasMore old new
     deed-more Deed.Ended e h =
         let x = h.event in
         let m = x.4 in

@@ -4,12 +4,10 @@ use Rattle.std.specs.Prelude.{ℤ, is_some, false}
 use Rattle.std.proofs.lemmas.List.Elements.{All-nil}
 use Rattle.ame_io.specs.Lines.{lines}
 use Rattle.ame_io.specs.Writes.{AppendsFirst}
-use Rattle.ame_term.specs.Tree.{Val, Tree}
 use Rattle.ame_journal.specs.declared.entry.Entry.{Entry}
-use Rattle.ame_runner.specs.Stage.{Stage}
-use Rattle.ame_stands.specs.declared.types.Limits.{Limits}
-use Rattle.ame_stands.specs.Parts.{Parts}
-use Rattle.ame_stands.specs.Events.{started}
+use Rattle.ame_protocol.specs.declared.types.Limits.{Limits}
+use Rattle.ame_protocol.specs.Engine.Parts.{Parts}
+use Rattle.ame_protocol.specs.Engine.Events.{started}
 use Rattle.ame_engine.specs.declared.stop.Stop.{Stop}
 use Rattle.ame_engine.specs.Core.{Core}
 use Rattle.ame_engine.specs.Ending.{End, end_of, IsEnd}
@@ -18,18 +16,19 @@ use Rattle.ame_shell.specs.Ends.{Ends}
 use Rattle.ame_shell.specs.Sent.{IsSent}
 use Rattle.ame_shell.specs.Heard.{HaveHeard, HaveFailed}
 use Rattle.ame_shell.specs.Over.{AreOfSeats, IsOver}
-use Rattle.ame_shell.specs.Shell.{Shown, Opening, GoesTo, IsShell}
+use Rattle.ame_shell.specs.Shell.{ShellView, Opening, GoesTo, IsShell}
 use Rattle.ame_shell.proofs.HeardLemmas.{heard-nothing}
 use Rattle.ame_shell.proofs.SendLemmas.{sent-over}
+use Rattle.ame_machine.specs.Meaning.{Meaning}
 
 -- nothing of a text is appended
 nothing-appended : (bytes : Option (List ℕ)) (text : List ℕ) → AppendsFirst 0 bytes bytes text
 nothing-appended None text = tt
 nothing-appended (Some xs) text = sym (append-nil xs)
 
-module _ {C V M : Type 0} (program : C → Tree) (devices : C → ℕ) (value_of : C → V → Val) (stage : C → M → Stage) where
+module _ {C V M : Type 0} (meaning : Meaning C V M) where
   abbrev parts : Core C V M → Parts
-  parts core = parts_of program devices value_of stage core
+  parts core = parts_of meaning core
 
   not-stopped : (o : Option Stop) → is_some o ≡ false → o ≡ None
   not-stopped None e = refl
@@ -37,8 +36,8 @@ module _ {C V M : Type 0} (program : C → Tree) (devices : C → ℕ) (value_of
 
   -- where an engine has just started nothing was sent or heard
   pub shell-starts : (core : Core C V M) (code : C) (limits : Limits) (ends : Ends) → core.code ≡ code
-      → parts core ≡ started (program code) (devices code) limits 0
-      → IsShell program (record { code = code; limits = limits; ends = ends }) (record { core = core; sent = 0; ends = ends })
+      → parts core ≡ started (meaning.program code) (meaning.devices code) limits 0
+      → IsShell meaning.program (record { code = code; limits = limits; ends = ends }) (record { core = core; sent = 0; ends = ends })
   shell-starts core code limits ends same starts =
       let going : core.stop ≡ None = not-stopped core.stop (ap (λ (p : Parts). p.stopped) starts) in
       let output : core.output ≡ [] = ap (λ (p : Parts). p.output) starts in
@@ -51,7 +50,7 @@ module _ {C V M : Type 0} (program : C → Tree) (devices : C → ℕ) (value_of
           limits = ap (λ (p : Parts). p.limits) starts;
           base = base;
           seats = subst (λ (es : List Entry). AreOfSeats core.limits.seats es) (sym entries) (All-nil (λ (e : Entry). e.seat < core.limits.seats));
-          heard = subst (λ (es : List Entry). HaveHeard (program core.code) es ends.told ends.told) journal (heard-nothing (program core.code) ends.told);
+          heard = subst (λ (es : List Entry). HaveHeard (meaning.program core.code) es ends.told ends.told) journal (heard-nothing (meaning.program core.code) ends.told);
           failed = subst (λ (o : Option Stop). HaveFailed o ends.told ends.told) (sym going) (λ k. refl);
         };
         sends = record {
@@ -61,17 +60,17 @@ module _ {C V M : Type 0} (program : C → Tree) (devices : C → ℕ) (value_of
         };
       }
 
-  pub is-over : (opening : Opening C) (shell : Shown C V M) (end : End V) → IsShell program opening shell → end ≡ end_of shell.core
-      → IsEnd (program shell.core.code) shell.core.limits (value_of shell.core.code) end
-      → IsOver (program opening.code) opening.limits (value_of opening.code) opening.ends end shell.ends
+  pub is-over : (opening : Opening C) (shell : ShellView C V M) (end : End V) → IsShell meaning.program opening shell → end ≡ end_of shell.core
+      → IsEnd (meaning.program shell.core.code) shell.core.limits (meaning.value_of shell.core.code) end
+      → IsOver (meaning.program opening.code) opening.limits (meaning.value_of opening.code) opening.ends end shell.ends
   is-over opening shell end h is e =
-      subst (λ (c : C). IsOver (program c) opening.limits (value_of c) opening.ends end shell.ends) h.opened.code
-      (subst (λ (l : Limits). IsOver (program shell.core.code) l (value_of shell.core.code) opening.ends end shell.ends) h.opened.limits
-      (subst (λ (x : End V). IsOver (program shell.core.code) shell.core.limits (value_of shell.core.code) opening.ends x shell.ends) (sym is)
-      (there (subst (λ (x : End V). IsEnd (program shell.core.code) shell.core.limits (value_of shell.core.code) x) is e))))
+      subst (λ (c : C). IsOver (meaning.program c) opening.limits (meaning.value_of c) opening.ends end shell.ends) h.opened.code
+      (subst (λ (l : Limits). IsOver (meaning.program shell.core.code) l (meaning.value_of shell.core.code) opening.ends end shell.ends) h.opened.limits
+      (subst (λ (x : End V). IsOver (meaning.program shell.core.code) shell.core.limits (meaning.value_of shell.core.code) opening.ends x shell.ends) (sym is)
+      (there (subst (λ (x : End V). IsEnd (meaning.program shell.core.code) shell.core.limits (meaning.value_of shell.core.code) x) is e))))
     where
-      there : IsEnd (program shell.core.code) shell.core.limits (value_of shell.core.code) (end_of shell.core)
-          → IsOver (program shell.core.code) shell.core.limits (value_of shell.core.code) opening.ends (end_of shell.core) shell.ends
+      there : IsEnd (meaning.program shell.core.code) shell.core.limits (meaning.value_of shell.core.code) (end_of shell.core)
+          → IsOver (meaning.program shell.core.code) shell.core.limits (meaning.value_of shell.core.code) opening.ends (end_of shell.core) shell.ends
       there at-end = record {
         ends = at-end;
         base = h.opened.base;
@@ -80,7 +79,7 @@ module _ {C V M : Type 0} (program : C → Tree) (devices : C → ℕ) (value_of
             subst (λ (xs : List ℤ). IsSent shell.core.stop (lines xs) opening.ends shell.ends) (sym at-end.printed)
             (sent-over opening.ends shell.ends shell.core.stop shell.sent (lines shell.core.output) h.sends);
         heard =
-            subst (λ (es : List Entry). HaveHeard (program shell.core.code) es opening.ends.told shell.ends.told)
+            subst (λ (es : List Entry). HaveHeard (meaning.program shell.core.code) es opening.ends.told shell.ends.told)
             (ap (λ (b : List Entry). b ++ shell.core.entries) h.opened.base) h.opened.heard;
         failed = h.opened.failed;
         lone = at-end.lone;

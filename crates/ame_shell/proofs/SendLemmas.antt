@@ -11,14 +11,14 @@ use Rattle.ame_engine.specs.declared.stop.Stop.{Stop}
 use Rattle.ame_engine.specs.Core.{Core}
 use Rattle.ame_shell.specs.Ends.{Ends}
 use Rattle.ame_shell.specs.Sent.{IsSent}
-use Rattle.ame_shell.specs.Shell.{Shown, GoesTo, IsSentSince}
+use Rattle.ame_shell.specs.Shell.{ShellView, GoesTo, IsSentSince}
 use Rattle.ame_shell.specs.Turned.{HasFlushed}
 
 -- the first bytes of a longer text
 front : (text more : List ℕ) (n : ℕ) → n ≡ length text → take n (text ++ more) ≡ take n text
 front text more n is = take_at text more n (sym is) ∙ sym (take_all n text (omega (arith, is)))
 
-module _ {C V M : Type 0} (opened : Ends) (old new : Shown C V M) (text more : List ℕ) (is : lines old.core.output ≡ text ++ more)
+module _ {C V M : Type 0} (opened : Ends) (old new : ShellView C V M) (text more : List ℕ) (is : lines old.core.output ≡ text ++ more)
     (going : old.core.stop ≡ None) (h : IsSentSince opened old.ends None old.sent text) where
   abbrev all : List ℕ
   all = lines old.core.output

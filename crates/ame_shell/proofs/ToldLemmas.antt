@@ -3,7 +3,7 @@ use Rattle.std.proofs.Common.{◌≡◌, ℕ, ◌⊎◌, inl, inr, List, length,
 use Rattle.std.specs.Prelude.{ℤ, slice_get, slice_set}
 use Rattle.std.proofs.lemmas.Option.{slice_get_within, get_or_from_slice_get}
 use Rattle.std.proofs.lemmas.List.{length-set, get_or-set_same, get_or-set_other}
-use Rattle.ame_owed.proofs.CellLemmas.{which}
+use Rattle.ame_protocol.proofs.Row.CellLemmas.{which}
 use Rattle.ame_device.specs.declared.told.Told.{Told}
 use Rattle.ame_device.specs.declared.fault.DeviceFail.{DeviceFail}
 use Rattle.ame_device.specs.Calls.{told, answered, one_more, CallsOne}

@@ -4,12 +4,11 @@ use Rattle.std.specs.Prelude.{ℤ, unwrap_or}
 use Rattle.std.proofs.lemmas.List.{length-append}
 use Rattle.ame_io.specs.Lines.{lines}
 use Rattle.ame_io.proofs.LinesLemmas.{lines-append}
-use Rattle.ame_term.specs.Tree.{Val, Tree}
 use Rattle.ame_device.specs.declared.told.Told.{Told}
-use Rattle.ame_runner.specs.Stage.{Stage}
-use Rattle.ame_runner.specs.Sound.{IsSoundStage}
-use Rattle.ame_stands.specs.Parts.{Parts}
-use Rattle.ame_stands.specs.Stands.{Stands}
+use Rattle.ame_machine.specs.MachineView.{MachineView}
+use Rattle.ame_machine.specs.Sound.{IsSoundStage}
+use Rattle.ame_protocol.specs.Engine.Parts.{Parts}
+use Rattle.ame_protocol.specs.Engine.Simulates.{Simulates}
 use Rattle.ame_engine.specs.declared.stop.Stop.{Stop}
 use Rattle.ame_engine.specs.AtWork.{IsOnSeat}
 use Rattle.ame_engine.specs.Core.{Core}
@@ -21,11 +20,12 @@ use Rattle.ame_turn.specs.Work.{stage_at, Fits}
 use Rattle.ame_turn.specs.Deeds.{is_visit, IsDone}
 use Rattle.ame_shell.specs.Ends.{Ends}
 use Rattle.ame_shell.specs.Heard.{HaveFailed}
-use Rattle.ame_shell.specs.Shell.{Shown, Opening, GoesTo, IsSentSince, IsOpenedSo, IsShell}
+use Rattle.ame_shell.specs.Shell.{ShellView, Opening, GoesTo, IsSentSince, IsOpenedSo, IsShell}
 use Rattle.ame_shell.specs.Turned.{HasFlushed, is_to_flush, HasTurned}
 use Rattle.ame_shell.proofs.StopLemmas.{quiet-goes}
 use Rattle.ame_shell.proofs.DeedLemmas.{deed-silent, deed-opened, deed-more}
 use Rattle.ame_shell.proofs.SendLemmas.{flush-keeps}
+use Rattle.ame_machine.specs.Meaning.{Meaning}
 
 -- a deed of which no lines come is no visit, or a device failed
 no-lines : (deed : Deed) → is_to_flush deed ≡ false → (is_visit deed ≡ false) ⊎ ((device : ℕ) × (deed ≡ Deed.DeviceFailed device))
@@ -33,13 +33,13 @@ no-lines (Deed.DeviceFailed device) e = inr (device, refl)
 no-lines Deed.CameHome e = cc
 no-lines _ e = inl refl
 
-module _ {C V M : Type 0} (program : C → Tree) (devices : C → ℕ) (value_of : C → V → Val) (is_machine : C → M → Type 0) (stage : C → M → Stage) where
+module _ {C V M : Type 0} (meaning : Meaning C V M) where
   abbrev parts : Core C V M → Parts
-  parts core = parts_of program devices value_of stage core
+  parts core = parts_of meaning core
 
   -- after a deed of which no lines come
-  calm : (seat : ℕ) (hand : Option Stage) (old new : Core C V M) (before after : List Told) (deed : Deed) → is_to_flush deed ≡ false
-      → IsDone program devices value_of stage seat hand old new before after deed → (opened now : Ends) (sent : ℕ)
+  calm : (seat : ℕ) (hand : Option MachineView) (old new : Core C V M) (before after : List Told) (deed : Deed) → is_to_flush deed ≡ false
+      → IsDone meaning seat hand old new before after deed → (opened now : Ends) (sent : ℕ)
       → IsSentSince opened now old.stop sent (lines old.output) → IsSentSince opened now new.stop sent (lines new.output)
   calm seat hand old new before after deed e h opened now sent s = by (no-lines deed e)
     where
@@ -48,7 +48,7 @@ module _ {C V M : Type 0} (program : C → Tree) (devices : C → ℕ) (value_of
       after-all same goes =
           subst (λ (t : List ℕ). IsSentSince opened now new.stop sent t) (sym (ap lines same)) (record { first = s.first; goes = goes })
 
-      failed : (device : ℕ) → IsDone program devices value_of stage seat hand old new before after (Deed.DeviceFailed device)
+      failed : (device : ℕ) → IsDone meaning seat hand old new before after (Deed.DeviceFailed device)
           → IsSentSince opened now new.stop sent (lines new.output)
       failed device d =
           let x = d.event in
@@ -59,17 +59,17 @@ module _ {C V M : Type 0} (program : C → Tree) (devices : C → ℕ) (value_of
 
       by : (is_visit deed ≡ false) ⊎ ((device : ℕ) × (deed ≡ Deed.DeviceFailed device)) → IsSentSince opened now new.stop sent (lines new.output)
       by (inl f) =
-          let silent = deed-silent program devices value_of stage seat old new hand before after deed e f h.event in
+          let silent = deed-silent meaning seat old new hand before after deed e f h.event in
           after-all silent.output (quiet-goes sent (lines old.output) opened.write_faults now.write_faults old.stop new.stop silent.recorded.stop s.goes)
-      by (inr d) = failed d.0 (subst (λ (x : Deed). IsDone program devices value_of stage seat hand old new before after x) d.1 h)
+      by (inr d) = failed d.0 (subst (λ (x : Deed). IsDone meaning seat hand old new before after x) d.1 h)
 
   -- what was opened so stays so once lines are sent
-  flush-opened : (opening : Opening C) (old new : Shown C V M) (told : List Told) → HasFlushed old new → old.core.stop ≡ None
-      → IsOpenedSo program opening old.core told → IsOpenedSo program opening new.core told
+  flush-opened : (opening : Opening C) (old new : ShellView C V M) (told : List Told) → HasFlushed old new → old.core.stop ≡ None
+      → IsOpenedSo meaning.program opening old.core told → IsOpenedSo meaning.program opening new.core told
   flush-opened opening old new told (HasFlushed.sends appended stays same sent) going o =
-      subst (λ (c : Core C V M). IsOpenedSo program opening c told) (sym same) o
+      subst (λ (c : Core C V M). IsOpenedSo meaning.program opening c told) (sym same) o
   flush-opened opening old new told (HasFlushed.fails gone first short risen same sent) going o =
-      subst (λ (c : Core C V M). IsOpenedSo program opening c told) (sym same)
+      subst (λ (c : Core C V M). IsOpenedSo meaning.program opening c told) (sym same)
       (record {
         code = o.code;
         limits = o.limits;
@@ -82,28 +82,28 @@ module _ {C V M : Type 0} (program : C → Tree) (devices : C → ℕ) (value_of
       })
 
   -- a machine at hand is where its run stands
-  pub hand-stands : (sound : (code : C) (m : M) → is_machine code m → IsSoundStage (stage code m)) (core : Core C V M) (seat : ℕ) (w : Work M)
-      → Fits program devices value_of is_machine stage core seat w → (s : Stage) → stage_at stage core.code w ≡ Some s → IsOnSeat (parts core) seat s × IsSoundStage s
+  pub hand-stands : (sound : (code : C) (m : M) → meaning.is_machine code m → IsSoundStage (meaning.stage code m)) (core : Core C V M) (seat : ℕ) (w : Work M)
+      → Fits meaning core seat w → (s : MachineView) → stage_at meaning.stage core.code w ≡ Some s → IsOnSeat (parts core) seat s × IsSoundStage s
   hand-stands sound core seat (work.Running m) fits s e =
-      let is : stage core.code m ≡ s = ap (λ (o : Option Stage). unwrap_or o s) e in
-      subst (λ (x : Stage). IsOnSeat (parts core) seat x × IsSoundStage x) is (fits.on.stands, sound core.code m fits.on.machine)
+      let is : meaning.stage core.code m ≡ s = ap (λ (o : Option MachineView). unwrap_or o s) e in
+      subst (λ (x : MachineView). IsOnSeat (parts core) seat x × IsSoundStage x) is (fits.on.stands, sound core.code m fits.on.machine)
   hand-stands sound core seat work.Idle fits s e = cc
   hand-stands sound core seat work.Undoing fits s e = cc
 
-  module _ (seat : ℕ) (hand : Option Stage) (old new : Shown C V M) (deed : Deed) (turned : HasTurned program devices value_of stage seat hand old new deed) where
-    abbrev mid : Shown C V M
+  module _ (seat : ℕ) (hand : Option MachineView) (old new : ShellView C V M) (deed : Deed) (turned : HasTurned meaning seat hand old new deed) where
+    abbrev mid : ShellView C V M
     mid = record { core = turned.core; sent = old.sent; ends = record old.ends { told = new.ends.told } }
 
-    pub turn-keeps : (opening : Opening C) → Stands (parts old.core) → seat < old.core.limits.seats
-        → ((s : Stage) → hand ≡ Some s → IsOnSeat (parts old.core) seat s × IsSoundStage s) → IsShell program opening old → IsShell program opening new
+    pub turn-keeps : (opening : Opening C) → Simulates (parts old.core) → seat < old.core.limits.seats
+        → ((s : MachineView) → hand ≡ Some s → IsOnSeat (parts old.core) seat s × IsSoundStage s) → IsShell meaning.program opening old → IsShell meaning.program opening new
     turn-keeps opening stands within at-hand h = by (is_to_flush deed) refl
       where
-        opened : IsOpenedSo program opening mid.core new.ends.told
-        opened = deed-opened program devices value_of stage seat old.core turned.core stands within opening hand at-hand old.ends.told new.ends.told deed turned.done h.opened
+        opened : IsOpenedSo meaning.program opening mid.core new.ends.told
+        opened = deed-opened meaning seat old.core turned.core stands within opening hand at-hand old.ends.told new.ends.told deed turned.done h.opened
 
-        flushed : is_to_flush deed ≡ true → IsShell program opening new
+        flushed : is_to_flush deed ≡ true → IsShell meaning.program opening new
         flushed e =
-            let more = deed-more program devices value_of stage seat hand old.core turned.core old.ends.told new.ends.told deed e turned.done in
+            let more = deed-more meaning seat hand old.core turned.core old.ends.told new.ends.told deed e turned.done in
             let f = turned.flushes e in
             let before : IsSentSince opening.ends mid.ends None old.sent (lines old.core.output) =
             subst (λ (o : Option Stop). IsSentSince opening.ends mid.ends o old.sent (lines old.core.output)) more.was
@@ -114,9 +114,9 @@ module _ {C V M : Type 0} (program : C → Tree) (devices : C → ℕ) (value_of
                   (ap lines more.output ∙ lines-append old.core.output more.more) more.going before f;
             }
 
-        stayed : is_to_flush deed ≡ false → IsShell program opening new
+        stayed : is_to_flush deed ≡ false → IsShell meaning.program opening new
         stayed e =
-            subst (IsShell program opening) (sym (turned.stays e))
+            subst (IsShell meaning.program opening) (sym (turned.stays e))
             (record {
               opened = opened;
               sends =
@@ -124,44 +124,44 @@ module _ {C V M : Type 0} (program : C → Tree) (devices : C → ℕ) (value_of
                   (record { first = h.sends.first; goes = h.sends.goes });
             })
 
-        by : (b : Bool) → is_to_flush deed ≡ b → IsShell program opening new
+        by : (b : Bool) → is_to_flush deed ≡ b → IsShell meaning.program opening new
         by true e = flushed e
         by false e = stayed e
 
   -- The turn from its event and what is sent after it
 
-  module _ (seat : ℕ) (hand : Option Stage) (old new : Shown C V M) (mid : Core C V M) (told : List Told) (deed : Deed) where
-    abbrev between : List Told → Shown C V M
+  module _ (seat : ℕ) (hand : Option MachineView) (old new : ShellView C V M) (mid : Core C V M) (told : List Told) (deed : Deed) where
+    abbrev between : List Told → ShellView C V M
     between ts = record { core = mid; sent = old.sent; ends = record old.ends { told = ts } }
 
-    pub turned-made : told ≡ new.ends.told → IsDone program devices value_of stage seat hand old.core mid old.ends.told told deed
+    pub turned-made : told ≡ new.ends.told → IsDone meaning seat hand old.core mid old.ends.told told deed
         → (is_to_flush deed ≡ true → HasFlushed (between told) new) → (is_to_flush deed ≡ false → new ≡ between told)
-        → HasTurned program devices value_of stage seat hand old new deed
+        → HasTurned meaning seat hand old new deed
     turned-made same done flushes stays = record {
       core = mid;
-      done = subst (λ (ts : List Told). IsDone program devices value_of stage seat hand old.core mid old.ends.told ts deed) same done;
+      done = subst (λ (ts : List Told). IsDone meaning seat hand old.core mid old.ends.told ts deed) same done;
       flushes = λ e. subst (λ (ts : List Told). HasFlushed (between ts) new) same (flushes e);
       stays = λ e. subst (λ (ts : List Told). new ≡ between ts) same (stays e);
     }
 
   -- no line is taken back
-  pub sent-still : (seat : ℕ) (hand : Option Stage) (old new : Core C V M) (before after : List Told) (deed : Deed)
-      → IsDone program devices value_of stage seat hand old new before after deed → (sent : ℕ) → sent ≤ length (lines old.output) → sent ≤ length (lines new.output)
+  pub sent-still : (seat : ℕ) (hand : Option MachineView) (old new : Core C V M) (before after : List Told) (deed : Deed)
+      → IsDone meaning seat hand old new before after deed → (sent : ℕ) → sent ≤ length (lines old.output) → sent ≤ length (lines new.output)
   sent-still seat hand old new before after deed h sent within = by (is_to_flush deed) refl
     where
       same : new.output ≡ old.output → sent ≤ length (lines new.output)
       same e = subst (λ (xs : List ℤ). sent ≤ length (lines xs)) (sym e) within
 
-      failed : (device : ℕ) → IsDone program devices value_of stage seat hand old new before after (Deed.DeviceFailed device) → sent ≤ length (lines new.output)
+      failed : (device : ℕ) → IsDone meaning seat hand old new before after (Deed.DeviceFailed device) → sent ≤ length (lines new.output)
       failed device d = same (ap (λ (p : Parts). p.output) d.event.4.event.parts)
 
       stayed : is_to_flush deed ≡ false → (is_visit deed ≡ false) ⊎ ((device : ℕ) × (deed ≡ Deed.DeviceFailed device)) → sent ≤ length (lines new.output)
-      stayed e (inl f) = same (deed-silent program devices value_of stage seat old new hand before after deed e f h.event).output
-      stayed e (inr d) = failed d.0 (subst (λ (x : Deed). IsDone program devices value_of stage seat hand old new before after x) d.1 h)
+      stayed e (inl f) = same (deed-silent meaning seat old new hand before after deed e f h.event).output
+      stayed e (inr d) = failed d.0 (subst (λ (x : Deed). IsDone meaning seat hand old new before after x) d.1 h)
 
       by : (b : Bool) → is_to_flush deed ≡ b → sent ≤ length (lines new.output)
       by true e =
-          let more = deed-more program devices value_of stage seat hand old new before after deed e h in
+          let more = deed-more meaning seat hand old new before after deed e h in
           let all : length (lines new.output) ≡ length (lines old.output) + length (lines more.more) =
           ap length (ap lines more.output ∙ lines-append old.output more.more) ∙ length-append (lines old.output) (lines more.more) in
           omega (arith, all, within)

@@ -3,7 +3,7 @@ use Rattle.std.specs.Prelude.{◌≡◌, ℕ, ◌<◌, List, [], All}
 use Rattle.ame_io.specs.Lines.{lines}
 use Rattle.ame_term.specs.Tree.{Val, Tree}
 use Rattle.ame_journal.specs.declared.entry.Entry.{Entry}
-use Rattle.ame_stands.specs.declared.types.Limits.{Limits}
+use Rattle.ame_protocol.specs.declared.types.Limits.{Limits}
 use Rattle.ame_engine.specs.declared.counters.Counters.{Counters}
 use Rattle.ame_engine.specs.Ending.{End, IsEnd}
 use Rattle.ame_engine.specs.Lone.{IsUndisturbed}

@@ -6,7 +6,7 @@ use Rattle.ame_io.specs.Writes.{AppendsFirst}
 use Rattle.ame_term.specs.Tree.{Tree}
 use Rattle.ame_device.specs.declared.told.Heard.{Heard}
 use Rattle.ame_device.specs.declared.told.Told.{Told}
-use Rattle.ame_stands.specs.declared.types.Limits.{Limits}
+use Rattle.ame_protocol.specs.declared.types.Limits.{Limits}
 use Rattle.ame_engine.specs.declared.stop.Stop.{Stop}
 use Rattle.ame_engine.specs.Core.{Core}
 use Rattle.ame_shell.specs.Ends.{Ends, ends_of}
@@ -14,12 +14,12 @@ use Rattle.ame_shell.specs.Heard.{HaveHeard, HaveFailed}
 use Rattle.ame_shell.specs.Over.{AreOfSeats}
 
 -- What contracts see of a shell: its engine, how many bytes of the text were sent, and what sink and devices tell.
-pub record Shown (C V M : Type 0) : Type 0 where
+pub record ShellView (C V M : Type 0) : Type 0 where
   pub core : Core C V M
   pub sent : ℕ
   pub ends : Ends
 
-abbrev pub shown : {C V M K D : Type 0} → (K → Option (List ℕ)) → (K → ℕ) → (D → Option (List Heard)) → (D → ℕ) → Core C V M → ℕ → K → List D → Shown C V M
+abbrev pub shown : {C V M K D : Type 0} → (K → Option (List ℕ)) → (K → ℕ) → (D → Option (List Heard)) → (D → ℕ) → Core C V M → ℕ → K → List D → ShellView C V M
 shown written faults heard device_faults core sent sink devices =
     record { core = core; sent = sent; ends = ends_of written faults heard device_faults sink devices }
 
@@ -51,6 +51,6 @@ module _ {C V M : Type 0} (program : C → Tree) where
     pub failed : HaveFailed core.stop opening.ends.told told
 
   -- So it is of a shell, and the lines of what was printed are sent.
-  pub record IsShell (opening : Opening C) (shell : Shown C V M) : Type 0 where
+  pub record IsShell (opening : Opening C) (shell : ShellView C V M) : Type 0 where
     pub opened : IsOpenedSo opening shell.core shell.ends.told
     pub sends : IsSentSince opening.ends shell.ends shell.core.stop shell.sent (lines shell.core.output)

@@ -4,18 +4,18 @@ use Rattle.std.specs.Io.KnownBytes.{Appends}
 use Rattle.ame_io.specs.Counts.{HasRisen}
 use Rattle.ame_io.specs.Lines.{lines}
 use Rattle.ame_io.specs.Writes.{AppendsFirst}
-use Rattle.ame_term.specs.Tree.{Val, Tree}
-use Rattle.ame_runner.specs.Stage.{Stage}
+use Rattle.ame_machine.specs.MachineView.{MachineView}
 use Rattle.ame_engine.specs.declared.stop.Stop.{Stop}
 use Rattle.ame_engine.specs.Core.{Core}
 use Rattle.ame_engine.specs.Stops.{stopped_by}
 use Rattle.ame_turn.specs.declared.work.Deed.{Deed}
 use Rattle.ame_turn.specs.Deeds.{IsDone}
-use Rattle.ame_shell.specs.Shell.{Shown}
+use Rattle.ame_shell.specs.Shell.{ShellView}
+use Rattle.ame_machine.specs.Meaning.{Meaning}
 
 module _ {C V M : Type 0} where
   -- What wasn't sent yet of the text is sent; or the sink failed after its first bytes, and that stop is kept.
-  pub data HasFlushed (old new : Shown C V M) : Type 0 where
+  pub data HasFlushed (old new : ShellView C V M) : Type 0 where
     sends : Appends old.ends.written new.ends.written (drop old.sent (lines old.core.output)) → new.ends.write_faults ≡ old.ends.write_faults
         → new.core ≡ old.core → new.sent ≡ length (lines old.core.output) → HasFlushed old new
     fails : (gone : ℕ) → AppendsFirst gone old.ends.written new.ends.written (drop old.sent (lines old.core.output))
@@ -29,10 +29,10 @@ is_to_flush Deed.Left = true
 is_to_flush Deed.CameHome = true
 is_to_flush _ = false
 
-module _ {C V M : Type 0} (program : C → Tree) (devices : C → ℕ) (value_of : C → V → Val) (stage : C → M → Stage) where
-  -- A seat has made its event, in which devices alone of the ends had a part, and the lines that came of it were sent.
-  pub record HasTurned (seat : ℕ) (hand : Option Stage) (old new : Shown C V M) (deed : Deed) : Type 0 where
+module _ {C V M : Type 0} (meaning : Meaning C V M) where
+  -- A seat has made its event, in which meaning.devices alone of the ends had a part, and the lines that came of it were sent.
+  pub record HasTurned (seat : ℕ) (hand : Option MachineView) (old new : ShellView C V M) (deed : Deed) : Type 0 where
     pub core : Core C V M
-    pub done : IsDone program devices value_of stage seat hand old.core core old.ends.told new.ends.told deed
+    pub done : IsDone meaning seat hand old.core core old.ends.told new.ends.told deed
     pub flushes : is_to_flush deed ≡ true → HasFlushed (record { core = core; sent = old.sent; ends = record old.ends { told = new.ends.told } }) new
     pub stays : is_to_flush deed ≡ false → new ≡ record { core = core; sent = old.sent; ends = record old.ends { told = new.ends.told } }

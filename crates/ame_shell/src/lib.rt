@@ -1,8 +1,8 @@
 //! An engine with its sink and its devices, and what a run leaves of them.
 #![tactic(auto)]
 
-mod left;
+mod remains;
 mod shell;
 
-pub use left::Left;
+pub use remains::Remains;
 pub use shell::Shell;

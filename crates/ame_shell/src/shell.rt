@@ -2,8 +2,8 @@
 
 ghost use Rattle.std.specs.Prelude.{◌≡◌, ◌≢◌, ◌≤◌, ◌<◌, ℕ, None, IsSome, true, false, length, vec_len};
 ghost use Rattle.ame_io.specs.Lines.{lines};
-ghost use Rattle.ame_stands.specs.declared.types.Task.{Task};
-ghost use Rattle.ame_stands.specs.Parts.{task_at};
+ghost use Rattle.ame_protocol.specs.declared.types.Task.{Task};
+ghost use Rattle.ame_protocol.specs.Engine.Parts.{task_at};
 ghost use Rattle.ame_turn.specs.declared.work.Deed.{Deed};
 ghost use Rattle.ame_turn.specs.declared.work.Work.{Work};
 ghost use Rattle.ame_turn.specs.Ready.{IsReadyWork, CanBePrepared};
@@ -13,11 +13,11 @@ ghost use Rattle.ame_shell.specs.Over.{IsOver};
 ghost use Rattle.ame_shell.specs.Shell.{shown, Opening, IsShell};
 ghost use Rattle.ame_shell.specs.Turned.{HasFlushed, is_to_flush as flushes_after, HasTurned};
 
-use crate::left::Left;
+use crate::remains::Remains;
 use ame_device::Device;
 use ame_engine::{Engine, Stop};
 use ame_io::{Sink, WriteFault, write_all};
-use ame_runner::Runner;
+use ame_machine::Runner;
 use ame_turn::{Deed, Turned, Work, act};
 
 /// An engine, the sink to which the lines of its output go, with how many bytes were sent, and its devices.
@@ -94,21 +94,21 @@ where
     pub fn turn(&mut self, code: &M::Code, seat: u32, work: Work<M>, lacks: bool) -> Turned<M>
         requires code { code.now ≡ self.old.engine.code }
         requires seat { seat < self.old.engine.limits.seats }
-        requires fits { Fits M.program M.devices M.value_of M.is_machine M.stage self.old.engine seat work }
-        requires ready { lacks ≡ false → IsReadyWork M.stage self.old.engine.code self.old.engine.limits.slice work }
-        requires devices { M.devices self.old.engine.code ≤ vec_len self.old.devices }
+        requires fits { Fits M.meaning self.old.engine seat work }
+        requires ready { lacks ≡ false → IsReadyWork M.meaning.stage self.old.engine.code self.old.engine.limits.slice work }
+        requires devices { M.meaning.devices self.old.engine.code ≤ vec_len self.old.devices }
         requires sent { self.old.sent ≤ length (lines self.old.engine.output) }
-        ensures turned { HasTurned M.program M.devices M.value_of M.stage seat (stage_at M.stage self.old.engine.code work)
+        ensures turned { HasTurned M.meaning seat (stage_at M.meaning.stage self.old.engine.code work)
             (shown K.written K.faults D.device_heard D.device_faults self.old.engine self.old.sent self.old.sink self.old.devices.items)
             (shown K.written K.faults D.device_heard D.device_faults self.new.engine self.new.sent self.new.sink self.new.devices.items) result.deed }
         ensures lacks { lacks ≡ true → self.old.engine.stop ≡ None → result.deed ≡ Deed.Lacked }
         ensures keeps { (opening : Opening M.Code)
-            → IsShell M.program opening (shown K.written K.faults D.device_heard D.device_faults self.old.engine self.old.sent self.old.sink self.old.devices.items)
-            → IsShell M.program opening (shown K.written K.faults D.device_heard D.device_faults self.new.engine self.new.sent self.new.sink self.new.devices.items) }
-        ensures fits { Fits M.program M.devices M.value_of M.is_machine M.stage self.new.engine seat result.work }
-        ensures others { (other : ℕ) (rest : Work M) → other ≢ seat → Fits M.program M.devices M.value_of M.is_machine M.stage self.old.engine other rest
-            → Fits M.program M.devices M.value_of M.is_machine M.stage self.new.engine other rest }
-        ensures can { CanBePrepared M.is_machine M.stage self.new.engine.code self.new.engine.limits.slice result.work }
+            → IsShell M.meaning.program opening (shown K.written K.faults D.device_heard D.device_faults self.old.engine self.old.sent self.old.sink self.old.devices.items)
+            → IsShell M.meaning.program opening (shown K.written K.faults D.device_heard D.device_faults self.new.engine self.new.sent self.new.sink self.new.devices.items) }
+        ensures fits { Fits M.meaning self.new.engine seat result.work }
+        ensures others { (other : ℕ) (rest : Work M) → other ≢ seat → Fits M.meaning self.old.engine other rest
+            → Fits M.meaning self.new.engine other rest }
+        ensures can { CanBePrepared M.meaning.is_machine M.meaning.stage self.new.engine.code self.new.engine.limits.slice result.work }
         ensures code { self.new.engine.code ≡ self.old.engine.code }
         ensures limits { self.new.engine.limits ≡ self.old.engine.limits }
         ensures count { vec_len self.new.devices ≡ vec_len self.old.devices }
@@ -135,12 +135,12 @@ where
     }
 
     /// What is left once a stop is kept and all seats are idle. Takes no memory.
-    pub fn finish(self) -> Left<M::Value, K, D>
+    pub fn finish(self) -> Remains<M::Value, K, D>
         requires idle { (seat : ℕ) → task_at self.engine.tasks seat ≡ Task.Idle }
         requires stopped { IsSome self.engine.stop }
         ensures over { (opening : Opening M.Code)
-            → IsShell M.program opening (shown K.written K.faults D.device_heard D.device_faults self.engine self.sent self.sink self.devices.items)
-            → IsOver (M.program opening.code) opening.limits (M.value_of opening.code) opening.ends result.ended
+            → IsShell M.meaning.program opening (shown K.written K.faults D.device_heard D.device_faults self.engine self.sent self.sink self.devices.items)
+            → IsOver (M.meaning.program opening.code) opening.limits (M.meaning.value_of opening.code) opening.ends result.ended
             (ends_of K.written K.faults D.device_heard D.device_faults result.sink result.devices.items) }
     {
         let Shell {
@@ -149,7 +149,7 @@ where
             sent: _,
             devices,
         } = self;
-        Left {
+        Remains {
             ended: engine.finish(),
             sink,
             devices,

@@ -8,11 +8,11 @@ use mathlib.Core.List.{◌∷◌, []}
 use denote.Param.Send.{IsSend, IsSync, AllSend, AllSync, recorded_send, recorded_sync, struct_send, struct_sync, sendable}
 use Rattle.std.proofs.Crossing.{crosses, Box-send, Vec-send, Arc-send}
 use Rattle.ame_term.specs.declared.copied.Copied as copied
-use Rattle.ame_runner.specs.declared.runner.Runner as runner
+use Rattle.ame_machine.specs.declared.runner.Runner as runner
 use Rattle.ame_shell.proofs.shell.Shell.TheSendSync as shell
 use Rattle.ame_baton.proofs.seats.SeatAt.TheSendSync as seat
 use Rattle.ame_turn.proofs.work.Work.TheSendSync as work
-use Rattle.ame_stands.proofs.types.Limits.TheSendSync as limits
+use Rattle.ame_protocol.proofs.types.Limits.TheSendSync as limits
 use Rattle.ame_journal.specs.contracts.entry.Entry as Entry
 use Rattle.ame_shell.specs.contracts.shell.Shell as Shell
 use Rattle.ame_worker.specs.contracts.shared.Opened as Opened

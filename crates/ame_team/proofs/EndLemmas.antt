@@ -6,12 +6,12 @@ use Rattle.std.proofs.lemmas.List.{get_or_past}
 use Rattle.std.proofs.lemmas.Option.{slice_get-map}
 use Rattle.ame_term.specs.Tree.{Val, Tree}
 use Rattle.ame_journal.specs.declared.entry.Entry.{Entry}
-use Rattle.ame_runner.specs.Stage.{Stage}
-use Rattle.ame_stands.specs.declared.types.Task.{Task}
-use Rattle.ame_stands.specs.Parts.{task_at}
-use Rattle.ame_shell.specs.Shell.{Shown}
+use Rattle.ame_machine.specs.MachineView.{MachineView}
+use Rattle.ame_protocol.specs.declared.types.Task.{Task}
+use Rattle.ame_protocol.specs.Engine.Parts.{task_at}
+use Rattle.ame_shell.specs.Shell.{ShellView}
 use Rattle.ame_baton.specs.declared.seats.SeatAt.{SeatAt}
-use Rattle.ame_baton.specs.declared.view.Left.{Left}
+use Rattle.ame_baton.specs.declared.view.LastSeen.{LastSeen}
 use Rattle.ame_baton.specs.Batons.{knows, left_by_each}
 use Rattle.ame_baton.specs.Seats.{left_by, Stays}
 use Rattle.ame_baton.proofs.Lookups.{get_there}
@@ -21,9 +21,10 @@ use Rattle.ame_worker.specs.Shared.{IsShared}
 use Rattle.ame_worker.specs.Turns.{maker}
 use Rattle.ame_worker.specs.Workers.{IsThrough}
 use Rattle.ame_worker.proofs.HandLemmas.{found-kept}
+use Rattle.ame_machine.specs.Meaning.{Meaning}
 
 module _ {S C M : Type 0} (first : SeatAt S (Opened C) (Row M) Entry) (rest : List (SeatAt S (Opened C) (Row M) Entry)) (rows : List (Row M)) (entries : List Entry)
-    (stays : (n : ℕ) (it : Left (Row M) Entry) → slice_get (left_by (knows first) ∷ left_by_each rest) n ≡ Some it → Stays maker n it rows entries)
+    (stays : (n : ℕ) (it : LastSeen (Row M) Entry) → slice_get (left_by (knows first) ∷ left_by_each rest) n ≡ Some it → Stays maker n it rows entries)
     (first-through : IsThrough (knows first))
     (rest-through : (i : ℕ) (s : SeatAt S (Opened C) (Row M) Entry) → slice_get rest i ≡ Some s → IsThrough (knows s)) where
   -- the row of a seat that is through
@@ -49,11 +50,11 @@ module _ {S C M : Type 0} (first : SeatAt S (Opened C) (Row M) Entry) (rest : Li
       let through = rest-through i s there.1 in
       record { row = (knows s).row; found = (stays (suc i) (left_by (knows s)) left).row; idle = through.idle; marked = through.marked }
 
-  module _ {V : Type 0} (program : C → Tree) (devices : C → ℕ) (value_of : C → V → Val) (is_machine : C → M → Type 0) (stage : C → M → Stage)
-      (opened : Opened C) (shell : Shown C V M) (places : List (Kept M)) (shared : IsShared program devices value_of is_machine stage opened shell places rows entries)
+  module _ {V : Type 0} (meaning : Meaning C V M)
+      (opened : Opened C) (shell : ShellView C V M) (places : List (Kept M)) (shared : IsShared meaning opened shell places rows entries)
       (count : length rest + 1 ≡ shell.core.limits.seats) where
     row-here : (n : ℕ) (within : n < shell.core.limits.seats) (it : IsLeft n) → it.row ≡ row_of shell.core n (kept_at places n)
-    row-here n within it = found-kept program devices value_of is_machine stage opened shell shell places rows entries shared n within it.row it.found
+    row-here n within it = found-kept meaning opened shell shell places rows entries shared n within it.row it.found
 
     -- no seat has anything at work
     pub all-idle : length shell.core.tasks ≡ shell.core.limits.seats → (seat : ℕ) → task_at shell.core.tasks seat ≡ Task.Idle

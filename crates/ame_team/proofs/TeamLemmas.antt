@@ -8,11 +8,11 @@ use Rattle.ame_worker.specs.declared.shared.Shared.{Shared}
 use Rattle.ame_worker.specs.declared.worker.Worker.{Worker}
 use Rattle.ame_worker.specs.Rows.{Row}
 use Rattle.ame_worker.specs.Workers.{IsSeated}
-use Rattle.ame_stands.specs.declared.types.Limits.{Limits}
+use Rattle.ame_protocol.specs.declared.types.Limits.{Limits}
 use Rattle.ame_baton.specs.declared.view.Knows.{Knows}
 use Rattle.ame_baton.specs.Seats.{next_seat}
 use Rattle.ame_baton.proofs.Lookups.{get_snoc, get_within}
-use Rattle.ame_team.specs.Teams.{IsFirst, IsSeatAt}
+use Rattle.ame_team.specs.Teams.{IsFirstSeat, IsSeatAt}
 
 -- the seats of the workers are those with the numbers from 1 on, in order
 pub record IsOther {M K D C V : Type 0} (baton : Baton (Shared M K D C V) (Opened C) (Row M) Entry) (opened : Option (Opened C)) (number : ℕ)
@@ -53,7 +53,7 @@ first-seated devices code limits k made s = record {
   seats = s.seats;
 }
 
-pub first-more : {C M : Type 0} (made : ℕ) (k : Knows (Opened C) (Row M) Entry) → IsFirst made k → IsFirst (made + 1) (record k { made = k.made + 1 })
+pub first-more : {C M : Type 0} (made : ℕ) (k : Knows (Opened C) (Row M) Entry) → IsFirstSeat made k → IsFirstSeat (made + 1) (record k { made = k.made + 1 })
 first-more made k f = record {
   numbered = f.numbered;
   free = f.free;

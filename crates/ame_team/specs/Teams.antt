@@ -9,7 +9,7 @@ use Rattle.ame_worker.specs.declared.shared.Opened.{Opened}
 use Rattle.ame_worker.specs.Rows.{Row, empty_row}
 
 -- seat 0 as its baton was made, or as it made others
-pub record IsFirst {C M : Type 0} (made : ℕ) (k : Knows (Opened C) (Row M) Entry) : Type 0 where
+pub record IsFirstSeat {C M : Type 0} (made : ℕ) (k : Knows (Opened C) (Row M) Entry) : Type 0 where
   pub numbered : k.number ≡ 0
   pub free : k.holds ≡ false
   pub row : k.row ≡ empty_row

@@ -10,9 +10,9 @@ use crate::team::{seats_of, shares, team, work_all};
 use ame_baton::Baton;
 use ame_device::Device;
 use ame_io::Sink;
-use ame_runner::Runner;
-use ame_shell::Left;
-use ame_stands::Limits;
+use ame_machine::Runner;
+use ame_protocol::Limits;
+use ame_shell::Remains;
 use ame_worker::{Gate, Shared};
 use std::alloc::Global;
 use std::sync::{Arc, Wait};
@@ -28,7 +28,7 @@ pub fn run_by_workers<M, K, D, G, R>(
     sink: K,
     devices: Vec<D>,
     gate: &G,
-) -> Result<Left<M::Value, K, D>, (K, Vec<D>)>
+) -> Result<Remains<M::Value, K, D>, (K, Vec<D>)>
 where
     M: Runner + Send,
     M::Code: Drop + Send + Sync,
@@ -38,8 +38,8 @@ where
     G: Gate + Sync,
     R: Threads + Wait + Sync,
     requires limits { AreLimits limits }
-    requires devices { M.devices (arc_value code) ≤ vec_len devices }
-    ensures over { IfOk result (λ left. IsOver (M.program (arc_value code)) limits (M.value_of (arc_value code))
+    requires devices { M.meaning.devices (arc_value code) ≤ vec_len devices }
+    ensures over { IfOk result (λ left. IsOver (M.meaning.program (arc_value code)) limits (M.meaning.value_of (arc_value code))
         (ends_of K.written K.faults D.device_heard D.device_faults sink devices.items)
         left.ended (ends_of K.written K.faults D.device_heard D.device_faults left.sink left.devices.items)) }
     ensures sink { IfErr result (λ back. back.0 ≡ sink) }

@@ -2,7 +2,7 @@
 
 use crate::texts::read;
 use ame_journal::Journal;
-use ame_replay::lines_of;
+use ame_why::lines_of;
 use std::alloc::Global;
 use std::test::Fail;
 

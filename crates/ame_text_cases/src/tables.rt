@@ -2,7 +2,7 @@
 
 use ame_journal::Journal;
 use ame_term::{Loc, TyNo};
-use ame_trace::{Made, forms_of, table_of};
+use ame_why::{Made, forms_of, table_of};
 use std::alloc::Global;
 use std::test::Fail;
 

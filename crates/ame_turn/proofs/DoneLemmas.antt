@@ -1,26 +1,26 @@
 -- What a seat did, from what its event was asked with.
 use Rattle.std.proofs.Common.{◌≡◌, ℕ, ◌<◌, ◌≤◌, ◌⊎◌, inl, inr, Bool, true, false, List, [], Option, Some, None, Result, Ok, Err, refl, sym, ap, ◌∙◌, subst, arith, length-set}
 use Rattle.std.specs.Prelude.{IfOk, OnOk, ℤ, length}
-use Rattle.ame_term.specs.Tree.{Val, Tree}
+use Rattle.ame_term.specs.Tree.{Val}
 use Rattle.ame_term.specs.declared.types.Loc.{Loc}
 use Rattle.ame_rows.specs.declared.notes.Bad.{Bad}
 use Rattle.ame_rows.specs.declared.notes.ReadNote.{ReadNote}
 use Rattle.ame_rows.specs.Valid.{IsFirstBad}
-use Rattle.ame_desk.specs.Contents.{Notes, Contents, row_at}
+use Rattle.ame_rows.specs.MemoryView.{Log, MemoryView, row_at}
 use Rattle.ame_device.specs.declared.told.Told.{Told}
 use Rattle.ame_device.specs.declared.fault.DeviceFail.{DeviceFail}
 use Rattle.ame_device.specs.Calls.{CallsOne}
-use Rattle.ame_runner.specs.declared.wants.Wants.{Wants}
-use Rattle.ame_runner.specs.declared.wants.Wants.TheVariants as wants
-use Rattle.ame_runner.specs.Stage.{Stage}
-use Rattle.ame_runner.specs.Need.{Need}
-use Rattle.ame_runner.specs.Acting.{takes_input}
-use Rattle.ame_runner.specs.Sound.{IsSoundStage}
-use Rattle.ame_runner.proofs.NeedLemmas.{comes_as}
-use Rattle.ame_stands.specs.Parts.{Parts}
-use Rattle.ame_stands.specs.Stands.{Stands}
-use Rattle.ame_stands.proofs.ShownDeskLemmas.{row-shown}
-use Rattle.ame_visits.proofs.PlaceLemmas.{visits}
+use Rattle.ame_machine.specs.declared.wants.Wants.{Wants}
+use Rattle.ame_machine.specs.declared.wants.Wants.TheVariants as wants
+use Rattle.ame_machine.specs.MachineView.{MachineView}
+use Rattle.ame_machine.specs.Need.{Need}
+use Rattle.ame_machine.specs.Acting.{takes_input}
+use Rattle.ame_machine.specs.Sound.{IsSoundStage}
+use Rattle.ame_machine.proofs.NeedLemmas.{comes_as}
+use Rattle.ame_protocol.specs.Engine.Parts.{Parts}
+use Rattle.ame_protocol.specs.Engine.Simulates.{Simulates}
+use Rattle.ame_protocol.proofs.Engine.ShownMemoryLemmas.{row-shown}
+use Rattle.ame_protocol.proofs.Visits.PlaceLemmas.{visits}
 use Rattle.ame_engine.specs.Core.{Core}
 use Rattle.ame_engine.specs.Seen.{parts_of}
 use Rattle.ame_engine.specs.Committing.{IsCommitting}
@@ -29,9 +29,10 @@ use Rattle.ame_engine.proofs.VisitPlaceLemmas.{visits-as}
 use Rattle.ame_turn.specs.declared.work.Deed.{Deed}
 use Rattle.ame_turn.specs.Ready.{IsReady}
 use Rattle.ame_turn.specs.Work.{IsAtWork}
-use Rattle.ame_turn.specs.Asked.{waits_for_check, GoesOn, AsksFor, RunsTo, Accesses, IsToCheck, IsToCommit, IsToVisit}
+use Rattle.ame_turn.specs.Asked.{waits_for_check, IsToGoOn, AsksFor, RunsTo, Accesses, IsToCheck, IsToCommit, IsToVisit}
 use Rattle.ame_turn.specs.Deeds.{IsMade, IsDone}
 use Rattle.ame_turn.proofs.ValidLemmas.{none-invalid}
+use Rattle.ame_machine.specs.Meaning.{Meaning}
 
 -- Answers
 
@@ -43,8 +44,8 @@ told-on {A} {E} r a P is h = subst (λ (x : Result A E). OnOk x P) is h
 
 -- What the engine is asked for
 
-module _ {C V M : Type 0} (core : Core C V M) (s : Stage) (going : core.stop ≡ None) (left : core.turns < core.limits.turns) where
-  pub goes-from : GoesOn core (Some s) s
+module _ {C V M : Type 0} (core : Core C V M) (s : MachineView) (going : core.stop ≡ None) (left : core.turns < core.limits.turns) where
+  pub goes-from : IsToGoOn core (Some s) s
   goes-from = record { met = refl; going = going; left = left }
 
   pub asks-from : (want : Wants) → s.want ≡ Some want → AsksFor core (Some s) s want
@@ -93,7 +94,7 @@ only-of-visits want (inr (inr (inl calls))) = ap is_of_visits calls.2
 only-of-visits want (inr (inr (inr (inl is)))) = ap is_of_visits is
 only-of-visits want (inr (inr (inr (inr prints)))) = ap is_of_visits prints.1
 
-module _ (s : Stage) (sound : IsSoundStage s) where
+module _ (s : MachineView) (sound : IsSoundStage s) where
   pub never-outside : (want : Wants) → s.want ≡ Some want → s.inside ≡ false → is_of_visits want ≡ true → ⊥
   never-outside (wants.Peek l) is outside only = let inside = (comes_as s (Need.Peek l.0) (sound.told (wants.Peek l) is)).0 in cc
   never-outside wants.Close is outside only = let inside = (comes_as s Need.Close (sound.told wants.Close is)).0 in cc
@@ -142,28 +143,28 @@ module _ (s : Stage) (sound : IsSoundStage s) where
       by wants.Tall is full = absurd (short is)
       by wants.OutOfFuel is full = let made = (full refl).1 in let counted = sound.counted in omega (arith, made, counted)
 
-module _ {C V M : Type 0} (program : C → Tree) (devices : C → ℕ) (value_of : C → V → Val) (is_machine : C → M → Type 0) (stage : C → M → Stage)
+module _ {C V M : Type 0} (meaning : Meaning C V M)
     (core : Core C V M) (seat : ℕ) where
   abbrev parts : Parts
-  parts = parts_of program devices value_of stage core
+  parts = parts_of meaning core
 
   -- a read isn't valid of protected code alone
-  pub bad-outside : (m : M) → Stands parts → IsAtWork program devices value_of is_machine stage core seat m → (bad : Bad)
-      → IsFirstBad core.desk.cells seat (row_at core.desk.rows seat).reads bad → (stage core.code m).inside ≡ false
-  bad-outside m stands at bad first = by (stage core.code m).inside refl
+  pub bad-outside : (m : M) → Simulates parts → IsAtWork meaning core seat m → (bad : Bad)
+      → IsFirstBad core.memory.cells seat (row_at core.memory.rows seat).reads bad → (meaning.stage core.code m).inside ≡ false
+  bad-outside m stands at bad first = by (meaning.stage core.code m).inside refl
     where
-      by : (b : Bool) → (stage core.code m).inside ≡ b → (stage core.code m).inside ≡ false
+      by : (b : Bool) → (meaning.stage core.code m).inside ≡ b → (meaning.stage core.code m).inside ≡ false
       by false e = e
       by true e =
-          let task = visits-as parts seat (stage core.code m) at.on.stands e in
-          let none : (row_at core.desk.rows seat).reads ≡ [] =
-          sym (ap (λ (n : Notes Val). n.reads) (row-shown (value_of core.code) core.desk.rows seat))
-          ∙ ap (λ (n : Notes Val). n.reads) (visits parts stands seat at.on.stands.attempt task).clear in
+          let task = visits-as parts seat (meaning.stage core.code m) at.on.stands e in
+          let none : (row_at core.memory.rows seat).reads ≡ [] =
+          sym (ap (λ (n : Log Val). n.reads) (row-shown (meaning.value_of core.code) core.memory.rows seat))
+          ∙ ap (λ (n : Log Val). n.reads) (visits parts stands seat at.on.stands.attempt task).clear in
           absurd
-          (none-invalid seat core.desk.cells bad (subst (λ (reads : List ReadNote). IsFirstBad core.desk.cells seat reads bad) none first))
+          (none-invalid seat core.memory.cells bad (subst (λ (reads : List ReadNote). IsFirstBad core.memory.cells seat reads bad) none first))
 
-  pub done-alone : (hand : Option Stage) (new : Core C V M) (told : List Told) (deed : Deed) → IsMade program devices value_of stage seat hand core new told told deed
-      → IsDone program devices value_of stage seat hand core new told told deed
+  pub done-alone : (hand : Option MachineView) (new : Core C V M) (told : List Told) (deed : Deed) → IsMade meaning seat hand core new told told deed
+      → IsDone meaning seat hand core new told told deed
   done-alone hand new told deed made = record { event = made; quiet = λ _. refl }
 
 -- A call keeps the number of devices
@@ -172,24 +173,24 @@ call-counts : (before after : List Told) (k : ℕ) (argument : ℤ) (result : Re
     → length after ≡ length before
 call-counts before after k argument result calls = ap length calls.others ∙ length-set before k calls.is
 
-visit-counts : (s n : Stage) (desk later : Contents Val) (before after : List Told) (answer : Option ℤ) → VisitsTo s desk before answer n later after
+visit-counts : (s n : MachineView) (memory later : MemoryView Val) (before after : List Told) (answer : Option ℤ) → VisitsTo s memory before answer n later after
     → length after ≡ length before
-visit-counts s n desk later before after answer (VisitsTo.rests alone) = refl
-visit-counts s n desk later before after answer (VisitsTo.reads l v m want is fed) = refl
-visit-counts s n desk later before after answer (VisitsTo.peeks l v m want is fed) = refl
-visit-counts s n desk later before after answer (VisitsTo.writes l v m want sets fed) = refl
-visit-counts s n desk later before after answer (VisitsTo.makes sort number v m want sets fed) = refl
-visit-counts s n desk later before after answer (VisitsTo.spawns m want fed) = refl
-visit-counts s n desk later before after answer (VisitsTo.prints i m want fed) = refl
-visit-counts s n desk later before after answer (VisitsTo.closes m want closes) = refl
-visit-counts s n desk later before after answer (VisitsTo.calls device argument given m told want calls fed) =
+visit-counts s n memory later before after answer (VisitsTo.rests alone) = refl
+visit-counts s n memory later before after answer (VisitsTo.reads l v m want is fed) = refl
+visit-counts s n memory later before after answer (VisitsTo.peeks l v m want is fed) = refl
+visit-counts s n memory later before after answer (VisitsTo.writes l v m want sets fed) = refl
+visit-counts s n memory later before after answer (VisitsTo.makes sort number v m want sets fed) = refl
+visit-counts s n memory later before after answer (VisitsTo.spawns m want fed) = refl
+visit-counts s n memory later before after answer (VisitsTo.prints i m want fed) = refl
+visit-counts s n memory later before after answer (VisitsTo.closes m want closes) = refl
+visit-counts s n memory later before after answer (VisitsTo.calls device argument given m told want calls fed) =
     call-counts before told device argument (Ok given) calls
 
-module _ {C V M : Type 0} (program : C → Tree) (devices : C → ℕ) (value_of : C → V → Val) (stage : C → M → Stage) (seat : ℕ) (hand : Option Stage)
+module _ {C V M : Type 0} (meaning : Meaning C V M) (seat : ℕ) (hand : Option MachineView)
     (old new : Core C V M) (before after : List Told) where
-  pub told-counts : (deed : Deed) → IsDone program devices value_of stage seat hand old new before after deed → length after ≡ length before
+  pub told-counts : (deed : Deed) → IsDone meaning seat hand old new before after deed → length after ≡ length before
   told-counts Deed.CameHome d =
-      let home = d.event.4 in visit-counts d.event.0 home.comes (parts_of program devices value_of stage old).desk home.desk before after home.answer home.visits
+      let home = d.event.4 in visit-counts d.event.0 home.comes (parts_of meaning old).memory home.memory before after home.answer home.visits
   told-counts (Deed.DeviceFailed device) d = let refused = d.event.4 in call-counts before after device refused.argument (Err DeviceFail.Failed) refused.fails
   told-counts Deed.Began d = ap length (d.quiet refl)
   told-counts Deed.Waited d = ap length (d.quiet refl)

@@ -9,23 +9,23 @@ use Rattle.ame_pool.specs.Members.{find, except}
 use Rattle.ame_pool.specs.Roster.{Roster}
 use Rattle.ame_pool.specs.Calls.{at_home, renewed, at_rest, home, exchanged, removed, parked}
 use Rattle.ame_pool.proofs.MemberLemmas.{found_altered}
-use Rattle.ame_local.specs.Local.{LocalState}
-use Rattle.ame_desk.specs.Contents.{Contents, no_notes, row_at}
-use Rattle.ame_desk.specs.LettingGo.{undone_last}
-use Rattle.ame_desk.proofs.LookupLemmas.{row_set_else}
-use Rattle.ame_runner.specs.Stage.{Stage}
-use Rattle.ame_stands.specs.declared.types.Attempt.{Attempt}
-use Rattle.ame_stands.specs.declared.types.Reason.{Reason}
-use Rattle.ame_stands.specs.declared.types.Task.{Task}
-use Rattle.ame_stands.specs.Parts.{Parts, task_at, member_of, term_at}
-use Rattle.ame_stands.specs.Stands.{Stands}
-use Rattle.ame_stands.specs.Tasks.{is_busy_as}
-use Rattle.ame_stands.specs.Events.{one_turn, with_desk, with_task, with_try, undo_turn, has_undone, brought_home, has_gone_home, woken_for, with_newcomers, has_ended, has_left}
-use Rattle.ame_stands.proofs.PoolLemmas.{machines-stay, found-at}
-use Rattle.ame_stands.proofs.StepLemmas.{task_else}
-use Rattle.ame_stands.proofs.HomeLemmas.{busy-of}
-use Rattle.ame_stands.proofs.GrowthLemmas.{keeps-on, keeps-same, woken-keeps, woken-free, newcomers-keep}
-use Rattle.ame_stands.proofs.CommitLemmas.{free-next}
+use Rattle.ame_machine.specs.Run.Local.{LocalState}
+use Rattle.ame_rows.specs.MemoryView.{MemoryView, no_log, row_at}
+use Rattle.ame_rows.specs.LettingGo.{undone_last}
+use Rattle.ame_rows.proofs.LookupLemmas.{row_set_else}
+use Rattle.ame_machine.specs.MachineView.{MachineView}
+use Rattle.ame_protocol.specs.declared.types.Attempt.{Attempt}
+use Rattle.ame_protocol.specs.declared.types.Reason.{Reason}
+use Rattle.ame_protocol.specs.declared.types.Task.{Task}
+use Rattle.ame_protocol.specs.Engine.Parts.{Parts, task_at, member_of, term_at}
+use Rattle.ame_protocol.specs.Engine.Simulates.{Simulates}
+use Rattle.ame_protocol.specs.Engine.Tasks.{is_busy_as}
+use Rattle.ame_protocol.specs.Engine.Events.{one_turn, with_memory, with_task, with_try, undo_turn, has_undone, brought_home, has_gone_home, woken_for, with_newcomers, has_ended, has_left}
+use Rattle.ame_protocol.proofs.Engine.PoolLemmas.{machines-stay, found-at}
+use Rattle.ame_protocol.proofs.Engine.StepLemmas.{task_else}
+use Rattle.ame_protocol.proofs.Engine.HomeLemmas.{busy-of}
+use Rattle.ame_protocol.proofs.Engine.GrowthLemmas.{keeps-on, keeps-same, woken-keeps, woken-free, newcomers-keep}
+use Rattle.ame_protocol.proofs.Engine.CommitLemmas.{free-next}
 use Rattle.ame_engine.specs.AtWork.{working, IsOnSeat}
 use Rattle.ame_turn.proofs.OthersLemmas.{stays-on}
 
@@ -45,10 +45,10 @@ turn-limits parts = by parts.stopped
     by true = refl
     by false = refl
 
-turn-desk : (parts : Parts) → (undo_turn parts).desk ≡ parts.desk
-turn-desk parts = by parts.stopped
+turn-memory : (parts : Parts) → (undo_turn parts).memory ≡ parts.memory
+turn-memory parts = by parts.stopped
   where
-    by : (b : Bool) → (if b then parts else one_turn parts).desk ≡ parts.desk
+    by : (b : Bool) → (if b then parts else one_turn parts).memory ≡ parts.memory
     by true = refl
     by false = refl
 
@@ -71,25 +71,25 @@ term-home Reason.Stopped n number pool =
     ap (λ (o : Option Tree). unwrap_or o unit_tree)
     (machines-stay n (at_home false) pool.members (home n false pool).members (found_altered n (at_home false) (λ _. refl) pool.members) (λ _. refl) (λ _. refl) number)
 
-module _ (parts : Parts) (seat other : ℕ) (s : Stage) (apart : other ≢ seat) (on : IsOnSeat parts other s) where
+module _ (parts : Parts) (seat other : ℕ) (s : MachineView) (apart : other ≢ seat) (on : IsOnSeat parts other s) where
   pub undone-others : (attempt : Attempt) (reason : Reason) → IsOnSeat (has_undone seat attempt reason parts) other s
   undone-others attempt reason =
-      let mid = with_task seat (Task.Undoing attempt reason) (with_desk (undone_last seat parts.desk) parts) in
+      let mid = with_task seat (Task.Undoing attempt reason) (with_memory (undone_last seat parts.memory) parts) in
       stays-on parts (has_undone seat attempt reason parts) other s
       (ap (λ (ts : List Task). task_at ts other) (turn-tasks mid) ∙ task_else parts.tasks seat (Task.Undoing attempt reason) other apart)
-      (ap (λ (d : Contents Val). row_at d.rows other) (turn-desk mid) ∙ row_set_else parts.desk.rows seat other _ apart)
+      (ap (λ (d : MemoryView Val). row_at d.rows other) (turn-memory mid) ∙ row_set_else parts.memory.rows seat other _ apart)
       (λ a e. ap (λ (pool : Roster Tree). term_at pool a.tried.number) (turn-pool mid)) on
 
   pub gone-others : (attempt : Attempt) (reason : Reason) → IsOnSeat (has_gone_home seat attempt reason parts) other s
   gone-others attempt reason =
       let mid = with_task seat Task.Idle (record parts {
-        desk = undone_last seat parts.desk;
+        memory = undone_last seat parts.memory;
         pool = brought_home reason attempt.tried.number parts.pool;
         tried = with_try attempt parts.tried;
       }) in
       stays-on parts (has_gone_home seat attempt reason parts) other s
       (ap (λ (ts : List Task). task_at ts other) (turn-tasks mid) ∙ task_else parts.tasks seat Task.Idle other apart)
-      (ap (λ (d : Contents Val). row_at d.rows other) (turn-desk mid) ∙ row_set_else parts.desk.rows seat other _ apart)
+      (ap (λ (d : MemoryView Val). row_at d.rows other) (turn-memory mid) ∙ row_set_else parts.memory.rows seat other _ apart)
       (λ a e. ap (λ (pool : Roster Tree). term_at pool a.tried.number) (turn-pool mid) ∙ term-home reason attempt.tried.number a.tried.number parts.pool) on
 
 -- Commits
@@ -106,14 +106,14 @@ except-else n i [] apart = refl
 except-else n i (m ∷ ms) apart = let rest = except-else n i ms apart in grind (arith, nat_tests, rest)
 
 -- no two seats have one member
-pub other-member : (parts : Parts) (stands : Stands parts) (seat other : ℕ) → other ≢ seat → (number : ℕ) → member_of (task_at parts.tasks seat) ≡ Some number
+pub other-member : (parts : Parts) (stands : Simulates parts) (seat other : ℕ) → other ≢ seat → (number : ℕ) → member_of (task_at parts.tasks seat) ≡ Some number
     → (a : Attempt) → working (task_at parts.tasks other) ≡ Some a → a.tried.number ≢ number
 other-member parts stands seat other apart number of a has = λ same.
     apart
     (stands.apart other seat a.tried.number (working-member (task_at parts.tasks other) a has) (of ∙ ap (λ (n : ℕ). Some n) (sym same)))
 
 -- a member that runs is there
-pub member-below : (parts : Parts) (stands : Stands parts) (other : ℕ) (a : Attempt) → working (task_at parts.tasks other) ≡ Some a → a.tried.number < parts.next
+pub member-below : (parts : Parts) (stands : Simulates parts) (other : ℕ) (a : Attempt) → working (task_at parts.tasks other) ≡ Some a → a.tried.number < parts.next
 member-below parts stands other a has =
     let i = a.tried.number in
     let b = busy-of parts stands.types other i (task_at parts.tasks other) (stands.seats other) (working-member (task_at parts.tasks other) a has) in
@@ -125,7 +125,7 @@ member-below parts stands other a has =
     by (inr above) m found =
         absurd (let clash : ◌≡◌ {A = Option (Member Tree)} None (Some m) = sym (free-next parts stands a.tried.number above) ∙ found in cc)
 
-module _ (parts : Parts) (stands : Stands parts) (seat other : ℕ) (s : Stage) (apart : other ≢ seat) (on : IsOnSeat parts other s)
+module _ (parts : Parts) (stands : Simulates parts) (seat other : ℕ) (s : MachineView) (apart : other ≢ seat) (on : IsOnSeat parts other s)
     (attempt : Attempt) (task : task_at parts.tasks seat ≡ Task.Running attempt) (steps : ℕ) (p : LocalState) (ls : List ℕ) where
   abbrev woken_pool : Roster Tree
   woken_pool = woken_for ls parts.pool
@@ -157,13 +157,13 @@ module _ (parts : Parts) (stands : Stands parts) (seat other : ℕ) (s : Stage) 
   pub ended-others : IsOnSeat (has_ended seat attempt.tried.number steps p ls parts) other s
   ended-others =
       stays-on parts (has_ended seat attempt.tried.number steps p ls parts) other s (task_else parts.tasks seat Task.Idle other apart)
-      (row_set_else parts.desk.rows seat other no_notes apart)
+      (row_set_else parts.memory.rows seat other no_log apart)
       (λ a has. term-kept a has (removed attempt.tried.number later_pool) (except-else attempt.tried.number a.tried.number later_pool.members (not-its a has))) on
 
   pub left-others : IsOnSeat (has_left seat attempt.tried.number steps p ls parts) other s
   left-others =
       stays-on parts (has_left seat attempt.tried.number steps p ls parts) other s (task_else parts.tasks seat Task.Idle other apart)
-      (row_set_else parts.desk.rows seat other no_notes apart)
+      (row_set_else parts.memory.rows seat other no_log apart)
       (λ a has.
       term-kept a has (exchanged attempt.tried.number p.term true later_pool)
       ((found_altered attempt.tried.number (renewed p.term true) (λ _. refl) later_pool.members).others a.tried.number (not-its a has))) on

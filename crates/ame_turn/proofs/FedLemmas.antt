@@ -10,31 +10,31 @@ use Rattle.ame_term.specs.declared.types.TyNo.{TyNo}
 use Rattle.ame_journal.specs.Replay.{redex_act}
 use Rattle.ame_store.specs.Cells.{IsFree, IsOwnedBy}
 use Rattle.ame_pool.specs.Roster.{Roster}
-use Rattle.ame_desk.specs.Contents.{row_at}
-use Rattle.ame_owed.specs.Heap.{cell_at, IsCell}
-use Rattle.ame_owed.specs.SeatRun.{SeatRun}
-use Rattle.ame_runner.specs.Stage.{Stage, IsOnRunWith, OnRun}
-use Rattle.ame_runner.specs.Need.{Need, need_of}
-use Rattle.ame_runner.specs.Move.{Advances, fed_stage, answer_given}
-use Rattle.ame_runner.specs.Comes.{HasNextAct}
-use Rattle.ame_runner.proofs.NeedLemmas.{comes_as}
-use Rattle.ame_runner.proofs.MoveLemmas.{on-advanced, fed-to, on-fed}
-use Rattle.ame_stands.specs.declared.types.Task.{Task}
-use Rattle.ame_stands.specs.Parts.{Parts, heap_in, task_at, term_at}
-use Rattle.ame_stands.specs.Events.{has_read, has_written, has_allocated}
-use Rattle.ame_stands.proofs.StepLemmas.{owned_or_not}
-use Rattle.ame_stands.proofs.DeskEvents.{read-outside, read-own, first-run, later-run, allocation-run}
+use Rattle.ame_rows.specs.MemoryView.{row_at}
+use Rattle.ame_protocol.specs.Row.Heap.{cell_at, IsCell}
+use Rattle.ame_protocol.specs.Row.SeatRun.{SeatRun}
+use Rattle.ame_machine.specs.MachineView.{MachineView, IsOnRunWith, OnRun}
+use Rattle.ame_machine.specs.Need.{Need, need_of}
+use Rattle.ame_machine.specs.Move.{Advances, fed_stage, answer_given}
+use Rattle.ame_machine.specs.Comes.{HasNextAct}
+use Rattle.ame_machine.proofs.NeedLemmas.{comes_as}
+use Rattle.ame_machine.proofs.MoveLemmas.{on-advanced, fed-to, on-fed}
+use Rattle.ame_protocol.specs.declared.types.Task.{Task}
+use Rattle.ame_protocol.specs.Engine.Parts.{Parts, heap_in, task_at, term_at}
+use Rattle.ame_protocol.specs.Engine.Events.{has_read, has_written, has_allocated}
+use Rattle.ame_protocol.proofs.Engine.StepLemmas.{owned_or_not}
+use Rattle.ame_protocol.proofs.Engine.MemoryEvents.{read-outside, read-own, first-run, later-run, allocation-run}
 use Rattle.ame_engine.specs.AtWork.{is_free, working, IsOnSeat}
 
-module _ (parts : Parts) (seat : ℕ) (s : Stage) (on : IsOnSeat parts seat s) where
+module _ (parts : Parts) (seat : ℕ) (s : MachineView) (on : IsOnSeat parts seat s) where
   abbrev start : Tree
   start = term_at parts.pool on.attempt.tried.number
 
   abbrev inputs : List Val
-  inputs = (row_at parts.desk.rows seat).inputs
+  inputs = (row_at parts.memory.rows seat).inputs
 
   -- it makes steps alone
-  pub advanced-on : (k : ℕ) (t : Stage) → Advances k s t → IsOnSeat parts seat t
+  pub advanced-on : (k : ℕ) (t : MachineView) → Advances k s t → IsOnSeat parts seat t
   advanced-on k t a = record {
     attempt = on.attempt;
     has = on.has;
@@ -43,7 +43,7 @@ module _ (parts : Parts) (seat : ℕ) (s : Stage) (on : IsOnSeat parts seat s) w
     since = let e = on.since in let x = a.steps in let y = a.since in omega arith;
   }
 
-  module _ (v : Val) (t : Stage) (fed : fed_stage v s ≡ Some t) (act : Act) (next : HasNextAct s act) (unanswered : answer_given (Some act) v ≡ None) where
+  module _ (v : Val) (t : MachineView) (fed : fed_stage v s ≡ Some t) (act : Act) (next : HasNextAct s act) (unanswered : answer_given (Some act) v ≡ None) where
     on-more : OnRun start (inputs ++ v ∷ []) t
     on-more =
         let which : redex_act (focus s.term) ≡ Some act = ap redex_act next.1 ∙ ap (λ (a : Act). Some a) next.2 in
@@ -51,12 +51,12 @@ module _ (parts : Parts) (seat : ℕ) (s : Stage) (on : IsOnSeat parts seat s) w
         (on-fed start inputs v s t on.run fed)
 
     -- the tasks and the pool stay, and the seat is given one more input
-    fed-on : (new : Parts) → new.tasks ≡ parts.tasks → new.pool ≡ parts.pool → (row_at new.desk.rows seat).inputs ≡ inputs ++ v ∷ [] → IsOnSeat new seat t
+    fed-on : (new : Parts) → new.tasks ≡ parts.tasks → new.pool ≡ parts.pool → (row_at new.memory.rows seat).inputs ≡ inputs ++ v ∷ [] → IsOnSeat new seat t
     fed-on new tasks pool more =
         let x = fed-to v s t fed in
-        let inside : t.inside ≡ s.inside = ap (λ (z : Stage). z.inside) x.is in
-        let steps : t.steps ≡ s.steps + 1 = ap (λ (z : Stage). z.steps) x.is in
-        let since : t.since ≡ s.since + 1 = ap (λ (z : Stage). z.since) x.is in
+        let inside : t.inside ≡ s.inside = ap (λ (z : MachineView). z.inside) x.is in
+        let steps : t.steps ≡ s.steps + 1 = ap (λ (z : MachineView). z.steps) x.is in
+        let since : t.since ≡ s.since + 1 = ap (λ (z : MachineView). z.since) x.is in
         record {
           attempt = on.attempt;
           has = ap (λ (ts : List Task). working (task_at ts seat)) tasks ∙ on.has;
@@ -67,7 +67,7 @@ module _ (parts : Parts) (seat : ℕ) (s : Stage) (on : IsOnSeat parts seat s) w
           since = let e = on.since in omega (arith, e, steps, since);
         }
 
-  module _ (within : seat < length parts.desk.rows) (t : Stage) where
+  module _ (within : seat < length parts.memory.rows) (t : MachineView) where
     pub read-fed : (l : Loc) → IsCell (heap_in parts) l.0 → Need.Read l.0 ≡ need_of s → fed_stage (cell_at (heap_in parts) l.0).value s ≡ Some t
         → IsOnSeat (has_read seat l parts) seat t
     read-fed l is need fed =
@@ -75,9 +75,9 @@ module _ (parts : Parts) (seat : ℕ) (s : Stage) (on : IsOnSeat parts seat s) w
         (by (owned_or_not seat (cell_at (heap_in parts) l.0)))
       where
         by : IsOwnedBy seat (cell_at (heap_in parts) l.0) ⊎ (IsOwnedBy seat (cell_at (heap_in parts) l.0) → ⊥)
-            → (row_at (has_read seat l parts).desk.rows seat).inputs ≡ inputs ++ (cell_at (heap_in parts) l.0).value ∷ []
-        by (inl own) = ap (λ (r : SeatRun). r.inputs) (read-own parts.desk seat within l is own start)
-        by (inr apart) = ap (λ (r : SeatRun). r.inputs) (read-outside parts.desk seat within l is apart start)
+            → (row_at (has_read seat l parts).memory.rows seat).inputs ≡ inputs ++ (cell_at (heap_in parts) l.0).value ∷ []
+        by (inl own) = ap (λ (r : SeatRun). r.inputs) (read-own parts.memory seat within l is own start)
+        by (inr apart) = ap (λ (r : SeatRun). r.inputs) (read-outside parts.memory seat within l is apart start)
 
     pub write-fed : (l : Loc) (v : Val) → IsCell (heap_in parts) l.0 → IsFree (cell_at (heap_in parts) l.0) ⊎ IsOwnedBy seat (cell_at (heap_in parts) l.0)
         → Need.Write l.0 ≡ need_of s → fed_stage Val.Unit s ≡ Some t → IsOnSeat (has_written seat l v parts) seat t
@@ -85,13 +85,13 @@ module _ (parts : Parts) (seat : ℕ) (s : Stage) (on : IsOnSeat parts seat s) w
         fed-on Val.Unit t fed (Act.Writes l.0 (comes_as s (Need.Write l.0) need).0) (comes_as s (Need.Write l.0) need).1 refl (has_written seat l v parts) refl refl (by owned)
       where
         by : IsFree (cell_at (heap_in parts) l.0) ⊎ IsOwnedBy seat (cell_at (heap_in parts) l.0)
-            → (row_at (has_written seat l v parts).desk.rows seat).inputs ≡ inputs ++ Val.Unit ∷ []
-        by (inl free) = ap (λ (r : SeatRun). r.inputs) (first-run parts.desk seat l v within is free start)
-        by (inr own) = ap (λ (r : SeatRun). r.inputs) (later-run parts.desk seat l v within is own start)
+            → (row_at (has_written seat l v parts).memory.rows seat).inputs ≡ inputs ++ Val.Unit ∷ []
+        by (inl free) = ap (λ (r : SeatRun). r.inputs) (first-run parts.memory seat l v within is free start)
+        by (inr own) = ap (λ (r : SeatRun). r.inputs) (later-run parts.memory seat l v within is own start)
 
-    pub alloc-fed : (sort : Sort) (ty : TyNo) (v : Val) → Need.Alloc sort ≡ need_of s → fed_stage (Val.Loc (length parts.desk.cells)) s ≡ Some t
+    pub alloc-fed : (sort : Sort) (ty : TyNo) (v : Val) → Need.Alloc sort ≡ need_of s → fed_stage (Val.Loc (length parts.memory.cells)) s ≡ Some t
         → IsOnSeat (has_allocated seat sort ty v parts) seat t
     alloc-fed sort ty v need fed =
-        fed-on (Val.Loc (length parts.desk.cells)) t fed (Act.Allocates sort (comes_as s (Need.Alloc sort) need).0) (comes_as s (Need.Alloc sort) need).1 refl
+        fed-on (Val.Loc (length parts.memory.cells)) t fed (Act.Allocates sort (comes_as s (Need.Alloc sort) need).0) (comes_as s (Need.Alloc sort) need).1 refl
         (has_allocated seat sort ty v parts) refl refl
-        (ap (λ (r : SeatRun). r.inputs) (allocation-run parts.desk seat sort ty v within start))
+        (ap (λ (r : SeatRun). r.inputs) (allocation-run parts.memory seat sort ty v within start))

@@ -2,30 +2,30 @@
 use Rattle.std.proofs.Common.{◌≡◌, ℕ, ◌<◌, ◌≤◌, ◌⊎◌, inl, inr, Bool, true, false, List, Some, refl, ap, ◌∙◌}
 use Rattle.std.specs.Prelude.{is_some}
 use Rattle.std.proofs.lemmas.Bool.{cases_lt}
-use Rattle.ame_term.specs.Tree.{Val, Tree}
+use Rattle.ame_term.specs.Tree.{Val}
 use Rattle.ame_term.specs.Act.{Act}
 use Rattle.ame_term.specs.declared.types.Sort.{Sort}
 use Rattle.ame_journal.specs.Replay.{redex_act}
-use Rattle.ame_local.specs.Local.{LocalState}
-use Rattle.ame_runner.specs.Stage.{Stage}
-use Rattle.ame_runner.specs.Need.{Need, need_of}
-use Rattle.ame_runner.specs.Input.{value_set, value_to_set}
-use Rattle.ame_runner.specs.Comes.{HasNextAct}
-use Rattle.ame_runner.proofs.NeedLemmas.{comes_as}
-use Rattle.ame_stands.specs.declared.types.Attempt.{Attempt}
-use Rattle.ame_stands.specs.declared.types.Reason.{Reason}
-use Rattle.ame_stands.specs.declared.types.Task.{Task}
-use Rattle.ame_stands.specs.Parts.{Parts, task_at, attempt_of}
-use Rattle.ame_stands.specs.Events.{has_turned_back, with_desk, with_task, with_try, brought_home, has_undone, has_gone_home}
-use Rattle.ame_stands.proofs.StepLemmas.{seat_within, task_here}
-use Rattle.ame_desk.specs.LettingGo.{undone_last}
-use Rattle.ame_waiting.specs.Noted.{has_noted}
-use Rattle.ame_visits.specs.Stops.{told_task, has_been_cut, has_grown_tall}
-use Rattle.ame_visits.specs.Visit.{has_visited, has_been_refused}
-use Rattle.ame_desk.specs.Contents.{Contents}
+use Rattle.ame_machine.specs.Run.Local.{LocalState}
+use Rattle.ame_machine.specs.MachineView.{MachineView}
+use Rattle.ame_machine.specs.Need.{Need, need_of}
+use Rattle.ame_machine.specs.Input.{value_set, value_to_set}
+use Rattle.ame_machine.specs.Comes.{HasNextAct}
+use Rattle.ame_machine.proofs.NeedLemmas.{comes_as}
+use Rattle.ame_protocol.specs.declared.types.Attempt.{Attempt}
+use Rattle.ame_protocol.specs.declared.types.Reason.{Reason}
+use Rattle.ame_protocol.specs.declared.types.Task.{Task}
+use Rattle.ame_protocol.specs.Engine.Parts.{Parts, task_at, attempt_of}
+use Rattle.ame_protocol.specs.Engine.Events.{has_turned_back, with_memory, with_task, with_try, brought_home, has_undone, has_gone_home}
+use Rattle.ame_protocol.proofs.Engine.StepLemmas.{seat_within, task_here}
+use Rattle.ame_rows.specs.LettingGo.{undone_last}
+use Rattle.ame_protocol.specs.Waits.Noted.{has_noted}
+use Rattle.ame_protocol.specs.Visits.Stops.{told_task, has_been_cut, has_grown_tall}
+use Rattle.ame_protocol.specs.Visits.Visit.{has_visited, has_been_refused}
+use Rattle.ame_rows.specs.MemoryView.{MemoryView}
 use Rattle.ame_engine.specs.declared.certificate.Certificate.{Certificate}
 use Rattle.ame_engine.specs.declared.counters.Counters.{Counters}
-use Rattle.ame_engine.specs.declared.chance.Chance.{Chance}
+use Rattle.ame_engine.specs.declared.pick.Pick.{Pick}
 use Rattle.ame_engine.specs.declared.stop.Stop.{Stop}
 use Rattle.ame_engine.specs.declared.answer.Begin.TheVariants as answer
 use Rattle.ame_engine.specs.Core.{Core}
@@ -41,6 +41,7 @@ use Rattle.ame_turn.specs.Work.{CanUndo, IsAtWork, Fits}
 use Rattle.ame_turn.specs.Deeds.{StopsBy}
 use Rattle.ame_turn.proofs.EndsLemmas.{turn-tasks}
 use Rattle.ame_turn.proofs.RestLemmas.{by-stop}
+use Rattle.ame_machine.specs.Meaning.{Meaning}
 
 pub working-busy : (t : Task) (a : Attempt) → working t ≡ Some a → is_some (attempt_of t) ≡ true
 working-busy Task.Idle a e = cc
@@ -61,12 +62,12 @@ told-busy (Task.Free b) = refl
 told-busy (Task.Undoing b reason) = refl
 
 -- the value that a machine sets which wants a new cell, or to write
-pub alloc-sets : (s : Stage) (sort : Sort) → Need.Alloc sort ≡ need_of s → (v : Val) × (value_to_set s ≡ Some v)
+pub alloc-sets : (s : MachineView) (sort : Sort) → Need.Alloc sort ≡ need_of s → (v : Val) × (value_to_set s ≡ Some v)
 alloc-sets s sort need =
     let n : (v : Val) × HasNextAct s (Act.Allocates sort v) = comes_as s (Need.Alloc sort) need in
     let h : HasNextAct s (Act.Allocates sort n.0) = n.1 in (n.0, ap value_set (ap redex_act h.1 ∙ ap (λ (a : Act). Some a) h.2))
 
-pub write-sets : (s : Stage) (l : ℕ) → Need.Write l ≡ need_of s → (v : Val) × (value_to_set s ≡ Some v)
+pub write-sets : (s : MachineView) (l : ℕ) → Need.Write l ≡ need_of s → (v : Val) × (value_to_set s ≡ Some v)
 write-sets s l need =
     let n : (v : Val) × HasNextAct s (Act.Writes l v) = comes_as s (Need.Write l) need in
     let h : HasNextAct s (Act.Writes l n.0) = n.1 in (n.0, ap value_set (ap redex_act h.1 ∙ ap (λ (a : Act). Some a) h.2))
@@ -80,51 +81,51 @@ at-most-one n few = by (cases_lt 1 n)
 
 -- an answer to a seat that begins, by what it meets
 module _ {M : Type 0} (begins : ℕ → M → Type 0) (keeps : Stop → Type 0) (blocks stays : Type 0) where
-  pub begun-met : (chance : Chance) (m : M) → Answers begins keeps blocks stays chance (answer.Begun m) → (number : ℕ) × (chance ≡ Chance.Member number) × begins number m
-  begun-met (Chance.Member number) m h = (number, refl, h)
-  begun-met Chance.Stopped m h = absurd h
-  begun-met Chance.Finished m h = absurd h
-  begun-met Chance.Blocked m h = absurd h
-  begun-met Chance.Spent m h = absurd h
-  begun-met Chance.Idle m h = absurd h
+  pub begun-met : (pick : Pick) (m : M) → Answers begins keeps blocks stays pick (answer.Begun m) → (number : ℕ) × (pick ≡ Pick.Member number) × begins number m
+  begun-met (Pick.Member number) m h = (number, refl, h)
+  begun-met Pick.Stopped m h = absurd h
+  begun-met Pick.Finished m h = absurd h
+  begun-met Pick.Blocked m h = absurd h
+  begun-met Pick.Spent m h = absurd h
+  begun-met Pick.Idle m h = absurd h
 
-  pub idle-met : (chance : Chance) → Answers begins keeps blocks stays chance answer.Idle → (chance ≡ Chance.Idle) × stays
-  idle-met (Chance.Member number) h = absurd h
-  idle-met Chance.Stopped h = absurd h
-  idle-met Chance.Finished h = absurd h
-  idle-met Chance.Blocked h = absurd h
-  idle-met Chance.Spent h = absurd h
-  idle-met Chance.Idle h = (refl, h)
+  pub idle-met : (pick : Pick) → Answers begins keeps blocks stays pick answer.Idle → (pick ≡ Pick.Idle) × stays
+  idle-met (Pick.Member number) h = absurd h
+  idle-met Pick.Stopped h = absurd h
+  idle-met Pick.Finished h = absurd h
+  idle-met Pick.Blocked h = absurd h
+  idle-met Pick.Spent h = absurd h
+  idle-met Pick.Idle h = (refl, h)
 
 module _ {C V M : Type 0} (begins : ℕ → M → Type 0) (certificates : List Certificate) (old new : Core C V M) where
-  pub stopped-met : (chance : Chance) → Answers begins (λ why. new ≡ stopped_by why old) (new ≡ blocked_by certificates old) (new ≡ old) chance answer.Stopped
-      → StopsBy certificates chance old new
-  stopped-met (Chance.Member number) h = absurd h
-  stopped-met Chance.Stopped h = h
-  stopped-met Chance.Finished h = h
-  stopped-met Chance.Blocked h = h
-  stopped-met Chance.Spent h = h
-  stopped-met Chance.Idle h = absurd h
+  pub stopped-met : (pick : Pick) → Answers begins (λ why. new ≡ stopped_by why old) (new ≡ blocked_by certificates old) (new ≡ old) pick answer.Stopped
+      → StopsBy certificates pick old new
+  stopped-met (Pick.Member number) h = absurd h
+  stopped-met Pick.Stopped h = h
+  stopped-met Pick.Finished h = h
+  stopped-met Pick.Blocked h = h
+  stopped-met Pick.Spent h = h
+  stopped-met Pick.Idle h = absurd h
 
   -- what it meets that stops leaves the tasks
-  pub stops-tasks : (chance : Chance) → StopsBy certificates chance old new → new.tasks ≡ old.tasks
-  stops-tasks (Chance.Member number) h = absurd h
-  stops-tasks Chance.Stopped h = ap (λ (c : Core C V M). c.tasks) h
-  stops-tasks Chance.Finished h = ap (λ (c : Core C V M). c.tasks) h
-  stops-tasks Chance.Blocked h = ap (λ (c : Core C V M). c.tasks) h
-  stops-tasks Chance.Spent h = ap (λ (c : Core C V M). c.tasks) h
-  stops-tasks Chance.Idle h = absurd h
+  pub stops-tasks : (pick : Pick) → StopsBy certificates pick old new → new.tasks ≡ old.tasks
+  stops-tasks (Pick.Member number) h = absurd h
+  stops-tasks Pick.Stopped h = ap (λ (c : Core C V M). c.tasks) h
+  stops-tasks Pick.Finished h = ap (λ (c : Core C V M). c.tasks) h
+  stops-tasks Pick.Blocked h = ap (λ (c : Core C V M). c.tasks) h
+  stops-tasks Pick.Spent h = ap (λ (c : Core C V M). c.tasks) h
+  stops-tasks Pick.Idle h = absurd h
 
-module _ {C V M : Type 0} (program : C → Tree) (devices : C → ℕ) (value_of : C → V → Val) (is_machine : C → M → Type 0) (stage : C → M → Stage)
+module _ {C V M : Type 0} (meaning : Meaning C V M)
     (old new : Core C V M) (seat : ℕ) where
   abbrev parts : Parts
-  parts = parts_of program devices value_of stage old
+  parts = parts_of meaning old
 
   abbrev Makes : (Counters → Counters) → (Parts → Parts) → Type 0
-  Makes counts event = MakesEvent program devices value_of stage counts event old new
+  Makes counts event = MakesEvent meaning counts event old new
 
   abbrev MakesLast : Stop → (Counters → Counters) → (Parts → Parts) → Type 0
-  MakesLast why counts event = MakesLastEvent program devices value_of stage why counts event old new
+  MakesLast why counts event = MakesLastEvent meaning why counts event old new
 
   -- the task of the seat afterwards
   after-task : (counts : Counters → Counters) (event : Parts → Parts) (task : Task) → Makes counts event → (event parts).tasks ≡ (with_task seat task parts).tasks
@@ -146,8 +147,8 @@ module _ {C V M : Type 0} (program : C → Tree) (devices : C → ℕ) (value_of
   pub noted-fits : (counts : Counters → Counters) (a : Attempt) (steps : ℕ) (p : LocalState) → task_at old.tasks seat ≡ Task.Running a
       → Makes counts (has_noted seat a steps p) → CanUndo new seat
   noted-fits counts a steps p task makes =
-      undoing-fits (record a { told = true }) Reason.Noted
-      (after-task counts (has_noted seat a steps p) (Task.Undoing (record a { told = true }) Reason.Noted) makes refl a (ap attempt_of task))
+      undoing-fits (record a { logged = true }) Reason.Noted
+      (after-task counts (has_noted seat a steps p) (Task.Undoing (record a { logged = true }) Reason.Noted) makes refl a (ap attempt_of task))
 
   -- it undid an entry
   pub undid-fits : (counts : Counters → Counters) (a : Attempt) (reason : Reason) → attempt_of (task_at old.tasks seat) ≡ Some a
@@ -155,7 +156,7 @@ module _ {C V M : Type 0} (program : C → Tree) (devices : C → ℕ) (value_of
   undid-fits counts a reason has makes =
       undoing-fits a reason
       (after-task counts (has_undone seat a reason) (Task.Undoing a reason) makes
-      (turn-tasks (with_task seat (Task.Undoing a reason) (with_desk (undone_last seat parts.desk) parts))) a has)
+      (turn-tasks (with_task seat (Task.Undoing a reason) (with_memory (undone_last seat parts.memory) parts))) a has)
 
   -- its member went home
   pub home-fits : (counts : Counters → Counters) (a : Attempt) (reason : Reason) → attempt_of (task_at old.tasks seat) ≡ Some a
@@ -164,25 +165,25 @@ module _ {C V M : Type 0} (program : C → Tree) (devices : C → ℕ) (value_of
       after-task counts (has_gone_home seat a reason) Task.Idle makes
       (turn-tasks
       (with_task seat Task.Idle (record parts {
-        desk = undone_last seat parts.desk;
+        memory = undone_last seat parts.memory;
         pool = brought_home reason a.tried.number parts.pool;
         tried = with_try a parts.tried;
       }))) a has
 
   -- its member ended or left
-  pub ended-fits : (counts : Counters → Counters) (a : Attempt) (s : Stage) → task_at old.tasks seat ≡ Task.Running a
+  pub ended-fits : (counts : Counters → Counters) (a : Attempt) (s : MachineView) → task_at old.tasks seat ≡ Task.Running a
       → Makes counts (ended_at seat a.tried.number s) → task_at new.tasks seat ≡ Task.Idle
   ended-fits counts a s task makes = after-task counts (ended_at seat a.tried.number s) Task.Idle makes refl a (ap attempt_of task)
 
-  pub left-fits : (counts : Counters → Counters) (a : Attempt) (s : Stage) → task_at old.tasks seat ≡ Task.Running a
+  pub left-fits : (counts : Counters → Counters) (a : Attempt) (s : MachineView) → task_at old.tasks seat ≡ Task.Running a
       → Makes counts (left_at seat a.tried.number s) → task_at new.tasks seat ≡ Task.Idle
   left-fits counts a s task makes = after-task counts (left_at seat a.tried.number s) Task.Idle makes refl a (ap attempt_of task)
 
   -- its visit ended
-  pub visited-fits : (counts : Counters → Counters) (a : Attempt) (number steps : ℕ) (p : LocalState) (inside : Bool) (desk : Contents Val)
-      → task_at old.tasks seat ≡ Task.Free a → Makes counts (has_visited seat number steps p inside desk) → task_at new.tasks seat ≡ Task.Idle
-  visited-fits counts a number steps p inside desk task makes =
-      after-task counts (has_visited seat number steps p inside desk) Task.Idle makes refl a (ap attempt_of task)
+  pub visited-fits : (counts : Counters → Counters) (a : Attempt) (number steps : ℕ) (p : LocalState) (inside : Bool) (memory : MemoryView Val)
+      → task_at old.tasks seat ≡ Task.Free a → Makes counts (has_visited seat number steps p inside memory) → task_at new.tasks seat ≡ Task.Idle
+  visited-fits counts a number steps p inside memory task makes =
+      after-task counts (has_visited seat number steps p inside memory) Task.Idle makes refl a (ap attempt_of task)
 
   pub refused-fits : (why : Stop) (counts : Counters → Counters) (a : Attempt) (number : ℕ) → task_at old.tasks seat ≡ Task.Free a
       → MakesLast why counts (has_been_refused seat number) → task_at new.tasks seat ≡ Task.Idle
@@ -217,7 +218,7 @@ module _ {C V M : Type 0} (program : C → Tree) (devices : C → ℕ) (value_of
   }
 
   -- a machine at work has an attempt
-  pub at-work-busy : (m : M) → IsAtWork program devices value_of is_machine stage old seat m → is_some (attempt_of (task_at old.tasks seat)) ≡ true
+  pub at-work-busy : (m : M) → IsAtWork meaning old seat m → is_some (attempt_of (task_at old.tasks seat)) ≡ true
   at-work-busy m at = working-busy (task_at old.tasks seat) at.on.stands.attempt at.on.stands.has
 
   -- memory was lacking, and the engine is as before but for the stop
@@ -225,17 +226,17 @@ module _ {C V M : Type 0} (program : C → Tree) (devices : C → ℕ) (value_of
     pub lacked-done : new ≡ stopped_by Stop.NoMemory old
     lacked-done = is ∙ ap (stopped_by Stop.NoMemory) same
 
-    pub lacked-fits : (w : Work M) → Fits program devices value_of is_machine stage old seat w → Fits program devices value_of is_machine stage new seat w
-    lacked-fits w fits = by-stop program devices value_of is_machine stage old new seat Stop.NoMemory lacked-done w fits
+    pub lacked-fits : (w : Work M) → Fits meaning old seat w → Fits meaning new seat w
+    lacked-fits w fits = by-stop meaning old new seat Stop.NoMemory lacked-done w fits
 
-    pub lacked-undoes : (m : M) → IsAtWork program devices value_of is_machine stage old seat m → CanUndo new seat
+    pub lacked-undoes : (m : M) → IsAtWork meaning old seat m → CanUndo new seat
     lacked-undoes m at = stopped-undoes Stop.NoMemory (at-work-busy m at) lacked-done
 
   -- a seat that runs can undo once a stop is kept
-  pub stopped-fits : (m : M) → IsAtWork program devices value_of is_machine stage old seat m → is_some old.stop ≡ true → CanUndo old seat
+  pub stopped-fits : (m : M) → IsAtWork meaning old seat m → is_some old.stop ≡ true → CanUndo old seat
   stopped-fits m at stops = record { busy = at-work-busy m at; undoes = λ going. absurd (cc) }
 
   -- it runs protected code
-  pub running : (m : M) (at : IsAtWork program devices value_of is_machine stage old seat m) → (stage old.code m).inside ≡ false
+  pub running : (m : M) (at : IsAtWork meaning old seat m) → (meaning.stage old.code m).inside ≡ false
       → task_at old.tasks seat ≡ Task.Running at.on.stands.attempt
-  running m at outside = runs-as parts seat (stage old.code m) at.on.stands outside
+  running m at outside = runs-as parts seat (meaning.stage old.code m) at.on.stands outside

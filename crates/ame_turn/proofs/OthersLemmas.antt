@@ -9,29 +9,29 @@ use Rattle.ame_pool.specs.Roster.{Roster}
 use Rattle.ame_pool.specs.Calls.{begun, held}
 use Rattle.ame_pool.specs.Keeps.{is_inside_at}
 use Rattle.ame_pool.proofs.MemberLemmas.{found_altered}
-use Rattle.ame_desk.specs.Contents.{Notes, row_at}
-use Rattle.ame_runner.specs.Stage.{Stage, OnRun}
-use Rattle.ame_stands.specs.declared.types.Attempt.{Attempt}
-use Rattle.ame_stands.specs.declared.types.Reason.{Reason}
-use Rattle.ame_stands.specs.declared.types.Task.{Task}
-use Rattle.ame_stands.specs.Parts.{Parts, task_at, term_at}
-use Rattle.ame_stands.specs.Events.{fresh_attempt, begun_task, has_begun, has_read, has_written, has_allocated, checked_attempt, has_checked, has_turned_back}
-use Rattle.ame_stands.proofs.PoolLemmas.{machines-stay}
-use Rattle.ame_stands.proofs.StepLemmas.{task_else}
-use Rattle.ame_desk.proofs.LookupLemmas.{row_set_else}
+use Rattle.ame_rows.specs.MemoryView.{Log, row_at}
+use Rattle.ame_machine.specs.MachineView.{MachineView, OnRun}
+use Rattle.ame_protocol.specs.declared.types.Attempt.{Attempt}
+use Rattle.ame_protocol.specs.declared.types.Reason.{Reason}
+use Rattle.ame_protocol.specs.declared.types.Task.{Task}
+use Rattle.ame_protocol.specs.Engine.Parts.{Parts, task_at, term_at}
+use Rattle.ame_protocol.specs.Engine.Events.{fresh_attempt, begun_task, has_begun, has_read, has_written, has_allocated, checked_attempt, has_checked, has_turned_back}
+use Rattle.ame_protocol.proofs.Engine.PoolLemmas.{machines-stay}
+use Rattle.ame_protocol.proofs.Engine.StepLemmas.{task_else}
+use Rattle.ame_rows.proofs.LookupLemmas.{row_set_else}
 use Rattle.ame_engine.specs.AtWork.{is_free, working, IsOnSeat}
 
 -- where the task, the logs and the term from which the seat runs stay
-pub stays-on : (parts new : Parts) (other : ℕ) (s : Stage) → task_at new.tasks other ≡ task_at parts.tasks other
-    → row_at new.desk.rows other ≡ row_at parts.desk.rows other
+pub stays-on : (parts new : Parts) (other : ℕ) (s : MachineView) → task_at new.tasks other ≡ task_at parts.tasks other
+    → row_at new.memory.rows other ≡ row_at parts.memory.rows other
     → ((a : Attempt) → working (task_at parts.tasks other) ≡ Some a → term_at new.pool a.tried.number ≡ term_at parts.pool a.tried.number)
     → IsOnSeat parts other s → IsOnSeat new other s
 stays-on parts new other s task row term on = record {
   attempt = on.attempt;
   has = ap working task ∙ on.has;
   side = on.side ∙ ap is_free (sym task);
-  run = subst (λ (start : Tree). OnRun start (row_at new.desk.rows other).inputs s) (sym (term on.attempt on.has))
-      (subst (λ (notes : Notes Val). OnRun (term_at parts.pool on.attempt.tried.number) notes.inputs s) (sym row) on.run);
+  run = subst (λ (start : Tree). OnRun start (row_at new.memory.rows other).inputs s) (sym (term on.attempt on.has))
+      (subst (λ (notes : Log Val). OnRun (term_at parts.pool on.attempt.tried.number) notes.inputs s) (sym row) on.run);
   since = on.since;
 }
 
@@ -40,7 +40,7 @@ term-held number n pool =
     ap (λ (o : Option Tree). unwrap_or o unit_tree)
     (machines-stay n begun pool.members (held n pool).members (found_altered n begun (λ _. refl) pool.members) (λ _. refl) (λ _. refl) number)
 
-module _ (parts : Parts) (seat other : ℕ) (s : Stage) (apart : other ≢ seat) (on : IsOnSeat parts other s) where
+module _ (parts : Parts) (seat other : ℕ) (s : MachineView) (apart : other ≢ seat) (on : IsOnSeat parts other s) where
   pub begun-others : (number : ℕ) → IsOnSeat (has_begun seat number parts) other s
   begun-others number =
       stays-on parts (has_begun seat number parts) other s
@@ -48,14 +48,14 @@ module _ (parts : Parts) (seat other : ℕ) (s : Stage) (apart : other ≢ seat)
       (λ a e. term-held a.tried.number number parts.pool) on
 
   pub read-others : (l : Loc) → IsOnSeat (has_read seat l parts) other s
-  read-others l = stays-on parts (has_read seat l parts) other s refl (row_set_else parts.desk.rows seat other _ apart) (λ a e. refl) on
+  read-others l = stays-on parts (has_read seat l parts) other s refl (row_set_else parts.memory.rows seat other _ apart) (λ a e. refl) on
 
   pub written-others : (l : Loc) (v : Val) → IsOnSeat (has_written seat l v parts) other s
-  written-others l v = stays-on parts (has_written seat l v parts) other s refl (row_set_else parts.desk.rows seat other _ apart) (λ a e. refl) on
+  written-others l v = stays-on parts (has_written seat l v parts) other s refl (row_set_else parts.memory.rows seat other _ apart) (λ a e. refl) on
 
   pub allocated-others : (sort : Sort) (ty : TyNo) (v : Val) → IsOnSeat (has_allocated seat sort ty v parts) other s
   allocated-others sort ty v =
-      stays-on parts (has_allocated seat sort ty v parts) other s refl (row_set_else parts.desk.rows seat other _ apart) (λ a e. refl) on
+      stays-on parts (has_allocated seat sort ty v parts) other s refl (row_set_else parts.memory.rows seat other _ apart) (λ a e. refl) on
 
   pub checked-others : (steps : ℕ) (attempt : Attempt) → IsOnSeat (has_checked seat steps attempt parts) other s
   checked-others steps attempt =

@@ -1,20 +1,20 @@
 -- Machines at work can make steps, and those that are ready can do what they want.
 use Rattle.std.proofs.Common.{◌≡◌, ℕ, ◌+◌, ◌*◌, ◌-◌, ◌^◌, ◌<◌, ◌≤◌, Bool, true, false, List, [], refl, sym, ap, subst, arith}
 use Rattle.std.proofs.lemmas.Nat.{mul-le}
-use Rattle.ame_term.specs.Tree.{Typ, Val, Tree}
+use Rattle.ame_term.specs.Tree.{Typ, Val}
 use Rattle.ame_term.specs.Frame.{Side, side_told}
-use Rattle.ame_local.specs.Fit.{IsTypedThroughout}
-use Rattle.ame_desk.specs.Contents.{Notes, row_at}
-use Rattle.ame_owed.specs.Scoped.{live_types}
-use Rattle.ame_runner.specs.Stage.{Stage, OnRun}
-use Rattle.ame_runner.specs.Sound.{CanRun}
-use Rattle.ame_runner.specs.Move.{AdvancesWithin}
-use Rattle.ame_runner.proofs.RunnableLemmas.{runs-typed}
-use Rattle.ame_stands.specs.declared.types.Task.{Task}
-use Rattle.ame_stands.specs.Parts.{Parts, heap_in, task_at, term_at}
-use Rattle.ame_stands.specs.Tasks.{RunsProtected, MeetsTask}
-use Rattle.ame_stands.specs.Stands.{Stands}
-use Rattle.ame_visits.proofs.PlaceLemmas.{visits, begins-under, throughout}
+use Rattle.ame_machine.specs.Run.Fit.{IsTypedThroughout}
+use Rattle.ame_rows.specs.MemoryView.{Log, row_at}
+use Rattle.ame_protocol.specs.Row.Scoped.{live_types}
+use Rattle.ame_machine.specs.MachineView.{MachineView, OnRun}
+use Rattle.ame_machine.specs.Sound.{CanRun}
+use Rattle.ame_machine.specs.Move.{AdvancesWithin}
+use Rattle.ame_machine.proofs.RunnableLemmas.{runs-typed}
+use Rattle.ame_protocol.specs.declared.types.Task.{Task}
+use Rattle.ame_protocol.specs.Engine.Parts.{Parts, heap_in, task_at, term_at}
+use Rattle.ame_protocol.specs.Engine.Tasks.{RunsProtected, MeetsTask}
+use Rattle.ame_protocol.specs.Engine.Simulates.{Simulates}
+use Rattle.ame_protocol.proofs.Visits.PlaceLemmas.{visits, begins-under, throughout}
 use Rattle.ame_engine.specs.Core.{Core}
 use Rattle.ame_engine.specs.Seen.{parts_of}
 use Rattle.ame_engine.specs.AtWork.{IsOnSeat}
@@ -26,15 +26,16 @@ use Rattle.ame_turn.specs.declared.work.Work.TheVariants as work
 use Rattle.ame_turn.specs.Work.{IsAtWork, Fits}
 use Rattle.ame_turn.specs.Ready.{CanGoOn, CanBePrepared, IsPrepared}
 use Rattle.ame_turn.proofs.FedLemmas.{advanced-on}
+use Rattle.ame_machine.specs.Meaning.{Meaning}
 
-module _ (parts : Parts) (stands : Stands parts) (seat : ℕ) (s : Stage) (on : IsOnSeat parts seat s) where
+module _ (parts : Parts) (stands : Simulates parts) (seat : ℕ) (s : MachineView) (on : IsOnSeat parts seat s) where
   -- the machine of a visit can run
   visit-runs : s.inside ≡ true → CanRun s
   visit-runs inside =
       let a = on.attempt in
       let start = term_at parts.pool a.tried.number in
       let task : task_at parts.tasks seat ≡ Task.Free a = visits-as parts seat s on inside in
-      let none : (row_at parts.desk.rows seat).inputs ≡ [] = ap (λ (notes : Notes Val). notes.inputs) (visits parts stands seat a task).clear in
+      let none : (row_at parts.memory.rows seat).inputs ≡ [] = ap (λ (notes : Log Val). notes.inputs) (visits parts stands seat a task).clear in
       let alone : OnRun start [] s = subst (λ (inputs : List Val). OnRun start inputs s) none on.run in
       let cells = live_types (heap_in parts) stands.types in
       let typed = subst (λ (x : Side). IsTypedThroughout parts.devices cells x start [] Typ.Unit) (sym (ap side_told inside)) (throughout parts stands seat a task) in
@@ -68,40 +69,40 @@ module _ (parts : Parts) (stands : Stands parts) (seat : ℕ) (s : Stage) (on : 
       let since : s.steps ≡ s.since + on.attempt.tried.steps = on.since in
       omega (arith, tried, most, since, within, slice)
 
-module _ {C V M : Type 0} (program : C → Tree) (devices : C → ℕ) (value_of : C → V → Val) (is_machine : C → M → Type 0) (stage : C → M → Stage)
+module _ {C V M : Type 0} (meaning : Meaning C V M)
     (core : Core C V M) (seat : ℕ) where
   abbrev parts : Parts
-  parts = parts_of program devices value_of stage core
+  parts = parts_of meaning core
 
-  pub one-more-step : (m : M) → Stands parts → IsAtWork program devices value_of is_machine stage core seat m → core.limits.slice < 2 ^ 32 → core.limits.turns < 2 ^ 32
-      → (stage core.code m).steps + 1 < 2 ^ 64
+  pub one-more-step : (m : M) → Simulates parts → IsAtWork meaning core seat m → core.limits.slice < 2 ^ 32 → core.limits.turns < 2 ^ 32
+      → (meaning.stage core.code m).steps + 1 < 2 ^ 64
   one-more-step m stands at slice turns =
-      let few = few-steps parts stands seat (stage core.code m) at.on.stands slice turns at.within in omega (arith, few)
+      let few = few-steps parts stands seat (meaning.stage core.code m) at.on.stands slice turns at.within in omega (arith, few)
 
-  goes-on : (m : M) → Stands parts → IsAtWork program devices value_of is_machine stage core seat m → core.limits.slice < 2 ^ 32 → core.limits.turns < 2 ^ 32
-      → CanGoOn is_machine stage core.code core.limits.slice m
+  goes-on : (m : M) → Simulates parts → IsAtWork meaning core seat m → core.limits.slice < 2 ^ 32 → core.limits.turns < 2 ^ 32
+      → CanGoOn meaning.is_machine meaning.stage core.code core.limits.slice m
   goes-on m stands at slice turns =
-      let few = few-steps parts stands seat (stage core.code m) at.on.stands slice turns at.within in
-      record { machine = at.on.machine; runs = runs-on parts stands seat (stage core.code m) at.on.stands; few = omega (arith, few) }
+      let few = few-steps parts stands seat (meaning.stage core.code m) at.on.stands slice turns at.within in
+      record { machine = at.on.machine; runs = runs-on parts stands seat (meaning.stage core.code m) at.on.stands; few = omega (arith, few) }
 
   -- what a seat has at hand can be prepared
-  pub can-prepare : (w : Work M) → Stands parts → Fits program devices value_of is_machine stage core seat w → core.limits.slice < 2 ^ 32
-      → core.limits.turns < 2 ^ 32 → CanBePrepared is_machine stage core.code core.limits.slice w
+  pub can-prepare : (w : Work M) → Simulates parts → Fits meaning core seat w → core.limits.slice < 2 ^ 32
+      → core.limits.turns < 2 ^ 32 → CanBePrepared meaning.is_machine meaning.stage core.code core.limits.slice w
   can-prepare work.Idle stands fits slice turns = tt
   can-prepare (work.Running m) stands fits slice turns = goes-on m stands fits slice turns
   can-prepare work.Undoing stands fits slice turns = tt
 
   -- and fits still once it is
-  pub prepared-fits : (old new : Work M) → Fits program devices value_of is_machine stage core seat old
-      → IsPrepared is_machine stage core.code core.limits.slice old new → Fits program devices value_of is_machine stage core seat new
+  pub prepared-fits : (old new : Work M) → Fits meaning core seat old
+      → IsPrepared meaning.is_machine meaning.stage core.code core.limits.slice old new → Fits meaning core seat new
   prepared-fits work.Idle work.Idle fits is = fits
   prepared-fits work.Idle (work.Running n) fits is = absurd is
   prepared-fits work.Idle work.Undoing fits is = absurd is
   prepared-fits (work.Running m) work.Idle fits is = absurd is
   prepared-fits (work.Running m) (work.Running n) fits is =
-      let ran : AdvancesWithin (core.limits.slice - (stage core.code m).since) (stage core.code m) (stage core.code n) = is.ran in
+      let ran : AdvancesWithin (core.limits.slice - (meaning.stage core.code m).since) (meaning.stage core.code m) (meaning.stage core.code n) = is.ran in
       record {
-        on = record { machine = is.machine; stands = advanced-on parts seat (stage core.code m) fits.on.stands ran.made (stage core.code n) ran.advances };
+        on = record { machine = is.machine; stands = advanced-on parts seat (meaning.stage core.code m) fits.on.stands ran.made (meaning.stage core.code n) ran.advances };
         within = let before = fits.within in let more = ran.within in let since = ran.advances.since in omega (arith, before, more, since);
       }
   prepared-fits (work.Running m) work.Undoing fits is = absurd is

@@ -1,26 +1,25 @@
 -- What an event of a seat leaves: code, limits, and what the other seats have at hand.
 use Rattle.std.proofs.Common.{◌≡◌, ◌≢◌, ℕ, ◌≤◌, inl, inr, true, false, List, Option, Some, None, refl, sym, ap, ◌∙◌, subst}
 use Rattle.std.specs.Prelude.{is_some}
-use Rattle.ame_term.specs.Tree.{Val, Tree}
 use Rattle.ame_pool.specs.Keeps.{is_inside_at}
-use Rattle.ame_desk.specs.LettingGo.{undone_last}
+use Rattle.ame_rows.specs.LettingGo.{undone_last}
 use Rattle.ame_device.specs.declared.told.Told.{Told}
 use Rattle.ame_rows.specs.declared.notes.Bad.{Bad}
-use Rattle.ame_runner.specs.Stage.{Stage, place_shown, with_answer}
-use Rattle.ame_stands.specs.declared.types.Limits.{Limits}
-use Rattle.ame_stands.specs.declared.types.Attempt.{Attempt}
-use Rattle.ame_stands.specs.declared.types.Reason.{Reason}
-use Rattle.ame_stands.specs.declared.types.Task.{Task}
-use Rattle.ame_stands.specs.Parts.{Parts, task_at, attempt_of, member_of}
-use Rattle.ame_stands.specs.Stands.{Stands}
-use Rattle.ame_stands.specs.Events.{fresh_attempt, begun_task, has_begun, has_read, has_written, has_allocated, checked_attempt, has_checked, has_turned_back, with_desk, with_task, with_try, brought_home, has_undone, has_gone_home}
-use Rattle.ame_stands.proofs.StepLemmas.{task_else}
-use Rattle.ame_waiting.specs.Noted.{has_noted}
-use Rattle.ame_visits.specs.Stops.{told_task, has_been_cut, has_grown_tall}
-use Rattle.ame_visits.specs.Visit.{has_been_refused}
+use Rattle.ame_machine.specs.MachineView.{MachineView, place_shown, with_answer}
+use Rattle.ame_protocol.specs.declared.types.Limits.{Limits}
+use Rattle.ame_protocol.specs.declared.types.Attempt.{Attempt}
+use Rattle.ame_protocol.specs.declared.types.Reason.{Reason}
+use Rattle.ame_protocol.specs.declared.types.Task.{Task}
+use Rattle.ame_protocol.specs.Engine.Parts.{Parts, task_at, attempt_of, member_of}
+use Rattle.ame_protocol.specs.Engine.Simulates.{Simulates}
+use Rattle.ame_protocol.specs.Engine.Events.{fresh_attempt, begun_task, has_begun, has_read, has_written, has_allocated, checked_attempt, has_checked, has_turned_back, with_memory, with_task, with_try, brought_home, has_undone, has_gone_home}
+use Rattle.ame_protocol.proofs.Engine.StepLemmas.{task_else}
+use Rattle.ame_protocol.specs.Waits.Noted.{has_noted}
+use Rattle.ame_protocol.specs.Visits.Stops.{told_task, has_been_cut, has_grown_tall}
+use Rattle.ame_protocol.specs.Visits.Visit.{has_been_refused}
 use Rattle.ame_engine.specs.declared.certificate.Certificate.{Certificate}
 use Rattle.ame_engine.specs.declared.counters.Counters.{Counters}
-use Rattle.ame_engine.specs.declared.chance.Chance.{Chance}
+use Rattle.ame_engine.specs.declared.pick.Pick.{Pick}
 use Rattle.ame_engine.specs.declared.stop.Stop.{Stop}
 use Rattle.ame_engine.specs.Counting.{Counted, one_counted, one_invalid, one_undone}
 use Rattle.ame_engine.specs.Core.{Core}
@@ -38,27 +37,28 @@ use Rattle.ame_turn.specs.Deeds.{StopsBy, TurnsBack, Spends, IsMade}
 use Rattle.ame_turn.proofs.OthersLemmas.{begun-others, read-others, written-others, allocated-others, checked-others, back-others}
 use Rattle.ame_turn.proofs.EndsLemmas.{turn-tasks, turn-limits, undone-others, gone-others, ended-others, left-others}
 use Rattle.ame_turn.proofs.VisitedLemmas.{noted-others, cut-others, tall-others, refused-others, visit-rows, visited-others}
+use Rattle.ame_machine.specs.Meaning.{Meaning}
 
-module _ {C V M : Type 0} (program : C → Tree) (devices : C → ℕ) (value_of : C → V → Val) (is_machine : C → M → Type 0) (stage : C → M → Stage) where
+module _ {C V M : Type 0} (meaning : Meaning C V M) where
   abbrev parts : Core C V M → Parts
-  parts core = parts_of program devices value_of stage core
+  parts core = parts_of meaning core
 
   abbrev FitsIn : Core C V M → ℕ → Work M → Type 0
-  FitsIn core seat work = Fits program devices value_of is_machine stage core seat work
+  FitsIn core seat work = Fits meaning core seat work
 
   -- what a seat has at hand fits, where its task and the run of its member stay
   fits-on : (old new : Core C V M) (other : ℕ) → new.code ≡ old.code → new.limits ≡ old.limits → task_at new.tasks other ≡ task_at old.tasks other
-      → (is_some new.stop ≡ false → is_some old.stop ≡ false) → ((s : Stage) → IsOnSeat (parts old) other s → IsOnSeat (parts new) other s)
+      → (is_some new.stop ≡ false → is_some old.stop ≡ false) → ((s : MachineView) → IsOnSeat (parts old) other s → IsOnSeat (parts new) other s)
       → (rest : Work M) → FitsIn old other rest → FitsIn new other rest
   fits-on old new other code limits task stop on work.Idle h = task ∙ h
   fits-on old new other code limits task stop on (work.Running m) h = record {
     on = record {
-      machine = subst (λ (c : C). is_machine c m) (sym code) h.on.machine;
-      stands = subst (λ (c : C). IsOnSeat (parts new) other (stage c m)) (sym code) (on (stage old.code m) h.on.stands);
+      machine = subst (λ (c : C). meaning.is_machine c m) (sym code) h.on.machine;
+      stands = subst (λ (c : C). IsOnSeat (parts new) other (meaning.stage c m)) (sym code) (on (meaning.stage old.code m) h.on.stands);
     };
     within =
-        subst (λ (c : C). (stage c m).since ≤ new.limits.slice) (sym code)
-        (subst (λ (l : Limits). (stage old.code m).since ≤ l.slice) (sym limits) h.within);
+        subst (λ (c : C). (meaning.stage c m).since ≤ new.limits.slice) (sym code)
+        (subst (λ (l : Limits). (meaning.stage old.code m).since ≤ l.slice) (sym limits) h.within);
   }
   fits-on old new other code limits task stop on work.Undoing h = record {
     busy = ap (λ (t : Task). is_some (attempt_of t)) task ∙ h.busy;
@@ -93,9 +93,9 @@ module _ {C V M : Type 0} (program : C → Tree) (devices : C → ℕ) (value_of
     -- an event leaves tasks of other seats, and their runs
     abbrev IsApart : (Parts → Parts) → Type 0
     IsApart event = (other : ℕ) → other ≢ seat
-        → (task_at (event (parts old)).tasks other ≡ task_at old.tasks other) × ((s : Stage) → IsOnSeat (parts old) other s → IsOnSeat (event (parts old)) other s)
+        → (task_at (event (parts old)).tasks other ≡ task_at old.tasks other) × ((s : MachineView) → IsOnSeat (parts old) other s → IsOnSeat (event (parts old)) other s)
 
-    by-event : (counts : Counters → Counters) (event : Parts → Parts) → MakesEvent program devices value_of stage counts event old new
+    by-event : (counts : Counters → Counters) (event : Parts → Parts) → MakesEvent meaning counts event old new
         → (event (parts old)).limits ≡ old.limits → IsApart event → Leaves seat old new
     by-event counts event makes limits apart =
         let same : new.limits ≡ old.limits = ap (λ (p : Parts). p.limits) makes.parts ∙ limits in
@@ -108,7 +108,7 @@ module _ {C V M : Type 0} (program : C → Tree) (devices : C → ℕ) (value_of
               (λ s x. subst (λ (p : Parts). IsOnSeat p other s) (sym makes.parts) ((apart other else).1 s x)) rest fits;
         }
 
-    by-last : (why : Stop) (counts : Counters → Counters) (event : Parts → Parts) → MakesLastEvent program devices value_of stage why counts event old new
+    by-last : (why : Stop) (counts : Counters → Counters) (event : Parts → Parts) → MakesLastEvent meaning why counts event old new
         → (event (parts old)).limits ≡ old.limits → IsApart event → Leaves seat old new
     by-last why counts event makes limits apart =
         let same : new.limits ≡ old.limits = ap (λ (p : Parts). p.limits) makes.parts ∙ limits in
@@ -142,60 +142,60 @@ module _ {C V M : Type 0} (program : C → Tree) (devices : C → ℕ) (value_of
       others = λ other rest else fits. by-blocked old new other certificates is rest fits;
     }
 
-    chance-leaves : (certificates : List Certificate) (chance : Chance) → StopsBy certificates chance old new → Leaves seat old new
-    chance-leaves certificates (Chance.Member number) h = absurd h
-    chance-leaves certificates Chance.Stopped h = same-leaves h
-    chance-leaves certificates Chance.Finished h = stop-leaves Stop.Finished h
-    chance-leaves certificates Chance.Blocked h = blocked-leaves certificates h
-    chance-leaves certificates Chance.Spent h = stop-leaves Stop.Spent h
-    chance-leaves certificates Chance.Idle h = absurd h
+    pick-leaves : (certificates : List Certificate) (pick : Pick) → StopsBy certificates pick old new → Leaves seat old new
+    pick-leaves certificates (Pick.Member number) h = absurd h
+    pick-leaves certificates Pick.Stopped h = same-leaves h
+    pick-leaves certificates Pick.Finished h = stop-leaves Stop.Finished h
+    pick-leaves certificates Pick.Blocked h = blocked-leaves certificates h
+    pick-leaves certificates Pick.Spent h = stop-leaves Stop.Spent h
+    pick-leaves certificates Pick.Idle h = absurd h
 
-    back-leaves : (counts : Counters → Counters) (a : Attempt) → MakesEvent program devices value_of stage counts (has_turned_back seat a) old new → Leaves seat old new
+    back-leaves : (counts : Counters → Counters) (a : Attempt) → MakesEvent meaning counts (has_turned_back seat a) old new → Leaves seat old new
     back-leaves counts a makes =
         by-event counts (has_turned_back seat a) makes refl (λ other else. (
           task_else old.tasks seat (Task.Undoing a Reason.RolledBack) other else,
           λ s on. back-others (parts old) seat other s else on a,
         ))
 
-    turned-leaves : (hand : Option Stage) (counts : Counters → Counters) (bad : Bad) → TurnsBack program devices value_of stage seat hand old new counts bad
+    turned-leaves : (hand : Option MachineView) (counts : Counters → Counters) (bad : Bad) → TurnsBack meaning seat hand old new counts bad
         → Leaves seat old new
     turned-leaves hand counts bad back = back-leaves counts back.attempt back.event
 
-  module _ (old new : Core C V M) (seat : ℕ) (stands : Stands (parts old)) where
-    home-leaves : (number : ℕ) (a : Attempt) → task_at old.tasks seat ≡ Task.Free a → number ≡ a.tried.number → (s : Stage) (before after : List Told)
-        → HasComeHome program devices value_of stage seat number s before after old new → Leaves seat old new
+  module _ (old new : Core C V M) (seat : ℕ) (stands : Simulates (parts old)) where
+    home-leaves : (number : ℕ) (a : Attempt) → task_at old.tasks seat ≡ Task.Free a → number ≡ a.tried.number → (s : MachineView) (before after : List Told)
+        → HasComeHome meaning seat number s before after old new → Leaves seat old new
     home-leaves number a task is s before after h =
         let shown = with_answer h.answer (place_shown h.comes) in
-        let rows = visit-rows (parts old) number h.comes.steps h.visit.place h.comes.inside h.desk h.visit.visit in
+        let rows = visit-rows (parts old) number h.comes.steps h.visit.place h.comes.inside h.memory h.visit.visit in
         let of : member_of (task_at old.tasks seat) ≡ Some number = ap member_of task ∙ ap (λ (n : ℕ). Some n) (sym is) in
-        by-event old new seat (one_counted Counted.Free) (visited_at seat number h.answer h.comes h.desk) h.event refl (λ other else. (
+        by-event old new seat (one_counted Counted.Free) (visited_at seat number h.answer h.comes h.memory) h.event refl (λ other else. (
           task_else old.tasks seat Task.Idle other else,
-          λ x on. visited-others (parts old) stands seat other x else on number of h.comes.steps shown h.comes.inside h.desk rows,
+          λ x on. visited-others (parts old) stands seat other x else on number of h.comes.steps shown h.comes.inside h.memory rows,
         ))
 
-    cut-leaves : (why : Stop) (counts : Counters → Counters) (number steps : ℕ) (s : Stage)
-        → MakesLastEvent program devices value_of stage why counts (has_been_cut seat number steps (place_shown s) (task_at old.tasks seat)) old new → Leaves seat old new
+    cut-leaves : (why : Stop) (counts : Counters → Counters) (number steps : ℕ) (s : MachineView)
+        → MakesLastEvent meaning why counts (has_been_cut seat number steps (place_shown s) (task_at old.tasks seat)) old new → Leaves seat old new
     cut-leaves why counts number steps s makes =
         by-last old new seat why counts (has_been_cut seat number steps (place_shown s) (task_at old.tasks seat)) makes refl (λ other else. (
           task_else old.tasks seat (told_task (task_at old.tasks seat)) other else,
           λ x on. cut-others (parts old) seat other x else on number steps (place_shown s) (task_at old.tasks seat),
         ))
 
-    spend-leaves : (hand it : Option Stage) → Spends program devices value_of stage seat hand old new it → Leaves seat old new
+    spend-leaves : (hand it : Option MachineView) → Spends meaning seat hand old new it → Leaves seat old new
     spend-leaves hand None h = stop-leaves old new seat Stop.Spent h
     spend-leaves hand (Some s) (inl cuts) = cut-leaves Stop.Spent (λ counters. counters) cuts.attempt.tried.number s.steps s cuts.event
     spend-leaves hand (Some s) (inr stops) = stop-leaves old new seat Stop.Spent stops.1
 
     -- an event of a deed leaves the rest
-    pub made-leaves : (hand : Option Stage) (before after : List Told) (deed : Deed)
-        → IsMade program devices value_of stage seat hand old new before after deed → Leaves seat old new
+    pub made-leaves : (hand : Option MachineView) (before after : List Told) (deed : Deed)
+        → IsMade meaning seat hand old new before after deed → Leaves seat old new
     made-leaves hand before after Deed.Began d =
         by-event old new seat (one_counted Counted.Begin) (has_begun seat d.0) d.2 refl (λ other else. (
           task_else old.tasks seat (begun_task (is_inside_at (parts old).pool.members d.0) (fresh_attempt d.0 (parts old))) other else,
           λ s on. begun-others (parts old) seat other s else on d.0,
         ))
     made-leaves hand before after Deed.Waited d = same-leaves old new seat d.1
-    made-leaves hand before after Deed.Stopped d = chance-leaves old new seat _ d.0 d.2
+    made-leaves hand before after Deed.Stopped d = pick-leaves old new seat _ d.0 d.2
     made-leaves hand before after Deed.Read d =
         by-event old new seat (one_counted Counted.Read) (has_read seat d.1) d.3 refl (λ other else. (
           refl,
@@ -221,17 +221,17 @@ module _ {C V M : Type 0} (program : C → Tree) (devices : C → ℕ) (value_of
     made-leaves hand before after Deed.Ended d =
         by-event old new seat (one_counted Counted.Commit) (ended_at seat d.2.tried.number d.0) d.4 refl (λ other else. (
           task_else old.tasks seat Task.Idle other else,
-          λ s on. ended-others (parts old) stands seat other s else on d.2 d.3.task d.0.steps (place_shown d.0) (owned_places seat (parts old).desk.cells),
+          λ s on. ended-others (parts old) stands seat other s else on d.2 d.3.task d.0.steps (place_shown d.0) (owned_places seat (parts old).memory.cells),
         ))
     made-leaves hand before after Deed.Left d =
         by-event old new seat (one_counted Counted.Commit) (left_at seat d.2.tried.number d.0) d.4 refl (λ other else. (
           task_else old.tasks seat Task.Idle other else,
-          λ s on. left-others (parts old) stands seat other s else on d.2 d.3.task d.0.steps (place_shown d.0) (owned_places seat (parts old).desk.cells),
+          λ s on. left-others (parts old) stands seat other s else on d.2 d.3.task d.0.steps (place_shown d.0) (owned_places seat (parts old).memory.cells),
         ))
     made-leaves hand before after (Deed.Refused bad) d = turned-leaves old new seat hand (one_invalid Counted.Commit) bad d.2
     made-leaves hand before after Deed.Noted d =
         by-event old new seat (one_counted Counted.Block) (has_noted seat d.2 d.0.steps (place_shown d.0)) d.4 refl (λ other else. (
-          task_else old.tasks seat (Task.Undoing (record d.2 { told = true }) Reason.Noted) other else,
+          task_else old.tasks seat (Task.Undoing (record d.2 { logged = true }) Reason.Noted) other else,
           λ s on. noted-others (parts old) seat other s else on d.2 d.0.steps (place_shown d.0),
         ))
     made-leaves hand before after (Deed.NotNoted bad) d = turned-leaves old new seat hand (one_invalid Counted.Block) bad d.2
@@ -251,17 +251,17 @@ module _ {C V M : Type 0} (program : C → Tree) (devices : C → ℕ) (value_of
     made-leaves hand before after Deed.Spent d = spend-leaves hand hand d.1
     made-leaves hand before after Deed.Undid d =
         by-event old new seat (one_undone (is_some old.stop)) (has_undone seat d.0 (reason_to_undo (task_at old.tasks seat))) d.2.event
-        (turn-limits (with_task seat (Task.Undoing d.0 (reason_to_undo (task_at old.tasks seat))) (with_desk (undone_last seat (parts old).desk) (parts old))))
+        (turn-limits (with_task seat (Task.Undoing d.0 (reason_to_undo (task_at old.tasks seat))) (with_memory (undone_last seat (parts old).memory) (parts old))))
         (λ other else. (
           ap (λ (ts : List Task). task_at ts other)
-              (turn-tasks (with_task seat (Task.Undoing d.0 (reason_to_undo (task_at old.tasks seat))) (with_desk (undone_last seat (parts old).desk) (parts old))))
+              (turn-tasks (with_task seat (Task.Undoing d.0 (reason_to_undo (task_at old.tasks seat))) (with_memory (undone_last seat (parts old).memory) (parts old))))
               ∙ task_else old.tasks seat (Task.Undoing d.0 (reason_to_undo (task_at old.tasks seat))) other else,
           λ s on. undone-others (parts old) seat other s else on d.0 (reason_to_undo (task_at old.tasks seat)),
         ))
     made-leaves hand before after Deed.WentHome d =
         let reason = reason_to_undo (task_at old.tasks seat) in
         let gone : Parts = with_task seat Task.Idle (record (parts old) {
-          desk = undone_last seat (parts old).desk;
+          memory = undone_last seat (parts old).memory;
           pool = brought_home reason d.0.tried.number (parts old).pool;
           tried = with_try d.0 (parts old).tried;
         }) in

@@ -6,7 +6,7 @@ use Rattle.ame_store.specs.declared.cell.Cell.{Cell}
 use Rattle.ame_rows.specs.declared.notes.ReadNote.{ReadNote}
 use Rattle.ame_rows.specs.declared.notes.Bad.{Bad}
 use Rattle.ame_rows.specs.Valid.{IsValidAt, IsValidRead, IsValid, IsFirstBad, note_of}
-use Rattle.ame_owed.proofs.CellLemmas.{which}
+use Rattle.ame_protocol.proofs.Row.CellLemmas.{which}
 
 module _ {V : Type 0} (seat : ℕ) where
   module _ (number : ℕ) (cell : Cell V) where

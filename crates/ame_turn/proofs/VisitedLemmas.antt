@@ -7,24 +7,24 @@ use Rattle.ame_term.specs.declared.types.TyNo.{TyNo}
 use Rattle.ame_pool.specs.Roster.{Roster}
 use Rattle.ame_pool.specs.Calls.{noted_on, noted, renewed, exchanged}
 use Rattle.ame_pool.proofs.MemberLemmas.{found_altered}
-use Rattle.ame_local.specs.Local.{LocalState}
-use Rattle.ame_desk.specs.Contents.{Notes, Contents, row_at}
-use Rattle.ame_owed.specs.Waiting.{read_places}
-use Rattle.ame_runner.specs.Stage.{Stage}
-use Rattle.ame_stands.specs.declared.types.Attempt.{Attempt}
-use Rattle.ame_stands.specs.declared.types.Reason.{Reason}
-use Rattle.ame_stands.specs.declared.types.Task.{Task}
-use Rattle.ame_stands.specs.Parts.{Parts, task_at, member_of, term_at}
-use Rattle.ame_stands.specs.Stands.{Stands}
-use Rattle.ame_stands.specs.Events.{with_newcomers}
-use Rattle.ame_stands.proofs.PoolLemmas.{machines-stay}
-use Rattle.ame_stands.proofs.StepLemmas.{task_else}
-use Rattle.ame_stands.proofs.GrowthLemmas.{keeps-on, keeps-same, newcomers-keep}
-use Rattle.ame_stands.proofs.CommitLemmas.{free-next}
-use Rattle.ame_waiting.specs.Noted.{has_noted}
-use Rattle.ame_visits.specs.ByAct.{desk_after}
-use Rattle.ame_visits.specs.Stops.{told_task, has_been_cut, has_grown_tall}
-use Rattle.ame_visits.specs.Visit.{IsVisit, has_visited, has_been_refused}
+use Rattle.ame_machine.specs.Run.Local.{LocalState}
+use Rattle.ame_rows.specs.MemoryView.{Log, MemoryView, row_at}
+use Rattle.ame_protocol.specs.Row.Waiting.{read_places}
+use Rattle.ame_machine.specs.MachineView.{MachineView}
+use Rattle.ame_protocol.specs.declared.types.Attempt.{Attempt}
+use Rattle.ame_protocol.specs.declared.types.Reason.{Reason}
+use Rattle.ame_protocol.specs.declared.types.Task.{Task}
+use Rattle.ame_protocol.specs.Engine.Parts.{Parts, task_at, member_of, term_at}
+use Rattle.ame_protocol.specs.Engine.Simulates.{Simulates}
+use Rattle.ame_protocol.specs.Engine.Events.{with_newcomers}
+use Rattle.ame_protocol.proofs.Engine.PoolLemmas.{machines-stay}
+use Rattle.ame_protocol.proofs.Engine.StepLemmas.{task_else}
+use Rattle.ame_protocol.proofs.Engine.GrowthLemmas.{keeps-on, keeps-same, newcomers-keep}
+use Rattle.ame_protocol.proofs.Engine.CommitLemmas.{free-next}
+use Rattle.ame_protocol.specs.Waits.Noted.{has_noted}
+use Rattle.ame_protocol.specs.Visits.ByAct.{memory_after}
+use Rattle.ame_protocol.specs.Visits.Stops.{told_task, has_been_cut, has_grown_tall}
+use Rattle.ame_protocol.specs.Visits.Visit.{IsVisit, has_visited, has_been_refused}
 use Rattle.ame_engine.specs.AtWork.{working, IsOnSeat}
 use Rattle.ame_turn.proofs.OthersLemmas.{stays-on}
 use Rattle.ame_turn.proofs.EndsLemmas.{term-home, other-member, member-below}
@@ -36,12 +36,12 @@ term-noted number n places pool =
     (machines-stay n (noted_on places) pool.members (noted n places pool).members (found_altered n (noted_on places) (λ _. refl) pool.members) (λ _. refl) (λ _. refl)
     number)
 
-module _ (parts : Parts) (seat other : ℕ) (s : Stage) (apart : other ≢ seat) (on : IsOnSeat parts other s) where
+module _ (parts : Parts) (seat other : ℕ) (s : MachineView) (apart : other ≢ seat) (on : IsOnSeat parts other s) where
   pub noted-others : (attempt : Attempt) (steps : ℕ) (p : LocalState) → IsOnSeat (has_noted seat attempt steps p parts) other s
   noted-others attempt steps p =
       stays-on parts (has_noted seat attempt steps p parts) other s
-      (task_else parts.tasks seat (Task.Undoing (record attempt { told = true }) Reason.Noted) other apart) refl
-      (λ a e. term-noted a.tried.number attempt.tried.number (read_places (row_at parts.desk.rows seat).reads) parts.pool) on
+      (task_else parts.tasks seat (Task.Undoing (record attempt { logged = true }) Reason.Noted) other apart) refl
+      (λ a e. term-noted a.tried.number attempt.tried.number (read_places (row_at parts.memory.rows seat).reads) parts.pool) on
 
   pub cut-others : (number steps : ℕ) (p : LocalState) (task : Task) → IsOnSeat (has_been_cut seat number steps p task parts) other s
   cut-others number steps p task =
@@ -57,28 +57,28 @@ module _ (parts : Parts) (seat other : ℕ) (s : Stage) (apart : other ≢ seat)
       (λ a e. term-home Reason.Stopped number a.tried.number parts.pool) on
 
 -- a visit leaves the logs of seats
-act-rows : (ty : TyNo) (act : Act) (desk : Contents Val) → (desk_after ty act desk).rows ≡ desk.rows
-act-rows ty (Act.Becomes term) desk = refl
-act-rows ty (Act.Allocates sort v) desk = refl
-act-rows ty (Act.Reads l) desk = refl
-act-rows ty (Act.Peeks l) desk = refl
-act-rows ty (Act.Writes l v) desk = refl
-act-rows ty (Act.Spawns body) desk = refl
-act-rows ty (Act.Prints n) desk = refl
-act-rows ty Act.Passes desk = refl
-act-rows ty Act.Fails desk = refl
-act-rows ty (Act.Calls device n) desk = refl
-act-rows ty (Act.Closes v) desk = refl
-act-rows ty Act.Stuck desk = refl
+act-rows : (ty : TyNo) (act : Act) (memory : MemoryView Val) → (memory_after ty act memory).rows ≡ memory.rows
+act-rows ty (Act.Becomes term) memory = refl
+act-rows ty (Act.Allocates sort v) memory = refl
+act-rows ty (Act.Reads l) memory = refl
+act-rows ty (Act.Peeks l) memory = refl
+act-rows ty (Act.Writes l v) memory = refl
+act-rows ty (Act.Spawns body) memory = refl
+act-rows ty (Act.Prints n) memory = refl
+act-rows ty Act.Passes memory = refl
+act-rows ty Act.Fails memory = refl
+act-rows ty (Act.Calls device n) memory = refl
+act-rows ty (Act.Closes v) memory = refl
+act-rows ty Act.Stuck memory = refl
 
-pub visit-rows : (parts : Parts) (number n : ℕ) (p : LocalState) (inside : Bool) (desk : Contents Val) → IsVisit parts number n p inside desk
-    → desk.rows ≡ parts.desk.rows
-visit-rows parts number n p inside desk (IsVisit.stepped steps place some stands) = refl
-visit-rows parts number n p inside desk (IsVisit.acted steps place act v made ty stands at given gives) = act-rows ty act parts.desk
-visit-rows parts number n p inside desk (IsVisit.closed steps place v stands closes) = refl
+pub visit-rows : (parts : Parts) (number n : ℕ) (p : LocalState) (inside : Bool) (memory : MemoryView Val) → IsVisit parts number n p inside memory
+    → memory.rows ≡ parts.memory.rows
+visit-rows parts number n p inside memory (IsVisit.stepped steps place some stands) = refl
+visit-rows parts number n p inside memory (IsVisit.acted steps place act v made ty stands at given gives) = act-rows ty act parts.memory
+visit-rows parts number n p inside memory (IsVisit.closed steps place v stands closes) = refl
 
-module _ (parts : Parts) (stands : Stands parts) (seat other : ℕ) (s : Stage) (apart : other ≢ seat) (on : IsOnSeat parts other s) (number : ℕ)
-    (of : member_of (task_at parts.tasks seat) ≡ Some number) (steps : ℕ) (p : LocalState) (inside : Bool) (desk : Contents Val) (rows : desk.rows ≡ parts.desk.rows) where
+module _ (parts : Parts) (stands : Simulates parts) (seat other : ℕ) (s : MachineView) (apart : other ≢ seat) (on : IsOnSeat parts other s) (number : ℕ)
+    (of : member_of (task_at parts.tasks seat) ≡ Some number) (steps : ℕ) (p : LocalState) (inside : Bool) (memory : MemoryView Val) (rows : memory.rows ≡ parts.memory.rows) where
   abbrev later_pool : Roster Tree
   later_pool = with_newcomers parts.next p.spawns parts.pool
 
@@ -95,7 +95,7 @@ module _ (parts : Parts) (stands : Stands parts) (seat other : ℕ) (s : Stage) 
       ((found_altered number (renewed p.term inside) (λ _. refl) later_pool.members).others i (other-member parts stands seat other apart number of a has))) in
       ap (λ (o : Option Tree). unwrap_or o unit_tree) k.machine
 
-  pub visited-others : IsOnSeat (has_visited seat number steps p inside desk parts) other s
+  pub visited-others : IsOnSeat (has_visited seat number steps p inside memory parts) other s
   visited-others =
-      stays-on parts (has_visited seat number steps p inside desk parts) other s (task_else parts.tasks seat Task.Idle other apart)
-      (ap (λ (all : List (Notes Val)). row_at all other) rows) term-kept on
+      stays-on parts (has_visited seat number steps p inside memory parts) other s (task_else parts.tasks seat Task.Idle other apart)
+      (ap (λ (all : List (Log Val)). row_at all other) rows) term-kept on

@@ -1,9 +1,9 @@
 -- What an engine is asked for in a turn, by what a seat has at hand.
 use Rattle.std.specs.Prelude.{◌≡◌, ℕ, ◌≤◌, ◌<◌, ◌⊎◌, Bool, true, false, Option, Some, None, is_some}
-use Rattle.ame_runner.specs.declared.wants.Wants.{Wants}
-use Rattle.ame_runner.specs.declared.wants.Wants.TheVariants as wants
-use Rattle.ame_runner.specs.Stage.{Stage}
-use Rattle.ame_stands.specs.Parts.{task_at}
+use Rattle.ame_machine.specs.declared.wants.Wants.{Wants}
+use Rattle.ame_machine.specs.declared.wants.Wants.TheVariants as wants
+use Rattle.ame_machine.specs.MachineView.{MachineView}
+use Rattle.ame_protocol.specs.Engine.Parts.{task_at}
 use Rattle.ame_engine.specs.Core.{Core}
 use Rattle.ame_engine.specs.Committing.{IsCommitting}
 use Rattle.ame_engine.specs.Undoing.{is_undoing}
@@ -16,49 +16,49 @@ waits_for_check (Some (wants.Alloc sort number)) = true
 waits_for_check (Some wants.OutOfFuel) = true
 waits_for_check _ = false
 
-module _ {C V M : Type 0} (core : Core C V M) (hand : Option Stage) where
+module _ {C V M : Type 0} (core : Core C V M) (hand : Option MachineView) where
   -- a seat goes on from where the machine stands that it has at hand: no stop is kept, and turns are left
-  pub record GoesOn (s : Stage) : Type 0 where
+  pub record IsToGoOn (s : MachineView) : Type 0 where
     pub met : hand ≡ Some s
     pub going : core.stop ≡ None
     pub left : core.turns < core.limits.turns
 
   -- it has come to this
-  pub record AsksFor (s : Stage) (want : Wants) : Type 0 where
-    pub goes : GoesOn s
+  pub record AsksFor (s : MachineView) (want : Wants) : Type 0 where
+    pub goes : IsToGoOn s
     pub wants : s.want ≡ Some want
 
   -- and is protected code
-  pub record RunsTo (s : Stage) (want : Wants) : Type 0 where
+  pub record RunsTo (s : MachineView) (want : Wants) : Type 0 where
     pub asks : AsksFor s want
     pub outside : s.inside ≡ false
 
   -- whose slice isn't full
-  pub record Accesses (s : Stage) (want : Wants) : Type 0 where
+  pub record Accesses (s : MachineView) (want : Wants) : Type 0 where
     pub runs : RunsTo s want
     pub early : s.since < core.limits.slice
 
   -- protected code whose slice is full, so that its reads are checked first
-  pub record IsToCheck (s : Stage) : Type 0 where
-    pub goes : GoesOn s
+  pub record IsToCheck (s : MachineView) : Type 0 where
+    pub goes : IsToGoOn s
     pub outside : s.inside ≡ false
     pub waits : waits_for_check s.want ≡ true
     pub full : s.since ≡ core.limits.slice
 
   -- it has ended, or leaves
-  pub record IsToCommit (s : Stage) : Type 0 where
-    pub goes : GoesOn s
+  pub record IsToCommit (s : MachineView) : Type 0 where
+    pub goes : IsToGoOn s
     pub commits : IsCommitting s
 
   -- it is unprotected code
-  pub record IsToVisit (s : Stage) : Type 0 where
-    pub goes : GoesOn s
+  pub record IsToVisit (s : MachineView) : Type 0 where
+    pub goes : IsToGoOn s
     pub inside : s.inside ≡ true
     pub short : s.want ≡ Some wants.Tall → ⊥
 
 module _ {C V M : Type 0} (core : Core C V M) where
   -- no stop is kept, and the turns are used up
-  pub record IsUsedUp : Type 0 where
+  pub record HasNoTurnsLeft : Type 0 where
     pub going : core.stop ≡ None
     pub none_left : core.limits.turns ≤ core.turns
 

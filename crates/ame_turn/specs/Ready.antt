@@ -1,20 +1,20 @@
 -- What is done before a turn: machines make steps.
 use Rattle.std.specs.Prelude.{◌≡◌, ℕ, ◌+◌, ◌-◌, ◌^◌, ◌≤◌, ◌<◌, Some}
-use Rattle.ame_runner.specs.declared.wants.Wants.{Wants}
-use Rattle.ame_runner.specs.declared.wants.Wants.TheVariants as wants
-use Rattle.ame_runner.specs.Stage.{Stage}
-use Rattle.ame_runner.specs.Move.{AdvancesWithin}
-use Rattle.ame_runner.specs.Sound.{CanRun}
+use Rattle.ame_machine.specs.declared.wants.Wants.{Wants}
+use Rattle.ame_machine.specs.declared.wants.Wants.TheVariants as wants
+use Rattle.ame_machine.specs.MachineView.{MachineView}
+use Rattle.ame_machine.specs.Move.{AdvancesWithin}
+use Rattle.ame_machine.specs.Sound.{CanRun}
 use Rattle.ame_turn.specs.declared.work.Work.{Work}
 use Rattle.ame_turn.specs.declared.work.Work.TheVariants as work
 
 -- A machine is ready for its turn: it wants something, and where it is fuel it has made a slice of steps.
-pub record IsReady (slice : ℕ) (s : Stage) : Type 0 where
+pub record IsReady (slice : ℕ) (s : MachineView) : Type 0 where
   pub want : Wants
   pub told : s.want ≡ Some want
   pub full : want ≡ wants.OutOfFuel → (slice ≤ s.since) × (0 < s.since)
 
-module _ {C M : Type 0} (is_machine : C → M → Type 0) (stage : C → M → Stage) (code : C) (slice : ℕ) where
+module _ {C M : Type 0} (is_machine : C → M → Type 0) (stage : C → M → MachineView) (code : C) (slice : ℕ) where
   -- a machine of the code can make steps until its slice is full
   pub record CanGoOn (m : M) : Type 0 where
     pub machine : is_machine code m
@@ -22,7 +22,7 @@ module _ {C M : Type 0} (is_machine : C → M → Type 0) (stage : C → M → S
     pub few : (stage code m).steps + (slice - (stage code m).since) < 2 ^ 64
 
   -- it has made steps alone, within its slice
-  pub record HasGoneOn (old new : M) : Type 0 where
+  pub record HasAdvanced (old new : M) : Type 0 where
     pub machine : is_machine code new
     pub ran : AdvancesWithin (slice - (stage code old).since) (stage code old) (stage code new)
 
@@ -33,11 +33,11 @@ module _ {C M : Type 0} (is_machine : C → M → Type 0) (stage : C → M → S
 
   abbrev pub IsPrepared : Work M → Work M → Type 0
   IsPrepared work.Idle work.Idle = Unit {0}
-  IsPrepared (work.Running old) (work.Running new) = HasGoneOn old new
+  IsPrepared (work.Running old) (work.Running new) = HasAdvanced old new
   IsPrepared work.Undoing work.Undoing = Unit {0}
   IsPrepared _ _ = ⊥
 
-module _ {C M : Type 0} (stage : C → M → Stage) (code : C) (slice : ℕ) where
+module _ {C M : Type 0} (stage : C → M → MachineView) (code : C) (slice : ℕ) where
   -- a machine that a seat has at hand is ready
   abbrev pub IsReadyWork : Work M → Type 0
   IsReadyWork (work.Running m) = IsReady slice (stage code m)

@@ -5,12 +5,12 @@ ghost use Rattle.ame_term.specs.Tree.{Val};
 ghost use Rattle.ame_term.specs.declared.types.Loc.{Loc};
 ghost use Rattle.ame_term.specs.declared.types.Sort.{Sort};
 ghost use Rattle.ame_term.specs.declared.types.TyNo.{TyNo};
-ghost use Rattle.ame_owed.specs.Heap.{cell_at};
-ghost use Rattle.ame_runner.specs.declared.wants.Wants.{Wants};
-ghost use Rattle.ame_runner.specs.Input.{value_to_set};
-ghost use Rattle.ame_stands.specs.declared.types.Attempt.{Attempt};
-ghost use Rattle.ame_stands.specs.Parts.{heap_in, task_at};
-ghost use Rattle.ame_stands.specs.Events.{has_read, has_written, has_allocated, has_turned_back};
+ghost use Rattle.ame_protocol.specs.Row.Heap.{cell_at};
+ghost use Rattle.ame_machine.specs.declared.wants.Wants.{Wants};
+ghost use Rattle.ame_machine.specs.Input.{value_to_set};
+ghost use Rattle.ame_protocol.specs.declared.types.Attempt.{Attempt};
+ghost use Rattle.ame_protocol.specs.Engine.Parts.{heap_in, task_at};
+ghost use Rattle.ame_protocol.specs.Engine.Events.{has_read, has_written, has_allocated, has_turned_back};
 ghost use Rattle.ame_engine.specs.Counting.{Counted, one_counted};
 ghost use Rattle.ame_engine.specs.Seen.{parts_of, MakesEvent};
 ghost use Rattle.ame_engine.specs.AtWork.{IsOn, IsReading, IsWriting, IsAllocating};
@@ -18,8 +18,8 @@ ghost use Rattle.ame_engine.specs.Writing.{answer_to_write};
 ghost use Rattle.ame_turn.specs.Served.{IsServed};
 
 use ame_engine::{Engine, Wrote};
-use ame_runner::{Input, Runner};
-use ame_stands::Task;
+use ame_machine::{Input, Runner};
+use ame_protocol::Task;
 use ame_term::NoMemory;
 
 /// The machine of a seat is fed the value in place that it wants, whoever owns the cell. Counts a turn. After `NoMemory` engine
@@ -33,14 +33,14 @@ pub fn read<M: Runner>(
 where
     M::Code: Drop,
     requires code { code.now ≡ engine.old.code }
-    requires on { IsOn M.program M.devices M.value_of M.is_machine M.stage engine.old seat machine.old }
-    requires reads { IsReading (M.stage engine.old.code machine.old) }
-    requires early { (M.stage engine.old.code machine.old).since < engine.old.limits.slice }
+    requires on { IsOn M.meaning engine.old seat machine.old }
+    requires reads { IsReading (M.meaning.stage engine.old.code machine.old) }
+    requires early { (M.meaning.stage engine.old.code machine.old).since < engine.old.limits.slice }
     requires left { engine.old.turns < engine.old.limits.turns }
     requires going { engine.old.stop ≡ None }
-    requires steps { (M.stage engine.old.code machine.old).steps + 1 < 2 ^ 64 }
-    ensures goes { (l : Loc) → (M.stage engine.old.code machine.old).want ≡ Some (Wants.Read l) → OnOk result
-        (IsServed M.program M.devices M.value_of M.is_machine M.stage (one_counted Counted.Read) (has_read seat l) seat engine.old engine.new machine.new) }
+    requires steps { (M.meaning.stage engine.old.code machine.old).steps + 1 < 2 ^ 64 }
+    ensures goes { (l : Loc) → (M.meaning.stage engine.old.code machine.old).want ≡ Some (Wants.Read l) → OnOk result
+        (IsServed M.meaning (one_counted Counted.Read) (has_read seat l) seat engine.old engine.new machine.new) }
     ensures engine { OnErr result (engine.new ≡ engine.old) }
     ensures machine { OnErr result (machine.new ≡ machine.old) }
 {
@@ -61,19 +61,19 @@ pub fn write<M: Runner>(
 where
     M::Code: Drop,
     requires code { code.now ≡ engine.old.code }
-    requires on { IsOn M.program M.devices M.value_of M.is_machine M.stage engine.old seat machine.old }
-    requires writes { IsWriting (M.stage engine.old.code machine.old) }
-    requires early { (M.stage engine.old.code machine.old).since < engine.old.limits.slice }
+    requires on { IsOn M.meaning engine.old seat machine.old }
+    requires writes { IsWriting (M.meaning.stage engine.old.code machine.old) }
+    requires early { (M.meaning.stage engine.old.code machine.old).since < engine.old.limits.slice }
     requires left { engine.old.turns < engine.old.limits.turns }
     requires going { engine.old.stop ≡ None }
-    requires steps { (M.stage engine.old.code machine.old).steps + 1 < 2 ^ 64 }
-    ensures answer { (l : Loc) → (M.stage engine.old.code machine.old).want ≡ Some (Wants.Write l) → IfOk result (λ answer.
-        answer ≡ answer_to_write seat (cell_at (heap_in (parts_of M.program M.devices M.value_of M.stage engine.old)) l.0).owner) }
-    ensures goes { (l : Loc) (v : Val) → (M.stage engine.old.code machine.old).want ≡ Some (Wants.Write l)
-        → value_to_set (M.stage engine.old.code machine.old) ≡ Some v → result ≡ Ok Wrote.Wrote
-        → IsServed M.program M.devices M.value_of M.is_machine M.stage (one_counted Counted.Write) (has_written seat l v) seat engine.old engine.new machine.new }
+    requires steps { (M.meaning.stage engine.old.code machine.old).steps + 1 < 2 ^ 64 }
+    ensures answer { (l : Loc) → (M.meaning.stage engine.old.code machine.old).want ≡ Some (Wants.Write l) → IfOk result (λ answer.
+        answer ≡ answer_to_write seat (cell_at (heap_in (parts_of M.meaning engine.old)) l.0).owner) }
+    ensures goes { (l : Loc) (v : Val) → (M.meaning.stage engine.old.code machine.old).want ≡ Some (Wants.Write l)
+        → value_to_set (M.meaning.stage engine.old.code machine.old) ≡ Some v → result ≡ Ok Wrote.Wrote
+        → IsServed M.meaning (one_counted Counted.Write) (has_written seat l v) seat engine.old engine.new machine.new }
     ensures back { (attempt : Attempt) (owner : ℕ) → task_at engine.old.tasks seat ≡ Task.Running attempt → result ≡ Ok (Wrote.Conflict owner)
-        → MakesEvent M.program M.devices M.value_of M.stage (one_counted Counted.Conflict) (has_turned_back seat attempt) engine.old engine.new }
+        → MakesEvent M.meaning (one_counted Counted.Conflict) (has_turned_back seat attempt) engine.old engine.new }
     ensures engine { OnErr result (engine.new ≡ engine.old) }
     ensures machine { OnErr result (machine.new ≡ machine.old) }
 {
@@ -99,14 +99,14 @@ pub fn alloc<M: Runner>(
 where
     M::Code: Drop,
     requires code { code.now ≡ engine.old.code }
-    requires on { IsOn M.program M.devices M.value_of M.is_machine M.stage engine.old seat machine.old }
-    requires allocates { IsAllocating (M.stage engine.old.code machine.old) }
-    requires early { (M.stage engine.old.code machine.old).since < engine.old.limits.slice }
+    requires on { IsOn M.meaning engine.old seat machine.old }
+    requires allocates { IsAllocating (M.meaning.stage engine.old.code machine.old) }
+    requires early { (M.meaning.stage engine.old.code machine.old).since < engine.old.limits.slice }
     requires left { engine.old.turns < engine.old.limits.turns }
     requires going { engine.old.stop ≡ None }
-    requires steps { (M.stage engine.old.code machine.old).steps + 1 < 2 ^ 64 }
-    ensures goes { (sort : Sort) (number : TyNo) (v : Val) → (M.stage engine.old.code machine.old).want ≡ Some (Wants.Alloc sort number)
-        → value_to_set (M.stage engine.old.code machine.old) ≡ Some v → OnOk result (IsServed M.program M.devices M.value_of M.is_machine M.stage
+    requires steps { (M.meaning.stage engine.old.code machine.old).steps + 1 < 2 ^ 64 }
+    ensures goes { (sort : Sort) (number : TyNo) (v : Val) → (M.meaning.stage engine.old.code machine.old).want ≡ Some (Wants.Alloc sort number)
+        → value_to_set (M.meaning.stage engine.old.code machine.old) ≡ Some v → OnOk result (IsServed M.meaning
         (one_counted Counted.Alloc) (has_allocated seat sort number v) seat engine.old engine.new machine.new) }
     ensures engine { OnErr result (engine.new ≡ engine.old) }
     ensures machine { OnErr result (machine.new ≡ machine.old) }

@@ -3,7 +3,7 @@
 ghost use Rattle.std.specs.Prelude.{◌≡◌, ◌≢◌, ◌≤◌, ◌<◌, ◌+◌, ◌^◌, ℕ, List, Some, None, true, false, length, vec_len};
 ghost use Rattle.ame_device.specs.declared.told.Told.{Told};
 ghost use Rattle.ame_device.specs.Calls.{all_told};
-ghost use Rattle.ame_runner.specs.declared.wants.Wants.{Wants};
+ghost use Rattle.ame_machine.specs.declared.wants.Wants.{Wants};
 ghost use Rattle.ame_turn.specs.declared.work.Deed.{Deed};
 ghost use Rattle.ame_turn.specs.declared.work.Work.{Work};
 ghost use Rattle.ame_turn.specs.Asked.{waits_for_check};
@@ -19,7 +19,7 @@ use crate::visits::free_on;
 use crate::work::{Turned, Work};
 use ame_device::Device;
 use ame_engine::Engine;
-use ame_runner::{Runner, Wants};
+use ame_machine::{Runner, Wants};
 
 /// A list's length is the number of its items.
 fn has_its_length<D>(devices: &Vec<D>)
@@ -67,14 +67,14 @@ fn serve<M: Runner>(
 where
     M::Code: Drop,
     requires same { code.now ≡ engine.old.code }
-    requires turn { HasTurn M.program M.devices M.value_of M.is_machine M.stage engine.old seat machine }
-    requires ready { IsReady engine.old.limits.slice (M.stage engine.old.code machine) }
-    requires outside { (M.stage engine.old.code machine).inside ≡ false }
-    requires told { (M.stage engine.old.code machine).want ≡ Some want }
-    requires early { waits_for_check (Some want) ≡ true → (M.stage engine.old.code machine).since < engine.old.limits.slice }
-    requires steps { (M.stage engine.old.code machine).steps + 1 < 2 ^ 64 }
-    ensures fits { Fits M.program M.devices M.value_of M.is_machine M.stage engine.new seat result.work }
-    ensures done { (told : List Told) → IsDone M.program M.devices M.value_of M.stage seat (Some (M.stage engine.old.code machine)) engine.old engine.new told told result.deed }
+    requires turn { HasTurn M.meaning engine.old seat machine }
+    requires ready { IsReady engine.old.limits.slice (M.meaning.stage engine.old.code machine) }
+    requires outside { (M.meaning.stage engine.old.code machine).inside ≡ false }
+    requires told { (M.meaning.stage engine.old.code machine).want ≡ Some want }
+    requires early { waits_for_check (Some want) ≡ true → (M.meaning.stage engine.old.code machine).since < engine.old.limits.slice }
+    requires steps { (M.meaning.stage engine.old.code machine).steps + 1 < 2 ^ 64 }
+    ensures fits { Fits M.meaning engine.new seat result.work }
+    ensures done { (told : List Told) → IsDone M.meaning seat (Some (M.meaning.stage engine.old.code machine)) engine.old engine.new told told result.deed }
 {
     match want {
         Wants::Read(_) => read_on(engine, code, seat, machine),
@@ -104,12 +104,12 @@ fn go<M: Runner>(
 where
     M::Code: Drop,
     requires same { code.now ≡ engine.old.code }
-    requires turn { HasTurn M.program M.devices M.value_of M.is_machine M.stage engine.old seat machine }
-    requires ready { IsReady engine.old.limits.slice (M.stage engine.old.code machine) }
-    requires outside { (M.stage engine.old.code machine).inside ≡ false }
-    requires told { (M.stage engine.old.code machine).want ≡ Some want }
-    ensures fits { Fits M.program M.devices M.value_of M.is_machine M.stage engine.new seat result.work }
-    ensures done { (told : List Told) → IsDone M.program M.devices M.value_of M.stage seat (Some (M.stage engine.old.code machine)) engine.old engine.new told told result.deed }
+    requires turn { HasTurn M.meaning engine.old seat machine }
+    requires ready { IsReady engine.old.limits.slice (M.meaning.stage engine.old.code machine) }
+    requires outside { (M.meaning.stage engine.old.code machine).inside ≡ false }
+    requires told { (M.meaning.stage engine.old.code machine).want ≡ Some want }
+    ensures fits { Fits M.meaning engine.new seat result.work }
+    ensures done { (told : List Told) → IsDone M.meaning seat (Some (M.meaning.stage engine.old.code machine)) engine.old engine.new told told result.deed }
 {
     engine.stands();
     limits_are_small(engine);
@@ -130,13 +130,13 @@ fn visit<M: Runner, D: Device>(
 ) -> Turned<M>
 where
     M::Code: Drop,
-    requires turn { HasTurn M.program M.devices M.value_of M.is_machine M.stage engine.old seat machine }
-    requires ready { IsReady engine.old.limits.slice (M.stage engine.old.code machine) }
-    requires inside { (M.stage engine.old.code machine).inside ≡ true }
-    requires told { (M.stage engine.old.code machine).want ≡ Some want }
-    requires devices { M.devices engine.old.code ≤ vec_len devices.old }
-    ensures fits { Fits M.program M.devices M.value_of M.is_machine M.stage engine.new seat result.work }
-    ensures done { IsDone M.program M.devices M.value_of M.stage seat (Some (M.stage engine.old.code machine)) engine.old engine.new
+    requires turn { HasTurn M.meaning engine.old seat machine }
+    requires ready { IsReady engine.old.limits.slice (M.meaning.stage engine.old.code machine) }
+    requires inside { (M.meaning.stage engine.old.code machine).inside ≡ true }
+    requires told { (M.meaning.stage engine.old.code machine).want ≡ Some want }
+    requires devices { M.meaning.devices engine.old.code ≤ vec_len devices.old }
+    ensures fits { Fits M.meaning engine.new seat result.work }
+    ensures done { IsDone M.meaning seat (Some (M.meaning.stage engine.old.code machine)) engine.old engine.new
         (all_told D.device_heard D.device_faults devices.old.items) (all_told D.device_heard D.device_faults devices.new.items) result.deed }
 {
     engine.stands();
@@ -158,11 +158,11 @@ fn run<M: Runner, D: Device>(
 where
     M::Code: Drop,
     requires same { code.now ≡ engine.old.code }
-    requires at { IsAtWork M.program M.devices M.value_of M.is_machine M.stage engine.old seat machine }
-    requires ready { engine.old.stop ≡ None → IsReady engine.old.limits.slice (M.stage engine.old.code machine) }
-    requires devices { M.devices engine.old.code ≤ vec_len devices.old }
-    ensures fits { Fits M.program M.devices M.value_of M.is_machine M.stage engine.new seat result.work }
-    ensures done { IsDone M.program M.devices M.value_of M.stage seat (Some (M.stage engine.old.code machine)) engine.old engine.new
+    requires at { IsAtWork M.meaning engine.old seat machine }
+    requires ready { engine.old.stop ≡ None → IsReady engine.old.limits.slice (M.meaning.stage engine.old.code machine) }
+    requires devices { M.meaning.devices engine.old.code ≤ vec_len devices.old }
+    ensures fits { Fits M.meaning engine.new seat result.work }
+    ensures done { IsDone M.meaning seat (Some (M.meaning.stage engine.old.code machine)) engine.old engine.new
         (all_told D.device_heard D.device_faults devices.old.items) (all_told D.device_heard D.device_faults devices.new.items) result.deed }
 {
     if engine.stopped().is_some() {
@@ -183,8 +183,8 @@ fn undo<M: Runner>(engine: &mut Engine<M>, seat: u32) -> Turned<M>
 where
     M::Code: Drop,
     requires can { CanUndo engine.old seat }
-    ensures fits { Fits M.program M.devices M.value_of M.is_machine M.stage engine.new seat result.work }
-    ensures done { (told : List Told) → IsDone M.program M.devices M.value_of M.stage seat None engine.old engine.new told told result.deed }
+    ensures fits { Fits M.meaning engine.new seat result.work }
+    ensures done { (told : List Told) → IsDone M.meaning seat None engine.old engine.new told told result.deed }
 {
     if engine.stopped().is_none() && engine.turns() >= engine.limits().turns {
         return spend_undoing(engine, seat);
@@ -205,11 +205,11 @@ where
     M::Code: Drop,
     requires code { code.now ≡ engine.old.code }
     requires seat { seat < engine.old.limits.seats }
-    requires fits { Fits M.program M.devices M.value_of M.is_machine M.stage engine.old seat work }
-    requires ready { lacks ≡ false → IsReadyWork M.stage engine.old.code engine.old.limits.slice work }
-    requires devices { M.devices engine.old.code ≤ vec_len devices.old }
-    ensures fits { Fits M.program M.devices M.value_of M.is_machine M.stage engine.new seat result.work }
-    ensures done { IsDone M.program M.devices M.value_of M.stage seat (stage_at M.stage engine.old.code work) engine.old engine.new
+    requires fits { Fits M.meaning engine.old seat work }
+    requires ready { lacks ≡ false → IsReadyWork M.meaning.stage engine.old.code engine.old.limits.slice work }
+    requires devices { M.meaning.devices engine.old.code ≤ vec_len devices.old }
+    ensures fits { Fits M.meaning engine.new seat result.work }
+    ensures done { IsDone M.meaning seat (stage_at M.meaning.stage engine.old.code work) engine.old engine.new
         (all_told D.device_heard D.device_faults devices.old.items) (all_told D.device_heard D.device_faults devices.new.items) result.deed }
     ensures lacks { lacks ≡ true → engine.old.stop ≡ None → result.deed ≡ Deed.Lacked }
 {
@@ -238,16 +238,16 @@ where
     M::Code: Drop,
     requires code { code.now ≡ engine.old.code }
     requires seat { seat < engine.old.limits.seats }
-    requires fits { Fits M.program M.devices M.value_of M.is_machine M.stage engine.old seat work }
-    requires ready { lacks ≡ false → IsReadyWork M.stage engine.old.code engine.old.limits.slice work }
-    requires devices { M.devices engine.old.code ≤ vec_len devices.old }
-    ensures done { IsDone M.program M.devices M.value_of M.stage seat (stage_at M.stage engine.old.code work) engine.old engine.new
+    requires fits { Fits M.meaning engine.old seat work }
+    requires ready { lacks ≡ false → IsReadyWork M.meaning.stage engine.old.code engine.old.limits.slice work }
+    requires devices { M.meaning.devices engine.old.code ≤ vec_len devices.old }
+    ensures done { IsDone M.meaning seat (stage_at M.meaning.stage engine.old.code work) engine.old engine.new
         (all_told D.device_heard D.device_faults devices.old.items) (all_told D.device_heard D.device_faults devices.new.items) result.deed }
     ensures lacks { lacks ≡ true → engine.old.stop ≡ None → result.deed ≡ Deed.Lacked }
-    ensures fits { Fits M.program M.devices M.value_of M.is_machine M.stage engine.new seat result.work }
-    ensures others { (other : ℕ) (rest : Work M) → other ≢ seat → Fits M.program M.devices M.value_of M.is_machine M.stage engine.old other rest
-        → Fits M.program M.devices M.value_of M.is_machine M.stage engine.new other rest }
-    ensures can { CanBePrepared M.is_machine M.stage engine.new.code engine.new.limits.slice result.work }
+    ensures fits { Fits M.meaning engine.new seat result.work }
+    ensures others { (other : ℕ) (rest : Work M) → other ≢ seat → Fits M.meaning engine.old other rest
+        → Fits M.meaning engine.new other rest }
+    ensures can { CanBePrepared M.meaning.is_machine M.meaning.stage engine.new.code engine.new.limits.slice result.work }
     ensures code { engine.new.code ≡ engine.old.code }
     ensures limits { engine.new.limits ≡ engine.old.limits }
     ensures count { vec_len devices.new ≡ vec_len devices.old }

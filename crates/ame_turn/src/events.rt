@@ -2,9 +2,9 @@
 
 ghost use Rattle.std.specs.Prelude.{◌≡◌, ◌<◌, List, Option, None};
 ghost use Rattle.ame_device.specs.declared.told.Told.{Told};
-ghost use Rattle.ame_runner.specs.Stage.{Stage};
-ghost use Rattle.ame_stands.specs.Parts.{task_at};
-ghost use Rattle.ame_stands.specs.declared.types.Task.{Task};
+ghost use Rattle.ame_machine.specs.MachineView.{MachineView};
+ghost use Rattle.ame_protocol.specs.Engine.Parts.{task_at};
+ghost use Rattle.ame_protocol.specs.declared.types.Task.{Task};
 ghost use Rattle.ame_engine.specs.declared.stop.Stop.{Stop};
 ghost use Rattle.ame_engine.specs.Stops.{stopped_by};
 ghost use Rattle.ame_turn.specs.declared.work.Deed.{Deed};
@@ -15,7 +15,7 @@ ghost use Rattle.ame_turn.specs.Deeds.{IsDone};
 
 use crate::work::{Deed, Turned, Work};
 use ame_engine::{Begin, Engine, Stop, Undone};
-use ame_runner::Runner;
+use ame_machine::Runner;
 
 /// Memory was lacking: that stop is kept, and the seat keeps what it has at hand.
 pub(crate) fn give_up<M: Runner>(engine: &mut Engine<M>, work: Work<M>) -> Turned<M>
@@ -49,8 +49,8 @@ where
     M::Code: Drop,
     requires seat { seat < engine.old.limits.seats }
     requires idle { task_at engine.old.tasks seat ≡ Task.Idle }
-    ensures fits { Fits M.program M.devices M.value_of M.is_machine M.stage engine.new seat result.work }
-    ensures done { (told : List Told) → IsDone M.program M.devices M.value_of M.stage seat None engine.old engine.new told told result.deed }
+    ensures fits { Fits M.meaning engine.new seat result.work }
+    ensures done { (told : List Told) → IsDone M.meaning seat None engine.old engine.new told told result.deed }
 {
     match engine.begin(seat) {
         Ok(Begin::Begun(machine)) => Turned {
@@ -69,8 +69,8 @@ where
     M::Code: Drop,
     requires can { CanUndo engine.old seat }
     requires undoes { IsToUndo engine.old seat }
-    ensures fits { Fits M.program M.devices M.value_of M.is_machine M.stage engine.new seat result.work }
-    ensures done { (hand : Option Stage) (told : List Told) → IsDone M.program M.devices M.value_of M.stage seat hand engine.old engine.new told told result.deed }
+    ensures fits { Fits M.meaning engine.new seat result.work }
+    ensures done { (hand : Option MachineView) (told : List Told) → IsDone M.meaning seat hand engine.old engine.new told told result.deed }
 {
     match engine.undo_one(seat) {
         Undone::More => Turned {

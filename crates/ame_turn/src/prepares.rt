@@ -1,10 +1,10 @@
 //! What is done before a turn.
 
 ghost use Rattle.std.specs.Prelude.{◌<◌, OnOk};
-ghost use Rattle.ame_turn.specs.Ready.{CanGoOn, HasGoneOn, IsReady, CanBePrepared, IsPrepared, IsReadyWork};
+ghost use Rattle.ame_turn.specs.Ready.{CanGoOn, HasAdvanced, IsReady, CanBePrepared, IsPrepared, IsReadyWork};
 
 use crate::work::Work;
-use ame_runner::{Runner, Wants};
+use ame_machine::{Runner, Wants};
 use ame_term::NoMemory;
 use std::alloc::Global;
 
@@ -16,9 +16,9 @@ fn go_on<M: Runner>(
     machine: &mut M,
 ) -> Result<(), NoMemory>
     requires some { 0 < slice }
-    requires can { CanGoOn M.is_machine M.stage code.now slice machine.old }
-    ensures gone { HasGoneOn M.is_machine M.stage code.now slice machine.old machine.new }
-    ensures ready { OnOk result (IsReady slice (M.stage code.now machine.new)) }
+    requires can { CanGoOn M.meaning.is_machine M.meaning.stage code.now slice machine.old }
+    ensures gone { HasAdvanced M.meaning.is_machine M.meaning.stage code.now slice machine.old machine.new }
+    ensures ready { OnOk result (IsReady slice (M.meaning.stage code.now machine.new)) }
 {
     match machine.want() {
         None | Some(Wants::OutOfFuel) => {
@@ -39,9 +39,9 @@ pub fn prepare<M: Runner>(
     work: &mut Work<M>,
 ) -> Result<(), NoMemory>
     requires some { 0 < slice }
-    requires can { CanBePrepared M.is_machine M.stage code.now slice work.old }
-    ensures prepared { IsPrepared M.is_machine M.stage code.now slice work.old work.new }
-    ensures ready { OnOk result (IsReadyWork M.stage code.now slice work.new) }
+    requires can { CanBePrepared M.meaning.is_machine M.meaning.stage code.now slice work.old }
+    ensures prepared { IsPrepared M.meaning.is_machine M.meaning.stage code.now slice work.old work.new }
+    ensures ready { OnOk result (IsReadyWork M.meaning.stage code.now slice work.new) }
 {
     match work {
         Work::Running(machine) => go_on(alloc, code, slice, machine),

@@ -2,7 +2,7 @@
 
 ghost use Rattle.std.specs.Prelude.{◌≡◌, List, Some, true, false};
 ghost use Rattle.ame_device.specs.declared.told.Told.{Told};
-ghost use Rattle.ame_runner.specs.declared.wants.Wants.{Wants};
+ghost use Rattle.ame_machine.specs.declared.wants.Wants.{Wants};
 ghost use Rattle.ame_turn.specs.Asked.{waits_for_check};
 ghost use Rattle.ame_turn.specs.Work.{Fits, HasTurn};
 ghost use Rattle.ame_turn.specs.Deeds.{IsDone};
@@ -11,18 +11,18 @@ use crate::checks::check;
 use crate::events::give_up;
 use crate::work::{Deed, Turned, Work};
 use ame_engine::{Checked, Engine, Noted};
-use ame_runner::Runner;
+use ame_machine::Runner;
 
 /// The reads of a seat are checked, and its machine goes on, or the seat turns back.
 pub(crate) fn check_on<M: Runner>(engine: &mut Engine<M>, seat: u32, mut machine: M) -> Turned<M>
 where
     M::Code: Drop,
-    requires turn { HasTurn M.program M.devices M.value_of M.is_machine M.stage engine.old seat machine }
-    requires outside { (M.stage engine.old.code machine).inside ≡ false }
-    requires waits { waits_for_check (M.stage engine.old.code machine).want ≡ true }
-    requires full { (M.stage engine.old.code machine).since ≡ engine.old.limits.slice }
-    ensures fits { Fits M.program M.devices M.value_of M.is_machine M.stage engine.new seat result.work }
-    ensures done { (told : List Told) → IsDone M.program M.devices M.value_of M.stage seat (Some (M.stage engine.old.code machine)) engine.old engine.new told told result.deed }
+    requires turn { HasTurn M.meaning engine.old seat machine }
+    requires outside { (M.meaning.stage engine.old.code machine).inside ≡ false }
+    requires waits { waits_for_check (M.meaning.stage engine.old.code machine).want ≡ true }
+    requires full { (M.meaning.stage engine.old.code machine).since ≡ engine.old.limits.slice }
+    ensures fits { Fits M.meaning engine.new seat result.work }
+    ensures done { (told : List Told) → IsDone M.meaning seat (Some (M.meaning.stage engine.old.code machine)) engine.old engine.new told told result.deed }
 {
     match check(engine, seat, &mut machine) {
         Checked::Valid => Turned {
@@ -40,11 +40,11 @@ where
 pub(crate) fn end_on<M: Runner>(engine: &mut Engine<M>, seat: u32, machine: M) -> Turned<M>
 where
     M::Code: Drop,
-    requires turn { HasTurn M.program M.devices M.value_of M.is_machine M.stage engine.old seat machine }
-    requires outside { (M.stage engine.old.code machine).inside ≡ false }
-    requires told { (M.stage engine.old.code machine).want ≡ Some Wants.Done }
-    ensures fits { Fits M.program M.devices M.value_of M.is_machine M.stage engine.new seat result.work }
-    ensures done { (told : List Told) → IsDone M.program M.devices M.value_of M.stage seat (Some (M.stage engine.old.code machine)) engine.old engine.new told told result.deed }
+    requires turn { HasTurn M.meaning engine.old seat machine }
+    requires outside { (M.meaning.stage engine.old.code machine).inside ≡ false }
+    requires told { (M.meaning.stage engine.old.code machine).want ≡ Some Wants.Done }
+    ensures fits { Fits M.meaning engine.new seat result.work }
+    ensures done { (told : List Told) → IsDone M.meaning seat (Some (M.meaning.stage engine.old.code machine)) engine.old engine.new told told result.deed }
 {
     match engine.commit(seat, machine) {
         Ok(Noted::Noted) => Turned {
@@ -63,11 +63,11 @@ where
 pub(crate) fn leave_on<M: Runner>(engine: &mut Engine<M>, seat: u32, machine: M) -> Turned<M>
 where
     M::Code: Drop,
-    requires turn { HasTurn M.program M.devices M.value_of M.is_machine M.stage engine.old seat machine }
-    requires outside { (M.stage engine.old.code machine).inside ≡ false }
-    requires told { (M.stage engine.old.code machine).want ≡ Some Wants.Leave }
-    ensures fits { Fits M.program M.devices M.value_of M.is_machine M.stage engine.new seat result.work }
-    ensures done { (told : List Told) → IsDone M.program M.devices M.value_of M.stage seat (Some (M.stage engine.old.code machine)) engine.old engine.new told told result.deed }
+    requires turn { HasTurn M.meaning engine.old seat machine }
+    requires outside { (M.meaning.stage engine.old.code machine).inside ≡ false }
+    requires told { (M.meaning.stage engine.old.code machine).want ≡ Some Wants.Leave }
+    ensures fits { Fits M.meaning engine.new seat result.work }
+    ensures done { (told : List Told) → IsDone M.meaning seat (Some (M.meaning.stage engine.old.code machine)) engine.old engine.new told told result.deed }
 {
     match engine.commit(seat, machine) {
         Ok(Noted::Noted) => Turned {
@@ -86,11 +86,11 @@ where
 pub(crate) fn block_on<M: Runner>(engine: &mut Engine<M>, seat: u32, machine: M) -> Turned<M>
 where
     M::Code: Drop,
-    requires turn { HasTurn M.program M.devices M.value_of M.is_machine M.stage engine.old seat machine }
-    requires outside { (M.stage engine.old.code machine).inside ≡ false }
-    requires told { (M.stage engine.old.code machine).want ≡ Some Wants.Block }
-    ensures fits { Fits M.program M.devices M.value_of M.is_machine M.stage engine.new seat result.work }
-    ensures done { (told : List Told) → IsDone M.program M.devices M.value_of M.stage seat (Some (M.stage engine.old.code machine)) engine.old engine.new told told result.deed }
+    requires turn { HasTurn M.meaning engine.old seat machine }
+    requires outside { (M.meaning.stage engine.old.code machine).inside ≡ false }
+    requires told { (M.meaning.stage engine.old.code machine).want ≡ Some Wants.Block }
+    ensures fits { Fits M.meaning engine.new seat result.work }
+    ensures done { (told : List Told) → IsDone M.meaning seat (Some (M.meaning.stage engine.old.code machine)) engine.old engine.new told told result.deed }
 {
     match engine.block(seat, &machine) {
         Ok(Noted::Noted) => Turned {
@@ -109,10 +109,10 @@ where
 pub(crate) fn tall_on<M: Runner>(engine: &mut Engine<M>, seat: u32, machine: M) -> Turned<M>
 where
     M::Code: Drop,
-    requires turn { HasTurn M.program M.devices M.value_of M.is_machine M.stage engine.old seat machine }
-    requires told { (M.stage engine.old.code machine).want ≡ Some Wants.Tall }
-    ensures fits { Fits M.program M.devices M.value_of M.is_machine M.stage engine.new seat result.work }
-    ensures done { (told : List Told) → IsDone M.program M.devices M.value_of M.stage seat (Some (M.stage engine.old.code machine)) engine.old engine.new told told result.deed }
+    requires turn { HasTurn M.meaning engine.old seat machine }
+    requires told { (M.meaning.stage engine.old.code machine).want ≡ Some Wants.Tall }
+    ensures fits { Fits M.meaning engine.new seat result.work }
+    ensures done { (told : List Told) → IsDone M.meaning seat (Some (M.meaning.stage engine.old.code machine)) engine.old engine.new told told result.deed }
 {
     engine.stands();
     match engine.tall(seat, &machine) {

@@ -10,7 +10,7 @@ use crate::accesses::{alloc, read, write};
 use crate::events::give_up;
 use crate::work::{Deed, Turned, Work};
 use ame_engine::{Engine, Wrote};
-use ame_runner::Runner;
+use ame_machine::Runner;
 
 /// The machine of a seat reads.
 pub(crate) fn read_on<M: Runner>(
@@ -22,12 +22,12 @@ pub(crate) fn read_on<M: Runner>(
 where
     M::Code: Drop,
     requires same { code.now ≡ engine.old.code }
-    requires turn { HasTurn M.program M.devices M.value_of M.is_machine M.stage engine.old seat machine }
-    requires reads { IsReading (M.stage engine.old.code machine) }
-    requires early { (M.stage engine.old.code machine).since < engine.old.limits.slice }
-    requires steps { (M.stage engine.old.code machine).steps + 1 < 2 ^ 64 }
-    ensures fits { Fits M.program M.devices M.value_of M.is_machine M.stage engine.new seat result.work }
-    ensures done { (told : List Told) → IsDone M.program M.devices M.value_of M.stage seat (Some (M.stage engine.old.code machine)) engine.old engine.new told told result.deed }
+    requires turn { HasTurn M.meaning engine.old seat machine }
+    requires reads { IsReading (M.meaning.stage engine.old.code machine) }
+    requires early { (M.meaning.stage engine.old.code machine).since < engine.old.limits.slice }
+    requires steps { (M.meaning.stage engine.old.code machine).steps + 1 < 2 ^ 64 }
+    ensures fits { Fits M.meaning engine.new seat result.work }
+    ensures done { (told : List Told) → IsDone M.meaning seat (Some (M.meaning.stage engine.old.code machine)) engine.old engine.new told told result.deed }
 {
     match read(engine, code, seat, &mut machine) {
         Ok(()) => Turned {
@@ -48,12 +48,12 @@ pub(crate) fn write_on<M: Runner>(
 where
     M::Code: Drop,
     requires same { code.now ≡ engine.old.code }
-    requires turn { HasTurn M.program M.devices M.value_of M.is_machine M.stage engine.old seat machine }
-    requires writes { IsWriting (M.stage engine.old.code machine) }
-    requires early { (M.stage engine.old.code machine).since < engine.old.limits.slice }
-    requires steps { (M.stage engine.old.code machine).steps + 1 < 2 ^ 64 }
-    ensures fits { Fits M.program M.devices M.value_of M.is_machine M.stage engine.new seat result.work }
-    ensures done { (told : List Told) → IsDone M.program M.devices M.value_of M.stage seat (Some (M.stage engine.old.code machine)) engine.old engine.new told told result.deed }
+    requires turn { HasTurn M.meaning engine.old seat machine }
+    requires writes { IsWriting (M.meaning.stage engine.old.code machine) }
+    requires early { (M.meaning.stage engine.old.code machine).since < engine.old.limits.slice }
+    requires steps { (M.meaning.stage engine.old.code machine).steps + 1 < 2 ^ 64 }
+    ensures fits { Fits M.meaning engine.new seat result.work }
+    ensures done { (told : List Told) → IsDone M.meaning seat (Some (M.meaning.stage engine.old.code machine)) engine.old engine.new told told result.deed }
 {
     match write(engine, code, seat, &mut machine) {
         Ok(Wrote::Wrote) => Turned {
@@ -78,12 +78,12 @@ pub(crate) fn alloc_on<M: Runner>(
 where
     M::Code: Drop,
     requires same { code.now ≡ engine.old.code }
-    requires turn { HasTurn M.program M.devices M.value_of M.is_machine M.stage engine.old seat machine }
-    requires allocates { IsAllocating (M.stage engine.old.code machine) }
-    requires early { (M.stage engine.old.code machine).since < engine.old.limits.slice }
-    requires steps { (M.stage engine.old.code machine).steps + 1 < 2 ^ 64 }
-    ensures fits { Fits M.program M.devices M.value_of M.is_machine M.stage engine.new seat result.work }
-    ensures done { (told : List Told) → IsDone M.program M.devices M.value_of M.stage seat (Some (M.stage engine.old.code machine)) engine.old engine.new told told result.deed }
+    requires turn { HasTurn M.meaning engine.old seat machine }
+    requires allocates { IsAllocating (M.meaning.stage engine.old.code machine) }
+    requires early { (M.meaning.stage engine.old.code machine).since < engine.old.limits.slice }
+    requires steps { (M.meaning.stage engine.old.code machine).steps + 1 < 2 ^ 64 }
+    ensures fits { Fits M.meaning engine.new seat result.work }
+    ensures done { (told : List Told) → IsDone M.meaning seat (Some (M.meaning.stage engine.old.code machine)) engine.old engine.new told told result.deed }
 {
     match alloc(engine, code, seat, &mut machine) {
         Ok(()) => Turned {

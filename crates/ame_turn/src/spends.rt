@@ -2,7 +2,7 @@
 
 ghost use Rattle.std.specs.Prelude.{◌≡◌, List, Some, None};
 ghost use Rattle.ame_device.specs.declared.told.Told.{Told};
-ghost use Rattle.ame_turn.specs.Asked.{IsUsedUp};
+ghost use Rattle.ame_turn.specs.Asked.{HasNoTurnsLeft};
 ghost use Rattle.ame_turn.specs.declared.work.Deed.{Deed};
 ghost use Rattle.ame_turn.specs.declared.work.Work.TheVariants as spec;
 ghost use Rattle.ame_turn.specs.Work.{CanUndo, Fits, IsAtWork};
@@ -11,7 +11,7 @@ ghost use Rattle.ame_turn.specs.Deeds.{IsDone};
 use crate::events::give_up;
 use crate::work::{Deed, Turned, Work};
 use ame_engine::Engine;
-use ame_runner::Runner;
+use ame_machine::Runner;
 
 /// That stop is kept.
 fn spent<M>() -> Turned<M>
@@ -35,10 +35,10 @@ fn no_machine<M>(_work: &Work<M>) -> Option<&M>
 pub(crate) fn spend_running<M: Runner>(engine: &mut Engine<M>, seat: u32, machine: M) -> Turned<M>
 where
     M::Code: Drop,
-    requires at { IsAtWork M.program M.devices M.value_of M.is_machine M.stage engine.old seat machine }
-    requires spent { IsUsedUp engine.old }
-    ensures fits { Fits M.program M.devices M.value_of M.is_machine M.stage engine.new seat result.work }
-    ensures done { (told : List Told) → IsDone M.program M.devices M.value_of M.stage seat (Some (M.stage engine.old.code machine)) engine.old engine.new told told result.deed }
+    requires at { IsAtWork M.meaning engine.old seat machine }
+    requires spent { HasNoTurnsLeft engine.old }
+    ensures fits { Fits M.meaning engine.new seat result.work }
+    ensures done { (told : List Told) → IsDone M.meaning seat (Some (M.meaning.stage engine.old.code machine)) engine.old engine.new told told result.deed }
 {
     engine.stands();
     match engine.spend(seat, Some(&machine)) {
@@ -52,9 +52,9 @@ pub(crate) fn spend_undoing<M: Runner>(engine: &mut Engine<M>, seat: u32) -> Tur
 where
     M::Code: Drop,
     requires can { CanUndo engine.old seat }
-    requires spent { IsUsedUp engine.old }
-    ensures fits { Fits M.program M.devices M.value_of M.is_machine M.stage engine.new seat result.work }
-    ensures done { (told : List Told) → IsDone M.program M.devices M.value_of M.stage seat None engine.old engine.new told told result.deed }
+    requires spent { HasNoTurnsLeft engine.old }
+    ensures fits { Fits M.meaning engine.new seat result.work }
+    ensures done { (told : List Told) → IsDone M.meaning seat None engine.old engine.new told told result.deed }
 {
     engine.stands();
     let work = Work::Undoing;

@@ -2,7 +2,7 @@
 
 ghost use Rattle.std.specs.Prelude.{◌≡◌, ◌≤◌, ◌+◌, ◌<◌, ◌^◌, Some, true, length, vec_len};
 ghost use Rattle.ame_device.specs.Calls.{all_told};
-ghost use Rattle.ame_runner.specs.declared.wants.Wants.{Wants};
+ghost use Rattle.ame_machine.specs.declared.wants.Wants.{Wants};
 ghost use Rattle.ame_turn.specs.Ready.{IsReady};
 ghost use Rattle.ame_turn.specs.Work.{Fits, HasTurn};
 ghost use Rattle.ame_turn.specs.Deeds.{IsDone};
@@ -11,7 +11,7 @@ use crate::events::give_up;
 use crate::work::{Deed, Turned, Work};
 use ame_device::Device;
 use ame_engine::{Engine, Freed};
-use ame_runner::Runner;
+use ame_machine::Runner;
 
 /// The member that a seat visits makes the step that it wants, if it wants one, and goes home.
 pub(crate) fn free_on<M: Runner, D: Device>(
@@ -22,14 +22,14 @@ pub(crate) fn free_on<M: Runner, D: Device>(
 ) -> Turned<M>
 where
     M::Code: Drop,
-    requires turn { HasTurn M.program M.devices M.value_of M.is_machine M.stage engine.old seat machine }
-    requires inside { (M.stage engine.old.code machine).inside ≡ true }
-    requires ready { IsReady engine.old.limits.slice (M.stage engine.old.code machine) }
-    requires short { (M.stage engine.old.code machine).want ≡ Some Wants.Tall → ⊥ }
-    requires steps { (M.stage engine.old.code machine).steps + 1 < 2 ^ 64 }
-    requires devices { M.devices engine.old.code ≤ vec_len devices.old }
-    ensures fits { Fits M.program M.devices M.value_of M.is_machine M.stage engine.new seat result.work }
-    ensures done { IsDone M.program M.devices M.value_of M.stage seat (Some (M.stage engine.old.code machine)) engine.old engine.new
+    requires turn { HasTurn M.meaning engine.old seat machine }
+    requires inside { (M.meaning.stage engine.old.code machine).inside ≡ true }
+    requires ready { IsReady engine.old.limits.slice (M.meaning.stage engine.old.code machine) }
+    requires short { (M.meaning.stage engine.old.code machine).want ≡ Some Wants.Tall → ⊥ }
+    requires steps { (M.meaning.stage engine.old.code machine).steps + 1 < 2 ^ 64 }
+    requires devices { M.meaning.devices engine.old.code ≤ vec_len devices.old }
+    ensures fits { Fits M.meaning engine.new seat result.work }
+    ensures done { IsDone M.meaning seat (Some (M.meaning.stage engine.old.code machine)) engine.old engine.new
         (all_told D.device_heard D.device_faults devices.old.items) (all_told D.device_heard D.device_faults devices.new.items) result.deed }
 {
     engine.stands();

@@ -20,10 +20,10 @@ unfoldable pub shown_behind : List ℕ → List ℕ
 shown_behind line = if nat_le (length line) 40 then line else take 37 line ++ codes "..."
 
 -- two stretches in a line, and below it a caret, below which the second begins
-unfoldable pub lines : List ℕ → List ℕ → List ℕ
-lines before behind =
+unfoldable pub page_lines : List ℕ → List ℕ → List ℕ
+page_lines before behind =
     codes "    " ++ map shown_byte before ++ map shown_byte behind ++ codes "\n    " ++ flat_map below_byte before ++ codes "^\n"
 
 -- the line in which a place is, and below it a caret at the place
 abbrev pub excerpt : List ℕ → ℕ → List ℕ
-excerpt text place = lines (shown_before (after_last is_feed (take place text))) (shown_behind (before_first is_feed (drop place text)))
+excerpt text place = page_lines (shown_before (after_last is_feed (take place text))) (shown_behind (before_first is_feed (drop place text)))

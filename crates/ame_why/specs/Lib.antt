@@ -4,3 +4,9 @@ pub mod Open
 pub mod Placed
 pub mod Position
 pub mod Rules
+pub mod Nexts
+pub mod Table
+pub mod Forms
+pub mod Lines
+pub mod Replay
+pub mod Walk

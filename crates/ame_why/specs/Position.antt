@@ -9,8 +9,8 @@ abbrev pub is_within_line : ℕ → Bool
 is_within_line b = not (is_feed b)
 
 -- the line of a place: one more than the line feeds before it
-abbrev pub line_of : List ℕ → ℕ → ℕ
-line_of text place = count_by is_feed (take place text) + 1
+abbrev pub line_number : List ℕ → ℕ → ℕ
+line_number text place = count_by is_feed (take place text) + 1
 
 -- the column of a place: one more than the bytes behind the last of them
 abbrev pub column_of : List ℕ → ℕ → ℕ

@@ -1,7 +1,7 @@
 //! Faults of the bytes of a text.
 
 ghost use Rattle.std.specs.Prelude.{ℕ, IfOk};
-ghost use Rattle.ame_lex.specs.Faults.{StandsAt};
+ghost use Rattle.ame_lex.specs.Faults.{IsFaultAt};
 ghost use Rattle.ame_why.specs.Placed.{IsExplained};
 
 use crate::placed::explained;
@@ -11,7 +11,7 @@ use std::alloc::Global;
 
 /// Why a text has no tokens.
 pub fn explain_bytes(alloc: Global, text: &[u8], fault: LexFault) -> Result<Vec<u8>, NoMemory>
-    ensures { IfOk result (λ page. (place : ℕ) → StandsAt fault place → IsExplained text.now place page.items) }
+    ensures { IfOk result (λ page. (place : ℕ) → IsFaultAt fault place → IsExplained text.now place page.items) }
 {
     match fault {
         LexFault::BadByte(place) => explained(alloc, text, place, bad_byte(text, place as usize)),

@@ -28,10 +28,10 @@ pub fn excerpt(alloc: Global, text: &[u8], place: usize) -> Result<Vec<u8>, NoMe
     lines(alloc, &before, &behind)
 }
 
-#[tactic(auto, unfolding(crate::specs::Excerpt::lines))]
+#[tactic(auto, unfolding(crate::specs::Excerpt::page_lines))]
 /// The two lines: what is shown, and the caret below the end of its front.
 fn lines(alloc: Global, before: &[u8], behind: &[u8]) -> Result<Vec<u8>, NoMemory>
-    ensures { IfOk result (λ page. page.items ≡ spec.lines before.now behind.now) }
+    ensures { IfOk result (λ page. page.items ≡ spec.page_lines before.now behind.now) }
 {
     let mut page = Vec::new(alloc);
     append(&mut page, b"    ")?;

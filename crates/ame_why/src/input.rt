@@ -2,7 +2,7 @@
 
 ghost use Rattle.std.specs.Prelude.{◌≡◌, ◌++◌, ◌∷◌, [], ◌↔◌, ℕ, List, All, IfOk, OnOk, IsTrue, MatchOption};
 ghost use Rattle.ame_journal.specs.declared.entry.Entry.{Entry};
-ghost use Rattle.ame_journal.specs.Log.{IsFit};
+ghost use Rattle.ame_journal.specs.JournalView.{IsFit};
 ghost use Rattle.ame_why.specs.Input.{IsInput};
 
 use crate::caret::append;

@@ -3,16 +3,28 @@
 
 mod bytes;
 mod caret;
+mod forms;
 mod input;
+mod kinds;
+mod lines;
+mod nexts;
+mod page;
 mod placed;
 mod position;
+mod replay;
+mod row;
 mod rules;
 mod spans;
+mod table;
 mod tokens;
+mod walk;
 
 pub use bytes::explain_bytes;
 pub use caret::excerpt;
+pub use forms::{Made, forms_of};
 pub use input::{input_is_of_one_run, input_of, journal_of};
+pub use lines::lines_of;
 pub use position::{Position, position_of};
 pub use rules::explain_types;
+pub use table::table_of;
 pub use tokens::explain_tokens;

@@ -10,10 +10,10 @@ use itoa::Buffer;
 use std::alloc::Global;
 
 /// The line and the column of a place, and the line itself with a caret below it.
-#[tactic(auto, unfolding(crate::specs::Placed::placed))]
+#[tactic(auto, unfolding(crate::specs::Placed::placed_text))]
 fn place_of(alloc: Global, text: &[u8], place: usize) -> Result<Vec<u8>, NoMemory>
     requires { place ≤ length text.now }
-    ensures { IfOk result (λ page. page.items ≡ spec.placed text.now place) }
+    ensures { IfOk result (λ page. page.items ≡ spec.placed_text text.now place) }
 {
     let position = position_of(text, place);
     let excerpt = excerpt(alloc, text, place)?;

@@ -2,7 +2,7 @@
 
 ghost use Rattle.std.specs.Prelude.{◌≡◌, ◌≤◌, count_by, length};
 ghost use Rattle.std.specs.List.{after_last, before_first, position_or_len, suffix_len};
-ghost use Rattle.ame_why.specs.Position.{is_feed, is_within_line, line_of, column_of};
+ghost use Rattle.ame_why.specs.Position.{is_feed, is_within_line, line_number, column_of};
 
 /// A line and a column of it, both counted from 1. A column is a byte.
 #[derive(Clone, Copy, PartialEq, Eq, Debug)]
@@ -14,7 +14,7 @@ pub struct Position {
 /// The line and the column of a place: one more than the line feeds before it, and one more than the bytes behind the last of them.
 pub fn position_of(text: &[u8], place: usize) -> Position
     requires { place ≤ length text.now }
-    ensures line { result.line ≡ line_of text.now place }
+    ensures line { result.line ≡ line_number text.now place }
     ensures column { result.column ≡ column_of text.now place }
 {
     let before = &text[..place];

@@ -3,13 +3,12 @@ use Rattle.std.proofs.Common.{◌≡◌, ℕ, Bool, true, false, List, [], ◌�
 use Rattle.std.specs.Prelude.{is_some, IsSome}
 use Rattle.std.proofs.lemmas.List.{append-nil}
 use Rattle.std.proofs.lemmas.List.Elements.{All-nil, All-cons}
-use Rattle.ame_term.specs.Tree.{Val, Tree}
 use Rattle.ame_device.specs.declared.told.Told.{Told}
 use Rattle.ame_journal.specs.declared.entry.Entry.{Entry}
-use Rattle.ame_runner.specs.Stage.{Stage, place_shown, with_answer}
-use Rattle.ame_stands.specs.Parts.{Parts}
-use Rattle.ame_stands.specs.Events.{ran_entry}
-use Rattle.ame_visits.specs.Visit.{free_entry}
+use Rattle.ame_machine.specs.MachineView.{MachineView, place_shown, with_answer}
+use Rattle.ame_protocol.specs.Engine.Parts.{Parts}
+use Rattle.ame_protocol.specs.Engine.Events.{ran_entry}
+use Rattle.ame_protocol.specs.Visits.Visit.{free_entry}
 use Rattle.ame_engine.specs.declared.stop.Stop.{Stop}
 use Rattle.ame_engine.specs.declared.counters.Counters.{Counters}
 use Rattle.ame_engine.specs.Committing.{ended_at, left_at}
@@ -20,10 +19,11 @@ use Rattle.ame_engine.specs.Stops.{stopped_by}
 use Rattle.ame_engine.specs.Visiting.{visited_at}
 use Rattle.ame_turn.specs.declared.work.Deed.{Deed}
 use Rattle.ame_turn.specs.Deeds.{IsDone}
-use Rattle.ame_shell.specs.Shell.{Shown}
+use Rattle.ame_shell.specs.Shell.{ShellView}
 use Rattle.ame_shell.specs.Turned.{HasFlushed, is_to_flush, HasTurned}
 use Rattle.ame_shell.proofs.DeedLemmas.{Adds, IsRecorded, deed-silent}
 use Rattle.ame_shell.proofs.StopLemmas.{GoesQuietly}
+use Rattle.ame_machine.specs.Meaning.{Meaning}
 
 -- Code, limits and base stay, the journal grows by entries of this seat alone, and a stop that is kept stays kept.
 pub record Extends {C V M : Type 0} (seat : ℕ) (old new : Core C V M) : Type 0 where
@@ -81,21 +81,21 @@ extends-stop seat old new why x = record {
   stop = λ kept. refl;
 }
 
-module _ {C V M : Type 0} (program : C → Tree) (devices : C → ℕ) (value_of : C → V → Val) (stage : C → M → Stage) where
+module _ {C V M : Type 0} (meaning : Meaning C V M) where
   -- An event of a seat
 
-  module _ (seat : ℕ) (hand : Option Stage) (old new : Core C V M) (before after : List Told) where
-    by-event : (counts : Counters → Counters) (event : Parts → Parts) → MakesEvent program devices value_of stage counts event old new
-        → (event (parts_of program devices value_of stage old)).limits ≡ old.limits → (event (parts_of program devices value_of stage old)).base ≡ old.base
-        → (entry : Entry) → (event (parts_of program devices value_of stage old)).entries ≡ old.entries ++ entry ∷ [] → entry.seat ≡ seat → Extends seat old new
+  module _ (seat : ℕ) (hand : Option MachineView) (old new : Core C V M) (before after : List Told) where
+    by-event : (counts : Counters → Counters) (event : Parts → Parts) → MakesEvent meaning counts event old new
+        → (event (parts_of meaning old)).limits ≡ old.limits → (event (parts_of meaning old)).base ≡ old.base
+        → (entry : Entry) → (event (parts_of meaning old)).entries ≡ old.entries ++ entry ∷ [] → entry.seat ≡ seat → Extends seat old new
     by-event counts event made limits base entry is its =
         extends-one seat old new made.code (ap (λ (p : Parts). p.limits) made.parts ∙ limits) (ap (λ (p : Parts). p.base) made.parts ∙ base)
         (λ kept. ap is_some made.stop ∙ kept) entry (ap (λ (p : Parts). p.entries) made.parts ∙ is) its
 
-    recorded-extends : IsRecorded program devices value_of stage seat old new → Extends seat old new
+    recorded-extends : IsRecorded meaning seat old new → Extends seat old new
     recorded-extends r = extends-adds seat old new r.code r.limits r.base (quiet-kept old.stop new.stop r.stop) r.adds
 
-    pub deed-extends : (deed : Deed) → IsDone program devices value_of stage seat hand old new before after deed → Extends seat old new
+    pub deed-extends : (deed : Deed) → IsDone meaning seat hand old new before after deed → Extends seat old new
     deed-extends Deed.Ended h =
         let e = h.event in
         by-event (one_counted Counted.Commit) (ended_at seat e.2.tried.number e.0) e.4 refl refl (ran_entry seat e.2.tried.number e.0.steps (place_shown e.0)) refl refl
@@ -105,28 +105,28 @@ module _ {C V M : Type 0} (program : C → Tree) (devices : C → ℕ) (value_of
     deed-extends Deed.CameHome h =
         let e = h.event in
         let home = e.4 in
-        by-event (one_counted Counted.Free) (visited_at seat e.2.tried.number home.answer home.comes home.desk) home.event refl refl
+        by-event (one_counted Counted.Free) (visited_at seat e.2.tried.number home.answer home.comes home.memory) home.event refl refl
         (free_entry seat e.2.tried.number home.comes.steps (with_answer home.answer (place_shown home.comes))) refl refl
     deed-extends (Deed.DeviceFailed device) h =
         let made = h.event.4.event in
         extends-none seat old new made.code (ap (λ (p : Parts). p.limits) made.parts) (ap (λ (p : Parts). p.base) made.parts)
         (λ kept. ap is_some made.stop) (ap (λ (p : Parts). p.entries) made.parts)
-    deed-extends deed h = recorded-extends (deed-silent program devices value_of stage seat old new hand before after deed refl refl h.event).recorded
+    deed-extends deed h = recorded-extends (deed-silent meaning seat old new hand before after deed refl refl h.event).recorded
 
   -- A turn
 
-  module _ (seat : ℕ) (hand : Option Stage) (old new : Shown C V M) (deed : Deed) (turned : HasTurned program devices value_of stage seat hand old new deed) where
+  module _ (seat : ℕ) (hand : Option MachineView) (old new : ShellView C V M) (deed : Deed) (turned : HasTurned meaning seat hand old new deed) where
     -- what is so after the event, with one more stop too, is so after the turn
     pub turn-on : (P : Core C V M → Type 0) → ((core : Core C V M) → P core → P (stopped_by Stop.WriteFault core)) → P turned.core → P new.core
     turn-on P stops h = by (is_to_flush deed) refl
       where
-        flushed : (mid : Shown C V M) → P mid.core → HasFlushed mid new → P new.core
+        flushed : (mid : ShellView C V M) → P mid.core → HasFlushed mid new → P new.core
         flushed mid h (HasFlushed.sends appended stays same sent) = subst P (sym same) h
         flushed mid h (HasFlushed.fails gone first short risen same sent) = subst P (sym same) (stops mid.core h)
 
         by : (b : Bool) → is_to_flush deed ≡ b → P new.core
         by true e = flushed (record { core = turned.core; sent = old.sent; ends = record old.ends { told = new.ends.told } }) h (turned.flushes e)
-        by false e = subst P (sym (ap (λ (x : Shown C V M). x.core) (turned.stays e))) h
+        by false e = subst P (sym (ap (λ (x : ShellView C V M). x.core) (turned.stays e))) h
 
     pub turn-extends : Extends seat old.core new.core
     turn-extends =

@@ -2,13 +2,12 @@
 use Rattle.std.proofs.Common.{◌≡◌, ℕ, ◌<◌, List, ◌++◌, length, set, All, Option, Some, slice_get, sym, ap, ◌∙◌, subst}
 use Rattle.std.specs.Prelude.{IsSomeAnd}
 use Rattle.std.proofs.lemmas.List.{get_or-set_same}
-use Rattle.ame_term.specs.Tree.{Val, Tree}
 use Rattle.ame_journal.specs.declared.entry.Entry.{Entry}
-use Rattle.ame_runner.specs.Stage.{Stage}
-use Rattle.ame_stands.specs.declared.types.Limits.{Limits}
+use Rattle.ame_machine.specs.MachineView.{MachineView}
+use Rattle.ame_protocol.specs.declared.types.Limits.{Limits}
 use Rattle.ame_turn.specs.declared.work.Work.{Work}
 use Rattle.ame_turn.specs.Ready.{CanBePrepared, IsPrepared}
-use Rattle.ame_shell.specs.Shell.{Shown}
+use Rattle.ame_shell.specs.Shell.{ShellView}
 use Rattle.ame_baton.specs.declared.view.Knows.{Knows}
 use Rattle.ame_baton.specs.Seats.{MayGive, Gives}
 use Rattle.ame_baton.specs.Keeping.{KeepsSeat}
@@ -21,17 +20,18 @@ use Rattle.ame_worker.specs.Turns.{maker, HasGivenRow}
 use Rattle.ame_worker.specs.Workers.{IsSeated, IsReadyToTurn}
 use Rattle.ame_worker.proofs.HandLemmas.{some-is, rows-there}
 use Rattle.ame_worker.proofs.WorkLemmas.{prepared-none}
+use Rattle.ame_machine.specs.Meaning.{Meaning}
 
 -- what is so of the fixed part that is known
 pub some-and : {F : Type 0} (P : F → Type 0) (o : Option F) (f : F) → o ≡ Some f → IsSomeAnd o P → P f
 some-and {F} P o f e h = subst (λ (x : Option F). IsSomeAnd x P) e h
 
-module _ {C V M : Type 0} (program : C → Tree) (devices : C → ℕ) (value_of : C → V → Val) (is_machine : C → M → Type 0) (stage : C → M → Stage) where
-  abbrev Shares : Opened C → Shown C V M → List (Kept M) → List (Row M) → List Entry → Type 0
-  Shares = IsShared program devices value_of is_machine stage
+module _ {C V M : Type 0} (meaning : Meaning C V M) where
+  abbrev Shares : Opened C → ShellView C V M → List (Kept M) → List (Row M) → List Entry → Type 0
+  Shares = IsShared meaning
 
   -- the row is what the engine has of the seat, and what was kept
-  row-given : (opened : Opened C) (new : Shown C V M) (places : List (Kept M)) (rows : List (Row M)) (told : List Entry) (seat : ℕ) (row : Row M) (kept : Kept M)
+  row-given : (opened : Opened C) (new : ShellView C V M) (places : List (Kept M)) (rows : List (Row M)) (told : List Entry) (seat : ℕ) (row : Row M) (kept : Kept M)
       → Shares opened new (set places seat kept) (set rows seat row) told → seat < length rows → seat < length places → seat < new.core.limits.seats
       → row ≡ row_of new.core seat kept
   row-given opened new places rows told seat row kept shared in_rows in_places within =
@@ -41,16 +41,16 @@ module _ {C V M : Type 0} (program : C → Tree) (devices : C → ℕ) (value_of
       ∙ rows-there new.core (set places seat kept) seat within
       ∙ ap (λ (x : Kept M). Some (row_of new.core seat x)) (get_or-set_same places seat kept nothing_kept in_places))
 
-  module _ {S : Type 0} (shown_of : S → Shown C V M) (places_of : S → List (Kept M)) (leaves : Row M → Type 0)
+  module _ {S : Type 0} (shown_of : S → ShellView C V M) (places_of : S → List (Kept M)) (leaves : Row M → Type 0)
       (k after : Knows (Opened C) (Row M) Entry) (state : S)
       (gives : Gives (λ s opened rows told. Shares opened (shown_of s) (places_of s) rows told) maker leaves k state after)
-      (opened : Opened C) (is : k.fixed ≡ Some opened) (new : Shown C V M) (shows : shown_of state ≡ new) (places : List (Kept M)) (hand : Work M)
+      (opened : Opened C) (is : k.fixed ≡ Some opened) (new : ShellView C V M) (shows : shown_of state ≡ new) (places : List (Kept M)) (hand : Work M)
       (keeps : places_of state ≡ set places k.number (keeping new.core hand))
       (in_rows : k.number < length k.rows) (in_places : k.number < length places) (within : k.number < new.core.limits.seats) where
     it-shared : Shares opened new (set places k.number (keeping new.core hand)) (set k.rows k.number gives.0.row) (k.seen ++ gives.0.added)
     it-shared =
         subst (λ (ps : List (Kept M)). Shares opened new ps (set k.rows k.number gives.0.row) (k.seen ++ gives.0.added)) keeps
-        (subst (λ (s : Shown C V M). Shares opened s (places_of state) (set k.rows k.number gives.0.row) (k.seen ++ gives.0.added)) shows
+        (subst (λ (s : ShellView C V M). Shares opened s (places_of state) (set k.rows k.number gives.0.row) (k.seen ++ gives.0.added)) shows
         (some-and (λ (o : Opened C). Shares o (shown_of state) (places_of state) (set k.rows k.number gives.0.row) (k.seen ++ gives.0.added)) k.fixed opened is gives.0.stands))
 
     it-row : gives.0.row ≡ row_of new.core k.number (keeping new.core hand)
@@ -80,8 +80,8 @@ module _ {C V M : Type 0} (program : C → Tree) (devices : C → ℕ) (value_of
         (subst (λ (row : Row M). Shares opened new (set places k.number (keeping new.core hand)) (set k.rows k.number row) (k.seen ++ gives.0.added)) (sym row-is) it-shared)
 
   -- and a seat may give what is so
-  pub may-give-on : {S : Type 0} (shown_of : S → Shown C V M) (places_of : S → List (Kept M)) (leaves : Row M → Type 0)
-      (k : Knows (Opened C) (Row M) Entry) (state : S) (opened : Opened C) → k.fixed ≡ Some opened → (new : Shown C V M) → shown_of state ≡ new
+  pub may-give-on : {S : Type 0} (shown_of : S → ShellView C V M) (places_of : S → List (Kept M)) (leaves : Row M → Type 0)
+      (k : Knows (Opened C) (Row M) Entry) (state : S) (opened : Opened C) → k.fixed ≡ Some opened → (new : ShellView C V M) → shown_of state ≡ new
       → (places : List (Kept M)) → places_of state ≡ places → (row : Row M) → leaves row → (added : List Entry) → All (λ e. maker e ≡ k.number) added
       → Shares opened new places (set k.rows k.number row) (k.seen ++ added)
       → MayGive (λ s opened rows told. Shares opened (shown_of s) (places_of s) rows told) maker leaves k state
@@ -90,7 +90,7 @@ module _ {C V M : Type 0} (program : C → Tree) (devices : C → ℕ) (value_of
     added = added;
     stands =
         subst (λ (x : Option (Opened C)). IsSomeAnd x (λ o. Shares o (shown_of state) (places_of state) (set k.rows k.number row) (k.seen ++ added))) (sym is)
-        (subst (λ (s : Shown C V M). Shares opened s (places_of state) (set k.rows k.number row) (k.seen ++ added)) (sym shows)
+        (subst (λ (s : ShellView C V M). Shares opened s (places_of state) (set k.rows k.number row) (k.seen ++ added)) (sym shows)
         (subst (λ (ps : List (Kept M)). Shares opened new ps (set k.rows k.number row) (k.seen ++ added)) (sym keeps) on));
     by_seat = by_seat;
     leaves_row = left;
@@ -111,7 +111,7 @@ still-seated devices code limits before after keeps s = record {
 }
 
 -- and is ready for its next turn
-pub ready-again : {C M : Type 0} (devices : C → ℕ) (is_machine : C → M → Type 0) (stage : C → M → Stage) (code : C) (limits : Limits)
+pub ready-again : {C M : Type 0} (devices : C → ℕ) (is_machine : C → M → Type 0) (stage : C → M → MachineView) (code : C) (limits : Limits)
     (before after : Knows (Opened C) (Row M) Entry) (left : Row M) (hand : Work M) → HasGivenRow left before after → left.hand ≡ hand
     → IsSeated devices code limits before → CanBePrepared is_machine stage code limits.slice hand
     → IsReadyToTurn devices is_machine stage code limits after hand
@@ -125,10 +125,10 @@ ready-again {C} {M} devices is_machine stage code limits before after left hand 
 }
 
 -- the limits are those of the shell
-pub same-limits : {C V M : Type 0} (program : C → Tree) (devices : C → ℕ) (value_of : C → V → Val) (is_machine : C → M → Type 0) (stage : C → M → Stage)
-    (limits : Limits) (code : C) (k : Knows (Opened C) (Row M) Entry) (seated : IsSeated devices code limits k) (shell : Shown C V M) (places : List (Kept M))
-    (rows : List (Row M)) (told : List Entry) → IsSomeAnd k.fixed (λ o. IsShared program devices value_of is_machine stage o shell places rows told)
+pub same-limits : {C V M : Type 0} (meaning : Meaning C V M)
+    (limits : Limits) (code : C) (k : Knows (Opened C) (Row M) Entry) (seated : IsSeated meaning.devices code limits k) (shell : ShellView C V M) (places : List (Kept M))
+    (rows : List (Row M)) (told : List Entry) → IsSomeAnd k.fixed (λ o. IsShared meaning o shell places rows told)
     → limits ≡ shell.core.limits
-same-limits {C} program devices value_of is_machine stage limits code k seated shell places rows told stands =
-    let was = some-and (λ (o : Opened C). IsShared program devices value_of is_machine stage o shell places rows told) k.fixed seated.opened seated.is stands in
+same-limits {C} meaning limits code k seated shell places rows told stands =
+    let was = some-and (λ (o : Opened C). IsShared meaning o shell places rows told) k.fixed seated.opened seated.is stands in
     sym (was.shell.opened.limits ∙ seated.of_limits)

@@ -4,16 +4,15 @@ use Rattle.std.specs.List.{range_with_len}
 use Rattle.std.proofs.lemmas.List.{length-set, get_or-set_same, get_or-set_other}
 use Rattle.std.proofs.lemmas.List.FromFn.{get_or-map-range_with_len, length-map-range_with_len}
 use Rattle.std.proofs.lemmas.Option.{slice_get-get_or}
-use Rattle.ame_term.specs.Tree.{Val, Tree}
+use Rattle.ame_term.specs.Tree.{Val}
 use Rattle.ame_rows.specs.declared.notes.ReadNote.{ReadNote}
-use Rattle.ame_desk.specs.Contents.{Notes}
-use Rattle.ame_owed.proofs.CellLemmas.{which}
+use Rattle.ame_rows.specs.MemoryView.{Log}
+use Rattle.ame_protocol.proofs.Row.CellLemmas.{which}
 use Rattle.ame_journal.specs.declared.entry.Entry.{Entry}
-use Rattle.ame_runner.specs.Stage.{Stage}
-use Rattle.ame_stands.specs.declared.types.Limits.{Limits}
-use Rattle.ame_stands.specs.declared.types.Task.{Task}
-use Rattle.ame_stands.specs.Parts.{Parts}
-use Rattle.ame_stands.proofs.ShownDeskLemmas.{row-shown}
+use Rattle.ame_protocol.specs.declared.types.Limits.{Limits}
+use Rattle.ame_protocol.specs.declared.types.Task.{Task}
+use Rattle.ame_protocol.specs.Engine.Parts.{Parts}
+use Rattle.ame_protocol.proofs.Engine.ShownMemoryLemmas.{row-shown}
 use Rattle.ame_engine.specs.declared.stop.Stop.{Stop}
 use Rattle.ame_engine.specs.Core.{Core}
 use Rattle.ame_engine.specs.Seen.{parts_of}
@@ -21,13 +20,14 @@ use Rattle.ame_turn.specs.declared.work.Work.{Work}
 use Rattle.ame_turn.specs.Ready.{IsPrepared}
 use Rattle.ame_turn.specs.Work.{Fits}
 use Rattle.ame_turn.proofs.ReadyLemmas.{prepared-fits}
-use Rattle.ame_shell.specs.Shell.{Shown, GoesTo, IsShell}
+use Rattle.ame_shell.specs.Shell.{ShellView, GoesTo, IsShell}
 use Rattle.ame_worker.specs.declared.shared.Opened.{Opened}
 use Rattle.ame_worker.specs.Rows.{Kept, Row, nothing_kept, kept_at, row_of, rows_in}
 use Rattle.ame_worker.specs.Shared.{opening_of, keeping, IsShared}
 use Rattle.ame_worker.proofs.Slots.{Slot, slot_at}
 use Rattle.ame_worker.proofs.StayLemmas.{SlotsStay, map-set}
 use Rattle.ame_worker.proofs.EntryLemmas.{Extends}
+use Rattle.ame_machine.specs.Meaning.{Meaning}
 
 pub some-is : {A : Type 0} (a b : A) → Some a ≡ Some b → a ≡ b
 some-is a b e = cc
@@ -64,22 +64,22 @@ row-same {M} a b task reads hand marked =
     ∙ ap (λ (w : Work M). let it : Row M = record { task = b.task; reads = b.reads; hand = w; marked = a.marked } in it) hand
     ∙ ap (λ (m : Bool). let it : Row M = record { task = b.task; reads = b.reads; hand = b.hand; marked = m } in it) marked
 
-module _ {C V M : Type 0} (program : C → Tree) (devices : C → ℕ) (value_of : C → V → Val) (is_machine : C → M → Type 0) (stage : C → M → Stage) where
+module _ {C V M : Type 0} (meaning : Meaning C V M) where
   abbrev parts : Core C V M → Parts
-  parts core = parts_of program devices value_of stage core
+  parts core = parts_of meaning core
 
   -- what the engine has of a seat stays where its slot does
   row-stays : (old new : Core C V M) (other : ℕ) (was now : Kept M) → slot_at (parts new) other ≡ slot_at (parts old) other → now ≡ was
       → row_of new other now ≡ row_of old other was
   row-stays old new other was now slot kept =
       row-same (row_of new other now) (row_of old other was) (ap (λ (s : Slot). s.task) slot)
-      (ap (λ (n : Notes Val). n.reads) (sym (row-shown (value_of new.code) new.desk.rows other))
+      (ap (λ (n : Log Val). n.reads) (sym (row-shown (meaning.value_of new.code) new.memory.rows other))
       ∙ ap (λ (s : Slot). s.notes.reads) slot
-      ∙ ap (λ (n : Notes Val). n.reads) (row-shown (value_of old.code) old.desk.rows other))
+      ∙ ap (λ (n : Log Val). n.reads) (row-shown (meaning.value_of old.code) old.memory.rows other))
       (ap (λ (x : Kept M). x.hand) kept) (ap (λ (x : Kept M). x.marked) kept)
 
-  module _ (opened : Opened C) (old new : Shown C V M) (places : List (Kept M)) (rows : List (Row M)) (told : List Entry)
-      (was : IsShared program devices value_of is_machine stage opened old places rows told) (seat : ℕ) (within : seat < old.core.limits.seats) where
+  module _ (opened : Opened C) (old new : ShellView C V M) (places : List (Kept M)) (rows : List (Row M)) (told : List Entry)
+      (was : IsShared meaning opened old places rows told) (seat : ℕ) (within : seat < old.core.limits.seats) where
     -- a seat's row says what was kept for it
     pub found-kept : (row : Row M) → slice_get rows seat ≡ Some row → row ≡ row_of old.core seat (kept_at places seat)
     found-kept row found =
@@ -88,17 +88,17 @@ module _ {C V M : Type 0} (program : C → Tree) (devices : C → ℕ) (value_of
 
     -- what a seat has at hand fits
     pub hand-fits : (row : Row M) → slice_get rows seat ≡ Some row → (hand : Work M)
-        → IsPrepared is_machine stage old.core.code old.core.limits.slice row.hand hand → Fits program devices value_of is_machine stage old.core seat hand
+        → IsPrepared meaning.is_machine meaning.stage old.core.code old.core.limits.slice row.hand hand → Fits meaning old.core seat hand
     hand-fits row found hand is =
-        prepared-fits program devices value_of is_machine stage old.core seat (kept_at places seat).hand hand (was.fits seat within)
-        (subst (λ (w : Work M). IsPrepared is_machine stage old.core.code old.core.limits.slice w hand)
+        prepared-fits meaning old.core seat (kept_at places seat).hand hand (was.fits seat within)
+        (subst (λ (w : Work M). IsPrepared meaning.is_machine meaning.stage old.core.code old.core.limits.slice w hand)
         (ap (λ (r : Row M). r.hand) (found-kept row found)) is)
 
     -- What is given once the seat made its event
     module _ (hand : Work M) (extends : Extends seat old.core new.core) (stay : SlotsStay seat (parts old.core) (parts new.core))
-        (fits : Fits program devices value_of is_machine stage new.core seat hand)
-        (others : (other : ℕ) (rest : Work M) → other ≢ seat → Fits program devices value_of is_machine stage old.core other rest
-        → Fits program devices value_of is_machine stage new.core other rest) (shell : IsShell program (opening_of opened) new) where
+        (fits : Fits meaning new.core seat hand)
+        (others : (other : ℕ) (rest : Work M) → other ≢ seat → Fits meaning old.core other rest
+        → Fits meaning new.core other rest) (shell : IsShell meaning.program (opening_of opened) new) where
       abbrev kept : Kept M
       kept = keeping new.core hand
 
@@ -111,15 +111,15 @@ module _ {C V M : Type 0} (program : C → Tree) (devices : C → ℕ) (value_of
       there : seat < length places
       there = let count = was.count in omega (arith, count, within)
 
-      fits-all : (other : ℕ) → other < new.core.limits.seats → Fits program devices value_of is_machine stage new.core other (kept_at after other).hand
+      fits-all : (other : ℕ) → other < new.core.limits.seats → Fits meaning new.core other (kept_at after other).hand
       fits-all other in_range = by (which other seat)
         where
-          by : (other ≡ seat) ⊎ ((other ≡ seat) → ⊥) → Fits program devices value_of is_machine stage new.core other (kept_at after other).hand
+          by : (other ≡ seat) ⊎ ((other ≡ seat) → ⊥) → Fits meaning new.core other (kept_at after other).hand
           by (inl same) =
-              subst (λ (n : ℕ). Fits program devices value_of is_machine stage new.core n (kept_at after n).hand) (sym same)
-              (subst (λ (x : Kept M). Fits program devices value_of is_machine stage new.core seat x.hand) (sym (kept-here places seat kept there)) fits)
+              subst (λ (n : ℕ). Fits meaning new.core n (kept_at after n).hand) (sym same)
+              (subst (λ (x : Kept M). Fits meaning new.core seat x.hand) (sym (kept-here places seat kept there)) fits)
           by (inr apart) =
-              subst (λ (x : Kept M). Fits program devices value_of is_machine stage new.core other x.hand) (sym (kept-else places seat other kept apart))
+              subst (λ (x : Kept M). Fits meaning new.core other x.hand) (sym (kept-else places seat other kept apart))
               (others other (kept_at places other).hand apart (was.fits other (let s = seats in omega (arith, s, in_range))))
 
       marks-all : (other : ℕ) → (kept_at after other).marked ≡ true → IsSome new.core.stop
@@ -141,7 +141,7 @@ module _ {C V M : Type 0} (program : C → Tree) (devices : C → ℕ) (value_of
           ∙ ap (λ (r : Row M). set (rows_in old.core places) seat r) (ap (row_of new.core seat) (kept-here places seat kept there))
           ∙ ap (λ (all : List (Row M)). set all seat (row_of new.core seat kept)) was.rows
 
-      pub shared-on : IsShared program devices value_of is_machine stage opened new after (set rows seat (row_of new.core seat kept)) (told ++ extends.added)
+      pub shared-on : IsShared meaning opened new after (set rows seat (row_of new.core seat kept)) (told ++ extends.added)
       shared-on = record {
         shell = shell;
         count = length-set places seat kept ∙ was.count ∙ sym seats;

@@ -6,22 +6,22 @@ use Rattle.std.proofs.lemmas.Bool.{cases_lt}
 use Rattle.std.proofs.lemmas.List.{get_or_past, get_or-replicate, length-replicate}
 use Rattle.std.proofs.lemmas.Option.{unwrap_or-slice_get}
 use Rattle.ame_term.specs.Tree.{Val, Tree}
-use Rattle.ame_desk.specs.Contents.{Notes, no_notes, row_at}
-use Rattle.ame_stands.specs.declared.types.Limits.{Limits}
-use Rattle.ame_stands.specs.declared.types.Task.{Task}
-use Rattle.ame_stands.specs.Parts.{Parts, task_at}
-use Rattle.ame_stands.specs.Events.{started}
+use Rattle.ame_rows.specs.MemoryView.{Log, no_log, row_at}
+use Rattle.ame_protocol.specs.declared.types.Limits.{Limits}
+use Rattle.ame_protocol.specs.declared.types.Task.{Task}
+use Rattle.ame_protocol.specs.Engine.Parts.{Parts, task_at}
+use Rattle.ame_protocol.specs.Engine.Events.{started}
 use Rattle.ame_worker.proofs.Slots.{Slot, empty_slot, start_of, slot_at}
 
 -- slots with the same task, logs and term are the same
 pub slot-same : (a b : Slot) → a.task ≡ b.task → a.notes ≡ b.notes → a.start ≡ b.start → a ≡ b
 slot-same a b task notes start =
     ap (λ (t : Task). let it : Slot = record { task = t; notes = a.notes; start = a.start } in it) task
-    ∙ ap (λ (n : Notes Val). let it : Slot = record { task = b.task; notes = n; start = a.start } in it) notes
+    ∙ ap (λ (n : Log Val). let it : Slot = record { task = b.task; notes = n; start = a.start } in it) notes
     ∙ ap (λ (s : Tree). let it : Slot = record { task = b.task; notes = b.notes; start = s } in it) start
 
 -- a seat that is idle and has no logs
-pub idle-slot : (parts : Parts) (seat : ℕ) → task_at parts.tasks seat ≡ Task.Idle → row_at parts.desk.rows seat ≡ no_notes → slot_at parts seat ≡ empty_slot
+pub idle-slot : (parts : Parts) (seat : ℕ) → task_at parts.tasks seat ≡ Task.Idle → row_at parts.memory.rows seat ≡ no_log → slot_at parts seat ≡ empty_slot
 idle-slot parts seat task notes = slot-same (slot_at parts seat) empty_slot task notes (ap (start_of parts.pool) task)
 
 -- At the opening
@@ -40,4 +40,4 @@ replicate-at n i x = by (cases_lt i n)
 pub started-slot : (program : Tree) (devices : ℕ) (limits : Limits) (room seat : ℕ) → slot_at (started program devices limits room) seat ≡ empty_slot
 started-slot program devices limits room seat =
     idle-slot (started program devices limits room) seat (replicate-at limits.seats seat Task.Idle)
-    (unwrap_or-slice_get (replicate limits.seats no_notes) seat no_notes ∙ replicate-at limits.seats seat no_notes)
+    (unwrap_or-slice_get (replicate limits.seats no_log) seat no_log ∙ replicate-at limits.seats seat no_log)

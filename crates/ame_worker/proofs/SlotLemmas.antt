@@ -1,20 +1,19 @@
 -- What a seat did leaves the slots of the other seats.
 use Rattle.std.proofs.Common.{◌≡◌, ℕ, inl, inr, List, Option, Some, None, refl, sym, ap, subst}
 use Rattle.std.specs.Prelude.{is_some}
-use Rattle.ame_term.specs.Tree.{Val, Tree}
 use Rattle.ame_device.specs.declared.told.Told.{Told}
 use Rattle.ame_rows.specs.declared.notes.Bad.{Bad}
-use Rattle.ame_runner.specs.Stage.{Stage, place_shown, with_answer}
-use Rattle.ame_stands.specs.declared.types.Attempt.{Attempt}
-use Rattle.ame_stands.specs.declared.types.Task.{Task}
-use Rattle.ame_stands.specs.Parts.{Parts, task_at, member_of}
-use Rattle.ame_stands.specs.Stands.{Stands}
-use Rattle.ame_stands.specs.Events.{has_begun, has_read, has_written, has_allocated, has_checked, has_turned_back, has_undone, has_gone_home}
-use Rattle.ame_waiting.specs.Noted.{has_noted}
-use Rattle.ame_visits.specs.Stops.{has_been_cut, has_grown_tall}
-use Rattle.ame_visits.specs.Visit.{has_been_refused}
+use Rattle.ame_machine.specs.MachineView.{MachineView, place_shown, with_answer}
+use Rattle.ame_protocol.specs.declared.types.Attempt.{Attempt}
+use Rattle.ame_protocol.specs.declared.types.Task.{Task}
+use Rattle.ame_protocol.specs.Engine.Parts.{Parts, task_at, member_of}
+use Rattle.ame_protocol.specs.Engine.Simulates.{Simulates}
+use Rattle.ame_protocol.specs.Engine.Events.{has_begun, has_read, has_written, has_allocated, has_checked, has_turned_back, has_undone, has_gone_home}
+use Rattle.ame_protocol.specs.Waits.Noted.{has_noted}
+use Rattle.ame_protocol.specs.Visits.Stops.{has_been_cut, has_grown_tall}
+use Rattle.ame_protocol.specs.Visits.Visit.{has_been_refused}
 use Rattle.ame_engine.specs.declared.certificate.Certificate.{Certificate}
-use Rattle.ame_engine.specs.declared.chance.Chance.{Chance}
+use Rattle.ame_engine.specs.declared.pick.Pick.{Pick}
 use Rattle.ame_engine.specs.declared.counters.Counters.{Counters}
 use Rattle.ame_engine.specs.declared.stop.Stop.{Stop}
 use Rattle.ame_engine.specs.Causes.{certificates_in}
@@ -28,24 +27,25 @@ use Rattle.ame_engine.specs.Visiting.{visited_at, HasComeHome}
 use Rattle.ame_turn.specs.declared.work.Deed.{Deed}
 use Rattle.ame_turn.specs.Deeds.{StopsBy, TurnsBack, Spends, IsMade, IsDone}
 use Rattle.ame_turn.proofs.VisitedLemmas.{visit-rows}
-use Rattle.ame_shell.specs.Shell.{Shown}
+use Rattle.ame_shell.specs.Shell.{ShellView}
 use Rattle.ame_shell.specs.Turned.{HasTurned}
 use Rattle.ame_worker.proofs.EntryLemmas.{turn-on}
 use Rattle.ame_worker.proofs.StayLemmas.{SlotsStay, begun-stays, read-stays, written-stays, allocated-stays, checked-stays, back-stays, noted-stays, cut-stays, tall-stays, refused-stays, undone-stays, gone-stays, ended-stays, left-stays, visited-stays}
+use Rattle.ame_machine.specs.Meaning.{Meaning}
 
-module _ {C V M : Type 0} (program : C → Tree) (devices : C → ℕ) (value_of : C → V → Val) (stage : C → M → Stage) where
+module _ {C V M : Type 0} (meaning : Meaning C V M) where
   abbrev parts : Core C V M → Parts
-  parts core = parts_of program devices value_of stage core
+  parts core = parts_of meaning core
 
   abbrev Stay : ℕ → Core C V M → Core C V M → Type 0
   Stay seat old new = SlotsStay seat (parts old) (parts new)
 
   module _ (seat : ℕ) (old new : Core C V M) where
-    by-event : (counts : Counters → Counters) (event : Parts → Parts) → MakesEvent program devices value_of stage counts event old new
+    by-event : (counts : Counters → Counters) (event : Parts → Parts) → MakesEvent meaning counts event old new
         → SlotsStay seat (parts old) (event (parts old)) → Stay seat old new
     by-event counts event made stays = subst (λ (p : Parts). SlotsStay seat (parts old) p) (sym made.parts) stays
 
-    by-last : (why : Stop) (counts : Counters → Counters) (event : Parts → Parts) → MakesLastEvent program devices value_of stage why counts event old new
+    by-last : (why : Stop) (counts : Counters → Counters) (event : Parts → Parts) → MakesLastEvent meaning why counts event old new
         → SlotsStay seat (parts old) (event (parts old)) → Stay seat old new
     by-last why counts event made stays = subst (λ (p : Parts). SlotsStay seat (parts old) p) (sym made.parts) stays
 
@@ -59,20 +59,20 @@ module _ {C V M : Type 0} (program : C → Tree) (devices : C → ℕ) (value_of
     by-blocked certificates is = subst (λ (core : Core C V M). Stay seat old core) (sym is) (λ other apart. refl)
 
     -- what a seat meets that stops
-    by-chance : (certificates : List Certificate) (chance : Chance) → StopsBy certificates chance old new → Stay seat old new
-    by-chance certificates Chance.Stopped h = by-same h
-    by-chance certificates Chance.Finished h = by-stop Stop.Finished h
-    by-chance certificates Chance.Blocked h = by-blocked certificates h
-    by-chance certificates Chance.Spent h = by-stop Stop.Spent h
-    by-chance certificates Chance.Idle h = absurd h
-    by-chance certificates (Chance.Member number) h = absurd h
+    by-pick : (certificates : List Certificate) (pick : Pick) → StopsBy certificates pick old new → Stay seat old new
+    by-pick certificates Pick.Stopped h = by-same h
+    by-pick certificates Pick.Finished h = by-stop Stop.Finished h
+    by-pick certificates Pick.Blocked h = by-blocked certificates h
+    by-pick certificates Pick.Spent h = by-stop Stop.Spent h
+    by-pick certificates Pick.Idle h = absurd h
+    by-pick certificates (Pick.Member number) h = absurd h
 
     -- it turned back
-    by-back : (hand : Option Stage) (counts : Counters → Counters) (bad : Bad) → TurnsBack program devices value_of stage seat hand old new counts bad → Stay seat old new
+    by-back : (hand : Option MachineView) (counts : Counters → Counters) (bad : Bad) → TurnsBack meaning seat hand old new counts bad → Stay seat old new
     by-back hand counts bad back = by-event counts (has_turned_back seat back.attempt) back.event (back-stays (parts old) seat back.attempt)
 
     -- the turns are used up
-    by-spent : (hand at : Option Stage) → Spends program devices value_of stage seat hand old new at → Stay seat old new
+    by-spent : (hand at : Option MachineView) → Spends meaning seat hand old new at → Stay seat old new
     by-spent hand None h = by-stop Stop.Spent h
     by-spent hand (Some s) (inl cut) =
         let task = task_at old.tasks seat in
@@ -80,20 +80,20 @@ module _ {C V M : Type 0} (program : C → Tree) (devices : C → ℕ) (value_of
         (cut-stays (parts old) seat cut.attempt.tried.number s.steps (place_shown s) task)
     by-spent hand (Some s) (inr h) = by-stop Stop.Spent h.1
 
-  module _ (seat : ℕ) (old new : Core C V M) (stands : Stands (parts old)) (hand : Option Stage) (before after : List Told) where
+  module _ (seat : ℕ) (old new : Core C V M) (stands : Simulates (parts old)) (hand : Option MachineView) (before after : List Told) where
     -- a member came home from its visit
-    by-home : (a : Attempt) → task_at old.tasks seat ≡ Task.Free a → (s : Stage)
-        → HasComeHome program devices value_of stage seat a.tried.number s before after old new → Stay seat old new
+    by-home : (a : Attempt) → task_at old.tasks seat ≡ Task.Free a → (s : MachineView)
+        → HasComeHome meaning seat a.tried.number s before after old new → Stay seat old new
     by-home a task s h =
         let number = a.tried.number in
-        by-event seat old new (one_counted Counted.Free) (visited_at seat number h.answer h.comes h.desk) h.event
-        (visited-stays (parts old) stands seat number (ap member_of task) h.comes.steps (with_answer h.answer (place_shown h.comes)) h.comes.inside h.desk
-        (visit-rows (parts old) number h.comes.steps h.visit.place h.comes.inside h.desk h.visit.visit))
+        by-event seat old new (one_counted Counted.Free) (visited_at seat number h.answer h.comes h.memory) h.event
+        (visited-stays (parts old) stands seat number (ap member_of task) h.comes.steps (with_answer h.answer (place_shown h.comes)) h.comes.inside h.memory
+        (visit-rows (parts old) number h.comes.steps h.visit.place h.comes.inside h.memory h.visit.visit))
 
-    made-slots : (deed : Deed) → IsMade program devices value_of stage seat hand old new before after deed → Stay seat old new
+    made-slots : (deed : Deed) → IsMade meaning seat hand old new before after deed → Stay seat old new
     made-slots Deed.Began d = by-event seat old new (one_counted Counted.Begin) (has_begun seat d.0) d.2 (begun-stays (parts old) seat d.0)
     made-slots Deed.Waited d = by-same seat old new d.1
-    made-slots Deed.Stopped d = by-chance seat old new (certificates_in (parts old)) d.0 d.2
+    made-slots Deed.Stopped d = by-pick seat old new (certificates_in (parts old)) d.0 d.2
     made-slots Deed.Read d = by-event seat old new (one_counted Counted.Read) (has_read seat d.1) d.3 (read-stays (parts old) seat d.1)
     made-slots Deed.Wrote d = by-event seat old new (one_counted Counted.Write) (has_written seat d.1 d.2) d.6 (written-stays (parts old) seat d.1 d.2)
     made-slots (Deed.Met owner) d = by-event seat old new (one_counted Counted.Conflict) (has_turned_back seat d.2) d.6 (back-stays (parts old) seat d.2)
@@ -104,10 +104,10 @@ module _ {C V M : Type 0} (program : C → Tree) (devices : C → ℕ) (value_of
     made-slots (Deed.FoundInvalid bad) d = by-back seat old new hand (one_invalid Counted.Check) bad d.2
     made-slots Deed.Ended d =
         by-event seat old new (one_counted Counted.Commit) (ended_at seat d.2.tried.number d.0) d.4
-        (ended-stays (parts old) stands seat d.2.tried.number (ap member_of d.3.task) d.0.steps (place_shown d.0) (owned_places seat (parts old).desk.cells))
+        (ended-stays (parts old) stands seat d.2.tried.number (ap member_of d.3.task) d.0.steps (place_shown d.0) (owned_places seat (parts old).memory.cells))
     made-slots Deed.Left d =
         by-event seat old new (one_counted Counted.Commit) (left_at seat d.2.tried.number d.0) d.4
-        (left-stays (parts old) stands seat d.2.tried.number (ap member_of d.3.task) d.0.steps (place_shown d.0) (owned_places seat (parts old).desk.cells))
+        (left-stays (parts old) stands seat d.2.tried.number (ap member_of d.3.task) d.0.steps (place_shown d.0) (owned_places seat (parts old).memory.cells))
     made-slots (Deed.Refused bad) d = by-back seat old new hand (one_invalid Counted.Commit) bad d.2
     made-slots Deed.Noted d =
         by-event seat old new (one_counted Counted.Block) (has_noted seat d.2 d.0.steps (place_shown d.0)) d.4
@@ -131,14 +131,14 @@ module _ {C V M : Type 0} (program : C → Tree) (devices : C → ℕ) (value_of
         by-event seat old new (one_undone (is_some old.stop)) (has_gone_home seat d.0 reason) d.2.event (gone-stays (parts old) seat d.0 reason)
     made-slots Deed.Lacked d = by-stop seat old new Stop.NoMemory d.1
 
-    module _ (deed : Deed) (done : IsDone program devices value_of stage seat hand old new before after deed) where
+    module _ (deed : Deed) (done : IsDone meaning seat hand old new before after deed) where
       pub deed-slots : Stay seat old new
       deed-slots = made-slots deed done.event
 
   -- and so it is of a turn
-  module _ (seat : ℕ) (hand : Option Stage) (old new : Shown C V M) (deed : Deed) (stands : Stands (parts old.core))
-      (turned : HasTurned program devices value_of stage seat hand old new deed) where
+  module _ (seat : ℕ) (hand : Option MachineView) (old new : ShellView C V M) (deed : Deed) (stands : Simulates (parts old.core))
+      (turned : HasTurned meaning seat hand old new deed) where
     pub turn-slots : Stay seat old.core new.core
     turn-slots =
-        turn-on program devices value_of stage seat hand old new deed turned (λ (core : Core C V M). Stay seat old.core core) (λ core stays. stays)
+        turn-on meaning seat hand old new deed turned (λ (core : Core C V M). Stay seat old.core core) (λ core stays. stays)
         (deed-slots seat old.core turned.core stands hand old.ends.told new.ends.told deed turned.done)

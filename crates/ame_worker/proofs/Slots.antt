@@ -2,19 +2,19 @@
 use Rattle.std.specs.Prelude.{ℕ, Some, None}
 use Rattle.ame_term.specs.Tree.{Val, Tree, unit_tree}
 use Rattle.ame_pool.specs.Roster.{Roster}
-use Rattle.ame_desk.specs.Contents.{Notes, no_notes, row_at}
-use Rattle.ame_stands.specs.declared.types.Task.{Task}
-use Rattle.ame_stands.specs.Parts.{Parts, task_at, attempt_of, term_at}
+use Rattle.ame_rows.specs.MemoryView.{Log, no_log, row_at}
+use Rattle.ame_protocol.specs.declared.types.Task.{Task}
+use Rattle.ame_protocol.specs.Engine.Parts.{Parts, task_at, attempt_of, term_at}
 
 -- what a seat is at, its logs, and the term from which it runs its member
 pub record Slot : Type 0 where
   pub task : Task
-  pub notes : Notes Val
+  pub notes : Log Val
   pub start : Tree
 
 -- of a seat that has nothing at work
 abbrev pub empty_slot : Slot
-empty_slot = record { task = Task.Idle; notes = no_notes; start = unit_tree }
+empty_slot = record { task = Task.Idle; notes = no_log; start = unit_tree }
 
 -- the term from which the member of a task is run
 abbrev pub start_of : Roster Tree → Task → Tree
@@ -26,6 +26,6 @@ start_of pool task = elim (attempt_of task) [
 abbrev pub slot_at : Parts → ℕ → Slot
 slot_at parts seat = record {
   task = task_at parts.tasks seat;
-  notes = row_at parts.desk.rows seat;
+  notes = row_at parts.memory.rows seat;
   start = start_of parts.pool (task_at parts.tasks seat);
 }

@@ -14,26 +14,26 @@ use Rattle.ame_pool.specs.Roster.{Roster}
 use Rattle.ame_pool.specs.Calls.{begun, held, noted_on, noted, renewed, exchanged, removed}
 use Rattle.ame_pool.specs.Keeps.{is_inside_at}
 use Rattle.ame_pool.proofs.MemberLemmas.{found_altered}
-use Rattle.ame_local.specs.Local.{LocalState}
-use Rattle.ame_desk.specs.Contents.{Notes, Contents, no_notes, row_at}
-use Rattle.ame_desk.specs.LettingGo.{undone_last}
-use Rattle.ame_desk.proofs.LookupLemmas.{row_set_else}
-use Rattle.ame_owed.specs.Waiting.{read_places}
-use Rattle.ame_stands.specs.declared.types.Attempt.{Attempt}
-use Rattle.ame_stands.specs.declared.types.Reason.{Reason}
-use Rattle.ame_stands.specs.declared.types.Task.{Task}
-use Rattle.ame_stands.specs.Parts.{Parts, task_at, member_of, term_at}
-use Rattle.ame_stands.specs.Stands.{Stands}
-use Rattle.ame_stands.specs.Tasks.{is_busy_as}
-use Rattle.ame_stands.specs.Events.{one_turn, undo_turn, with_desk, with_task, with_try, fresh_attempt, begun_task, has_begun, has_read, has_written, has_allocated, checked_attempt, has_checked, has_turned_back, has_undone, brought_home, has_gone_home, woken_for, with_newcomers, has_ended, has_left}
-use Rattle.ame_stands.proofs.PoolLemmas.{machines-stay, found-at}
-use Rattle.ame_stands.proofs.StepLemmas.{task_else}
-use Rattle.ame_stands.proofs.HomeLemmas.{busy-of}
-use Rattle.ame_stands.proofs.GrowthLemmas.{Keeps, keeps-on, keeps-same, woken-keeps, woken-free, newcomers-keep}
-use Rattle.ame_stands.proofs.CommitLemmas.{free-next}
-use Rattle.ame_waiting.specs.Noted.{has_noted}
-use Rattle.ame_visits.specs.Stops.{told_task, has_been_cut, has_grown_tall}
-use Rattle.ame_visits.specs.Visit.{has_visited, has_been_refused}
+use Rattle.ame_machine.specs.Run.Local.{LocalState}
+use Rattle.ame_rows.specs.MemoryView.{Log, MemoryView, no_log, row_at}
+use Rattle.ame_rows.specs.LettingGo.{undone_last}
+use Rattle.ame_rows.proofs.LookupLemmas.{row_set_else}
+use Rattle.ame_protocol.specs.Row.Waiting.{read_places}
+use Rattle.ame_protocol.specs.declared.types.Attempt.{Attempt}
+use Rattle.ame_protocol.specs.declared.types.Reason.{Reason}
+use Rattle.ame_protocol.specs.declared.types.Task.{Task}
+use Rattle.ame_protocol.specs.Engine.Parts.{Parts, task_at, member_of, term_at}
+use Rattle.ame_protocol.specs.Engine.Simulates.{Simulates}
+use Rattle.ame_protocol.specs.Engine.Tasks.{is_busy_as}
+use Rattle.ame_protocol.specs.Engine.Events.{one_turn, undo_turn, with_memory, with_task, with_try, fresh_attempt, begun_task, has_begun, has_read, has_written, has_allocated, checked_attempt, has_checked, has_turned_back, has_undone, brought_home, has_gone_home, woken_for, with_newcomers, has_ended, has_left}
+use Rattle.ame_protocol.proofs.Engine.PoolLemmas.{machines-stay, found-at}
+use Rattle.ame_protocol.proofs.Engine.StepLemmas.{task_else}
+use Rattle.ame_protocol.proofs.Engine.HomeLemmas.{busy-of}
+use Rattle.ame_protocol.proofs.Engine.GrowthLemmas.{Keeps, keeps-on, keeps-same, woken-keeps, woken-free, newcomers-keep}
+use Rattle.ame_protocol.proofs.Engine.CommitLemmas.{free-next}
+use Rattle.ame_protocol.specs.Waits.Noted.{has_noted}
+use Rattle.ame_protocol.specs.Visits.Stops.{told_task, has_been_cut, has_grown_tall}
+use Rattle.ame_protocol.specs.Visits.Visit.{has_visited, has_been_refused}
 use Rattle.ame_turn.proofs.EndsLemmas.{term-home}
 use Rattle.ame_worker.proofs.Slots.{start_of, slot_at}
 use Rattle.ame_worker.proofs.IdleLemmas.{slot-same}
@@ -47,7 +47,7 @@ abbrev TermsStay : ℕ → Parts → Roster Tree → Type 0
 TermsStay seat parts pool = (other : ℕ) → other ≢ seat → (i : ℕ) → member_of (task_at parts.tasks other) ≡ Some i → term_at pool i ≡ term_at parts.pool i
 
 -- where task, logs and the term of its member stay
-slot-stays : (parts new : Parts) (other : ℕ) → task_at new.tasks other ≡ task_at parts.tasks other → row_at new.desk.rows other ≡ row_at parts.desk.rows other
+slot-stays : (parts new : Parts) (other : ℕ) → task_at new.tasks other ≡ task_at parts.tasks other → row_at new.memory.rows other ≡ row_at parts.memory.rows other
     → ((i : ℕ) → member_of (task_at parts.tasks other) ≡ Some i → term_at new.pool i ≡ term_at parts.pool i) → slot_at new other ≡ slot_at parts other
 slot-stays parts new other task row term =
     slot-same (slot_at new other) (slot_at parts other) task row (ap (start_of new.pool) task ∙ start (task_at parts.tasks other) term)
@@ -61,30 +61,30 @@ slot-stays parts new other task row term =
 -- An event by what it makes of tasks, logs and pool
 
 -- another task of the seat
-task-stays : (parts new : Parts) (seat : ℕ) (task : Task) → new.tasks ≡ (with_task seat task parts).tasks → new.desk.rows ≡ parts.desk.rows
+task-stays : (parts new : Parts) (seat : ℕ) (task : Task) → new.tasks ≡ (with_task seat task parts).tasks → new.memory.rows ≡ parts.memory.rows
     → TermsStay seat parts new.pool → SlotsStay seat parts new
 task-stays parts new seat task is rows terms other apart =
     slot-stays parts new other (ap (λ (ts : List Task). task_at ts other) is ∙ task_else parts.tasks seat task other apart)
-    (ap (λ (all : List (Notes Val)). row_at all other) rows) (terms other apart)
+    (ap (λ (all : List (Log Val)). row_at all other) rows) (terms other apart)
 
 -- other logs of it
-row-stays : (parts new : Parts) (seat : ℕ) (notes : Notes Val) → new.tasks ≡ parts.tasks → new.desk.rows ≡ set parts.desk.rows seat notes
+row-stays : (parts new : Parts) (seat : ℕ) (notes : Log Val) → new.tasks ≡ parts.tasks → new.memory.rows ≡ set parts.memory.rows seat notes
     → TermsStay seat parts new.pool → SlotsStay seat parts new
 row-stays parts new seat notes is rows terms other apart =
     slot-stays parts new other (ap (λ (ts : List Task). task_at ts other) is)
-    (ap (λ (all : List (Notes Val)). row_at all other) rows ∙ row_set_else parts.desk.rows seat other notes apart) (terms other apart)
+    (ap (λ (all : List (Log Val)). row_at all other) rows ∙ row_set_else parts.memory.rows seat other notes apart) (terms other apart)
 
 -- or both
-both-stay : (parts new : Parts) (seat : ℕ) (task : Task) (notes : Notes Val) → new.tasks ≡ (with_task seat task parts).tasks
-    → new.desk.rows ≡ set parts.desk.rows seat notes → TermsStay seat parts new.pool → SlotsStay seat parts new
+both-stay : (parts new : Parts) (seat : ℕ) (task : Task) (notes : Log Val) → new.tasks ≡ (with_task seat task parts).tasks
+    → new.memory.rows ≡ set parts.memory.rows seat notes → TermsStay seat parts new.pool → SlotsStay seat parts new
 both-stay parts new seat task notes is rows terms other apart =
     slot-stays parts new other (ap (λ (ts : List Task). task_at ts other) is ∙ task_else parts.tasks seat task other apart)
-    (ap (λ (all : List (Notes Val)). row_at all other) rows ∙ row_set_else parts.desk.rows seat other notes apart) (terms other apart)
+    (ap (λ (all : List (Log Val)). row_at all other) rows ∙ row_set_else parts.memory.rows seat other notes apart) (terms other apart)
 
 -- neither, and the pool stays
-pub same-stays : (parts new : Parts) (seat : ℕ) → new.tasks ≡ parts.tasks → new.desk ≡ parts.desk → new.pool ≡ parts.pool → SlotsStay seat parts new
-same-stays parts new seat tasks desk pool other apart =
-    slot-stays parts new other (ap (λ (ts : List Task). task_at ts other) tasks) (ap (λ (d : Contents Val). row_at d.rows other) desk)
+pub same-stays : (parts new : Parts) (seat : ℕ) → new.tasks ≡ parts.tasks → new.memory ≡ parts.memory → new.pool ≡ parts.pool → SlotsStay seat parts new
+same-stays parts new seat tasks memory pool other apart =
+    slot-stays parts new other (ap (λ (ts : List Task). task_at ts other) tasks) (ap (λ (d : MemoryView Val). row_at d.rows other) memory)
     (λ i has. ap (λ (p : Roster Tree). term_at p i) pool)
 
 -- Terms in the pool
@@ -131,8 +131,8 @@ module _ (parts : Parts) (seat : ℕ) where
 
   pub noted-stays : (attempt : Attempt) (steps : ℕ) (p : LocalState) → SlotsStay seat parts (has_noted seat attempt steps p parts)
   noted-stays attempt steps p =
-      task-stays parts (has_noted seat attempt steps p parts) seat (Task.Undoing (record attempt { told = true }) Reason.Noted) refl refl
-      (λ other apart i has. term-noted attempt.tried.number (read_places (row_at parts.desk.rows seat).reads) i parts.pool)
+      task-stays parts (has_noted seat attempt steps p parts) seat (Task.Undoing (record attempt { logged = true }) Reason.Noted) refl refl
+      (λ other apart i has. term-noted attempt.tried.number (read_places (row_at parts.memory.rows seat).reads) i parts.pool)
 
   pub cut-stays : (number steps : ℕ) (p : LocalState) (task : Task) → SlotsStay seat parts (has_been_cut seat number steps p task parts)
   cut-stays number steps p task = task-stays parts (has_been_cut seat number steps p task parts) seat (told_task task) refl refl (λ other apart i has. refl)
@@ -155,13 +155,13 @@ module _ (parts : Parts) (seat : ℕ) where
 
   pub undone-stays : (attempt : Attempt) (reason : Reason) → SlotsStay seat parts (has_undone seat attempt reason parts)
   undone-stays attempt reason =
-      let mid = with_task seat (Task.Undoing attempt reason) (with_desk (undone_last seat parts.desk) parts) in
+      let mid = with_task seat (Task.Undoing attempt reason) (with_memory (undone_last seat parts.memory) parts) in
       turn-stays mid (both-stay parts mid seat (Task.Undoing attempt reason) _ refl refl (λ other apart i has. refl))
 
   pub gone-stays : (attempt : Attempt) (reason : Reason) → SlotsStay seat parts (has_gone_home seat attempt reason parts)
   gone-stays attempt reason =
       let mid = with_task seat Task.Idle (record parts {
-        desk = undone_last seat parts.desk;
+        memory = undone_last seat parts.memory;
         pool = brought_home reason attempt.tried.number parts.pool;
         tried = with_try attempt parts.tried;
       }) in
@@ -169,7 +169,7 @@ module _ (parts : Parts) (seat : ℕ) where
 
 -- Commits and visits, which take in new members
 
-module _ (parts : Parts) (stands : Stands parts) where
+module _ (parts : Parts) (stands : Simulates parts) where
   -- a member that a seat has at work is there
   member-below : (other i : ℕ) → member_of (task_at parts.tasks other) ≡ Some i → i < parts.next
   member-below other i has =
@@ -200,21 +200,21 @@ module _ (parts : Parts) (stands : Stands parts) where
     pub ended-stays : (steps : ℕ) (p : LocalState) (ls : List ℕ) → SlotsStay seat parts (has_ended seat number steps p ls parts)
     ended-stays steps p ls =
         let later = with_newcomers parts.next p.spawns (woken_for ls parts.pool) in
-        both-stay parts (has_ended seat number steps p ls parts) seat Task.Idle no_notes refl refl
+        both-stay parts (has_ended seat number steps p ls parts) seat Task.Idle no_log refl refl
         (terms-by ls p.spawns (removed number later) (λ i differs. except-else number i later.members differs))
 
     pub left-stays : (steps : ℕ) (p : LocalState) (ls : List ℕ) → SlotsStay seat parts (has_left seat number steps p ls parts)
     left-stays steps p ls =
         let later = with_newcomers parts.next p.spawns (woken_for ls parts.pool) in
-        both-stay parts (has_left seat number steps p ls parts) seat Task.Idle no_notes refl refl
+        both-stay parts (has_left seat number steps p ls parts) seat Task.Idle no_log refl refl
         (terms-by ls p.spawns (exchanged number p.term true later)
         (λ i differs. (found_altered number (renewed p.term true) (λ _. refl) later.members).others i differs))
 
-    pub visited-stays : (steps : ℕ) (p : LocalState) (inside : Bool) (desk : Contents Val) → desk.rows ≡ parts.desk.rows
-        → SlotsStay seat parts (has_visited seat number steps p inside desk parts)
-    visited-stays steps p inside desk rows =
+    pub visited-stays : (steps : ℕ) (p : LocalState) (inside : Bool) (memory : MemoryView Val) → memory.rows ≡ parts.memory.rows
+        → SlotsStay seat parts (has_visited seat number steps p inside memory parts)
+    visited-stays steps p inside memory rows =
         let later = with_newcomers parts.next p.spawns parts.pool in
-        task-stays parts (has_visited seat number steps p inside desk parts) seat Task.Idle refl rows
+        task-stays parts (has_visited seat number steps p inside memory parts) seat Task.Idle refl rows
         (terms-by [] p.spawns (exchanged number p.term inside later)
         (λ i differs. (found_altered number (renewed p.term inside) (λ _. refl) later.members).others i differs))
 

@@ -1,16 +1,14 @@
 -- A seat that tells that it has stopped has nothing at work, and a stop is kept.
 use Rattle.std.proofs.Common.{◌≡◌, ℕ, Bool, true, false, List, IsSome, refl, sym, ap, ◌∙◌, subst}
 use Rattle.std.specs.Prelude.{is_some, nat_lt, if◌then◌else◌}
-use Rattle.ame_term.specs.Tree.{Val, Tree}
 use Rattle.ame_journal.specs.declared.entry.Entry.{Entry}
 use Rattle.ame_pool.specs.declared.oldest.Oldest.{Oldest}
 use Rattle.ame_pool.specs.Begin.{oldest}
-use Rattle.ame_runner.specs.Stage.{Stage}
-use Rattle.ame_stands.specs.declared.types.Task.{Task}
-use Rattle.ame_stands.specs.Parts.{task_at}
+use Rattle.ame_protocol.specs.declared.types.Task.{Task}
+use Rattle.ame_protocol.specs.Engine.Parts.{task_at}
 use Rattle.ame_engine.specs.declared.certificate.Certificate.{Certificate}
-use Rattle.ame_engine.specs.declared.chance.Chance.{Chance}
-use Rattle.ame_engine.specs.Begins.{chance_by, chance_of}
+use Rattle.ame_engine.specs.declared.pick.Pick.{Pick}
+use Rattle.ame_engine.specs.Begins.{pick_by, pick_of}
 use Rattle.ame_engine.specs.Causes.{certificates_in}
 use Rattle.ame_engine.specs.Core.{Core}
 use Rattle.ame_engine.specs.Seen.{parts_of}
@@ -18,7 +16,7 @@ use Rattle.ame_turn.specs.declared.work.Deed.{Deed}
 use Rattle.ame_turn.specs.declared.work.Work.{Work}
 use Rattle.ame_turn.specs.Work.{stage_at}
 use Rattle.ame_turn.specs.Deeds.{StopsBy}
-use Rattle.ame_shell.specs.Shell.{Shown}
+use Rattle.ame_shell.specs.Shell.{ShellView}
 use Rattle.ame_shell.specs.Turned.{HasTurned}
 use Rattle.ame_baton.specs.declared.view.Knows.{Knows}
 use Rattle.ame_worker.specs.declared.gate.Point.{Point}
@@ -28,6 +26,7 @@ use Rattle.ame_worker.specs.Rows.{Row}
 use Rattle.ame_worker.specs.Points.{point_of}
 use Rattle.ame_worker.specs.Turns.{MakesTurn}
 use Rattle.ame_worker.specs.Workers.{IsThrough}
+use Rattle.ame_machine.specs.Meaning.{Meaning}
 
 pub did-is : (p q : Point) → Turned.Did p ≡ Turned.Did q → p ≡ q
 did-is p q e = cc
@@ -37,7 +36,7 @@ point-stopped Deed.Stopped before after e = refl
 point-stopped _ before after e = cc
 
 -- only a kept stop is met as one
-by-stop : (stopped spent : Bool) (o : Oldest) → (if stopped then Chance.Stopped else chance_by spent o) ≡ Chance.Stopped → stopped ≡ true
+by-stop : (stopped spent : Bool) (o : Oldest) → (if stopped then Pick.Stopped else pick_by spent o) ≡ Pick.Stopped → stopped ≡ true
 by-stop true spent o e = refl
 by-stop false spent Oldest.Empty e = cc
 by-stop false spent Oldest.Parked e = cc
@@ -52,30 +51,30 @@ module _ {C V M : Type 0} where
     pub tasks : new.tasks ≡ old.tasks
     pub stop : IsSome new.stop
 
-  stops-so : (certificates : List Certificate) (chance : Chance) (old new : Core C V M) → chance_of old ≡ chance → StopsBy certificates chance old new → Stops old new
-  stops-so certificates Chance.Stopped old new met is = record {
+  stops-so : (certificates : List Certificate) (pick : Pick) (old new : Core C V M) → pick_of old ≡ pick → StopsBy certificates pick old new → Stops old new
+  stops-so certificates Pick.Stopped old new met is = record {
     tasks = ap (λ (c : Core C V M). c.tasks) is;
     stop =
         ap (λ (c : Core C V M). is_some c.stop) is
         ∙ by-stop (is_some old.stop) (if nat_lt old.turns old.limits.turns then false else true) (oldest old.pool) met;
   }
-  stops-so certificates Chance.Finished old new met is = record { tasks = ap (λ (c : Core C V M). c.tasks) is; stop = ap (λ (c : Core C V M). is_some c.stop) is }
-  stops-so certificates Chance.Blocked old new met is = record { tasks = ap (λ (c : Core C V M). c.tasks) is; stop = ap (λ (c : Core C V M). is_some c.stop) is }
-  stops-so certificates Chance.Spent old new met is = record { tasks = ap (λ (c : Core C V M). c.tasks) is; stop = ap (λ (c : Core C V M). is_some c.stop) is }
-  stops-so certificates Chance.Idle old new met is = absurd is
-  stops-so certificates (Chance.Member number) old new met is = absurd is
+  stops-so certificates Pick.Finished old new met is = record { tasks = ap (λ (c : Core C V M). c.tasks) is; stop = ap (λ (c : Core C V M). is_some c.stop) is }
+  stops-so certificates Pick.Blocked old new met is = record { tasks = ap (λ (c : Core C V M). c.tasks) is; stop = ap (λ (c : Core C V M). is_some c.stop) is }
+  stops-so certificates Pick.Spent old new met is = record { tasks = ap (λ (c : Core C V M). c.tasks) is; stop = ap (λ (c : Core C V M). is_some c.stop) is }
+  stops-so certificates Pick.Idle old new met is = absurd is
+  stops-so certificates (Pick.Member number) old new met is = absurd is
 
-module _ {C V M : Type 0} (program : C → Tree) (devices : C → ℕ) (value_of : C → V → Val) (is_machine : C → M → Type 0) (stage : C → M → Stage) where
+module _ {C V M : Type 0} (meaning : Meaning C V M) where
   pub is-through : (code : C) (old new : Work M) (holding after : Knows (Opened C) (Row M) Entry) (point : Point)
-      → MakesTurn program devices value_of is_machine stage code old new holding after point → point ≡ Point.Stopped → IsThrough after
+      → MakesTurn meaning code old new holding after point → point ≡ Point.Stopped → IsThrough after
   is-through code old new holding after point m e =
       let seat = holding.number in
       let deed : m.deed ≡ Deed.Stopped = point-stopped m.deed _ _ (sym m.told ∙ e) in
-      let turned : HasTurned program devices value_of stage seat (stage_at stage code old) m.taken m.given Deed.Stopped =
-      subst (λ (d : Deed). HasTurned program devices value_of stage seat (stage_at stage code old) m.taken m.given d) deed m.turned in
+      let turned : HasTurned meaning seat (stage_at meaning.stage code old) m.taken m.given Deed.Stopped =
+      subst (λ (d : Deed). HasTurned meaning seat (stage_at meaning.stage code old) m.taken m.given d) deed m.turned in
       let event = turned.done.event in
-      let stops = stops-so (certificates_in (parts_of program devices value_of stage m.taken.core)) event.0 m.taken.core turned.core event.1.meets event.2 in
-      let core : m.given.core ≡ turned.core = ap (λ (s : Shown C V M). s.core) (turned.stays refl) in
+      let stops = stops-so (certificates_in (parts_of meaning m.taken.core)) event.0 m.taken.core turned.core event.1.meets event.2 in
+      let core : m.given.core ≡ turned.core = ap (λ (s : ShellView C V M). s.core) (turned.stays refl) in
       record {
         free = m.gave.free;
         idle =

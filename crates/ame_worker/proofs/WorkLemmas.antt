@@ -2,12 +2,12 @@
 use Rattle.std.proofs.Common.{◌≡◌, ℕ, ◌+◌, ◌-◌, false, sym, ap, ◌∙◌, arith}
 use Rattle.std.specs.Prelude.{Result, Ok, Err, is_err, OnOk, option_and_then}
 use Rattle.ame_term.specs.Frame.{Side, side_told}
-use Rattle.ame_local.specs.Local.{LocalState, goes}
-use Rattle.ame_local.proofs.RunLemmas.{goes-added}
-use Rattle.ame_runner.specs.Stage.{Stage, running_side, place_shown}
-use Rattle.ame_runner.specs.Move.{Advances, AdvancesWithin}
-use Rattle.ame_runner.proofs.MoveLemmas.{advances-none}
-use Rattle.ame_runner.proofs.RunnableLemmas.{runs-advanced}
+use Rattle.ame_machine.specs.Run.Local.{LocalState, goes}
+use Rattle.ame_machine.proofs.Run.RunLemmas.{goes-added}
+use Rattle.ame_machine.specs.MachineView.{MachineView, running_side, place_shown}
+use Rattle.ame_machine.specs.Move.{Advances, AdvancesWithin}
+use Rattle.ame_machine.proofs.MoveLemmas.{advances-none}
+use Rattle.ame_machine.proofs.RunnableLemmas.{runs-advanced}
 use Rattle.ame_turn.specs.declared.work.Work.{Work}
 use Rattle.ame_turn.specs.declared.work.Work.TheVariants as work
 use Rattle.ame_turn.specs.Ready.{CanBePrepared, IsPrepared}
@@ -18,7 +18,7 @@ ready-unless (Ok a) P fine h = h
 ready-unless (Err e) P fine h = cc
 
 -- steps, and then more steps
-both-advance : (j k : ℕ) (s t u : Stage) → Advances j s t → Advances k t u → Advances (j + k) s u
+both-advance : (j k : ℕ) (s t u : MachineView) → Advances j s t → Advances k t u → Advances (j + k) s u
 both-advance j k s t u a b = record {
   run =
       goes-added (running_side s) (place_shown s) j k
@@ -30,7 +30,7 @@ both-advance j k s t u a b = record {
   since = let x = a.since in let y = b.since in omega (arith, x, y);
 }
 
-module _ {C M : Type 0} (is_machine : C → M → Type 0) (stage : C → M → Stage) (code : C) (slice : ℕ) where
+module _ {C M : Type 0} (is_machine : C → M → Type 0) (stage : C → M → MachineView) (code : C) (slice : ℕ) where
   -- nothing was done
   pub prepared-none : (hand : Work M) → CanBePrepared is_machine stage code slice hand → IsPrepared is_machine stage code slice hand hand
   prepared-none work.Idle can = tt

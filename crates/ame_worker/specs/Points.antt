@@ -1,6 +1,6 @@
 -- What a worker tells of its turn.
 use Rattle.std.specs.Prelude.{ℕ, unwrap_or}
-use Rattle.ame_stands.specs.Parts.{task_at, member_of}
+use Rattle.ame_protocol.specs.Engine.Parts.{task_at, member_of}
 use Rattle.ame_engine.specs.Core.{Core}
 use Rattle.ame_turn.specs.declared.work.Deed.{Deed}
 use Rattle.ame_worker.specs.declared.gate.Point.{Point}

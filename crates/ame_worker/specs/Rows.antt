@@ -2,9 +2,9 @@
 use Rattle.std.specs.Prelude.{ℕ, Bool, false, List, [], map, slice_index_or}
 use Rattle.std.specs.List.{range_with_len}
 use Rattle.ame_rows.specs.declared.notes.ReadNote.{ReadNote}
-use Rattle.ame_desk.specs.Contents.{row_at}
-use Rattle.ame_stands.specs.declared.types.Task.{Task}
-use Rattle.ame_stands.specs.Parts.{task_at}
+use Rattle.ame_rows.specs.MemoryView.{row_at}
+use Rattle.ame_protocol.specs.declared.types.Task.{Task}
+use Rattle.ame_protocol.specs.Engine.Parts.{task_at}
 use Rattle.ame_engine.specs.Core.{Core}
 use Rattle.ame_turn.specs.declared.work.Work.{Work}
 use Rattle.ame_turn.specs.declared.work.Work.TheVariants as work
@@ -37,7 +37,7 @@ module _ {C V M : Type 0} where
   abbrev pub row_of : Core C V M → ℕ → Kept M → Row M
   row_of core seat kept = record {
     task = task_at core.tasks seat;
-    reads = (row_at core.desk.rows seat).reads;
+    reads = (row_at core.memory.rows seat).reads;
     hand = kept.hand;
     marked = kept.marked;
   }

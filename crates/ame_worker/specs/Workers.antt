@@ -1,9 +1,9 @@
 -- What is so of a worker between its turns.
 use Rattle.std.specs.Prelude.{◌≡◌, ℕ, ◌≤◌, ◌<◌, true, false, Some, length}
 use Rattle.ame_journal.specs.declared.entry.Entry.{Entry}
-use Rattle.ame_runner.specs.Stage.{Stage}
-use Rattle.ame_stands.specs.declared.types.Limits.{Limits}
-use Rattle.ame_stands.specs.declared.types.Task.{Task}
+use Rattle.ame_machine.specs.MachineView.{MachineView}
+use Rattle.ame_protocol.specs.declared.types.Limits.{Limits}
+use Rattle.ame_protocol.specs.declared.types.Task.{Task}
 use Rattle.ame_engine.specs.Whole.{AreLimits}
 use Rattle.ame_turn.specs.declared.work.Work.{Work}
 use Rattle.ame_turn.specs.Ready.{CanBePrepared, IsPrepared}
@@ -22,7 +22,7 @@ pub record IsSeated {C M : Type 0} (devices : C → ℕ) (code : C) (limits : Li
   pub number : k.number < limits.seats
   pub seats : k.seats ≡ limits.seats
 
-module _ {C M : Type 0} (devices : C → ℕ) (is_machine : C → M → Type 0) (stage : C → M → Stage) where
+module _ {C M : Type 0} (devices : C → ℕ) (is_machine : C → M → Type 0) (stage : C → M → MachineView) where
   -- It hasn't the turn. What it has at hand is what it had when it gave the turn, but for steps that its machine made alone.
   pub record IsReadyToTurn (code : C) (limits : Limits) (k : Knows (Opened C) (Row M) Entry) (hand : Work M) : Type 0 where
     pub seated : IsSeated devices code limits k

@@ -14,7 +14,7 @@ use crate::shared::Shared;
 use ame_baton::{AnyRow, Baton, Seat};
 use ame_device::Device;
 use ame_io::Sink;
-use ame_runner::Runner;
+use ame_machine::Runner;
 use ame_turn::{Turned, Work};
 use std::sync::Wait;
 
@@ -38,16 +38,16 @@ where
     M::Code: Drop,
     requires of { IsSeatOf baton.now seat.old }
     requires holds { (knows seat.old).holds ≡ true }
-    requires seated { IsSeated M.devices code.now shared.shell.value.engine.limits (knows seat.old) }
+    requires seated { IsSeated M.meaning.devices code.now shared.shell.value.engine.limits (knows seat.old) }
     requires found { slice_get (knows seat.old).rows (knows seat.old).number ≡ Some (knows seat.old).row }
-    requires stands { IsSomeAnd (knows seat.old).fixed (λ opened. IsShared M.program M.devices M.value_of M.is_machine M.stage opened
+    requires stands { IsSomeAnd (knows seat.old).fixed (λ opened. IsShared M.meaning opened
         (shown K.written K.faults D.device_heard D.device_faults shared.shell.value.engine shared.shell.value.sent shared.shell.value.sink shared.shell.value.devices.items)
         shared.places.items (knows seat.old).rows (knows seat.old).seen) }
-    requires prepared { IsPrepared M.is_machine M.stage code.now shared.shell.value.engine.limits.slice (knows seat.old).row.hand work }
-    requires ready { lacks ≡ false → IsReadyWork M.stage code.now shared.shell.value.engine.limits.slice work }
+    requires prepared { IsPrepared M.meaning.is_machine M.meaning.stage code.now shared.shell.value.engine.limits.slice (knows seat.old).row.hand work }
+    requires ready { lacks ≡ false → IsReadyWork M.meaning.stage code.now shared.shell.value.engine.limits.slice work }
     ensures of { IsSeatOf baton.now seat.new }
-    ensures ready { IsReadyToTurn M.devices M.is_machine M.stage code.now shared.shell.value.engine.limits (knows seat.new) result.work }
-    ensures makes { MakesTurn M.program M.devices M.value_of M.is_machine M.stage code.now work result.work (knows seat.old) (knows seat.new) result.point }
+    ensures ready { IsReadyToTurn M.meaning.devices M.meaning.is_machine M.meaning.stage code.now shared.shell.value.engine.limits (knows seat.new) result.work }
+    ensures makes { MakesTurn M.meaning code.now work result.work (knows seat.old) (knows seat.new) result.point }
 {
     let number = seat.number();
     let mut shared = shared;

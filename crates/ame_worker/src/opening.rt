@@ -12,9 +12,9 @@ use crate::shared::{Place, Shared};
 use ame_device::Device;
 use ame_engine::Engine;
 use ame_io::Sink;
-use ame_runner::Runner;
+use ame_machine::Runner;
+use ame_protocol::Limits;
 use ame_shell::Shell;
-use ame_stands::Limits;
 use ame_turn::Work;
 use std::alloc::{AllocError, Global};
 use std::sync::Arc;
@@ -43,7 +43,7 @@ where
         devices: Vec<D>,
     ) -> Result<Shared<M, K, D>, (K, Vec<D>)>
         requires limits { AreLimits limits }
-        ensures stands { IfOk result (λ shared. IsShared M.program M.devices M.value_of M.is_machine M.stage
+        ensures stands { IfOk result (λ shared. IsShared M.meaning
             (opened_with (arc_value code) limits (ends_of K.written K.faults D.device_heard D.device_faults sink devices.items))
             (shown K.written K.faults D.device_heard D.device_faults shared.shell.value.engine shared.shell.value.sent shared.shell.value.sink shared.shell.value.devices.items)
             shared.places.items (replicate limits.seats empty_row) []) }

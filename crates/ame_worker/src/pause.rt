@@ -6,7 +6,7 @@ use std::thread::Parker;
 use std::time::Duration;
 
 /// How often a worker tries again at once, before it sleeps.
-const SPINS: u32 = 4;
+const SPINS: u32 = 16;
 
 /// How long a worker sleeps that has waited in vain, in microseconds. Where turns are all that there is to do, one worker by itself
 /// makes them fastest; so the others should seldom come between.

@@ -5,8 +5,8 @@ ghost use Rattle.ame_worker.specs.Points.{member_at, point_of};
 
 use crate::gate::Point;
 use ame_engine::Engine;
-use ame_runner::Runner;
-use ame_stands::Task;
+use ame_machine::Runner;
+use ame_protocol::Task;
 use ame_turn::Deed;
 
 /// The member that a seat has at work, and 0 where it has none.

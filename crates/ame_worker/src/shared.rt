@@ -7,9 +7,9 @@ use ame_baton::Rowed;
 use ame_device::{Device, Told};
 use ame_io::Sink;
 use ame_journal::Entry;
-use ame_runner::Runner;
+use ame_machine::Runner;
+use ame_protocol::Limits;
 use ame_shell::Shell;
-use ame_stands::Limits;
 use ame_turn::Work;
 use std::collections::LinkedList;
 use std::marker::Model;
@@ -125,7 +125,7 @@ where
     ghost use Rattle.ame_worker.specs.Shared.{opened_as, IsShared};
     ghost use Rattle.ame_worker.specs.Turns.{maker};
 
-    ghost stands_for = { λ s opened rows entries. IsShared M.program M.devices M.value_of M.is_machine M.stage opened
+    ghost stands_for = { λ s opened rows entries. IsShared M.meaning opened
         (shown K.written K.faults D.device_heard D.device_faults s.shell.value.engine s.shell.value.sent s.shell.value.sink s.shell.value.devices.items)
         s.places.items rows entries };
 

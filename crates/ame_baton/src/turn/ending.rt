@@ -1,7 +1,7 @@
 //! How the state comes out of the baton at the end.
 ghost use Rattle.std.specs.Prelude.{◌≡◌, ◌+◌, [], ◌∷◌, ◌++◌, length, vec_len};
 ghost use Rattle.crossbeam_queue.specs.Passes.{view, IsPassOf};
-ghost use Rattle.ame_baton.specs.Seats.{left_by, Ends};
+ghost use Rattle.ame_baton.specs.Seats.{left_by, HasEnded};
 ghost use Rattle.ame_baton.specs.Rule.{IsFirst, with_ended};
 ghost use Rattle.ame_baton.specs.Batons.{knows, left_by_each, IsReadySeat, AreReady};
 
@@ -21,7 +21,7 @@ impl<S: Rowed> Baton<S> {
         requires first { IsReadySeat self 0 first }
         requires rest { AreReady self 1 rest.items }
         requires all { (knows first).made ≡ vec_len rest + 1 }
-        ensures { Ends S.stands_for S.empty_row S.seat_of
+        ensures { HasEnded S.stands_for S.empty_row S.seat_of
             (knows first).fixed (left_by (knows first) ∷ left_by_each rest.items) result }
     {
         let mut pass = first.into_pass();

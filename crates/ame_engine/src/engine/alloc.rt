@@ -4,17 +4,17 @@ ghost use Rattle.std.specs.Prelude.{◌≡◌, ◌<◌, IfOk, OnOk, OnErr, Some,
 ghost use Rattle.ame_term.specs.Tree.{Val};
 ghost use Rattle.ame_term.specs.declared.types.Sort.{Sort};
 ghost use Rattle.ame_term.specs.declared.types.TyNo.{TyNo};
-ghost use Rattle.ame_runner.specs.declared.wants.Wants.{Wants};
-ghost use Rattle.ame_runner.specs.Stage.{Stage};
-ghost use Rattle.ame_runner.specs.Input.{value_to_set};
-ghost use Rattle.ame_runner.specs.Sound.{CanRun};
-ghost use Rattle.ame_stands.specs.Events.{has_allocated};
+ghost use Rattle.ame_machine.specs.declared.wants.Wants.{Wants};
+ghost use Rattle.ame_machine.specs.MachineView.{MachineView};
+ghost use Rattle.ame_machine.specs.Input.{value_to_set};
+ghost use Rattle.ame_machine.specs.Sound.{CanRun};
+ghost use Rattle.ame_protocol.specs.Engine.Events.{has_allocated};
 ghost use Rattle.ame_engine.specs.Counting.{Counted, one_counted};
 ghost use Rattle.ame_engine.specs.Seen.{parts_of, MakesEvent};
 ghost use Rattle.ame_engine.specs.AtWork.{IsOn, IsOnSeat, IsAllocating};
 
 use super::Engine;
-use ame_runner::{Runner, Wants};
+use ame_machine::{Runner, Wants};
 use ame_term::{Copied, Loc, NoMemory};
 
 impl<M: Runner> Engine<M>
@@ -24,24 +24,24 @@ where
     /// Makes the cell that the machine of a seat wants, with the value that it lends. The seat owns the cell, which isn't live
     /// before its row is committed. Counts a turn. Takes memory for the cell, the logs and the copy of a value.
     pub fn alloc(&mut self, seat: u32, at: &M) -> Result<Loc, NoMemory>
-        requires on { IsOn M.program M.devices M.value_of M.is_machine M.stage self.old seat at.now }
-        requires allocates { IsAllocating (M.stage self.old.code at.now) }
+        requires on { IsOn M.meaning self.old seat at.now }
+        requires allocates { IsAllocating (M.meaning.stage self.old.code at.now) }
         requires left { self.old.turns < self.old.limits.turns }
         requires going { self.old.stop ≡ None }
-        requires early { (M.stage self.old.code at.now).since < self.old.limits.slice }
-        ensures location { IfOk result (λ l. l.0 ≡ length self.old.desk.cells) }
-        ensures event { (sort : Sort) (number : TyNo) (v : Val) → (M.stage self.old.code at.now).want ≡ Some (Wants.Alloc sort number)
-            → value_to_set (M.stage self.old.code at.now) ≡ Some v → OnOk result
-            (MakesEvent M.program M.devices M.value_of M.stage (one_counted Counted.Alloc) (has_allocated seat sort number v) self.old self.new) }
-        ensures runs { OnOk result ((s : Stage) → IsOnSeat (parts_of M.program M.devices M.value_of M.stage self.new) seat s → s.inside ≡ false → CanRun s) }
+        requires early { (M.meaning.stage self.old.code at.now).since < self.old.limits.slice }
+        ensures location { IfOk result (λ l. l.0 ≡ length self.old.memory.cells) }
+        ensures event { (sort : Sort) (number : TyNo) (v : Val) → (M.meaning.stage self.old.code at.now).want ≡ Some (Wants.Alloc sort number)
+            → value_to_set (M.meaning.stage self.old.code at.now) ≡ Some v → OnOk result
+            (MakesEvent M.meaning (one_counted Counted.Alloc) (has_allocated seat sort number v) self.old self.new) }
+        ensures runs { OnOk result ((s : MachineView) → IsOnSeat (parts_of M.meaning self.new) seat s → s.inside ≡ false → CanRun s) }
         ensures err { OnErr result (self.new ≡ self.old) }
     {
         let Some(Wants::Alloc(sort, number)) = at.want() else {
             unreachable!();
         };
         let value = at.wanted(&self.code).copy(*self.tasks.allocator())?;
-        let input = M::location_value(Loc(self.desk.cells().len()));
-        let l = self.desk.allocate(seat, sort, number, value, input)?;
+        let input = M::location_value(Loc(self.memory.cells().len()));
+        let l = self.memory.allocate(seat, sort, number, value, input)?;
         self.turns += 1;
         self.counters.allocs += 1;
         Ok(l)

@@ -1,34 +1,34 @@
 //! How a seat begins a member.
 
-ghost use Rattle.std.specs.Prelude.{◌≡◌, ◌<◌, ◌++◌, ℕ, false, length, None, IfOk, OnErr, IsTrue};
+ghost use Rattle.std.specs.Prelude.{◌≡◌, ◌<◌, ◌++◌, ℕ, None, IfOk, OnErr, IsTrue};
 ghost use Rattle.std.specs.Option.{ForSome};
 ghost use Rattle.ame_pool.specs.Members.{is_ready};
 ghost use Rattle.ame_pool.specs.Calls.{IsAt, held, machine_of};
 ghost use Rattle.ame_pool.specs.Keeps.{is_inside_at};
 ghost use Rattle.ame_pool.specs.declared.oldest.Oldest.{Oldest};
 ghost use Rattle.ame_pool.specs.Begin.{oldest as oldest_of};
-ghost use Rattle.ame_stands.specs.Parts.{task_at};
-ghost use Rattle.ame_stands.specs.Events.{begun_task as task_begun};
+ghost use Rattle.ame_protocol.specs.Engine.Parts.{task_at};
+ghost use Rattle.ame_protocol.specs.Engine.Events.{begun_task as task_begun, attempt_after};
 ghost use Rattle.ame_engine.specs.Seen.{parts_of};
-ghost use Rattle.ame_engine.specs.Begins.{chance_of, takes_memory, HasBegun, Answers};
+ghost use Rattle.ame_engine.specs.Begins.{pick_of, takes_memory, HasBegun, Answers};
 ghost use Rattle.ame_engine.specs.Causes.{certificates_in};
 ghost use Rattle.ame_engine.specs.Stops.{stopped_by, blocked_by};
 ghost use Rattle.ame_engine.specs.Bounds.{LeavesNoTry};
 
 use super::Engine;
 use crate::answer::Begin;
-use crate::chance::{Chance, chance_by};
+use crate::pick::{Pick, pick_by};
 use crate::stop::Stop;
 use ame_journal::Entry;
+use ame_machine::Runner;
 use ame_pool::Pool;
-use ame_runner::Runner;
-use ame_stands::{Attempt, Task, Tried};
+use ame_protocol::{Attempt, Task, Tried};
 use ame_term::NoMemory;
 use std::alloc::Global;
 
 /// An attempt of a member that begins after these entries.
 fn attempt_now(number: u64, base: &[Entry], entries: &[Entry]) -> Attempt
-    ensures { result ≡ record { tried = record { number = number; at = length (base.now ++ entries.now); steps = 0 }; told = false } }
+    ensures { result ≡ attempt_after number (base.now ++ entries.now) }
 {
     Attempt {
         tried: Tried {
@@ -36,7 +36,7 @@ fn attempt_now(number: u64, base: &[Entry], entries: &[Entry]) -> Attempt
             at: base.len() as u64 + entries.len() as u64,
             steps: 0,
         },
-        told: false,
+        logged: false,
     }
 }
 
@@ -85,24 +85,24 @@ where
     M::Code: Drop,
 {
     /// What a seat would meet that begins now.
-    fn chance(&self) -> Chance
-        ensures chance { result ≡ chance_of self.now }
-        ensures oldest { (number : ℕ) → result ≡ Chance.Member number → oldest_of self.now.pool ≡ Oldest.Member number }
-        ensures ready { (number : ℕ) → result ≡ Chance.Member number → IsAt is_ready number self.now.pool }
-        ensures left { (number : ℕ) → result ≡ Chance.Member number → self.now.turns < self.now.limits.turns }
-        ensures going { (number : ℕ) → result ≡ Chance.Member number → self.now.stop ≡ None }
+    fn pick(&self) -> Pick
+        ensures pick { result ≡ pick_of self.now }
+        ensures oldest { (number : ℕ) → result ≡ Pick.Member number → oldest_of self.now.pool ≡ Oldest.Member number }
+        ensures ready { (number : ℕ) → result ≡ Pick.Member number → IsAt is_ready number self.now.pool }
+        ensures left { (number : ℕ) → result ≡ Pick.Member number → self.now.turns < self.now.limits.turns }
+        ensures going { (number : ℕ) → result ≡ Pick.Member number → self.now.stop ≡ None }
     {
         if self.stop.is_some() {
-            return Chance::Stopped;
+            return Pick::Stopped;
         }
-        chance_by(self.turns >= self.limits.turns, self.pool.oldest())
+        pick_by(self.turns >= self.limits.turns, self.pool.oldest())
     }
 
     /// Where a seat is idle, and it is the only one, no row is left that would leave a try.
     fn idle_seats_leave_no_try(&self, seat: u32)
         requires seat { seat < self.now.limits.seats }
         requires idle { task_at self.now.tasks seat ≡ Task.Idle }
-        ensures { LeavesNoTry Stop.Spent (parts_of M.program M.devices M.value_of M.stage self.now) }
+        ensures { LeavesNoTry Stop.Spent (parts_of M.meaning self.now) }
     {
         let _ = seat;
         let _ = &self.turns;
@@ -116,7 +116,7 @@ where
         requires ready { IsAt is_ready number self.old.pool }
         requires left { self.old.turns < self.old.limits.turns }
         requires going { self.old.stop ≡ None }
-        ensures begun { IfOk result (HasBegun M.program M.devices M.value_of M.is_machine M.stage seat number self.old self.new) }
+        ensures begun { IfOk result (HasBegun M.meaning seat number self.old self.new) }
         ensures err { OnErr result (self.new ≡ self.old) }
     {
         self.tried.reserve(self.limits.seats as usize)?;
@@ -139,31 +139,31 @@ where
         requires seat { seat < self.old.limits.seats }
         requires idle { task_at self.old.tasks seat ≡ Task.Idle }
         ensures answer { IfOk result (Answers
-            (λ number m. HasBegun M.program M.devices M.value_of M.is_machine M.stage seat number self.old self.new m)
+            (λ number m. HasBegun M.meaning seat number self.old self.new m)
             (λ why. self.new ≡ stopped_by why self.old)
-            (self.new ≡ blocked_by (certificates_in (parts_of M.program M.devices M.value_of M.stage self.old)) self.old)
-            (self.new ≡ self.old) (chance_of self.old)) }
+            (self.new ≡ blocked_by (certificates_in (parts_of M.meaning self.old)) self.old)
+            (self.new ≡ self.old) (pick_of self.old)) }
         ensures err { OnErr result (self.new ≡ self.old) }
-        ensures wants { OnErr result (IsTrue (takes_memory (chance_of self.old))) }
+        ensures wants { OnErr result (IsTrue (takes_memory (pick_of self.old))) }
     {
         self.stops_have_causes();
         self.idle_seats_leave_no_try(seat);
-        match self.chance() {
-            Chance::Member(number) => {
+        match self.pick() {
+            Pick::Member(number) => {
                 let machine = self.begin_member(seat, number)?;
                 Ok(Begin::Begun(machine))
             }
-            Chance::Idle => Ok(Begin::Idle),
-            Chance::Stopped => Ok(Begin::Stopped),
-            Chance::Blocked => {
+            Pick::Idle => Ok(Begin::Idle),
+            Pick::Stopped => Ok(Begin::Stopped),
+            Pick::Blocked => {
                 self.keep_blocked()?;
                 Ok(Begin::Stopped)
             }
-            Chance::Finished => {
+            Pick::Finished => {
                 self.keep(Stop::Finished);
                 Ok(Begin::Stopped)
             }
-            Chance::Spent => {
+            Pick::Spent => {
                 self.keep(Stop::Spent);
                 Ok(Begin::Stopped)
             }

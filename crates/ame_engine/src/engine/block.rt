@@ -3,13 +3,13 @@
 ghost use Rattle.std.specs.Prelude.{◌≡◌, ◌<◌, ◌↔◌, IfOk, OnOk, OnErr, Ok, None, map};
 ghost use Rattle.ame_rows.specs.declared.notes.Bad.{Bad};
 ghost use Rattle.ame_rows.specs.Valid.{IsValid, IsFirstBad};
-ghost use Rattle.ame_desk.specs.Contents.{row_at};
-ghost use Rattle.ame_owed.specs.Waiting.{read_places};
-ghost use Rattle.ame_runner.specs.Stage.{place_shown};
-ghost use Rattle.ame_stands.specs.declared.types.Attempt.{Attempt};
-ghost use Rattle.ame_stands.specs.Parts.{task_at};
-ghost use Rattle.ame_stands.specs.Events.{has_turned_back};
-ghost use Rattle.ame_waiting.specs.Noted.{has_noted};
+ghost use Rattle.ame_rows.specs.MemoryView.{row_at};
+ghost use Rattle.ame_protocol.specs.Row.Waiting.{read_places};
+ghost use Rattle.ame_machine.specs.MachineView.{place_shown};
+ghost use Rattle.ame_protocol.specs.declared.types.Attempt.{Attempt};
+ghost use Rattle.ame_protocol.specs.Engine.Parts.{task_at};
+ghost use Rattle.ame_protocol.specs.Engine.Events.{has_turned_back};
+ghost use Rattle.ame_protocol.specs.Waits.Noted.{has_noted};
 ghost use Rattle.ame_engine.specs.Counting.{Counted, one_counted, one_invalid};
 ghost use Rattle.ame_engine.specs.Seen.{MakesEvent};
 ghost use Rattle.ame_engine.specs.AtWork.{IsOn, IsBlocking};
@@ -19,9 +19,9 @@ use super::Engine;
 use super::notes::{note_of, told};
 use crate::answer::Noted;
 use ame_journal::EntryKind;
+use ame_machine::Runner;
+use ame_protocol::{Attempt, Reason, Task};
 use ame_rows::ReadNote;
-use ame_runner::Runner;
-use ame_stands::{Attempt, Reason, Task};
 use ame_term::{Loc, NoMemory};
 use std::alloc::Global;
 
@@ -42,20 +42,20 @@ where
 {
     /// Notes a row whose reads are valid. All memory is taken before the first change.
     fn block_valid(&mut self, seat: u32, attempt: Attempt, at: &M) -> Result<(), NoMemory>
-        requires on { IsOn M.program M.devices M.value_of M.is_machine M.stage self.old seat at.now }
-        requires blocks { IsBlocking (M.stage self.old.code at.now) }
+        requires on { IsOn M.meaning self.old seat at.now }
+        requires blocks { IsBlocking (M.meaning.stage self.old.code at.now) }
         requires left { self.old.turns < self.old.limits.turns }
         requires going { self.old.stop ≡ None }
         requires task { task_at self.old.tasks seat ≡ Task.Running attempt }
-        requires valid { IsValid self.old.desk.cells seat (row_at self.old.desk.rows seat).reads }
-        ensures noted { OnOk result (MakesEvent M.program M.devices M.value_of M.stage (one_counted Counted.Block)
-            (has_noted seat attempt (M.stage self.old.code at.now).steps (place_shown (M.stage self.old.code at.now))) self.old self.new) }
+        requires valid { IsValid self.old.memory.cells seat (row_at self.old.memory.rows seat).reads }
+        ensures noted { OnOk result (MakesEvent M.meaning (one_counted Counted.Block)
+            (has_noted seat attempt (M.meaning.stage self.old.code at.now).steps (place_shown (M.meaning.stage self.old.code at.now))) self.old self.new) }
         ensures err { OnErr result (self.new ≡ self.old) }
     {
         let alloc = *self.tasks.allocator();
         let number = attempt.tried.number;
         let entry = note_of(alloc, EntryKind::Stuck, seat, number, at)?;
-        let locs = read_locations(alloc, self.desk.row(seat).reads())?;
+        let locs = read_locations(alloc, self.memory.row(seat).reads())?;
         self.journal.room()?;
         self.pool.note(number, locs)?;
         self.journal.push(entry);
@@ -69,26 +69,26 @@ where
     /// watches the locations that its row read, and the row is to be undone. Where a read isn't valid the seat turns back
     /// instead. Counts a turn. Takes memory where all reads are valid, all of it before the first change.
     pub fn block(&mut self, seat: u32, at: &M) -> Result<Noted, NoMemory>
-        requires on { IsOn M.program M.devices M.value_of M.is_machine M.stage self.old seat at.now }
-        requires blocks { IsBlocking (M.stage self.old.code at.now) }
+        requires on { IsOn M.meaning self.old seat at.now }
+        requires blocks { IsBlocking (M.meaning.stage self.old.code at.now) }
         requires left { self.old.turns < self.old.limits.turns }
         requires going { self.old.stop ≡ None }
         ensures noted { (attempt : Attempt) → task_at self.old.tasks seat ≡ Task.Running attempt → result ≡ Ok Noted.Noted
-            → MakesEvent M.program M.devices M.value_of M.stage (one_counted Counted.Block)
-            (has_noted seat attempt (M.stage self.old.code at.now).steps (place_shown (M.stage self.old.code at.now))) self.old self.new }
+            → MakesEvent M.meaning (one_counted Counted.Block)
+            (has_noted seat attempt (M.meaning.stage self.old.code at.now).steps (place_shown (M.meaning.stage self.old.code at.now))) self.old self.new }
         ensures back { (attempt : Attempt) (bad : Bad) → task_at self.old.tasks seat ≡ Task.Running attempt → result ≡ Ok (Noted.Invalid bad)
-            → MakesEvent M.program M.devices M.value_of M.stage (one_invalid Counted.Block) (has_turned_back seat attempt) self.old self.new }
-        ensures exact { IfOk result (λ noted. (noted ≡ Noted.Noted) ↔ IsValid self.old.desk.cells seat (row_at self.old.desk.rows seat).reads) }
-        ensures bad { (bad : Bad) → result ≡ Ok (Noted.Invalid bad) → IsFirstBad self.old.desk.cells seat (row_at self.old.desk.rows seat).reads bad }
+            → MakesEvent M.meaning (one_invalid Counted.Block) (has_turned_back seat attempt) self.old self.new }
+        ensures exact { IfOk result (λ noted. (noted ≡ Noted.Noted) ↔ IsValid self.old.memory.cells seat (row_at self.old.memory.rows seat).reads) }
+        ensures bad { (bad : Bad) → result ≡ Ok (Noted.Invalid bad) → IsFirstBad self.old.memory.cells seat (row_at self.old.memory.rows seat).reads bad }
         ensures rolls { (attempt : Attempt) (bad : Bad) → task_at self.old.tasks seat ≡ Task.Running attempt
             → result ≡ Ok (Noted.Invalid bad) → MayBeRolledBack attempt.tried.number self.old.pool }
-        ensures lacks { OnErr result (IsValid self.old.desk.cells seat (row_at self.old.desk.rows seat).reads) }
+        ensures lacks { OnErr result (IsValid self.old.memory.cells seat (row_at self.old.memory.rows seat).reads) }
         ensures err { OnErr result (self.new ≡ self.old) }
     {
         let Task::Running(attempt) = self.tasks[seat as usize] else {
             unreachable!();
         };
-        match self.desk.valid(seat) {
+        match self.memory.valid(seat) {
             None => {
                 self.block_valid(seat, attempt, at)?;
                 Ok(Noted::Noted)

@@ -4,7 +4,7 @@ ghost use Rattle.std.specs.Prelude.{◌≡◌, ◌<◌, ◌++◌, ◌&&◌, ℕ,
 ghost use Rattle.ame_journal.specs.Replay.{or_else};
 ghost use Rattle.ame_pool.specs.declared.oldest.Oldest.{Oldest};
 ghost use Rattle.ame_pool.specs.Begin.{oldest as oldest_of};
-ghost use Rattle.ame_waiting.specs.Waiting.{is_stuck as is_stuck_kind, last_stuck};
+ghost use Rattle.ame_protocol.specs.Waits.Waiting.{is_stuck as is_stuck_kind, last_stuck};
 ghost use Rattle.ame_engine.specs.Causes.{certificate_of as certificate_told, certificates_of as certificates_told, certificates_in};
 ghost use Rattle.ame_engine.specs.Certifying.{certified_by};
 ghost use Rattle.ame_engine.specs.Seen.{parts_of};
@@ -14,7 +14,7 @@ use super::Engine;
 use crate::certificate::Certificate;
 use crate::stop::Stop;
 use ame_journal::{Entry, EntryKind};
-use ame_runner::Runner;
+use ame_machine::Runner;
 use ame_term::{Locs, NoMemory};
 use std::alloc::Global;
 
@@ -182,7 +182,7 @@ where
         requires going { self.old.stop ≡ None }
         requires parked { oldest_of self.old.pool ≡ Oldest.Parked }
         ensures ok { OnOk result (self.new ≡ blocked_by
-            (certificates_in (parts_of M.program M.devices M.value_of M.stage self.old)) self.old) }
+            (certificates_in (parts_of M.meaning self.old)) self.old) }
         ensures err { OnErr result (self.new ≡ self.old) }
     {
         let alloc = *self.tasks.allocator();

@@ -3,10 +3,10 @@
 ghost use Rattle.std.specs.Prelude.{◌≡◌, ◌<◌, ◌++◌, ◌↔◌, None, length, false};
 ghost use Rattle.ame_rows.specs.declared.notes.Bad.{Bad};
 ghost use Rattle.ame_rows.specs.Valid.{IsValid, IsFirstBad};
-ghost use Rattle.ame_desk.specs.Contents.{row_at};
-ghost use Rattle.ame_stands.specs.declared.types.Attempt.{Attempt};
-ghost use Rattle.ame_stands.specs.Parts.{task_at};
-ghost use Rattle.ame_stands.specs.Events.{has_checked, has_turned_back};
+ghost use Rattle.ame_rows.specs.MemoryView.{row_at};
+ghost use Rattle.ame_protocol.specs.declared.types.Attempt.{Attempt};
+ghost use Rattle.ame_protocol.specs.Engine.Parts.{task_at};
+ghost use Rattle.ame_protocol.specs.Engine.Events.{has_checked, has_turned_back};
 ghost use Rattle.ame_engine.specs.Counting.{Counted, one_counted, one_invalid};
 ghost use Rattle.ame_engine.specs.Seen.{MakesEvent};
 ghost use Rattle.ame_engine.specs.AtWork.{IsOn};
@@ -15,8 +15,8 @@ ghost use Rattle.ame_engine.specs.Rollbacks.{MayBeRolledBack};
 use super::Engine;
 use crate::answer::Checked;
 use ame_journal::Entry;
-use ame_runner::Runner;
-use ame_stands::{Attempt, Reason, Task, Tried};
+use ame_machine::Runner;
+use ame_protocol::{Attempt, Reason, Task, Tried};
 
 /// An attempt whose row was found valid after so many steps and these entries.
 fn checked_attempt(attempt: Attempt, steps: u64, base: &[Entry], entries: &[Entry]) -> Attempt
@@ -28,7 +28,7 @@ fn checked_attempt(attempt: Attempt, steps: u64, base: &[Entry], entries: &[Entr
             at: base.len() as u64 + entries.len() as u64,
             steps,
         },
-        told: attempt.told,
+        logged: attempt.logged,
     }
 }
 
@@ -39,26 +39,26 @@ where
     /// Whether each read of a seat that runs protected code is valid, once its machine has made a slice of steps. The seat keeps
     /// the steps and the number of entries where it is; else it turns back. Counts a turn, and takes no memory.
     pub fn check(&mut self, seat: u32, at: &M) -> Checked
-        requires on { IsOn M.program M.devices M.value_of M.is_machine M.stage self.old seat at.now }
-        requires outside { (M.stage self.old.code at.now).inside ≡ false }
-        requires full { (M.stage self.old.code at.now).since ≡ self.old.limits.slice }
+        requires on { IsOn M.meaning self.old seat at.now }
+        requires outside { (M.meaning.stage self.old.code at.now).inside ≡ false }
+        requires full { (M.meaning.stage self.old.code at.now).since ≡ self.old.limits.slice }
         requires left { self.old.turns < self.old.limits.turns }
         requires going { self.old.stop ≡ None }
         ensures valid { (attempt : Attempt) → task_at self.old.tasks seat ≡ Task.Running attempt → result ≡ Checked.Valid
-            → MakesEvent M.program M.devices M.value_of M.stage (one_counted Counted.Check)
-            (has_checked seat (M.stage self.old.code at.now).steps attempt) self.old self.new }
+            → MakesEvent M.meaning (one_counted Counted.Check)
+            (has_checked seat (M.meaning.stage self.old.code at.now).steps attempt) self.old self.new }
         ensures back { (attempt : Attempt) (bad : Bad) → task_at self.old.tasks seat ≡ Task.Running attempt → result ≡ Checked.Invalid bad
-            → MakesEvent M.program M.devices M.value_of M.stage (one_invalid Counted.Check) (has_turned_back seat attempt) self.old self.new }
+            → MakesEvent M.meaning (one_invalid Counted.Check) (has_turned_back seat attempt) self.old self.new }
         ensures rolls { (attempt : Attempt) (bad : Bad) → self.old.stop ≡ None → task_at self.old.tasks seat ≡ Task.Running attempt
             → result ≡ Checked.Invalid bad → MayBeRolledBack attempt.tried.number self.old.pool }
-        ensures exact { (result ≡ Checked.Valid) ↔ IsValid self.old.desk.cells seat (row_at self.old.desk.rows seat).reads }
-        ensures bad { (bad : Bad) → result ≡ Checked.Invalid bad → IsFirstBad self.old.desk.cells seat (row_at self.old.desk.rows seat).reads bad }
+        ensures exact { (result ≡ Checked.Valid) ↔ IsValid self.old.memory.cells seat (row_at self.old.memory.rows seat).reads }
+        ensures bad { (bad : Bad) → result ≡ Checked.Invalid bad → IsFirstBad self.old.memory.cells seat (row_at self.old.memory.rows seat).reads bad }
     {
         let Task::Running(attempt) = self.tasks[seat as usize] else {
             unreachable!();
         };
         let steps = at.steps();
-        match self.desk.valid(seat) {
+        match self.memory.valid(seat) {
             None => {
                 let later = checked_attempt(
                     attempt,

@@ -3,11 +3,11 @@
 ghost use Rattle.std.specs.Prelude.{◌≡◌, ◌<◌, ◌↔◌, IfOk, OnOk, OnErr, Ok, Some, None};
 ghost use Rattle.ame_rows.specs.declared.notes.Bad.{Bad};
 ghost use Rattle.ame_rows.specs.Valid.{IsValid, IsFirstBad};
-ghost use Rattle.ame_desk.specs.Contents.{row_at};
-ghost use Rattle.ame_runner.specs.declared.wants.Wants.{Wants};
-ghost use Rattle.ame_stands.specs.declared.types.Attempt.{Attempt};
-ghost use Rattle.ame_stands.specs.Parts.{task_at};
-ghost use Rattle.ame_stands.specs.Events.{has_turned_back};
+ghost use Rattle.ame_rows.specs.MemoryView.{row_at};
+ghost use Rattle.ame_machine.specs.declared.wants.Wants.{Wants};
+ghost use Rattle.ame_protocol.specs.declared.types.Attempt.{Attempt};
+ghost use Rattle.ame_protocol.specs.Engine.Parts.{task_at};
+ghost use Rattle.ame_protocol.specs.Engine.Events.{has_turned_back};
 ghost use Rattle.ame_engine.specs.Counting.{Counted, one_counted, one_invalid};
 ghost use Rattle.ame_engine.specs.Seen.{MakesEvent};
 ghost use Rattle.ame_engine.specs.AtWork.{IsOn};
@@ -16,8 +16,8 @@ ghost use Rattle.ame_engine.specs.Committing.{IsCommitting, ended_at, left_at};
 
 use super::Engine;
 use crate::answer::Noted;
-use ame_runner::Runner;
-use ame_stands::{Attempt, Reason, Task};
+use ame_machine::Runner;
+use ame_protocol::{Attempt, Reason, Task};
 use ame_term::NoMemory;
 use members::{join_all, send_on, wake_all};
 use taken::{append, entry_of, lines_of, make_room, number_after};
@@ -31,21 +31,21 @@ where
 {
     /// Commits a row whose reads are valid. All memory is taken before the first change.
     fn commit_valid(&mut self, seat: u32, attempt: Attempt, mut at: M) -> Result<(), NoMemory>
-        requires on { IsOn M.program M.devices M.value_of M.is_machine M.stage self.old seat at }
-        requires commits { IsCommitting (M.stage self.old.code at) }
+        requires on { IsOn M.meaning self.old seat at }
+        requires commits { IsCommitting (M.meaning.stage self.old.code at) }
         requires left { self.old.turns < self.old.limits.turns }
         requires going { self.old.stop ≡ None }
         requires task { task_at self.old.tasks seat ≡ Task.Running attempt }
-        requires valid { IsValid self.old.desk.cells seat (row_at self.old.desk.rows seat).reads }
-        ensures ended { (M.stage self.old.code at).want ≡ Some Wants.Done → OnOk result (MakesEvent M.program M.devices M.value_of M.stage
-            (one_counted Counted.Commit) (ended_at seat attempt.tried.number (M.stage self.old.code at)) self.old self.new) }
-        ensures left { (M.stage self.old.code at).want ≡ Some Wants.Leave → OnOk result (MakesEvent M.program M.devices M.value_of M.stage
-            (one_counted Counted.Commit) (left_at seat attempt.tried.number (M.stage self.old.code at)) self.old self.new) }
+        requires valid { IsValid self.old.memory.cells seat (row_at self.old.memory.rows seat).reads }
+        ensures ended { (M.meaning.stage self.old.code at).want ≡ Some Wants.Done → OnOk result (MakesEvent M.meaning
+            (one_counted Counted.Commit) (ended_at seat attempt.tried.number (M.meaning.stage self.old.code at)) self.old self.new) }
+        ensures left { (M.meaning.stage self.old.code at).want ≡ Some Wants.Leave → OnOk result (MakesEvent M.meaning
+            (one_counted Counted.Commit) (left_at seat attempt.tried.number (M.meaning.stage self.old.code at)) self.old self.new) }
         ensures err { OnErr result (self.new ≡ self.old) }
     {
         let alloc = *self.tasks.allocator();
         let number = attempt.tried.number;
-        let owned = self.desk.owned(alloc, seat)?;
+        let owned = self.memory.owned(alloc, seat)?;
         let entry = entry_of(alloc, seat, number, &at)?;
         let bytes = lines_of(alloc, at.prints())?;
         let count = at.spawns();
@@ -58,7 +58,7 @@ where
             &mut self.journal,
         )?;
         self.pool.room(count)?;
-        self.desk.release_all(seat);
+        self.memory.release_all(seat);
         wake_all(&mut self.pool, owned.as_slice());
         append(&mut self.output, at.prints());
         append(&mut self.text, bytes.as_slice());
@@ -77,29 +77,29 @@ where
     /// or goes on inside. Where a read isn't valid the seat turns back instead. Counts a turn. Takes memory where all reads are
     /// valid, all of it before the first change, and lacks it also where no number is left for a new member.
     pub fn commit(&mut self, seat: u32, at: M) -> Result<Noted, NoMemory>
-        requires on { IsOn M.program M.devices M.value_of M.is_machine M.stage self.old seat at }
-        requires commits { IsCommitting (M.stage self.old.code at) }
+        requires on { IsOn M.meaning self.old seat at }
+        requires commits { IsCommitting (M.meaning.stage self.old.code at) }
         requires left { self.old.turns < self.old.limits.turns }
         requires going { self.old.stop ≡ None }
-        ensures ended { (attempt : Attempt) → task_at self.old.tasks seat ≡ Task.Running attempt → (M.stage self.old.code at).want ≡ Some Wants.Done
-            → result ≡ Ok Noted.Noted → MakesEvent M.program M.devices M.value_of M.stage (one_counted Counted.Commit)
-            (ended_at seat attempt.tried.number (M.stage self.old.code at)) self.old self.new }
-        ensures left { (attempt : Attempt) → task_at self.old.tasks seat ≡ Task.Running attempt → (M.stage self.old.code at).want ≡ Some Wants.Leave
-            → result ≡ Ok Noted.Noted → MakesEvent M.program M.devices M.value_of M.stage (one_counted Counted.Commit)
-            (left_at seat attempt.tried.number (M.stage self.old.code at)) self.old self.new }
+        ensures ended { (attempt : Attempt) → task_at self.old.tasks seat ≡ Task.Running attempt → (M.meaning.stage self.old.code at).want ≡ Some Wants.Done
+            → result ≡ Ok Noted.Noted → MakesEvent M.meaning (one_counted Counted.Commit)
+            (ended_at seat attempt.tried.number (M.meaning.stage self.old.code at)) self.old self.new }
+        ensures left { (attempt : Attempt) → task_at self.old.tasks seat ≡ Task.Running attempt → (M.meaning.stage self.old.code at).want ≡ Some Wants.Leave
+            → result ≡ Ok Noted.Noted → MakesEvent M.meaning (one_counted Counted.Commit)
+            (left_at seat attempt.tried.number (M.meaning.stage self.old.code at)) self.old self.new }
         ensures back { (attempt : Attempt) (bad : Bad) → task_at self.old.tasks seat ≡ Task.Running attempt → result ≡ Ok (Noted.Invalid bad)
-            → MakesEvent M.program M.devices M.value_of M.stage (one_invalid Counted.Commit) (has_turned_back seat attempt) self.old self.new }
-        ensures exact { IfOk result (λ noted. (noted ≡ Noted.Noted) ↔ IsValid self.old.desk.cells seat (row_at self.old.desk.rows seat).reads) }
-        ensures bad { (bad : Bad) → result ≡ Ok (Noted.Invalid bad) → IsFirstBad self.old.desk.cells seat (row_at self.old.desk.rows seat).reads bad }
+            → MakesEvent M.meaning (one_invalid Counted.Commit) (has_turned_back seat attempt) self.old self.new }
+        ensures exact { IfOk result (λ noted. (noted ≡ Noted.Noted) ↔ IsValid self.old.memory.cells seat (row_at self.old.memory.rows seat).reads) }
+        ensures bad { (bad : Bad) → result ≡ Ok (Noted.Invalid bad) → IsFirstBad self.old.memory.cells seat (row_at self.old.memory.rows seat).reads bad }
         ensures rolls { (attempt : Attempt) (bad : Bad) → task_at self.old.tasks seat ≡ Task.Running attempt
             → result ≡ Ok (Noted.Invalid bad) → MayBeRolledBack attempt.tried.number self.old.pool }
-        ensures lacks { OnErr result (IsValid self.old.desk.cells seat (row_at self.old.desk.rows seat).reads) }
+        ensures lacks { OnErr result (IsValid self.old.memory.cells seat (row_at self.old.memory.rows seat).reads) }
         ensures err { OnErr result (self.new ≡ self.old) }
     {
         let Task::Running(attempt) = self.tasks[seat as usize] else {
             unreachable!();
         };
-        match self.desk.valid(seat) {
+        match self.memory.valid(seat) {
             None => {
                 self.commit_valid(seat, attempt, at)?;
                 Ok(Noted::Noted)

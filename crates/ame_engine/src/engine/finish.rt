@@ -1,13 +1,13 @@
 //! How an engine is taken apart.
 
 ghost use Rattle.std.specs.Prelude.{◌≡◌, ℕ, IsSome};
-ghost use Rattle.ame_stands.specs.declared.types.Task.{Task};
-ghost use Rattle.ame_stands.specs.Parts.{task_at};
+ghost use Rattle.ame_protocol.specs.declared.types.Task.{Task};
+ghost use Rattle.ame_protocol.specs.Engine.Parts.{task_at};
 ghost use Rattle.ame_engine.specs.Ending.{end_of, IsEnd};
 
 use super::Engine;
 use crate::ended::Ended;
-use ame_runner::Runner;
+use ame_machine::Runner;
 
 impl<M: Runner> Engine<M>
 where
@@ -18,14 +18,14 @@ where
         requires idle { (seat : ℕ) → task_at self.tasks seat ≡ Task.Idle }
         requires stopped { IsSome self.stop }
         ensures told { result ≡ end_of self }
-        ensures ends { IsEnd (M.program self.code) self.limits (M.value_of self.code) result }
+        ensures ends { IsEnd (M.meaning.program self.code) self.limits (M.meaning.value_of self.code) result }
     {
         let Engine {
             code: _,
             limits: _,
             base,
             journal,
-            desk,
+            memory,
             tasks: _,
             pool: _,
             output,
@@ -40,7 +40,7 @@ where
         Ended {
             base,
             journal,
-            store: desk.into_cells(),
+            store: memory.into_cells(),
             output,
             turns,
             counters,

@@ -2,16 +2,16 @@
 
 ghost use Rattle.std.specs.Prelude.{◌≡◌, ◌<◌, ◌+◌, ◌≤◌, ◌^◌, ℕ, OnErr, Ok, None, vec_len};
 ghost use Rattle.ame_device.specs.Calls.{all_told};
-ghost use Rattle.ame_stands.specs.declared.types.Attempt.{Attempt};
-ghost use Rattle.ame_stands.specs.Parts.{task_at};
+ghost use Rattle.ame_protocol.specs.declared.types.Attempt.{Attempt};
+ghost use Rattle.ame_protocol.specs.Engine.Parts.{task_at};
 ghost use Rattle.ame_engine.specs.AtWork.{IsOn};
 ghost use Rattle.ame_engine.specs.Visiting.{IsVisiting, HasComeHome, HasBeenRefused};
 
 use super::Engine;
 use crate::answer::Freed;
 use ame_device::Device;
-use ame_runner::{Runner, Wants};
-use ame_stands::Task;
+use ame_machine::{Runner, Wants};
+use ame_protocol::Task;
 use ame_term::NoMemory;
 
 mod call;
@@ -36,17 +36,17 @@ where
         at: M,
         devices: &mut Vec<D>,
     ) -> Result<Freed, NoMemory>
-        requires on { IsOn M.program M.devices M.value_of M.is_machine M.stage self.old seat at }
-        requires visits { IsVisiting (M.stage self.old.code at) }
-        requires steps { (M.stage self.old.code at).steps + 1 < 2 ^ 64 }
+        requires on { IsOn M.meaning self.old seat at }
+        requires visits { IsVisiting (M.meaning.stage self.old.code at) }
+        requires steps { (M.meaning.stage self.old.code at).steps + 1 < 2 ^ 64 }
         requires going { self.old.stop ≡ None }
         requires left { self.old.turns < self.old.limits.turns }
-        requires devices { M.devices self.old.code ≤ vec_len devices.old }
+        requires devices { M.meaning.devices self.old.code ≤ vec_len devices.old }
         ensures home { (attempt : Attempt) → task_at self.old.tasks seat ≡ Task.Free attempt → result ≡ Ok Freed.Home
-            → HasComeHome M.program M.devices M.value_of M.stage seat attempt.tried.number (M.stage self.old.code at)
+            → HasComeHome M.meaning seat attempt.tried.number (M.meaning.stage self.old.code at)
             (all_told D.device_heard D.device_faults devices.old.items) (all_told D.device_heard D.device_faults devices.new.items) self.old self.new }
         ensures refused { (attempt : Attempt) (k : ℕ) → task_at self.old.tasks seat ≡ Task.Free attempt → result ≡ Ok (Freed.DeviceFault k)
-            → HasBeenRefused M.program M.devices M.value_of M.stage seat attempt.tried.number k (M.stage self.old.code at)
+            → HasBeenRefused M.meaning seat attempt.tried.number k (M.meaning.stage self.old.code at)
             (all_told D.device_heard D.device_faults devices.old.items) (all_told D.device_heard D.device_faults devices.new.items) self.old self.new }
         ensures err { OnErr result (self.new ≡ self.old) }
         ensures quiet { OnErr result (all_told D.device_heard D.device_faults devices.new.items ≡ all_told D.device_heard D.device_faults devices.old.items) }

@@ -1,11 +1,11 @@
 //! What a note of a row takes.
 
 ghost use Rattle.std.specs.Prelude.{◌≡◌, IfOk, None, true};
-ghost use Rattle.ame_visits.specs.Stops.{told_task as task_told};
+ghost use Rattle.ame_protocol.specs.Visits.Stops.{told_task as task_told};
 
 use ame_journal::{Entry, EntryKind};
-use ame_runner::Runner;
-use ame_stands::{Attempt, Task, Tried};
+use ame_machine::Runner;
+use ame_protocol::{Attempt, Task, Tried};
 use ame_term::{Locs, NoMemory};
 use std::alloc::Global;
 
@@ -21,8 +21,8 @@ pub(super) fn note_of<M: Runner>(
       kind = kind;
       seat = seat;
       number = number;
-      steps = (M.stage code at.now).steps;
-      fresh = (M.stage code at.now).fresh;
+      steps = (M.meaning.stage code at.now).steps;
+      fresh = (M.meaning.stage code at.now).fresh;
       answer = None;
     }) }
 {
@@ -40,7 +40,7 @@ pub(super) fn note_of<M: Runner>(
 
 /// The attempt once an entry tells it.
 pub(super) fn told(attempt: Attempt) -> Attempt
-    ensures { result ≡ record attempt { told = true } }
+    ensures { result ≡ record attempt { logged = true } }
 {
     Attempt {
         tried: Tried {
@@ -48,7 +48,7 @@ pub(super) fn told(attempt: Attempt) -> Attempt
             at: attempt.tried.at,
             steps: attempt.tried.steps,
         },
-        told: true,
+        logged: true,
     }
 }
 

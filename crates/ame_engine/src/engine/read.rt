@@ -3,26 +3,26 @@
 ghost use Rattle.std.specs.Prelude.{◌≡◌, ◌<◌, All, IfOk, OnOk, OnErr, Some, None, false};
 ghost use Rattle.ame_term.specs.declared.types.Loc.{Loc};
 ghost use Rattle.ame_store.specs.Cells.{HasItsParity};
-ghost use Rattle.ame_owed.specs.Heap.{cell_at};
-ghost use Rattle.ame_runner.specs.declared.wants.Wants.{Wants};
-ghost use Rattle.ame_runner.specs.Stage.{Stage};
-ghost use Rattle.ame_runner.specs.Sound.{CanRun};
-ghost use Rattle.ame_stands.specs.Parts.{heap_in};
-ghost use Rattle.ame_stands.specs.Events.{has_read};
+ghost use Rattle.ame_protocol.specs.Row.Heap.{cell_at};
+ghost use Rattle.ame_machine.specs.declared.wants.Wants.{Wants};
+ghost use Rattle.ame_machine.specs.MachineView.{MachineView};
+ghost use Rattle.ame_machine.specs.Sound.{CanRun};
+ghost use Rattle.ame_protocol.specs.Engine.Parts.{heap_in};
+ghost use Rattle.ame_protocol.specs.Engine.Events.{has_read};
 ghost use Rattle.ame_engine.specs.Counting.{Counted, one_counted};
 ghost use Rattle.ame_engine.specs.Seen.{parts_of, MakesEvent};
 ghost use Rattle.ame_engine.specs.AtWork.{IsOn, IsOnSeat, IsReading};
 
 use super::Engine;
-use ame_desk::Desk;
-use ame_runner::{Runner, Wants};
+use ame_machine::{Runner, Wants};
+use ame_rows::Memory;
 use ame_term::NoMemory;
 
 /// Each cell's number is even exactly where it has no owner.
-fn numbers_tell_owners<V>(desk: &Desk<V>)
-    ensures { All HasItsParity desk.now.cells }
+fn numbers_tell_owners<V>(memory: &Memory<V>)
+    ensures { All HasItsParity memory.now.cells }
 {
-    let _ = desk.cells().len();
+    let _ = memory.cells().len();
 }
 
 impl<M: Runner> Engine<M>
@@ -33,24 +33,24 @@ where
     /// is logged with its number. No stop is kept, and the slice isn't full. Counts a turn. Takes memory for the logs and the copy of
     /// a value.
     pub fn read(&mut self, seat: u32, at: &M) -> Result<M::Value, NoMemory>
-        requires on { IsOn M.program M.devices M.value_of M.is_machine M.stage self.old seat at.now }
-        requires reads { IsReading (M.stage self.old.code at.now) }
+        requires on { IsOn M.meaning self.old seat at.now }
+        requires reads { IsReading (M.meaning.stage self.old.code at.now) }
         requires left { self.old.turns < self.old.limits.turns }
         requires going { self.old.stop ≡ None }
-        requires early { (M.stage self.old.code at.now).since < self.old.limits.slice }
-        ensures event { (l : Loc) → (M.stage self.old.code at.now).want ≡ Some (Wants.Read l)
-            → OnOk result (MakesEvent M.program M.devices M.value_of M.stage (one_counted Counted.Read) (has_read seat l) self.old self.new) }
-        ensures value { (l : Loc) → (M.stage self.old.code at.now).want ≡ Some (Wants.Read l) → IfOk result (λ value.
-            M.value_of self.old.code value ≡ (cell_at (heap_in (parts_of M.program M.devices M.value_of M.stage self.old)) l.0).value) }
-        ensures good { IfOk result (M.is_value self.old.code) }
-        ensures runs { OnOk result ((s : Stage) → IsOnSeat (parts_of M.program M.devices M.value_of M.stage self.new) seat s → s.inside ≡ false → CanRun s) }
+        requires early { (M.meaning.stage self.old.code at.now).since < self.old.limits.slice }
+        ensures event { (l : Loc) → (M.meaning.stage self.old.code at.now).want ≡ Some (Wants.Read l)
+            → OnOk result (MakesEvent M.meaning (one_counted Counted.Read) (has_read seat l) self.old self.new) }
+        ensures value { (l : Loc) → (M.meaning.stage self.old.code at.now).want ≡ Some (Wants.Read l) → IfOk result (λ value.
+            M.meaning.value_of self.old.code value ≡ (cell_at (heap_in (parts_of M.meaning self.old)) l.0).value) }
+        ensures good { IfOk result (M.meaning.is_value self.old.code) }
+        ensures runs { OnOk result ((s : MachineView) → IsOnSeat (parts_of M.meaning self.new) seat s → s.inside ≡ false → CanRun s) }
         ensures err { OnErr result (self.new ≡ self.old) }
     {
         let Some(Wants::Read(l)) = at.want() else {
             unreachable!();
         };
-        numbers_tell_owners(&self.desk);
-        let value = self.desk.read(seat, l)?;
+        numbers_tell_owners(&self.memory);
+        let value = self.memory.read(seat, l)?;
         self.turns += 1;
         self.counters.reads += 1;
         Ok(value)

@@ -3,11 +3,11 @@
 ghost use Rattle.std.specs.Prelude.{◌≡◌, IfOk, OnOk, OnErr, IsSome, IsTrue, ◌↔◌, Ok, Some, None, is_some};
 ghost use Rattle.std.specs.Option.{ForSome};
 ghost use Rattle.ame_rows.specs.Valid.{IsValid};
-ghost use Rattle.ame_desk.specs.Contents.{row_at};
-ghost use Rattle.ame_runner.specs.Stage.{place_shown};
-ghost use Rattle.ame_stands.specs.declared.types.Attempt.{Attempt};
-ghost use Rattle.ame_stands.specs.Parts.{task_at, attempt_of};
-ghost use Rattle.ame_visits.specs.Stops.{has_been_cut};
+ghost use Rattle.ame_rows.specs.MemoryView.{row_at};
+ghost use Rattle.ame_machine.specs.MachineView.{place_shown};
+ghost use Rattle.ame_protocol.specs.declared.types.Attempt.{Attempt};
+ghost use Rattle.ame_protocol.specs.Engine.Parts.{task_at, attempt_of};
+ghost use Rattle.ame_protocol.specs.Visits.Stops.{has_been_cut};
 ghost use Rattle.ame_engine.specs.Causes.{HasCause};
 ghost use Rattle.ame_engine.specs.Seen.{parts_of, MakesLastEvent};
 ghost use Rattle.ame_engine.specs.Stops.{stopped_by};
@@ -19,7 +19,7 @@ use super::notes::{note_of, told_task};
 use super::undo::attempt_at;
 use crate::stop::Stop;
 use ame_journal::EntryKind;
-use ame_runner::Runner;
+use ame_machine::Runner;
 use ame_term::NoMemory;
 
 impl<M: Runner> Engine<M>
@@ -29,13 +29,13 @@ where
     /// Notes where a row whose reads are valid is cut off, and keeps that the turns are used up. All memory is taken before the
     /// first change.
     fn cut(&mut self, seat: u32, at: &M) -> Result<(), NoMemory>
-        requires on { IsOn M.program M.devices M.value_of M.is_machine M.stage self.old seat at.now }
+        requires on { IsOn M.meaning self.old seat at.now }
         requires used_up { self.old.turns ≡ self.old.limits.turns }
         requires going { self.old.stop ≡ None }
-        requires valid { IsValid self.old.desk.cells seat (row_at self.old.desk.rows seat).reads }
+        requires valid { IsValid self.old.memory.cells seat (row_at self.old.memory.rows seat).reads }
         ensures cut { (attempt : Attempt) → working (task_at self.old.tasks seat) ≡ Some attempt
-            → OnOk result (MakesLastEvent M.program M.devices M.value_of M.stage Stop.Spent (λ counters. counters)
-            (has_been_cut seat attempt.tried.number (M.stage self.old.code at.now).steps (place_shown (M.stage self.old.code at.now))
+            → OnOk result (MakesLastEvent M.meaning Stop.Spent (λ counters. counters)
+            (has_been_cut seat attempt.tried.number (M.meaning.stage self.old.code at.now).steps (place_shown (M.meaning.stage self.old.code at.now))
             (task_at self.old.tasks seat)) self.old self.new) }
         ensures err { OnErr result (self.new ≡ self.old) }
     {
@@ -54,10 +54,10 @@ where
     fn spending_has_cause(&self, seat: u32)
         requires busy { IsSome (attempt_of (task_at self.now.tasks seat)) }
         requires used_up { self.now.turns ≡ self.now.limits.turns }
-        requires stuck { IsValid self.now.desk.cells seat (row_at self.now.desk.rows seat).reads → working (task_at self.now.tasks seat) ≡ None }
+        requires stuck { IsValid self.now.memory.cells seat (row_at self.now.memory.rows seat).reads → working (task_at self.now.tasks seat) ≡ None }
         ensures cause { self.now.stop ≡ None → HasCause (Some Stop.Spent) self.now.certificates
-            (parts_of M.program M.devices M.value_of M.stage (stopped_by Stop.Spent self.now)) }
-        ensures leaves { self.now.stop ≡ None → LeavesNoTry Stop.Spent (parts_of M.program M.devices M.value_of M.stage self.now) }
+            (parts_of M.meaning (stopped_by Stop.Spent self.now)) }
+        ensures leaves { self.now.stop ≡ None → LeavesNoTry Stop.Spent (parts_of M.meaning self.now) }
     {
         let _ = seat;
         let _ = &self.turns;
@@ -66,9 +66,9 @@ where
     /// Whether each read of a seat is valid.
     fn is_valid(&self, seat: u32) -> bool
         requires { IsSome (attempt_of (task_at self.now.tasks seat)) }
-        ensures { IsTrue result ↔ IsValid self.now.desk.cells seat (row_at self.now.desk.rows seat).reads }
+        ensures { IsTrue result ↔ IsValid self.now.memory.cells seat (row_at self.now.memory.rows seat).reads }
     {
-        self.desk.valid(seat).is_none()
+        self.memory.valid(seat).is_none()
     }
 
     /// Keeps that the turns are used up, where a seat has a member at work. Where it runs code, its machine is given, and if its
@@ -77,16 +77,16 @@ where
     pub fn spend(&mut self, seat: u32, at: Option<&M>) -> Result<(), NoMemory>
         requires busy { IsSome (attempt_of (task_at self.old.tasks seat)) }
         requires given { is_some at ≡ is_some (working (task_at self.old.tasks seat)) }
-        requires on { ForSome at (λ m. IsOn M.program M.devices M.value_of M.is_machine M.stage self.old seat m.now) }
+        requires on { ForSome at (λ m. IsOn M.meaning self.old seat m.now) }
         requires used_up { self.old.turns ≡ self.old.limits.turns }
         requires going { self.old.stop ≡ None }
-        ensures cut { ForSome at.entry (λ m. IsValid self.old.desk.cells seat (row_at self.old.desk.rows seat).reads → (attempt : Attempt)
+        ensures cut { ForSome at.entry (λ m. IsValid self.old.memory.cells seat (row_at self.old.memory.rows seat).reads → (attempt : Attempt)
             → working (task_at self.old.tasks seat) ≡ Some attempt
-            → OnOk result (MakesLastEvent M.program M.devices M.value_of M.stage Stop.Spent (λ counters. counters)
-            (has_been_cut seat attempt.tried.number (M.stage self.old.code m.now).steps (place_shown (M.stage self.old.code m.now))
+            → OnOk result (MakesLastEvent M.meaning Stop.Spent (λ counters. counters)
+            (has_been_cut seat attempt.tried.number (M.meaning.stage self.old.code m.now).steps (place_shown (M.meaning.stage self.old.code m.now))
             (task_at self.old.tasks seat)) self.old self.new)) }
         ensures undoing { at.entry ≡ None → (result ≡ Ok tt) × (self.new ≡ stopped_by Stop.Spent self.old) }
-        ensures invalid { (IsValid self.old.desk.cells seat (row_at self.old.desk.rows seat).reads → ⊥)
+        ensures invalid { (IsValid self.old.memory.cells seat (row_at self.old.memory.rows seat).reads → ⊥)
             → (result ≡ Ok tt) × (self.new ≡ stopped_by Stop.Spent self.old) }
         ensures err { OnErr result (self.new ≡ self.old) }
     {

@@ -2,18 +2,18 @@
 
 ghost use Rattle.std.specs.Prelude.{◌≡◌, IfOk, replicate};
 ghost use Rattle.std.specs.Arc.{arc_value};
-ghost use Rattle.ame_stands.specs.Events.{started};
+ghost use Rattle.ame_protocol.specs.Engine.Events.{started};
 ghost use Rattle.ame_engine.specs.Counting.{nothing_counted};
 ghost use Rattle.ame_engine.specs.Seen.{parts_of};
 ghost use Rattle.ame_engine.specs.Whole.{AreLimits};
 
 use super::Engine;
 use crate::counters::Counters;
-use ame_desk::Desk;
 use ame_journal::Journal;
+use ame_machine::Runner;
 use ame_pool::Pool;
-use ame_runner::Runner;
-use ame_stands::{Limits, Task};
+use ame_protocol::{Limits, Task};
+use ame_rows::Memory;
 use ame_store::Store;
 use ame_term::NoMemory;
 use std::alloc::Global;
@@ -38,12 +38,12 @@ where
     pub fn start(alloc: Global, code: Arc<M::Code>, limits: Limits) -> Result<Engine<M>, NoMemory>
         requires { AreLimits limits }
         ensures code { IfOk result (λ engine. engine.code ≡ arc_value code) }
-        ensures parts { IfOk result (λ engine. parts_of M.program M.devices M.value_of M.stage engine
-            ≡ started (M.program (arc_value code)) (M.devices (arc_value code)) limits 0) }
+        ensures parts { IfOk result (λ engine. parts_of M.meaning engine
+            ≡ started (M.meaning.program (arc_value code)) (M.meaning.devices (arc_value code)) limits 0) }
         ensures counters { IfOk result (λ engine. engine.counters ≡ nothing_counted) }
     {
         let machine = M::start(alloc, &code)?;
-        let desk = Desk::new(alloc, Store::new(alloc), limits.seats)?;
+        let memory = Memory::new(alloc, Store::new(alloc), limits.seats)?;
         let tasks = idle_tasks(alloc, limits.seats)?;
         let mut pool = Pool::new(alloc);
         pool.room(1)?;
@@ -53,7 +53,7 @@ where
             limits,
             base: Journal::new(alloc),
             journal: Journal::new(alloc),
-            desk,
+            memory,
             tasks,
             pool,
             output: Vec::new(alloc),

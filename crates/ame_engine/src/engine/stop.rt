@@ -3,8 +3,8 @@
 ghost use Rattle.std.specs.Prelude.{◌≡◌, None, Some, IsTrue};
 ghost use Rattle.ame_pool.specs.declared.oldest.Oldest.{Oldest};
 ghost use Rattle.ame_pool.specs.Begin.{oldest as oldest_of};
-ghost use Rattle.ame_engine.specs.declared.chance.Chance.{Chance};
-ghost use Rattle.ame_engine.specs.Begins.{chance_of};
+ghost use Rattle.ame_engine.specs.declared.pick.Pick.{Pick};
+ghost use Rattle.ame_engine.specs.Begins.{pick_of};
 ghost use Rattle.ame_engine.specs.Causes.{HasCause};
 ghost use Rattle.ame_engine.specs.Seen.{parts_of};
 ghost use Rattle.ame_engine.specs.Stops.{stopped_by, is_from_outside};
@@ -12,7 +12,7 @@ ghost use Rattle.ame_engine.specs.Bounds.{LeavesNoTry};
 
 use super::Engine;
 use crate::stop::Stop;
-use ame_runner::Runner;
+use ame_machine::Runner;
 
 impl<M: Runner> Engine<M>
 where
@@ -20,15 +20,15 @@ where
 {
     /// What a seat meets that begins is the cause of the stop that is kept then, and one from outside has none.
     pub(super) fn stops_have_causes(&self)
-        ensures finished { chance_of self.now ≡ Chance.Finished → HasCause (Some Stop.Finished) self.now.certificates
-            (parts_of M.program M.devices M.value_of M.stage (stopped_by Stop.Finished self.now)) }
-        ensures spent { chance_of self.now ≡ Chance.Spent → HasCause (Some Stop.Spent) self.now.certificates
-            (parts_of M.program M.devices M.value_of M.stage (stopped_by Stop.Spent self.now)) }
+        ensures finished { pick_of self.now ≡ Pick.Finished → HasCause (Some Stop.Finished) self.now.certificates
+            (parts_of M.meaning (stopped_by Stop.Finished self.now)) }
+        ensures spent { pick_of self.now ≡ Pick.Spent → HasCause (Some Stop.Spent) self.now.certificates
+            (parts_of M.meaning (stopped_by Stop.Spent self.now)) }
         ensures outside { (why : Stop) → IsTrue (is_from_outside why) → self.now.stop ≡ None → HasCause (Some why) self.now.certificates
-            (parts_of M.program M.devices M.value_of M.stage (stopped_by why self.now)) }
-        ensures leaves { (why : Stop) → IsTrue (is_from_outside why) → LeavesNoTry why (parts_of M.program M.devices M.value_of M.stage self.now) }
-        ensures parked { chance_of self.now ≡ Chance.Blocked → oldest_of self.now.pool ≡ Oldest.Parked }
-        ensures going { chance_of self.now ≡ Chance.Blocked → self.now.stop ≡ None }
+            (parts_of M.meaning (stopped_by why self.now)) }
+        ensures leaves { (why : Stop) → IsTrue (is_from_outside why) → LeavesNoTry why (parts_of M.meaning self.now) }
+        ensures parked { pick_of self.now ≡ Pick.Blocked → oldest_of self.now.pool ≡ Oldest.Parked }
+        ensures going { pick_of self.now ≡ Pick.Blocked → self.now.stop ≡ None }
     {
         let _ = &self.turns;
     }
@@ -36,8 +36,8 @@ where
     /// Keeps a stop, if none is kept. It has its cause, no entry tells it, and with one seat no try follows where the turns are used up.
     pub(super) fn keep(&mut self, why: Stop)
         requires cause { self.old.stop ≡ None → HasCause (Some why) self.old.certificates
-            (parts_of M.program M.devices M.value_of M.stage (stopped_by why self.old)) }
-        requires leaves { self.old.stop ≡ None → LeavesNoTry why (parts_of M.program M.devices M.value_of M.stage self.old) }
+            (parts_of M.meaning (stopped_by why self.old)) }
+        requires leaves { self.old.stop ≡ None → LeavesNoTry why (parts_of M.meaning self.old) }
         ensures { self.new ≡ stopped_by why self.old }
     {
         if self.stop.is_none() {

@@ -3,13 +3,13 @@
 ghost use Rattle.std.specs.Prelude.{◌≡◌, ◌<◌, ◌↔◌, IfOk, OnOk, OnErr, Ok, Some, None};
 ghost use Rattle.ame_rows.specs.declared.notes.Bad.{Bad};
 ghost use Rattle.ame_rows.specs.Valid.{IsValid, IsFirstBad};
-ghost use Rattle.ame_desk.specs.Contents.{row_at};
-ghost use Rattle.ame_runner.specs.declared.wants.Wants.{Wants};
-ghost use Rattle.ame_runner.specs.Stage.{place_shown};
-ghost use Rattle.ame_stands.specs.declared.types.Attempt.{Attempt};
-ghost use Rattle.ame_stands.specs.Parts.{task_at};
-ghost use Rattle.ame_stands.specs.Events.{has_turned_back};
-ghost use Rattle.ame_visits.specs.Stops.{has_grown_tall};
+ghost use Rattle.ame_rows.specs.MemoryView.{row_at};
+ghost use Rattle.ame_machine.specs.declared.wants.Wants.{Wants};
+ghost use Rattle.ame_machine.specs.MachineView.{place_shown};
+ghost use Rattle.ame_protocol.specs.declared.types.Attempt.{Attempt};
+ghost use Rattle.ame_protocol.specs.Engine.Parts.{task_at};
+ghost use Rattle.ame_protocol.specs.Engine.Events.{has_turned_back};
+ghost use Rattle.ame_protocol.specs.Visits.Stops.{has_grown_tall};
 ghost use Rattle.ame_engine.specs.declared.stop.Stop.{Stop};
 ghost use Rattle.ame_engine.specs.Counting.{Counted, one_counted, one_invalid};
 ghost use Rattle.ame_engine.specs.Seen.{MakesEvent, MakesLastEvent};
@@ -22,8 +22,8 @@ use super::undo::attempt_at;
 use crate::answer::Noted;
 use crate::stop::Stop;
 use ame_journal::EntryKind;
-use ame_runner::Runner;
-use ame_stands::{Reason, Task};
+use ame_machine::Runner;
+use ame_protocol::{Reason, Task};
 use ame_term::NoMemory;
 
 impl<M: Runner> Engine<M>
@@ -32,14 +32,14 @@ where
 {
     /// Notes a row whose reads are valid, and keeps the stop. All memory is taken before the first change.
     fn tall_valid(&mut self, seat: u32, at: &M) -> Result<(), NoMemory>
-        requires on { IsOn M.program M.devices M.value_of M.is_machine M.stage self.old seat at.now }
-        requires grows { (M.stage self.old.code at.now).want ≡ Some Wants.Tall }
+        requires on { IsOn M.meaning self.old seat at.now }
+        requires grows { (M.meaning.stage self.old.code at.now).want ≡ Some Wants.Tall }
         requires left { self.old.turns < self.old.limits.turns }
         requires going { self.old.stop ≡ None }
-        requires valid { IsValid self.old.desk.cells seat (row_at self.old.desk.rows seat).reads }
+        requires valid { IsValid self.old.memory.cells seat (row_at self.old.memory.rows seat).reads }
         ensures noted { (attempt : Attempt) → working (task_at self.old.tasks seat) ≡ Some attempt
-            → OnOk result (MakesLastEvent M.program M.devices M.value_of M.stage (Stop.Tall attempt.tried.number) (one_counted Counted.Tall)
-            (has_grown_tall seat attempt.tried.number (M.stage self.old.code at.now).steps (place_shown (M.stage self.old.code at.now))
+            → OnOk result (MakesLastEvent M.meaning (Stop.Tall attempt.tried.number) (one_counted Counted.Tall)
+            (has_grown_tall seat attempt.tried.number (M.meaning.stage self.old.code at.now).steps (place_shown (M.meaning.stage self.old.code at.now))
             (task_at self.old.tasks seat)) self.old self.new) }
         ensures err { OnErr result (self.new ≡ self.old) }
     {
@@ -59,24 +59,24 @@ where
     /// read isn't valid the seat turns back instead. Counts a turn. Takes memory where all reads are valid, all of it before the
     /// first change.
     pub fn tall(&mut self, seat: u32, at: &M) -> Result<Noted, NoMemory>
-        requires on { IsOn M.program M.devices M.value_of M.is_machine M.stage self.old seat at.now }
-        requires grows { (M.stage self.old.code at.now).want ≡ Some Wants.Tall }
+        requires on { IsOn M.meaning self.old seat at.now }
+        requires grows { (M.meaning.stage self.old.code at.now).want ≡ Some Wants.Tall }
         requires left { self.old.turns < self.old.limits.turns }
         requires going { self.old.stop ≡ None }
         ensures noted { (attempt : Attempt) → working (task_at self.old.tasks seat) ≡ Some attempt → result ≡ Ok Noted.Noted
-            → MakesLastEvent M.program M.devices M.value_of M.stage (Stop.Tall attempt.tried.number) (one_counted Counted.Tall)
-            (has_grown_tall seat attempt.tried.number (M.stage self.old.code at.now).steps (place_shown (M.stage self.old.code at.now))
+            → MakesLastEvent M.meaning (Stop.Tall attempt.tried.number) (one_counted Counted.Tall)
+            (has_grown_tall seat attempt.tried.number (M.meaning.stage self.old.code at.now).steps (place_shown (M.meaning.stage self.old.code at.now))
             (task_at self.old.tasks seat)) self.old self.new }
         ensures back { (attempt : Attempt) (bad : Bad) → task_at self.old.tasks seat ≡ Task.Running attempt → result ≡ Ok (Noted.Invalid bad)
-            → MakesEvent M.program M.devices M.value_of M.stage (one_invalid Counted.Tall) (has_turned_back seat attempt) self.old self.new }
-        ensures exact { IfOk result (λ noted. (noted ≡ Noted.Noted) ↔ IsValid self.old.desk.cells seat (row_at self.old.desk.rows seat).reads) }
-        ensures bad { (bad : Bad) → result ≡ Ok (Noted.Invalid bad) → IsFirstBad self.old.desk.cells seat (row_at self.old.desk.rows seat).reads bad }
+            → MakesEvent M.meaning (one_invalid Counted.Tall) (has_turned_back seat attempt) self.old self.new }
+        ensures exact { IfOk result (λ noted. (noted ≡ Noted.Noted) ↔ IsValid self.old.memory.cells seat (row_at self.old.memory.rows seat).reads) }
+        ensures bad { (bad : Bad) → result ≡ Ok (Noted.Invalid bad) → IsFirstBad self.old.memory.cells seat (row_at self.old.memory.rows seat).reads bad }
         ensures rolls { (attempt : Attempt) (bad : Bad) → task_at self.old.tasks seat ≡ Task.Running attempt
             → result ≡ Ok (Noted.Invalid bad) → MayBeRolledBack attempt.tried.number self.old.pool }
-        ensures lacks { OnErr result (IsValid self.old.desk.cells seat (row_at self.old.desk.rows seat).reads) }
+        ensures lacks { OnErr result (IsValid self.old.memory.cells seat (row_at self.old.memory.rows seat).reads) }
         ensures err { OnErr result (self.new ≡ self.old) }
     {
-        match self.desk.valid(seat) {
+        match self.memory.valid(seat) {
             None => {
                 self.tall_valid(seat, at)?;
                 Ok(Noted::Noted)

@@ -2,10 +2,10 @@
 
 ghost use Rattle.std.specs.Prelude.{◌≡◌, ◌+◌, ◌<◌, ◌↔◌, ℕ, Some, None, IsSome, IsTrue, false, is_some, length, vec_len, vec_capacity, if◌then◌else◌};
 ghost use Rattle.ame_pool.specs.Calls.{IsAt};
-ghost use Rattle.ame_desk.specs.Contents.{row_at};
-ghost use Rattle.ame_stands.specs.declared.types.Attempt.{Attempt};
-ghost use Rattle.ame_stands.specs.Parts.{task_at, attempt_of};
-ghost use Rattle.ame_stands.specs.Events.{with_try, has_undone, has_gone_home};
+ghost use Rattle.ame_rows.specs.MemoryView.{row_at};
+ghost use Rattle.ame_protocol.specs.declared.types.Attempt.{Attempt};
+ghost use Rattle.ame_protocol.specs.Engine.Parts.{task_at, attempt_of};
+ghost use Rattle.ame_protocol.specs.Engine.Events.{with_try, has_undone, has_gone_home};
 ghost use Rattle.ame_engine.specs.Counting.{one_undone};
 ghost use Rattle.ame_engine.specs.Seen.{MakesEvent};
 ghost use Rattle.ame_engine.specs.Undoing.{is_undoing, reason_to_undo, is_busy_for, home_for};
@@ -13,9 +13,9 @@ ghost use Rattle.ame_engine.specs.Undoing.{is_undoing, reason_to_undo, is_busy_f
 use super::Engine;
 use crate::answer::Undone;
 use crate::counters::Counters;
+use ame_machine::Runner;
 use ame_pool::Pool;
-use ame_runner::Runner;
-use ame_stands::{Attempt, Reason, Task, Tried};
+use ame_protocol::{Attempt, Reason, Task, Tried};
 
 /// What a seat has at work.
 pub(super) fn attempt_at(task: Task) -> Attempt
@@ -74,12 +74,12 @@ fn bring_home<M: Drop>(pool: &mut Pool<M>, number: u64, reason: Reason)
 
 /// Tells a try, unless an entry tells it.
 fn tell_try(tried: &mut Vec<Tried>, attempt: Attempt)
-    requires { attempt.told ≡ false → vec_len tried.old < vec_capacity tried.old }
+    requires { attempt.logged ≡ false → vec_len tried.old < vec_capacity tried.old }
     ensures items { tried.new.items ≡ with_try attempt tried.old.items }
-    ensures len { vec_len tried.new ≡ (if attempt.told then vec_len tried.old else vec_len tried.old + 1) }
+    ensures len { vec_len tried.new ≡ (if attempt.logged then vec_len tried.old else vec_len tried.old + 1) }
     ensures capacity { vec_capacity tried.new ≡ vec_capacity tried.old }
 {
-    if !attempt.told {
+    if !attempt.logged {
         tried.push_reserved(attempt.tried);
     }
 }
@@ -95,12 +95,12 @@ where
         requires busy { IsSome (attempt_of (task_at self.old.tasks seat)) }
         requires undoes { is_some self.old.stop ≡ false → IsTrue (is_undoing (task_at self.old.tasks seat)) }
         requires left { is_some self.old.stop ≡ false → self.old.turns < self.old.limits.turns }
-        ensures answer { (result ≡ Undone.More) ↔ (1 < length (row_at self.old.desk.rows seat).undos) }
+        ensures answer { (result ≡ Undone.More) ↔ (1 < length (row_at self.old.memory.rows seat).undos) }
         ensures more { (attempt : Attempt) → attempt_of (task_at self.old.tasks seat) ≡ Some attempt → result ≡ Undone.More
-            → MakesEvent M.program M.devices M.value_of M.stage (one_undone (is_some self.old.stop))
+            → MakesEvent M.meaning (one_undone (is_some self.old.stop))
             (has_undone seat attempt (reason_to_undo (task_at self.old.tasks seat))) self.old self.new }
         ensures home { (attempt : Attempt) → attempt_of (task_at self.old.tasks seat) ≡ Some attempt → result ≡ Undone.Home
-            → MakesEvent M.program M.devices M.value_of M.stage (one_undone (is_some self.old.stop))
+            → MakesEvent M.meaning (one_undone (is_some self.old.stop))
             (has_gone_home seat attempt (reason_to_undo (task_at self.old.tasks seat))) self.old self.new }
     {
         let task = self.tasks[seat as usize];
@@ -109,7 +109,7 @@ where
         let stopped = self.stop.is_some();
         self.turns = undo_turns(stopped, self.turns);
         self.counters = undo_counters(stopped, self.counters);
-        let is_left = self.desk.undo_last(seat);
+        let is_left = self.memory.undo_last(seat);
         if is_left {
             self.tasks[seat as usize] = Task::Undoing(attempt, reason);
             Undone::More

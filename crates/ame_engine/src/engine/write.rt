@@ -3,14 +3,14 @@
 ghost use Rattle.std.specs.Prelude.{◌≡◌, ◌<◌, ℕ, IfOk, OnOk, OnErr, Ok, Some, None, false};
 ghost use Rattle.ame_term.specs.Tree.{Val};
 ghost use Rattle.ame_term.specs.declared.types.Loc.{Loc};
-ghost use Rattle.ame_owed.specs.Heap.{cell_at};
-ghost use Rattle.ame_runner.specs.declared.wants.Wants.{Wants};
-ghost use Rattle.ame_runner.specs.Stage.{Stage};
-ghost use Rattle.ame_runner.specs.Input.{value_to_set};
-ghost use Rattle.ame_runner.specs.Sound.{CanRun};
-ghost use Rattle.ame_stands.specs.declared.types.Attempt.{Attempt};
-ghost use Rattle.ame_stands.specs.Parts.{heap_in, task_at};
-ghost use Rattle.ame_stands.specs.Events.{has_written, has_turned_back};
+ghost use Rattle.ame_protocol.specs.Row.Heap.{cell_at};
+ghost use Rattle.ame_machine.specs.declared.wants.Wants.{Wants};
+ghost use Rattle.ame_machine.specs.MachineView.{MachineView};
+ghost use Rattle.ame_machine.specs.Input.{value_to_set};
+ghost use Rattle.ame_machine.specs.Sound.{CanRun};
+ghost use Rattle.ame_protocol.specs.declared.types.Attempt.{Attempt};
+ghost use Rattle.ame_protocol.specs.Engine.Parts.{heap_in, task_at};
+ghost use Rattle.ame_protocol.specs.Engine.Events.{has_written, has_turned_back};
 ghost use Rattle.ame_engine.specs.Counting.{Counted, one_counted};
 ghost use Rattle.ame_engine.specs.Seen.{parts_of, MakesEvent};
 ghost use Rattle.ame_engine.specs.AtWork.{IsOn, IsOnSeat, IsWriting};
@@ -19,9 +19,9 @@ ghost use Rattle.ame_engine.specs.Rollbacks.{MayBeRolledBack};
 
 use super::Engine;
 use crate::answer::Wrote;
-use ame_desk::WriteAnswer;
-use ame_runner::{Runner, Wants};
-use ame_stands::{Reason, Task};
+use ame_machine::{Runner, Wants};
+use ame_protocol::{Reason, Task};
+use ame_rows::WriteAnswer;
 use ame_term::{Copied, NoMemory};
 
 /// The seat that owns the cell, where a write was refused.
@@ -42,21 +42,21 @@ where
     /// owns the cell it is a conflict, and the seat turns back. No stop is kept, and the slice isn't full. Counts a turn. Takes memory
     /// for the logs and the copy of a value.
     pub fn write(&mut self, seat: u32, at: &M) -> Result<Wrote, NoMemory>
-        requires on { IsOn M.program M.devices M.value_of M.is_machine M.stage self.old seat at.now }
-        requires writes { IsWriting (M.stage self.old.code at.now) }
+        requires on { IsOn M.meaning self.old seat at.now }
+        requires writes { IsWriting (M.meaning.stage self.old.code at.now) }
         requires left { self.old.turns < self.old.limits.turns }
         requires going { self.old.stop ≡ None }
-        requires early { (M.stage self.old.code at.now).since < self.old.limits.slice }
-        ensures answer { (l : Loc) → (M.stage self.old.code at.now).want ≡ Some (Wants.Write l) → IfOk result (λ answer.
-            answer ≡ answer_to_write seat (cell_at (heap_in (parts_of M.program M.devices M.value_of M.stage self.old)) l.0).owner) }
-        ensures event { (l : Loc) (v : Val) → (M.stage self.old.code at.now).want ≡ Some (Wants.Write l)
-            → value_to_set (M.stage self.old.code at.now) ≡ Some v → result ≡ Ok Wrote.Wrote
-            → MakesEvent M.program M.devices M.value_of M.stage (one_counted Counted.Write) (has_written seat l v) self.old self.new }
+        requires early { (M.meaning.stage self.old.code at.now).since < self.old.limits.slice }
+        ensures answer { (l : Loc) → (M.meaning.stage self.old.code at.now).want ≡ Some (Wants.Write l) → IfOk result (λ answer.
+            answer ≡ answer_to_write seat (cell_at (heap_in (parts_of M.meaning self.old)) l.0).owner) }
+        ensures event { (l : Loc) (v : Val) → (M.meaning.stage self.old.code at.now).want ≡ Some (Wants.Write l)
+            → value_to_set (M.meaning.stage self.old.code at.now) ≡ Some v → result ≡ Ok Wrote.Wrote
+            → MakesEvent M.meaning (one_counted Counted.Write) (has_written seat l v) self.old self.new }
         ensures back { (attempt : Attempt) (owner : ℕ) → task_at self.old.tasks seat ≡ Task.Running attempt → result ≡ Ok (Wrote.Conflict owner)
-            → MakesEvent M.program M.devices M.value_of M.stage (one_counted Counted.Conflict) (has_turned_back seat attempt) self.old self.new }
+            → MakesEvent M.meaning (one_counted Counted.Conflict) (has_turned_back seat attempt) self.old self.new }
         ensures rolls { (attempt : Attempt) (owner : ℕ) → task_at self.old.tasks seat ≡ Task.Running attempt → result ≡ Ok (Wrote.Conflict owner)
             → MayBeRolledBack attempt.tried.number self.old.pool }
-        ensures runs { OnOk result ((s : Stage) → IsOnSeat (parts_of M.program M.devices M.value_of M.stage self.new) seat s → s.inside ≡ false → CanRun s) }
+        ensures runs { OnOk result ((s : MachineView) → IsOnSeat (parts_of M.meaning self.new) seat s → s.inside ≡ false → CanRun s) }
         ensures err { OnErr result (self.new ≡ self.old) }
     {
         let Some(Wants::Write(l)) = at.want() else {
@@ -66,7 +66,7 @@ where
             unreachable!();
         };
         let value = at.wanted(&self.code).copy(*self.tasks.allocator())?;
-        let written = self.desk.write(seat, l, value, M::unit_value())?;
+        let written = self.memory.write(seat, l, value, M::unit_value())?;
         match refusal(written) {
             None => {
                 self.turns += 1;

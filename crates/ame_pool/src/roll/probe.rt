@@ -12,7 +12,7 @@ impl<M: Drop> Roll<M> {
 
     /// Whether a ready member is found without a look through the order.
     pub fn is_at_ticket(&self, number: u64) -> bool {
-        self.ready.is_at_ticket(number, self.members.seat(number))
+        self.ready.is_at_ticket(number, self.members.slot(number))
     }
 
     /// How many entries the order has, gaps too.

@@ -1,5 +1,5 @@
 use denote.Param.Send.{sendable}
-use Rattle.ame_fragment.proofs.CrossingLemmas.{fragment_send}
+use Rattle.ame_eval.proofs.FragmentCrossing.{fragment_send}
 use Rattle.std.proofs.Common.{subst}
 use Rattle.ame_code.specs.FlatCode.{FlatCode}
 use Rattle.ame_code.specs.Code.{program_of}

@@ -1,6 +1,6 @@
 use Rattle.std.proofs.Common.{refl, sym, subst, arith}
 use Rattle.ame_lex.specs.Bytes.{Text}
-use Rattle.ame_app.specs.Calls.{call_of, given_by, options_of, IsTextOf}
+use Rattle.ame_app.specs.Calls.{call_of, what_is_given, options_of, IsTextOf}
 use Rattle.ame_app.proofs.JobLemmas.{text-refused}
 use Rattle.ame_app.proofs.job.job_of_command.Goals as goal
 
@@ -9,8 +9,8 @@ returns-in-Err-clause-refused g c = λ words spelled. c.in-Err.ensures.refused w
 
 pub returns-in-Err-code_of-clause-refused : goal.returns-in-Err-code_of-clause-refused
 returns-in-Err-code_of-clause-refused g c = λ words spelled.
-    let old = given_by g.S.Source.left g.S.Source.faults c.args.source.now in
-    let new = given_by g.S.Source.left g.S.Source.faults c.text_of.new.source in
+    let old = what_is_given g.S.Source.left g.S.Source.faults c.args.source.now in
+    let new = what_is_given g.S.Source.left g.S.Source.faults c.text_of.new.source in
     let most = c.in-Ok.ensures.most in
     let long = c.deref.ensures.len in
     text-refused c.spells_one_command.ensures (call_of words old new c.args.devices) (options_of c.args.command) c.deref.result.now (record {

@@ -7,7 +7,7 @@ use Rattle.ame_cli.specs.declared.command.Options.{Options}
 use Rattle.ame_cli.specs.Items.{Word, name_of}
 use Rattle.ame_cli.specs.Numbers.{numbers_within}
 use Rattle.ame_cli.specs.Rows.{named_in, texts_in, values_in}
-use Rattle.ame_cli.specs.Settings.{command_of, options_of}
+use Rattle.ame_cli.specs.Settings.{command_of, options_spelled}
 use Rattle.ame_cli.specs.Verbs.{command_with, verb_form}
 use Rattle.ame_cli.proofs.MatchLemmas.{subcommand_is}
 use Rattle.ame_cli.proofs.given.command_in.Goals as goal
@@ -30,6 +30,6 @@ returns c =
     subcommand_is c.args.matches.now c.in_ok-name.name.now rows c.in_ok-name.ensures.name c.in_ok-name.ensures.rows in
     c.command_of.ensures
     ∙ ap (made c.in_ok-options.options) (ap shown c.unwrap_or.ensures ∙ missing shown c.get_raw.result _ refl ∙ ap texts_in (c.get_raw.ensures ∙ raw_values-rows found (codes "numbers")))
-    ∙ ap (option_and_then (λ options. made options words)) (c.in_ok-options.ensures ∙ ap (λ items. options_of items values) c.form.ensures.items)
+    ∙ ap (option_and_then (λ options. made options words)) (c.in_ok-options.ensures ∙ ap (λ items. options_spelled items values) c.form.ensures.items)
     ∙ ap (option_and_then (λ v. command_of v words values)) c.in_ok-verb.ensures
     ∙ sym (ap (option_and_then (λ p. named_in p.0 p.1)) is)

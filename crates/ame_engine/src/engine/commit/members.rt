@@ -3,22 +3,22 @@
 ghost use Rattle.std.specs.Prelude.{◌≡◌, ◌+◌, ◌≤◌, ℕ, true, [], All, None, Some, length, map};
 ghost use Rattle.ame_pool.specs.Members.{find, is_busy};
 ghost use Rattle.ame_pool.specs.Calls.{IsAt, exchanged, removed};
-ghost use Rattle.ame_runner.specs.declared.wants.Wants.{Wants};
-ghost use Rattle.ame_stands.specs.Shown.{shown_pool};
-ghost use Rattle.ame_stands.specs.Events.{with_newcomers};
+ghost use Rattle.ame_machine.specs.declared.wants.Wants.{Wants};
+ghost use Rattle.ame_protocol.specs.Engine.Shown.{shown_pool};
+ghost use Rattle.ame_protocol.specs.Engine.Events.{with_newcomers};
 ghost use Rattle.ame_engine.specs.Rollbacks.{IsGoodPool};
 ghost use Rattle.ame_engine.specs.Seen.{term_shown};
 ghost use Rattle.ame_engine.specs.Whole.{IsAtRest};
-ghost use Rattle.ame_engine.specs.Committing.{all_woken};
+ghost use Rattle.ame_protocol.specs.Engine.Events.{woken_for};
 
+use ame_machine::{Runner, Wants};
 use ame_pool::Pool;
-use ame_runner::{Runner, Wants};
 use ame_term::Loc;
 use std::alloc::Global;
 
 /// The members that watch these locations are woken, one location after another.
 pub(crate) fn wake_all<M: Drop>(pool: &mut Pool<M>, locs: &[Loc])
-    ensures { pool.new ≡ all_woken (map (λ l. l.0) locs.now) pool.old }
+    ensures { pool.new ≡ woken_for (map (λ l. l.0) locs.now) pool.old }
 {
     for l in locs {
         pool.wake(*l);
@@ -34,16 +34,16 @@ pub(crate) fn join_all<M: Runner>(
     at: &mut M,
 )
     requires rising { first ≤ end }
-    requires numbers { (code : M.Code) → first + length (M.stage code at.old).spawns ≡ end }
+    requires numbers { (code : M.Code) → first + length (M.meaning.stage code at.old).spawns ≡ end }
     requires room { end ≤ first + pool.old.room }
     requires fresh { (k : ℕ) → first ≤ k → find k pool.old.members ≡ None }
-    ensures pool { (code : M.Code) → shown_pool (term_shown M.stage code) pool.new
-        ≡ with_newcomers first (M.stage code at.old).spawns (shown_pool (term_shown M.stage code) pool.old) }
-    ensures rests { (code : M.Code) → M.is_machine code at.old → All (IsAtRest M.is_machine M.stage code) pool.old.members
-        → All (IsAtRest M.is_machine M.stage code) pool.new.members }
+    ensures pool { (code : M.Code) → shown_pool (term_shown M.meaning.stage code) pool.new
+        ≡ with_newcomers first (M.meaning.stage code at.old).spawns (shown_pool (term_shown M.meaning.stage code) pool.old) }
+    ensures rests { (code : M.Code) → M.meaning.is_machine code at.old → All (IsAtRest M.meaning.is_machine M.meaning.stage code) pool.old.members
+        → All (IsAtRest M.meaning.is_machine M.meaning.stage code) pool.new.members }
     ensures good { IsGoodPool pool.old → IsGoodPool pool.new }
-    ensures machine { (code : M.Code) → M.is_machine code at.old → M.is_machine code at.new }
-    ensures stage { (code : M.Code) → M.stage code at.new ≡ record (M.stage code at.old) { spawns = [] } }
+    ensures machine { (code : M.Code) → M.meaning.is_machine code at.old → M.meaning.is_machine code at.new }
+    ensures stage { (code : M.Code) → M.meaning.stage code at.new ≡ record (M.meaning.stage code at.old) { spawns = [] } }
 {
     for number in first..end {
         if let Some(member) = at.take_spawn(alloc) {
@@ -55,11 +55,11 @@ pub(crate) fn join_all<M: Runner>(
 /// A member that has ended is gone. One that has come to `unprotected` goes on inside, with no more than its term.
 pub(crate) fn send_on<M: Runner>(pool: &mut Pool<M>, number: u64, mut at: M)
     requires { IsAt is_busy number pool.old }
-    ensures ended { (code : M.Code) → (M.stage code at).want ≡ Some Wants.Done → pool.new ≡ removed number pool.old }
-    ensures left { (code : M.Code) → (M.stage code at).want ≡ Some Wants.Leave → shown_pool (term_shown M.stage code) pool.new
-        ≡ exchanged number (M.stage code at).term true (shown_pool (term_shown M.stage code) pool.old) }
-    ensures rests { (code : M.Code) → M.is_machine code at → All (IsAtRest M.is_machine M.stage code) pool.old.members
-        → All (IsAtRest M.is_machine M.stage code) pool.new.members }
+    ensures ended { (code : M.Code) → (M.meaning.stage code at).want ≡ Some Wants.Done → pool.new ≡ removed number pool.old }
+    ensures left { (code : M.Code) → (M.meaning.stage code at).want ≡ Some Wants.Leave → shown_pool (term_shown M.meaning.stage code) pool.new
+        ≡ exchanged number (M.meaning.stage code at).term true (shown_pool (term_shown M.meaning.stage code) pool.old) }
+    ensures rests { (code : M.Code) → M.meaning.is_machine code at → All (IsAtRest M.meaning.is_machine M.meaning.stage code) pool.old.members
+        → All (IsAtRest M.meaning.is_machine M.meaning.stage code) pool.new.members }
     ensures good { IsGoodPool pool.old → IsGoodPool pool.new }
 {
     if let Some(Wants::Leave) = at.want() {

@@ -2,12 +2,12 @@
 
 ghost use Rattle.std.specs.Prelude.{◌≡◌, ◌+◌, ◌≤◌, ◌<◌, ◌++◌, IfOk, OnOk, length, vec_len, vec_capacity};
 ghost use Rattle.ame_io.specs.Lines.{lines};
-ghost use Rattle.ame_runner.specs.Stage.{place_shown};
-ghost use Rattle.ame_stands.specs.Events.{ran_entry};
+ghost use Rattle.ame_machine.specs.MachineView.{place_shown};
+ghost use Rattle.ame_protocol.specs.Engine.Events.{ran_entry};
 
 use ame_io::integer_line;
 use ame_journal::{Entry, EntryKind, Journal};
-use ame_runner::Runner;
+use ame_machine::Runner;
 use ame_term::{Locs, NoMemory};
 use std::alloc::Global;
 
@@ -19,7 +19,7 @@ pub(crate) fn entry_of<M: Runner>(
     at: &M,
 ) -> Result<Entry, NoMemory>
     ensures { (code : M.Code) → IfOk result (λ entry.
-        entry ≡ ran_entry seat number (M.stage code at.now).steps (place_shown (M.stage code at.now))) }
+        entry ≡ ran_entry seat number (M.meaning.stage code at.now).steps (place_shown (M.meaning.stage code at.now))) }
 {
     let mut fresh = Vec::new(alloc);
     fresh.extend_from_slice(at.fresh())?;

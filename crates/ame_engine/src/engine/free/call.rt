@@ -2,9 +2,9 @@
 
 ghost use Rattle.std.specs.Prelude.{◌≡◌, ◌<◌, ◌+◌, ◌≤◌, ◌^◌, ℕ, OnErr, Ok, Some, None, vec_len};
 ghost use Rattle.ame_device.specs.Calls.{all_told};
-ghost use Rattle.ame_runner.specs.declared.wants.Wants.{Wants};
-ghost use Rattle.ame_stands.specs.Parts.{task_at};
-ghost use Rattle.ame_visits.specs.Visit.{has_been_refused};
+ghost use Rattle.ame_machine.specs.declared.wants.Wants.{Wants};
+ghost use Rattle.ame_protocol.specs.Engine.Parts.{task_at};
+ghost use Rattle.ame_protocol.specs.Visits.Visit.{has_been_refused};
 ghost use Rattle.ame_engine.specs.Counting.{Counted, one_counted};
 ghost use Rattle.ame_engine.specs.Seen.{parts_of, MakesLastEvent};
 ghost use Rattle.ame_engine.specs.Faults.{LeadsToCall};
@@ -17,8 +17,8 @@ use crate::engine::Engine;
 use crate::stop::Stop;
 use ame_device::{Device, DeviceFail, call_device};
 use ame_journal::Entry;
-use ame_runner::{Input, Runner};
-use ame_stands::{Attempt, Task};
+use ame_machine::{Input, Runner};
+use ame_protocol::{Attempt, Task};
 use ame_term::NoMemory;
 
 /// The entry of a visit with one step more, which a device answered.
@@ -45,8 +45,8 @@ where
         requires task { task_at self.old.tasks seat ≡ Task.Free attempt }
         requires going { self.old.stop ≡ None }
         requires left { self.old.turns < self.old.limits.turns }
-        requires calls { LeadsToCall (parts_of M.program M.devices M.value_of M.stage self.old) device }
-        ensures { MakesLastEvent M.program M.devices M.value_of M.stage (Stop.DeviceFault device) (one_counted Counted.Free)
+        requires calls { LeadsToCall (parts_of M.meaning self.old) device }
+        ensures { MakesLastEvent M.meaning (Stop.DeviceFault device) (one_counted Counted.Free)
             (has_been_refused seat attempt.tried.number) self.old self.new }
     {
         self.pool.home(attempt.tried.number, false);
@@ -68,17 +68,17 @@ where
         devices: &mut Vec<D>,
     ) -> Result<Freed, NoMemory>
         requires task { task_at self.old.tasks seat ≡ Task.Free attempt }
-        requires on { IsOn M.program M.devices M.value_of M.is_machine M.stage self.old seat at }
-        requires visits { IsVisiting (M.stage self.old.code at) }
-        requires wants { (M.stage self.old.code at).want ≡ Some (Wants.Device device argument) }
-        requires steps { (M.stage self.old.code at).steps + 1 < 2 ^ 64 }
+        requires on { IsOn M.meaning self.old seat at }
+        requires visits { IsVisiting (M.meaning.stage self.old.code at) }
+        requires wants { (M.meaning.stage self.old.code at).want ≡ Some (Wants.Device device argument) }
+        requires steps { (M.meaning.stage self.old.code at).steps + 1 < 2 ^ 64 }
         requires going { self.old.stop ≡ None }
         requires left { self.old.turns < self.old.limits.turns }
-        requires devices { M.devices self.old.code ≤ vec_len devices.old }
-        ensures home { result ≡ Ok Freed.Home → HasComeHome M.program M.devices M.value_of M.stage seat attempt.tried.number (M.stage self.old.code at)
+        requires devices { M.meaning.devices self.old.code ≤ vec_len devices.old }
+        ensures home { result ≡ Ok Freed.Home → HasComeHome M.meaning seat attempt.tried.number (M.meaning.stage self.old.code at)
             (all_told D.device_heard D.device_faults devices.old.items) (all_told D.device_heard D.device_faults devices.new.items) self.old self.new }
-        ensures refused { (k : ℕ) → result ≡ Ok (Freed.DeviceFault k) → HasBeenRefused M.program M.devices M.value_of M.stage seat attempt.tried.number k
-            (M.stage self.old.code at)
+        ensures refused { (k : ℕ) → result ≡ Ok (Freed.DeviceFault k) → HasBeenRefused M.meaning seat attempt.tried.number k
+            (M.meaning.stage self.old.code at)
             (all_told D.device_heard D.device_faults devices.old.items) (all_told D.device_heard D.device_faults devices.new.items) self.old self.new }
         ensures err { OnErr result (self.new ≡ self.old) }
         ensures quiet { OnErr result (all_told D.device_heard D.device_faults devices.new.items ≡ all_told D.device_heard D.device_faults devices.old.items) }

@@ -3,7 +3,7 @@
 ghost use Rattle.std.specs.Prelude.{◌≡◌, true, OnOk, OnErr};
 ghost use Rattle.ame_engine.specs.Visiting.{changed_by, CanChange, makes_cell};
 
-use ame_desk::Desk;
+use ame_rows::Memory;
 use ame_term::{Loc, NoMemory, Sort, TyNo};
 
 /// How a visit changes the cells.
@@ -18,20 +18,23 @@ pub(crate) enum Change<V> {
 }
 
 /// Changes the cells. Takes memory for a new one.
-pub(super) fn change_desk<V: Drop>(desk: &mut Desk<V>, change: Change<V>) -> Result<(), NoMemory>
-    requires { CanChange desk.old change }
-    ensures ok { OnOk result (desk.new ≡ changed_by (λ v. v) change desk.old) }
+pub(super) fn change_memory<V: Drop>(
+    memory: &mut Memory<V>,
+    change: Change<V>,
+) -> Result<(), NoMemory>
+    requires { CanChange memory.old change }
+    ensures ok { OnOk result (memory.new ≡ changed_by (λ v. v) change memory.old) }
     ensures makes { OnErr result (makes_cell change ≡ true) }
-    ensures err { OnErr result (desk.new ≡ desk.old) }
+    ensures err { OnErr result (memory.new ≡ memory.old) }
 {
     match change {
         Change::Stays => Ok(()),
         Change::Puts(l, value) => {
-            let _ = desk.put(l, value);
+            let _ = memory.put(l, value);
             Ok(())
         }
         Change::Makes(sort, number, value) => {
-            desk.born(sort, number, value)?;
+            memory.born(sort, number, value)?;
             Ok(())
         }
     }

@@ -1,18 +1,18 @@
 //! How a visit that called no device ends.
 
 ghost use Rattle.std.specs.Prelude.{◌≡◌, ◌<◌, ◌≤◌, OnOk, OnErr, None, true, []};
-ghost use Rattle.ame_stands.specs.Parts.{task_at};
+ghost use Rattle.ame_protocol.specs.Engine.Parts.{task_at};
 ghost use Rattle.ame_engine.specs.Counting.{Counted, one_counted};
 ghost use Rattle.ame_engine.specs.Seen.{parts_of, MakesEvent};
 ghost use Rattle.ame_engine.specs.Visiting.{IsVisitTo, visited_at, SettlesThere, changed_by, CanChange, IsGoodChange, makes_cell};
 
-use super::change::{Change, change_desk};
+use super::change::{Change, change_memory};
 use super::home::{free_entry, send_home};
 use crate::engine::Engine;
 use crate::engine::commit::members::join_all;
 use crate::engine::commit::taken::{append, lines_of, make_room, number_after};
-use ame_runner::Runner;
-use ame_stands::{Attempt, Task};
+use ame_machine::Runner;
+use ame_protocol::{Attempt, Task};
 use ame_term::NoMemory;
 
 impl<M: Runner> Engine<M>
@@ -31,17 +31,17 @@ where
         requires task { task_at self.old.tasks seat ≡ Task.Free attempt }
         requires going { self.old.stop ≡ None }
         requires left { self.old.turns < self.old.limits.turns }
-        requires machine { M.is_machine self.old.code at }
-        requires settles { SettlesThere (M.stage self.old.code at) }
-        requires visit { IsVisitTo (parts_of M.program M.devices M.value_of M.stage self.old) attempt.tried.number None (M.stage self.old.code at)
-            (changed_by (M.value_of self.old.code) change (parts_of M.program M.devices M.value_of M.stage self.old).desk) }
-        requires low { attempt.tried.steps ≤ (M.stage self.old.code at).steps }
-        requires good { IsGoodChange (M.is_value self.old.code) change }
-        requires fits { CanChange self.old.desk change }
-        requires lone { makes_cell change ≡ true → (M.stage self.old.code at).spawns ≡ [] }
-        ensures event { OnOk result (MakesEvent M.program M.devices M.value_of M.stage (one_counted Counted.Free)
-            (visited_at seat attempt.tried.number None (M.stage self.old.code at)
-            (changed_by (M.value_of self.old.code) change (parts_of M.program M.devices M.value_of M.stage self.old).desk)) self.old self.new) }
+        requires machine { M.meaning.is_machine self.old.code at }
+        requires settles { SettlesThere (M.meaning.stage self.old.code at) }
+        requires visit { IsVisitTo (parts_of M.meaning self.old) attempt.tried.number None (M.meaning.stage self.old.code at)
+            (changed_by (M.meaning.value_of self.old.code) change (parts_of M.meaning self.old).memory) }
+        requires low { attempt.tried.steps ≤ (M.meaning.stage self.old.code at).steps }
+        requires good { IsGoodChange (M.meaning.is_value self.old.code) change }
+        requires fits { CanChange self.old.memory change }
+        requires lone { makes_cell change ≡ true → (M.meaning.stage self.old.code at).spawns ≡ [] }
+        ensures event { OnOk result (MakesEvent M.meaning (one_counted Counted.Free)
+            (visited_at seat attempt.tried.number None (M.meaning.stage self.old.code at)
+            (changed_by (M.meaning.value_of self.old.code) change (parts_of M.meaning self.old).memory)) self.old self.new) }
         ensures err { OnErr result (self.new ≡ self.old) }
     {
         let alloc = *self.tasks.allocator();
@@ -58,7 +58,7 @@ where
             &mut self.journal,
         )?;
         self.pool.room(count)?;
-        change_desk(&mut self.desk, change)?;
+        change_memory(&mut self.memory, change)?;
         append(&mut self.output, at.prints());
         append(&mut self.text, bytes.as_slice());
         self.journal.push(entry);

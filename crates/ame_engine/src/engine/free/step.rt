@@ -1,13 +1,13 @@
 //! The step that a visited machine wants, on the committed state.
 
 ghost use Rattle.std.specs.Prelude.{◌≡◌, ◌<◌, ◌+◌, ◌^◌, ◌⊎◌, ℕ, ℤ, false, IfOk, Some};
-ghost use Rattle.ame_runner.specs.declared.wants.Wants.{Wants};
+ghost use Rattle.ame_machine.specs.declared.wants.Wants.{Wants};
 ghost use Rattle.ame_engine.specs.AtWork.{IsOn};
 ghost use Rattle.ame_engine.specs.Visiting.{IsVisiting, HasMadeItsStep, wants_device};
 
 use super::change::Change;
 use crate::engine::Engine;
-use ame_runner::{Input, Runner, Wants};
+use ame_machine::{Input, Runner, Wants};
 use ame_term::{Copied, Loc, NoMemory, Sort, TyNo};
 
 impl<M: Runner> Engine<M>
@@ -16,24 +16,24 @@ where
 {
     /// A machine is fed what is committed at the location where it reads or peeks.
     fn given(&self, at: &mut M, l: Loc) -> Result<Change<M::Value>, NoMemory>
-        requires on { (seat : ℕ) × IsOn M.program M.devices M.value_of M.is_machine M.stage self.now seat at.old }
-        requires visits { IsVisiting (M.stage self.now.code at.old) }
-        requires wants { ((M.stage self.now.code at.old).want ≡ Some (Wants.Read l)) ⊎ ((M.stage self.now.code at.old).want ≡ Some (Wants.Peek l)) }
-        requires steps { (M.stage self.now.code at.old).steps + 1 < 2 ^ 64 }
-        ensures { IfOk result (HasMadeItsStep M.program M.devices M.is_value M.value_of M.is_machine M.stage self.now at.old at.new) }
+        requires on { (seat : ℕ) × IsOn M.meaning self.now seat at.old }
+        requires visits { IsVisiting (M.meaning.stage self.now.code at.old) }
+        requires wants { ((M.meaning.stage self.now.code at.old).want ≡ Some (Wants.Read l)) ⊎ ((M.meaning.stage self.now.code at.old).want ≡ Some (Wants.Peek l)) }
+        requires steps { (M.meaning.stage self.now.code at.old).steps + 1 < 2 ^ 64 }
+        ensures { IfOk result (HasMadeItsStep M.meaning self.now at.old at.new) }
     {
-        let value = self.desk.peek(l)?;
+        let value = self.memory.peek(l)?;
         at.feed(&self.code, Input::Value(value));
         Ok(Change::Stays)
     }
 
     /// A machine is told that what it writes is accepted.
     fn written(&self, at: &mut M, l: Loc) -> Result<Change<M::Value>, NoMemory>
-        requires on { (seat : ℕ) × IsOn M.program M.devices M.value_of M.is_machine M.stage self.now seat at.old }
-        requires visits { IsVisiting (M.stage self.now.code at.old) }
-        requires wants { (M.stage self.now.code at.old).want ≡ Some (Wants.Write l) }
-        requires steps { (M.stage self.now.code at.old).steps + 1 < 2 ^ 64 }
-        ensures { IfOk result (HasMadeItsStep M.program M.devices M.is_value M.value_of M.is_machine M.stage self.now at.old at.new) }
+        requires on { (seat : ℕ) × IsOn M.meaning self.now seat at.old }
+        requires visits { IsVisiting (M.meaning.stage self.now.code at.old) }
+        requires wants { (M.meaning.stage self.now.code at.old).want ≡ Some (Wants.Write l) }
+        requires steps { (M.meaning.stage self.now.code at.old).steps + 1 < 2 ^ 64 }
+        ensures { IfOk result (HasMadeItsStep M.meaning self.now at.old at.new) }
     {
         let value = at.wanted(&self.code).copy(*self.tasks.allocator())?;
         at.feed(&self.code, Input::Unit);
@@ -42,25 +42,25 @@ where
 
     /// A machine is fed the location of the cell that is to be made for it.
     fn made(&self, at: &mut M, sort: Sort, number: TyNo) -> Result<Change<M::Value>, NoMemory>
-        requires on { (seat : ℕ) × IsOn M.program M.devices M.value_of M.is_machine M.stage self.now seat at.old }
-        requires visits { IsVisiting (M.stage self.now.code at.old) }
-        requires wants { (M.stage self.now.code at.old).want ≡ Some (Wants.Alloc sort number) }
-        requires steps { (M.stage self.now.code at.old).steps + 1 < 2 ^ 64 }
-        ensures { IfOk result (HasMadeItsStep M.program M.devices M.is_value M.value_of M.is_machine M.stage self.now at.old at.new) }
+        requires on { (seat : ℕ) × IsOn M.meaning self.now seat at.old }
+        requires visits { IsVisiting (M.meaning.stage self.now.code at.old) }
+        requires wants { (M.meaning.stage self.now.code at.old).want ≡ Some (Wants.Alloc sort number) }
+        requires steps { (M.meaning.stage self.now.code at.old).steps + 1 < 2 ^ 64 }
+        ensures { IfOk result (HasMadeItsStep M.meaning self.now at.old at.new) }
     {
         let value = at.wanted(&self.code).copy(*self.tasks.allocator())?;
-        at.feed(&self.code, Input::Loc(Loc(self.desk.cells().len())));
+        at.feed(&self.code, Input::Loc(Loc(self.memory.cells().len())));
         Ok(Change::Makes(sort, number, value))
     }
 
     /// A machine is told that what it spawns or prints is accepted, or it closes.
     fn accepted(&self, at: &mut M)
-        requires on { (seat : ℕ) × IsOn M.program M.devices M.value_of M.is_machine M.stage self.now seat at.old }
-        requires visits { IsVisiting (M.stage self.now.code at.old) }
-        requires wants { ((M.stage self.now.code at.old).want ≡ Some Wants.Spawn)
-            ⊎ (((i : ℤ) × ((M.stage self.now.code at.old).want ≡ Some (Wants.Print i))) ⊎ ((M.stage self.now.code at.old).want ≡ Some Wants.Close)) }
-        requires steps { (M.stage self.now.code at.old).steps + 1 < 2 ^ 64 }
-        ensures { HasMadeItsStep M.program M.devices M.is_value M.value_of M.is_machine M.stage self.now at.old at.new Change.Stays }
+        requires on { (seat : ℕ) × IsOn M.meaning self.now seat at.old }
+        requires visits { IsVisiting (M.meaning.stage self.now.code at.old) }
+        requires wants { ((M.meaning.stage self.now.code at.old).want ≡ Some Wants.Spawn)
+            ⊎ (((i : ℤ) × ((M.meaning.stage self.now.code at.old).want ≡ Some (Wants.Print i))) ⊎ ((M.meaning.stage self.now.code at.old).want ≡ Some Wants.Close)) }
+        requires steps { (M.meaning.stage self.now.code at.old).steps + 1 < 2 ^ 64 }
+        ensures { HasMadeItsStep M.meaning self.now at.old at.new Change.Stays }
     {
         at.feed(&self.code, Input::Unit);
     }
@@ -68,11 +68,11 @@ where
     /// Makes the step that a machine wants, unless it wants a device, and tells how the cells are to change. Takes memory for the
     /// copy of a value.
     pub(super) fn serve(&self, at: &mut M) -> Result<Change<M::Value>, NoMemory>
-        requires on { (seat : ℕ) × IsOn M.program M.devices M.value_of M.is_machine M.stage self.now seat at.old }
-        requires visits { IsVisiting (M.stage self.now.code at.old) }
-        requires no_device { wants_device (M.stage self.now.code at.old).want ≡ false }
-        requires steps { (M.stage self.now.code at.old).steps + 1 < 2 ^ 64 }
-        ensures { IfOk result (HasMadeItsStep M.program M.devices M.is_value M.value_of M.is_machine M.stage self.now at.old at.new) }
+        requires on { (seat : ℕ) × IsOn M.meaning self.now seat at.old }
+        requires visits { IsVisiting (M.meaning.stage self.now.code at.old) }
+        requires no_device { wants_device (M.meaning.stage self.now.code at.old).want ≡ false }
+        requires steps { (M.meaning.stage self.now.code at.old).steps + 1 < 2 ^ 64 }
+        ensures { IfOk result (HasMadeItsStep M.meaning self.now at.old at.new) }
     {
         let Some(want) = at.want() else {
             return Ok(Change::Stays);

@@ -5,9 +5,9 @@ use Rattle.std.proofs.lemmas.Option.{slice_get-get_or}
 use Rattle.ame_shell.specs.Ends.{ends_of}
 use Rattle.ame_shell.specs.Over.{IsOver}
 use Rattle.ame_shell.specs.Shell.{shown, IsShell}
-use Rattle.ame_stands.specs.declared.types.Limits.{Limits}
-use Rattle.ame_stands.specs.declared.types.Task.{Task}
-use Rattle.ame_stands.specs.Parts.{task_at}
+use Rattle.ame_protocol.specs.declared.types.Limits.{Limits}
+use Rattle.ame_protocol.specs.declared.types.Task.{Task}
+use Rattle.ame_protocol.specs.Engine.Parts.{task_at}
 use Rattle.ame_device.specs.Calls.{told}
 use Rattle.ame_baton.specs.Batons.{knows, IsSeatOf}
 use Rattle.ame_worker.specs.declared.worker.Worker.{Worker}
@@ -49,12 +49,12 @@ work_all-requires-clause-of g c κs lives = λ i d in_range.
 
 pub work_all-requires-clause-ready : goal.work_all-requires-clause-ready
 work_all-requires-clause-ready g c κs lives =
-    subst (All (λ w. IsReadyToTurn g.M.Runner.devices g.M.Runner.is_machine g.M.Runner.stage (arc_value w.code) w.limits (knows w.seat) w.work)) (sym c.as_mut_slice.ensures.value)
+    subst (All (λ w. IsReadyToTurn g.M.Runner.meaning.devices g.M.Runner.meaning.is_machine g.M.Runner.meaning.stage (arc_value w.code) w.limits (knows w.seat) w.work)) (sym c.as_mut_slice.ensures.value)
     c.team-workers.ensures.ready
 
 pub end-requires-clause-first : goal.end-requires-clause-first
 end-requires-clause-first g c =
-    let r = g.M.Runner in
+    let r = g.M.Runner.meaning in
     let baton = c.in-Ok-new.made.0 in
     let opened = (knows c.in-Ok-new.made.1).fixed in
     let count = c.args.limits.seats in
@@ -72,7 +72,7 @@ end-requires-clause-first g c =
 
 pub end-requires-clause-rest : goal.end-requires-clause-rest
 end-requires-clause-rest g c =
-    let r = g.M.Runner in
+    let r = g.M.Runner.meaning in
     let baton = c.in-Ok-new.made.0 in
     let opened = (knows c.in-Ok-new.made.1).fixed in
     let count = c.args.limits.seats in
@@ -90,7 +90,7 @@ end-requires-clause-rest g c =
 
 pub end-requires-clause-all : goal.end-requires-clause-all
 end-requires-clause-all g c =
-    let r = g.M.Runner in
+    let r = g.M.Runner.meaning in
     let baton = c.in-Ok-new.made.0 in
     let opened = (knows c.in-Ok-new.made.1).fixed in
     let count = c.args.limits.seats in
@@ -108,7 +108,7 @@ end-requires-clause-all g c =
 
 pub finish-requires-clause-idle : goal.finish-requires-clause-idle
 finish-requires-clause-idle g c =
-    let r = g.M.Runner in
+    let r = g.M.Runner.meaning in
     let baton = c.in-Ok-new.made.0 in
     let opened = (knows c.in-Ok-new.made.1).fixed in
     let count = c.args.limits.seats in
@@ -131,13 +131,13 @@ finish-requires-clause-idle g c =
     let shared = some-and _ (knows first).fixed opening is c.end.ensures.stands in
     let same = rest-count baton opened count old new len after.count placed after.of after.keeps after.through first rest all ∙ ap (λ (l : Limits). l.seats) (sym (shared.shell.opened.limits ∙ c.in-Ok-open.ensures.limits)) in
     let idle = all-idle first rest c.end.ensures.rows c.end.ensures.entries c.end.ensures.stays (first-done baton opened count old new len after.count placed after.of after.keeps after.through first rest all).through (λ i s e. (rest-done baton opened count old new len after.count placed after.of after.keeps after.through first rest all i s e).through)
-    r.program r.devices r.value_of r.is_machine r.stage opening shell state.places.items shared same
+    r opening shell state.places.items shared same
     (subst (λ sh. length sh.engine.tasks ≡ sh.engine.limits.seats) c.into_shell-shell.ensures c.stands.ensures.bounded.tasks) in
     subst (λ sh. (seat : ℕ) → task_at sh.engine.tasks seat ≡ Task.Idle) (sym c.into_shell-shell.ensures) idle
 
 pub finish-requires-clause-stopped : goal.finish-requires-clause-stopped
 finish-requires-clause-stopped g c =
-    let r = g.M.Runner in
+    let r = g.M.Runner.meaning in
     let baton = c.in-Ok-new.made.0 in
     let opened = (knows c.in-Ok-new.made.1).fixed in
     let count = c.args.limits.seats in
@@ -161,11 +161,11 @@ finish-requires-clause-stopped g c =
     let same = rest-count baton opened count old new len after.count placed after.of after.keeps after.through first rest all ∙ ap (λ (l : Limits). l.seats) (sym (shared.shell.opened.limits ∙ c.in-Ok-open.ensures.limits)) in
     subst (λ sh. IsSome sh.engine.stop) (sym c.into_shell-shell.ensures)
     (has-stopped first rest c.end.ensures.rows c.end.ensures.entries c.end.ensures.stays (first-done baton opened count old new len after.count placed after.of after.keeps after.through first rest all).through (λ i s e. (rest-done baton opened count old new len after.count placed after.of after.keeps after.through first rest all i s e).through)
-    r.program r.devices r.value_of r.is_machine r.stage opening shell state.places.items shared same)
+    r opening shell state.places.items shared same)
 
 pub returns-clause-over : goal.returns-clause-over
 returns-clause-over g c =
-    let r = g.M.Runner in
+    let r = g.M.Runner.meaning in
     let baton = c.in-Ok-new.made.0 in
     let opened = (knows c.in-Ok-new.made.1).fixed in
     let count = c.args.limits.seats in

@@ -3,7 +3,7 @@ use Rattle.ame_turn.proofs.checks.check.Goals as goal
 
 pub returns-in-Valid-clause-goes : goal.returns-in-Valid-clause-goes
 returns-in-Valid-clause-goes g c = λ attempt task told.
-    check-on g.M.Runner.program g.M.Runner.devices g.M.Runner.value_of g.M.Runner.is_machine g.M.Runner.stage c.args.engine.now c.check-checked.new.self c.args.seat
+    check-on g.M.Runner.meaning c.args.engine.now c.check-checked.new.self c.args.seat
     c.args.machine.now c.checked.new.self attempt c.stands.ensures c.requires.on c.requires.outside task
     (c.check-checked.ensures.valid attempt task c.in-Valid.is) (c.checked.ensures.machine c.args.engine.now.code c.requires.on.machine)
     (c.checked.ensures.stage c.args.engine.now.code)

@@ -1,8 +1,8 @@
 use Rattle.std.proofs.Common.{◌≡◌, length, refl, sym, ◌∙◌}
-use Rattle.ame_desk.specs.Contents.{row_at}
+use Rattle.ame_rows.specs.MemoryView.{row_at}
 use Rattle.ame_engine.specs.declared.answer.Undone.{Undone}
 use Rattle.ame_engine.specs.declared.answer.Undone.TheVariants as answer
-use Rattle.ame_stands.specs.Parts.{task_at, attempt_of}
+use Rattle.ame_protocol.specs.Engine.Parts.{task_at, attempt_of}
 use Rattle.ame_engine.specs.Undoing.{reason_to_undo}
 use Rattle.ame_engine.proofs.UndoingLemmas.{attempt-in}
 use Rattle.ame_turn.proofs.HandLemmas.{undid-fits, home-fits, at-most-one}
@@ -11,7 +11,7 @@ use Rattle.ame_turn.proofs.events.undo_on.Goals as goal
 pub returns-in-More-clause-fits : goal.returns-in-More-clause-fits
 returns-in-More-clause-fits g c =
     let a = attempt-in (attempt_of (task_at c.args.engine.now.tasks c.args.seat)) c.requires.can.busy in
-    undid-fits g.M.Runner.program g.M.Runner.devices g.M.Runner.value_of g.M.Runner.is_machine g.M.Runner.stage c.args.engine.now c.undo_one.new.self c.args.seat _ a.0
+    undid-fits g.M.Runner.meaning c.args.engine.now c.undo_one.new.self c.args.seat _ a.0
     (reason_to_undo (task_at c.args.engine.now.tasks c.args.seat)) a.1 (c.undo_one.ensures.more a.0 a.1 c.in-More.is)
 
 pub returns-in-More-clause-done : goal.returns-in-More-clause-done
@@ -29,7 +29,7 @@ returns-in-More-clause-done g c = λ hand told.
 pub returns-in-Home-clause-fits : goal.returns-in-Home-clause-fits
 returns-in-Home-clause-fits g c =
     let a = attempt-in (attempt_of (task_at c.args.engine.now.tasks c.args.seat)) c.requires.can.busy in
-    home-fits g.M.Runner.program g.M.Runner.devices g.M.Runner.value_of g.M.Runner.is_machine g.M.Runner.stage c.args.engine.now c.undo_one.new.self c.args.seat _ a.0
+    home-fits g.M.Runner.meaning c.args.engine.now c.undo_one.new.self c.args.seat _ a.0
     (reason_to_undo (task_at c.args.engine.now.tasks c.args.seat)) a.1 (c.undo_one.ensures.home a.0 a.1 c.in-Home.is)
 
 pub returns-in-Home-clause-done : goal.returns-in-Home-clause-done
@@ -38,7 +38,7 @@ returns-in-Home-clause-done g c = λ hand told.
     record {
       event = (
         a.0,
-        at-most-one (length (row_at c.args.engine.now.desk.rows c.args.seat).undos)
+        at-most-one (length (row_at c.args.engine.now.memory.rows c.args.seat).undos)
             (λ more. absurd (let clash : ◌≡◌ {A = Undone} answer.Home answer.More = sym c.in-Home.is ∙ c.undo_one.ensures.answer.1 more in cc)),
         record { undoes = c.requires.undoes; has = a.1; event = c.undo_one.ensures.home a.0 a.1 c.in-Home.is },
       );

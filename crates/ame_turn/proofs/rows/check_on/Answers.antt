@@ -5,16 +5,16 @@ use Rattle.ame_turn.proofs.rows.check_on.Goals as goal
 
 pub returns-in-Valid-clause-fits : goal.returns-in-Valid-clause-fits
 returns-in-Valid-clause-fits g c =
-    let task = running g.M.Runner.program g.M.Runner.devices g.M.Runner.value_of g.M.Runner.is_machine g.M.Runner.stage c.args.engine.now c.args.engine.now c.args.seat c.args.machine c.requires.turn.at c.requires.outside in (c.check.ensures.goes c.requires.turn.at.on.stands.attempt task c.in-Valid.is).at
+    let task = running g.M.Runner.meaning c.args.engine.now c.args.engine.now c.args.seat c.args.machine c.requires.turn.at c.requires.outside in (c.check.ensures.goes c.requires.turn.at.on.stands.attempt task c.in-Valid.is).at
 
 pub returns-in-Valid-clause-done : goal.returns-in-Valid-clause-done
 returns-in-Valid-clause-done g c = λ told.
     let a = c.requires.turn.at.on.stands.attempt in
-    let task = running g.M.Runner.program g.M.Runner.devices g.M.Runner.value_of g.M.Runner.is_machine g.M.Runner.stage c.args.engine.now c.args.engine.now c.args.seat c.args.machine c.requires.turn.at c.requires.outside in
+    let task = running g.M.Runner.meaning c.args.engine.now c.args.engine.now c.args.seat c.args.machine c.requires.turn.at c.requires.outside in
     record {
       event = (
-        (g.M.Runner.stage c.args.engine.now.code c.args.machine),
-        checks-from c.args.engine.now (g.M.Runner.stage c.args.engine.now.code c.args.machine) c.requires.turn.going c.requires.turn.left c.requires.outside c.requires.waits c.requires.full,
+        (g.M.Runner.meaning.stage c.args.engine.now.code c.args.machine),
+        checks-from c.args.engine.now (g.M.Runner.meaning.stage c.args.engine.now.code c.args.machine) c.requires.turn.going c.requires.turn.left c.requires.outside c.requires.waits c.requires.full,
         a,
         record { task = task; valid = c.check.ensures.exact.0 c.in-Valid.is },
         (c.check.ensures.goes a task c.in-Valid.is).makes,
@@ -25,17 +25,17 @@ returns-in-Valid-clause-done g c = λ told.
 pub returns-in-Invalid-clause-fits : goal.returns-in-Invalid-clause-fits
 returns-in-Invalid-clause-fits g c =
     let a = c.requires.turn.at.on.stands.attempt in
-    let task = running g.M.Runner.program g.M.Runner.devices g.M.Runner.value_of g.M.Runner.is_machine g.M.Runner.stage c.args.engine.now c.args.engine.now c.args.seat c.args.machine c.requires.turn.at c.requires.outside in
-    back-fits g.M.Runner.program g.M.Runner.devices g.M.Runner.value_of g.M.Runner.is_machine g.M.Runner.stage c.args.engine.now c.check.new.engine c.args.seat _ a task (c.check.ensures.back a _ task c.in-Invalid.is)
+    let task = running g.M.Runner.meaning c.args.engine.now c.args.engine.now c.args.seat c.args.machine c.requires.turn.at c.requires.outside in
+    back-fits g.M.Runner.meaning c.args.engine.now c.check.new.engine c.args.seat _ a task (c.check.ensures.back a _ task c.in-Invalid.is)
 
 pub returns-in-Invalid-clause-done : goal.returns-in-Invalid-clause-done
 returns-in-Invalid-clause-done g c = λ told.
     let a = c.requires.turn.at.on.stands.attempt in
-    let task = running g.M.Runner.program g.M.Runner.devices g.M.Runner.value_of g.M.Runner.is_machine g.M.Runner.stage c.args.engine.now c.args.engine.now c.args.seat c.args.machine c.requires.turn.at c.requires.outside in
+    let task = running g.M.Runner.meaning c.args.engine.now c.args.engine.now c.args.seat c.args.machine c.requires.turn.at c.requires.outside in
     record {
       event = (
-        (g.M.Runner.stage c.args.engine.now.code c.args.machine),
-        checks-from c.args.engine.now (g.M.Runner.stage c.args.engine.now.code c.args.machine) c.requires.turn.going c.requires.turn.left c.requires.outside c.requires.waits c.requires.full,
+        (g.M.Runner.meaning.stage c.args.engine.now.code c.args.machine),
+        checks-from c.args.engine.now (g.M.Runner.meaning.stage c.args.engine.now.code c.args.machine) c.requires.turn.going c.requires.turn.left c.requires.outside c.requires.waits c.requires.full,
         record { attempt = a; task = task; invalid = c.check.ensures.bad _ c.in-Invalid.is; event = c.check.ensures.back a _ task c.in-Invalid.is },
       );
       quiet = λ _. refl;

@@ -1,6 +1,6 @@
 use Rattle.std.proofs.Common.{Ok, refl, ap, ◌∙◌}
-use Rattle.ame_runner.specs.declared.wants.Wants.TheVariants as wants
-use Rattle.ame_runner.specs.Stage.{place_shown}
+use Rattle.ame_machine.specs.declared.wants.Wants.TheVariants as wants
+use Rattle.ame_machine.specs.MachineView.{place_shown}
 use Rattle.ame_turn.proofs.HandLemmas.{running, back-fits, tall-fits}
 use Rattle.ame_turn.proofs.DoneLemmas.{told-ok, asks-from, runs-from, bad-outside}
 use Rattle.ame_turn.proofs.rows.tall_on.Goals as goal
@@ -8,7 +8,7 @@ use Rattle.ame_turn.proofs.rows.tall_on.Goals as goal
 pub returns-in-Ok-Noted-clause-fits : goal.returns-in-Ok-Noted-clause-fits
 returns-in-Ok-Noted-clause-fits g c =
     let on = c.requires.turn.at.on.stands in
-    tall-fits g.M.Runner.program g.M.Runner.devices g.M.Runner.value_of g.M.Runner.is_machine g.M.Runner.stage c.args.engine.now c.tall.new.self c.args.seat _ _ on.attempt (g.M.Runner.stage c.args.engine.now.code c.args.machine).steps (place_shown (g.M.Runner.stage c.args.engine.now.code c.args.machine)) on.has (c.tall.ensures.noted on.attempt on.has (c.in-Ok-Noted.is ∙ ap Ok c.in-Ok-Noted.field-0-is))
+    tall-fits g.M.Runner.meaning c.args.engine.now c.tall.new.self c.args.seat _ _ on.attempt (g.M.Runner.meaning.stage c.args.engine.now.code c.args.machine).steps (place_shown (g.M.Runner.meaning.stage c.args.engine.now.code c.args.machine)) on.has (c.tall.ensures.noted on.attempt on.has (c.in-Ok-Noted.is ∙ ap Ok c.in-Ok-Noted.field-0-is))
 
 pub returns-in-Ok-Noted-clause-done : goal.returns-in-Ok-Noted-clause-done
 returns-in-Ok-Noted-clause-done g c = λ told.
@@ -16,8 +16,8 @@ returns-in-Ok-Noted-clause-done g c = λ told.
     let is = c.in-Ok-Noted.is ∙ ap Ok c.in-Ok-Noted.field-0-is in
     record {
       event = (
-        (g.M.Runner.stage c.args.engine.now.code c.args.machine),
-        asks-from c.args.engine.now (g.M.Runner.stage c.args.engine.now.code c.args.machine) c.requires.turn.going c.requires.turn.left wants.Tall c.requires.told,
+        (g.M.Runner.meaning.stage c.args.engine.now.code c.args.machine),
+        asks-from c.args.engine.now (g.M.Runner.meaning.stage c.args.engine.now.code c.args.machine) c.requires.turn.going c.requires.turn.left wants.Tall c.requires.told,
         on.attempt,
         on.has,
         (told-ok _ _ _ is c.tall.ensures.exact).0 refl,
@@ -29,21 +29,21 @@ returns-in-Ok-Noted-clause-done g c = λ told.
 pub returns-in-Ok-Invalid-clause-fits : goal.returns-in-Ok-Invalid-clause-fits
 returns-in-Ok-Invalid-clause-fits g c =
     let is = c.in-Ok-Invalid.is ∙ ap Ok c.in-Ok-Invalid.field-0-is in
-    let outside = bad-outside g.M.Runner.program g.M.Runner.devices g.M.Runner.value_of g.M.Runner.is_machine g.M.Runner.stage c.args.engine.now c.args.seat c.args.machine c.stands.ensures c.requires.turn.at c.in-Ok-Invalid.bad (c.tall.ensures.bad c.in-Ok-Invalid.bad is) in
+    let outside = bad-outside g.M.Runner.meaning c.args.engine.now c.args.seat c.args.machine c.stands.ensures c.requires.turn.at c.in-Ok-Invalid.bad (c.tall.ensures.bad c.in-Ok-Invalid.bad is) in
     let a = c.requires.turn.at.on.stands.attempt in
-    let task = running g.M.Runner.program g.M.Runner.devices g.M.Runner.value_of g.M.Runner.is_machine g.M.Runner.stage c.args.engine.now c.args.engine.now c.args.seat c.args.machine c.requires.turn.at outside in
-    back-fits g.M.Runner.program g.M.Runner.devices g.M.Runner.value_of g.M.Runner.is_machine g.M.Runner.stage c.args.engine.now c.tall.new.self c.args.seat _ a task (c.tall.ensures.back a c.in-Ok-Invalid.bad task is)
+    let task = running g.M.Runner.meaning c.args.engine.now c.args.engine.now c.args.seat c.args.machine c.requires.turn.at outside in
+    back-fits g.M.Runner.meaning c.args.engine.now c.tall.new.self c.args.seat _ a task (c.tall.ensures.back a c.in-Ok-Invalid.bad task is)
 
 pub returns-in-Ok-Invalid-clause-done : goal.returns-in-Ok-Invalid-clause-done
 returns-in-Ok-Invalid-clause-done g c = λ told.
     let is = c.in-Ok-Invalid.is ∙ ap Ok c.in-Ok-Invalid.field-0-is in
-    let outside = bad-outside g.M.Runner.program g.M.Runner.devices g.M.Runner.value_of g.M.Runner.is_machine g.M.Runner.stage c.args.engine.now c.args.seat c.args.machine c.stands.ensures c.requires.turn.at c.in-Ok-Invalid.bad (c.tall.ensures.bad c.in-Ok-Invalid.bad is) in
+    let outside = bad-outside g.M.Runner.meaning c.args.engine.now c.args.seat c.args.machine c.stands.ensures c.requires.turn.at c.in-Ok-Invalid.bad (c.tall.ensures.bad c.in-Ok-Invalid.bad is) in
     let a = c.requires.turn.at.on.stands.attempt in
-    let task = running g.M.Runner.program g.M.Runner.devices g.M.Runner.value_of g.M.Runner.is_machine g.M.Runner.stage c.args.engine.now c.args.engine.now c.args.seat c.args.machine c.requires.turn.at outside in
+    let task = running g.M.Runner.meaning c.args.engine.now c.args.engine.now c.args.seat c.args.machine c.requires.turn.at outside in
     record {
       event = (
-        (g.M.Runner.stage c.args.engine.now.code c.args.machine),
-        runs-from c.args.engine.now (g.M.Runner.stage c.args.engine.now.code c.args.machine) c.requires.turn.going c.requires.turn.left wants.Tall c.requires.told outside,
+        (g.M.Runner.meaning.stage c.args.engine.now.code c.args.machine),
+        runs-from c.args.engine.now (g.M.Runner.meaning.stage c.args.engine.now.code c.args.machine) c.requires.turn.going c.requires.turn.left wants.Tall c.requires.told outside,
         record {
           attempt = a;
           task = task;

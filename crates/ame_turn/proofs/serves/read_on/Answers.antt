@@ -1,5 +1,5 @@
 use Rattle.std.proofs.Common.{refl}
-use Rattle.ame_runner.specs.declared.wants.Wants.TheVariants as wants
+use Rattle.ame_machine.specs.declared.wants.Wants.TheVariants as wants
 use Rattle.ame_turn.proofs.DoneLemmas.{accesses-from}
 use Rattle.ame_turn.proofs.serves.read_on.Goals as goal
 
@@ -10,6 +10,6 @@ pub returns-in-Ok-clause-done : goal.returns-in-Ok-clause-done
 returns-in-Ok-clause-done g c = λ told.
     let a = c.requires.reads in
     record {
-      event = ((g.M.Runner.stage c.args.engine.now.code c.args.machine), a.l, accesses-from c.args.engine.now (g.M.Runner.stage c.args.engine.now.code c.args.machine) c.requires.turn.going c.requires.turn.left (wants.Read a.l) c.requires.reads.wants c.requires.reads.outside c.requires.early, (c.in-Ok.ensures.goes a.l a.wants).makes);
+      event = ((g.M.Runner.meaning.stage c.args.engine.now.code c.args.machine), a.l, accesses-from c.args.engine.now (g.M.Runner.meaning.stage c.args.engine.now.code c.args.machine) c.requires.turn.going c.requires.turn.left (wants.Read a.l) c.requires.reads.wants c.requires.reads.outside c.requires.early, (c.in-Ok.ensures.goes a.l a.wants).makes);
       quiet = λ _. refl;
     }

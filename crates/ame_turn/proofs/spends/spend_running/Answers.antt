@@ -1,6 +1,6 @@
 use Rattle.std.proofs.Common.{inl, inr, Some, refl, sym, subst}
-use Rattle.ame_desk.specs.Contents.{row_at}
-use Rattle.ame_runner.specs.Stage.{place_shown}
+use Rattle.ame_rows.specs.MemoryView.{row_at}
+use Rattle.ame_machine.specs.MachineView.{place_shown}
 use Rattle.ame_engine.specs.declared.stop.Stop.{Stop}
 use Rattle.ame_turn.specs.declared.work.Work.TheVariants as work
 use Rattle.ame_turn.specs.Work.{Fits}
@@ -13,22 +13,22 @@ use Rattle.ame_turn.proofs.spends.spend_running.Goals as goal
 pub returns-in-Ok-clause-fits : goal.returns-in-Ok-clause-fits
 returns-in-Ok-clause-fits g c =
     let on = c.requires.at.on.stands in
-    subst (λ w. Fits g.M.Runner.program g.M.Runner.devices g.M.Runner.value_of g.M.Runner.is_machine g.M.Runner.stage c.spend.new.self c.args.seat w) (sym c.spent.ensures.work)
-    (elim (valid-or-not c.args.seat c.args.engine.now.desk.cells (row_at c.args.engine.now.desk.rows c.args.seat).reads) [
-      | inl valid ↦ cut-fits g.M.Runner.program g.M.Runner.devices g.M.Runner.value_of g.M.Runner.is_machine g.M.Runner.stage c.args.engine.now c.spend.new.self c.args.seat Stop.Spent (λ counters. counters) on.attempt (g.M.Runner.stage c.args.engine.now.code c.args.machine).steps (place_shown (g.M.Runner.stage c.args.engine.now.code c.args.machine)) on.has
+    subst (λ w. Fits g.M.Runner.meaning c.spend.new.self c.args.seat w) (sym c.spent.ensures.work)
+    (elim (valid-or-not c.args.seat c.args.engine.now.memory.cells (row_at c.args.engine.now.memory.rows c.args.seat).reads) [
+      | inl valid ↦ cut-fits g.M.Runner.meaning c.args.engine.now c.spend.new.self c.args.seat Stop.Spent (λ counters. counters) on.attempt (g.M.Runner.meaning.stage c.args.engine.now.code c.args.machine).steps (place_shown (g.M.Runner.meaning.stage c.args.engine.now.code c.args.machine)) on.has
           (told-on _ _ _ c.in-Ok.is (c.spend.ensures.cut _ refl valid on.attempt on.has))
-      | inr bad ↦ stopped-undoes g.M.Runner.program g.M.Runner.devices g.M.Runner.value_of g.M.Runner.is_machine g.M.Runner.stage c.args.engine.now c.spend.new.self c.args.seat Stop.Spent (at-work-busy g.M.Runner.program g.M.Runner.devices g.M.Runner.value_of g.M.Runner.is_machine g.M.Runner.stage c.args.engine.now c.args.engine.now c.args.seat c.args.machine c.requires.at)
+      | inr bad ↦ stopped-undoes g.M.Runner.meaning c.args.engine.now c.spend.new.self c.args.seat Stop.Spent (at-work-busy g.M.Runner.meaning c.args.engine.now c.args.engine.now c.args.seat c.args.machine c.requires.at)
           (c.spend.ensures.invalid bad).1
     ])
 
 pub returns-in-Ok-clause-done : goal.returns-in-Ok-clause-done
 returns-in-Ok-clause-done g c = λ told.
     let on = c.requires.at.on.stands in
-    subst (λ d. IsDone g.M.Runner.program g.M.Runner.devices g.M.Runner.value_of g.M.Runner.stage c.args.seat (Some (g.M.Runner.stage c.args.engine.now.code c.args.machine)) c.args.engine.now c.spend.new.self told told d) (sym c.spent.ensures.deed)
+    subst (λ d. IsDone g.M.Runner.meaning c.args.seat (Some (g.M.Runner.meaning.stage c.args.engine.now.code c.args.machine)) c.args.engine.now c.spend.new.self told told d) (sym c.spent.ensures.deed)
     (record {
       event = (
         c.requires.spent,
-        elim (valid-or-not c.args.seat c.args.engine.now.desk.cells (row_at c.args.engine.now.desk.rows c.args.seat).reads) [
+        elim (valid-or-not c.args.seat c.args.engine.now.memory.cells (row_at c.args.engine.now.memory.rows c.args.seat).reads) [
           | inl valid ↦ inl (record {
             attempt = on.attempt;
             has = on.has;
@@ -43,6 +43,6 @@ returns-in-Ok-clause-done g c = λ told.
 
 pub returns-in-Err-clause-fits : goal.returns-in-Err-clause-fits
 returns-in-Err-clause-fits g c =
-    subst (λ w. Fits g.M.Runner.program g.M.Runner.devices g.M.Runner.value_of g.M.Runner.is_machine g.M.Runner.stage c.give_up.new.engine c.args.seat w) (sym c.give_up.ensures.work)
-    (lacked-fits g.M.Runner.program g.M.Runner.devices g.M.Runner.value_of g.M.Runner.is_machine g.M.Runner.stage c.args.engine.now c.give_up.new.engine c.args.seat c.spend.new.self c.in-Err.ensures.err c.give_up.ensures.engine (work.Running c.args.machine)
+    subst (λ w. Fits g.M.Runner.meaning c.give_up.new.engine c.args.seat w) (sym c.give_up.ensures.work)
+    (lacked-fits g.M.Runner.meaning c.args.engine.now c.give_up.new.engine c.args.seat c.spend.new.self c.in-Err.ensures.err c.give_up.ensures.engine (work.Running c.args.machine)
     c.requires.at)

@@ -1,7 +1,7 @@
 use Rattle.std.proofs.Common.{◌≢◌, ℕ, ◌<◌, set, sym, ap, refl, ◌∙◌, subst}
 use Rattle.std.proofs.lemmas.Option.{slice_get_within}
 use Rattle.ame_io.specs.Lines.{lines}
-use Rattle.ame_stands.specs.declared.types.Limits.{Limits}
+use Rattle.ame_protocol.specs.declared.types.Limits.{Limits}
 use Rattle.ame_shell.specs.Shell.{shown}
 use Rattle.ame_shell.specs.Turned.{HasTurned}
 use Rattle.ame_turn.specs.declared.work.Work.{Work}
@@ -20,38 +20,38 @@ use Rattle.ame_worker.proofs.hand.hand.Goals as goal
 
 pub turn-deed-requires-clause-fits : goal.turn-deed-requires-clause-fits
 turn-deed-requires-clause-fits g c =
-    let r = g.M.Runner in
+    let r = g.M.Runner.meaning in
     let k = knows c.args.seat.now in
     let sh = c.deref_mut-shell.result.now in
     let to_shell = sym c.deref_mut-shell.ensures.value in
     let seated = subst (λ it. IsSeated r.devices c.args.code.now it.engine.limits k) to_shell c.requires.seated in
     let engine = sh.engine in
     let old = shown g.K.Sink.written g.K.Sink.faults g.D.Device.device_heard g.D.Device.device_faults engine sh.sent sh.sink sh.devices.items in
-    let was = subst (λ it. IsShared r.program r.devices r.value_of r.is_machine r.stage seated.opened
+    let was = subst (λ it. IsShared r seated.opened
     (shown g.K.Sink.written g.K.Sink.faults g.D.Device.device_heard g.D.Device.device_faults it.engine it.sent it.sink it.devices.items) c.args.shared.places.items k.rows k.seen)
     to_shell (some-and _ k.fixed seated.opened seated.is c.requires.stands) in
-    subst (λ n. Fits r.program r.devices r.value_of r.is_machine r.stage engine n c.args.work) (sym c.number-number.ensures)
-    (hand-fits r.program r.devices r.value_of r.is_machine r.stage seated.opened old old c.args.shared.places.items k.rows k.seen was k.number seated.number
+    subst (λ n. Fits r engine n c.args.work) (sym c.number-number.ensures)
+    (hand-fits r seated.opened old old c.args.shared.places.items k.rows k.seen was k.number seated.number
     k.row c.requires.found c.args.work
     (subst (λ code. IsPrepared r.is_machine r.stage code engine.limits.slice k.row.hand c.args.work) (sym (was.shell.opened.code ∙ seated.of_code))
     (subst (λ it. IsPrepared r.is_machine r.stage c.args.code.now it.engine.limits.slice k.row.hand c.args.work) to_shell c.requires.prepared)))
 
 pub turn-deed-requires-clause-sent : goal.turn-deed-requires-clause-sent
 turn-deed-requires-clause-sent g c =
-    let r = g.M.Runner in
+    let r = g.M.Runner.meaning in
     let k = knows c.args.seat.now in
     let sh = c.deref_mut-shell.result.now in
     let to_shell = sym c.deref_mut-shell.ensures.value in
     let seated = subst (λ it. IsSeated r.devices c.args.code.now it.engine.limits k) to_shell c.requires.seated in
     let opened = seated.opened in
-    let was = subst (λ it. IsShared r.program r.devices r.value_of r.is_machine r.stage opened
+    let was = subst (λ it. IsShared r opened
     (shown g.K.Sink.written g.K.Sink.faults g.D.Device.device_heard g.D.Device.device_faults it.engine it.sent it.sink it.devices.items) c.args.shared.places.items k.rows k.seen)
     to_shell (some-and _ k.fixed opened seated.is c.requires.stands) in
     sent-within sh.engine.stop sh.sent (opening_of opened).ends.write_faults (g.K.Sink.faults sh.sink) (lines sh.engine.output) was.shell.sends.goes
 
 pub give-requires-clause-may : goal.give-requires-clause-may
 give-requires-clause-may g c =
-    let r = g.M.Runner in
+    let r = g.M.Runner.meaning in
     let k = knows c.args.seat.now in
     let sh = c.deref_mut-shell.result.now in
     let to_shell = sym c.deref_mut-shell.ensures.value in
@@ -65,18 +65,18 @@ give-requires-clause-may g c =
     let opened = seated.opened in
     let places = c.args.shared.places.items in
     let work = c.turn-deed.result.work in
-    let was = subst (λ it. IsShared r.program r.devices r.value_of r.is_machine r.stage opened
+    let was = subst (λ it. IsShared r opened
     (shown g.K.Sink.written g.K.Sink.faults g.D.Device.device_heard g.D.Device.device_faults it.engine it.sent it.sink it.devices.items) c.args.shared.places.items k.rows k.seen)
     to_shell (some-and _ k.fixed opened seated.is c.requires.stands) in
-    let turned = subst (λ n. HasTurned r.program r.devices r.value_of r.stage n (stage_at r.stage engine.code c.args.work) old new c.turn-deed.result.deed) same t.turned in
-    let fits = subst (λ n. Fits r.program r.devices r.value_of r.is_machine r.stage s.engine n work) same t.fits in
-    let others = subst (λ n. (other : ℕ) (rest : Work g.row.M.Denot) → other ≢ n → Fits r.program r.devices r.value_of r.is_machine r.stage engine other rest
-    → Fits r.program r.devices r.value_of r.is_machine r.stage s.engine other rest) same t.others in
-    let extends = turn-extends r.program r.devices r.value_of r.stage k.number (stage_at r.stage engine.code c.args.work) old new c.turn-deed.result.deed turned in
-    let stay = turn-slots r.program r.devices r.value_of r.stage k.number (stage_at r.stage engine.code c.args.work) old new c.turn-deed.result.deed c.stands.ensures turned in
-    let on = shared-on r.program r.devices r.value_of r.is_machine r.stage opened old new places k.rows k.seen was k.number seated.number work extends stay fits others
+    let turned = subst (λ n. HasTurned r n (stage_at r.stage engine.code c.args.work) old new c.turn-deed.result.deed) same t.turned in
+    let fits = subst (λ n. Fits r s.engine n work) same t.fits in
+    let others = subst (λ n. (other : ℕ) (rest : Work g.row.M.Denot) → other ≢ n → Fits r engine other rest
+    → Fits r s.engine other rest) same t.others in
+    let extends = turn-extends r k.number (stage_at r.stage engine.code c.args.work) old new c.turn-deed.result.deed turned in
+    let stay = turn-slots r k.number (stage_at r.stage engine.code c.args.work) old new c.turn-deed.result.deed c.stands.ensures turned in
+    let on = shared-on r opened old new places k.rows k.seen was k.number seated.number work extends stay fits others
     (t.keeps (opening_of opened) was.shell) in
-    may-give-on r.program r.devices r.value_of r.is_machine r.stage
+    may-give-on r
     (λ s. shown g.K.Sink.written g.K.Sink.faults g.D.Device.device_heard g.D.Device.device_faults s.shell.value.engine s.shell.value.sent s.shell.value.sink s.shell.value.devices.items)
     (λ s. s.places.items) _ k c.keep.new.self opened seated.is new
     (ap (λ box. shown g.K.Sink.written g.K.Sink.faults g.D.Device.device_heard g.D.Device.device_faults box.value.engine box.value.sent box.value.sink box.value.devices.items) c.keep.ensures.shell)
@@ -85,7 +85,7 @@ give-requires-clause-may g c =
 
 pub returns-clause-makes : goal.returns-clause-makes
 returns-clause-makes g c =
-    let r = g.M.Runner in
+    let r = g.M.Runner.meaning in
     let k = knows c.args.seat.now in
     let sh = c.deref_mut-shell.result.now in
     let to_shell = sym c.deref_mut-shell.ensures.value in
@@ -99,16 +99,16 @@ returns-clause-makes g c =
     let opened = seated.opened in
     let places = c.args.shared.places.items in
     let work = c.turn-deed.result.work in
-    let was = subst (λ it. IsShared r.program r.devices r.value_of r.is_machine r.stage opened
+    let was = subst (λ it. IsShared r opened
     (shown g.K.Sink.written g.K.Sink.faults g.D.Device.device_heard g.D.Device.device_faults it.engine it.sent it.sink it.devices.items) c.args.shared.places.items k.rows k.seen)
     to_shell (some-and _ k.fixed opened seated.is c.requires.stands) in
-    let turned = subst (λ n. HasTurned r.program r.devices r.value_of r.stage n (stage_at r.stage engine.code c.args.work) old new c.turn-deed.result.deed) same t.turned in
+    let turned = subst (λ n. HasTurned r n (stage_at r.stage engine.code c.args.work) old new c.turn-deed.result.deed) same t.turned in
     let in_rows = slice_get_within k.rows k.number k.row c.requires.found in
     let in_places = subst (λ n. k.number < n) (sym was.count) seated.number in
     let within = subst (λ (l : Limits). k.number < l.seats) (sym t.limits) seated.number in
     let shows = ap (λ box. shown g.K.Sink.written g.K.Sink.faults g.D.Device.device_heard g.D.Device.device_faults box.value.engine box.value.sent box.value.sink box.value.devices.items) c.keep.ensures.shell in
     let keeps = c.keep.ensures.places ∙ ap (λ n. set places n (keeping s.engine work)) same in
-    let gave = gave-row r.program r.devices r.value_of r.is_machine r.stage
+    let gave = gave-row r
     (λ s. shown g.K.Sink.written g.K.Sink.faults g.D.Device.device_heard g.D.Device.device_faults s.shell.value.engine s.shell.value.sent s.shell.value.sink s.shell.value.devices.items)
     (λ s. s.places.items) _ k (knows c.give.new.seat) c.keep.new.self c.give.ensures.given opened seated.is new shows places work keeps in_rows in_places within in
     record {
@@ -120,10 +120,10 @@ returns-clause-makes g c =
       deed = c.turn-deed.result.deed;
       given = new;
       turned =
-          subst (λ code. HasTurned r.program r.devices r.value_of r.stage k.number (stage_at r.stage code c.args.work) old new c.turn-deed.result.deed)
+          subst (λ code. HasTurned r k.number (stage_at r.stage code c.args.work) old new c.turn-deed.result.deed)
           (was.shell.opened.code ∙ seated.of_code) turned;
       gave = gave;
-      then = then-shared r.program r.devices r.value_of r.is_machine r.stage
+      then = then-shared r
           (λ s. shown g.K.Sink.written g.K.Sink.faults g.D.Device.device_heard g.D.Device.device_faults s.shell.value.engine s.shell.value.sent s.shell.value.sink s.shell.value.devices.items)
           (λ s. s.places.items) _ k (knows c.give.new.seat) c.keep.new.self c.give.ensures.given opened seated.is new shows places work keeps in_rows in_places within;
       told =
@@ -135,7 +135,7 @@ returns-clause-makes g c =
 pub returns-clause-ready : goal.returns-clause-ready
 unfolding returns-clause-makes
 returns-clause-ready g c =
-    let r = g.M.Runner in
+    let r = g.M.Runner.meaning in
     let k = knows c.args.seat.now in
     let seated = subst (λ it. IsSeated r.devices c.args.code.now it.engine.limits k) (sym c.deref_mut-shell.ensures.value) c.requires.seated in
     let made = returns-clause-makes g c in

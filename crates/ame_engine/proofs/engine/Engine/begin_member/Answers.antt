@@ -5,7 +5,7 @@ use Rattle.ame_engine.proofs.engine.Engine.begin_member.Goals as goal
 
 pub invariant_of-self : goal.invariant_of-self
 invariant_of-self g c = record {
-  whole = whole-roomy g.M.Runner.program g.M.Runner.devices g.M.Runner.is_value g.M.Runner.value_of g.M.Runner.is_machine g.M.Runner.stage
+  whole = whole-roomy g.M.Runner.meaning
       _ c.self.invariant.whole c.reserve.new.self.items c.reserve.ensures.items;
   places = places-roomy c.self.inside.tasks.items _ _ _ _ c.reserve.ensures.len c.reserve.ensures.capacity c.self.invariant.places;
 }
@@ -16,7 +16,7 @@ invariant_of-self-2 g c =
     (let seats : length c.self.inside.tasks.items ≡ c.self.inside.limits.seats = c.self.invariant.whole.stands.bounded.tasks in
     let ok = c.in_ok-reserve.ensures.ok in omega arith) in
     record {
-      whole = whole-begun g.M.Runner.program g.M.Runner.devices g.M.Runner.is_value g.M.Runner.value_of g.M.Runner.is_machine g.M.Runner.stage
+      whole = whole-begun g.M.Runner.meaning
           g.M.Copied.same g.met.M.Runner.same_machines g.met.M.Runner.stage_shown _ c.args.self.now c.self.view_is c.self.invariant.whole c.args.seat c.args.number
           c.requires.seat c.requires.idle c.requires.oldest c.requires.ready c.requires.left _ _ _ _ _ _
           c.begun_task-task.ensures c.is_inside.ensures c.attempt_now-attempt.ensures c.entries.ensures.entries c.entries-2.ensures.entries c.hold.ensures
@@ -26,7 +26,7 @@ invariant_of-self-2 g c =
 
 pub returns-clause-begun : goal.returns-clause-begun
 returns-clause-begun g c =
-    has-begun-after g.M.Runner.program g.M.Runner.devices g.M.Runner.is_value g.M.Runner.value_of g.M.Runner.is_machine g.M.Runner.stage
+    has-begun-after g.M.Runner.meaning
     g.M.Copied.same g.met.M.Runner.same_machines g.met.M.Runner.stage_shown _ c.args.self.now c.self.view_is c.self.invariant.whole c.args.seat c.args.number
     c.requires.seat c.requires.idle c.requires.oldest c.requires.ready c.requires.left _ _ _ _ _ _
     c.begun_task-task.ensures c.is_inside.ensures c.attempt_now-attempt.ensures c.entries.ensures.entries c.entries-2.ensures.entries c.hold.ensures

@@ -1,43 +1,43 @@
 use Rattle.std.proofs.Common.{rules, ◌≡◌, ap, refl}
 use Rattle.ame_rows.specs.Valid.{IsValid}
-use Rattle.ame_desk.specs.Contents.{row_at}
-use Rattle.ame_stands.specs.declared.types.Attempt.{Attempt}
-use Rattle.ame_stands.specs.declared.types.Reason.{Reason}
-use Rattle.ame_stands.specs.declared.types.Task.{Task}
-use Rattle.ame_stands.specs.Parts.{task_at, attempt_of}
+use Rattle.ame_rows.specs.MemoryView.{row_at}
+use Rattle.ame_protocol.specs.declared.types.Attempt.{Attempt}
+use Rattle.ame_protocol.specs.declared.types.Reason.{Reason}
+use Rattle.ame_protocol.specs.declared.types.Task.{Task}
+use Rattle.ame_protocol.specs.Engine.Parts.{task_at, attempt_of}
 use Rattle.ame_engine.specs.Counting.{Counted, one_invalid}
 use Rattle.ame_engine.proofs.CountLemmas.{invalid-refused, invalid-counts}
 use Rattle.ame_engine.proofs.PlaceLemmas.{places-kept}
-use Rattle.ame_engine.proofs.CheckLemmas.{its-task, whole-back, unworn-invalid, crowded-invalid, rolls-invalid, whole-valid, makes-valid}
+use Rattle.ame_engine.proofs.CheckLemmas.{its-task, whole-back, unexhausted-invalid, crowded-invalid, rolls-invalid, whole-valid, makes-valid}
 use Rattle.ame_engine.proofs.engine.Engine.check.Goals as goal
 
 pub invariant_of-self : goal.invariant_of-self
 invariant_of-self g c =
     let is : task_at c.self.inside.tasks.items c.args.seat ≡ Task.Running c.in-Running.attempt =
     its-task _ c.args.self.now c.self.view_is c.args.seat c.requires.on.stands.attempt c.requires.on.stands.has _ c.in-Running.attempt c.index.ensures c.in-Running.is in
-    let valid : IsValid c.self.inside.desk.cells c.args.seat (row_at c.self.inside.desk.rows c.args.seat).reads = search rules in
+    let valid : IsValid c.self.inside.memory.cells c.args.seat (row_at c.self.inside.memory.rows c.args.seat).reads = search rules in
     record {
-      whole = whole-valid g.M.Runner.program g.M.Runner.devices g.M.Runner.is_value g.M.Runner.value_of g.M.Runner.is_machine g.M.Runner.stage
+      whole = whole-valid g.M.Runner.meaning
           _ c.args.self.now c.self.view_is c.self.invariant.whole c.args.seat c.args.at.now c.requires.on c.requires.outside c.requires.left c.in-Running.attempt is
           c.requires.full c.steps-steps.result (c.steps-steps.ensures c.args.self.now.code) valid c.checked_attempt-later.result _ _ c.checked_attempt-later.ensures
           c.entries.ensures.entries c.entries-in-None.ensures.entries c.requires.going;
       places = places-kept c.self.inside.tasks.items c.args.seat _ _ c.in-Running.attempt (ap attempt_of is) c.self.invariant.places
-          (Task.Running c.checked_attempt-later.result) c.checked_attempt-later.result refl (ap (λ (a : Attempt). a.told) c.checked_attempt-later.ensures);
+          (Task.Running c.checked_attempt-later.result) c.checked_attempt-later.result refl (ap (λ (a : Attempt). a.logged) c.checked_attempt-later.ensures);
     }
 
 pub invariant_of-self-in-Some : goal.invariant_of-self-in-Some
 invariant_of-self-in-Some g c =
     let is : task_at c.self.inside.tasks.items c.args.seat ≡ Task.Running c.in-Running.attempt =
     its-task _ c.args.self.now c.self.view_is c.args.seat c.requires.on.stands.attempt c.requires.on.stands.has _ c.in-Running.attempt c.index.ensures c.in-Running.is in
-    let invalid : IsValid c.self.inside.desk.cells c.args.seat (row_at c.self.inside.desk.rows c.args.seat).reads → ⊥ = search rules in
+    let invalid : IsValid c.self.inside.memory.cells c.args.seat (row_at c.self.inside.memory.rows c.args.seat).reads → ⊥ = search rules in
     record {
-      whole = whole-back g.M.Runner.program g.M.Runner.devices g.M.Runner.is_value g.M.Runner.value_of g.M.Runner.is_machine g.M.Runner.stage
+      whole = whole-back g.M.Runner.meaning
           _ c.args.self.now c.self.view_is c.self.invariant.whole c.args.seat c.args.at.now c.requires.on c.requires.outside c.requires.left c.in-Running.attempt is
           (one_invalid Counted.Check (c.self.inside.counters)) (invalid-counts c.self.inside.turns c.self.inside.counters c.self.invariant.whole.counters Counted.Check)
           (invalid-refused Counted.Check c.self.inside.counters refl) c.requires.going
-          (unworn-invalid g.M.Runner.program g.M.Runner.devices g.M.Runner.is_value g.M.Runner.value_of g.M.Runner.is_machine g.M.Runner.stage
+          (unexhausted-invalid g.M.Runner.meaning
           _ c.args.self.now c.self.view_is c.self.invariant.whole c.args.seat c.args.at.now c.requires.on c.requires.outside c.requires.left c.in-Running.attempt is invalid)
-          (crowded-invalid g.M.Runner.program g.M.Runner.devices g.M.Runner.is_value g.M.Runner.value_of g.M.Runner.is_machine g.M.Runner.stage
+          (crowded-invalid g.M.Runner.meaning
           _ c.args.self.now c.self.view_is c.self.invariant.whole c.args.seat c.args.at.now c.requires.on c.requires.outside c.requires.left c.in-Running.attempt is invalid);
       places = places-kept c.self.inside.tasks.items c.args.seat _ _ c.in-Running.attempt (ap attempt_of is) c.self.invariant.places
           (Task.Undoing c.in-Running.attempt Reason.RolledBack) c.in-Running.attempt refl refl;
@@ -47,8 +47,8 @@ pub returns-in-None-clause-valid : goal.returns-in-None-clause-valid
 returns-in-None-clause-valid g c =
     let is : task_at c.self.inside.tasks.items c.args.seat ≡ Task.Running c.in-Running.attempt =
     its-task _ c.args.self.now c.self.view_is c.args.seat c.requires.on.stands.attempt c.requires.on.stands.has _ c.in-Running.attempt c.index.ensures c.in-Running.is in
-    let valid : IsValid c.self.inside.desk.cells c.args.seat (row_at c.self.inside.desk.rows c.args.seat).reads = search rules in
-    (λ attempt task _. makes-valid g.M.Runner.program g.M.Runner.devices g.M.Runner.is_value g.M.Runner.value_of g.M.Runner.is_machine g.M.Runner.stage
+    let valid : IsValid c.self.inside.memory.cells c.args.seat (row_at c.self.inside.memory.rows c.args.seat).reads = search rules in
+    (λ attempt task _. makes-valid g.M.Runner.meaning
     _ c.args.self.now c.self.view_is c.self.invariant.whole c.args.seat c.args.at.now c.requires.on c.requires.outside c.requires.left c.in-Running.attempt is
     c.requires.full c.steps-steps.result (c.steps-steps.ensures c.args.self.now.code) valid c.checked_attempt-later.result _ _ c.checked_attempt-later.ensures
     c.entries.ensures.entries c.entries-in-None.ensures.entries attempt task)
@@ -57,7 +57,7 @@ pub returns-in-Some-clause-rolls : goal.returns-in-Some-clause-rolls
 returns-in-Some-clause-rolls g c =
     let is : task_at c.self.inside.tasks.items c.args.seat ≡ Task.Running c.in-Running.attempt =
     its-task _ c.args.self.now c.self.view_is c.args.seat c.requires.on.stands.attempt c.requires.on.stands.has _ c.in-Running.attempt c.index.ensures c.in-Running.is in
-    let invalid : IsValid c.self.inside.desk.cells c.args.seat (row_at c.self.inside.desk.rows c.args.seat).reads → ⊥ = search rules in
-    (λ attempt bad none task _. rolls-invalid g.M.Runner.program g.M.Runner.devices g.M.Runner.is_value g.M.Runner.value_of g.M.Runner.is_machine g.M.Runner.stage
+    let invalid : IsValid c.self.inside.memory.cells c.args.seat (row_at c.self.inside.memory.rows c.args.seat).reads → ⊥ = search rules in
+    (λ attempt bad none task _. rolls-invalid g.M.Runner.meaning
     _ c.args.self.now c.self.view_is c.self.invariant.whole c.args.seat c.args.at.now c.requires.on c.requires.outside c.requires.left c.in-Running.attempt is
     invalid attempt none task)

@@ -1,6 +1,6 @@
 use Rattle.std.proofs.Common.{◌≡◌, ap, subst, sym, arith, true}
 use Rattle.std.specs.Arc.{arc_value}
-use Rattle.ame_stands.specs.Parts.{attempt_of}
+use Rattle.ame_protocol.specs.Engine.Parts.{attempt_of}
 use Rattle.ame_engine.specs.Committing.{commits}
 use Rattle.ame_engine.proofs.PlaceLemmas.{places-freed}
 use Rattle.ame_engine.proofs.CommitLemmas.{commit-runs, commit-fit, commit-grows, commit-fresh, commit-room, commit-busy, whole-committed, makes-ended, makes-left}
@@ -8,20 +8,20 @@ use Rattle.ame_engine.proofs.engine.Engine.commit_valid.Goals as goal
 
 pub release_all-requires-clause-can_grow : goal.release_all-requires-clause-can_grow
 release_all-requires-clause-can_grow g c =
-    commit-grows g.M.Runner.program g.M.Runner.devices g.M.Runner.is_value g.M.Runner.value_of g.M.Runner.is_machine g.M.Runner.stage
+    commit-grows g.M.Runner.meaning
     _ c.args.self.now c.self.view_is c.self.invariant.whole c.args.seat c.args.at c.requires.on c.requires.commits.outside
     (g.met.M.Runner.sound c.args.self.now.code c.args.at c.requires.on.machine) c.requires.left c.args.attempt c.requires.task c.requires.valid
 
 pub push-requires-clause-fit : goal.push-requires-clause-fit
 push-requires-clause-fit g c =
-    commit-fit g.M.Runner.program g.M.Runner.devices g.M.Runner.is_value g.M.Runner.value_of g.M.Runner.is_machine g.M.Runner.stage
+    commit-fit g.M.Runner.meaning
     _ c.args.self.now c.self.view_is c.self.invariant.whole c.args.seat c.args.at c.requires.on c.requires.commits.outside
     (g.met.M.Runner.sound c.args.self.now.code c.args.at c.requires.on.machine) c.requires.left c.args.attempt c.requires.task c.requires.valid
     c.in_ok-entry.entry (c.in_ok-entry.ensures (arc_value c.self.inside.code))
 
 pub join_all-requires-clause-room : goal.join_all-requires-clause-room
 join_all-requires-clause-room g c =
-    let room = commit-room g.M.Runner.program g.M.Runner.devices g.M.Runner.is_value g.M.Runner.value_of g.M.Runner.is_machine g.M.Runner.stage
+    let room = commit-room g.M.Runner.meaning
     _ c.args.self.now c.self.view_is c.self.invariant.whole c.args.seat c.args.at c.requires.on c.requires.commits.outside
     (g.met.M.Runner.sound c.args.self.now.code c.args.at c.requires.on.machine) c.requires.left c.args.attempt c.requires.task c.requires.valid
     c.in_ok-owned.owned.items c.in_ok-owned.ensures.same c.in_ok-owned.ensures.rising
@@ -31,7 +31,7 @@ join_all-requires-clause-room g c =
 
 pub join_all-requires-clause-fresh : goal.join_all-requires-clause-fresh
 join_all-requires-clause-fresh g c =
-    commit-fresh g.M.Runner.program g.M.Runner.devices g.M.Runner.is_value g.M.Runner.value_of g.M.Runner.is_machine g.M.Runner.stage
+    commit-fresh g.M.Runner.meaning
     _ c.args.self.now c.self.view_is c.self.invariant.whole c.args.seat c.args.at c.requires.on c.requires.commits.outside
     (g.met.M.Runner.sound c.args.self.now.code c.args.at c.requires.on.machine) c.requires.left c.args.attempt c.requires.task c.requires.valid
     c.in_ok-owned.owned.items c.in_ok-owned.ensures.same c.in_ok-owned.ensures.rising
@@ -40,7 +40,7 @@ join_all-requires-clause-fresh g c =
 
 pub send_on-requires : goal.send_on-requires
 send_on-requires g c =
-    commit-busy g.M.Runner.program g.M.Runner.devices g.M.Runner.is_value g.M.Runner.value_of g.M.Runner.is_machine g.M.Runner.stage
+    commit-busy g.M.Runner.meaning
     _ c.args.self.now c.self.view_is c.self.invariant.whole c.args.seat c.args.at c.requires.on c.requires.commits.outside
     (g.met.M.Runner.sound c.args.self.now.code c.args.at c.requires.on.machine) c.requires.left c.args.attempt c.requires.task c.requires.valid
     c.in_ok-owned.owned.items c.in_ok-owned.ensures.same c.in_ok-owned.ensures.rising
@@ -50,13 +50,13 @@ send_on-requires g c =
 
 pub invariant_of-self-2 : goal.invariant_of-self-2
 invariant_of-self-2 g c =
-    let is = commit-runs g.M.Runner.program g.M.Runner.devices g.M.Runner.is_value g.M.Runner.value_of g.M.Runner.is_machine g.M.Runner.stage
+    let is = commit-runs g.M.Runner.meaning
     _ c.args.self.now c.self.view_is c.self.invariant.whole c.args.seat c.args.at c.requires.on c.requires.commits.outside
     (g.met.M.Runner.sound c.args.self.now.code c.args.at c.requires.on.machine) c.requires.left c.args.attempt c.requires.task c.requires.valid in
-    let committing : commits (g.M.Runner.stage (arc_value c.self.inside.code) c.args.at).want ≡ true =
-    subst (λ x. commits (g.M.Runner.stage x.code c.args.at).want ≡ true) (sym c.self.view_is) c.requires.commits.wants in
+    let committing : commits (g.M.Runner.meaning.stage (arc_value c.self.inside.code) c.args.at).want ≡ true =
+    subst (λ x. commits (g.M.Runner.meaning.stage x.code c.args.at).want ≡ true) (sym c.self.view_is) c.requires.commits.wants in
     record {
-      whole = whole-committed g.M.Runner.program g.M.Runner.devices g.M.Runner.is_value g.M.Runner.value_of g.M.Runner.is_machine g.M.Runner.stage
+      whole = whole-committed g.M.Runner.meaning
           _ c.args.self.now c.self.view_is c.self.invariant.whole c.args.seat c.args.at c.requires.on c.requires.commits.outside
           (g.met.M.Runner.sound c.args.self.now.code c.args.at c.requires.on.machine) c.requires.left c.args.attempt c.requires.task c.requires.valid
           c.in_ok-owned.owned.items c.in_ok-owned.ensures.same c.in_ok-owned.ensures.rising
@@ -78,7 +78,7 @@ invariant_of-self-2 g c =
 
 pub returns-clause-ended : goal.returns-clause-ended
 returns-clause-ended g c =
-    makes-ended g.M.Runner.program g.M.Runner.devices g.M.Runner.is_value g.M.Runner.value_of g.M.Runner.is_machine g.M.Runner.stage
+    makes-ended g.M.Runner.meaning
     _ c.args.self.now c.self.view_is c.self.invariant.whole c.args.seat c.args.at c.requires.on c.requires.commits.outside
     (g.met.M.Runner.sound c.args.self.now.code c.args.at c.requires.on.machine) c.requires.left c.args.attempt c.requires.task c.requires.valid
     c.in_ok-owned.owned.items c.in_ok-owned.ensures.same c.in_ok-owned.ensures.rising
@@ -98,7 +98,7 @@ returns-clause-ended g c =
 
 pub returns-clause-left : goal.returns-clause-left
 returns-clause-left g c =
-    makes-left g.M.Runner.program g.M.Runner.devices g.M.Runner.is_value g.M.Runner.value_of g.M.Runner.is_machine g.M.Runner.stage
+    makes-left g.M.Runner.meaning
     _ c.args.self.now c.self.view_is c.self.invariant.whole c.args.seat c.args.at c.requires.on c.requires.commits.outside
     (g.met.M.Runner.sound c.args.self.now.code c.args.at c.requires.on.machine) c.requires.left c.args.attempt c.requires.task c.requires.valid
     c.in_ok-owned.owned.items c.in_ok-owned.ensures.same c.in_ok-owned.ensures.rising

@@ -3,5 +3,5 @@ use Rattle.ame_engine.proofs.engine.Engine.idle_seats_leave_no_try.Goals as goal
 
 pub returns : goal.returns
 returns g c =
-    idle-leaves g.M.Runner.program g.M.Runner.devices g.M.Runner.is_value g.M.Runner.value_of g.M.Runner.is_machine g.M.Runner.stage
+    idle-leaves g.M.Runner.meaning
     _ c.args.self.now c.self.view_is c.self.invariant.whole c.args.seat c.requires.seat c.requires.idle

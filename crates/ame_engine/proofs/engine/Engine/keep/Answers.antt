@@ -6,7 +6,7 @@ pub invariant_of-self : goal.invariant_of-self
 invariant_of-self g c =
     let none : c.self.inside.stop ≡ None = search rules in
     record {
-      whole = whole-kept g.M.Runner.program g.M.Runner.devices g.M.Runner.is_value g.M.Runner.value_of g.M.Runner.is_machine g.M.Runner.stage
+      whole = whole-kept g.M.Runner.meaning
           _ c.args.self.now c.self.view_is c.args.why c.self.invariant.whole none c.requires.cause c.requires.leaves;
       places = c.self.invariant.places;
     }

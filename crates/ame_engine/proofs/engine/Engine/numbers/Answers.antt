@@ -20,7 +20,7 @@ loop-number-preserved g c =
       | then-is_some+in_ok-push w ↦
           let pushes : c.if-is_some.numbers.items ≡ c.loop-number.numbers.items ++ c.loop-number.number ∷ [] = search rules in
           record {
-            so_far = numbers-joined g.M.Runner.program g.M.Runner.devices g.M.Runner.is_value g.M.Runner.value_of g.M.Runner.is_machine g.M.Runner.stage
+            so_far = numbers-joined g.M.Runner.meaning
                 _ c.args.self.now c.self.view_is c.self.invariant.whole c.loop-number.number c.inside.result c.inside.ensures
                 c.is_some.result c.is_some.ensures c.loop-number.numbers.items c.loop-number.invariant.so_far w.if-is_some.true c.if-is_some.numbers.items pushes;
             below = subst (λ (ns : List ℕ). All (λ n. n < c.loop-number.number + 1) ns) (sym pushes)
@@ -29,7 +29,7 @@ loop-number-preserved g c =
       | else-is_some w ↦
           let same : c.if-is_some.numbers.items ≡ c.loop-number.numbers.items = search rules in
           record {
-            so_far = numbers-passed g.M.Runner.program g.M.Runner.devices g.M.Runner.is_value g.M.Runner.value_of g.M.Runner.is_machine g.M.Runner.stage
+            so_far = numbers-passed g.M.Runner.meaning
                 _ c.args.self.now c.self.view_is c.self.invariant.whole c.loop-number.number c.inside.result c.inside.ensures
                 c.is_some.result c.is_some.ensures c.loop-number.numbers.items c.loop-number.invariant.so_far w.if-is_some.false c.if-is_some.numbers.items same;
             below = subst (λ (ns : List ℕ). All (λ n. n < c.loop-number.number + 1) ns) (sym same) older;
@@ -38,6 +38,6 @@ loop-number-preserved g c =
 
 pub returns-clause-numbers : goal.returns-clause-numbers
 returns-clause-numbers g c =
-    numbers-end g.M.Runner.program g.M.Runner.devices g.M.Runner.is_value g.M.Runner.value_of g.M.Runner.is_machine g.M.Runner.stage
+    numbers-end g.M.Runner.meaning
     _ c.args.self.now c.self.view_is c.self.invariant.whole c.loop-number.number c.loop-number-test.false c.loop-number.auto.number-end
     c.loop-number.numbers.items c.loop-number.invariant.so_far

@@ -1,39 +1,39 @@
 use Rattle.std.proofs.Common.{rules, ◌≡◌, ap, refl}
 use Rattle.ame_rows.specs.Valid.{IsValid}
-use Rattle.ame_desk.specs.Contents.{row_at}
-use Rattle.ame_stands.specs.declared.types.Reason.{Reason}
-use Rattle.ame_stands.specs.declared.types.Task.{Task}
-use Rattle.ame_stands.specs.Parts.{task_at, attempt_of}
+use Rattle.ame_rows.specs.MemoryView.{row_at}
+use Rattle.ame_protocol.specs.declared.types.Reason.{Reason}
+use Rattle.ame_protocol.specs.declared.types.Task.{Task}
+use Rattle.ame_protocol.specs.Engine.Parts.{task_at, attempt_of}
 use Rattle.ame_engine.specs.Counting.{Counted, one_invalid}
 use Rattle.ame_engine.proofs.CountLemmas.{invalid-refused, invalid-counts}
 use Rattle.ame_engine.proofs.PlaceLemmas.{places-kept}
-use Rattle.ame_engine.proofs.CheckLemmas.{whole-back, unworn-invalid, crowded-invalid, rolls-invalid}
+use Rattle.ame_engine.proofs.CheckLemmas.{whole-back, unexhausted-invalid, crowded-invalid, rolls-invalid}
 use Rattle.ame_engine.proofs.LastLemmas.{last-some, turned-runs, invalid-outside}
 use Rattle.ame_engine.proofs.engine.Engine.tall.Goals as goal
 
 pub attempt_at-attempt-requires : goal.attempt_at-attempt-requires
 attempt_at-attempt-requires g c =
-    last-some g.M.Runner.program g.M.Runner.devices g.M.Runner.is_value g.M.Runner.value_of g.M.Runner.is_machine g.M.Runner.stage
+    last-some g.M.Runner.meaning
     _ c.args.self.now c.self.view_is c.self.invariant.whole c.args.seat c.args.at.now c.requires.on
     c.index.result.now c.index.ensures
 
 pub invariant_of-self : goal.invariant_of-self
 invariant_of-self g c =
-    let invalid : IsValid c.self.inside.desk.cells c.args.seat (row_at c.self.inside.desk.rows c.args.seat).reads → ⊥ = search rules in
+    let invalid : IsValid c.self.inside.memory.cells c.args.seat (row_at c.self.inside.memory.rows c.args.seat).reads → ⊥ = search rules in
     let is : task_at c.self.inside.tasks.items c.args.seat ≡ Task.Running c.attempt_at-attempt.result =
-    turned-runs g.M.Runner.program g.M.Runner.devices g.M.Runner.is_value g.M.Runner.value_of g.M.Runner.is_machine g.M.Runner.stage
+    turned-runs g.M.Runner.meaning
     _ c.args.self.now c.self.view_is c.self.invariant.whole c.args.seat c.args.at.now c.requires.on
     invalid c.index.result.now c.index.ensures c.attempt_at-attempt.result c.attempt_at-attempt.ensures in
-    let outside = invalid-outside g.M.Runner.program g.M.Runner.devices g.M.Runner.is_value g.M.Runner.value_of g.M.Runner.is_machine g.M.Runner.stage
+    let outside = invalid-outside g.M.Runner.meaning
     _ c.args.self.now c.self.view_is c.self.invariant.whole c.args.seat c.args.at.now c.requires.on invalid in
     record {
-      whole = whole-back g.M.Runner.program g.M.Runner.devices g.M.Runner.is_value g.M.Runner.value_of g.M.Runner.is_machine g.M.Runner.stage
+      whole = whole-back g.M.Runner.meaning
           _ c.args.self.now c.self.view_is c.self.invariant.whole c.args.seat c.args.at.now c.requires.on outside c.requires.left c.attempt_at-attempt.result is
           (one_invalid Counted.Tall (c.self.inside.counters)) (invalid-counts c.self.inside.turns c.self.inside.counters c.self.invariant.whole.counters Counted.Tall)
           (invalid-refused Counted.Tall c.self.inside.counters refl) c.requires.going
-          (unworn-invalid g.M.Runner.program g.M.Runner.devices g.M.Runner.is_value g.M.Runner.value_of g.M.Runner.is_machine g.M.Runner.stage
+          (unexhausted-invalid g.M.Runner.meaning
           _ c.args.self.now c.self.view_is c.self.invariant.whole c.args.seat c.args.at.now c.requires.on outside c.requires.left c.attempt_at-attempt.result is invalid)
-          (crowded-invalid g.M.Runner.program g.M.Runner.devices g.M.Runner.is_value g.M.Runner.value_of g.M.Runner.is_machine g.M.Runner.stage
+          (crowded-invalid g.M.Runner.meaning
           _ c.args.self.now c.self.view_is c.self.invariant.whole c.args.seat c.args.at.now c.requires.on outside c.requires.left c.attempt_at-attempt.result is invalid);
       places = places-kept c.self.inside.tasks.items c.args.seat _ _ c.attempt_at-attempt.result (ap attempt_of is) c.self.invariant.places
           (Task.Undoing c.attempt_at-attempt.result Reason.RolledBack) c.attempt_at-attempt.result refl refl;
@@ -41,13 +41,13 @@ invariant_of-self g c =
 
 pub returns-in-Some-clause-rolls : goal.returns-in-Some-clause-rolls
 returns-in-Some-clause-rolls g c =
-    let invalid : IsValid c.self.inside.desk.cells c.args.seat (row_at c.self.inside.desk.rows c.args.seat).reads → ⊥ = search rules in
+    let invalid : IsValid c.self.inside.memory.cells c.args.seat (row_at c.self.inside.memory.rows c.args.seat).reads → ⊥ = search rules in
     let is : task_at c.self.inside.tasks.items c.args.seat ≡ Task.Running c.attempt_at-attempt.result =
-    turned-runs g.M.Runner.program g.M.Runner.devices g.M.Runner.is_value g.M.Runner.value_of g.M.Runner.is_machine g.M.Runner.stage
+    turned-runs g.M.Runner.meaning
     _ c.args.self.now c.self.view_is c.self.invariant.whole c.args.seat c.args.at.now c.requires.on
     invalid c.index.result.now c.index.ensures c.attempt_at-attempt.result c.attempt_at-attempt.ensures in
-    let outside = invalid-outside g.M.Runner.program g.M.Runner.devices g.M.Runner.is_value g.M.Runner.value_of g.M.Runner.is_machine g.M.Runner.stage
+    let outside = invalid-outside g.M.Runner.meaning
     _ c.args.self.now c.self.view_is c.self.invariant.whole c.args.seat c.args.at.now c.requires.on invalid in
-    (λ attempt bad task _. rolls-invalid g.M.Runner.program g.M.Runner.devices g.M.Runner.is_value g.M.Runner.value_of g.M.Runner.is_machine g.M.Runner.stage
+    (λ attempt bad task _. rolls-invalid g.M.Runner.meaning
     _ c.args.self.now c.self.view_is c.self.invariant.whole c.args.seat c.args.at.now c.requires.on outside c.requires.left c.attempt_at-attempt.result is
     invalid attempt c.requires.going task)

@@ -6,13 +6,13 @@ use Rattle.ame_engine.proofs.engine.Engine.tall_valid.Goals as goal
 
 pub attempt_at-number-requires : goal.attempt_at-number-requires
 attempt_at-number-requires g c =
-    last-some g.M.Runner.program g.M.Runner.devices g.M.Runner.is_value g.M.Runner.value_of g.M.Runner.is_machine g.M.Runner.stage
+    last-some g.M.Runner.meaning
     _ c.args.self.now c.self.view_is c.self.invariant.whole c.args.seat c.args.at.now c.requires.on
     c.index-task.result.now c.index-task.ensures
 
 pub push-requires-clause-fit : goal.push-requires-clause-fit
 push-requires-clause-fit g c =
-    tall-fit g.M.Runner.program g.M.Runner.devices g.M.Runner.is_value g.M.Runner.value_of g.M.Runner.is_machine g.M.Runner.stage
+    tall-fit g.M.Runner.meaning
     _ c.args.self.now c.self.view_is c.self.invariant.whole c.args.seat c.args.at.now c.requires.on
     c.requires.valid c.requires.going c.requires.left (g.met.M.Runner.sound c.args.self.now.code c.args.at.now c.requires.on.machine) c.requires.grows
     c.index-task.result.now c.index-task.ensures c.attempt_at-number.result c.attempt_at-number.ensures
@@ -20,17 +20,17 @@ push-requires-clause-fit g c =
 
 pub invariant_of-self-2 : goal.invariant_of-self-2
 invariant_of-self-2 g c = record {
-  whole = whole-tall g.M.Runner.program g.M.Runner.devices g.M.Runner.is_value g.M.Runner.value_of g.M.Runner.is_machine g.M.Runner.stage
+  whole = whole-tall g.M.Runner.meaning
       _ c.args.self.now c.self.view_is c.self.invariant.whole c.args.seat c.args.at.now c.requires.on
       c.requires.valid c.requires.going c.requires.left (g.met.M.Runner.sound c.args.self.now.code c.args.at.now c.requires.on.machine) c.requires.grows
       c.index-task.result.now c.index-task.ensures c.attempt_at-number.result c.attempt_at-number.ensures
       c.in_ok-entry.entry (c.in_ok-entry.ensures (arc_value c.self.inside.code)) _ c.push.new.self.entries c.room.ensures.entries c.push.ensures.entries
       c.told_task.result c.told_task.ensures;
   places = places-told c.self.inside.tasks.items c.args.seat _ _ _
-      (last-has g.M.Runner.program g.M.Runner.devices g.M.Runner.is_value g.M.Runner.value_of g.M.Runner.is_machine g.M.Runner.stage
+      (last-has g.M.Runner.meaning
       _ c.args.self.now c.self.view_is c.self.invariant.whole c.args.seat c.args.at.now c.requires.on)
       c.self.invariant.places c.told_task.result _
-      (tall-told g.M.Runner.program g.M.Runner.devices g.M.Runner.is_value g.M.Runner.value_of g.M.Runner.is_machine g.M.Runner.stage
+      (tall-told g.M.Runner.meaning
       _ c.args.self.now c.self.view_is c.self.invariant.whole c.args.seat c.args.at.now c.requires.on
       c.requires.valid c.requires.going c.requires.left (g.met.M.Runner.sound c.args.self.now.code c.args.at.now c.requires.on.machine) c.requires.grows
       c.index-task.result.now c.index-task.ensures c.attempt_at-number.result c.attempt_at-number.ensures
@@ -40,7 +40,7 @@ invariant_of-self-2 g c = record {
 
 pub returns-clause-noted : goal.returns-clause-noted
 returns-clause-noted g c =
-    makes-tall g.M.Runner.program g.M.Runner.devices g.M.Runner.is_value g.M.Runner.value_of g.M.Runner.is_machine g.M.Runner.stage
+    makes-tall g.M.Runner.meaning
     _ c.args.self.now c.self.view_is c.self.invariant.whole c.args.seat c.args.at.now c.requires.on
     c.requires.valid c.requires.going c.requires.left (g.met.M.Runner.sound c.args.self.now.code c.args.at.now c.requires.on.machine) c.requires.grows
     c.index-task.result.now c.index-task.ensures c.attempt_at-number.result c.attempt_at-number.ensures

@@ -2,7 +2,7 @@ use Rattle.std.proofs.Common.{◌≡◌, ◌+◌, ℤ, Some, Ok, Err, w64, to_z,
 use Rattle.std.proofs.lemmas.Int.{ints, to_z-of_z}
 use Rattle.std.specs.Arc.{arc_value}
 use Rattle.ame_term.specs.Tree.{Val}
-use Rattle.ame_runner.specs.Move.{after_input}
+use Rattle.ame_machine.specs.Move.{after_input}
 use Rattle.ame_device.specs.declared.fault.DeviceFail.{DeviceFail}
 use Rattle.ame_device.specs.Calls.{all_told, CallsOne}
 use Rattle.ame_device.proofs.ListLemmas.{wanting-leaves}
@@ -13,27 +13,27 @@ use Rattle.ame_engine.proofs.engine.Engine.visit_device.Goals as goal
 
 pub call_device-requires : goal.call_device-requires
 call_device-requires g c =
-    call-within g.M.Runner.program g.M.Runner.devices g.M.Runner.is_value g.M.Runner.value_of g.M.Runner.is_machine g.M.Runner.stage
+    call-within g.M.Runner.meaning
     _ c.args.self.now c.self.view_is c.self.invariant.whole c.args.seat c.args.attempt c.requires.task c.requires.left
     c.args.at c.requires.on c.requires.visits (g.met.M.Runner.sound c.args.self.now.code c.args.at c.requires.on.machine) c.args.device c.args.argument c.requires.wants
     _ c.requires.devices
 
 pub answered-requires : goal.answered-requires
 answered-requires g c =
-    call-steps g.M.Runner.program g.M.Runner.devices g.M.Runner.is_value g.M.Runner.value_of g.M.Runner.is_machine g.M.Runner.stage
+    call-steps g.M.Runner.meaning
     _ c.args.self.now c.self.view_is c.self.invariant.whole c.args.seat c.args.attempt c.requires.task c.requires.left
     c.args.at c.requires.on c.requires.visits (g.met.M.Runner.sound c.args.self.now.code c.args.at c.requires.on.machine) c.args.device c.args.argument c.requires.wants
     c.in_ok-entry.entry (c.in_ok-entry.ensures (arc_value c.self.inside.code)) c.requires.steps
 
 pub push-requires-clause-fit : goal.push-requires-clause-fit
 push-requires-clause-fit g c =
-    called-fit g.M.Runner.program g.M.Runner.devices g.M.Runner.is_value g.M.Runner.value_of g.M.Runner.is_machine g.M.Runner.stage
+    called-fit g.M.Runner.meaning
     _ c.args.self.now c.self.view_is c.self.invariant.whole c.args.seat c.args.attempt c.requires.task c.requires.left
     c.in_ok-entry.entry c.answered.result c.args.at _ (c.in_ok-entry.ensures (arc_value c.self.inside.code)) c.answered.ensures
 
 pub send_home-requires : goal.send_home-requires
 send_home-requires g c =
-    call-busy g.M.Runner.program g.M.Runner.devices g.M.Runner.is_value g.M.Runner.value_of g.M.Runner.is_machine g.M.Runner.stage
+    call-busy g.M.Runner.meaning
     _ c.args.self.now c.self.view_is c.self.invariant.whole c.args.seat c.args.attempt c.requires.task c.requires.left
     c.args.at c.requires.on c.requires.visits (g.met.M.Runner.sound c.args.self.now.code c.args.at c.requires.on.machine) c.args.device c.args.argument c.requires.wants
 
@@ -44,23 +44,23 @@ invariant_of-self-in-Ok g c =
     let called = subst (λ (n : ℤ). CallsOne (all_told g.D.Device.device_heard g.D.Device.device_faults c.args.devices.now.items) c.args.device n (Ok c.in-Ok.answer)
     (all_told g.D.Device.device_heard g.D.Device.device_faults c.call_device.new.devices.items)) argument c.in-Ok.ensures in
     let same : c.deref.result.now ≡ arc_value c.self.inside.code = search rules in
-    let machine = subst (λ k. g.M.Runner.is_machine k c.feed.new.self) same c.feed.ensures.machine in
-    let told : after_input (g.M.Runner.stage c.deref.result.now c.args.at).want (Val.Int c.in-Ok.answer) (g.M.Runner.stage c.deref.result.now c.args.at)
-    ≡ Some (g.M.Runner.stage c.deref.result.now c.feed.new.self) =
-    subst (λ (n : ℤ). after_input (g.M.Runner.stage c.deref.result.now c.args.at).want (Val.Int n) (g.M.Runner.stage c.deref.result.now c.args.at)
-    ≡ Some (g.M.Runner.stage c.deref.result.now c.feed.new.self)) answer c.feed.ensures.stage in
-    let fed = subst (λ k. after_input (g.M.Runner.stage k c.args.at).want (Val.Int c.in-Ok.answer) (g.M.Runner.stage k c.args.at) ≡ Some (g.M.Runner.stage k c.feed.new.self)) same told in
+    let machine = subst (λ k. g.M.Runner.meaning.is_machine k c.feed.new.self) same c.feed.ensures.machine in
+    let told : after_input (g.M.Runner.meaning.stage c.deref.result.now c.args.at).want (Val.Int c.in-Ok.answer) (g.M.Runner.meaning.stage c.deref.result.now c.args.at)
+    ≡ Some (g.M.Runner.meaning.stage c.deref.result.now c.feed.new.self) =
+    subst (λ (n : ℤ). after_input (g.M.Runner.meaning.stage c.deref.result.now c.args.at).want (Val.Int n) (g.M.Runner.meaning.stage c.deref.result.now c.args.at)
+    ≡ Some (g.M.Runner.meaning.stage c.deref.result.now c.feed.new.self)) answer c.feed.ensures.stage in
+    let fed = subst (λ k. after_input (g.M.Runner.meaning.stage k c.args.at).want (Val.Int c.in-Ok.answer) (g.M.Runner.meaning.stage k c.args.at) ≡ Some (g.M.Runner.meaning.stage k c.feed.new.self)) same told in
     let entry : c.answered.result ≡ record c.in_ok-entry.entry { steps = c.in_ok-entry.entry.steps + 1; answer = Some c.in-Ok.answer } =
     c.answered.ensures ∙ ap (λ (n : ℤ). record c.in_ok-entry.entry { steps = c.in_ok-entry.entry.steps + 1; answer = Some n }) answer in
     record {
-      whole = whole-called g.M.Runner.program g.M.Runner.devices g.M.Runner.is_value g.M.Runner.value_of g.M.Runner.is_machine g.M.Runner.stage
+      whole = whole-called g.M.Runner.meaning
           _ c.args.self.now c.self.view_is c.self.invariant.whole c.args.seat c.args.attempt c.requires.task c.requires.left
           c.args.at c.requires.on c.requires.visits (g.met.M.Runner.sound c.args.self.now.code c.args.at c.requires.on.machine) c.args.device c.args.argument c.requires.wants
           c.in-Ok.answer c.feed.new.self machine fed _ _ called
           c.in_ok-entry.entry c.answered.result (c.in_ok-entry.ensures (arc_value c.self.inside.code)) entry
           c.push.new.self.entries c.room.new.self.entries c.room.ensures.entries c.push.ensures.entries
           c.send_home.new.pool (c.send_home.ensures.shown (arc_value c.self.inside.code)) (c.send_home.ensures.rests (arc_value c.self.inside.code)) c.send_home.ensures.good c.requires.going;
-      places = places-freed c.self.inside.tasks.items c.args.seat _ _ c.args.attempt (end-task g.M.Runner.program g.M.Runner.devices g.M.Runner.is_value g.M.Runner.value_of g.M.Runner.is_machine g.M.Runner.stage
+      places = places-freed c.self.inside.tasks.items c.args.seat _ _ c.args.attempt (end-task g.M.Runner.meaning
           _ c.args.self.now c.self.view_is c.self.invariant.whole c.args.seat c.args.attempt c.requires.task c.requires.left) c.self.invariant.places;
     }
 
@@ -71,15 +71,15 @@ returns-in-Ok-clause-home g c =
     let called = subst (λ (n : ℤ). CallsOne (all_told g.D.Device.device_heard g.D.Device.device_faults c.args.devices.now.items) c.args.device n (Ok c.in-Ok.answer)
     (all_told g.D.Device.device_heard g.D.Device.device_faults c.call_device.new.devices.items)) argument c.in-Ok.ensures in
     let same : c.deref.result.now ≡ arc_value c.self.inside.code = search rules in
-    let machine = subst (λ k. g.M.Runner.is_machine k c.feed.new.self) same c.feed.ensures.machine in
-    let told : after_input (g.M.Runner.stage c.deref.result.now c.args.at).want (Val.Int c.in-Ok.answer) (g.M.Runner.stage c.deref.result.now c.args.at)
-    ≡ Some (g.M.Runner.stage c.deref.result.now c.feed.new.self) =
-    subst (λ (n : ℤ). after_input (g.M.Runner.stage c.deref.result.now c.args.at).want (Val.Int n) (g.M.Runner.stage c.deref.result.now c.args.at)
-    ≡ Some (g.M.Runner.stage c.deref.result.now c.feed.new.self)) answer c.feed.ensures.stage in
-    let fed = subst (λ k. after_input (g.M.Runner.stage k c.args.at).want (Val.Int c.in-Ok.answer) (g.M.Runner.stage k c.args.at) ≡ Some (g.M.Runner.stage k c.feed.new.self)) same told in
+    let machine = subst (λ k. g.M.Runner.meaning.is_machine k c.feed.new.self) same c.feed.ensures.machine in
+    let told : after_input (g.M.Runner.meaning.stage c.deref.result.now c.args.at).want (Val.Int c.in-Ok.answer) (g.M.Runner.meaning.stage c.deref.result.now c.args.at)
+    ≡ Some (g.M.Runner.meaning.stage c.deref.result.now c.feed.new.self) =
+    subst (λ (n : ℤ). after_input (g.M.Runner.meaning.stage c.deref.result.now c.args.at).want (Val.Int n) (g.M.Runner.meaning.stage c.deref.result.now c.args.at)
+    ≡ Some (g.M.Runner.meaning.stage c.deref.result.now c.feed.new.self)) answer c.feed.ensures.stage in
+    let fed = subst (λ k. after_input (g.M.Runner.meaning.stage k c.args.at).want (Val.Int c.in-Ok.answer) (g.M.Runner.meaning.stage k c.args.at) ≡ Some (g.M.Runner.meaning.stage k c.feed.new.self)) same told in
     let entry : c.answered.result ≡ record c.in_ok-entry.entry { steps = c.in_ok-entry.entry.steps + 1; answer = Some c.in-Ok.answer } =
     c.answered.ensures ∙ ap (λ (n : ℤ). record c.in_ok-entry.entry { steps = c.in_ok-entry.entry.steps + 1; answer = Some n }) answer in
-    λ _. home-called g.M.Runner.program g.M.Runner.devices g.M.Runner.is_value g.M.Runner.value_of g.M.Runner.is_machine g.M.Runner.stage
+    λ _. home-called g.M.Runner.meaning
     _ c.args.self.now c.self.view_is c.self.invariant.whole c.args.seat c.args.attempt c.requires.task c.requires.left
     c.args.at c.requires.on c.requires.visits (g.met.M.Runner.sound c.args.self.now.code c.args.at c.requires.on.machine) c.args.device c.args.argument c.requires.wants
     c.in-Ok.answer c.feed.new.self machine fed _ _ called
@@ -96,7 +96,7 @@ returns-clause-quiet g c =
 
 pub refuse-requires-clause-calls : goal.refuse-requires-clause-calls
 refuse-requires-clause-calls g c =
-    call-led g.M.Runner.program g.M.Runner.devices g.M.Runner.is_value g.M.Runner.value_of g.M.Runner.is_machine g.M.Runner.stage
+    call-led g.M.Runner.meaning
     _ c.args.self.now c.self.view_is c.self.invariant.whole c.args.seat c.args.attempt c.requires.task c.requires.left
     c.args.at c.requires.on c.requires.visits (g.met.M.Runner.sound c.args.self.now.code c.args.at c.requires.on.machine) c.args.device c.args.argument c.requires.wants
     c.room.new.self.entries c.room.ensures.entries

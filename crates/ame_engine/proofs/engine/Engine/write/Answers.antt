@@ -1,10 +1,10 @@
 use Rattle.std.proofs.Common.{rules, ◌≡◌, Some, ap, refl}
 use Rattle.std.specs.Arc.{arc_value}
-use Rattle.ame_runner.specs.declared.wants.Wants.TheVariants as wants
-use Rattle.ame_runner.specs.Input.{value_to_set}
-use Rattle.ame_stands.specs.declared.types.Reason.{Reason}
-use Rattle.ame_stands.specs.declared.types.Task.{Task}
-use Rattle.ame_stands.specs.Parts.{task_at, attempt_of}
+use Rattle.ame_machine.specs.declared.wants.Wants.TheVariants as wants
+use Rattle.ame_machine.specs.Input.{value_to_set}
+use Rattle.ame_protocol.specs.declared.types.Reason.{Reason}
+use Rattle.ame_protocol.specs.declared.types.Task.{Task}
+use Rattle.ame_protocol.specs.Engine.Parts.{task_at, attempt_of}
 use Rattle.ame_engine.proofs.PlaceLemmas.{places-kept}
 use Rattle.ame_engine.proofs.CheckLemmas.{its-task}
 use Rattle.ame_engine.proofs.WriteLemmas.{write-location, write-grows, whole-written, makes-written, runs-written, answer-written, whole-conflict, rolls-conflict, makes-conflict, answer-conflict}
@@ -12,26 +12,26 @@ use Rattle.ame_engine.proofs.engine.Engine.write.Goals as goal
 
 pub write-requires-clause-location : goal.write-requires-clause-location
 write-requires-clause-location g c =
-    let told : (g.M.Runner.stage c.args.self.now.code c.args.at.now).want ≡ Some (wants.Write c.in-Some-Write.l) = search rules in
-    write-location g.M.Runner.program g.M.Runner.devices g.M.Runner.is_value g.M.Runner.value_of g.M.Runner.is_machine g.M.Runner.stage
+    let told : (g.M.Runner.meaning.stage c.args.self.now.code c.args.at.now).want ≡ Some (wants.Write c.in-Some-Write.l) = search rules in
+    write-location g.M.Runner.meaning
     g.M.Value.Copied.same g.met.M.Runner.same_values g.met.M.Runner.value_shown _ c.args.self.now c.self.view_is c.self.invariant.whole c.args.seat c.args.at.now
     c.in-Some-Write.l c.requires.on c.requires.writes.outside told (g.met.M.Runner.sound c.args.self.now.code c.args.at.now c.requires.on.machine)
 
 pub write-requires-clause-can_grow : goal.write-requires-clause-can_grow
 write-requires-clause-can_grow g c =
-    let told : (g.M.Runner.stage c.args.self.now.code c.args.at.now).want ≡ Some (wants.Write c.in-Some-Write.l) = search rules in
-    write-grows g.M.Runner.program g.M.Runner.devices g.M.Runner.is_value g.M.Runner.value_of g.M.Runner.is_machine g.M.Runner.stage
+    let told : (g.M.Runner.meaning.stage c.args.self.now.code c.args.at.now).want ≡ Some (wants.Write c.in-Some-Write.l) = search rules in
+    write-grows g.M.Runner.meaning
     g.M.Value.Copied.same g.met.M.Runner.same_values g.met.M.Runner.value_shown _ c.args.self.now c.self.view_is c.self.invariant.whole c.args.seat c.args.at.now
     c.in-Some-Write.l c.requires.on c.requires.writes.outside told (g.met.M.Runner.sound c.args.self.now.code c.args.at.now c.requires.on.machine)
 
 pub invariant_of-self-in-None : goal.invariant_of-self-in-None
 invariant_of-self-in-None g c =
-    let told : (g.M.Runner.stage c.args.self.now.code c.args.at.now).want ≡ Some (wants.Write c.in-Some-Write.l) = search rules in
-    let sets : value_to_set (g.M.Runner.stage (arc_value c.self.inside.code) c.args.at.now)
-    ≡ Some (g.M.Runner.value_of (arc_value c.self.inside.code) c.wanted.result.now) = search rules in
-    let good : g.M.Runner.is_value (arc_value c.self.inside.code) c.wanted.result.now = search rules in
+    let told : (g.M.Runner.meaning.stage c.args.self.now.code c.args.at.now).want ≡ Some (wants.Write c.in-Some-Write.l) = search rules in
+    let sets : value_to_set (g.M.Runner.meaning.stage (arc_value c.self.inside.code) c.args.at.now)
+    ≡ Some (g.M.Runner.meaning.value_of (arc_value c.self.inside.code) c.wanted.result.now) = search rules in
+    let good : g.M.Runner.meaning.is_value (arc_value c.self.inside.code) c.wanted.result.now = search rules in
     record {
-      whole = whole-written g.M.Runner.program g.M.Runner.devices g.M.Runner.is_value g.M.Runner.value_of g.M.Runner.is_machine g.M.Runner.stage
+      whole = whole-written g.M.Runner.meaning
           g.M.Value.Copied.same g.met.M.Runner.same_values g.met.M.Runner.value_shown _ c.args.self.now c.self.view_is c.self.invariant.whole c.args.seat c.args.at.now
           c.in-Some-Write.l c.requires.on c.requires.writes.outside told (g.met.M.Runner.sound c.args.self.now.code c.args.at.now c.requires.on.machine) c.requires.left
           c.wanted.result.now c.in_ok-value.value c.unit_value.result good sets c.in_ok-value.ensures
@@ -42,14 +42,14 @@ invariant_of-self-in-None g c =
 
 pub invariant_of-self-in-Some : goal.invariant_of-self-in-Some
 invariant_of-self-in-Some g c =
-    let told : (g.M.Runner.stage c.args.self.now.code c.args.at.now).want ≡ Some (wants.Write c.in-Some-Write.l) = search rules in
-    let sets : value_to_set (g.M.Runner.stage (arc_value c.self.inside.code) c.args.at.now)
-    ≡ Some (g.M.Runner.value_of (arc_value c.self.inside.code) c.wanted.result.now) = search rules in
-    let good : g.M.Runner.is_value (arc_value c.self.inside.code) c.wanted.result.now = search rules in
+    let told : (g.M.Runner.meaning.stage c.args.self.now.code c.args.at.now).want ≡ Some (wants.Write c.in-Some-Write.l) = search rules in
+    let sets : value_to_set (g.M.Runner.meaning.stage (arc_value c.self.inside.code) c.args.at.now)
+    ≡ Some (g.M.Runner.meaning.value_of (arc_value c.self.inside.code) c.wanted.result.now) = search rules in
+    let good : g.M.Runner.meaning.is_value (arc_value c.self.inside.code) c.wanted.result.now = search rules in
     let runs : task_at c.self.inside.tasks.items c.args.seat ≡ Task.Running c.in-Running.attempt =
     its-task _ c.args.self.now c.self.view_is c.args.seat c.requires.on.stands.attempt c.requires.on.stands.has _ c.in-Running.attempt c.index.ensures c.in-Running.is in
     record {
-      whole = whole-conflict g.M.Runner.program g.M.Runner.devices g.M.Runner.is_value g.M.Runner.value_of g.M.Runner.is_machine g.M.Runner.stage
+      whole = whole-conflict g.M.Runner.meaning
           g.M.Value.Copied.same g.met.M.Runner.same_values g.met.M.Runner.value_shown _ c.args.self.now c.self.view_is c.self.invariant.whole c.args.seat c.args.at.now
           c.in-Some-Write.l c.requires.on c.requires.writes.outside told (g.met.M.Runner.sound c.args.self.now.code c.args.at.now c.requires.on.machine) c.requires.left
           c.wanted.result.now c.in_ok-value.value c.unit_value.result good sets c.in_ok-value.ensures
@@ -61,11 +61,11 @@ invariant_of-self-in-Some g c =
 
 pub returns-in-None-clause-answer : goal.returns-in-None-clause-answer
 returns-in-None-clause-answer g c =
-    let told : (g.M.Runner.stage c.args.self.now.code c.args.at.now).want ≡ Some (wants.Write c.in-Some-Write.l) = search rules in
-    let sets : value_to_set (g.M.Runner.stage (arc_value c.self.inside.code) c.args.at.now)
-    ≡ Some (g.M.Runner.value_of (arc_value c.self.inside.code) c.wanted.result.now) = search rules in
-    let good : g.M.Runner.is_value (arc_value c.self.inside.code) c.wanted.result.now = search rules in
-    answer-written g.M.Runner.program g.M.Runner.devices g.M.Runner.is_value g.M.Runner.value_of g.M.Runner.is_machine g.M.Runner.stage
+    let told : (g.M.Runner.meaning.stage c.args.self.now.code c.args.at.now).want ≡ Some (wants.Write c.in-Some-Write.l) = search rules in
+    let sets : value_to_set (g.M.Runner.meaning.stage (arc_value c.self.inside.code) c.args.at.now)
+    ≡ Some (g.M.Runner.meaning.value_of (arc_value c.self.inside.code) c.wanted.result.now) = search rules in
+    let good : g.M.Runner.meaning.is_value (arc_value c.self.inside.code) c.wanted.result.now = search rules in
+    answer-written g.M.Runner.meaning
     g.M.Value.Copied.same g.met.M.Runner.same_values g.met.M.Runner.value_shown _ c.args.self.now c.self.view_is c.self.invariant.whole c.args.seat c.args.at.now
     c.in-Some-Write.l c.requires.on c.requires.writes.outside told (g.met.M.Runner.sound c.args.self.now.code c.args.at.now c.requires.on.machine) c.requires.left
     c.wanted.result.now c.in_ok-value.value c.unit_value.result good sets c.in_ok-value.ensures
@@ -74,11 +74,11 @@ returns-in-None-clause-answer g c =
 
 pub returns-in-None-clause-event : goal.returns-in-None-clause-event
 returns-in-None-clause-event g c =
-    let told : (g.M.Runner.stage c.args.self.now.code c.args.at.now).want ≡ Some (wants.Write c.in-Some-Write.l) = search rules in
-    let sets : value_to_set (g.M.Runner.stage (arc_value c.self.inside.code) c.args.at.now)
-    ≡ Some (g.M.Runner.value_of (arc_value c.self.inside.code) c.wanted.result.now) = search rules in
-    let good : g.M.Runner.is_value (arc_value c.self.inside.code) c.wanted.result.now = search rules in
-    (λ k v e set _. makes-written g.M.Runner.program g.M.Runner.devices g.M.Runner.is_value g.M.Runner.value_of g.M.Runner.is_machine g.M.Runner.stage
+    let told : (g.M.Runner.meaning.stage c.args.self.now.code c.args.at.now).want ≡ Some (wants.Write c.in-Some-Write.l) = search rules in
+    let sets : value_to_set (g.M.Runner.meaning.stage (arc_value c.self.inside.code) c.args.at.now)
+    ≡ Some (g.M.Runner.meaning.value_of (arc_value c.self.inside.code) c.wanted.result.now) = search rules in
+    let good : g.M.Runner.meaning.is_value (arc_value c.self.inside.code) c.wanted.result.now = search rules in
+    (λ k v e set _. makes-written g.M.Runner.meaning
     g.M.Value.Copied.same g.met.M.Runner.same_values g.met.M.Runner.value_shown _ c.args.self.now c.self.view_is c.self.invariant.whole c.args.seat c.args.at.now
     c.in-Some-Write.l c.requires.on c.requires.writes.outside told (g.met.M.Runner.sound c.args.self.now.code c.args.at.now c.requires.on.machine) c.requires.left
     c.wanted.result.now c.in_ok-value.value c.unit_value.result good sets c.in_ok-value.ensures
@@ -87,11 +87,11 @@ returns-in-None-clause-event g c =
 
 pub returns-in-None-clause-runs : goal.returns-in-None-clause-runs
 returns-in-None-clause-runs g c =
-    let told : (g.M.Runner.stage c.args.self.now.code c.args.at.now).want ≡ Some (wants.Write c.in-Some-Write.l) = search rules in
-    let sets : value_to_set (g.M.Runner.stage (arc_value c.self.inside.code) c.args.at.now)
-    ≡ Some (g.M.Runner.value_of (arc_value c.self.inside.code) c.wanted.result.now) = search rules in
-    let good : g.M.Runner.is_value (arc_value c.self.inside.code) c.wanted.result.now = search rules in
-    runs-written g.M.Runner.program g.M.Runner.devices g.M.Runner.is_value g.M.Runner.value_of g.M.Runner.is_machine g.M.Runner.stage
+    let told : (g.M.Runner.meaning.stage c.args.self.now.code c.args.at.now).want ≡ Some (wants.Write c.in-Some-Write.l) = search rules in
+    let sets : value_to_set (g.M.Runner.meaning.stage (arc_value c.self.inside.code) c.args.at.now)
+    ≡ Some (g.M.Runner.meaning.value_of (arc_value c.self.inside.code) c.wanted.result.now) = search rules in
+    let good : g.M.Runner.meaning.is_value (arc_value c.self.inside.code) c.wanted.result.now = search rules in
+    runs-written g.M.Runner.meaning
     g.M.Value.Copied.same g.met.M.Runner.same_values g.met.M.Runner.value_shown _ c.args.self.now c.self.view_is c.self.invariant.whole c.args.seat c.args.at.now
     c.in-Some-Write.l c.requires.on c.requires.writes.outside told (g.met.M.Runner.sound c.args.self.now.code c.args.at.now c.requires.on.machine) c.requires.left
     c.wanted.result.now c.in_ok-value.value c.unit_value.result good sets c.in_ok-value.ensures
@@ -100,13 +100,13 @@ returns-in-None-clause-runs g c =
 
 pub returns-in-Some-clause-answer : goal.returns-in-Some-clause-answer
 returns-in-Some-clause-answer g c =
-    let told : (g.M.Runner.stage c.args.self.now.code c.args.at.now).want ≡ Some (wants.Write c.in-Some-Write.l) = search rules in
-    let sets : value_to_set (g.M.Runner.stage (arc_value c.self.inside.code) c.args.at.now)
-    ≡ Some (g.M.Runner.value_of (arc_value c.self.inside.code) c.wanted.result.now) = search rules in
-    let good : g.M.Runner.is_value (arc_value c.self.inside.code) c.wanted.result.now = search rules in
+    let told : (g.M.Runner.meaning.stage c.args.self.now.code c.args.at.now).want ≡ Some (wants.Write c.in-Some-Write.l) = search rules in
+    let sets : value_to_set (g.M.Runner.meaning.stage (arc_value c.self.inside.code) c.args.at.now)
+    ≡ Some (g.M.Runner.meaning.value_of (arc_value c.self.inside.code) c.wanted.result.now) = search rules in
+    let good : g.M.Runner.meaning.is_value (arc_value c.self.inside.code) c.wanted.result.now = search rules in
     let runs : task_at c.self.inside.tasks.items c.args.seat ≡ Task.Running c.in-Running.attempt =
     its-task _ c.args.self.now c.self.view_is c.args.seat c.requires.on.stands.attempt c.requires.on.stands.has _ c.in-Running.attempt c.index.ensures c.in-Running.is in
-    answer-conflict g.M.Runner.program g.M.Runner.devices g.M.Runner.is_value g.M.Runner.value_of g.M.Runner.is_machine g.M.Runner.stage
+    answer-conflict g.M.Runner.meaning
     g.M.Value.Copied.same g.met.M.Runner.same_values g.met.M.Runner.value_shown _ c.args.self.now c.self.view_is c.self.invariant.whole c.args.seat c.args.at.now
     c.in-Some-Write.l c.requires.on c.requires.writes.outside told (g.met.M.Runner.sound c.args.self.now.code c.args.at.now c.requires.on.machine) c.requires.left
     c.wanted.result.now c.in_ok-value.value c.unit_value.result good sets c.in_ok-value.ensures
@@ -115,13 +115,13 @@ returns-in-Some-clause-answer g c =
 
 pub returns-in-Some-clause-back : goal.returns-in-Some-clause-back
 returns-in-Some-clause-back g c =
-    let told : (g.M.Runner.stage c.args.self.now.code c.args.at.now).want ≡ Some (wants.Write c.in-Some-Write.l) = search rules in
-    let sets : value_to_set (g.M.Runner.stage (arc_value c.self.inside.code) c.args.at.now)
-    ≡ Some (g.M.Runner.value_of (arc_value c.self.inside.code) c.wanted.result.now) = search rules in
-    let good : g.M.Runner.is_value (arc_value c.self.inside.code) c.wanted.result.now = search rules in
+    let told : (g.M.Runner.meaning.stage c.args.self.now.code c.args.at.now).want ≡ Some (wants.Write c.in-Some-Write.l) = search rules in
+    let sets : value_to_set (g.M.Runner.meaning.stage (arc_value c.self.inside.code) c.args.at.now)
+    ≡ Some (g.M.Runner.meaning.value_of (arc_value c.self.inside.code) c.wanted.result.now) = search rules in
+    let good : g.M.Runner.meaning.is_value (arc_value c.self.inside.code) c.wanted.result.now = search rules in
     let runs : task_at c.self.inside.tasks.items c.args.seat ≡ Task.Running c.in-Running.attempt =
     its-task _ c.args.self.now c.self.view_is c.args.seat c.requires.on.stands.attempt c.requires.on.stands.has _ c.in-Running.attempt c.index.ensures c.in-Running.is in
-    (λ a owner e _. makes-conflict g.M.Runner.program g.M.Runner.devices g.M.Runner.is_value g.M.Runner.value_of g.M.Runner.is_machine g.M.Runner.stage
+    (λ a owner e _. makes-conflict g.M.Runner.meaning
     g.M.Value.Copied.same g.met.M.Runner.same_values g.met.M.Runner.value_shown _ c.args.self.now c.self.view_is c.self.invariant.whole c.args.seat c.args.at.now
     c.in-Some-Write.l c.requires.on c.requires.writes.outside told (g.met.M.Runner.sound c.args.self.now.code c.args.at.now c.requires.on.machine) c.requires.left
     c.wanted.result.now c.in_ok-value.value c.unit_value.result good sets c.in_ok-value.ensures
@@ -130,13 +130,13 @@ returns-in-Some-clause-back g c =
 
 pub returns-in-Some-clause-rolls : goal.returns-in-Some-clause-rolls
 returns-in-Some-clause-rolls g c =
-    let told : (g.M.Runner.stage c.args.self.now.code c.args.at.now).want ≡ Some (wants.Write c.in-Some-Write.l) = search rules in
-    let sets : value_to_set (g.M.Runner.stage (arc_value c.self.inside.code) c.args.at.now)
-    ≡ Some (g.M.Runner.value_of (arc_value c.self.inside.code) c.wanted.result.now) = search rules in
-    let good : g.M.Runner.is_value (arc_value c.self.inside.code) c.wanted.result.now = search rules in
+    let told : (g.M.Runner.meaning.stage c.args.self.now.code c.args.at.now).want ≡ Some (wants.Write c.in-Some-Write.l) = search rules in
+    let sets : value_to_set (g.M.Runner.meaning.stage (arc_value c.self.inside.code) c.args.at.now)
+    ≡ Some (g.M.Runner.meaning.value_of (arc_value c.self.inside.code) c.wanted.result.now) = search rules in
+    let good : g.M.Runner.meaning.is_value (arc_value c.self.inside.code) c.wanted.result.now = search rules in
     let runs : task_at c.self.inside.tasks.items c.args.seat ≡ Task.Running c.in-Running.attempt =
     its-task _ c.args.self.now c.self.view_is c.args.seat c.requires.on.stands.attempt c.requires.on.stands.has _ c.in-Running.attempt c.index.ensures c.in-Running.is in
-    (λ a owner e _. rolls-conflict g.M.Runner.program g.M.Runner.devices g.M.Runner.is_value g.M.Runner.value_of g.M.Runner.is_machine g.M.Runner.stage
+    (λ a owner e _. rolls-conflict g.M.Runner.meaning
     g.M.Value.Copied.same g.met.M.Runner.same_values g.met.M.Runner.value_shown _ c.args.self.now c.self.view_is c.self.invariant.whole c.args.seat c.args.at.now
     c.in-Some-Write.l c.requires.on c.requires.writes.outside told (g.met.M.Runner.sound c.args.self.now.code c.args.at.now c.requires.on.machine) c.requires.left
     c.wanted.result.now c.in_ok-value.value c.unit_value.result good sets c.in_ok-value.ensures

@@ -1,6 +1,6 @@
 -- The locations so far.
 use Rattle.std.proofs.Common.{◌≡◌, map, take}
-use Rattle.ame_owed.specs.Waiting.{read_places}
+use Rattle.ame_protocol.specs.Row.Waiting.{read_places}
 use Rattle.ame_engine.proofs.engine.block.read_locations.Given as goal
 
 abbrev pub invariant-loop-read : goal.invariant-loop-read

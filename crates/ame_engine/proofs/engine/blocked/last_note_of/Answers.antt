@@ -2,7 +2,7 @@ use Rattle.std.proofs.Common.{ap, sym, ◌∙◌, Option}
 use Rattle.std.specs.Option.{option_copied}
 use Rattle.ame_journal.specs.declared.entry.Entry.{Entry}
 use Rattle.ame_journal.specs.Replay.{or_else}
-use Rattle.ame_waiting.specs.Waiting.{last_stuck}
+use Rattle.ame_protocol.specs.Waits.Waiting.{last_stuck}
 use Rattle.ame_engine.proofs.BlockedLemmas.{last-append}
 use Rattle.ame_engine.proofs.engine.blocked.last_note_of.Goals as goal
 

@@ -6,6 +6,6 @@ use Rattle.ame_engine_cases.proofs.crew.Crew.finish.Goals as goal
 
 pub finish-requires-clause-idle : goal.finish-requires-clause-idle
 finish-requires-clause-idle g c =
-    crew-idle g.M.Runner.program g.M.Runner.devices g.M.Runner.value_of g.M.Runner.is_machine g.M.Runner.stage c.self.inside.engine
+    crew-idle g.M.Runner.meaning c.self.inside.engine
     _ c.self.inside.seats.items _ c.self.invariant
     (λ seat. subst (λ s. slice_index_or s seat work.Idle ≡ work.Idle) c.deref.ensures.value (c.are_idle.ensures c.if-not-are_idle.false seat))

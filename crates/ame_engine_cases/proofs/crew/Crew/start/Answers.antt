@@ -8,6 +8,6 @@ invariant_of-result g c =
     let code = c.in_ok-engine.ensures.code ∙ c.in_ok-try_clone.ensures in
     let term = c.in_ok-code.ensures.ok in
     let tools = vec_len c.args.devices in
-    let enough = subst (λ k. g.M.Runner.devices k ≤ tools) (sym (code ∙ term)) c.requires.devices in
-    crew-starts g.M.Runner.program g.M.Runner.devices g.M.Runner.value_of g.M.Runner.is_machine g.M.Runner.stage c.in_ok-engine.engine
+    let enough = subst (λ k. g.M.Runner.meaning.devices k ≤ tools) (sym (code ∙ term)) c.requires.devices in
+    crew-starts g.M.Runner.meaning c.in_ok-engine.engine
     _ c.in_ok-seats.seats.items c.args.limits _ _ _ (sym code) c.in_ok-engine.ensures.parts c.in_ok-seats.ensures tools enough c.requires.limits

@@ -7,10 +7,10 @@ invariant_of-self g c =
     let turned = c.act-deed.ensures in
     let seat = c.args.seat in
     let within = subst (λ n. seat < n) (sym c.self.invariant.count) (subst (λ core. seat < core.limits.seats) (sym c.self.view_is) c.requires) in
-    crew-turned g.M.Runner.program g.M.Runner.devices g.M.Runner.value_of g.M.Runner.is_machine g.M.Runner.stage c.self.inside.engine c.act-deed.new.engine
+    crew-turned g.M.Runner.meaning c.self.inside.engine c.act-deed.new.engine
     _ c.self.inside.seats.items seat c.replace-work.new.dest c.act-deed.result.work _ _ c.self.invariant within turned.code turned.limits turned.fits turned.others turned.count
 
 pub returns : goal.returns
 returns g c =
-    has-done g.M.Runner.program g.M.Runner.devices g.M.Runner.value_of g.M.Runner.stage c.args.seat _ _ c.act-deed.new.engine c.act-deed.result.deed _ _ _
+    has-done g.M.Runner.meaning c.args.seat _ _ c.act-deed.new.engine c.act-deed.result.deed _ _ _
     c.self.view_is c.act-deed.ensures.done

@@ -1,5 +1,5 @@
 use Rattle.std.proofs.Common.{◌∙◌, true, refl, arith}
-use Rattle.ame_pool.proofs.Words.{Turn, is_running, is_away}
+use Rattle.ame_pool.proofs.Words.{Transition, is_running, is_away}
 use Rattle.ame_pool.proofs.MemberLemmas.{standing_is}
 use Rattle.ame_pool.proofs.KeptLemmas.{opened, at_weaker, turned_pool}
 use Rattle.ame_pool.proofs.FindLemmas.{watched_same}
@@ -12,9 +12,9 @@ pub invariant_of-self : goal.invariant_of-self
 invariant_of-self g c =
     let o = opened is_running c.args.number _ c.args.self.now c.self.view_is c.requires in
     rw c.turn.ensures (watched_same c.self.invariant c.args.number o.member o.found
-    (Turn.Home c.args.rolled_back) (grind (arith, standing_is o.member.standing, o.passes)))
+    (Transition.Home c.args.rolled_back) (grind (arith, standing_is o.member.standing, o.passes)))
 
 pub returns : goal.returns
 returns g c =
     let o = opened is_running c.args.number _ c.args.self.now c.self.view_is c.requires in
-    c.turn.ensures ∙ turned_pool c.args.number (Turn.Home c.args.rolled_back) _ c.args.self.now c.self.view_is o.member o.found true refl
+    c.turn.ensures ∙ turned_pool c.args.number (Transition.Home c.args.rolled_back) _ c.args.self.now c.self.view_is o.member o.found true refl

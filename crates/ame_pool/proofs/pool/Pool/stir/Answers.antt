@@ -1,5 +1,5 @@
 use Rattle.std.proofs.Common.{◌∙◌, sym, ap, arith}
-use Rattle.ame_pool.proofs.Words.{Turn, is_watching, is_away, turned_at}
+use Rattle.ame_pool.proofs.Words.{Transition, is_watching, is_away, turned_at}
 use Rattle.ame_pool.proofs.MemberLemmas.{standing_is}
 use Rattle.ame_pool.proofs.WakeLemmas.{stirred_clears}
 use Rattle.ame_pool.proofs.KeptLemmas.{passes, at_weaker}
@@ -15,7 +15,7 @@ invariant_of-self g c =
     let m = c.member-member.result.now in
     let is = passes (is_watching c.args.l.0) c.args.number _ c.args.self.now c.self.view_is c.requires m (sym c.member-member.ensures) in
     rw c.turn.ensures (watched_cleared c.self.invariant c.args.number m (sym c.member-member.ensures) c.untouched.result.now c.untouched.ensures
-    c.unwatch.ensures (Turn.Stir c.args.l) (stirred_clears c.args.l.0 m.standing is))
+    c.unwatch.ensures (Transition.Stir c.args.l) (stirred_clears c.args.l.0 m.standing is))
 
 pub returns : goal.returns
-returns g c = c.turn.ensures ∙ ap (turned_at c.args.number (Turn.Stir c.args.l)) c.self.view_is
+returns g c = c.turn.ensures ∙ ap (turned_at c.args.number (Transition.Stir c.args.l)) c.self.view_is

@@ -4,5 +4,5 @@ use Rattle.ame_shell.proofs.shell.Shell.finish.Goals as goal
 pub returns : goal.returns
 returns g c = record {
   over = λ opening h.
-      is-over g.M.Runner.program g.M.Runner.devices g.M.Runner.value_of g.M.Runner.stage opening _ c.finish.result h c.finish.ensures.told c.finish.ensures.ends;
+      is-over g.M.Runner.meaning opening _ c.finish.result h c.finish.ensures.told c.finish.ensures.ends;
 }

@@ -7,12 +7,12 @@ use Rattle.ame_shell.proofs.shell.Shell.turn.Goals as goal
 
 pub flush_after-requires-clause-within : goal.flush_after-requires-clause-within
 flush_after-requires-clause-within g c =
-    sent-still g.M.Runner.program g.M.Runner.devices g.M.Runner.value_of g.M.Runner.is_machine g.M.Runner.stage c.args.seat (stage_at g.M.Runner.stage c.args.self.now.engine.code c.args.work)
+    sent-still g.M.Runner.meaning c.args.seat (stage_at g.M.Runner.meaning.stage c.args.self.now.engine.code c.args.work)
     c.args.self.now.engine c.act-turned.new.engine _ _ c.act-turned.result.deed c.act-turned.ensures.done c.args.self.now.sent c.requires.sent
 
 pub returns-clause-turned : goal.returns-clause-turned
 returns-clause-turned g c =
-    turned-made g.M.Runner.program g.M.Runner.devices g.M.Runner.value_of g.M.Runner.is_machine g.M.Runner.stage c.args.seat (stage_at g.M.Runner.stage c.args.self.now.engine.code c.args.work)
+    turned-made g.M.Runner.meaning c.args.seat (stage_at g.M.Runner.meaning.stage c.args.self.now.engine.code c.args.work)
     _ _ c.act-turned.new.engine _ c.act-turned.result.deed
     (ap (λ ds. all_told g.D.Device.device_heard g.D.Device.device_faults ds.items) (sym c.flush_after.ensures.devices)) c.act-turned.ensures.done
     c.flush_after.ensures.flushes
@@ -20,12 +20,12 @@ returns-clause-turned g c =
 
 pub returns-clause-keeps : goal.returns-clause-keeps
 returns-clause-keeps g c = λ opening h.
-    turn-keeps g.M.Runner.program g.M.Runner.devices g.M.Runner.value_of g.M.Runner.is_machine g.M.Runner.stage c.args.seat
-    (stage_at g.M.Runner.stage c.args.self.now.engine.code c.args.work) _ _ c.act-turned.result.deed
-    (turned-made g.M.Runner.program g.M.Runner.devices g.M.Runner.value_of g.M.Runner.is_machine g.M.Runner.stage c.args.seat (stage_at g.M.Runner.stage c.args.self.now.engine.code c.args.work)
+    turn-keeps g.M.Runner.meaning c.args.seat
+    (stage_at g.M.Runner.meaning.stage c.args.self.now.engine.code c.args.work) _ _ c.act-turned.result.deed
+    (turned-made g.M.Runner.meaning c.args.seat (stage_at g.M.Runner.meaning.stage c.args.self.now.engine.code c.args.work)
     _ _ c.act-turned.new.engine _ c.act-turned.result.deed
     (ap (λ ds. all_told g.D.Device.device_heard g.D.Device.device_faults ds.items) (sym c.flush_after.ensures.devices)) c.act-turned.ensures.done
     c.flush_after.ensures.flushes
     (λ e. ap (λ s. shown g.K.Sink.written g.K.Sink.faults g.D.Device.device_heard g.D.Device.device_faults s.engine s.sent s.sink s.devices.items) (c.flush_after.ensures.stays e)))
     opening c.stands.ensures c.requires.seat
-    (hand-stands g.M.Runner.program g.M.Runner.devices g.M.Runner.value_of g.M.Runner.is_machine g.M.Runner.stage g.met.M.Runner.sound c.args.self.now.engine c.args.seat c.args.work c.requires.fits) h
+    (hand-stands g.M.Runner.meaning g.met.M.Runner.sound c.args.self.now.engine c.args.seat c.args.work c.requires.fits) h

@@ -1,7 +1,7 @@
 use Rattle.std.proofs.Common.{sym, ◌∙◌, subst}
 use Rattle.std.specs.Arc.{arc_value}
 use Rattle.ame_shell.specs.Shell.{shown}
-use Rattle.ame_stands.specs.declared.types.Limits.{Limits}
+use Rattle.ame_protocol.specs.declared.types.Limits.{Limits}
 use Rattle.ame_turn.specs.Ready.{IsPrepared, IsReadyWork}
 use Rattle.ame_baton.specs.Batons.{knows}
 use Rattle.ame_baton.proofs.Keeping.{take_finds}
@@ -16,7 +16,7 @@ use Rattle.ame_worker.proofs.worker.Worker.turn.Goals as goal
 
 pub returns-in_default-clause-ready : goal.returns-in_default-clause-ready
 returns-in_default-clause-ready g c =
-    let r = g.M.Runner in
+    let r = g.M.Runner.meaning in
     let code = arc_value c.args.self.now.code in
     let slice = c.args.self.now.limits.slice in
     let done = subst (λ code. IsPrepared r.is_machine r.stage code slice c.args.self.now.work c.prepare.new.work) c.deref-code.ensures c.prepare.ensures.prepared in
@@ -30,14 +30,14 @@ returns-in_default-clause-ready g c =
 
 pub hand-point-requires-clause-seated : goal.hand-point-requires-clause-seated
 hand-point-requires-clause-seated g c =
-    let r = g.M.Runner in
+    let r = g.M.Runner.meaning in
     let code = arc_value c.args.self.now.code in
     let limits = c.args.self.now.limits in
     let k = knows c.args.self.now.seat in
     let holding = knows c.try_take.new.seat in
     let shared = c.in-Some.shared in
     let shows = shown g.K.Sink.written g.K.Sink.faults g.D.Device.device_heard g.D.Device.device_faults shared.shell.value.engine shared.shell.value.sent shared.shell.value.sink shared.shell.value.devices.items in
-    let same = same-limits r.program r.devices r.value_of r.is_machine r.stage limits code k c.requires.ready.seated shows shared.places.items holding.rows holding.seen
+    let same = same-limits r limits code k c.requires.ready.seated shows shared.places.items holding.rows holding.seen
     c.in-Some.ensures.taken.stands in
     let found = take_finds _ maker k holding shared c.in-Some.ensures.taken in
     subst (λ code. IsSeated r.devices code shared.shell.value.engine.limits holding) (sym c.deref-code.ensures)
@@ -45,14 +45,14 @@ hand-point-requires-clause-seated g c =
 
 pub hand-point-requires-clause-prepared : goal.hand-point-requires-clause-prepared
 hand-point-requires-clause-prepared g c =
-    let r = g.M.Runner in
+    let r = g.M.Runner.meaning in
     let code = arc_value c.args.self.now.code in
     let limits = c.args.self.now.limits in
     let k = knows c.args.self.now.seat in
     let holding = knows c.try_take.new.seat in
     let shared = c.in-Some.shared in
     let shows = shown g.K.Sink.written g.K.Sink.faults g.D.Device.device_heard g.D.Device.device_faults shared.shell.value.engine shared.shell.value.sent shared.shell.value.sink shared.shell.value.devices.items in
-    let same = same-limits r.program r.devices r.value_of r.is_machine r.stage limits code k c.requires.ready.seated shows shared.places.items holding.rows holding.seen
+    let same = same-limits r limits code k c.requires.ready.seated shows shared.places.items holding.rows holding.seen
     c.in-Some.ensures.taken.stands in
     let found = take_finds _ maker k holding shared c.in-Some.ensures.taken in
     let work = c.prepare.new.work in
@@ -65,14 +65,14 @@ hand-point-requires-clause-prepared g c =
 
 pub hand-point-requires-clause-ready : goal.hand-point-requires-clause-ready
 hand-point-requires-clause-ready g c = λ fine.
-    let r = g.M.Runner in
+    let r = g.M.Runner.meaning in
     let code = arc_value c.args.self.now.code in
     let limits = c.args.self.now.limits in
     let k = knows c.args.self.now.seat in
     let holding = knows c.try_take.new.seat in
     let shared = c.in-Some.shared in
     let shows = shown g.K.Sink.written g.K.Sink.faults g.D.Device.device_heard g.D.Device.device_faults shared.shell.value.engine shared.shell.value.sent shared.shell.value.sink shared.shell.value.devices.items in
-    let same = same-limits r.program r.devices r.value_of r.is_machine r.stage limits code k c.requires.ready.seated shows shared.places.items holding.rows holding.seen
+    let same = same-limits r limits code k c.requires.ready.seated shows shared.places.items holding.rows holding.seen
     c.in-Some.ensures.taken.stands in
     let ready = ready-unless c.prepare.result (IsReadyWork r.stage c.deref-code.result.now limits.slice c.prepare.new.work) (sym c.is_err-lacks.ensures.value ∙ fine)
     c.prepare.ensures.ready in
@@ -81,6 +81,6 @@ hand-point-requires-clause-ready g c = λ fine.
 
 pub returns-clause-through : goal.returns-clause-through
 returns-clause-through g c = λ e.
-    let r = g.M.Runner in
-    is-through r.program r.devices r.value_of r.is_machine r.stage c.deref-code.result.now c.replace-work.result c.hand-point.result.work (knows c.try_take.new.seat)
+    let r = g.M.Runner.meaning in
+    is-through r c.deref-code.result.now c.replace-work.result c.hand-point.result.work (knows c.try_take.new.seat)
     (knows c.hand-point.new.seat) c.hand-point.result.point c.hand-point.ensures.makes (did-is c.hand-point.result.point Point.Stopped e)

@@ -1,0 +1,391 @@
+//! Two seats at one memory, as rows of calls, at integers and at a value that takes memory.
+
+ghost use Rattle.std.specs.Prelude.{◌≡◌, ◌<◌, IsTrue, All, length, slice_get};
+ghost use Rattle.std.specs.Option.{ForSome};
+ghost use Rattle.ame_store.specs.Cells.{CanGrow};
+
+use crate::sample::{Kept, Sample};
+use ame_rows::{Memory, WriteAnswer};
+use ame_store::Store;
+use ame_term::{Loc, NoMemory, Sort, TyNo};
+use std::alloc::Global;
+use std::test::Fail;
+
+/// A call of a shared memory.
+#[derive(Clone, Copy)]
+enum Step {
+    Born(i64),
+    Allocate(i64),
+    Read,
+    Write(i64),
+    Put(i64),
+    Peek,
+    Valid,
+    Reads,
+    Owned,
+    Undo,
+    Release,
+}
+
+/// What a call told.
+#[derive(Clone, Copy, PartialEq, Eq, Debug)]
+enum Told {
+    Unmet,
+    Done,
+    At(u32),
+    Value(i64),
+    Conflict(u32, i64),
+    NotLive,
+    Valid,
+    Bad(u32, u64, u64),
+    Count(usize),
+    More(bool),
+}
+
+/// A cell's value, number and owner, and whether it is live.
+type State = (i64, u64, Option<u32>, bool);
+
+/// Calls in a row, each with a seat and a location, what it tells, and the cell there afterwards.
+const STEPS: &[(u32, u32, Step, Told, Option<State>)] = &[
+    // Seat 1 reads what seat 0 wrote, and comes too late to write.
+    (0, 0, Step::Born(10), Told::At(0), Some((10, 0, None, true))),
+    (0, 0, Step::Read, Told::Value(10), Some((10, 0, None, true))),
+    (
+        0,
+        0,
+        Step::Write(11),
+        Told::Done,
+        Some((11, 1, Some(0), true)),
+    ),
+    (0, 0, Step::Valid, Told::Valid, Some((11, 1, Some(0), true))),
+    (
+        1,
+        0,
+        Step::Read,
+        Told::Value(11),
+        Some((11, 1, Some(0), true)),
+    ),
+    (
+        1,
+        0,
+        Step::Valid,
+        Told::Bad(0, 1, 1),
+        Some((11, 1, Some(0), true)),
+    ),
+    (
+        1,
+        0,
+        Step::Write(12),
+        Told::Conflict(0, 12),
+        Some((11, 1, Some(0), true)),
+    ),
+    (
+        0,
+        0,
+        Step::Peek,
+        Told::Value(10),
+        Some((11, 1, Some(0), true)),
+    ),
+    // Seat 0 reads and writes its own cell, and makes one.
+    (
+        0,
+        0,
+        Step::Write(13),
+        Told::Done,
+        Some((13, 1, Some(0), true)),
+    ),
+    (
+        0,
+        0,
+        Step::Read,
+        Told::Value(13),
+        Some((13, 1, Some(0), true)),
+    ),
+    (
+        0,
+        0,
+        Step::Reads,
+        Told::Count(1),
+        Some((13, 1, Some(0), true)),
+    ),
+    (
+        0,
+        1,
+        Step::Allocate(20),
+        Told::At(1),
+        Some((20, 1, Some(0), false)),
+    ),
+    (
+        0,
+        1,
+        Step::Peek,
+        Told::NotLive,
+        Some((20, 1, Some(0), false)),
+    ),
+    (
+        0,
+        1,
+        Step::Owned,
+        Told::Count(2),
+        Some((20, 1, Some(0), false)),
+    ),
+    // Both are rolled back, the last entry first.
+    (
+        0,
+        1,
+        Step::Undo,
+        Told::More(true),
+        Some((20, 2, None, false)),
+    ),
+    (
+        0,
+        0,
+        Step::Undo,
+        Told::More(false),
+        Some((10, 2, None, true)),
+    ),
+    (
+        0,
+        0,
+        Step::Undo,
+        Told::More(false),
+        Some((10, 2, None, true)),
+    ),
+    (
+        1,
+        0,
+        Step::Undo,
+        Told::More(false),
+        Some((10, 2, None, true)),
+    ),
+    (1, 0, Step::Valid, Told::Valid, Some((10, 2, None, true))),
+    // Seat 1 reads again, and unprotected code writes there.
+    (1, 0, Step::Read, Told::Value(10), Some((10, 2, None, true))),
+    (
+        1,
+        2,
+        Step::Allocate(30),
+        Told::At(2),
+        Some((30, 1, Some(1), false)),
+    ),
+    (
+        1,
+        2,
+        Step::Write(31),
+        Told::Done,
+        Some((31, 1, Some(1), false)),
+    ),
+    (
+        0,
+        0,
+        Step::Put(14),
+        Told::Value(10),
+        Some((14, 4, None, true)),
+    ),
+    (
+        1,
+        0,
+        Step::Valid,
+        Told::Bad(0, 2, 4),
+        Some((14, 4, None, true)),
+    ),
+    (1, 2, Step::Release, Told::Done, Some((31, 2, None, true))),
+    (0, 2, Step::Peek, Told::Value(31), Some((31, 2, None, true))),
+    (1, 2, Step::Owned, Told::Count(0), Some((31, 2, None, true))),
+    (2, 0, Step::Read, Told::Unmet, Some((14, 4, None, true))),
+    (0, 3, Step::Read, Told::Unmet, None),
+];
+
+/// Whether each cell's number is far from the last one.
+fn may_grow<V>(memory: &Memory<V>) -> bool
+    ensures { IsTrue result → All CanGrow memory.now.cells }
+{
+    let cells = memory.cells();
+    for l in 0..cells.len() {
+        if cells.cell(Loc(l)).number >= 1 << 62 {
+            return false;
+        }
+    }
+    true
+}
+
+/// A new cell that no seat owns.
+fn born<V: Sample>(memory: &mut Memory<V>, value: V) -> Result<Told, NoMemory> {
+    if memory.cells().len() == u32::MAX {
+        return Ok(Told::Unmet);
+    }
+    let l = memory.born(Sort::Protected, TyNo(7), value)?;
+    Ok(Told::At(l.0))
+}
+
+/// A new cell of a seat.
+fn allocate<V: Sample>(
+    memory: &mut Memory<V>,
+    seat: u32,
+    value: V,
+    input: V,
+) -> Result<Told, NoMemory>
+    requires { seat < length memory.old.rows }
+{
+    if memory.cells().len() == u32::MAX {
+        return Ok(Told::Unmet);
+    }
+    let l = memory.allocate(seat, Sort::Protected, TyNo(7), value, input)?;
+    Ok(Told::At(l.0))
+}
+
+/// A write by a seat.
+fn write<V: Sample>(
+    memory: &mut Memory<V>,
+    seat: u32,
+    l: Loc,
+    value: V,
+    input: V,
+) -> Result<Told, NoMemory>
+    requires seat { seat < length memory.old.rows }
+    requires location { l.0 < length memory.old.cells }
+    requires can_grow { ForSome (slice_get memory.old.cells l.0) CanGrow }
+{
+    match memory.write(seat, l, value, input)? {
+        WriteAnswer::Done => Ok(Told::Done),
+        WriteAnswer::Conflict(owner, back) => Ok(Told::Conflict(owner, back.number())),
+    }
+}
+
+/// The committed value of a location.
+fn peek<V: Sample>(memory: &Memory<V>, l: Loc) -> Result<Told, NoMemory> {
+    if memory.committed(l).is_none() {
+        return Ok(Told::NotLive);
+    }
+    let value = memory.peek(l)?;
+    Ok(Told::Value(value.number()))
+}
+
+/// A write of unprotected code, where no seat owns the cell.
+fn put<V: Sample>(memory: &mut Memory<V>, l: Loc, value: V) -> Told
+    requires location { l.0 < length memory.old.cells }
+    requires can_grow { ForSome (slice_get memory.old.cells l.0) CanGrow }
+{
+    if memory.cells().cell(l).owner.is_some() {
+        return Told::Unmet;
+    }
+    Told::Value(memory.put(l, value).number())
+}
+
+/// Whether there is a cell at the location, and its number is far from the last one.
+fn can_grow<V>(cells: &Store<V>, l: Loc) -> bool
+    ensures location { IsTrue result → l.0 < length cells.now }
+    ensures can_grow { IsTrue result → ForSome (slice_get cells.now l.0) CanGrow }
+{
+    l.0 < cells.len() && cells.cell(l).number < 1 << 62
+}
+
+/// A call at a location, where what it needs holds.
+fn perform_at<V: Sample>(
+    global: Global,
+    memory: &mut Memory<V>,
+    seat: u32,
+    l: Loc,
+    step: Step,
+) -> Result<Told, NoMemory>
+    requires { seat < length memory.old.rows }
+{
+    if !can_grow(memory.cells(), l) {
+        return Ok(Told::Unmet);
+    }
+    match step {
+        Step::Read => Ok(Told::Value(memory.read(seat, l)?.number())),
+        Step::Write(n) => write(memory, seat, l, V::of(global, n)?, V::of(global, 0)?),
+        Step::Put(n) => Ok(put(memory, l, V::of(global, n)?)),
+        _ => Ok(Told::Unmet),
+    }
+}
+
+/// A call of a seat that is there.
+fn perform_by<V: Sample>(
+    global: Global,
+    memory: &mut Memory<V>,
+    seat: u32,
+    l: Loc,
+    step: Step,
+) -> Result<Told, NoMemory>
+    requires { seat < length memory.old.rows }
+{
+    match step {
+        Step::Valid => match memory.valid(seat) {
+            None => Ok(Told::Valid),
+            Some(bad) => Ok(Told::Bad(bad.loc.0, bad.read, bad.now)),
+        },
+        Step::Reads => Ok(Told::Count(memory.row(seat).reads().len())),
+        Step::Owned => Ok(Told::Count(memory.owned(global, seat)?.len())),
+        Step::Undo if may_grow(memory) => Ok(Told::More(memory.undo_last(seat))),
+        Step::Release if may_grow(memory) => {
+            memory.release_all(seat);
+            Ok(Told::Done)
+        }
+        _ => perform_at(global, memory, seat, l, step),
+    }
+}
+
+/// Makes the call, where what it needs holds.
+fn perform<V: Sample>(
+    global: Global,
+    memory: &mut Memory<V>,
+    seat: u32,
+    l: Loc,
+    step: Step,
+) -> Result<Told, NoMemory> {
+    if seat as usize >= memory.seats() {
+        return Ok(Told::Unmet);
+    }
+    match step {
+        Step::Born(n) => born(memory, V::of(global, n)?),
+        Step::Allocate(n) => allocate(memory, seat, V::of(global, n)?, V::of(global, 0)?),
+        Step::Peek => peek(memory, l),
+        _ => perform_by(global, memory, seat, l, step),
+    }
+}
+
+/// The cell at a location, where there is one.
+fn state<V: Sample>(cells: &Store<V>, l: Loc) -> Option<State> {
+    if l.0 >= cells.len() {
+        return None;
+    }
+    let cell = cells.cell(l);
+    Some((cell.value.number(), cell.number, cell.owner, cell.live))
+}
+
+/// Makes the calls, and answers how many of them told and left what the table says.
+fn as_told<V: Sample>(global: Global, memory: &mut Memory<V>) -> Result<usize, NoMemory> {
+    for (count, &(seat, l, step, told, after)) in STEPS.iter().enumerate() {
+        let l = Loc(l);
+        if perform(global, memory, seat, l, step)? != told || state(memory.cells(), l) != after {
+            return Ok(count);
+        }
+    }
+    Ok(STEPS.len())
+}
+
+#[test]
+fn two_seats_at_integers(rt: HostRuntime) -> Result<(), Fail> {
+    let mut memory = Memory::<i64>::new(rt.alloc(), Store::new(rt.alloc()), 2)?;
+    assert_eq!(rt; as_told(rt.alloc(), &mut memory)?, STEPS.len());
+    let cells = memory.into_cells();
+    assert_eq!(rt; state(&cells, Loc(0)), Some((14, 4, None, true)));
+    Ok(())
+}
+
+#[test]
+fn two_seats_at_a_value_that_takes_memory(rt: HostRuntime) -> Result<(), Fail> {
+    let mut memory = Memory::<Kept>::new(rt.alloc(), Store::new(rt.alloc()), 2)?;
+    assert_eq!(rt; as_told(rt.alloc(), &mut memory)?, STEPS.len());
+    Ok(())
+}
+
+fn crosses_threads<T: Send>(_: &T) {}
+
+/// Whatever a shared memory holds, it may be sent where its values may.
+fn all_cross_threads<V: Send>(memory: &Memory<V>, answer: &WriteAnswer<V>) {
+    crosses_threads(memory);
+    crosses_threads(answer);
+}

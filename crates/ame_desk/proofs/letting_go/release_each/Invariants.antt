@@ -1,7 +1,0 @@
--- What is left of the log does to the cells now what all of it did to those before.
-use Rattle.std.proofs.Common.{drop}
-use Rattle.ame_desk.proofs.LettingGoLemmas.{Releasing}
-use Rattle.ame_desk.proofs.letting_go.release_each.Given as goal
-
-abbrev pub invariant-loop-undo : goal.invariant-loop-undo
-invariant-loop-undo g l = Releasing l.seat l.fn.store l.store (drop l.undo-index l.undos)

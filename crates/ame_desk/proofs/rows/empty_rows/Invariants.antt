@@ -1,7 +1,0 @@
--- The rows so far are empty.
-use Rattle.std.proofs.Common.{◌≡◌, map, replicate}
-use Rattle.ame_desk.specs.Contents.{no_notes, without_room}
-use Rattle.ame_desk.proofs.rows.empty_rows.Given as goal
-
-abbrev pub invariant-loop : goal.invariant-loop
-invariant-loop g l = map without_room l.rows.items ≡ replicate l.counter no_notes

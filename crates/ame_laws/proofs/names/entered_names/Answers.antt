@@ -1,5 +1,0 @@
-use Rattle.ame_laws.proofs.NamesLemmas.{is_free-entered}
-use Rattle.ame_laws.proofs.names.entered_names.Goals as goal
-
-pub returns : goal.returns
-returns c = is_free-entered

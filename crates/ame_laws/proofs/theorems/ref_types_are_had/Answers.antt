@@ -1,0 +1,8 @@
+use Rattle.ame_laws.proofs.RefsLemmas.{refs_had, refs_are}
+use Rattle.ame_laws.proofs.theorems.ref_types_are_had.Goals as goal
+
+pub returns : goal.returns
+returns c = record {
+  had = λ devices cells places g q i e t h. refs_had devices cells h places i;
+  only = λ devices cells places g q i e ts h. refs_are devices cells h places i;
+}

@@ -1,0 +1,5 @@
+use Rattle.ame_laws.proofs.Complete.{complete}
+use Rattle.ame_laws.proofs.theorems.table_gives_what_is_had.Goals as goal
+
+pub returns : goal.returns
+returns c = λ devices cells places g q i e t h. complete devices cells h places i

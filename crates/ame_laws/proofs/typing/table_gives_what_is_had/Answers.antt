@@ -1,5 +1,0 @@
-use Rattle.ame_laws.proofs.Complete.{complete}
-use Rattle.ame_laws.proofs.typing.table_gives_what_is_had.Goals as goal
-
-pub returns : goal.returns
-returns c = λ devices cells places g q i e t h. complete devices cells h places i

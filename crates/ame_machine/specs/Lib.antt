@@ -1,0 +1,11 @@
+pub mod MachineView
+pub mod Meaning
+pub mod Need
+pub mod Move
+pub mod Input
+pub mod Sound
+pub mod Comes
+pub mod Acting
+pub mod Ahead
+pub mod AcceptedProgram
+pub mod Run

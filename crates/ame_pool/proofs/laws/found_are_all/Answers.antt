@@ -1,5 +1,0 @@
-use Rattle.ame_pool.proofs.MemberLemmas.{rising_same}
-use Rattle.ame_pool.proofs.laws.found_are_all.Goals as goal
-
-pub returns : goal.returns
-returns g c = λ ms os r s h. rising_same ms os r s h

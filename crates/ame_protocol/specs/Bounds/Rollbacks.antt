@@ -1,0 +1,48 @@
+-- How often members were rolled back, and why rows are undone.
+use Rattle.std.specs.Prelude.{◌≡◌, ℕ, ◌+◌, ◌*◌, ◌<◌, ◌≤◌, true, List, length, All, IsSomeAnd, option_map, unwrap_or}
+use Rattle.std.specs.List.{sum_by}
+use Rattle.ame_term.specs.Tree.{Tree}
+use Rattle.ame_pool.specs.declared.member.Member.{Member}
+use Rattle.ame_pool.specs.Members.{find}
+use Rattle.ame_pool.specs.Roster.{Roster}
+use Rattle.ame_pool.specs.Standings.{max_rollbacks}
+use Rattle.ame_protocol.specs.declared.types.Reason.{Reason}
+use Rattle.ame_protocol.specs.declared.types.Task.{Task}
+use Rattle.ame_protocol.specs.Engine.Parts.{Parts, task_at}
+use Rattle.ame_protocol.specs.Bounds.Seats.{over_seats}
+
+-- how often all members together were rolled back, each since its last entry
+abbrev pub rollbacks_in : List (Member Tree) → ℕ
+rollbacks_in members = sum_by (λ m. m.rollbacks) members
+
+-- how often the member with a number was, if there is one
+abbrev pub rollbacks_at : ℕ → Roster Tree → ℕ
+rollbacks_at number pool = unwrap_or (option_map (λ m. m.rollbacks) (find number pool.members)) 0
+
+module _ {M : Type 0} where
+  -- it may be rolled back once more
+  abbrev pub MayTurnBack : ℕ → Roster M → Type 0
+  MayTurnBack number pool = IsSomeAnd (find number pool.members) (λ m. m.rollbacks < max_rollbacks)
+
+  -- no member was rolled back more often than it may be
+  abbrev pub IsWithinRollbacks : Roster M → Type 0
+  IsWithinRollbacks pool = All (λ m. m.rollbacks ≤ max_rollbacks) pool.members
+
+-- What is so where a row is undone, by the reason: its member may be rolled back once more; an entry tells of it; or a stop is kept.
+abbrev pub HasReason : Parts → Task → Type 0
+HasReason parts (Task.Undoing attempt Reason.RolledBack) = MayTurnBack attempt.tried.number parts.pool
+HasReason parts (Task.Undoing attempt Reason.Noted) = attempt.logged ≡ true
+HasReason parts (Task.Undoing attempt Reason.Stopped) = parts.stopped ≡ true
+HasReason parts _ = Unit {0}
+
+-- one where a seat brings a member home that turned back, whose rollback isn't counted yet
+abbrev pub turning_back : Task → ℕ
+turning_back (Task.Undoing attempt Reason.RolledBack) = 1
+turning_back _ = 0
+
+-- So many answers turned a member back: no more than a member may be rolled back for each entry, than the members were rolled
+-- back since their last entries, and than one for each seat that brings such a member home.
+abbrev pub AreRefusedRarely : ℕ → Parts → Type 0
+AreRefusedRarely refused parts =
+    refused ≤ max_rollbacks * length parts.entries
+    + (rollbacks_in parts.pool.members + over_seats parts.limits.seats (λ seat. turning_back (task_at parts.tasks seat)))

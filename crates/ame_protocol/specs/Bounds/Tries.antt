@@ -1,0 +1,45 @@
+-- How many tries of each member left no entry.
+use Rattle.std.specs.Prelude.{◌≡◌, ℕ, ◌+◌, ◌*◌, ◌≤◌, ◌==◌, false, List, [], length, Some}
+use Rattle.std.specs.List.{count_by}
+use Rattle.ame_journal.specs.declared.entry.Entry.{Entry}
+use Rattle.ame_pool.specs.Standings.{max_rollbacks}
+use Rattle.ame_protocol.specs.declared.types.Tried.{Tried}
+use Rattle.ame_protocol.specs.declared.types.Task.{Task}
+use Rattle.ame_protocol.specs.Engine.Parts.{Parts, task_at, member_of}
+use Rattle.ame_protocol.specs.Bounds.Seats.{over_seats}
+use Rattle.ame_protocol.specs.Bounds.Rollbacks.{rollbacks_at}
+
+-- the tries of a member
+abbrev pub tries_of : ℕ → List Tried → ℕ
+tries_of number tried = count_by (λ t. t.number == number) tried
+
+-- its entries
+abbrev pub entries_of : ℕ → List Entry → ℕ
+entries_of number entries = count_by (λ e. e.number == number) entries
+
+-- how often a number is in a list
+abbrev pub times : ℕ → List ℕ → ℕ
+times number numbers = count_by (λ n. n == number) numbers
+
+-- one where a seat has a member at work
+abbrev pub at_work : Task → ℕ
+at_work Task.Idle = 0
+at_work _ = 1
+
+-- A list of late members, whose rows were emptied by a stop. Each member has at most so many tries as it may be rolled back for
+-- each of its entries, as it was rolled back since the last one, and one more if it is late. No member is late before a stop, and
+-- none twice; none is at work, and there are no more of them than seats without work.
+pub record AreTriesFew (late : List ℕ) (parts : Parts) : Type 0 where
+  pub few : (i : ℕ) → tries_of i parts.tried ≤ max_rollbacks * entries_of i parts.entries + (rollbacks_at i parts.pool + times i late)
+  pub calm : parts.stopped ≡ false → late ≡ []
+  pub once : (i : ℕ) → times i late ≤ 1
+  pub away : (seat i : ℕ) → member_of (task_at parts.tasks seat) ≡ Some i → times i late ≡ 0
+  pub room : length late + over_seats parts.limits.seats (λ seat. at_work (task_at parts.tasks seat)) ≤ parts.limits.seats
+
+-- Each member has at most so many tries as it may be rolled back, for each of its entries and once more; and at most one more
+-- than that for each of the late members, of which there is at most one a seat.
+pub record HasFewTries (seats : ℕ) (entries : List Entry) (tried : List Tried) : Type 0 where
+  pub late : List ℕ
+  pub seats_enough : length late ≤ seats
+  pub apart : (i : ℕ) → times i late ≤ 1
+  pub few : (i : ℕ) → tries_of i tried ≤ max_rollbacks * (entries_of i entries + 1) + times i late

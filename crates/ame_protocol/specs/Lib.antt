@@ -1,0 +1,5 @@
+pub mod Row
+pub mod Engine
+pub mod Waits
+pub mod Visits
+pub mod Bounds

@@ -1,0 +1,63 @@
+-- An engine that is opened from a base: entries that were made before.
+use Rattle.std.specs.Prelude.{◌≡◌, ◌<◌, ◌≤◌, ℕ, ℤ, List, [], Option, Some, None, length, replicate, slice_index_or, false, if◌then◌else◌}
+use Rattle.ame_term.specs.Tree.{Typ, Val, Tree}
+use Rattle.ame_term.specs.Maps.{at}
+use Rattle.ame_term.specs.State.{State}
+use Rattle.ame_laws.specs.Typed.StoreTyping.{StoreTyping}
+use Rattle.ame_store.specs.declared.cell.Cell.{Cell}
+use Rattle.ame_store.specs.Cells.{IsFree, IsDead}
+use Rattle.ame_journal.specs.declared.entry.Entry.{Entry}
+use Rattle.ame_journal.specs.Replayed.{Replayed, is_inside}
+use Rattle.ame_pool.specs.Roster.{Roster}
+use Rattle.ame_pool.specs.Calls.{machine_of}
+use Rattle.ame_pool.specs.Keeps.{is_inside_at}
+use Rattle.ame_rows.specs.MemoryView.{no_log}
+use Rattle.ame_protocol.specs.Row.Heap.{no_cell, IsLive}
+use Rattle.ame_protocol.specs.declared.types.Limits.{Limits}
+use Rattle.ame_protocol.specs.declared.types.Task.{Task}
+use Rattle.ame_protocol.specs.Engine.Parts.{Parts}
+use Rattle.ame_protocol.specs.Engine.Simulates.{most_opened}
+
+-- an engine with a base, cells, members, an output and a next number; no turn is used, and each seat is idle
+abbrev pub opened : Tree → ℕ → Limits → List Entry → List (Cell Val) → Roster Tree → List ℤ → ℕ → Parts
+opened program devices limits base cells pool output next = record {
+  program = program;
+  devices = devices;
+  limits = limits;
+  base = base;
+  entries = [];
+  memory = record { cells = cells; rows = replicate limits.seats no_log };
+  tasks = replicate limits.seats Task.Idle;
+  pool = pool;
+  output = output;
+  next = next;
+  turns = 0;
+  tried = [];
+  stopped = false;
+}
+
+-- the cell at a location
+abbrev pub cell_of : List (Cell Val) → ℕ → Cell Val
+cell_of cells l = slice_index_or cells l no_cell
+
+-- what a store has where a cell is: the value of a live one
+abbrev pub stored_in : Cell Val → Option Val
+stored_in cell = if cell.live then Some cell.value else None
+
+-- Cells with which an engine may be opened from a state, whose locations have these types. No seat owns one, and none was
+-- written. The live ones are the store, each with the sort of its location; a dead one copies a live one.
+pub record AreOpened (types : StoreTyping) (cells : List (Cell Val)) (s : State) : Type 0 where
+  pub few : length cells ≤ most_opened
+  pub free : (l : ℕ) → IsFree (cell_of cells l)
+  pub unwritten : (l : ℕ) → (cell_of cells l).number ≡ 0
+  pub stored : (l : ℕ) → at s.store l ≡ stored_in (cell_of cells l)
+  pub sorts : (l : ℕ) → IsLive (cell_of cells l) → (content : Typ) × (types l ≡ Some ((cell_of cells l).sort, content))
+  pub copied : ℕ
+  pub copies : (l : ℕ) → l < length cells → IsDead (cell_of cells l)
+      → IsLive (cell_of cells copied) × ((cell_of cells l).sort ≡ (cell_of cells copied).sort)
+      × ((cell_of cells l).value ≡ (cell_of cells copied).value)
+
+-- a pool has the members of a state, and the same ones are inside
+pub record HasMembersOf (r : Replayed) (pool : Roster Tree) : Type 0 where
+  pub members : (i : ℕ) → at r.state.members i ≡ machine_of i pool
+  pub inside : (i : ℕ) → is_inside r i ≡ is_inside_at pool.members i

@@ -1,0 +1,15 @@
+//! The protocol of a speculating engine, as plain data: what its parts are, what each event makes of them, and what stands
+//! throughout. A law is a lemma of `proofs/`.
+#![tactic(auto)]
+
+mod theorems;
+mod types;
+
+pub use theorems::{
+    certificates_are_computed, ended_rows_commit, engines_open, engines_start,
+    exhausted_members_open_alone, few_rollbacks_are_bounded, journals_tell_the_calls_of_visits,
+    left_rows_commit, members_rise_after_visits, paid_turns_need_steps, rows_are_typed,
+    undo_logs_stand_after_an_undo, unprotected_code_wakes_nobody,
+    waiting_members_have_certificates,
+};
+pub use types::{Attempt, Limits, Reason, Task, Tried};

@@ -1,4 +1,0 @@
-pub mod CaseLemmas
-pub mod EntryLemmas
-pub mod LineLemmas
-pub mod WalkLemmas

@@ -1,9 +1,0 @@
-pub mod NeedLemmas
-pub mod MoveLemmas
-pub mod RunnableLemmas
-pub mod LowLemmas
-pub mod TermLemmas
-pub mod FeedLemmas
-pub mod SequenceLemmas
-pub mod MachineLemmas
-pub mod CopyLemmas

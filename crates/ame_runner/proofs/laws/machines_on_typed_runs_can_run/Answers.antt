@@ -1,5 +1,0 @@
-use Rattle.ame_runner.proofs.RunnableLemmas.{runs-typed}
-use Rattle.ame_runner.proofs.laws.machines_on_typed_runs_can_run.Goals as goal
-
-pub returns : goal.returns
-returns c = runs-typed

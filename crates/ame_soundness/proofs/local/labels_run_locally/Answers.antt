@@ -1,7 +1,0 @@
-use Rattle.ame_laws.proofs.Followed.{rule_of}
-use Rattle.ame_soundness.proofs.RunsLocally.{runs_locally}
-use Rattle.ame_soundness.proofs.local.labels_run_locally.Goals as goal
-
-pub returns : goal.returns
-returns c = λ devices cells s label t i term last typed orderly legal has member behind.
-    runs_locally devices cells s typed orderly i term last member label t (rule_of s label t legal) has behind

@@ -1,5 +1,0 @@
-use Rattle.ame_soundness.proofs.Progressed.{resting_progresses}
-use Rattle.ame_soundness.proofs.progress.resting_members_progress.Goals as goal
-
-pub returns : goal.returns
-returns c = λ devices cells s i term typed member idle. resting_progresses devices cells s typed i term member idle

@@ -1,5 +1,0 @@
-use Rattle.ame_soundness.proofs.GivenTypes.{label_kept}
-use Rattle.ame_soundness.proofs.states.labels_keep_given_types.Goals as goal
-
-pub returns : goal.returns
-returns c = λ devices cells s label t typed legal has. label_kept devices cells s typed label t legal has

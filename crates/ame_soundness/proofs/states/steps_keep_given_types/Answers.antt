@@ -1,5 +1,0 @@
-use Rattle.ame_soundness.proofs.GivenTypes.{step_kept}
-use Rattle.ame_soundness.proofs.states.steps_keep_given_types.Goals as goal
-
-pub returns : goal.returns
-returns c = λ devices cells s side kind i t typed made has. step_kept devices cells s typed side kind i t made has

@@ -1,3 +1,0 @@
-pub mod Nexts
-pub mod Table
-pub mod Forms

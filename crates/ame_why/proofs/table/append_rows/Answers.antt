@@ -1,0 +1,25 @@
+use Rattle.std.proofs.Common.{◌≡◌, ◌+◌, ◌-◌, ◌++◌, [], length, map, get_or, None, ap, ◌∙◌, arith}
+use Rattle.ame_why.specs.Table.{row, lines_at}
+use Rattle.ame_why.proofs.NextLemmas.{nexts_at, length-nexts}
+use Rattle.ame_why.proofs.RowLemmas.{rows_go_on}
+use Rattle.ame_why.proofs.table.append_rows.Goals as goal
+
+pub bounds-nexts-index : goal.bounds-nexts-index
+bounds-nexts-index c =
+    let same : length c.args.nexts.now ≡ length c.args.entries.now = ap length c.requires ∙ length-nexts c.args.entries.now in
+    omega arith
+
+pub loop-index-preserved : goal.loop-index-preserved
+loop-index-preserved c =
+    let i = c.loop-index.index in
+    let entries = c.args.entries.now in
+    let entry = c.index-entries-index.result in
+    let next = get_or c.args.nexts.now i None in
+    let page = c.loop-index.page.items in
+    let lines = map (λ v. v.items) c.args.lines.now in
+    let printed = c.line_at.result.now in
+    let same : i ≡ i + 1 - 1 = omega arith in
+    rows_go_on (lines_at lines) _ page _ entries i entry next printed c.loop-index-test.true c.loop-index.invariant
+    (ap (λ told. get_or told i None) c.requires ∙ nexts_at entries i entry None c.loop-index-test.true)
+    (c.line_at.ensures ∙ ap (λ k. get_or lines k []) same)
+    (c.in_ok-append_row.ensures ∙ ap (λ e. page ++ row (i + 1) e next printed) c.index-entries-index.is)

@@ -1,0 +1,134 @@
+//! Where the `ref` forms of a text are that made locations.
+
+ghost use Rattle.std.specs.Prelude.{◌≡◌, ◌++◌, ◌≤◌, All, IfOk, OnOk, decimal, length, slice_get};
+ghost use Rattle.std.specs.List.{flat_map};
+ghost use Rattle.ame_lex.specs.Bytes.{max_text};
+ghost use Rattle.ame_lex.specs.Reading.{tokens_of};
+ghost use Rattle.ame_lex.specs.Tokens.{IsWithin};
+ghost use Rattle.ame_why.specs.Forms as spec;
+
+use crate::page::{append, append_column};
+use crate::{Position, position_of};
+use ame_lex::{LexFault, Token, lex};
+use ame_term::{Loc, NoMemory, TyNo, push};
+use itoa::Buffer;
+use std::alloc::Global;
+
+/// A location, and the `ref` form that made it.
+#[derive(Clone, Copy, PartialEq, Eq, Debug)]
+pub struct Made {
+    pub location: Loc,
+    pub form: TyNo,
+}
+
+/// A line that names the columns, and a line for each location: the line and the column of the word of the `ref` form that made it.
+/// Forms are counted from 0 in the order of the text. Time is linear in the locations, and in the text for each form.
+pub fn forms_of(alloc: Global, text: &[u8], made: &[Made]) -> Result<Vec<u8>, NoMemory>
+    requires { length text.now ≤ max_text }
+    ensures { IfOk result (λ page. page.items
+        ≡ spec.form_table (spec.positions text.now (spec.tokens_or_none (tokens_of text.now))) made.now) }
+{
+    let tokens = tokens_in(alloc, text)?;
+    let places = positions(alloc, text, &tokens)?;
+    let mut page = Vec::new(alloc);
+    append(&mut page, b"location  ref form\n")?;
+    append_forms(&mut page, &places, made)?;
+    Ok(page)
+}
+
+/// The tokens of a text; none where it has a fault.
+fn tokens_in(alloc: Global, text: &[u8]) -> Result<Vec<Token>, NoMemory>
+    requires { length text.now ≤ max_text }
+    ensures tokens { IfOk result (λ tokens. tokens.items ≡ spec.tokens_or_none (tokens_of text.now)) }
+    ensures within { IfOk result (λ tokens. All (IsWithin text.now) tokens.items) }
+{
+    match lex(alloc, text) {
+        Ok(tokens) => Ok(tokens),
+        Err(LexFault::NoMemory) => Err(NoMemory),
+        Err(LexFault::BadByte(_) | LexFault::LongNumber(_)) => Ok(Vec::new(alloc)),
+    }
+}
+
+/// Where the `ref` forms are.
+fn positions(alloc: Global, text: &[u8], tokens: &[Token]) -> Result<Vec<Position>, NoMemory>
+    requires { All (IsWithin text.now) tokens.now }
+    ensures { IfOk result (λ places. places.items ≡ spec.positions text.now tokens.now) }
+{
+    let mut places = Vec::new(alloc);
+    for token in tokens {
+        note_form(&mut places, text, token)?;
+    }
+    Ok(places)
+}
+
+/// Adds where a token is, if it is the word of a `ref` form.
+#[tactic(auto, unfolding(crate::specs::Forms::form_position))]
+fn note_form(places: &mut Vec<Position>, text: &[u8], token: &Token) -> Result<(), NoMemory>
+    requires { IsWithin text.now token.now }
+    ensures { OnOk result (places.new.items ≡ places.old.items ++ spec.form_position text.now token.now) }
+{
+    if is_form(text, token) {
+        push(places, position_of(text, token.start as usize))?;
+    }
+    Ok(())
+}
+
+/// Whether a token is the word of a `ref` form.
+fn is_form(text: &[u8], token: &Token) -> bool
+    requires { IsWithin text.now token.now }
+    ensures { result ≡ spec.is_form text.now token.now }
+{
+    &text[token.start as usize..token.end as usize] == b"ref".as_slice()
+}
+
+/// Adds a row for each location.
+fn append_forms(page: &mut Vec<u8>, places: &[Position], made: &[Made]) -> Result<(), NoMemory>
+    ensures { OnOk result (page.new.items ≡ page.old.items ++ flat_map (spec.form_row places.now) made.now) }
+{
+    for one in made {
+        append_form(page, places, *one)?;
+    }
+    Ok(())
+}
+
+/// Adds the row of a location.
+#[tactic(auto, unfolding(crate::specs::Forms::form_row))]
+fn append_form(page: &mut Vec<u8>, places: &[Position], made: Made) -> Result<(), NoMemory>
+    ensures { OnOk result (page.new.items ≡ page.old.items ++ spec.form_row places.now made) }
+{
+    append_column(page, 8, u64::from(made.location.0))?;
+    append(page, b" ")?;
+    append_position(page, position_at(places, made.form))?;
+    append(page, b"\n")
+}
+
+/// The position of the form with this number.
+fn position_at(places: &[Position], form: TyNo) -> Option<Position>
+    ensures { result ≡ slice_get places.now form.0 }
+{
+    if (form.0 as usize) < places.len() {
+        Some(places[form.0 as usize])
+    } else {
+        None
+    }
+}
+
+/// Adds a line and a column.
+fn append_position(page: &mut Vec<u8>, at: Option<Position>) -> Result<(), NoMemory>
+    ensures { OnOk result (page.new.items ≡ page.old.items ++ spec.position_words at) }
+{
+    let Some(at) = at else {
+        return append(page, b"unknown");
+    };
+    append_number(page, at.line)?;
+    append(page, b":")?;
+    append_number(page, at.column)
+}
+
+/// Adds a number.
+fn append_number(page: &mut Vec<u8>, number: usize) -> Result<(), NoMemory>
+    ensures { OnOk result (page.new.items ≡ page.old.items ++ decimal number) }
+{
+    let mut buffer = Buffer::new();
+    append(page, buffer.format(number as u64).as_bytes())
+}

@@ -1,0 +1,12 @@
+pub mod MemberLemmas
+pub mod Laid
+pub mod HeldSteps
+pub mod FreeSteps
+pub mod LetGo
+pub mod WayLemmas
+pub mod EntryLemmas
+pub mod Follow
+pub mod StraightLemmas
+pub mod TryLemmas
+pub mod LabelLemmas
+pub mod ReleaseLemmas

@@ -1,0 +1,76 @@
+-- Each weak run of an accepted program is a strong one: its journal leads to the same end.
+use Rattle.std.proofs.Common.{◌≡◌, ℕ, ◌++◌, ◌⊎◌, inl, inr, List, [], ◌∷◌, Option, Some, None, option_and_then, refl, sym, ap, ◌∙◌, subst}
+use Rattle.std.proofs.lemmas.Option.{option_and_then_some}
+use Rattle.ame_term.specs.Tree.{Typ, Tree}
+use Rattle.ame_term.specs.SourceTerm.{IsSourceTerm}
+use Rattle.ame_term.specs.Typing.{Accepts}
+use Rattle.ame_term.specs.declared.semantics.Label.{Label}
+use Rattle.ame_journal.specs.Replayed.{Replayed, begun_at}
+use Rattle.ame_journal.specs.Replay.{replay_from, replay}
+use Rattle.ame_journal.specs.Calls.{label_call, of_next, device_calls_from, device_calls}
+use Rattle.ame_journal.proofs.ReplayLemmas.{replay_from-append}
+use Rattle.ame_journal.proofs.ReachedLemmas.{calm-replayed}
+use Rattle.ame_journal.proofs.TypedLemmas.{typed-replayed}
+use Rattle.ame_journal.proofs.CallLemmas.{calls-appended}
+use Rattle.ame_weak.specs.Weak.{Weak, holding_none, weak_start, weak_run, weak_calls}
+use Rattle.ame_weak.specs.Straight.{Place, outset, entries_of, past, straight_from, straight}
+use Rattle.ame_weak.proofs.WayLemmas.{IsUnderWay}
+use Rattle.ame_weak.proofs.Follow.{IsFollowed, follow-label}
+
+-- where labels have come to
+abbrev pub past_all : Place → List Label → Place
+past_all p [] = p
+past_all p (label ∷ labels) = past_all (past p label) labels
+
+-- The entries of labels lead where they lead, and make the same calls.
+pub record IsFollowedAlong (devices : ℕ) (r : Replayed) (p : Place) (w : Weak) (labels : List Label) (v : Weak) : Type 0 where
+  pub behind : Replayed
+  pub replays : replay_from r (straight_from p labels) ≡ Some behind
+  pub called : (k : ℕ) → device_calls_from k r (straight_from p labels) ≡ weak_calls k w labels
+  pub follows : IsFollowed devices behind (past_all p labels) v
+
+pub follow-labels : (devices : ℕ) (r : Replayed) (p : Place) (w v : Weak) (labels : List Label) → IsFollowed devices r p w → weak_run w labels ≡ Some v
+    → IsFollowedAlong devices r p w labels v
+follow-labels devices r p w v [] f e =
+    let same : w ≡ v = cc in
+    record { behind = r; replays = refl; called = λ k. refl; follows = subst (IsFollowed devices r p) same f }
+follow-labels devices r p w v (label ∷ labels) f e =
+    option_and_then_some _ _ _ e (λ x first rest.
+    let a = follow-label devices r p w x label f first in
+    let b = follow-labels devices a.behind (past p label) x v labels a.follows rest in
+    record {
+      behind = b.behind;
+      replays =
+          replay_from-append r (entries_of p label) (straight_from (past p label) labels)
+          ∙ ap (λ (o : Option Replayed). option_and_then (λ t. replay_from t (straight_from (past p label) labels)) o) a.replays ∙ b.replays;
+      called = λ k.
+          calls-appended k r a.behind (entries_of p label) (straight_from (past p label) labels) a.replays
+          ∙ ap (λ xs. xs ++ device_calls_from k a.behind (straight_from (past p label) labels)) (a.called k)
+          ∙ ap (λ xs. label_call k w.state label ++ xs) (b.called k)
+          ∙ ap (λ (o : Option Weak). label_call k w.state label ++ of_next (λ z. weak_calls k z labels) o) (sym first);
+      follows = b.follows;
+    })
+
+-- with nothing active, the weak state is the strong one
+pub ends-strong : (devices : ℕ) (r : Replayed) (p : Place) (w : Weak) → IsFollowed devices r p w → w.state.active ≡ None → w ≡ holding_none r.state
+ends-strong devices r p w f idle = by f.stands
+  where
+    by : (w ≡ holding_none r.state) ⊎ IsUnderWay devices r.state p.number p.steps p.fresh w → w ≡ holding_none r.state
+    by (inl is) = is
+    by (inr u) = let clash : ◌≡◌ {A = Option ℕ} (Some p.number) None = sym u.laid.active ∙ idle in absurd (cc)
+
+module _ (devices : ℕ) (places : List ℕ) (program : Tree) (refs : List Typ) (accepts : Accepts devices places program refs) (source : IsSourceTerm program) where
+  pub begun-followed : IsFollowed devices (begun_at program) outset (weak_start program)
+  begun-followed =
+      let typed = typed-replayed devices places program refs [] (begun_at program) accepts source refl in
+      record { calm = calm-replayed program [] (begun_at program) refl; cells = typed.0; typed = typed.1; inside = refl; stands = inl refl }
+
+  pub weak_runs_straighten : (labels : List Label) (w : Weak) → weak_run (weak_start program) labels ≡ Some w → w.state.active ≡ None
+      → (r : Replayed) × (replay program (straight labels) ≡ Some r) × (w ≡ holding_none r.state)
+  weak_runs_straighten labels w e idle =
+      let a = follow-labels devices (begun_at program) outset (weak_start program) w labels begun-followed e in
+      (a.behind, a.replays, ends-strong devices a.behind (past_all outset labels) w a.follows idle)
+
+  pub weak_calls_are_told : (k : ℕ) (labels : List Label) (w : Weak) → weak_run (weak_start program) labels ≡ Some w
+      → device_calls k program (straight labels) ≡ weak_calls k (weak_start program) labels
+  weak_calls_are_told k labels w e = (follow-labels devices (begun_at program) outset (weak_start program) w labels begun-followed e).called k

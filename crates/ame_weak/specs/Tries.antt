@@ -1,0 +1,56 @@
+-- Fragments that were tried, as notes in a journal.
+use Rattle.std.specs.Prelude.{◌≡◌, ℕ, ◌+◌, ◌==◌, Bool, true, List, [], ◌∷◌, ◌++◌, length, None, is_some, if◌then◌else◌}
+use Rattle.std.specs.List.{AllByRecursion}
+use Rattle.ame_term.specs.Tree.{Tree}
+use Rattle.ame_term.specs.declared.semantics.Label.{Label}
+use Rattle.ame_journal.specs.declared.entry.Entry.{Entry}
+use Rattle.ame_journal.specs.declared.entry.EntryKind.{EntryKind}
+use Rattle.ame_journal.specs.Replay.{fragment, fails_after}
+use Rattle.ame_weak.specs.Weak.{Weak, IsWeakRun}
+use Rattle.ame_weak.specs.Straight.{Place, entries_of, past}
+use Rattle.ame_weak.specs.declared.tries.Try.{Try}
+
+-- What a try tells of a weak state where nothing is active: its fragment comes to a condition that is false, or
+-- its steps can be made.
+abbrev pub holds_in : Weak → Try → Bool
+holds_in w t =
+    let c = t.certificate in
+    if t.failing then fails_after w.state c.number c.steps c.fresh else is_some (fragment c.number c.steps c.fresh w.state)
+
+abbrev pub HoldsIn : Weak → Try → Type 0
+HoldsIn w t = (w.state.active ≡ None) × (holds_in w t ≡ true)
+
+-- a try holds where the labels before it lead
+abbrev pub IsTried : Tree → List Label → Try → Type 0
+IsTried program labels t =
+    (front rest : List Label) (w : Weak) → labels ≡ front ++ rest → length front ≡ t.after → IsWeakRun program front w → HoldsIn w t
+
+-- each try holds
+abbrev pub AreTried : Tree → List Label → List Try → Type 0
+AreTried program labels tries = AllByRecursion (IsTried program labels) tries
+
+-- the note that tells a try
+abbrev pub note_for : Try → Entry
+note_for t = record {
+  kind = if t.failing then EntryKind.Stuck else EntryKind.Cut;
+  seat = 0;
+  number = t.certificate.number;
+  steps = t.certificate.steps;
+  fresh = t.certificate.fresh;
+  answer = None;
+}
+
+-- the notes of the first tries, which were made after n labels
+abbrev pub noted_tries : ℕ → List Try → List Entry
+noted_tries n [] = []
+noted_tries n (t ∷ tries) = if t.after == n then note_for t ∷ noted_tries n tries else []
+
+-- the tries behind those
+abbrev pub later : ℕ → List Try → List Try
+later n [] = []
+later n (t ∷ tries) = if t.after == n then later n tries else t ∷ tries
+
+-- the entries of labels from here, which is after n labels, with the notes of the tries in order
+abbrev pub straight_with : ℕ → List Try → Place → List Label → List Entry
+straight_with n tries p [] = noted_tries n tries
+straight_with n tries p (label ∷ labels) = noted_tries n tries ++ (entries_of p label ++ straight_with (n + 1) (later n tries) (past p label) labels)

@@ -1,0 +1,45 @@
+//! Theorems: promises of this crate that nothing above it cites, each the statement of a lemma.
+
+ghost use Rattle.std.specs.Prelude.{◌≡◌, ℕ, List, Some, None};
+ghost use Rattle.ame_term.specs.View.{tree_of};
+ghost use Rattle.ame_term.specs.declared.semantics.Label.{Label};
+ghost use Rattle.ame_journal.specs.Replayed.{Replayed};
+ghost use Rattle.ame_journal.specs.Replay.{replay};
+ghost use Rattle.ame_journal.specs.Calls.{device_calls};
+ghost use Rattle.ame_weak.specs.Weak.{Weak, IsWeakRun, holding_none, weak_start, weak_calls};
+ghost use Rattle.ame_weak.specs.Straight.{straight, outset};
+ghost use Rattle.ame_weak.specs.Tries.{AreTried, straight_with};
+ghost use Rattle.ame_weak.specs.declared.tries.Try.{Try};
+
+use ame_term::Accepted;
+
+/// A weak run of an accepted program looks strong: where nothing is active at its end, the journal of
+/// its labels leads to the same state, with the same store, members, output and next number.
+pub fn weak_runs_straighten(accepted: &Accepted)
+    ensures { (labels : List Label) (w : Weak) → IsWeakRun (tree_of accepted.now.program.term) labels w → w.state.active ≡ None →
+        (r : Replayed) × (replay (tree_of accepted.now.program.term) (straight labels) ≡ Some r) × (w ≡ holding_none r.state) }
+{}
+
+/// The journal of a weak run makes the calls of devices that the run makes, in the same order and with
+/// the same answers.
+pub fn weak_calls_are_told(accepted: &Accepted)
+    ensures { (device : ℕ) (labels : List Label) (w : Weak) → IsWeakRun (tree_of accepted.now.program.term) labels w →
+        device_calls device (tree_of accepted.now.program.term) (straight labels)
+        ≡ weak_calls device (weak_start (tree_of accepted.now.program.term)) labels }
+{}
+
+/// The same with the notes of fragments that were tried, each where it holds: a journal with them
+/// leads to the same state.
+pub fn tries_straighten(accepted: &Accepted)
+    ensures { (labels : List Label) (tries : List Try) (w : Weak) → AreTried (tree_of accepted.now.program.term) labels tries
+        → IsWeakRun (tree_of accepted.now.program.term) labels w → w.state.active ≡ None
+        → (r : Replayed) × (replay (tree_of accepted.now.program.term) (straight_with 0 tries outset labels) ≡ Some r) × (w ≡ holding_none r.state) }
+{}
+
+/// And it makes the same calls.
+pub fn calls_are_told_with(accepted: &Accepted)
+    ensures { (device : ℕ) (labels : List Label) (tries : List Try) (w : Weak) → AreTried (tree_of accepted.now.program.term) labels tries
+        → IsWeakRun (tree_of accepted.now.program.term) labels w
+        → device_calls device (tree_of accepted.now.program.term) (straight_with 0 tries outset labels)
+        ≡ weak_calls device (weak_start (tree_of accepted.now.program.term)) labels }
+{}

@@ -1,0 +1,148 @@
+-- How a walk begins, goes on by one step, and by steps alone.
+use Rattle.std.proofs.Common.{◌≡◌, ℕ, zero, suc, ◌+◌, ◌==◌, Bool, true, List, [], ◌∷◌, ◌++◌, Option, Some, None, is_none, if◌then◌else◌, refl, sym, ap, ◌∙◌, subst, arith, append_assoc}
+use Rattle.std.specs.Option.{option_and_then}
+use Rattle.std.proofs.lemmas.Option.{option_and_then_some}
+use Rattle.ame_term.specs.Tree.{Val, Tree}
+use Rattle.ame_term.specs.Frame.{Side, side_told}
+use Rattle.ame_term.specs.Act.{Act, act_of, device_answer}
+use Rattle.ame_term.specs.State.{State, after, reduce}
+use Rattle.ame_term.specs.declared.semantics.StepKind.{StepKind}
+use Rattle.ame_term.specs.declared.semantics.Label.{Label}
+use Rattle.ame_laws.specs.Orderly.{IsOrderly}
+use Rattle.ame_laws.proofs.OrderlyLemmas.{after-goes}
+use Rattle.ame_laws.proofs.Typed.Preserved.{kept}
+use Rattle.ame_journal.specs.Labels.{fresh_of}
+use Rattle.ame_journal.specs.Replayed.{is_at_unprotected}
+use Rattle.ame_journal.proofs.StepLemmas.{named}
+use Rattle.ame_journal.proofs.SupplyLemmas.{takes-more}
+use Rattle.ame_journal.proofs.ReplayLemmas.{steps-behind}
+use Rattle.ame_journal.proofs.LabelLemmas.{run-one}
+use Rattle.ame_journal.proofs.MovedLemmas.{free-moves}
+use Rattle.ame_machine.specs.Run.Local.{LocalState, one_step, goes, acted, with_inputs}
+use Rattle.ame_machine.specs.Run.AgreesWith.{AgreesWith}
+use Rattle.ame_machine.specs.MachineView.{MachineView, running_side, place_shown}
+use Rattle.ame_machine.specs.Move.{Advances}
+use Rattle.ame_machine.proofs.Run.RunLemmas.{Acts, step-is, step-of}
+use Rattle.ame_machine.proofs.Run.TypedLemmas.{goes-empty}
+use Rattle.ame_machine.proofs.Run.EffectLemmas.{step-made, unfed}
+use Rattle.ame_check.specs.Walk.{label_by, active_on, begun_on, steps_on, LeadsOnTo, IsStepping}
+use Rattle.ame_check.specs.Walked.{place_with}
+use Rattle.ame_check.proofs.HaltLemmas.{reduced-on}
+
+-- a place without inputs, answer and footprint, with these values set
+abbrev pub bare : List (ℕ × Val) → LocalState → LocalState
+bare sets p = record p { inputs = []; answer = None; seen = []; own = []; made = []; sets = sets }
+
+-- a reduction on a side is a legal label
+pub legal-on : (side : Side) (i : ℕ) (kind : StepKind) (t : State) → t.active ≡ active_on side i → after t (label_by side i kind) ≡ reduce side kind i t
+unfolding after
+legal-on Side.Protected i kind t is = ap (λ (o : Option ℕ). option_and_then (λ (j : ℕ). reduce Side.Protected kind j t) o) is
+legal-on Side.Unprotected i kind t is = ap (λ (o : Option ℕ). if is_none o then reduce Side.Unprotected kind i t else None) is
+
+module _ (devices : ℕ) (s : State) (i : ℕ) where
+  -- it stands under `unprotected` still
+  stands-on : (side : Side) (kind : StepKind) (t u : State) → IsOrderly t → after t (label_by side i kind) ≡ Some u → (side ≡ Side.Unprotected → is_at_unprotected i t ≡ true)
+      → side ≡ Side.Unprotected → is_at_unprotected i u ≡ true
+  stands-on Side.Protected kind t u orderly legal before e = absurd (cc)
+  stands-on Side.Unprotected kind t u orderly legal before e =
+      (free-moves i (kind ∷ []) t u orderly (run-one t u (Label.Free i kind) legal)).stands (before refl)
+
+  module _ (side : Side) (p : LocalState) (n : ℕ) (g : IsStepping devices s i side p n) where
+    goes-more : (kind : StepKind) (behind : State) (q : LocalState) → after g.now (label_by side i kind) ≡ Some behind → device_answer kind ≡ None → q.fresh ≡ p.fresh ++ fresh_of kind
+        → LeadsOnTo side i (n + 1) q.fresh (begun_on side i s) behind
+    goes-more kind behind q legal quiet used left rest answer =
+        let x = reduced-on side kind i g.now behind g.active legal in
+        let count : (n + 1) + left ≡ n + (left + 1) = omega arith in
+        let one : left + 1 ≡ suc left = omega arith in
+        ap (λ (k : ℕ). steps_on side i k (q.fresh ++ rest) answer (begun_on side i s)) count
+        ∙ ap (λ (xs : List ℕ). steps_on side i (n + (left + 1)) (xs ++ rest) answer (begun_on side i s)) used
+        ∙ ap (λ (xs : List ℕ). steps_on side i (n + (left + 1)) xs answer (begun_on side i s)) (append_assoc p.fresh (fresh_of kind) rest)
+        ∙ g.goes (left + 1) (fresh_of kind ++ rest) answer
+        ∙ ap (λ (k : ℕ). steps_on side i k (fresh_of kind ++ rest) answer g.now) one
+        ∙ steps-behind (label_by side i) i left (record { fresh = fresh_of kind ++ rest; answer = answer }) g.now behind x.act (kind, record { fresh = rest; answer = answer }) x.is_act
+        (takes-more kind x.act (named side kind x.act x.can) (left == 0) rest answer quiet) legal
+
+    -- one step, for which there may be an input
+    pub going-on : (inputs : List Val) (q : LocalState) → one_step side (with_inputs inputs p) ≡ Some q → AgreesWith s.store q → q.answer ≡ None → IsStepping devices s i side q (n + 1)
+    going-on inputs q e agrees quiet =
+        let x = step-made s i side (with_inputs inputs p) q g.now (unfed s i p inputs g.now g.after_run) g.member e agrees in
+        let legal : after g.now (label_by side i x.kind) ≡ Some x.behind = legal-on side i x.kind g.now g.active ∙ x.reduces in
+        let later = kept devices g.types g.now (label_by side i x.kind) x.behind g.typed legal in
+        record {
+          now = x.behind;
+          after_run = x.after_run;
+          member = x.member;
+          active = x.active ∙ g.active;
+          orderly = (after-goes g.now (label_by side i x.kind) x.behind legal).orderly g.orderly;
+          types = later.0;
+          typed = later.2;
+          standing = stands-on side x.kind g.now x.behind g.orderly legal g.standing;
+          goes = goes-more x.kind x.behind q legal (sym x.answer ∙ quiet) x.fresh;
+        }
+
+  -- what is going is so at each place with the same term, prints, new members, new locations and values set
+  pub going-as : (side : Side) (p q : LocalState) (m n : ℕ) → bare p.sets p ≡ bare q.sets q → m ≡ n → IsStepping devices s i side p m → IsStepping devices s i side q n
+  going-as side p q m n same count g = subst (IsStepping devices s i side q) count (back q (subst (λ (z : LocalState). IsStepping devices s i side z m) same (front p g)))
+    where
+      front : (z : LocalState) → IsStepping devices s i side z m → IsStepping devices s i side (bare z.sets z) m
+      front z h = record {
+        now = h.now;
+        after_run = record { stored = h.after_run.stored; output = h.after_run.output; others = h.after_run.others; next = h.after_run.next };
+        member = h.member;
+        active = h.active;
+        orderly = h.orderly;
+        types = h.types;
+        typed = h.typed;
+        standing = h.standing;
+        goes = h.goes;
+      }
+
+      back : (z : LocalState) → IsStepping devices s i side (bare z.sets z) m → IsStepping devices s i side z m
+      back z h = record {
+        now = h.now;
+        after_run = record { stored = h.after_run.stored; output = h.after_run.output; others = h.after_run.others; next = h.after_run.next };
+        member = h.member;
+        active = h.active;
+        orderly = h.orderly;
+        types = h.types;
+        typed = h.typed;
+        standing = h.standing;
+        goes = h.goes;
+      }
+
+  -- a step alone is one over any values set
+  bare-acts : (sets : List (ℕ × Val)) (p : LocalState) (side : Side) (act : Act) (part : Tree) (q : LocalState) → Acts p side act part q → p.inputs ≡ []
+      → acted act side (bare sets p) ≡ Some (part, bare sets q)
+  bare-acts sets p _ _ _ _ (Acts.becomes side term) empty = refl
+  bare-acts sets p _ _ _ _ (Acts.spawns body) empty = refl
+  bare-acts sets p _ _ _ _ (Acts.prints n) empty = refl
+  bare-acts sets p _ _ _ _ Acts.passes empty = refl
+  bare-acts sets p _ _ _ _ (Acts.feeds side act v inputs part q is given) empty = absurd (let clash : v ∷ inputs ≡ [] = sym is ∙ empty in cc)
+
+  bare-step : (sets : List (ℕ × Val)) (side : Side) (p q : LocalState) → one_step side p ≡ Some q → p.inputs ≡ [] → one_step side (bare sets p) ≡ Some (bare sets q)
+  bare-step sets side p q e empty =
+      let x = step-is side p q e in
+      step-of side (bare sets p) x.redex (x.part, bare sets x.behind) refl x.stands (bare-acts sets p side (act_of x.redex) x.part x.behind x.acts empty)
+      ∙ ap (λ (z : LocalState). Some (bare sets z)) (sym x.is)
+
+  -- steps alone
+  pub going-alone : (side : Side) (sets : List (ℕ × Val)) (p : LocalState) (k : ℕ) (q : LocalState) (n : ℕ) → goes side p k ≡ Some q → p.inputs ≡ []
+      → IsStepping devices s i side (bare sets p) n → IsStepping devices s i side (bare sets q) (n + k)
+  going-alone side sets p zero q n e empty g =
+      let same : p ≡ q = cc in
+      let count : n ≡ n + zero = omega arith in
+      subst (λ (k : ℕ). IsStepping devices s i side (bare sets q) k) count (subst (λ (z : LocalState). IsStepping devices s i side (bare sets z) n) same g)
+  going-alone side sets p (suc k) q n e empty g =
+      option_and_then_some _ _ _ e (λ r first second.
+      let before = going-alone side sets p k r n first empty g in
+      let step = bare-step sets side r q second (goes-empty side p r k first empty) in
+      let count : (n + k) + 1 ≡ n + suc k = omega arith in
+      subst (λ (z : ℕ). IsStepping devices s i side (bare sets q) z) count
+      (going-on side (bare sets r) (n + k) before [] (bare sets q) step (record { seen = tt; own = tt; made = tt }) refl))
+
+  pub going-advanced : (sets : List (ℕ × Val)) (m o : MachineView) (k : ℕ) → Advances k m o → IsStepping devices s i (running_side m) (place_with sets m) m.steps
+      → IsStepping devices s i (running_side o) (place_with sets o) o.steps
+  going-advanced sets m o k a g =
+      let h = going-alone (running_side m) sets (place_shown m) k (place_shown o) m.steps a.run refl g in
+      subst (λ (b : Bool). IsStepping devices s i (side_told b) (place_with sets o) o.steps) (sym a.inside)
+      (subst (λ (z : ℕ). IsStepping devices s i (running_side m) (place_with sets o) z) (sym a.steps) h)

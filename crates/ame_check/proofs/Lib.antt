@@ -1,0 +1,15 @@
+pub mod ListLemmas
+pub mod HaltLemmas
+pub mod GoingLemmas
+pub mod FedLemmas
+pub mod WantLemmas
+pub mod WalkLemmas
+pub mod MergeLemmas
+pub mod EntryLemmas
+pub mod MadeLemmas
+pub mod StartLemmas
+pub mod RanLemmas
+pub mod RanEntries
+pub mod NoteLemmas
+pub mod NoteEntries
+pub mod FreeLemmas

@@ -1,0 +1,141 @@
+-- A note, by what its call finds.
+use Rattle.std.proofs.Common.{◌≡◌, ℕ, ◌++◌, ◌∷◌, [], ℤ, Bool, true, false, List, Option, Some, None, refl, sym, ap, ◌∙◌, subst, is_some}
+use Rattle.ame_term.specs.Frame.{Side}
+use Rattle.ame_term.specs.Maps.{at}
+use Rattle.ame_term.specs.State.{State}
+use Rattle.ame_journal.specs.Replayed.{Replayed, is_inside, side_at, is_at_unprotected}
+use Rattle.ame_journal.specs.Replay.{replay, replay_kind, replay_entry, note_where}
+use Rattle.ame_journal.specs.Totals.{is_note}
+use Rattle.ame_journal.specs.declared.entry.Entry.{Entry}
+use Rattle.ame_journal.proofs.ReachedLemmas.{IsCalm, calm-replayed}
+use Rattle.ame_machine.specs.Meaning.{Meaning}
+use Rattle.ame_machine.specs.MachineView.{MachineView, starting_at, running_side}
+use Rattle.ame_machine.specs.Sound.{IsAccepted, IsSoundStage, CanRun}
+use Rattle.ame_machine.specs.Move.{settled_stage, AdvancesWithin}
+use Rattle.ame_machine.specs.declared.wants.Wants.{Wants}
+use Rattle.ame_check.specs.Shows.{ReplayView, ShowsMember, StandsForEntries}
+use Rattle.ame_check.specs.Walk.{steps_on, begun_on}
+use Rattle.ame_check.specs.Walked.{place_with, IsAtStep, RunsAlong}
+use Rattle.ame_check.specs.Entries.{MeetsTall, is_confirmed}
+use Rattle.ame_check.specs.declared.walk.Walked.{Walked}
+use Rattle.ame_check.specs.declared.walk.Walked.TheVariants as walked
+use Rattle.ame_check.proofs.EntryLemmas.{behind-journal, whole-leads}
+use Rattle.ame_check.proofs.StartLemmas.{its-term, its-rest, its-machine, walk-begins}
+use Rattle.ame_check.proofs.WalkLemmas.{can-run}
+use Rattle.ame_check.proofs.RanLemmas.{undefined-there}
+use Rattle.ame_check.proofs.NoteLemmas.{note-undefined, note-is, note-absent, note-answered, side-tall, none-made, settled-flag}
+
+module _ {C V M : Type 0} (meaning : Meaning C V M) (code : C) (accepted : IsAccepted (meaning.devices code) (meaning.program code))
+    (sound : (m : M) → meaning.is_machine code m → IsSoundStage (meaning.stage code m)) (entry : Entry) (note : is_note entry.kind ≡ true)
+    (place : ReplayView V M) (entries : List Entry) (st : StandsForEntries meaning code entries place) where
+  calm : IsCalm st.led
+  calm = calm-replayed (meaning.program code) entries st.led st.replayed
+
+  as-kind : replay_entry st.led entry ≡ replay_kind entry.kind st.led entry.number entry.steps entry.fresh entry.answer
+  unfolding replay_entry
+  as-kind = refl
+
+  answer-of : (o : Option ℤ) → is_some o ≡ true → (n : ℤ) × (o ≡ Some n)
+  answer-of None e = cc
+  answer-of (Some n) e = (n, refl)
+
+  none-there : replay_entry st.led entry ≡ None → replay (meaning.program code) (entries ++ entry ∷ []) ≡ None
+  none-there e = undefined-there meaning code entries entry place st.led st.replayed st.shows calm e
+
+  pub noted-answer : is_some entry.answer ≡ true → replay (meaning.program code) (entries ++ entry ∷ []) ≡ None
+  noted-answer e =
+      let a = answer-of entry.answer e in
+      none-there (as-kind ∙ ap (replay_kind entry.kind st.led entry.number entry.steps entry.fresh) a.1 ∙ note-answered st.led entry.number entry.steps entry.fresh a.0 entry.kind note)
+
+  module _ (quiet : entry.answer ≡ None) where
+    as-quiet : replay_entry st.led entry ≡ replay_kind entry.kind st.led entry.number entry.steps entry.fresh None
+    as-quiet = as-kind ∙ ap (replay_kind entry.kind st.led entry.number entry.steps entry.fresh) quiet
+
+    pub noted-none : None ≡ at place.members entry.number → replay (meaning.program code) (entries ++ entry ∷ []) ≡ None
+    noted-none none =
+        none-there (as-quiet ∙ note-absent st.led entry.number entry.steps entry.fresh calm.idle
+        (subst (λ (o : Option M). ShowsMember meaning code (is_inside st.led entry.number) o (at st.led.state.members entry.number)) (sym none) (st.shows.members entry.number)) entry.kind note)
+
+    module _ (machine : M) (found : Some machine ≡ at place.members entry.number) (copy : M) (good : meaning.is_machine code machine → meaning.is_machine code copy)
+        (same : meaning.stage code machine ≡ meaning.stage code copy) where
+      term : at st.led.state.members entry.number ≡ Some (meaning.stage code machine).term
+      term = its-term meaning code accepted entries place st.led st.replayed st.shows entry.number machine found
+
+      rest : meaning.stage code copy ≡ record (starting_at (meaning.stage code machine).term) { inside = is_inside st.led entry.number }
+      rest = sym same ∙ its-rest meaning code accepted entries place st.led st.replayed st.shows entry.number machine found
+
+      pub copy-good : meaning.is_machine code copy
+      copy-good = good (its-machine meaning code accepted entries place st.led st.replayed st.shows entry.number machine found)
+
+      pub copy-steps : (meaning.stage code copy).steps ≡ 0
+      copy-steps = ap (λ (z : MachineView). z.steps) rest
+
+      pub copy-runs : CanRun (meaning.stage code copy)
+      copy-runs =
+          can-run meaning code st.led.state entry.number entry.fresh place.cells [] copy
+          (walk-begins meaning code accepted entries place st.led st.replayed st.shows entry.number machine found copy [] entry.fresh (is_inside st.led entry.number) copy-good refl
+          (ap (λ (z : MachineView). z.term) rest) (ap (λ (z : MachineView). z.prints) rest) (ap (λ (z : MachineView). z.spawns) rest) (ap (λ (z : MachineView). z.fresh) rest) copy-steps (ap (λ (z : MachineView). z.inside) rest)
+          (calm.standing entry.number)).walking
+
+      module _ (ready : M) (good_ready : meaning.is_machine code ready) (within : AdvancesWithin 0 (meaning.stage code copy) (meaning.stage code ready)) (want : Wants)
+          (told : (meaning.stage code ready).want ≡ Some want) (settled : M) (good_settled : meaning.is_machine code settled) (settles : meaning.stage code settled ≡ settled_stage (meaning.stage code ready))
+          (overlay : List (ℕ × V)) (empty : overlay ≡ []) where
+        stays : ((meaning.stage code ready).term ≡ (meaning.stage code copy).term) × ((meaning.stage code ready).inside ≡ (meaning.stage code copy).inside)
+        stays = none-made (meaning.stage code copy) (meaning.stage code ready) within
+
+        ready-term : (meaning.stage code ready).term ≡ (meaning.stage code machine).term
+        ready-term = stays.0 ∙ ap (λ (z : MachineView). z.term) rest
+
+        flag : (meaning.stage code settled).inside ≡ is_at_unprotected entry.number st.led.state
+        flag =
+            ap (λ (z : MachineView). z.inside) settles
+            ∙ settled-flag st.led entry.number (meaning.stage code ready) (meaning.stage code machine).term calm term ready-term (stays.1 ∙ ap (λ (z : MachineView). z.inside) rest) (sound ready good_ready) want told
+
+        pub begins-note : IsAtStep meaning code st.led.state entry.number entry.fresh place.cells overlay settled (side_at entry.number st.led.state) 0
+        begins-note =
+            walk-begins meaning code accepted entries place st.led st.replayed st.shows entry.number machine found settled overlay entry.fresh (is_at_unprotected entry.number st.led.state) good_settled empty
+            (ap (λ (z : MachineView). z.term) settles ∙ ready-term) (ap (λ (z : MachineView). z.prints) settles) (ap (λ (z : MachineView). z.spawns) settles) (ap (λ (z : MachineView). z.fresh) settles)
+            (ap (λ (z : MachineView). z.steps) settles) flag (λ e. e)
+
+        module _ (later : List (ℕ × V)) (m : M) (found_as : Walked)
+            (runs : (s : State) (i : ℕ) (side : Side) (n : ℕ) → IsAtStep meaning code s i entry.fresh place.cells overlay settled side n
+            → RunsAlong meaning code s i entry.fresh place.cells later m side entry.steps found_as) where
+          to : (w : Walked) → found_as ≡ w → RunsAlong meaning code st.led.state entry.number entry.fresh place.cells later m (side_at entry.number st.led.state) entry.steps w
+          to w is =
+              subst (RunsAlong meaning code st.led.state entry.number entry.fresh place.cells later m (side_at entry.number st.led.state) entry.steps) is
+              (runs st.led.state entry.number (side_at entry.number st.led.state) 0 begins-note)
+
+          pub noted-no-run : found_as ≡ walked.Undefined → replay (meaning.program code) (entries ++ entry ∷ []) ≡ None
+          noted-no-run is =
+              none-there (as-quiet ∙ note-undefined st.led entry.number entry.steps entry.fresh (meaning.stage code machine).term calm.idle term entry.kind note (to walked.Undefined is))
+
+          pub noted-tall : found_as ≡ walked.Tall → (r : Replayed) × (replay (meaning.program code) entries ≡ Some r) × MeetsTall r entry
+          noted-tall is = (st.led, st.replayed, side-tall st.led entry (meaning.stage code machine).term calm.idle term (to walked.Tall is))
+
+          module _ (next : Wants) (is : found_as ≡ walked.Whole next) where
+            whole : RunsAlong meaning code st.led.state entry.number entry.fresh place.cells later m (side_at entry.number st.led.state) entry.steps (walked.Whole next)
+            whole = to (walked.Whole next) is
+
+            leads : steps_on (side_at entry.number st.led.state) entry.number entry.steps entry.fresh None (begun_on (side_at entry.number st.led.state) entry.number st.led.state)
+                ≡ Some whole.0.walking.going.now
+            leads =
+                let g = whole.0.walking.going in
+                ap (λ (xs : List ℕ). steps_on (side_at entry.number st.led.state) entry.number entry.steps xs None (begun_on (side_at entry.number st.led.state) entry.number st.led.state)) (sym whole.1)
+                ∙ ap (λ (k : ℕ). steps_on (side_at entry.number st.led.state) entry.number k (meaning.stage code m).fresh None (begun_on (side_at entry.number st.led.state) entry.number st.led.state)) (sym whole.0.counted)
+                ∙ ap (λ (z : Side). steps_on z entry.number (meaning.stage code m).steps (meaning.stage code m).fresh None (begun_on z entry.number st.led.state)) (sym whole.0.runs_on)
+                ∙ whole-leads (meaning.devices code) st.led.state entry.number (running_side (meaning.stage code m)) (place_with whole.0.walking.sets (meaning.stage code m)) (meaning.stage code m).steps g
+
+            tells : replay_entry st.led entry ≡ note_where (is_confirmed entry.kind next) st.led
+            tells =
+                as-quiet ∙ note-is st.led entry.number entry.steps entry.fresh (meaning.stage code machine).term calm.idle term (meaning.stage code m) (sound m whole.0.walking.machine) next whole.2
+                whole.0.walking.going.now whole.0.walking.going.member whole.0.runs_on leads entry.kind note
+
+            pub noted-so : is_confirmed entry.kind next ≡ true → StandsForEntries meaning code (entries ++ entry ∷ []) place
+            noted-so so = record {
+              led = st.led;
+              replayed = behind-journal (meaning.program code) entries entry st.led st.replayed ∙ tells ∙ ap (λ (b : Bool). note_where b st.led) so;
+              shows = st.shows;
+            }
+
+            pub noted-not : is_confirmed entry.kind next ≡ false → replay (meaning.program code) (entries ++ entry ∷ []) ≡ None
+            noted-not wrong = none-there (tells ∙ ap (λ (b : Bool). note_where b st.led) wrong)

@@ -1,0 +1,111 @@
+-- A `Ran` entry, by what its call finds.
+use Rattle.std.proofs.Common.{◌≡◌, ℕ, ◌<◌, ◌++◌, ◌∷◌, [], ℤ, true, false, List, Option, Some, None, refl, sym, ap, ◌∙◌, subst, is_some}
+use Rattle.ame_term.specs.Frame.{Side}
+use Rattle.ame_term.specs.Maps.{at, put}
+use Rattle.ame_term.specs.State.{State}
+use Rattle.ame_journal.specs.Replayed.{Replayed, is_inside}
+use Rattle.ame_journal.specs.Replay.{replay, or_else}
+use Rattle.ame_journal.specs.declared.entry.Entry.{Entry}
+use Rattle.ame_journal.specs.declared.entry.EntryKind.{EntryKind}
+use Rattle.ame_journal.proofs.ReachedLemmas.{IsCalm, calm-replayed}
+use Rattle.ame_machine.specs.Meaning.{Meaning}
+use Rattle.ame_machine.specs.MachineView.{MachineView, starting_at}
+use Rattle.ame_machine.specs.Sound.{IsAccepted, IsSoundStage}
+use Rattle.ame_machine.specs.Move.{settled_stage}
+use Rattle.ame_machine.specs.declared.wants.Wants.{Wants}
+use Rattle.ame_machine.specs.declared.wants.Wants.TheVariants as wants
+use Rattle.ame_check.specs.Shows.{ReplayView, ShowsMember, StandsForEntries}
+use Rattle.ame_check.specs.Walked.{IsAtStep, RunsAlong}
+use Rattle.ame_check.specs.Entries.{MeetsTall}
+use Rattle.ame_check.specs.declared.walk.Walked.{Walked}
+use Rattle.ame_check.specs.declared.walk.Walked.TheVariants as walked
+use Rattle.ame_check.proofs.StartLemmas.{its-term, its-rest, its-machine, is-early, walk-begins}
+use Rattle.ame_check.proofs.RanLemmas.{AdoptsAll, undefined-there, ran-undefined, ran-neither, ran-ended, ran-left, ran-answered, ran-inside, ran-absent, protected-tall}
+
+module _ {C V M : Type 0} (meaning : Meaning C V M) (code : C) (accepted : IsAccepted (meaning.devices code) (meaning.program code))
+    (sound : (m : M) → meaning.is_machine code m → IsSoundStage (meaning.stage code m)) (entry : Entry) (kind : entry.kind ≡ EntryKind.Ran)
+    (place : ReplayView V M) (entries : List Entry) (st : StandsForEntries meaning code entries place) where
+  calm : IsCalm st.led
+  calm = calm-replayed (meaning.program code) entries st.led st.replayed
+
+  answer-of : (o : Option ℤ) → is_some o ≡ true → (n : ℤ) × (o ≡ Some n)
+  answer-of None e = cc
+  answer-of (Some n) e = (n, refl)
+
+  pub has-answer : is_some entry.answer ≡ true → replay (meaning.program code) (entries ++ entry ∷ []) ≡ None
+  has-answer e =
+      let a = answer-of entry.answer e in
+      undefined-there meaning code entries entry place st.led st.replayed st.shows calm (ran-answered st.led entry a.0 kind a.1)
+
+  pub has-none : None ≡ at place.members entry.number → replay (meaning.program code) (entries ++ entry ∷ []) ≡ None
+  has-none none =
+      undefined-there meaning code entries entry place st.led st.replayed st.shows calm
+      (ran-absent st.led entry calm.idle kind
+      (subst (λ (o : Option M). ShowsMember meaning code (is_inside st.led entry.number) o (at st.led.state.members entry.number)) (sym none) (st.shows.members entry.number)))
+
+  module _ (machine : M) (found : Some machine ≡ at place.members entry.number) where
+    term : at st.led.state.members entry.number ≡ Some (meaning.stage code machine).term
+    term = its-term meaning code accepted entries place st.led st.replayed st.shows entry.number machine found
+
+    rest : meaning.stage code machine ≡ record (starting_at (meaning.stage code machine).term) { inside = is_inside st.led entry.number }
+    rest = its-rest meaning code accepted entries place st.led st.replayed st.shows entry.number machine found
+
+    pub goes-on_inside : (meaning.stage code machine).inside ≡ true → replay (meaning.program code) (entries ++ entry ∷ []) ≡ None
+    goes-on_inside flag =
+        undefined-there meaning code entries entry place st.led st.replayed st.shows calm (ran-inside st.led entry kind (sym (ap (λ (z : MachineView). z.inside) rest) ∙ flag))
+
+    module _ (flag : (meaning.stage code machine).inside ≡ false) (overlay : List (ℕ × V)) (empty : overlay ≡ []) where
+      pub begins-ran : IsAtStep meaning code st.led.state entry.number entry.fresh place.cells overlay machine Side.Protected 0
+      begins-ran =
+          walk-begins meaning code accepted entries place st.led st.replayed st.shows entry.number machine found machine overlay entry.fresh false
+          (its-machine meaning code accepted entries place st.led st.replayed st.shows entry.number machine found) empty refl (ap (λ (z : MachineView). z.prints) rest) (ap (λ (z : MachineView). z.spawns) rest)
+          (ap (λ (z : MachineView). z.fresh) rest) (ap (λ (z : MachineView). z.steps) rest) flag (λ e. absurd (cc))
+
+      outside : is_inside st.led entry.number ≡ false
+      outside = sym (ap (λ (z : MachineView). z.inside) rest) ∙ flag
+
+      module _ (quiet : entry.answer ≡ None) (later : List (ℕ × V)) (m : M) (found_as : Walked)
+          (runs : (s : State) (i : ℕ) (side : Side) (n : ℕ) → IsAtStep meaning code s i entry.fresh place.cells overlay machine side n
+          → RunsAlong meaning code s i entry.fresh place.cells later m side entry.steps found_as) where
+        to : (w : Walked) → found_as ≡ w → RunsAlong meaning code st.led.state entry.number entry.fresh place.cells later m Side.Protected entry.steps w
+        to w is =
+            subst (RunsAlong meaning code st.led.state entry.number entry.fresh place.cells later m Side.Protected entry.steps) is
+            (runs st.led.state entry.number Side.Protected 0 begins-ran)
+
+        early : entry.number < st.led.state.next
+        early = is-early meaning code accepted entries place st.led st.replayed st.shows entry.number machine found
+
+        pub has-no-run : found_as ≡ walked.Undefined → replay (meaning.program code) (entries ++ entry ∷ []) ≡ None
+        has-no-run is =
+            ran-undefined meaning code entries entry place st.led st.replayed st.shows calm machine found term early kind quiet outside (to walked.Undefined is)
+
+        pub has-tall : found_as ≡ walked.Tall → (r : Replayed) × (replay (meaning.program code) entries ≡ Some r) × MeetsTall r entry
+        has-tall is = (st.led, st.replayed, protected-tall st.led entry (meaning.stage code machine).term calm.idle term (to walked.Tall is))
+
+        module _ (want : Wants) (is : found_as ≡ walked.Whole want) where
+          whole : RunsAlong meaning code st.led.state entry.number entry.fresh place.cells later m Side.Protected entry.steps (walked.Whole want)
+          whole = to (walked.Whole want) is
+
+          pub has-other-want : (want ≡ wants.Done → ⊥) → (want ≡ wants.Leave → ⊥) → replay (meaning.program code) (entries ++ entry ∷ []) ≡ None
+          has-other-want done left =
+              ran-neither meaning code entries entry place st.led st.replayed st.shows calm machine found term early kind quiet outside later m whole.0 whole.1 (sound m whole.0.walking.machine) want whole.2 done left
+
+          module _ (machines : List (ℕ × M)) (gone : at machines entry.number ≡ None) (others : (k : ℕ) → (k ≡ entry.number → ⊥) → at machines k ≡ at place.members k)
+              (cells : List (ℕ × V)) (merged : (l : ℕ) → at cells l ≡ or_else (at later l) (at place.cells l)) (output : List ℤ) (printed : output ≡ place.output ++ (meaning.stage code m).prints)
+              (kept : M) (number : ℕ) (last : List (ℕ × M)) (adopts : AdoptsAll meaning code machines place.next m last number kept) where
+            pub ended-so : want ≡ wants.Done → StandsForEntries meaning code (entries ++ entry ∷ []) (record { cells = cells; members = last; output = output; next = number })
+            ended-so done =
+                ran-ended meaning code entries entry place st.led st.replayed st.shows calm machine found term early kind quiet outside later m whole.0 whole.1 (sound m whole.0.walking.machine)
+                machines gone others cells merged output printed kept number last adopts (whole.2 ∙ ap (λ (w : Wants). Some w) done)
+
+            pub left-so : want ≡ wants.Leave → (back : M) → (meaning.is_machine code kept → meaning.is_machine code back) → meaning.stage code back ≡ settled_stage (meaning.stage code kept)
+                → (members : List (ℕ × M)) → members ≡ put last entry.number back
+                → StandsForEntries meaning code (entries ++ entry ∷ []) (record { cells = cells; members = members; output = output; next = number })
+            left-so left back good settled members put_back =
+                ran-left meaning code entries entry place st.led st.replayed st.shows calm machine found term early kind quiet outside later m whole.0 whole.1 (sound m whole.0.walking.machine)
+                machines gone others cells merged output printed kept number last adopts (whole.2 ∙ ap (λ (w : Wants). Some w) left) back good settled members put_back
+
+-- no answer
+pub quiet-of : (o : Option ℤ) → is_some o ≡ false → o ≡ None
+quiet-of None e = refl
+quiet-of (Some n) e = cc

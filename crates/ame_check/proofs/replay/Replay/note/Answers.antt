@@ -1,0 +1,78 @@
+use Rattle.std.proofs.Common.{sym, ◌∙◌, arith}
+use Rattle.ame_check.proofs.RanEntries.{quiet-of}
+use Rattle.ame_check.proofs.NoteEntries.{noted-answer, noted-none, copy-good, copy-steps, copy-runs, begins-note, noted-no-run, noted-tall, noted-so, noted-not}
+use Rattle.ame_check.proofs.replay.Replay.note.Goals as goal
+
+pub returns-then-is_some : goal.returns-then-is_some
+returns-then-is_some g c = λ entries st.
+    noted-answer g.M.Runner.meaning c.args.code.now (g.met.M.Runner.accepted c.args.code.now) (g.met.M.Runner.sound c.args.code.now) c.args.entry.now c.requires.note _ entries st (sym c.is_some.ensures ∙ c.if-is_some.true)
+
+pub returns-in_default : goal.returns-in_default
+returns-in_default g c = λ entries st.
+    noted-none g.M.Runner.meaning c.args.code.now (g.met.M.Runner.accepted c.args.code.now) (g.met.M.Runner.sound c.args.code.now) c.args.entry.now c.requires.note _ entries st (quiet-of c.args.entry.now.answer (sym c.is_some.ensures ∙ c.if-is_some.false)) c.in_default.ensures.value
+
+pub advance-requires-clause-machine : goal.advance-requires-clause-machine
+advance-requires-clause-machine g c =
+    copy-good g.M.Runner.meaning c.args.code.now (g.met.M.Runner.accepted c.args.code.now) (g.met.M.Runner.sound c.args.code.now) c.args.entry.now c.requires.note _ c.requires.stands.0 c.requires.stands.1 (quiet-of c.args.entry.now.answer (sym c.is_some.ensures ∙ c.if-is_some.false))
+    c.in-Some.member.now c.in-Some.ensures.value c.in_ok-machine.machine (g.met.M.Runner.same_machines c.args.code.now c.in-Some.member.now c.in_ok-machine.machine c.in_ok-machine.ensures)
+    (g.met.M.Runner.stage_shown c.args.code.now c.in-Some.member.now c.in_ok-machine.machine c.in_ok-machine.ensures)
+
+pub advance-requires-clause-runs : goal.advance-requires-clause-runs
+advance-requires-clause-runs g c =
+    copy-runs g.M.Runner.meaning c.args.code.now (g.met.M.Runner.accepted c.args.code.now) (g.met.M.Runner.sound c.args.code.now) c.args.entry.now c.requires.note _ c.requires.stands.0 c.requires.stands.1 (quiet-of c.args.entry.now.answer (sym c.is_some.ensures ∙ c.if-is_some.false))
+    c.in-Some.member.now c.in-Some.ensures.value c.in_ok-machine.machine (g.met.M.Runner.same_machines c.args.code.now c.in-Some.member.now c.in_ok-machine.machine c.in_ok-machine.ensures)
+    (g.met.M.Runner.stage_shown c.args.code.now c.in-Some.member.now c.in_ok-machine.machine c.in_ok-machine.ensures)
+
+pub advance-requires-clause-steps : goal.advance-requires-clause-steps
+advance-requires-clause-steps g c =
+    let none = copy-steps g.M.Runner.meaning c.args.code.now (g.met.M.Runner.accepted c.args.code.now) (g.met.M.Runner.sound c.args.code.now) c.args.entry.now c.requires.note _ c.requires.stands.0 c.requires.stands.1 (quiet-of c.args.entry.now.answer (sym c.is_some.ensures ∙ c.if-is_some.false))
+    c.in-Some.member.now c.in-Some.ensures.value c.in_ok-machine.machine (g.met.M.Runner.same_machines c.args.code.now c.in-Some.member.now c.in_ok-machine.machine c.in_ok-machine.ensures)
+    (g.met.M.Runner.stage_shown c.args.code.now c.in-Some.member.now c.in_ok-machine.machine c.in_ok-machine.ensures) in
+    omega arith
+
+pub run-requires-clause-walking : goal.run-requires-clause-walking
+run-requires-clause-walking g c = (
+  c.requires.stands.1.led.state,
+  c.args.entry.now.number,
+  (begins-note g.M.Runner.meaning c.args.code.now (g.met.M.Runner.accepted c.args.code.now) (g.met.M.Runner.sound c.args.code.now) c.args.entry.now c.requires.note _ c.requires.stands.0 c.requires.stands.1 (quiet-of c.args.entry.now.answer (sym c.is_some.ensures ∙ c.if-is_some.false))
+      c.in-Some.member.now c.in-Some.ensures.value c.in_ok-machine.machine (g.met.M.Runner.same_machines c.args.code.now c.in-Some.member.now c.in_ok-machine.machine c.in_ok-machine.ensures)
+      (g.met.M.Runner.stage_shown c.args.code.now c.in-Some.member.now c.in_ok-machine.machine c.in_ok-machine.ensures)
+      c.advance.new.self c.advance.ensures.machine c.advance.ensures.ran c.in_ok-_next._next c.in_ok-_next.ensures.told c.settle.new.self
+      (c.settle.ensures.machine c.args.code.now c.advance.ensures.machine) (c.settle.ensures.stage c.args.code.now) c.new-overlay.result.entries c.new-overlay.ensures.empty).walking,
+)
+
+pub returns-then-confirms : goal.returns-then-confirms
+returns-then-confirms g c = λ entries st.
+    noted-so g.M.Runner.meaning c.args.code.now (g.met.M.Runner.accepted c.args.code.now) (g.met.M.Runner.sound c.args.code.now) c.args.entry.now c.requires.note _ entries st (quiet-of c.args.entry.now.answer (sym c.is_some.ensures ∙ c.if-is_some.false))
+    c.in-Some.member.now c.in-Some.ensures.value c.in_ok-machine.machine (g.met.M.Runner.same_machines c.args.code.now c.in-Some.member.now c.in_ok-machine.machine c.in_ok-machine.ensures)
+    (g.met.M.Runner.stage_shown c.args.code.now c.in-Some.member.now c.in_ok-machine.machine c.in_ok-machine.ensures)
+    c.advance.new.self c.advance.ensures.machine c.advance.ensures.ran c.in_ok-_next._next c.in_ok-_next.ensures.told c.settle.new.self
+    (c.settle.ensures.machine c.args.code.now c.advance.ensures.machine) (c.settle.ensures.stage c.args.code.now) c.new-overlay.result.entries c.new-overlay.ensures.empty
+    c.run.new.overlay.entries c.run.new.machine c.in_ok-want.field-0 c.in_ok-want.ensures c.in-Whole.want c.in-Whole.is (sym c.confirms.ensures ∙ c.if-confirms.true)
+
+pub returns-in-Whole : goal.returns-in-Whole
+returns-in-Whole g c = λ entries st.
+    noted-not g.M.Runner.meaning c.args.code.now (g.met.M.Runner.accepted c.args.code.now) (g.met.M.Runner.sound c.args.code.now) c.args.entry.now c.requires.note _ entries st (quiet-of c.args.entry.now.answer (sym c.is_some.ensures ∙ c.if-is_some.false))
+    c.in-Some.member.now c.in-Some.ensures.value c.in_ok-machine.machine (g.met.M.Runner.same_machines c.args.code.now c.in-Some.member.now c.in_ok-machine.machine c.in_ok-machine.ensures)
+    (g.met.M.Runner.stage_shown c.args.code.now c.in-Some.member.now c.in_ok-machine.machine c.in_ok-machine.ensures)
+    c.advance.new.self c.advance.ensures.machine c.advance.ensures.ran c.in_ok-_next._next c.in_ok-_next.ensures.told c.settle.new.self
+    (c.settle.ensures.machine c.args.code.now c.advance.ensures.machine) (c.settle.ensures.stage c.args.code.now) c.new-overlay.result.entries c.new-overlay.ensures.empty
+    c.run.new.overlay.entries c.run.new.machine c.in_ok-want.field-0 c.in_ok-want.ensures c.in-Whole.want c.in-Whole.is (sym c.confirms.ensures ∙ c.if-confirms.false)
+
+pub returns-in-Undefined : goal.returns-in-Undefined
+returns-in-Undefined g c = λ entries st.
+    noted-no-run g.M.Runner.meaning c.args.code.now (g.met.M.Runner.accepted c.args.code.now) (g.met.M.Runner.sound c.args.code.now) c.args.entry.now c.requires.note _ entries st (quiet-of c.args.entry.now.answer (sym c.is_some.ensures ∙ c.if-is_some.false))
+    c.in-Some.member.now c.in-Some.ensures.value c.in_ok-machine.machine (g.met.M.Runner.same_machines c.args.code.now c.in-Some.member.now c.in_ok-machine.machine c.in_ok-machine.ensures)
+    (g.met.M.Runner.stage_shown c.args.code.now c.in-Some.member.now c.in_ok-machine.machine c.in_ok-machine.ensures)
+    c.advance.new.self c.advance.ensures.machine c.advance.ensures.ran c.in_ok-_next._next c.in_ok-_next.ensures.told c.settle.new.self
+    (c.settle.ensures.machine c.args.code.now c.advance.ensures.machine) (c.settle.ensures.stage c.args.code.now) c.new-overlay.result.entries c.new-overlay.ensures.empty
+    c.run.new.overlay.entries c.run.new.machine c.in_ok-want.field-0 c.in_ok-want.ensures c.in-Undefined.is
+
+pub returns : goal.returns
+returns g c = λ entries st.
+    noted-tall g.M.Runner.meaning c.args.code.now (g.met.M.Runner.accepted c.args.code.now) (g.met.M.Runner.sound c.args.code.now) c.args.entry.now c.requires.note _ entries st (quiet-of c.args.entry.now.answer (sym c.is_some.ensures ∙ c.if-is_some.false))
+    c.in-Some.member.now c.in-Some.ensures.value c.in_ok-machine.machine (g.met.M.Runner.same_machines c.args.code.now c.in-Some.member.now c.in_ok-machine.machine c.in_ok-machine.ensures)
+    (g.met.M.Runner.stage_shown c.args.code.now c.in-Some.member.now c.in_ok-machine.machine c.in_ok-machine.ensures)
+    c.advance.new.self c.advance.ensures.machine c.advance.ensures.ran c.in_ok-_next._next c.in_ok-_next.ensures.told c.settle.new.self
+    (c.settle.ensures.machine c.args.code.now c.advance.ensures.machine) (c.settle.ensures.stage c.args.code.now) c.new-overlay.result.entries c.new-overlay.ensures.empty
+    c.run.new.overlay.entries c.run.new.machine c.in_ok-want.field-0 c.in_ok-want.ensures c.in-Tall.is

@@ -1,0 +1,46 @@
+use Rattle.std.proofs.Common.{◌≤◌, ℕ, List, None, sym, ◌∙◌, ap, subst, refl, arith}
+use Rattle.ame_check.specs.Walked.{IsWalking, IsAtStep, WalksAlong}
+use Rattle.ame_check.specs.Walk.{ComesToTall, steps_on, begun_on}
+use Rattle.ame_check.proofs.WalkLemmas.{all-used, some-left}
+use Rattle.ame_check.proofs.walk.run.Goals as goal
+
+pub walk-requires-clause-walking : goal.walk-requires-clause-walking
+walk-requires-clause-walking g c = (
+  c.requires.walking.0,
+  c.requires.walking.1,
+  subst (λ (xs : List ℕ). IsWalking g.M.Runner.meaning c.args.code.now c.requires.walking.0 c.requires.walking.1 xs c.args.cells.now.entries c.args.overlay.now.entries c.args.machine.now)
+      c.as_slice-fresh.ensures c.requires.walking.2,
+)
+
+pub returns-then-fresh : goal.returns-then-fresh
+returns-then-fresh g c = λ s i side n a.
+    let from = subst (λ (xs : List ℕ). IsAtStep g.M.Runner.meaning c.args.code.now s i xs c.args.cells.now.entries c.args.overlay.now.entries c.args.machine.now side n) c.as_slice-fresh.ensures a in
+    let there = subst (WalksAlong g.M.Runner.meaning c.args.code.now s i _ c.args.cells.now.entries c.walk.new.overlay.entries c.walk.new.machine side c.args.entry.now.steps) c.in-Whole.is
+    (c.in_ok-want.ensures s i side n from) in
+    some-left g.M.Runner.meaning c.args.code.now s i c.as_slice-fresh.result.now c.fresh.result.now c.args.cells.now.entries c.walk.new.overlay.entries c.walk.new.machine side c.args.entry.now.steps
+    c.args.entry.now.fresh c.as_slice-fresh.ensures (c.fresh.ensures c.args.code.now) there.0 c.if-fresh.true
+
+pub returns-else-fresh : goal.returns-else-fresh
+returns-else-fresh g c = λ s i side n a.
+    let from = subst (λ (xs : List ℕ). IsAtStep g.M.Runner.meaning c.args.code.now s i xs c.args.cells.now.entries c.args.overlay.now.entries c.args.machine.now side n) c.as_slice-fresh.ensures a in
+    let there = subst (WalksAlong g.M.Runner.meaning c.args.code.now s i _ c.args.cells.now.entries c.walk.new.overlay.entries c.walk.new.machine side c.args.entry.now.steps) c.in-Whole.is
+    (c.in_ok-want.ensures s i side n from) in
+    let whole =
+    all-used g.M.Runner.meaning c.args.code.now s i c.as_slice-fresh.result.now c.fresh.result.now c.args.cells.now.entries c.walk.new.overlay.entries c.walk.new.machine side c.args.entry.now.steps
+    c.args.entry.now.fresh c.as_slice-fresh.ensures (c.fresh.ensures c.args.code.now) there.0 c.if-fresh.false in
+    (whole.0, whole.1, there.1)
+
+pub returns-in-Undefined : goal.returns-in-Undefined
+returns-in-Undefined g c = λ s i side n a.
+    let from = subst (λ (xs : List ℕ). IsAtStep g.M.Runner.meaning c.args.code.now s i xs c.args.cells.now.entries c.args.overlay.now.entries c.args.machine.now side n) c.as_slice-fresh.ensures a in
+    let there = subst (WalksAlong g.M.Runner.meaning c.args.code.now s i _ c.args.cells.now.entries c.walk.new.overlay.entries c.walk.new.machine side c.args.entry.now.steps) c.in-Undefined.is
+    (c.in_ok-want.ensures s i side n from) in
+    let least : c.args.entry.now.steps ≤ c.args.entry.now.steps = omega arith in
+    ap (λ (xs : List ℕ). steps_on side i c.args.entry.now.steps xs None (begun_on side i s)) c.as_slice-fresh.ensures ∙ there c.args.entry.now.steps None least (λ e. refl)
+
+pub returns-in-Tall : goal.returns-in-Tall
+returns-in-Tall g c = λ s i side n a.
+    let from = subst (λ (xs : List ℕ). IsAtStep g.M.Runner.meaning c.args.code.now s i xs c.args.cells.now.entries c.args.overlay.now.entries c.args.machine.now side n) c.as_slice-fresh.ensures a in
+    let there = subst (WalksAlong g.M.Runner.meaning c.args.code.now s i _ c.args.cells.now.entries c.walk.new.overlay.entries c.walk.new.machine side c.args.entry.now.steps) c.in-Tall.is
+    (c.in_ok-want.ensures s i side n from) in
+    subst (λ (xs : List ℕ). ComesToTall side i c.args.entry.now.steps xs s) (sym c.as_slice-fresh.ensures) there

@@ -1,0 +1,41 @@
+-- What a replay comes to at its next entry.
+use Rattle.std.specs.Prelude.{◌≡◌, ℕ, ◌<◌, ◌++◌, [], ◌∷◌, List, Bool, true, false, Some, None}
+use Rattle.ame_term.specs.State.{State}
+use Rattle.ame_journal.specs.Replayed.{Replayed, side_at, is_tall}
+use Rattle.ame_journal.specs.Replay.{replay, attempt}
+use Rattle.ame_journal.specs.declared.entry.Entry.{Entry}
+use Rattle.ame_journal.specs.declared.entry.EntryKind.{EntryKind}
+use Rattle.ame_machine.specs.declared.wants.Wants.{Wants}
+use Rattle.ame_machine.specs.declared.wants.Wants.TheVariants as wants
+use Rattle.ame_machine.specs.Meaning.{Meaning}
+use Rattle.ame_check.specs.Shows.{ReplayView, StandsForEntries}
+use Rattle.ame_check.specs.declared.replay.Made.{Made}
+use Rattle.ame_check.specs.declared.replay.Made.TheVariants as made
+
+-- The member of an entry, before it has made all the entry's steps, comes to a form that would become a value that is too high.
+pub record MeetsTall (r : Replayed) (entry : Entry) : Type 0 where
+  pub made : ℕ
+  pub below : made < entry.steps
+  pub used : List ℕ
+  pub rest : List ℕ
+  pub front : entry.fresh ≡ used ++ rest
+  pub there : State
+  pub leads : attempt entry.number made used r.state ≡ Some there
+  pub tall : is_tall (side_at entry.number r.state) entry.number there ≡ true
+
+module _ {C V M : Type 0} (meaning : Meaning C V M) (code : C) where
+  -- with one more entry the replay stands for that journal; or the journal can't be replayed; or the entry meets a tall form
+  abbrev pub CameOf : List Entry → Entry → ReplayView V M → Made → Type 0
+  CameOf entries entry place made.Made = StandsForEntries meaning code (entries ++ entry ∷ []) place
+  CameOf entries entry place made.Undefined = replay (meaning.program code) (entries ++ entry ∷ []) ≡ None
+  CameOf entries entry place made.Tall = (r : Replayed) × (replay (meaning.program code) entries ≡ Some r) × MeetsTall r entry
+
+-- whether a note of a kind tells that its member wants this next
+abbrev pub is_confirmed : EntryKind → Wants → Bool
+is_confirmed EntryKind.Ran want = false
+is_confirmed EntryKind.Free want = false
+is_confirmed EntryKind.Cut want = true
+is_confirmed EntryKind.Stuck wants.Block = true
+is_confirmed EntryKind.Stuck _ = false
+is_confirmed EntryKind.Tall wants.Tall = true
+is_confirmed EntryKind.Tall _ = false

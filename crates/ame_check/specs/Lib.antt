@@ -1,0 +1,4 @@
+pub mod Shows
+pub mod Walk
+pub mod Walked
+pub mod Entries

@@ -1,0 +1,73 @@
+-- A machine on the way through an entry's steps, with what it set laid over the cells.
+use Rattle.std.specs.Prelude.{◌≡◌, ℕ, ◌+◌, ◌<◌, ◌++◌, ℤ, List, Option, None, Some, ◌⊎◌}
+use Rattle.ame_term.specs.Tree.{Val}
+use Rattle.ame_term.specs.Frame.{Side}
+use Rattle.ame_term.specs.State.{State}
+use Rattle.ame_term.specs.declared.types.Loc.{Loc}
+use Rattle.ame_term.specs.declared.types.Sort.{Sort}
+use Rattle.ame_term.specs.declared.types.TyNo.{TyNo}
+use Rattle.ame_machine.specs.declared.wants.Wants.{Wants}
+use Rattle.ame_machine.specs.declared.wants.Wants.TheVariants as wants
+use Rattle.ame_machine.specs.Meaning.{Meaning}
+use Rattle.ame_machine.specs.Run.Local.{LocalState}
+use Rattle.ame_machine.specs.MachineView.{MachineView, running_side, place_shown}
+use Rattle.ame_check.specs.Shows.{ShowsCells}
+use Rattle.ame_check.specs.Walk.{begun_on, steps_on, IsStepping, IsNoWalk, ComesToTall}
+use Rattle.ame_check.specs.declared.walk.Walked.{Walked}
+use Rattle.ame_check.specs.declared.walk.Walked.TheVariants as walked
+use Rattle.ame_check.specs.declared.step.Took.{Took}
+use Rattle.ame_check.specs.declared.step.Took.TheVariants as took
+
+-- the place that a machine shows, with these values set
+abbrev pub place_with : List (ℕ × Val) → MachineView → LocalState
+place_with sets m = record (place_shown m) { sets = sets }
+
+-- it wants the value at a location
+abbrev pub Looks : Loc → Option Wants → Type 0
+Looks l want = (want ≡ Some (wants.Read l)) ⊎ (want ≡ Some (wants.Peek l))
+
+-- it wants a new location
+abbrev pub Allocates : Option Wants → Type 0
+Allocates want = (sort : Sort) × (number : TyNo) × (want ≡ Some (wants.Alloc sort number))
+
+-- it wants that what it hands out is accepted
+abbrev pub Hands : Option Wants → Type 0
+Hands want = (want ≡ Some wants.Spawn) ⊎ ((n : ℤ) × (want ≡ Some (wants.Print n)))
+
+module _ {C V M : Type 0} (meaning : Meaning C V M) (code : C) where
+  -- A machine of member i has come so far from a state whose store the cells show, with these locations to use in all.
+  pub record IsWalking (s : State) (i : ℕ) (fresh : List ℕ) (cells overlay : List (ℕ × V)) (m : M) : Type 0 where
+    pub machine : meaning.is_machine code m
+    pub early : i < s.next
+    pub store : ShowsCells meaning code cells s.store
+    pub sets : List (ℕ × Val)
+    pub laid : ShowsCells meaning code overlay sets
+    pub going : IsStepping (meaning.devices code) s i (running_side (meaning.stage code m)) (place_with sets (meaning.stage code m)) (meaning.stage code m).steps
+    pub rest : List ℕ
+    pub front : fresh ≡ (meaning.stage code m).fresh ++ rest
+
+  -- it has made so many steps on a side
+  pub record IsAtStep (s : State) (i : ℕ) (fresh : List ℕ) (cells overlay : List (ℕ × V)) (m : M) (side : Side) (n : ℕ) : Type 0 where
+    pub walking : IsWalking s i fresh cells overlay m
+    pub runs_on : running_side (meaning.stage code m) ≡ side
+    pub counted : (meaning.stage code m).steps ≡ n
+
+  module _ (s : State) (i : ℕ) (fresh : List ℕ) (cells overlay : List (ℕ × V)) (m : M) (side : Side) (n : ℕ) where
+    -- what a walk of n steps comes to
+    abbrev pub WalksAlong : Walked → Type 0
+    WalksAlong (walked.Whole want) = IsAtStep s i fresh cells overlay m side n × ((meaning.stage code m).want ≡ Some want)
+    WalksAlong walked.Undefined = IsNoWalk side i n fresh s
+    WalksAlong walked.Tall = ComesToTall side i n fresh s
+
+    -- what the step behind n steps comes to
+    abbrev pub TakesTo : Took → Type 0
+    TakesTo took.Taken = IsAtStep s i fresh cells overlay m side (n + 1)
+    TakesTo took.Undefined = (total : ℕ) → n < total → IsNoWalk side i total fresh s
+    TakesTo took.Tall = (total : ℕ) → n < total → ComesToTall side i total fresh s
+
+    -- what a run of n steps that is to use all the locations comes to
+    abbrev pub RunsAlong : Walked → Type 0
+    RunsAlong (walked.Whole want) =
+        IsAtStep s i fresh cells overlay m side n × ((meaning.stage code m).fresh ≡ fresh) × ((meaning.stage code m).want ≡ Some want)
+    RunsAlong walked.Undefined = steps_on side i n fresh None (begun_on side i s) ≡ None
+    RunsAlong walked.Tall = ComesToTall side i n fresh s

@@ -1,0 +1,230 @@
+//! A replay on machines.
+
+ghost use Rattle.std.specs.Prelude.{◌≡◌, ℕ, ◌+◌, ◌<◌, ◌≤◌, ◌^◌, ◌++◌, [], List, Bool, true, false, map, length, IfOk, OnOk, Some};
+ghost use Rattle.ame_term.specs.Frame.{Side};
+ghost use Rattle.ame_term.specs.Tree.{Tree};
+ghost use Rattle.ame_term.specs.Maps.{at};
+ghost use Rattle.ame_term.specs.State.{State};
+ghost use Rattle.ame_journal.specs.Replay.{or_else};
+ghost use Rattle.ame_machine.specs.Run.AgreesWith.{with_members};
+ghost use Rattle.ame_journal.specs.declared.entry.Entry.{Entry};
+ghost use Rattle.ame_journal.specs.declared.entry.EntryKind.{EntryKind};
+ghost use Rattle.ame_journal.specs.Totals.{is_note};
+ghost use Rattle.ame_check.specs.Entries.{is_confirmed};
+ghost use Rattle.ame_check.specs.Shows.{ShowsMembers, Adopts};
+
+use crate::walk::{Walked, run};
+use ame_journal::{Entry, EntryKind};
+use ame_machine::{Runner, Wants};
+use ame_term::{Copied, NoMemory};
+use std::alloc::Global;
+use std::collections::BTreeMap;
+
+/// What a replay comes to at an entry.
+#[derive(Clone, Copy, PartialEq, Eq, Debug)]
+pub enum Made {
+    /// The entry was made.
+    Made,
+    /// It can't be made here.
+    Undefined,
+    /// It passes a form whose value would be too high.
+    Tall,
+}
+
+/// Whether a note of a kind tells that its member wants this next.
+fn confirms(kind: EntryKind, want: Wants) -> bool
+    ensures { result ≡ is_confirmed kind want }
+{
+    match kind {
+        EntryKind::Ran | EntryKind::Free => false,
+        EntryKind::Cut => true,
+        EntryKind::Stuck => match want {
+            Wants::Block => true,
+            _ => false,
+        },
+        EntryKind::Tall => match want {
+            Wants::Tall => true,
+            _ => false,
+        },
+    }
+}
+
+/// Puts what was set into the cells.
+fn merge<V: Drop>(
+    cells: &mut BTreeMap<u32, V>,
+    overlay: &mut BTreeMap<u32, V>,
+) -> Result<(), NoMemory>
+    ensures { OnOk result ((l : ℕ) → at cells.new.entries l ≡ or_else (at overlay.old.entries l) (at cells.old.entries l)) }
+{
+    while let Some((l, value)) = overlay.pop_first() {
+        cells.insert(l, value)?;
+    }
+    Ok(())
+}
+
+/// Gives each new member of a machine the next number. A number past the last one is told as want of memory.
+fn adopt<M: Runner>(
+    alloc: Global,
+    _code: &M::Code,
+    members: &mut BTreeMap<u64, M>,
+    next: u64,
+    machine: &mut M,
+) -> Result<u64, NoMemory>
+    ensures { IfOk result (λ later. (before : List (ℕ × Tree)) (inside : ℕ → Bool)
+        → M.meaning.is_machine _code.now machine.old → ShowsMembers M.meaning _code.now inside members.old.entries before
+        → ((k : ℕ) → next ≤ k → inside k ≡ false)
+        → Adopts M.meaning _code.now inside before next (M.meaning.stage _code.now machine.old) members.new.entries later machine.new) }
+{
+    let mut number = next;
+    while let Some(member) = machine.take_spawn(alloc) {
+        let later = number.checked_add(1).ok_or(NoMemory)?;
+        members.insert(number, member)?;
+        number = later;
+    }
+    Ok(number)
+}
+
+/// The strong state to which entries lead, on machines: the cells by location, the machines of the members by number, each at
+/// its term alone, what was printed, and the number of the next new member.
+pub struct Replay<M: Runner>
+where
+    M::Code: Drop,
+{
+    pub cells: BTreeMap<u32, M::Value>,
+    pub members: BTreeMap<u64, M>,
+    pub output: Vec<i64>,
+    pub next: u64,
+}
+
+impl<M: Runner> Drop for Replay<M>
+where
+    M::Code: Drop,
+{
+    fn drop(self) {
+        let Replay {
+            cells: _,
+            members: _,
+            output: _,
+            next: _,
+        } = self;
+    }
+}
+
+impl<M: Runner> Replay<M>
+where
+    M::Code: Drop,
+{
+    ghost use Rattle.ame_check.specs.Shows.{StandsForEntries};
+    ghost use Rattle.ame_check.specs.Entries.{CameOf};
+
+    /// Before any entry.
+    pub fn start(alloc: Global, code: &M::Code) -> Result<Replay<M>, NoMemory>
+        ensures { IfOk result (λ replay. StandsForEntries M.meaning code.now []
+            (record { cells = replay.cells.entries; members = replay.members.entries; output = replay.output.items; next = replay.next })) }
+    {
+        let mut members = BTreeMap::new(alloc);
+        members.insert(0, M::start(alloc, code)?)?;
+        Ok(Replay {
+            cells: BTreeMap::new(alloc),
+            members,
+            output: Vec::new(alloc),
+            next: 1,
+        })
+    }
+
+    /// Keeps what a walk set, printed and started.
+    fn keep(
+        &mut self,
+        alloc: Global,
+        code: &M::Code,
+        overlay: &mut BTreeMap<u32, M::Value>,
+        machine: &mut M,
+    ) -> Result<(), NoMemory>
+        ensures cells { OnOk result ((l : ℕ) → at self.new.cells.entries l ≡ or_else (at overlay.old.entries l) (at self.old.cells.entries l)) }
+        ensures output { OnOk result (self.new.output.items ≡ self.old.output.items ++ (M.meaning.stage code.now machine.old).prints) }
+        ensures adopts { OnOk result ((before : List (ℕ × Tree)) (inside : ℕ → Bool)
+            → M.meaning.is_machine code.now machine.old → ShowsMembers M.meaning code.now inside self.old.members.entries before
+            → ((k : ℕ) → self.old.next ≤ k → inside k ≡ false)
+            → Adopts M.meaning code.now inside before self.old.next (M.meaning.stage code.now machine.old) self.new.members.entries self.new.next machine.new) }
+    {
+        merge(&mut self.cells, overlay)?;
+        self.output.extend_from_slice(machine.prints())?;
+        self.next = adopt(alloc, code, &mut self.members, self.next, machine)?;
+        Ok(())
+    }
+
+    /// A `Ran` entry: the whole fragment, up to its end or its next `unprotected`. Where it can't be made, or passes a form whose
+    /// value would be too high, the replay is over: the member was taken out. Costs its steps, each at most the logarithm of the
+    /// cells, and that of the members for each new one.
+    pub fn ran(&mut self, alloc: Global, code: &M::Code, entry: &Entry) -> Result<Made, NoMemory>
+        requires kind { entry.now.kind ≡ EntryKind.Ran }
+        requires stands { (entries : List Entry) × StandsForEntries M.meaning code.now entries
+            (record { cells = self.old.cells.entries; members = self.old.members.entries; output = self.old.output.items; next = self.old.next }) }
+        ensures { IfOk result (λ made. (entries : List Entry) → StandsForEntries M.meaning code.now entries
+            (record { cells = self.old.cells.entries; members = self.old.members.entries; output = self.old.output.items; next = self.old.next })
+            → CameOf M.meaning code.now entries entry.now
+            (record { cells = self.new.cells.entries; members = self.new.members.entries; output = self.new.output.items; next = self.new.next }) made) }
+    {
+        if entry.answer.is_some() {
+            return Ok(Made::Undefined);
+        }
+        let Some(mut machine) = self.members.remove(&entry.number) else {
+            return Ok(Made::Undefined);
+        };
+        if machine.inside() {
+            return Ok(Made::Undefined);
+        }
+        let mut overlay = BTreeMap::new(alloc);
+        match run(alloc, code, &self.cells, entry, &mut overlay, &mut machine)? {
+            Walked::Whole(want) => match want {
+                Wants::Done => {
+                    self.keep(alloc, code, &mut overlay, &mut machine)?;
+                    Ok(Made::Made)
+                }
+                Wants::Leave => {
+                    self.keep(alloc, code, &mut overlay, &mut machine)?;
+                    machine.settle();
+                    self.members.insert(entry.number, machine)?;
+                    Ok(Made::Made)
+                }
+                _ => Ok(Made::Undefined),
+            },
+            Walked::Undefined => Ok(Made::Undefined),
+            Walked::Tall => Ok(Made::Tall),
+        }
+    }
+
+    /// A note (`Stuck`, `Cut`, `Tall`), on a copy of its member's machine. One that stands at `unprotected` makes its steps there.
+    /// Nothing changes. Costs a copy of the machine, and its steps.
+    pub fn note(&self, alloc: Global, code: &M::Code, entry: &Entry) -> Result<Made, NoMemory>
+        requires note { is_note entry.now.kind ≡ true }
+        requires stands { (entries : List Entry) × StandsForEntries M.meaning code.now entries
+            (record { cells = self.now.cells.entries; members = self.now.members.entries; output = self.now.output.items; next = self.now.next }) }
+        ensures { IfOk result (λ made. (entries : List Entry) → StandsForEntries M.meaning code.now entries
+            (record { cells = self.now.cells.entries; members = self.now.members.entries; output = self.now.output.items; next = self.now.next })
+            → CameOf M.meaning code.now entries entry.now
+            (record { cells = self.now.cells.entries; members = self.now.members.entries; output = self.now.output.items; next = self.now.next }) made) }
+    {
+        if entry.answer.is_some() {
+            return Ok(Made::Undefined);
+        }
+        let Some(member) = self.members.get(&entry.number) else {
+            return Ok(Made::Undefined);
+        };
+        let mut machine = member.copy(alloc)?;
+        let _next = machine.advance(alloc, code, 0)?;
+        machine.settle();
+        let mut overlay = BTreeMap::new(alloc);
+        match run(alloc, code, &self.cells, entry, &mut overlay, &mut machine)? {
+            Walked::Whole(want) => {
+                if confirms(entry.kind, want) {
+                    Ok(Made::Made)
+                } else {
+                    Ok(Made::Undefined)
+                }
+            }
+            Walked::Undefined => Ok(Made::Undefined),
+            Walked::Tall => Ok(Made::Tall),
+        }
+    }
+}

@@ -1,0 +1,5 @@
+pub mod StrategyLemmas
+pub mod DrawnLemmas
+pub mod ListedLemmas
+pub mod WaitsLemmas
+pub mod QuestionsLemmas

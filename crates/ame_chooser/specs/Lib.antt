@@ -1,0 +1,5 @@
+pub mod Strategy
+pub mod Drawn
+pub mod Listed
+pub mod Waits
+pub mod Questions

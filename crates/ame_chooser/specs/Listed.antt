@@ -1,0 +1,17 @@
+-- What the chooser of a list of picks picks.
+use Rattle.std.specs.Prelude.{ℕ, List, [], ◌∷◌, ◌==◌, if◌then◌else◌, slice_index_or}
+use Rattle.std.specs.List.{list_any}
+
+-- the first that may be picked
+abbrev pub first_that_may : List ℕ → ℕ
+first_that_may may = slice_index_or may 0 0
+
+-- this seat where it may be picked, else the first
+abbrev pub or_first : ℕ → List ℕ → ℕ
+or_first seat may = if list_any (λ s. s == seat) may then seat else first_that_may may
+
+-- each question takes the next of the seats; where none is left, it is answered by the first that may be picked
+abbrev pub listed : List ℕ → List (List ℕ) → List ℕ
+listed seats [] = []
+listed [] (may ∷ rest) = first_that_may may ∷ listed [] rest
+listed (seat ∷ seats) (may ∷ rest) = or_first seat may ∷ listed seats rest

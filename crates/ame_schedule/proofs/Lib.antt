@@ -1,0 +1,2 @@
+pub mod SignLemmas
+pub mod TextLemmas

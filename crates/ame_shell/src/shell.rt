@@ -4,6 +4,7 @@ ghost use Rattle.std.specs.Prelude.{◌≡◌, ◌≢◌, ◌≤◌, ◌<◌, �
 ghost use Rattle.ame_io.specs.Lines.{lines};
 ghost use Rattle.ame_protocol.specs.declared.types.Task.{Task};
 ghost use Rattle.ame_protocol.specs.Engine.Parts.{task_at};
+ghost use Rattle.ame_engine.specs.Ending.{end_of};
 ghost use Rattle.ame_turn.specs.declared.work.Deed.{Deed};
 ghost use Rattle.ame_turn.specs.declared.work.Work.{Work};
 ghost use Rattle.ame_turn.specs.Ready.{IsReadyWork, CanBePrepared};
@@ -138,6 +139,7 @@ where
     pub fn finish(self) -> Remains<M::Value, K, D>
         requires idle { (seat : ℕ) → task_at self.engine.tasks seat ≡ Task.Idle }
         requires stopped { IsSome self.engine.stop }
+        ensures told { result.ended ≡ end_of self.engine }
         ensures over { (opening : Opening M.Code)
             → IsShell M.meaning.program opening (shown K.written K.faults D.device_heard D.device_faults self.engine self.sent self.sink self.devices.items)
             → IsOver (M.meaning.program opening.code) opening.limits (M.meaning.value_of opening.code) opening.ends result.ended

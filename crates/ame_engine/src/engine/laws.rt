@@ -1,7 +1,10 @@
 //! What is so of each engine.
 
-ghost use Rattle.std.specs.Prelude.{◌≤◌, All};
-ghost use Rattle.ame_pool.specs.Members.{IsRising};
+ghost use Rattle.std.specs.Prelude.{◌≡◌, ◌≤◌, All, IsTrue};
+ghost use Rattle.std.specs.List.{list_any};
+ghost use Rattle.ame_pool.specs.declared.oldest.Oldest.{Oldest};
+ghost use Rattle.ame_pool.specs.Begin.{oldest};
+ghost use Rattle.ame_pool.specs.Members.{IsRising, is_busy};
 ghost use Rattle.ame_pool.specs.Standings.{max_rollbacks};
 ghost use Rattle.ame_protocol.specs.Engine.Simulates.{Simulates};
 ghost use Rattle.ame_protocol.specs.Engine.Alone.{RunsExclusively};
@@ -29,5 +32,12 @@ where
         ensures rising { IsRising self.now.pool.members }
     {
         let _ = &self.turns;
+    }
+
+    /// In each engine some member is busy where members are left that may not begin and aren't all parked.
+    pub fn who_waits_waits_for_somebody(&self)
+        ensures busy { oldest self.now.pool ≡ Oldest.Wait → IsTrue (list_any is_busy self.now.pool.members) }
+    {
+        let _ = self.pool.oldest();
     }
 }

@@ -1,7 +1,11 @@
 //! Runs the examples that are named by its words, one after another: the name of each, what `ame` writes, and its status. A
-//! word that is a number says how many workers run the examples after it.
+//! word that is a number says how many workers run the examples after it; the word `embedded` runs a text on ends of its own.
 #![tactic(auto)]
 
+mod embedded;
+mod ends;
+
+use crate::embedded::run_embedded;
 use ame_app::run_process;
 use ame_io::{StdSink, StdSource};
 use std::alloc::AllocError;
@@ -38,6 +42,10 @@ fn main(rt: HostRuntime) -> io::Result<()> {
     for word in env::args(&rt)?.skip(1) {
         if let Ok(number) = word.parse::<u32>() {
             workers = number;
+            continue;
+        }
+        if word.as_str() == "embedded" {
+            run_embedded(&rt)?;
             continue;
         }
         println!(rt; "{word}:")?;

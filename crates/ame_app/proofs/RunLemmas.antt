@@ -18,8 +18,8 @@ use Rattle.ame_code.specs.FlatCode.{FlatCode}
 use Rattle.ame_code.specs.Code.{program_of}
 use Rattle.ame_eval.specs.Values.{value_meant}
 use Rattle.ame_cli.specs.declared.command.Options.{Options}
-use Rattle.ame_engine.specs.declared.stop.Stop.{Stop}
-use Rattle.ame_engine.specs.Causes.{NotesStop}
+use Rattle.ame_protocol.specs.declared.stop.Stop.{Stop}
+use Rattle.ame_protocol.specs.Event.Causes.{NotesStop}
 use Rattle.ame_engine.specs.Ending.{End, CertifyAll, HasStopped}
 use Rattle.ame_shell.specs.Ends.{Ends}
 use Rattle.ame_device.specs.declared.told.Told.{Told}
@@ -28,7 +28,7 @@ use Rattle.ame_shell.specs.Over.{AreOfSeats, IsOver}
 use Rattle.ame_app.specs.declared.status.Status.{Status}
 use Rattle.ame_app.specs.Calls.{Call}
 use Rattle.ame_app.specs.Causes.{status_of, number_at_stop, number_told, RunCause}
-use Rattle.ame_engine.specs.Bounds.{HasBounds}
+use Rattle.ame_protocol.specs.Event.Bounds.{HasBounds}
 use Rattle.ame_app.specs.Headline.{limits_of, Headline, IsTypedState, journal_of, verdict_of, IsWritten}
 use Rattle.ame_app.specs.Jobs.{IsJobOf, Speaks}
 use Rattle.ame_app.proofs.WrittenLemmas.{after-lines, tells-fault, spoken-is}

@@ -6,7 +6,7 @@ use Rattle.ame_io.specs.Counts.{HasRisen}
 use Rattle.ame_io.specs.Writes.{AppendsFront}
 use Rattle.ame_io.proofs.CountsLemmas.{HasRisen-then}
 use Rattle.ame_io.proofs.WritesLemmas.{AppendsFront-first, AppendsFront-after}
-use Rattle.ame_engine.specs.declared.stop.Stop.{Stop}
+use Rattle.ame_protocol.specs.declared.stop.Stop.{Stop}
 use Rattle.ame_shell.specs.Ends.{Ends}
 use Rattle.ame_shell.specs.Sent.{IsSent, IsSentWhole, IsSentInPart}
 use Rattle.ame_app.specs.declared.status.Status.{Status}

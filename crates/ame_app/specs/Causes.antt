@@ -9,11 +9,11 @@ use Rattle.ame_cli.specs.declared.command.Options.{Options}
 use Rattle.ame_cli.specs.declared.command.Command.{Command}
 use Rattle.ame_cli.specs.Grammar.{SpellsCommand, SpellsNothing}
 use Rattle.ame_types.specs.declared.fault.TypeFault.{TypeFault}
-use Rattle.ame_engine.specs.declared.stop.Stop.{Stop}
-use Rattle.ame_engine.specs.declared.certificate.Certificate.{Certificate}
+use Rattle.ame_protocol.specs.declared.stop.Stop.{Stop}
+use Rattle.ame_protocol.specs.declared.certificate.Certificate.{Certificate}
 use Rattle.ame_journal.specs.Replayed.{Replayed}
-use Rattle.ame_engine.specs.Causes.{IsTall}
-use Rattle.ame_engine.specs.Faults.{ComesToCall}
+use Rattle.ame_protocol.specs.Event.Causes.{IsTall}
+use Rattle.ame_protocol.specs.Event.Faults.{ComesToCall}
 use Rattle.ame_engine.specs.Ending.{End, CertifyAll}
 use Rattle.ame_shell.specs.Ends.{Ends, told_at}
 use Rattle.ame_app.specs.declared.status.TextKind.{TextKind}

@@ -23,8 +23,8 @@ use Rattle.ame_value.specs.declared.val.Val.{Val}
 use Rattle.ame_eval.specs.Values.{value_meant}
 use Rattle.ame_cli.specs.declared.command.Options.{Options}
 use Rattle.ame_protocol.specs.declared.types.Limits.{Limits}
-use Rattle.ame_engine.specs.Bounds.{HasBounds}
-use Rattle.ame_engine.specs.Causes.{NotesStop}
+use Rattle.ame_protocol.specs.Event.Bounds.{HasBounds}
+use Rattle.ame_protocol.specs.Event.Causes.{NotesStop}
 use Rattle.ame_engine.specs.Ending.{End}
 use Rattle.ame_shell.specs.Ends.{Ends}
 use Rattle.ame_shell.specs.Heard.{HaveHeard, HaveFailed}

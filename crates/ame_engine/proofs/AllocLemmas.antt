@@ -38,20 +38,20 @@ use Rattle.ame_protocol.specs.Waits.Once.{AreNotedOnce}
 use Rattle.ame_protocol.proofs.Waits.TaskLemmas.{allocation-waiting}
 use Rattle.ame_protocol.proofs.Waits.OnceLemmas.{once-on}
 use Rattle.ame_engine.specs.Core.{Core}
-use Rattle.ame_engine.specs.Causes.{HasCause}
-use Rattle.ame_engine.proofs.CauseLemmas.{task-more, working-cause}
-use Rattle.ame_engine.specs.Counting.{Counted, one_counted}
+use Rattle.ame_protocol.specs.Event.Causes.{HasCause}
+use Rattle.ame_protocol.proofs.Event.CauseLemmas.{task-more, working-cause}
+use Rattle.ame_protocol.specs.Event.Counting.{Counted, one_counted}
 use Rattle.ame_engine.specs.Seen.{parts_of, MakesEvent}
 use Rattle.ame_engine.specs.Whole.{IsGoodUndo, IsGoodLog, IsGoodMemory, IsSound}
 use Rattle.ame_engine.specs.AtWork.{IsOnSeat, IsOn}
-use Rattle.ame_engine.proofs.CountLemmas.{one-counts}
+use Rattle.ame_protocol.proofs.Event.CountLemmas.{one-counts}
 use Rattle.ame_engine.proofs.ReadLemmas.{row-good, runs-as, comes-to}
 use Rattle.ame_engine.proofs.RunLemmas.{can-run}
-use Rattle.ame_engine.specs.Lone.{IsLone}
-use Rattle.ame_engine.proofs.LoneLemmas.{allocation-lone}
-use Rattle.ame_engine.specs.Bounds.{KeepsBounds}
-use Rattle.ame_engine.proofs.BoundLemmas.{allocation-bounded}
-use Rattle.ame_engine.specs.declared.stop.Stop.{Stop}
+use Rattle.ame_protocol.specs.Event.Lone.{IsLone}
+use Rattle.ame_protocol.proofs.Event.LoneLemmas.{allocation-lone}
+use Rattle.ame_protocol.specs.Event.Bounds.{KeepsBounds}
+use Rattle.ame_protocol.proofs.Event.BoundLemmas.{allocation-bounded}
+use Rattle.ame_protocol.specs.declared.stop.Stop.{Stop}
 use Rattle.ame_machine.specs.Meaning.{Meaning}
 
 -- The sort and the form of the cell that is wanted

@@ -30,8 +30,8 @@ use Rattle.ame_protocol.specs.Waits.Once.{AreNotedOnce}
 use Rattle.ame_protocol.proofs.Waits.TaskLemmas.{begin-waiting}
 use Rattle.ame_protocol.proofs.Waits.OnceEvents.{begin-once}
 use Rattle.ame_engine.specs.Core.{Core}
-use Rattle.ame_engine.specs.Causes.{HasCause}
-use Rattle.ame_engine.specs.Counting.{Counted, one_counted}
+use Rattle.ame_protocol.specs.Event.Causes.{HasCause, is_from_outside}
+use Rattle.ame_protocol.specs.Event.Counting.{Counted, one_counted}
 use Rattle.ame_protocol.specs.Engine.Shown.{shown_pool}
 use Rattle.ame_engine.specs.Seen.{parts_of, term_shown, MakesEvent}
 use Rattle.ame_engine.specs.Whole.{resting_at, IsAtRest, IsSound}
@@ -45,15 +45,15 @@ use Rattle.ame_protocol.proofs.Engine.ShownPoolLemmas.{machine-shown, held-shown
 use Rattle.ame_engine.proofs.MemberLemmas.{all_altered, inside-told, ready-machine, inside-same, ready-same}
 use Rattle.ame_engine.proofs.WorkLemmas.{on-begun}
 use Rattle.ame_engine.proofs.RunLemmas.{rest-runs}
-use Rattle.ame_engine.proofs.CountLemmas.{one-counts}
-use Rattle.ame_engine.specs.declared.stop.Stop.{Stop}
-use Rattle.ame_engine.specs.Stops.{is_from_outside, stopped_by}
-use Rattle.ame_engine.proofs.CauseLemmas.{begins-more, working-cause, empty-members, empty-oldest, fault-cause}
-use Rattle.ame_engine.proofs.RollbackLemmas.{good-held}
+use Rattle.ame_protocol.proofs.Event.CountLemmas.{one-counts}
+use Rattle.ame_protocol.specs.declared.stop.Stop.{Stop}
+use Rattle.ame_engine.specs.Stops.{stopped_by}
+use Rattle.ame_protocol.proofs.Event.CauseLemmas.{begins-more, working-cause, empty-members, empty-oldest, fault-cause}
+use Rattle.ame_protocol.proofs.Event.RollbackLemmas.{good-held}
 use Rattle.ame_engine.proofs.OldestLemmas.{oldest-shown}
-use Rattle.ame_engine.proofs.LoneLemmas.{lone-begun}
-use Rattle.ame_engine.specs.Bounds.{KeepsBounds, LeavesNoTry}
-use Rattle.ame_engine.proofs.BoundLemmas.{begun-bounded, idle-leaves_no_try}
+use Rattle.ame_protocol.proofs.Event.LoneLemmas.{lone-begun}
+use Rattle.ame_protocol.specs.Event.Bounds.{KeepsBounds, LeavesNoTry}
+use Rattle.ame_protocol.proofs.Event.BoundLemmas.{begun-bounded, idle-leaves_no_try}
 use Rattle.ame_machine.specs.Meaning.{Meaning}
 
 module _ {C V M : Type 0} (meaning : Meaning C V M) where

@@ -40,21 +40,21 @@ use Rattle.ame_protocol.proofs.Waits.NotedLemmas.{noted_stands, noted-alone}
 use Rattle.ame_protocol.proofs.Waits.TaskLemmas.{note-waiting}
 use Rattle.ame_protocol.proofs.Waits.OnceEvents.{note-once}
 use Rattle.ame_engine.specs.Core.{Core}
-use Rattle.ame_engine.specs.declared.stop.Stop.{Stop}
-use Rattle.ame_engine.specs.Counting.{Counted, one_counted}
+use Rattle.ame_protocol.specs.declared.stop.Stop.{Stop}
+use Rattle.ame_protocol.specs.Event.Counting.{Counted, one_counted}
 use Rattle.ame_engine.specs.Seen.{parts_of, term_shown, MakesEvent}
-use Rattle.ame_engine.specs.Rollbacks.{IsGoodPool}
+use Rattle.ame_protocol.specs.Event.Rollbacks.{IsGoodPool}
 use Rattle.ame_engine.specs.Whole.{IsAtRest, IsSound}
 use Rattle.ame_engine.specs.AtWork.{IsOn}
-use Rattle.ame_engine.proofs.CauseLemmas.{going-cause}
+use Rattle.ame_protocol.proofs.Event.CauseLemmas.{going-cause}
 use Rattle.ame_engine.proofs.CommitLemmas.{sound', left', place, used, are-valid, its-runs, commit-runs, commit-few}
-use Rattle.ame_engine.proofs.CountLemmas.{one-counts}
+use Rattle.ame_protocol.proofs.Event.CountLemmas.{one-counts}
 use Rattle.ame_engine.proofs.CrewLemmas.{busy-told}
 use Rattle.ame_engine.proofs.MemberLemmas.{all_altered}
-use Rattle.ame_engine.proofs.RollbackLemmas.{good-noted}
-use Rattle.ame_engine.proofs.LoneLemmas.{lone-left}
-use Rattle.ame_engine.specs.Bounds.{KeepsBounds}
-use Rattle.ame_engine.proofs.BoundLemmas.{noted-bounded}
+use Rattle.ame_protocol.proofs.Event.RollbackLemmas.{good-noted}
+use Rattle.ame_protocol.proofs.Event.LoneLemmas.{lone-left}
+use Rattle.ame_protocol.specs.Event.Bounds.{KeepsBounds}
+use Rattle.ame_protocol.proofs.Event.BoundLemmas.{noted-bounded}
 use Rattle.ame_engine.proofs.CommitLemmas.{commit-low, commit-rolls}
 use Rattle.ame_machine.specs.Meaning.{Meaning}
 

@@ -17,24 +17,24 @@ use Rattle.ame_pool.specs.Calls.{inside_of}
 use Rattle.ame_protocol.specs.Waits.Waiting.{is_stuck, last_stuck}
 use Rattle.ame_protocol.proofs.Row.CellLemmas.{which}
 use Rattle.ame_protocol.proofs.Waits.WatchLemmas.{last-same, last-here}
-use Rattle.ame_engine.specs.declared.certificate.Certificate.{Certificate}
+use Rattle.ame_protocol.specs.declared.certificate.Certificate.{Certificate}
 use Rattle.ame_protocol.specs.Engine.Parts.{Parts}
 use Rattle.ame_protocol.specs.Engine.Shown.{shown_member}
 use Rattle.ame_protocol.proofs.Engine.AloneEvents.{stop-alone}
 use Rattle.ame_protocol.proofs.Engine.ToldLemmas.{stopped_stands, next-free}
 use Rattle.ame_protocol.proofs.Waits.TaskLemmas.{stop-waiting}
 use Rattle.ame_protocol.proofs.Waits.OnceEvents.{stop-once}
-use Rattle.ame_engine.specs.declared.stop.Stop.{Stop}
+use Rattle.ame_protocol.specs.declared.stop.Stop.{Stop}
 use Rattle.ame_engine.specs.Core.{Core}
-use Rattle.ame_engine.specs.Causes.{certificate_of, certificates_of, certificates_in}
+use Rattle.ame_protocol.specs.Event.Causes.{certificate_of, certificates_of, certificates_in}
 use Rattle.ame_engine.specs.Certifying.{certified_by}
 use Rattle.ame_engine.specs.Seen.{parts_of, term_shown}
 use Rattle.ame_engine.specs.Stops.{blocked_by}
 use Rattle.ame_engine.specs.Whole.{IsSound}
-use Rattle.ame_engine.proofs.CauseLemmas.{going-ordinary}
+use Rattle.ame_protocol.proofs.Event.CauseLemmas.{going-ordinary}
 use Rattle.ame_engine.proofs.CrewLemmas.{none-told}
 use Rattle.ame_engine.proofs.OldestLemmas.{oldest-shown}
-use Rattle.ame_engine.proofs.BoundLemmas.{stop-bounded}
+use Rattle.ame_protocol.proofs.Event.BoundLemmas.{stop-bounded}
 use Rattle.ame_machine.specs.Meaning.{Meaning}
 
 ne-eqb : (a b : ℕ) → (a ≡ b → ⊥) → (a == b) ≡ false

@@ -23,7 +23,7 @@ use Rattle.ame_machine.specs.MachineView.{MachineView, running_side}
 use Rattle.ame_protocol.specs.declared.types.Attempt.{Attempt}
 use Rattle.ame_protocol.specs.declared.types.Reason.{Reason}
 use Rattle.ame_protocol.specs.declared.types.Task.{Task}
-use Rattle.ame_protocol.specs.Engine.Parts.{Parts, heap_in, task_at, attempt_of, term_at, run_in}
+use Rattle.ame_protocol.specs.Engine.Parts.{Parts, heap_in, task_at, attempt_of, term_at, run_in, working}
 use Rattle.ame_protocol.specs.Engine.Tasks.{is_busy_as, RunsProtected, MeetsTask}
 use Rattle.ame_protocol.specs.Engine.Simulates.{Simulates}
 use Rattle.ame_protocol.specs.Engine.Alone.{is_of_protected, IsExhausted, RunsExclusively}
@@ -41,25 +41,25 @@ use Rattle.ame_protocol.specs.Waits.Once.{AreNotedOnce}
 use Rattle.ame_protocol.proofs.Waits.TaskLemmas.{stop-waiting, retask-waiting}
 use Rattle.ame_protocol.proofs.Waits.OnceLemmas.{once-on}
 use Rattle.ame_protocol.proofs.Waits.OnceEvents.{stop-once}
-use Rattle.ame_engine.specs.declared.stop.Stop.{Stop}
-use Rattle.ame_engine.specs.declared.counters.Counters.{Counters}
+use Rattle.ame_protocol.specs.declared.stop.Stop.{Stop}
+use Rattle.ame_protocol.specs.declared.counters.Counters.{Counters}
 use Rattle.ame_engine.specs.Core.{Core}
 use Rattle.ame_engine.specs.Stops.{stopped_by}
-use Rattle.ame_engine.specs.Causes.{HasCause}
-use Rattle.ame_engine.specs.Counting.{Counted, one_counted, CountsTurns}
+use Rattle.ame_protocol.specs.Event.Causes.{HasCause}
+use Rattle.ame_protocol.specs.Event.Counting.{Counted, one_counted, CountsTurns}
 use Rattle.ame_engine.specs.Seen.{parts_of, term_shown, MakesEvent}
-use Rattle.ame_engine.specs.Rollbacks.{MayBeRolledBack}
+use Rattle.ame_protocol.specs.Event.Rollbacks.{MayBeRolledBack}
 use Rattle.ame_engine.specs.Whole.{IsSound}
-use Rattle.ame_engine.specs.AtWork.{working, IsOnSeat, IsOn}
+use Rattle.ame_engine.specs.AtWork.{IsOnSeat, IsOn}
 use Rattle.ame_engine.proofs.ReadLemmas.{place-by, runs-as}
-use Rattle.ame_engine.proofs.CountLemmas.{one-counts}
-use Rattle.ame_engine.proofs.CauseLemmas.{task-more, working-cause}
-use Rattle.ame_engine.proofs.RollbackLemmas.{may-roll}
-use Rattle.ame_engine.proofs.AloneLemmas.{turned_alone}
-use Rattle.ame_engine.proofs.LoneLemmas.{no-other, lone-never, lone-on}
+use Rattle.ame_protocol.proofs.Event.CountLemmas.{one-counts}
+use Rattle.ame_protocol.proofs.Event.CauseLemmas.{task-more, working-cause}
+use Rattle.ame_protocol.proofs.Event.RollbackLemmas.{may-roll}
+use Rattle.ame_protocol.proofs.Event.AloneLemmas.{turned_alone}
+use Rattle.ame_protocol.proofs.Event.LoneLemmas.{no-other, lone-never, lone-on}
 use Rattle.ame_protocol.proofs.Bounds.ShownLemmas.{turns-shown}
-use Rattle.ame_engine.specs.Bounds.{refusals, KeepsBounds, LeavesNoTry}
-use Rattle.ame_engine.proofs.BoundLemmas.{stop-bounded, back-bounded, check-bounded}
+use Rattle.ame_protocol.specs.Event.Bounds.{refusals, KeepsBounds, LeavesNoTry}
+use Rattle.ame_protocol.proofs.Event.BoundLemmas.{stop-bounded, back-bounded, check-bounded}
 use Rattle.ame_machine.specs.Meaning.{Meaning}
 
 -- Valid reads are so at the shown cells.

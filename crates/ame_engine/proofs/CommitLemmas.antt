@@ -39,7 +39,7 @@ use Rattle.ame_machine.specs.Sound.{IsSoundStage}
 use Rattle.ame_machine.proofs.NeedLemmas.{comes_as}
 use Rattle.ame_protocol.specs.declared.types.Attempt.{Attempt}
 use Rattle.ame_protocol.specs.declared.types.Task.{Task}
-use Rattle.ame_protocol.specs.Engine.Parts.{Parts, heap_in, task_at, term_at, attempt_of, member_of, run_in}
+use Rattle.ame_protocol.specs.Engine.Parts.{Parts, heap_in, task_at, term_at, attempt_of, member_of, run_in, working}
 use Rattle.ame_protocol.specs.Engine.Shown.{shown_memory, shown_notes, shown_pool}
 use Rattle.ame_protocol.specs.Engine.Tasks.{is_busy_as, RunsProtected}
 use Rattle.ame_protocol.specs.Engine.Simulates.{Simulates}
@@ -59,26 +59,26 @@ use Rattle.ame_protocol.specs.Waits.Once.{AreNotedOnce}
 use Rattle.ame_protocol.proofs.Waits.CommitLemmas.{owned-named, ended-waiting, left-waiting}
 use Rattle.ame_protocol.proofs.Waits.OnceEvents.{ended-once, left-once}
 use Rattle.ame_engine.specs.Core.{Core}
-use Rattle.ame_engine.specs.declared.stop.Stop.{Stop}
-use Rattle.ame_engine.proofs.CauseLemmas.{going-cause}
-use Rattle.ame_engine.specs.Counting.{Counted, one_counted}
-use Rattle.ame_engine.specs.Rollbacks.{IsGoodPool}
+use Rattle.ame_protocol.specs.declared.stop.Stop.{Stop}
+use Rattle.ame_protocol.proofs.Event.CauseLemmas.{going-cause}
+use Rattle.ame_protocol.specs.Event.Counting.{Counted, one_counted}
+use Rattle.ame_protocol.specs.Event.Rollbacks.{IsGoodPool}
 use Rattle.ame_engine.specs.Seen.{parts_of, term_shown, MakesEvent}
 use Rattle.ame_engine.specs.Whole.{IsGoodUndo, IsGoodLog, IsGoodMemory, IsAtRest, IsSound}
-use Rattle.ame_engine.specs.AtWork.{working, IsOnSeat, IsOn}
+use Rattle.ame_engine.specs.AtWork.{IsOnSeat, IsOn}
 use Rattle.ame_engine.specs.Committing.{commits, owned_places, ended_at, left_at}
 use Rattle.ame_engine.proofs.ReadLemmas.{runs-as}
 use Rattle.ame_engine.proofs.CheckLemmas.{valid-shown}
-use Rattle.ame_engine.proofs.CountLemmas.{one-counts}
-use Rattle.ame_engine.proofs.LoneLemmas.{lone-left}
-use Rattle.ame_engine.proofs.RollbackLemmas.{rising-shown}
+use Rattle.ame_protocol.proofs.Event.CountLemmas.{one-counts}
+use Rattle.ame_protocol.proofs.Event.LoneLemmas.{lone-left}
+use Rattle.ame_protocol.proofs.Event.RollbackLemmas.{rising-shown, woken-good}
 use Rattle.ame_engine.proofs.OwnedLemmas.{owned-are}
-use Rattle.ame_engine.proofs.CrewLemmas.{woken-rest, woken-good, all-woken-shown, busy-told, none-told, room-used, all-woken-room}
+use Rattle.ame_engine.proofs.CrewLemmas.{woken-rest, all-woken-shown, busy-told, none-told, room-used, all-woken-room}
 use Rattle.ame_protocol.specs.Bounds.Rollbacks.{IsWithinRollbacks}
 use Rattle.ame_protocol.proofs.Bounds.ShownLemmas.{within-shown}
-use Rattle.ame_engine.specs.Bounds.{KeepsBounds}
-use Rattle.ame_engine.proofs.BoundLemmas.{ended-bounded, left-bounded}
-use Rattle.ame_engine.specs.declared.counters.Counters.{Counters}
+use Rattle.ame_protocol.specs.Event.Bounds.{KeepsBounds}
+use Rattle.ame_protocol.proofs.Event.BoundLemmas.{ended-bounded, left-bounded}
+use Rattle.ame_protocol.specs.declared.counters.Counters.{Counters}
 use Rattle.ame_machine.specs.Meaning.{Meaning}
 
 -- what the machine wants

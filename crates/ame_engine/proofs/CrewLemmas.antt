@@ -19,11 +19,11 @@ use Rattle.ame_protocol.specs.Engine.Shown.{shown_member, shown_pool}
 use Rattle.ame_protocol.specs.Engine.Tasks.{is_busy_as}
 use Rattle.ame_protocol.specs.Engine.Events.{woken_for, with_newcomers}
 use Rattle.ame_protocol.proofs.Engine.ShownPoolLemmas.{found-shown, woken-shown, exchanged-shown}
-use Rattle.ame_engine.specs.Rollbacks.{IsGoodPool}
+use Rattle.ame_protocol.specs.Event.Rollbacks.{IsGoodPool}
 use Rattle.ame_engine.specs.Seen.{term_shown}
 use Rattle.ame_engine.specs.Whole.{resting_at, IsAtRest}
 use Rattle.ame_engine.proofs.MemberLemmas.{all_altered}
-use Rattle.ame_engine.proofs.RollbackLemmas.{good-woken}
+use Rattle.ame_protocol.proofs.Event.RollbackLemmas.{good-woken}
 
 -- what all members pass, all pass once one has left
 pub all_except : {M : Type 0} (n : ℕ) (P : Member M → Type 0) (ms : List (Member M)) → All P ms → All P (except n ms)
@@ -59,10 +59,6 @@ module _ {C M : Type 0} (is_machine : C → M → Type 0) (stage : C → M → M
   pub woken-rest : (ls : List ℕ) (pool : Roster M) → All (IsAtRest is_machine stage code) pool.members
       → All (IsAtRest is_machine stage code) (woken_for ls pool).members
   woken-rest = all-woken-pass (IsAtRest is_machine stage code) (λ l m rests. record { machine = rests.machine; rests = rests.rests })
-
-pub woken-good : {M : Type 0} (ls : List ℕ) (pool : Roster M) → IsGoodPool pool → IsGoodPool (woken_for ls pool)
-woken-good [] pool good = good
-woken-good (l ∷ ls) pool good = woken-good ls (woken l pool) (good-woken l pool good)
 
 -- a member goes on inside, with no more than its term
 module _ {C M : Type 0} (is_machine : C → M → Type 0) (stage : C → M → MachineView) (code : C) (number : ℕ) (pool new : Roster M) where

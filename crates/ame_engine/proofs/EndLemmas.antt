@@ -22,22 +22,22 @@ use Rattle.ame_protocol.proofs.Engine.ShownMemoryLemmas.{row-shown}
 use Rattle.ame_protocol.specs.Waits.Certificates.{IsCertificate, HasCertificate}
 use Rattle.ame_protocol.proofs.Waits.CertificateLemmas.{blocked-certificates}
 use Rattle.ame_protocol.proofs.Visits.EndLemmas.{idle-clear, all-stored, state-empty, pool-empty}
-use Rattle.ame_engine.specs.declared.certificate.Certificate.{Certificate}
-use Rattle.ame_engine.specs.declared.stop.Stop.{Stop}
+use Rattle.ame_protocol.specs.declared.certificate.Certificate.{Certificate}
+use Rattle.ame_protocol.specs.declared.stop.Stop.{Stop}
 use Rattle.ame_engine.specs.Core.{Core}
-use Rattle.ame_engine.specs.Faults.{LeadsToCall}
-use Rattle.ame_engine.specs.Causes.{certificate_of, certificates_of, certificates_in, HasCause}
+use Rattle.ame_protocol.specs.Event.Faults.{LeadsToCall}
+use Rattle.ame_protocol.specs.Event.Causes.{certificate_of, certificates_of, certificates_in, HasCause}
 use Rattle.ame_engine.specs.Seen.{parts_of, term_shown}
 use Rattle.ame_engine.specs.Whole.{IsSound}
 use Rattle.ame_engine.specs.Ending.{Rise, CertifyAll, HasStopped, IsEnd, end_of}
-use Rattle.ame_engine.proofs.CauseLemmas.{empty-oldest}
-use Rattle.ame_engine.proofs.RollbackLemmas.{rising-shown}
+use Rattle.ame_protocol.proofs.Event.CauseLemmas.{empty-oldest}
+use Rattle.ame_protocol.proofs.Event.RollbackLemmas.{rising-shown}
 use Rattle.ame_pool.specs.Standings.{max_rollbacks}
 use Rattle.ame_protocol.specs.Bounds.Rollbacks.{IsWithinRollbacks}
 use Rattle.ame_protocol.proofs.Bounds.ShownLemmas.{within-shown}
 use Rattle.ame_protocol.proofs.Bounds.FewBounds.{refusals-bounded, tries-bounded}
 use Rattle.ame_protocol.proofs.Bounds.PaidEntries.{turns-bounded}
-use Rattle.ame_engine.specs.Bounds.{refusals, KeepsBounds, HasBounds}
+use Rattle.ame_protocol.specs.Event.Bounds.{refusals, KeepsBounds, HasBounds}
 use Rattle.ame_machine.specs.Meaning.{Meaning}
 
 -- One certificate a member

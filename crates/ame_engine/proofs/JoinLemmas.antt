@@ -14,9 +14,9 @@ use Rattle.ame_protocol.specs.Engine.Shown.{shown_pool}
 use Rattle.ame_protocol.specs.Engine.Events.{with_newcomers}
 use Rattle.ame_protocol.proofs.Engine.ShownPoolLemmas.{joined-shown}
 use Rattle.ame_engine.specs.Seen.{term_shown}
-use Rattle.ame_engine.specs.Rollbacks.{IsGoodPool}
+use Rattle.ame_protocol.specs.Event.Rollbacks.{IsGoodPool}
 use Rattle.ame_engine.specs.Whole.{resting_at, IsAtRest}
-use Rattle.ame_engine.proofs.RollbackLemmas.{good-joined}
+use Rattle.ame_protocol.proofs.Event.RollbackLemmas.{good-joined}
 
 -- what all members pass, all pass once one more is placed, if that one does
 pub all_placed : {M : Type 0} (P : Member M → Type 0) (new : Member M) (ms : List (Member M)) → P new → All P ms → All P (placed new ms)

@@ -19,11 +19,11 @@ use Rattle.ame_machine.specs.Sound.{IsSoundStage}
 use Rattle.ame_machine.proofs.LowLemmas.{too-high}
 use Rattle.ame_protocol.specs.declared.types.Attempt.{Attempt}
 use Rattle.ame_protocol.specs.declared.types.Task.{Task}
-use Rattle.ame_protocol.specs.Engine.Parts.{Parts, heap_in, task_at, term_at, attempt_of, run_in}
+use Rattle.ame_protocol.specs.Engine.Parts.{Parts, heap_in, task_at, term_at, attempt_of, run_in, working}
 use Rattle.ame_protocol.specs.Engine.Tasks.{is_busy_as, Visits, RunsProtected, MeetsTask}
 use Rattle.ame_protocol.specs.Engine.Simulates.{Simulates}
 use Rattle.ame_protocol.specs.Engine.Alone.{RunsExclusively}
-use Rattle.ame_protocol.proofs.Engine.StepLemmas.{seat_within}
+use Rattle.ame_protocol.proofs.Engine.StepLemmas.{seat_within, working-has}
 use Rattle.ame_protocol.proofs.Engine.MemoryEvents.{memory-valid, valid-memory}
 use Rattle.ame_protocol.proofs.Engine.ShownMemoryLemmas.{row-shown}
 use Rattle.ame_protocol.specs.Waits.Waiting.{AreWaiting}
@@ -31,30 +31,23 @@ use Rattle.ame_protocol.specs.Waits.Once.{AreNotedOnce}
 use Rattle.ame_protocol.proofs.Waits.VisitLemmas.{told-waiting, told-once}
 use Rattle.ame_protocol.specs.Visits.Stops.{MayBeNoted, told_task, note_entry, has_been_cut, has_grown_tall}
 use Rattle.ame_protocol.proofs.Visits.NoteLemmas.{cut-stands, tall-stands, cut-alone, tall-alone}
-use Rattle.ame_engine.specs.declared.stop.Stop.{Stop}
+use Rattle.ame_protocol.specs.declared.stop.Stop.{Stop}
 use Rattle.ame_engine.specs.Core.{Core}
-use Rattle.ame_engine.specs.Causes.{EndsWith, HasCause}
-use Rattle.ame_engine.specs.Counting.{Counted, one_counted}
+use Rattle.ame_protocol.specs.Event.Causes.{EndsWith, HasCause}
+use Rattle.ame_protocol.specs.Event.Counting.{Counted, one_counted}
 use Rattle.ame_engine.specs.Seen.{parts_of, MakesLastEvent}
 use Rattle.ame_engine.specs.Stops.{stopped_by}
 use Rattle.ame_engine.specs.Whole.{IsSound}
-use Rattle.ame_engine.specs.AtWork.{is_free, working, IsOnSeat, IsOn}
-use Rattle.ame_engine.proofs.CauseLemmas.{task-more, going-ordinary, going-untold}
+use Rattle.ame_engine.specs.AtWork.{is_free, IsOnSeat, IsOn}
+use Rattle.ame_protocol.proofs.Event.CauseLemmas.{task-more, going-ordinary, going-untold}
 use Rattle.ame_engine.proofs.BlockLemmas.{none-held}
 use Rattle.ame_engine.proofs.CheckLemmas.{shown-valid, task-read, valid-shown}
 use Rattle.ame_engine.proofs.CommitLemmas.{shown-place}
-use Rattle.ame_engine.proofs.CountLemmas.{one-counts}
-use Rattle.ame_engine.proofs.LoneLemmas.{lone-on, told-ran}
-use Rattle.ame_engine.specs.Bounds.{KeepsBounds, LeavesNoTry}
-use Rattle.ame_engine.proofs.BoundLemmas.{cut-bounded, tall-bounded, busy-leaves_no_try}
+use Rattle.ame_protocol.proofs.Event.CountLemmas.{one-counts}
+use Rattle.ame_protocol.proofs.Event.LoneLemmas.{lone-on, told-ran}
+use Rattle.ame_protocol.specs.Event.Bounds.{KeepsBounds, LeavesNoTry}
+use Rattle.ame_protocol.proofs.Event.BoundLemmas.{cut-bounded, tall-bounded, busy-leaves_no_try}
 use Rattle.ame_machine.specs.Meaning.{Meaning}
-
--- a seat that runs code has an attempt
-pub working-has : (t : Task) (a : Attempt) → working t ≡ Some a → attempt_of t ≡ Some a
-working-has Task.Idle a e = absurd (let clash : ◌≡◌ {A = Option Attempt} None (Some a) = e in cc)
-working-has (Task.Running b) a e = e
-working-has (Task.Free b) a e = e
-working-has (Task.Undoing b reason) a e = absurd (let clash : ◌≡◌ {A = Option Attempt} None (Some a) = e in cc)
 
 -- which is told then
 told-has : (t : Task) (a : Attempt) → working t ≡ Some a → attempt_of (told_task t) ≡ Some (record a { logged = true })

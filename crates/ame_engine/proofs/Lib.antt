@@ -1,12 +1,5 @@
-pub mod CountLemmas
 pub mod MemberLemmas
-pub mod CauseLemmas
-pub mod FaultLemmas
-pub mod RollbackLemmas
 pub mod OldestLemmas
-pub mod AloneLemmas
-pub mod LoneLemmas
-pub mod BoundLemmas
 pub mod PlaceLemmas
 pub mod WorkLemmas
 pub mod StartLemmas

@@ -23,7 +23,7 @@ use Rattle.ame_machine.specs.Comes.{HasNextAct}
 use Rattle.ame_machine.proofs.NeedLemmas.{comes_as}
 use Rattle.ame_protocol.specs.declared.types.Attempt.{Attempt}
 use Rattle.ame_protocol.specs.declared.types.Task.{Task}
-use Rattle.ame_protocol.specs.Engine.Parts.{Parts, heap_in, task_at, attempt_of, run_in, term_at}
+use Rattle.ame_protocol.specs.Engine.Parts.{Parts, heap_in, task_at, attempt_of, run_in, term_at, working}
 use Rattle.ame_protocol.specs.Engine.Simulates.{Simulates}
 use Rattle.ame_protocol.specs.Engine.Alone.{RunsExclusively}
 use Rattle.ame_protocol.specs.Engine.Events.{has_read}
@@ -35,9 +35,9 @@ use Rattle.ame_protocol.specs.Waits.Once.{AreNotedOnce}
 use Rattle.ame_protocol.proofs.Waits.TaskLemmas.{read-waiting}
 use Rattle.ame_protocol.proofs.Waits.OnceLemmas.{once-on}
 use Rattle.ame_engine.specs.Core.{Core}
-use Rattle.ame_engine.specs.Causes.{HasCause}
-use Rattle.ame_engine.proofs.CauseLemmas.{task-more, working-cause}
-use Rattle.ame_engine.specs.Counting.{Counted, one_counted}
+use Rattle.ame_protocol.specs.Event.Causes.{HasCause}
+use Rattle.ame_protocol.proofs.Event.CauseLemmas.{task-more, working-cause}
+use Rattle.ame_protocol.specs.Event.Counting.{Counted, one_counted}
 use Rattle.ame_protocol.specs.Row.Shown.{shown_cell}
 use Rattle.ame_protocol.specs.Engine.Shown.{shown_notes}
 use Rattle.ame_protocol.proofs.Engine.ShownMemoryLemmas.{read-shown}
@@ -45,13 +45,13 @@ use Rattle.ame_rows.specs.Access.{IsRead}
 use Rattle.ame_rows.proofs.LookupLemmas.{get_there, all_at}
 use Rattle.ame_engine.specs.Seen.{parts_of}
 use Rattle.ame_engine.specs.Whole.{IsGoodUndo, IsGoodLog, IsSound}
-use Rattle.ame_engine.specs.AtWork.{IsOnSeat, is_free, working}
-use Rattle.ame_engine.proofs.CountLemmas.{one-counts}
-use Rattle.ame_engine.specs.Lone.{IsLone}
-use Rattle.ame_engine.proofs.LoneLemmas.{read-lone}
-use Rattle.ame_engine.specs.declared.stop.Stop.{Stop}
-use Rattle.ame_engine.specs.Bounds.{KeepsBounds}
-use Rattle.ame_engine.proofs.BoundLemmas.{read-bounded}
+use Rattle.ame_engine.specs.AtWork.{IsOnSeat, is_free}
+use Rattle.ame_protocol.proofs.Event.CountLemmas.{one-counts}
+use Rattle.ame_protocol.specs.Event.Lone.{IsLone}
+use Rattle.ame_protocol.proofs.Event.LoneLemmas.{read-lone}
+use Rattle.ame_protocol.specs.declared.stop.Stop.{Stop}
+use Rattle.ame_protocol.specs.Event.Bounds.{KeepsBounds}
+use Rattle.ame_protocol.proofs.Event.BoundLemmas.{read-bounded}
 use Rattle.ame_machine.specs.Meaning.{Meaning}
 
 -- Good values

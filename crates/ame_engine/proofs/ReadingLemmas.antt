@@ -17,7 +17,7 @@ use Rattle.ame_machine.specs.Sound.{IsSoundStage, CanRun}
 use Rattle.ame_protocol.specs.Engine.Parts.{heap_in}
 use Rattle.ame_protocol.specs.Engine.Events.{has_read}
 use Rattle.ame_engine.specs.Core.{Core}
-use Rattle.ame_engine.specs.Counting.{Counted, one_counted}
+use Rattle.ame_protocol.specs.Event.Counting.{Counted, one_counted}
 use Rattle.ame_engine.specs.Seen.{parts_of, MakesEvent}
 use Rattle.ame_engine.specs.Whole.{IsSound}
 use Rattle.ame_engine.specs.AtWork.{IsOnSeat, IsOn}

@@ -27,17 +27,17 @@ use Rattle.ame_protocol.specs.Waits.Once.{AreNotedOnce}
 use Rattle.ame_protocol.proofs.Waits.TaskLemmas.{start-waiting}
 use Rattle.ame_protocol.proofs.Waits.OnceEvents.{start-once}
 use Rattle.ame_engine.specs.Core.{Core}
-use Rattle.ame_engine.specs.declared.certificate.Certificate.{Certificate}
-use Rattle.ame_engine.specs.declared.counters.Counters.{Counters}
-use Rattle.ame_engine.specs.Counting.{nothing_counted}
+use Rattle.ame_protocol.specs.declared.certificate.Certificate.{Certificate}
+use Rattle.ame_protocol.specs.declared.counters.Counters.{Counters}
+use Rattle.ame_protocol.specs.Event.Counting.{nothing_counted}
 use Rattle.ame_engine.specs.Seen.{parts_of}
 use Rattle.ame_engine.specs.Whole.{AreLimits, IsGoodLog, IsGoodUndo, IsAtRest, IsSound}
-use Rattle.ame_engine.proofs.CountLemmas.{none-counted}
-use Rattle.ame_engine.proofs.CauseLemmas.{started-cause}
-use Rattle.ame_engine.proofs.LoneLemmas.{lone-idle}
+use Rattle.ame_protocol.proofs.Event.CountLemmas.{none-counted}
+use Rattle.ame_protocol.proofs.Event.CauseLemmas.{started-cause}
+use Rattle.ame_protocol.proofs.Event.LoneLemmas.{lone-idle}
 use Rattle.ame_protocol.proofs.Bounds.PaidEvents.{row-clear}
-use Rattle.ame_engine.specs.Bounds.{KeepsBounds}
-use Rattle.ame_engine.proofs.BoundLemmas.{idle-bounded}
+use Rattle.ame_protocol.specs.Event.Bounds.{KeepsBounds}
+use Rattle.ame_protocol.proofs.Event.BoundLemmas.{idle-bounded}
 use Rattle.ame_machine.specs.Meaning.{Meaning}
 
 rows-shown : {V : Type 0} (view : V → Val) (n : ℕ) → map (shown_notes view) (replicate n no_log) ≡ replicate n no_log

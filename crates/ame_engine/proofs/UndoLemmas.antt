@@ -34,24 +34,23 @@ use Rattle.ame_protocol.specs.Waits.Waiting.{AreWaiting}
 use Rattle.ame_protocol.specs.Waits.Once.{AreNotedOnce}
 use Rattle.ame_protocol.proofs.Waits.UndoLemmas.{undoing-more, undoing-home, running-more, running-home, free-home}
 use Rattle.ame_protocol.proofs.Waits.OnceEvents.{undone-once, undoing-once, running-once, free-once}
-use Rattle.ame_engine.specs.declared.counters.Counters.{Counters}
+use Rattle.ame_protocol.specs.declared.counters.Counters.{Counters}
 use Rattle.ame_engine.specs.Core.{Core}
-use Rattle.ame_engine.specs.declared.stop.Stop.{Stop}
-use Rattle.ame_engine.specs.Counting.{Counted, one_undone, CountsTurns}
+use Rattle.ame_protocol.specs.declared.stop.Stop.{Stop}
+use Rattle.ame_protocol.specs.Event.Counting.{Counted, one_undone, CountsTurns}
 use Rattle.ame_engine.specs.Seen.{parts_of, term_shown, MakesEvent}
 use Rattle.ame_engine.specs.Whole.{IsGoodUndo, IsGoodLog, IsGoodMemory, IsAtRest, IsSound}
-use Rattle.ame_engine.specs.Undoing.{is_undoing, reason_to_undo, home_for}
-use Rattle.ame_engine.specs.Rollbacks.{IsGoodPool}
-use Rattle.ame_engine.proofs.CountLemmas.{one-counts, unwound-counts}
+use Rattle.ame_protocol.specs.Event.Undoing.{is_undoing, reason_to_undo, home_for}
+use Rattle.ame_protocol.specs.Event.Rollbacks.{IsGoodPool}
+use Rattle.ame_protocol.proofs.Event.CountLemmas.{one-counts, unwound-counts, undone-refused}
 use Rattle.ame_engine.proofs.MemberLemmas.{all_altered}
-use Rattle.ame_engine.proofs.CauseLemmas.{HasMore, task-more, undoing-cause, home-some}
+use Rattle.ame_protocol.proofs.Event.CauseLemmas.{HasMore, task-more, undoing-cause, home-some}
 use Rattle.ame_engine.proofs.ReadLemmas.{row-good}
-use Rattle.ame_engine.proofs.RollbackLemmas.{good-home, good-parked}
-use Rattle.ame_engine.specs.Lone.{IsLone}
-use Rattle.ame_engine.proofs.LoneLemmas.{lone-left, undone-conflicts, undone-invalids}
-use Rattle.ame_engine.specs.Bounds.{KeepsBounds}
-use Rattle.ame_engine.proofs.BoundLemmas.{undone-bounded, home-bounded}
-use Rattle.ame_engine.proofs.CountLemmas.{undone-refused}
+use Rattle.ame_protocol.proofs.Event.RollbackLemmas.{good-home, good-parked}
+use Rattle.ame_protocol.specs.Event.Lone.{IsLone}
+use Rattle.ame_protocol.proofs.Event.LoneLemmas.{lone-left, undone-conflicts, undone-invalids}
+use Rattle.ame_protocol.specs.Event.Bounds.{KeepsBounds}
+use Rattle.ame_protocol.proofs.Event.BoundLemmas.{undone-bounded, home-bounded}
 use Rattle.ame_machine.specs.Meaning.{Meaning}
 
 -- what all pass, one that is there passes

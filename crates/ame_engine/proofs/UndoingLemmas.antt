@@ -23,12 +23,12 @@ use Rattle.ame_protocol.proofs.Engine.ToldLemmas.{cells-grow}
 use Rattle.ame_protocol.proofs.Engine.ShownMemoryLemmas.{row-shown}
 use Rattle.ame_protocol.proofs.Engine.ShownPoolLemmas.{found-shown}
 use Rattle.ame_protocol.specs.Row.Shown.{shown_undo}
-use Rattle.ame_engine.specs.declared.counters.Counters.{Counters}
+use Rattle.ame_protocol.specs.declared.counters.Counters.{Counters}
 use Rattle.ame_engine.specs.Core.{Core}
-use Rattle.ame_engine.specs.Counting.{one_undone}
+use Rattle.ame_protocol.specs.Event.Counting.{one_undone}
 use Rattle.ame_engine.specs.Seen.{parts_of, term_shown, MakesEvent}
 use Rattle.ame_engine.specs.Whole.{IsSound}
-use Rattle.ame_engine.specs.Undoing.{is_undoing, reason_to_undo, is_busy_for, home_for}
+use Rattle.ame_protocol.specs.Event.Undoing.{is_undoing, reason_to_undo, is_busy_for, home_for}
 use Rattle.ame_engine.proofs.CheckLemmas.{task-read}
 use Rattle.ame_engine.proofs.UndoLemmas.{grow-shown, undone-whole, undone-makes, gone-whole, gone-makes}
 use Rattle.ame_machine.specs.Meaning.{Meaning}

@@ -27,7 +27,7 @@ use Rattle.ame_machine.proofs.FeedLemmas.{fed-answer}
 use Rattle.ame_protocol.specs.declared.types.Attempt.{Attempt}
 use Rattle.ame_protocol.specs.declared.types.Reason.{Reason}
 use Rattle.ame_protocol.specs.declared.types.Task.{Task}
-use Rattle.ame_protocol.specs.Engine.Parts.{Parts, task_at, attempt_of, member_of, term_at}
+use Rattle.ame_protocol.specs.Engine.Parts.{Parts, task_at, attempt_of, member_of, term_at, working}
 use Rattle.ame_protocol.proofs.Engine.StepLemmas.{seat_within}
 use Rattle.ame_protocol.specs.Engine.Shown.{shown_pool}
 use Rattle.ame_protocol.specs.Engine.Tasks.{Visits}
@@ -41,29 +41,29 @@ use Rattle.ame_protocol.proofs.Visits.RefuseLemmas.{refused-stands, refused-alon
 use Rattle.ame_protocol.specs.Waits.Waiting.{AreWaiting}
 use Rattle.ame_protocol.specs.Waits.Once.{AreNotedOnce}
 use Rattle.ame_protocol.proofs.Waits.VisitLemmas.{refused-waiting, refused-once}
-use Rattle.ame_engine.specs.Causes.{HasCause}
-use Rattle.ame_engine.specs.Faults.{ComesToCall, LeadsToCall}
+use Rattle.ame_protocol.specs.Event.Causes.{HasCause}
+use Rattle.ame_protocol.specs.Event.Faults.{ComesToCall, LeadsToCall}
 use Rattle.ame_engine.specs.declared.engine.free.change.Change.TheVariants as changes
-use Rattle.ame_engine.specs.declared.stop.Stop.{Stop}
+use Rattle.ame_protocol.specs.declared.stop.Stop.{Stop}
 use Rattle.ame_engine.specs.Core.{Core}
-use Rattle.ame_engine.specs.Counting.{Counted, one_counted}
-use Rattle.ame_engine.specs.Rollbacks.{IsGoodPool}
+use Rattle.ame_protocol.specs.Event.Counting.{Counted, one_counted}
+use Rattle.ame_protocol.specs.Event.Rollbacks.{IsGoodPool}
 use Rattle.ame_engine.specs.Seen.{parts_of, term_shown, MakesEvent, MakesLastEvent}
 use Rattle.ame_engine.specs.Whole.{IsAtRest, IsSound}
-use Rattle.ame_engine.specs.AtWork.{working, IsOnSeat, IsOn}
+use Rattle.ame_engine.specs.AtWork.{IsOnSeat, IsOn}
 use Rattle.ame_engine.specs.Visiting.{IsVisiting, VisitsTo, IsVisitTo, visited_at, SettlesThere, HasComeHome}
-use Rattle.ame_engine.proofs.CauseLemmas.{refused-cause}
-use Rattle.ame_engine.proofs.CountLemmas.{one-counts}
-use Rattle.ame_engine.proofs.FaultLemmas.{alone-run}
-use Rattle.ame_engine.proofs.LoneLemmas.{lone-left}
+use Rattle.ame_protocol.proofs.Event.CauseLemmas.{refused-cause}
+use Rattle.ame_protocol.proofs.Event.CountLemmas.{one-counts}
+use Rattle.ame_protocol.proofs.Event.FaultLemmas.{alone-run}
+use Rattle.ame_protocol.proofs.Event.LoneLemmas.{lone-left}
 use Rattle.ame_engine.proofs.MemberLemmas.{all_altered}
-use Rattle.ame_engine.proofs.RollbackLemmas.{good-home}
+use Rattle.ame_protocol.proofs.Event.RollbackLemmas.{good-home}
 use Rattle.ame_engine.proofs.CrewLemmas.{busy-told}
 use Rattle.ame_engine.proofs.UndoingLemmas.{busy-same}
 use Rattle.ame_engine.proofs.VisitPlaceLemmas.{visits-as, visit-steps, visit-is, visit-settles}
 use Rattle.ame_engine.proofs.VisitEndLemmas.{room-stays, whole-visited, makes-visited}
-use Rattle.ame_engine.specs.Bounds.{KeepsBounds}
-use Rattle.ame_engine.proofs.BoundLemmas.{refused-bounded}
+use Rattle.ame_protocol.specs.Event.Bounds.{KeepsBounds}
+use Rattle.ame_protocol.proofs.Event.BoundLemmas.{refused-bounded}
 use Rattle.ame_engine.proofs.VisitPlaceLemmas.{visit-grows}
 use Rattle.ame_machine.specs.Meaning.{Meaning}
 

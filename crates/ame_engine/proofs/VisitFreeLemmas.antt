@@ -5,13 +5,13 @@ use Rattle.ame_device.specs.declared.told.Told.{Told}
 use Rattle.ame_machine.specs.Sound.{IsSoundStage}
 use Rattle.ame_protocol.specs.declared.types.Attempt.{Attempt}
 use Rattle.ame_protocol.specs.declared.types.Task.{Task}
-use Rattle.ame_protocol.specs.Engine.Parts.{Parts, task_at}
+use Rattle.ame_protocol.specs.Engine.Parts.{Parts, task_at, working}
 use Rattle.ame_protocol.specs.Engine.Simulates.{Simulates}
 use Rattle.ame_engine.specs.declared.engine.free.change.Change.{Change}
 use Rattle.ame_engine.specs.Core.{Core}
-use Rattle.ame_engine.specs.Counting.{Counted, one_counted}
+use Rattle.ame_protocol.specs.Event.Counting.{Counted, one_counted}
 use Rattle.ame_engine.specs.Seen.{parts_of, MakesEvent}
-use Rattle.ame_engine.specs.AtWork.{working, IsOn}
+use Rattle.ame_engine.specs.AtWork.{IsOn}
 use Rattle.ame_engine.specs.Visiting.{IsVisiting, IsVisitTo, visited_at, SettlesThere, changed_by, HasMadeItsStep, HasComeHome}
 use Rattle.ame_engine.proofs.CheckLemmas.{working-within, task-read}
 use Rattle.ame_engine.proofs.VisitPlaceLemmas.{visits-as, visit-is, visit-settles}

@@ -26,12 +26,12 @@ use Rattle.ame_machine.proofs.NeedLemmas.{comes_as}
 use Rattle.ame_machine.proofs.MoveLemmas.{map-gave, on-place, fed-to, on-fed}
 use Rattle.ame_protocol.specs.declared.types.Attempt.{Attempt}
 use Rattle.ame_protocol.specs.declared.types.Task.{Task}
-use Rattle.ame_protocol.specs.Engine.Parts.{Parts, task_at, term_at}
+use Rattle.ame_protocol.specs.Engine.Parts.{Parts, task_at, term_at, working}
 use Rattle.ame_protocol.specs.Engine.Simulates.{Simulates}
 use Rattle.ame_protocol.specs.Visits.ByAct.{IsGivenBy, memory_after}
 use Rattle.ame_protocol.specs.Visits.Visit.{closed_at, StepsTo, IsVisit}
 use Rattle.ame_protocol.proofs.Visits.PlaceLemmas.{visits, alone}
-use Rattle.ame_engine.specs.AtWork.{is_free, working, IsOnSeat}
+use Rattle.ame_engine.specs.AtWork.{is_free, IsOnSeat}
 use Rattle.ame_engine.specs.Visiting.{IsVisiting, VisitsTo, IsVisitTo, SettlesThere}
 
 free-attempt : (t : Task) (a : Attempt) → working t ≡ Some a → is_free t ≡ true → t ≡ Task.Free a

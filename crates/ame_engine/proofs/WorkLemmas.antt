@@ -4,10 +4,10 @@ use Rattle.ame_term.specs.Tree.{Val, Tree}
 use Rattle.ame_rows.specs.MemoryView.{row_at}
 use Rattle.ame_machine.specs.MachineView.{MachineView, OnRun}
 use Rattle.ame_protocol.specs.declared.types.Attempt.{Attempt}
-use Rattle.ame_protocol.specs.Engine.Parts.{Parts, task_at, term_at}
+use Rattle.ame_protocol.specs.Engine.Parts.{Parts, task_at, term_at, working}
 use Rattle.ame_protocol.specs.Engine.Events.{begun_task}
 use Rattle.ame_engine.specs.Whole.{resting_at}
-use Rattle.ame_engine.specs.AtWork.{is_free, working, IsOnSeat}
+use Rattle.ame_engine.specs.AtWork.{is_free, IsOnSeat}
 
 begun-on : (t : Tree) (inside : Bool) → OnRun t [] (resting_at t inside)
 begun-on t true = refl

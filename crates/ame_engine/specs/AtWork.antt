@@ -8,16 +8,10 @@ use Rattle.ame_machine.specs.declared.wants.Wants.TheVariants as wants
 use Rattle.ame_machine.specs.MachineView.{MachineView, OnRun}
 use Rattle.ame_protocol.specs.declared.types.Attempt.{Attempt}
 use Rattle.ame_protocol.specs.declared.types.Task.{Task}
-use Rattle.ame_protocol.specs.Engine.Parts.{Parts, task_at, term_at}
+use Rattle.ame_protocol.specs.Engine.Parts.{Parts, task_at, term_at, working}
 use Rattle.ame_engine.specs.Core.{Core}
 use Rattle.ame_engine.specs.Seen.{parts_of}
 use Rattle.ame_machine.specs.Meaning.{Meaning}
-
--- the attempt of a seat that runs code
-abbrev pub working : Task → Option Attempt
-working (Task.Running attempt) = Some attempt
-working (Task.Free attempt) = Some attempt
-working _ = None
 
 -- whether a task is that of unprotected code
 abbrev pub is_free : Task → Bool

@@ -9,8 +9,8 @@ use Rattle.ame_protocol.specs.Engine.Events.{attempt_after, begun_task, has_begu
 use Rattle.ame_engine.specs.declared.answer.Begin.{Begin}
 use Rattle.ame_engine.specs.declared.answer.Begin.TheVariants as answer
 use Rattle.ame_engine.specs.declared.pick.Pick.{Pick}
-use Rattle.ame_engine.specs.declared.stop.Stop.{Stop}
-use Rattle.ame_engine.specs.Counting.{Counted, one_counted}
+use Rattle.ame_protocol.specs.declared.stop.Stop.{Stop}
+use Rattle.ame_protocol.specs.Event.Counting.{Counted, one_counted}
 use Rattle.ame_engine.specs.Core.{Core}
 use Rattle.ame_engine.specs.Seen.{MakesEvent}
 use Rattle.ame_engine.specs.Whole.{resting_at}

@@ -1,8 +1,8 @@
 -- A note that was looked for, as a certificate.
 use Rattle.std.specs.Prelude.{ℕ, List, [], ◌∷◌, Option, Some, None}
 use Rattle.ame_journal.specs.declared.entry.Entry.{Entry}
-use Rattle.ame_engine.specs.declared.certificate.Certificate.{Certificate}
-use Rattle.ame_engine.specs.Causes.{certificate_of}
+use Rattle.ame_protocol.specs.declared.certificate.Certificate.{Certificate}
+use Rattle.ame_protocol.specs.Event.Causes.{certificate_of}
 
 -- the certificate of a member's note, if there is one
 abbrev pub certified_by : ℕ → Option Entry → List Certificate

@@ -6,9 +6,9 @@ use Rattle.ame_rows.specs.MemoryView.{MemoryView}
 use Rattle.ame_protocol.specs.declared.types.Limits.{Limits}
 use Rattle.ame_protocol.specs.declared.types.Tried.{Tried}
 use Rattle.ame_protocol.specs.declared.types.Task.{Task}
-use Rattle.ame_engine.specs.declared.certificate.Certificate.{Certificate}
-use Rattle.ame_engine.specs.declared.stop.Stop.{Stop}
-use Rattle.ame_engine.specs.declared.counters.Counters.{Counters}
+use Rattle.ame_protocol.specs.declared.certificate.Certificate.{Certificate}
+use Rattle.ame_protocol.specs.declared.stop.Stop.{Stop}
+use Rattle.ame_protocol.specs.declared.counters.Counters.{Counters}
 
 -- The code, the limits and the entries from which it was opened stay. The rest are the journal, the memory with its cells and
 -- the logs of each seat, what each seat is at, the members with their machines, the output and its text as bytes, the next

@@ -14,14 +14,14 @@ use Rattle.ame_protocol.specs.declared.types.Tried.{Tried}
 use Rattle.ame_protocol.specs.Waits.Certificates.{IsCertificate}
 use Rattle.ame_protocol.specs.Waits.Once.{IsNotedOnce}
 use Rattle.ame_protocol.specs.Visits.Opened.{cell_of, stored_in}
-use Rattle.ame_engine.specs.declared.certificate.Certificate.{Certificate}
-use Rattle.ame_engine.specs.declared.counters.Counters.{Counters}
-use Rattle.ame_engine.specs.declared.stop.Stop.{Stop}
+use Rattle.ame_protocol.specs.declared.certificate.Certificate.{Certificate}
+use Rattle.ame_protocol.specs.declared.counters.Counters.{Counters}
+use Rattle.ame_protocol.specs.declared.stop.Stop.{Stop}
 use Rattle.ame_engine.specs.Core.{Core}
-use Rattle.ame_engine.specs.Faults.{ComesToCall}
-use Rattle.ame_engine.specs.Causes.{NotesStop}
-use Rattle.ame_engine.specs.Lone.{IsUndisturbed}
-use Rattle.ame_engine.specs.Bounds.{HasBounds}
+use Rattle.ame_protocol.specs.Event.Faults.{ComesToCall}
+use Rattle.ame_protocol.specs.Event.Causes.{NotesStop}
+use Rattle.ame_protocol.specs.Event.Lone.{IsUndisturbed}
+use Rattle.ame_protocol.specs.Event.Bounds.{HasBounds}
 
 -- The entries from which it was opened, those that it added, its cells, its output, the events that counted, in all and of each
 -- kind, the tries that left no entry, the stop that was kept, and what tells that each member is blocked, where that is the stop.

@@ -1,17 +1,10 @@
-pub mod Counting
 pub mod Core
 pub mod Seen
-pub mod Rollbacks
 pub mod Places
-pub mod Faults
-pub mod Causes
 pub mod Certifying
-pub mod Lone
-pub mod Bounds
 pub mod Whole
 pub mod AtWork
 pub mod Begins
-pub mod Undoing
 pub mod Stops
 pub mod Writing
 pub mod Committing

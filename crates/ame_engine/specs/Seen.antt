@@ -4,8 +4,8 @@ use Rattle.ame_term.specs.Tree.{Tree}
 use Rattle.ame_machine.specs.MachineView.{MachineView}
 use Rattle.ame_protocol.specs.Engine.Parts.{Parts}
 use Rattle.ame_protocol.specs.Engine.Shown.{shown_memory, shown_pool}
-use Rattle.ame_engine.specs.declared.counters.Counters.{Counters}
-use Rattle.ame_engine.specs.declared.stop.Stop.{Stop}
+use Rattle.ame_protocol.specs.declared.counters.Counters.{Counters}
+use Rattle.ame_protocol.specs.declared.stop.Stop.{Stop}
 use Rattle.ame_engine.specs.Core.{Core}
 use Rattle.ame_machine.specs.Meaning.{Meaning}
 

@@ -1,14 +1,8 @@
 -- How an engine stops.
 use Rattle.std.specs.Prelude.{Bool, true, false, List, Some, unwrap_or}
-use Rattle.ame_engine.specs.declared.certificate.Certificate.{Certificate}
-use Rattle.ame_engine.specs.declared.stop.Stop.{Stop}
+use Rattle.ame_protocol.specs.declared.certificate.Certificate.{Certificate}
+use Rattle.ame_protocol.specs.declared.stop.Stop.{Stop}
 use Rattle.ame_engine.specs.Core.{Core}
-
--- whether a stop comes from outside: an engine finds the others itself
-abbrev pub is_from_outside : Stop → Bool
-is_from_outside Stop.NoMemory = true
-is_from_outside Stop.WriteFault = true
-is_from_outside _ = false
 
 -- the first stop stays
 abbrev pub stopped_by : {C V M : Type 0} → Stop → Core C V M → Core C V M

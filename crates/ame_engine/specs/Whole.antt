@@ -12,14 +12,14 @@ use Rattle.ame_protocol.specs.Engine.Simulates.{Simulates}
 use Rattle.ame_protocol.specs.Engine.Alone.{RunsExclusively}
 use Rattle.ame_protocol.specs.Waits.Waiting.{AreWaiting}
 use Rattle.ame_protocol.specs.Waits.Once.{AreNotedOnce}
-use Rattle.ame_engine.specs.Counting.{CountsTurns}
+use Rattle.ame_protocol.specs.Event.Counting.{CountsTurns}
 use Rattle.ame_engine.specs.Core.{Core}
 use Rattle.ame_engine.specs.Seen.{parts_of}
-use Rattle.ame_engine.specs.Rollbacks.{IsGoodPool}
+use Rattle.ame_protocol.specs.Event.Rollbacks.{IsGoodPool}
 use Rattle.ame_engine.specs.Places.{HasPlacesFor}
-use Rattle.ame_engine.specs.Causes.{HasCause}
-use Rattle.ame_engine.specs.Lone.{IsLone}
-use Rattle.ame_engine.specs.Bounds.{KeepsBounds}
+use Rattle.ame_protocol.specs.Event.Causes.{HasCause}
+use Rattle.ame_protocol.specs.Event.Lone.{IsLone}
+use Rattle.ame_protocol.specs.Event.Bounds.{KeepsBounds}
 use Rattle.ame_machine.specs.Meaning.{Meaning}
 
 -- the limits of an engine

@@ -3,11 +3,8 @@
 ghost use Rattle.std.specs.Prelude.{◌≡◌, All};
 ghost use Rattle.ame_store.specs.Cells.{IsFree};
 
-use crate::certificate::Certificate;
-use crate::counters::Counters;
-use crate::stop::Stop;
 use ame_journal::{Entry, Journal};
-use ame_protocol::Tried;
+use ame_protocol::{Certificate, Counters, Stop, Tried};
 use ame_store::Store;
 use std::marker::Model;
 

@@ -4,15 +4,12 @@ ghost use Rattle.std.specs.Prelude.{◌≡◌, ◌<◌, length, slice_get, optio
 ghost use Rattle.ame_io.specs.Lines.{lines};
 ghost use Rattle.ame_rows.specs.Committed.{committed as committed_at};
 ghost use Rattle.ame_protocol.specs.Engine.Parts.{task_at};
-ghost use Rattle.ame_engine.specs.Lone.{IsUndisturbed};
+ghost use Rattle.ame_protocol.specs.Event.Lone.{IsUndisturbed};
 
-use crate::certificate::Certificate;
-use crate::counters::Counters;
-use crate::stop::Stop;
 use ame_journal::{Entry, Journal};
 use ame_machine::Runner;
 use ame_pool::Pool;
-use ame_protocol::{Limits, Task, Tried};
+use ame_protocol::{Certificate, Counters, Limits, Stop, Task, Tried};
 use ame_rows::Memory;
 use ame_store::Cell;
 use ame_term::Loc;

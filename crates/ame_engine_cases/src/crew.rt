@@ -5,7 +5,7 @@ ghost use Rattle.std.specs.Arc.{arc_value};
 ghost use Rattle.ame_protocol.specs.Engine.Events.{started};
 ghost use Rattle.ame_engine.specs.Seen.{parts_of};
 ghost use Rattle.ame_engine.specs.Ending.{end_of};
-ghost use Rattle.ame_engine.specs.declared.stop.Stop.{Stop};
+ghost use Rattle.ame_protocol.specs.declared.stop.Stop.{Stop};
 ghost use Rattle.ame_engine.specs.Stops.{stopped_by};
 ghost use Rattle.ame_engine.specs.Whole.{AreLimits};
 ghost use Rattle.ame_turn.specs.declared.work.Work.TheVariants as work;

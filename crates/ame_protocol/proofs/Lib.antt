@@ -3,3 +3,4 @@ pub mod Engine
 pub mod Waits
 pub mod Visits
 pub mod Bounds
+pub mod Event

@@ -2,9 +2,19 @@
 //! throughout. A law is a lemma of `proofs/`.
 #![tactic(auto)]
 
+mod certificate;
+mod counters;
+mod stop;
 mod theorems;
 mod types;
 
+pub use certificate::Certificate;
+pub use counters::Counters;
+pub use stop::Stop;
+pub use theorems::events::{
+    events_keep_states_sound, runs_go_on, runs_keep_states_sound, runs_take_turns,
+    runs_tell_their_entries, states_start_sound,
+};
 pub use theorems::{
     certificates_are_computed, ended_rows_commit, engines_open, engines_start,
     exhausted_members_open_alone, few_rollbacks_are_bounded, journals_tell_the_calls_of_visits,

@@ -1,5 +1,7 @@
 //! Theorems: promises of this crate that nothing above it cites, each the statement of a lemma.
 
+pub mod events;
+
 ghost use Rattle.std.specs.Prelude.{◌≡◌, ℕ, true, false, Some, List, [], ◌∷◌, ◌++◌, Contains, All, ◌+◌, ◌==◌, ℤ, Bool, None, if◌then◌else◌, ◌*◌, ◌≤◌, length};
 ghost use Rattle.ame_term.specs.Frame.{Side};
 ghost use Rattle.ame_term.specs.Context.{focus};

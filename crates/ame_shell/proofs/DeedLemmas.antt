@@ -15,26 +15,26 @@ use Rattle.ame_machine.specs.Sound.{IsSoundStage}
 use Rattle.ame_protocol.specs.declared.types.Attempt.{Attempt}
 use Rattle.ame_protocol.specs.declared.types.Limits.{Limits}
 use Rattle.ame_protocol.specs.declared.types.Task.{Task}
-use Rattle.ame_protocol.specs.Engine.Parts.{Parts, whole_journal, task_at}
+use Rattle.ame_protocol.specs.Engine.Parts.{Parts, whole_journal, task_at, working}
 use Rattle.ame_protocol.specs.Engine.Simulates.{Simulates}
 use Rattle.ame_protocol.specs.Engine.Events.{one_turn, undo_turn, with_task, with_memory, with_try, brought_home, ran_entry, has_begun, has_read, has_written, has_allocated, has_checked, has_turned_back, has_undone, has_gone_home}
 use Rattle.ame_protocol.specs.Waits.Noted.{stuck_entry, has_noted}
 use Rattle.ame_protocol.specs.Visits.Visit.{free_entry}
 use Rattle.ame_protocol.specs.Visits.Stops.{note_entry, has_been_cut, has_grown_tall}
 use Rattle.ame_protocol.proofs.Visits.CallLemmas.{silent-entry}
-use Rattle.ame_engine.specs.declared.counters.Counters.{Counters}
+use Rattle.ame_protocol.specs.declared.counters.Counters.{Counters}
 use Rattle.ame_engine.specs.declared.pick.Pick.{Pick}
-use Rattle.ame_engine.specs.declared.certificate.Certificate.{Certificate}
-use Rattle.ame_engine.specs.declared.stop.Stop.{Stop}
-use Rattle.ame_engine.specs.AtWork.{working, IsOnSeat}
+use Rattle.ame_protocol.specs.declared.certificate.Certificate.{Certificate}
+use Rattle.ame_protocol.specs.declared.stop.Stop.{Stop}
+use Rattle.ame_engine.specs.AtWork.{IsOnSeat}
 use Rattle.ame_engine.specs.Begins.{pick_of}
-use Rattle.ame_engine.specs.Causes.{certificates_in}
+use Rattle.ame_protocol.specs.Event.Causes.{certificates_in}
 use Rattle.ame_engine.specs.Committing.{ended_at, left_at}
 use Rattle.ame_engine.specs.Core.{Core}
-use Rattle.ame_engine.specs.Counting.{Counted, one_counted, one_invalid, one_undone}
+use Rattle.ame_protocol.specs.Event.Counting.{Counted, one_counted, one_invalid, one_undone}
 use Rattle.ame_engine.specs.Seen.{parts_of, MakesEvent, MakesLastEvent}
 use Rattle.ame_engine.specs.Stops.{stopped_by, blocked_by}
-use Rattle.ame_engine.specs.Undoing.{reason_to_undo}
+use Rattle.ame_protocol.specs.Event.Undoing.{reason_to_undo}
 use Rattle.ame_engine.specs.Visiting.{VisitsTo, visited_at, HasComeHome, HasBeenRefused}
 use Rattle.ame_engine.proofs.VisitPlaceLemmas.{visits-as}
 use Rattle.ame_turn.specs.declared.work.Deed.{Deed}

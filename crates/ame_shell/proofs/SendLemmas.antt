@@ -7,7 +7,7 @@ use Rattle.ame_io.specs.Counts.{HasRisen}
 use Rattle.ame_io.specs.Lines.{lines}
 use Rattle.ame_io.specs.Writes.{AppendsFirst}
 use Rattle.ame_io.proofs.WritesLemmas.{Appends-take_more}
-use Rattle.ame_engine.specs.declared.stop.Stop.{Stop}
+use Rattle.ame_protocol.specs.declared.stop.Stop.{Stop}
 use Rattle.ame_engine.specs.Core.{Core}
 use Rattle.ame_shell.specs.Ends.{Ends}
 use Rattle.ame_shell.specs.Sent.{IsSent}

@@ -2,7 +2,7 @@
 use Rattle.std.proofs.Common.{◌≡◌, ℕ, Bool, true, false, List, Option, Some, None, refl, sym, subst}
 use Rattle.std.specs.Prelude.{unwrap_or}
 use Rattle.ame_device.specs.declared.told.Told.{Told}
-use Rattle.ame_engine.specs.declared.stop.Stop.{Stop}
+use Rattle.ame_protocol.specs.declared.stop.Stop.{Stop}
 use Rattle.ame_shell.specs.Heard.{NoneFailed, HaveFailed}
 use Rattle.ame_shell.specs.Shell.{GoesTo}
 

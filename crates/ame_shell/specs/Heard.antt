@@ -7,7 +7,7 @@ use Rattle.ame_device.specs.declared.told.Heard.{Heard}
 use Rattle.ame_device.specs.declared.told.Told.{Told}
 use Rattle.ame_device.specs.Calls.{answered}
 use Rattle.ame_io.specs.Counts.{HasRisen}
-use Rattle.ame_engine.specs.declared.stop.Stop.{Stop}
+use Rattle.ame_protocol.specs.declared.stop.Stop.{Stop}
 use Rattle.ame_shell.specs.Ends.{told_at}
 
 -- arguments with their answers, as calls that were heard

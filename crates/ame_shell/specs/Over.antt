@@ -4,9 +4,9 @@ use Rattle.ame_io.specs.Lines.{lines}
 use Rattle.ame_term.specs.Tree.{Val, Tree}
 use Rattle.ame_journal.specs.declared.entry.Entry.{Entry}
 use Rattle.ame_protocol.specs.declared.types.Limits.{Limits}
-use Rattle.ame_engine.specs.declared.counters.Counters.{Counters}
+use Rattle.ame_protocol.specs.declared.counters.Counters.{Counters}
 use Rattle.ame_engine.specs.Ending.{End, IsEnd}
-use Rattle.ame_engine.specs.Lone.{IsUndisturbed}
+use Rattle.ame_protocol.specs.Event.Lone.{IsUndisturbed}
 use Rattle.ame_shell.specs.Ends.{Ends}
 use Rattle.ame_shell.specs.Sent.{IsSent}
 use Rattle.ame_shell.specs.Heard.{HaveHeard, HaveFailed}

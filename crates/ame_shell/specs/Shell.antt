@@ -7,7 +7,7 @@ use Rattle.ame_term.specs.Tree.{Tree}
 use Rattle.ame_device.specs.declared.told.Heard.{Heard}
 use Rattle.ame_device.specs.declared.told.Told.{Told}
 use Rattle.ame_protocol.specs.declared.types.Limits.{Limits}
-use Rattle.ame_engine.specs.declared.stop.Stop.{Stop}
+use Rattle.ame_protocol.specs.declared.stop.Stop.{Stop}
 use Rattle.ame_engine.specs.Core.{Core}
 use Rattle.ame_shell.specs.Ends.{Ends, ends_of}
 use Rattle.ame_shell.specs.Heard.{HaveHeard, HaveFailed}

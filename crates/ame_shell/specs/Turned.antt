@@ -5,7 +5,7 @@ use Rattle.ame_io.specs.Counts.{HasRisen}
 use Rattle.ame_io.specs.Lines.{lines}
 use Rattle.ame_io.specs.Writes.{AppendsFirst}
 use Rattle.ame_machine.specs.MachineView.{MachineView}
-use Rattle.ame_engine.specs.declared.stop.Stop.{Stop}
+use Rattle.ame_protocol.specs.declared.stop.Stop.{Stop}
 use Rattle.ame_engine.specs.Core.{Core}
 use Rattle.ame_engine.specs.Stops.{stopped_by}
 use Rattle.ame_turn.specs.declared.work.Deed.{Deed}

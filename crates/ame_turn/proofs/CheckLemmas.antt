@@ -5,14 +5,14 @@ use Rattle.ame_rows.specs.MemoryView.{row_at}
 use Rattle.ame_machine.specs.MachineView.{MachineView, OnRun}
 use Rattle.ame_protocol.specs.declared.types.Attempt.{Attempt}
 use Rattle.ame_protocol.specs.declared.types.Task.{Task}
-use Rattle.ame_protocol.specs.Engine.Parts.{Parts, task_at, attempt_of, term_at}
+use Rattle.ame_protocol.specs.Engine.Parts.{Parts, task_at, attempt_of, term_at, working}
 use Rattle.ame_protocol.specs.Engine.Simulates.{Simulates}
 use Rattle.ame_protocol.specs.Engine.Events.{checked_attempt, has_checked}
 use Rattle.ame_protocol.proofs.Engine.StepLemmas.{seat_within, task_here}
-use Rattle.ame_engine.specs.Counting.{Counted, one_counted}
+use Rattle.ame_protocol.specs.Event.Counting.{Counted, one_counted}
 use Rattle.ame_engine.specs.Core.{Core}
 use Rattle.ame_engine.specs.Seen.{parts_of, MakesEvent}
-use Rattle.ame_engine.specs.AtWork.{is_free, working, IsOnSeat, IsOn}
+use Rattle.ame_engine.specs.AtWork.{is_free, IsOnSeat, IsOn}
 use Rattle.ame_engine.proofs.RunLemmas.{can-run}
 use Rattle.ame_turn.specs.Served.{IsServed}
 use Rattle.ame_turn.proofs.GoesLemmas.{goes}

@@ -17,7 +17,7 @@ use Rattle.ame_machine.specs.MachineView.{MachineView}
 use Rattle.ame_protocol.specs.declared.types.Attempt.{Attempt}
 use Rattle.ame_protocol.specs.declared.types.Reason.{Reason}
 use Rattle.ame_protocol.specs.declared.types.Task.{Task}
-use Rattle.ame_protocol.specs.Engine.Parts.{Parts, task_at, member_of, term_at}
+use Rattle.ame_protocol.specs.Engine.Parts.{Parts, task_at, member_of, term_at, working}
 use Rattle.ame_protocol.specs.Engine.Simulates.{Simulates}
 use Rattle.ame_protocol.specs.Engine.Tasks.{is_busy_as}
 use Rattle.ame_protocol.specs.Engine.Events.{one_turn, with_memory, with_task, with_try, undo_turn, has_undone, brought_home, has_gone_home, woken_for, with_newcomers, has_ended, has_left}
@@ -26,7 +26,7 @@ use Rattle.ame_protocol.proofs.Engine.StepLemmas.{task_else}
 use Rattle.ame_protocol.proofs.Engine.HomeLemmas.{busy-of}
 use Rattle.ame_protocol.proofs.Engine.GrowthLemmas.{keeps-on, keeps-same, woken-keeps, woken-free, newcomers-keep}
 use Rattle.ame_protocol.proofs.Engine.CommitLemmas.{free-next}
-use Rattle.ame_engine.specs.AtWork.{working, IsOnSeat}
+use Rattle.ame_engine.specs.AtWork.{IsOnSeat}
 use Rattle.ame_turn.proofs.OthersLemmas.{stays-on}
 
 -- Undos

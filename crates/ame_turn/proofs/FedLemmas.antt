@@ -20,11 +20,11 @@ use Rattle.ame_machine.specs.Comes.{HasNextAct}
 use Rattle.ame_machine.proofs.NeedLemmas.{comes_as}
 use Rattle.ame_machine.proofs.MoveLemmas.{on-advanced, fed-to, on-fed}
 use Rattle.ame_protocol.specs.declared.types.Task.{Task}
-use Rattle.ame_protocol.specs.Engine.Parts.{Parts, heap_in, task_at, term_at}
+use Rattle.ame_protocol.specs.Engine.Parts.{Parts, heap_in, task_at, term_at, working}
 use Rattle.ame_protocol.specs.Engine.Events.{has_read, has_written, has_allocated}
 use Rattle.ame_protocol.proofs.Engine.StepLemmas.{owned_or_not}
 use Rattle.ame_protocol.proofs.Engine.MemoryEvents.{read-outside, read-own, first-run, later-run, allocation-run}
-use Rattle.ame_engine.specs.AtWork.{is_free, working, IsOnSeat}
+use Rattle.ame_engine.specs.AtWork.{is_free, IsOnSeat}
 
 module _ (parts : Parts) (seat : ℕ) (s : MachineView) (on : IsOnSeat parts seat s) where
   abbrev start : Tree

@@ -26,8 +26,8 @@ use Rattle.ame_protocol.specs.Engine.Parts.{Parts, heap_in, task_at}
 use Rattle.ame_protocol.specs.Engine.Simulates.{Simulates}
 use Rattle.ame_protocol.specs.Engine.Events.{has_read, has_written, has_allocated}
 use Rattle.ame_protocol.proofs.Engine.AccessLemmas.{within, read-there, write-there}
-use Rattle.ame_engine.specs.declared.counters.Counters.{Counters}
-use Rattle.ame_engine.specs.Counting.{Counted, one_counted}
+use Rattle.ame_protocol.specs.declared.counters.Counters.{Counters}
+use Rattle.ame_protocol.specs.Event.Counting.{Counted, one_counted}
 use Rattle.ame_engine.specs.declared.answer.Wrote.{Wrote}
 use Rattle.ame_engine.specs.declared.answer.Wrote.TheVariants as answer
 use Rattle.ame_engine.specs.Writing.{answer_to_write}

@@ -15,7 +15,7 @@ use Rattle.ame_machine.proofs.NeedLemmas.{comes_as}
 use Rattle.ame_protocol.specs.declared.types.Attempt.{Attempt}
 use Rattle.ame_protocol.specs.declared.types.Reason.{Reason}
 use Rattle.ame_protocol.specs.declared.types.Task.{Task}
-use Rattle.ame_protocol.specs.Engine.Parts.{Parts, task_at, attempt_of}
+use Rattle.ame_protocol.specs.Engine.Parts.{Parts, task_at, attempt_of, working}
 use Rattle.ame_protocol.specs.Engine.Events.{has_turned_back, with_memory, with_task, with_try, brought_home, has_undone, has_gone_home}
 use Rattle.ame_protocol.proofs.Engine.StepLemmas.{seat_within, task_here}
 use Rattle.ame_rows.specs.LettingGo.{undone_last}
@@ -23,18 +23,17 @@ use Rattle.ame_protocol.specs.Waits.Noted.{has_noted}
 use Rattle.ame_protocol.specs.Visits.Stops.{told_task, has_been_cut, has_grown_tall}
 use Rattle.ame_protocol.specs.Visits.Visit.{has_visited, has_been_refused}
 use Rattle.ame_rows.specs.MemoryView.{MemoryView}
-use Rattle.ame_engine.specs.declared.certificate.Certificate.{Certificate}
-use Rattle.ame_engine.specs.declared.counters.Counters.{Counters}
+use Rattle.ame_protocol.specs.declared.certificate.Certificate.{Certificate}
+use Rattle.ame_protocol.specs.declared.counters.Counters.{Counters}
 use Rattle.ame_engine.specs.declared.pick.Pick.{Pick}
-use Rattle.ame_engine.specs.declared.stop.Stop.{Stop}
+use Rattle.ame_protocol.specs.declared.stop.Stop.{Stop}
 use Rattle.ame_engine.specs.declared.answer.Begin.TheVariants as answer
 use Rattle.ame_engine.specs.Core.{Core}
 use Rattle.ame_engine.specs.Seen.{parts_of, MakesEvent, MakesLastEvent}
-use Rattle.ame_engine.specs.AtWork.{working}
 use Rattle.ame_engine.specs.Begins.{Answers}
 use Rattle.ame_engine.specs.Stops.{stopped_by, blocked_by}
 use Rattle.ame_engine.specs.Committing.{ended_at, left_at}
-use Rattle.ame_engine.specs.Undoing.{is_undoing}
+use Rattle.ame_protocol.specs.Event.Undoing.{is_undoing}
 use Rattle.ame_engine.proofs.ReadLemmas.{runs-as}
 use Rattle.ame_turn.specs.declared.work.Work.{Work}
 use Rattle.ame_turn.specs.Work.{CanUndo, IsAtWork, Fits}

@@ -14,12 +14,12 @@ use Rattle.ame_machine.specs.MachineView.{MachineView, OnRun}
 use Rattle.ame_protocol.specs.declared.types.Attempt.{Attempt}
 use Rattle.ame_protocol.specs.declared.types.Reason.{Reason}
 use Rattle.ame_protocol.specs.declared.types.Task.{Task}
-use Rattle.ame_protocol.specs.Engine.Parts.{Parts, task_at, term_at}
+use Rattle.ame_protocol.specs.Engine.Parts.{Parts, task_at, term_at, working}
 use Rattle.ame_protocol.specs.Engine.Events.{fresh_attempt, begun_task, has_begun, has_read, has_written, has_allocated, checked_attempt, has_checked, has_turned_back}
 use Rattle.ame_protocol.proofs.Engine.PoolLemmas.{machines-stay}
 use Rattle.ame_protocol.proofs.Engine.StepLemmas.{task_else}
 use Rattle.ame_rows.proofs.LookupLemmas.{row_set_else}
-use Rattle.ame_engine.specs.AtWork.{is_free, working, IsOnSeat}
+use Rattle.ame_engine.specs.AtWork.{is_free, IsOnSeat}
 
 -- where the task, the logs and the term from which the seat runs stay
 pub stays-on : (parts new : Parts) (other : ℕ) (s : MachineView) → task_at new.tasks other ≡ task_at parts.tasks other

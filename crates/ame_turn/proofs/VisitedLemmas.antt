@@ -14,7 +14,7 @@ use Rattle.ame_machine.specs.MachineView.{MachineView}
 use Rattle.ame_protocol.specs.declared.types.Attempt.{Attempt}
 use Rattle.ame_protocol.specs.declared.types.Reason.{Reason}
 use Rattle.ame_protocol.specs.declared.types.Task.{Task}
-use Rattle.ame_protocol.specs.Engine.Parts.{Parts, task_at, member_of, term_at}
+use Rattle.ame_protocol.specs.Engine.Parts.{Parts, task_at, member_of, term_at, working}
 use Rattle.ame_protocol.specs.Engine.Simulates.{Simulates}
 use Rattle.ame_protocol.specs.Engine.Events.{with_newcomers}
 use Rattle.ame_protocol.proofs.Engine.PoolLemmas.{machines-stay}
@@ -25,7 +25,7 @@ use Rattle.ame_protocol.specs.Waits.Noted.{has_noted}
 use Rattle.ame_protocol.specs.Visits.ByAct.{memory_after}
 use Rattle.ame_protocol.specs.Visits.Stops.{told_task, has_been_cut, has_grown_tall}
 use Rattle.ame_protocol.specs.Visits.Visit.{IsVisit, has_visited, has_been_refused}
-use Rattle.ame_engine.specs.AtWork.{working, IsOnSeat}
+use Rattle.ame_engine.specs.AtWork.{IsOnSeat}
 use Rattle.ame_turn.proofs.OthersLemmas.{stays-on}
 use Rattle.ame_turn.proofs.EndsLemmas.{term-home, other-member, member-below}
 

@@ -6,7 +6,7 @@ use Rattle.ame_machine.specs.MachineView.{MachineView}
 use Rattle.ame_protocol.specs.Engine.Parts.{task_at}
 use Rattle.ame_engine.specs.Core.{Core}
 use Rattle.ame_engine.specs.Committing.{IsCommitting}
-use Rattle.ame_engine.specs.Undoing.{is_undoing}
+use Rattle.ame_protocol.specs.Event.Undoing.{is_undoing}
 
 -- whether reads are checked at a full slice before this is done
 abbrev pub waits_for_check : Option Wants → Bool

@@ -14,25 +14,24 @@ use Rattle.ame_machine.specs.MachineView.{MachineView, place_shown}
 use Rattle.ame_machine.specs.Input.{value_to_set}
 use Rattle.ame_protocol.specs.declared.types.Attempt.{Attempt}
 use Rattle.ame_protocol.specs.declared.types.Task.{Task}
-use Rattle.ame_protocol.specs.Engine.Parts.{Parts, heap_in, task_at, attempt_of}
+use Rattle.ame_protocol.specs.Engine.Parts.{Parts, heap_in, task_at, attempt_of, working}
 use Rattle.ame_protocol.specs.Engine.Events.{has_begun, has_read, has_written, has_allocated, has_checked, has_turned_back, has_undone, has_gone_home}
 use Rattle.ame_protocol.specs.Waits.Noted.{has_noted}
 use Rattle.ame_protocol.specs.Visits.Stops.{has_been_cut, has_grown_tall}
 use Rattle.ame_engine.specs.declared.answer.Wrote.{Wrote}
-use Rattle.ame_engine.specs.declared.certificate.Certificate.{Certificate}
-use Rattle.ame_engine.specs.declared.counters.Counters.{Counters}
+use Rattle.ame_protocol.specs.declared.certificate.Certificate.{Certificate}
+use Rattle.ame_protocol.specs.declared.counters.Counters.{Counters}
 use Rattle.ame_engine.specs.declared.pick.Pick.{Pick}
-use Rattle.ame_engine.specs.declared.stop.Stop.{Stop}
-use Rattle.ame_engine.specs.AtWork.{working}
-use Rattle.ame_engine.specs.Counting.{Counted, one_counted, one_invalid, one_undone}
+use Rattle.ame_protocol.specs.declared.stop.Stop.{Stop}
+use Rattle.ame_protocol.specs.Event.Counting.{Counted, one_counted, one_invalid, one_undone}
 use Rattle.ame_engine.specs.Core.{Core}
 use Rattle.ame_engine.specs.Seen.{parts_of, MakesEvent, MakesLastEvent}
 use Rattle.ame_engine.specs.Begins.{pick_of}
-use Rattle.ame_engine.specs.Causes.{certificates_in}
+use Rattle.ame_protocol.specs.Event.Causes.{certificates_in}
 use Rattle.ame_engine.specs.Stops.{stopped_by, blocked_by}
 use Rattle.ame_engine.specs.Writing.{answer_to_write}
 use Rattle.ame_engine.specs.Committing.{ended_at, left_at}
-use Rattle.ame_engine.specs.Undoing.{reason_to_undo}
+use Rattle.ame_protocol.specs.Event.Undoing.{reason_to_undo}
 use Rattle.ame_engine.specs.Visiting.{HasComeHome, HasBeenRefused}
 use Rattle.ame_turn.specs.declared.work.Deed.{Deed}
 use Rattle.ame_turn.specs.Asked.{AsksFor, RunsTo, Accesses, IsToCheck, IsToCommit, IsToVisit, HasNoTurnsLeft, IsToUndo}

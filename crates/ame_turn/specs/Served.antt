@@ -2,7 +2,7 @@
 use Rattle.std.specs.Prelude.{ℕ}
 use Rattle.ame_machine.specs.Sound.{CanRun}
 use Rattle.ame_protocol.specs.Engine.Parts.{Parts}
-use Rattle.ame_engine.specs.declared.counters.Counters.{Counters}
+use Rattle.ame_protocol.specs.declared.counters.Counters.{Counters}
 use Rattle.ame_engine.specs.Core.{Core}
 use Rattle.ame_engine.specs.Seen.{MakesEvent}
 use Rattle.ame_turn.specs.Work.{IsAtWork}

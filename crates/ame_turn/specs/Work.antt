@@ -5,7 +5,7 @@ use Rattle.ame_protocol.specs.declared.types.Task.{Task}
 use Rattle.ame_protocol.specs.Engine.Parts.{task_at, attempt_of}
 use Rattle.ame_engine.specs.Core.{Core}
 use Rattle.ame_engine.specs.AtWork.{IsOn}
-use Rattle.ame_engine.specs.Undoing.{is_undoing}
+use Rattle.ame_protocol.specs.Event.Undoing.{is_undoing}
 use Rattle.ame_turn.specs.declared.work.Work.{Work}
 use Rattle.ame_turn.specs.declared.work.Work.TheVariants as work
 use Rattle.ame_machine.specs.Meaning.{Meaning}

@@ -11,7 +11,7 @@ ghost use Rattle.ame_machine.specs.Input.{value_to_set};
 ghost use Rattle.ame_protocol.specs.declared.types.Attempt.{Attempt};
 ghost use Rattle.ame_protocol.specs.Engine.Parts.{heap_in, task_at};
 ghost use Rattle.ame_protocol.specs.Engine.Events.{has_read, has_written, has_allocated, has_turned_back};
-ghost use Rattle.ame_engine.specs.Counting.{Counted, one_counted};
+ghost use Rattle.ame_protocol.specs.Event.Counting.{Counted, one_counted};
 ghost use Rattle.ame_engine.specs.Seen.{parts_of, MakesEvent};
 ghost use Rattle.ame_engine.specs.AtWork.{IsOn, IsReading, IsWriting, IsAllocating};
 ghost use Rattle.ame_engine.specs.Writing.{answer_to_write};

@@ -5,7 +5,7 @@ ghost use Rattle.ame_device.specs.declared.told.Told.{Told};
 ghost use Rattle.ame_machine.specs.MachineView.{MachineView};
 ghost use Rattle.ame_protocol.specs.Engine.Parts.{task_at};
 ghost use Rattle.ame_protocol.specs.declared.types.Task.{Task};
-ghost use Rattle.ame_engine.specs.declared.stop.Stop.{Stop};
+ghost use Rattle.ame_protocol.specs.declared.stop.Stop.{Stop};
 ghost use Rattle.ame_engine.specs.Stops.{stopped_by};
 ghost use Rattle.ame_turn.specs.declared.work.Deed.{Deed};
 ghost use Rattle.ame_turn.specs.declared.work.Work.TheVariants as spec;

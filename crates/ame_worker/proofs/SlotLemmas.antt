@@ -12,17 +12,17 @@ use Rattle.ame_protocol.specs.Engine.Events.{has_begun, has_read, has_written, h
 use Rattle.ame_protocol.specs.Waits.Noted.{has_noted}
 use Rattle.ame_protocol.specs.Visits.Stops.{has_been_cut, has_grown_tall}
 use Rattle.ame_protocol.specs.Visits.Visit.{has_been_refused}
-use Rattle.ame_engine.specs.declared.certificate.Certificate.{Certificate}
+use Rattle.ame_protocol.specs.declared.certificate.Certificate.{Certificate}
 use Rattle.ame_engine.specs.declared.pick.Pick.{Pick}
-use Rattle.ame_engine.specs.declared.counters.Counters.{Counters}
-use Rattle.ame_engine.specs.declared.stop.Stop.{Stop}
-use Rattle.ame_engine.specs.Causes.{certificates_in}
+use Rattle.ame_protocol.specs.declared.counters.Counters.{Counters}
+use Rattle.ame_protocol.specs.declared.stop.Stop.{Stop}
+use Rattle.ame_protocol.specs.Event.Causes.{certificates_in}
 use Rattle.ame_engine.specs.Committing.{ended_at, left_at, owned_places}
 use Rattle.ame_engine.specs.Core.{Core}
-use Rattle.ame_engine.specs.Counting.{Counted, one_counted, one_invalid, one_undone}
+use Rattle.ame_protocol.specs.Event.Counting.{Counted, one_counted, one_invalid, one_undone}
 use Rattle.ame_engine.specs.Seen.{parts_of, MakesEvent, MakesLastEvent}
 use Rattle.ame_engine.specs.Stops.{stopped_by, blocked_by}
-use Rattle.ame_engine.specs.Undoing.{reason_to_undo}
+use Rattle.ame_protocol.specs.Event.Undoing.{reason_to_undo}
 use Rattle.ame_engine.specs.Visiting.{visited_at, HasComeHome}
 use Rattle.ame_turn.specs.declared.work.Deed.{Deed}
 use Rattle.ame_turn.specs.Deeds.{StopsBy, TurnsBack, Spends, IsMade, IsDone}

@@ -6,10 +6,10 @@ use Rattle.ame_pool.specs.declared.oldest.Oldest.{Oldest}
 use Rattle.ame_pool.specs.Begin.{oldest}
 use Rattle.ame_protocol.specs.declared.types.Task.{Task}
 use Rattle.ame_protocol.specs.Engine.Parts.{task_at}
-use Rattle.ame_engine.specs.declared.certificate.Certificate.{Certificate}
+use Rattle.ame_protocol.specs.declared.certificate.Certificate.{Certificate}
 use Rattle.ame_engine.specs.declared.pick.Pick.{Pick}
 use Rattle.ame_engine.specs.Begins.{pick_by, pick_of}
-use Rattle.ame_engine.specs.Causes.{certificates_in}
+use Rattle.ame_protocol.specs.Event.Causes.{certificates_in}
 use Rattle.ame_engine.specs.Core.{Core}
 use Rattle.ame_engine.specs.Seen.{parts_of}
 use Rattle.ame_turn.specs.declared.work.Deed.{Deed}

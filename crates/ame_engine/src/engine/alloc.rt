@@ -9,7 +9,7 @@ ghost use Rattle.ame_machine.specs.MachineView.{MachineView};
 ghost use Rattle.ame_machine.specs.Input.{value_to_set};
 ghost use Rattle.ame_machine.specs.Sound.{CanRun};
 ghost use Rattle.ame_protocol.specs.Engine.Events.{has_allocated};
-ghost use Rattle.ame_engine.specs.Counting.{Counted, one_counted};
+ghost use Rattle.ame_protocol.specs.Event.Counting.{Counted, one_counted};
 ghost use Rattle.ame_engine.specs.Seen.{parts_of, MakesEvent};
 ghost use Rattle.ame_engine.specs.AtWork.{IsOn, IsOnSeat, IsAllocating};
 

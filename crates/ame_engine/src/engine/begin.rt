@@ -11,18 +11,17 @@ ghost use Rattle.ame_protocol.specs.Engine.Parts.{task_at};
 ghost use Rattle.ame_protocol.specs.Engine.Events.{begun_task as task_begun, attempt_after};
 ghost use Rattle.ame_engine.specs.Seen.{parts_of};
 ghost use Rattle.ame_engine.specs.Begins.{pick_of, takes_memory, HasBegun, Answers};
-ghost use Rattle.ame_engine.specs.Causes.{certificates_in};
+ghost use Rattle.ame_protocol.specs.Event.Causes.{certificates_in};
 ghost use Rattle.ame_engine.specs.Stops.{stopped_by, blocked_by};
-ghost use Rattle.ame_engine.specs.Bounds.{LeavesNoTry};
+ghost use Rattle.ame_protocol.specs.Event.Bounds.{LeavesNoTry};
 
 use super::Engine;
 use crate::answer::Begin;
 use crate::pick::{Pick, pick_by};
-use crate::stop::Stop;
 use ame_journal::Entry;
 use ame_machine::Runner;
 use ame_pool::Pool;
-use ame_protocol::{Attempt, Task, Tried};
+use ame_protocol::{Attempt, Stop, Task, Tried};
 use ame_term::NoMemory;
 use std::alloc::Global;
 

@@ -5,16 +5,15 @@ ghost use Rattle.ame_journal.specs.Replay.{or_else};
 ghost use Rattle.ame_pool.specs.declared.oldest.Oldest.{Oldest};
 ghost use Rattle.ame_pool.specs.Begin.{oldest as oldest_of};
 ghost use Rattle.ame_protocol.specs.Waits.Waiting.{is_stuck as is_stuck_kind, last_stuck};
-ghost use Rattle.ame_engine.specs.Causes.{certificate_of as certificate_told, certificates_of as certificates_told, certificates_in};
+ghost use Rattle.ame_protocol.specs.Event.Causes.{certificate_of as certificate_told, certificates_of as certificates_told, certificates_in};
 ghost use Rattle.ame_engine.specs.Certifying.{certified_by};
 ghost use Rattle.ame_engine.specs.Seen.{parts_of};
 ghost use Rattle.ame_engine.specs.Stops.{blocked_by};
 
 use super::Engine;
-use crate::certificate::Certificate;
-use crate::stop::Stop;
 use ame_journal::{Entry, EntryKind};
 use ame_machine::Runner;
+use ame_protocol::{Certificate, Stop};
 use ame_term::{Locs, NoMemory};
 use std::alloc::Global;
 

@@ -7,10 +7,10 @@ ghost use Rattle.ame_rows.specs.MemoryView.{row_at};
 ghost use Rattle.ame_protocol.specs.declared.types.Attempt.{Attempt};
 ghost use Rattle.ame_protocol.specs.Engine.Parts.{task_at};
 ghost use Rattle.ame_protocol.specs.Engine.Events.{has_checked, has_turned_back};
-ghost use Rattle.ame_engine.specs.Counting.{Counted, one_counted, one_invalid};
+ghost use Rattle.ame_protocol.specs.Event.Counting.{Counted, one_counted, one_invalid};
 ghost use Rattle.ame_engine.specs.Seen.{MakesEvent};
 ghost use Rattle.ame_engine.specs.AtWork.{IsOn};
-ghost use Rattle.ame_engine.specs.Rollbacks.{MayBeRolledBack};
+ghost use Rattle.ame_protocol.specs.Event.Rollbacks.{MayBeRolledBack};
 
 use super::Engine;
 use crate::answer::Checked;

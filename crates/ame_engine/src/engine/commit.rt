@@ -8,10 +8,10 @@ ghost use Rattle.ame_machine.specs.declared.wants.Wants.{Wants};
 ghost use Rattle.ame_protocol.specs.declared.types.Attempt.{Attempt};
 ghost use Rattle.ame_protocol.specs.Engine.Parts.{task_at};
 ghost use Rattle.ame_protocol.specs.Engine.Events.{has_turned_back};
-ghost use Rattle.ame_engine.specs.Counting.{Counted, one_counted, one_invalid};
+ghost use Rattle.ame_protocol.specs.Event.Counting.{Counted, one_counted, one_invalid};
 ghost use Rattle.ame_engine.specs.Seen.{MakesEvent};
 ghost use Rattle.ame_engine.specs.AtWork.{IsOn};
-ghost use Rattle.ame_engine.specs.Rollbacks.{MayBeRolledBack};
+ghost use Rattle.ame_protocol.specs.Event.Rollbacks.{MayBeRolledBack};
 ghost use Rattle.ame_engine.specs.Committing.{IsCommitting, ended_at, left_at};
 
 use super::Engine;

@@ -6,20 +6,20 @@ ghost use Rattle.ame_rows.specs.Valid.{IsValid};
 ghost use Rattle.ame_rows.specs.MemoryView.{row_at};
 ghost use Rattle.ame_machine.specs.MachineView.{place_shown};
 ghost use Rattle.ame_protocol.specs.declared.types.Attempt.{Attempt};
-ghost use Rattle.ame_protocol.specs.Engine.Parts.{task_at, attempt_of};
+ghost use Rattle.ame_protocol.specs.Engine.Parts.{task_at, attempt_of, working};
 ghost use Rattle.ame_protocol.specs.Visits.Stops.{has_been_cut};
-ghost use Rattle.ame_engine.specs.Causes.{HasCause};
+ghost use Rattle.ame_protocol.specs.Event.Causes.{HasCause};
 ghost use Rattle.ame_engine.specs.Seen.{parts_of, MakesLastEvent};
 ghost use Rattle.ame_engine.specs.Stops.{stopped_by};
-ghost use Rattle.ame_engine.specs.AtWork.{IsOn, working};
-ghost use Rattle.ame_engine.specs.Bounds.{LeavesNoTry};
+ghost use Rattle.ame_engine.specs.AtWork.{IsOn};
+ghost use Rattle.ame_protocol.specs.Event.Bounds.{LeavesNoTry};
 
 use super::Engine;
 use super::notes::{note_of, told_task};
 use super::undo::attempt_at;
-use crate::stop::Stop;
 use ame_journal::EntryKind;
 use ame_machine::Runner;
+use ame_protocol::Stop;
 use ame_term::NoMemory;
 
 impl<M: Runner> Engine<M>

@@ -3,16 +3,15 @@
 ghost use Rattle.std.specs.Prelude.{◌≡◌, IfOk, replicate};
 ghost use Rattle.std.specs.Arc.{arc_value};
 ghost use Rattle.ame_protocol.specs.Engine.Events.{started};
-ghost use Rattle.ame_engine.specs.Counting.{nothing_counted};
+ghost use Rattle.ame_protocol.specs.Event.Counting.{nothing_counted};
 ghost use Rattle.ame_engine.specs.Seen.{parts_of};
 ghost use Rattle.ame_engine.specs.Whole.{AreLimits};
 
 use super::Engine;
-use crate::counters::Counters;
 use ame_journal::Journal;
 use ame_machine::Runner;
 use ame_pool::Pool;
-use ame_protocol::{Limits, Task};
+use ame_protocol::{Counters, Limits, Task};
 use ame_rows::Memory;
 use ame_store::Store;
 use ame_term::NoMemory;

@@ -5,14 +5,14 @@ ghost use Rattle.ame_pool.specs.declared.oldest.Oldest.{Oldest};
 ghost use Rattle.ame_pool.specs.Begin.{oldest as oldest_of};
 ghost use Rattle.ame_engine.specs.declared.pick.Pick.{Pick};
 ghost use Rattle.ame_engine.specs.Begins.{pick_of};
-ghost use Rattle.ame_engine.specs.Causes.{HasCause};
+ghost use Rattle.ame_protocol.specs.Event.Causes.{HasCause, is_from_outside};
 ghost use Rattle.ame_engine.specs.Seen.{parts_of};
-ghost use Rattle.ame_engine.specs.Stops.{stopped_by, is_from_outside};
-ghost use Rattle.ame_engine.specs.Bounds.{LeavesNoTry};
+ghost use Rattle.ame_engine.specs.Stops.{stopped_by};
+ghost use Rattle.ame_protocol.specs.Event.Bounds.{LeavesNoTry};
 
 use super::Engine;
-use crate::stop::Stop;
 use ame_machine::Runner;
+use ame_protocol::Stop;
 
 impl<M: Runner> Engine<M>
 where

@@ -7,23 +7,22 @@ ghost use Rattle.ame_rows.specs.MemoryView.{row_at};
 ghost use Rattle.ame_machine.specs.declared.wants.Wants.{Wants};
 ghost use Rattle.ame_machine.specs.MachineView.{place_shown};
 ghost use Rattle.ame_protocol.specs.declared.types.Attempt.{Attempt};
-ghost use Rattle.ame_protocol.specs.Engine.Parts.{task_at};
+ghost use Rattle.ame_protocol.specs.Engine.Parts.{task_at, working};
 ghost use Rattle.ame_protocol.specs.Engine.Events.{has_turned_back};
 ghost use Rattle.ame_protocol.specs.Visits.Stops.{has_grown_tall};
-ghost use Rattle.ame_engine.specs.declared.stop.Stop.{Stop};
-ghost use Rattle.ame_engine.specs.Counting.{Counted, one_counted, one_invalid};
+ghost use Rattle.ame_protocol.specs.declared.stop.Stop.{Stop};
+ghost use Rattle.ame_protocol.specs.Event.Counting.{Counted, one_counted, one_invalid};
 ghost use Rattle.ame_engine.specs.Seen.{MakesEvent, MakesLastEvent};
-ghost use Rattle.ame_engine.specs.AtWork.{IsOn, working};
-ghost use Rattle.ame_engine.specs.Rollbacks.{MayBeRolledBack};
+ghost use Rattle.ame_engine.specs.AtWork.{IsOn};
+ghost use Rattle.ame_protocol.specs.Event.Rollbacks.{MayBeRolledBack};
 
 use super::Engine;
 use super::notes::{note_of, told_task};
 use super::undo::attempt_at;
 use crate::answer::Noted;
-use crate::stop::Stop;
 use ame_journal::EntryKind;
 use ame_machine::Runner;
-use ame_protocol::{Reason, Task};
+use ame_protocol::{Reason, Stop, Task};
 use ame_term::NoMemory;
 
 impl<M: Runner> Engine<M>

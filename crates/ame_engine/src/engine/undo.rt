@@ -6,16 +6,15 @@ ghost use Rattle.ame_rows.specs.MemoryView.{row_at};
 ghost use Rattle.ame_protocol.specs.declared.types.Attempt.{Attempt};
 ghost use Rattle.ame_protocol.specs.Engine.Parts.{task_at, attempt_of};
 ghost use Rattle.ame_protocol.specs.Engine.Events.{with_try, has_undone, has_gone_home};
-ghost use Rattle.ame_engine.specs.Counting.{one_undone};
+ghost use Rattle.ame_protocol.specs.Event.Counting.{one_undone};
 ghost use Rattle.ame_engine.specs.Seen.{MakesEvent};
-ghost use Rattle.ame_engine.specs.Undoing.{is_undoing, reason_to_undo, is_busy_for, home_for};
+ghost use Rattle.ame_protocol.specs.Event.Undoing.{is_undoing, reason_to_undo, is_busy_for, home_for};
 
 use super::Engine;
 use crate::answer::Undone;
-use crate::counters::Counters;
 use ame_machine::Runner;
 use ame_pool::Pool;
-use ame_protocol::{Attempt, Reason, Task, Tried};
+use ame_protocol::{Attempt, Counters, Reason, Task, Tried};
 
 /// What a seat has at work.
 pub(super) fn attempt_at(task: Task) -> Attempt

@@ -11,11 +11,11 @@ ghost use Rattle.ame_machine.specs.Sound.{CanRun};
 ghost use Rattle.ame_protocol.specs.declared.types.Attempt.{Attempt};
 ghost use Rattle.ame_protocol.specs.Engine.Parts.{heap_in, task_at};
 ghost use Rattle.ame_protocol.specs.Engine.Events.{has_written, has_turned_back};
-ghost use Rattle.ame_engine.specs.Counting.{Counted, one_counted};
+ghost use Rattle.ame_protocol.specs.Event.Counting.{Counted, one_counted};
 ghost use Rattle.ame_engine.specs.Seen.{parts_of, MakesEvent};
 ghost use Rattle.ame_engine.specs.AtWork.{IsOn, IsOnSeat, IsWriting};
 ghost use Rattle.ame_engine.specs.Writing.{answer_to_write, refused_by};
-ghost use Rattle.ame_engine.specs.Rollbacks.{MayBeRolledBack};
+ghost use Rattle.ame_protocol.specs.Event.Rollbacks.{MayBeRolledBack};
 
 use super::Engine;
 use crate::answer::Wrote;

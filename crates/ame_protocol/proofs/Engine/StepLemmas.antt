@@ -19,7 +19,7 @@ use Rattle.ame_protocol.proofs.Row.CommitLemmas.{typed-still}
 use Rattle.ame_protocol.specs.declared.types.Attempt.{Attempt}
 use Rattle.ame_protocol.specs.declared.types.Task.{Task}
 use Rattle.ame_protocol.specs.Engine.Logged.{heap_of}
-use Rattle.ame_protocol.specs.Engine.Parts.{Parts, whole_journal, heap_in, task_at, attempt_of, member_of}
+use Rattle.ame_protocol.specs.Engine.Parts.{Parts, whole_journal, heap_in, task_at, attempt_of, member_of, working}
 use Rattle.ame_protocol.specs.Engine.StandsFor.{StandsFor}
 use Rattle.ame_protocol.specs.Engine.Tasks.{IsSoundIn, MeetsTask}
 use Rattle.ame_protocol.specs.Engine.Simulates.{IsTypedIn, HasFewChanges, most_opened, IsBounded, AreApart, Simulates}
@@ -208,3 +208,10 @@ task_here tasks seat task within = get_or-set_same tasks seat task Task.Idle wit
 
 pub task_else : (tasks : List Task) (seat : ℕ) (task : Task) (other : ℕ) → (other ≡ seat → ⊥) → task_at (set tasks seat task) other ≡ task_at tasks other
 task_else tasks seat task other apart = get_or-set_other tasks seat other task Task.Idle apart
+
+-- a seat that runs code has an attempt
+pub working-has : (t : Task) (a : Attempt) → working t ≡ Some a → attempt_of t ≡ Some a
+working-has Task.Idle a e = absurd (let clash : ◌≡◌ {A = Option Attempt} None (Some a) = e in cc)
+working-has (Task.Running b) a e = e
+working-has (Task.Free b) a e = e
+working-has (Task.Undoing b reason) a e = absurd (let clash : ◌≡◌ {A = Option Attempt} None (Some a) = e in cc)

@@ -50,6 +50,12 @@ attempt_of (Task.Running attempt) = Some attempt
 attempt_of (Task.Free attempt) = Some attempt
 attempt_of (Task.Undoing attempt reason) = Some attempt
 
+-- the attempt of a seat that runs code, and undoes nothing
+abbrev pub working : Task → Option Attempt
+working (Task.Running attempt) = Some attempt
+working (Task.Free attempt) = Some attempt
+working _ = None
+
 -- the member that it has at work
 abbrev pub member_of : Task → Option ℕ
 member_of task = option_map (λ attempt. attempt.tried.number) (attempt_of task)

@@ -5,20 +5,19 @@ ghost use Rattle.ame_device.specs.Calls.{all_told};
 ghost use Rattle.ame_machine.specs.declared.wants.Wants.{Wants};
 ghost use Rattle.ame_protocol.specs.Engine.Parts.{task_at};
 ghost use Rattle.ame_protocol.specs.Visits.Visit.{has_been_refused};
-ghost use Rattle.ame_engine.specs.Counting.{Counted, one_counted};
+ghost use Rattle.ame_protocol.specs.Event.Counting.{Counted, one_counted};
 ghost use Rattle.ame_engine.specs.Seen.{parts_of, MakesLastEvent};
-ghost use Rattle.ame_engine.specs.Faults.{LeadsToCall};
+ghost use Rattle.ame_protocol.specs.Event.Faults.{LeadsToCall};
 ghost use Rattle.ame_engine.specs.AtWork.{IsOn};
 ghost use Rattle.ame_engine.specs.Visiting.{IsVisiting, HasComeHome, HasBeenRefused};
 
 use super::home::{free_entry, send_home};
 use crate::answer::Freed;
 use crate::engine::Engine;
-use crate::stop::Stop;
 use ame_device::{Device, DeviceFail, call_device};
 use ame_journal::Entry;
 use ame_machine::{Input, Runner};
-use ame_protocol::{Attempt, Task};
+use ame_protocol::{Attempt, Stop, Task};
 use ame_term::NoMemory;
 
 /// The entry of a visit with one step more, which a device answered.

@@ -2,7 +2,7 @@
 
 ghost use Rattle.std.specs.Prelude.{◌≡◌, ◌<◌, ◌≤◌, OnOk, OnErr, None, true, []};
 ghost use Rattle.ame_protocol.specs.Engine.Parts.{task_at};
-ghost use Rattle.ame_engine.specs.Counting.{Counted, one_counted};
+ghost use Rattle.ame_protocol.specs.Event.Counting.{Counted, one_counted};
 ghost use Rattle.ame_engine.specs.Seen.{parts_of, MakesEvent};
 ghost use Rattle.ame_engine.specs.Visiting.{IsVisitTo, visited_at, SettlesThere, changed_by, CanChange, IsGoodChange, makes_cell};
 

@@ -6,7 +6,7 @@ ghost use Rattle.ame_pool.specs.Calls.{IsAt, exchanged};
 ghost use Rattle.ame_machine.specs.MachineView.{place_shown};
 ghost use Rattle.ame_protocol.specs.Engine.Shown.{shown_pool};
 ghost use Rattle.ame_protocol.specs.Visits.Visit.{free_entry as entry_of_visit};
-ghost use Rattle.ame_engine.specs.Rollbacks.{IsGoodPool};
+ghost use Rattle.ame_protocol.specs.Event.Rollbacks.{IsGoodPool};
 ghost use Rattle.ame_engine.specs.Seen.{term_shown};
 ghost use Rattle.ame_engine.specs.Whole.{IsAtRest};
 ghost use Rattle.ame_engine.specs.Visiting.{SettlesThere};

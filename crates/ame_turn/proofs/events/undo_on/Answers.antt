@@ -3,7 +3,7 @@ use Rattle.ame_rows.specs.MemoryView.{row_at}
 use Rattle.ame_engine.specs.declared.answer.Undone.{Undone}
 use Rattle.ame_engine.specs.declared.answer.Undone.TheVariants as answer
 use Rattle.ame_protocol.specs.Engine.Parts.{task_at, attempt_of}
-use Rattle.ame_engine.specs.Undoing.{reason_to_undo}
+use Rattle.ame_protocol.specs.Event.Undoing.{reason_to_undo}
 use Rattle.ame_engine.proofs.UndoingLemmas.{attempt-in}
 use Rattle.ame_turn.proofs.HandLemmas.{undid-fits, home-fits, at-most-one}
 use Rattle.ame_turn.proofs.events.undo_on.Goals as goal

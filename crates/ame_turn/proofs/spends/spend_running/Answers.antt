@@ -1,7 +1,7 @@
 use Rattle.std.proofs.Common.{inl, inr, Some, refl, sym, subst}
 use Rattle.ame_rows.specs.MemoryView.{row_at}
 use Rattle.ame_machine.specs.MachineView.{place_shown}
-use Rattle.ame_engine.specs.declared.stop.Stop.{Stop}
+use Rattle.ame_protocol.specs.declared.stop.Stop.{Stop}
 use Rattle.ame_turn.specs.declared.work.Work.TheVariants as work
 use Rattle.ame_turn.specs.Work.{Fits}
 use Rattle.ame_turn.specs.Deeds.{IsDone}

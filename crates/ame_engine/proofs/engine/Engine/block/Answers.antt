@@ -4,8 +4,8 @@ use Rattle.ame_rows.specs.MemoryView.{row_at}
 use Rattle.ame_protocol.specs.declared.types.Reason.{Reason}
 use Rattle.ame_protocol.specs.declared.types.Task.{Task}
 use Rattle.ame_protocol.specs.Engine.Parts.{task_at, attempt_of}
-use Rattle.ame_engine.specs.Counting.{Counted, one_invalid}
-use Rattle.ame_engine.proofs.CountLemmas.{invalid-refused, invalid-counts}
+use Rattle.ame_protocol.specs.Event.Counting.{Counted, one_invalid}
+use Rattle.ame_protocol.proofs.Event.CountLemmas.{invalid-refused, invalid-counts}
 use Rattle.ame_engine.proofs.PlaceLemmas.{places-kept}
 use Rattle.ame_engine.proofs.CheckLemmas.{its-task, whole-back, unexhausted-invalid, crowded-invalid, rolls-invalid}
 use Rattle.ame_engine.proofs.engine.Engine.block.Goals as goal

@@ -1,5 +1,5 @@
 use Rattle.std.proofs.Common.{ap, ◌++◌, ◌∙◌}
-use Rattle.ame_engine.specs.Causes.{certificates_of}
+use Rattle.ame_protocol.specs.Event.Causes.{certificates_of}
 use Rattle.ame_engine.proofs.BlockedLemmas.{whole-blocked, makes-blocked}
 use Rattle.ame_engine.proofs.engine.Engine.keep_blocked.Goals as goal
 

@@ -1,5 +1,5 @@
 use Rattle.ame_engine.proofs.BeginLemmas.{finished-cause, spent-cause, outside-cause, parked-met, blocked-going}
-use Rattle.ame_engine.proofs.BoundLemmas.{outside-leaves}
+use Rattle.ame_protocol.proofs.Event.BoundLemmas.{outside-leaves}
 use Rattle.ame_engine.proofs.engine.Engine.stops_have_causes.Goals as goal
 
 pub returns-clause-finished : goal.returns-clause-finished

@@ -1,6 +1,6 @@
 -- The certificates of the numbers so far.
 use Rattle.std.proofs.Common.{◌≡◌, ◌++◌, take}
-use Rattle.ame_engine.specs.Causes.{certificates_of}
+use Rattle.ame_protocol.specs.Event.Causes.{certificates_of}
 use Rattle.ame_engine.proofs.engine.blocked.certificates_of.Given as goal
 
 abbrev pub invariant-loop-number : goal.invariant-loop-number

@@ -1,7 +1,7 @@
 use Rattle.std.proofs.Common.{◌≡◌, Some, sym, subst}
 use Rattle.ame_machine.specs.declared.wants.Wants.TheVariants as wants
-use Rattle.ame_engine.specs.Rollbacks.{IsGoodPool}
-use Rattle.ame_engine.proofs.RollbackLemmas.{good-exchanged, good-removed}
+use Rattle.ame_protocol.specs.Event.Rollbacks.{IsGoodPool}
+use Rattle.ame_protocol.proofs.Event.RollbackLemmas.{good-exchanged, good-removed}
 use Rattle.ame_engine.proofs.CrewLemmas.{left-shown, left-rests, gone-rests}
 use Rattle.ame_engine.proofs.engine.commit.members.send_on.Goals as goal
 

@@ -1,6 +1,6 @@
 use Rattle.std.proofs.Common.{sym, subst}
-use Rattle.ame_engine.specs.Rollbacks.{IsGoodPool}
-use Rattle.ame_engine.proofs.RollbackLemmas.{good-exchanged}
+use Rattle.ame_protocol.specs.Event.Rollbacks.{IsGoodPool}
+use Rattle.ame_protocol.proofs.Event.RollbackLemmas.{good-exchanged}
 use Rattle.ame_engine.proofs.VisitEndLemmas.{sent-shown, sent-rests}
 use Rattle.ame_engine.proofs.engine.free.home.send_home.Goals as goal
 

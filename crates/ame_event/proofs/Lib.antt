@@ -1,9 +1,0 @@
-pub mod PoolLemmas
-pub mod SeatedLemmas
-pub mod ActLemmas
-pub mod RowLemmas
-pub mod VisitLemmas
-pub mod StopLemmas
-pub mod UndoLemmas
-pub mod SoundLemmas
-pub mod RunLemmas

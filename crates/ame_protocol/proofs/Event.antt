@@ -1,0 +1,16 @@
+pub mod CountLemmas
+pub mod CauseLemmas
+pub mod FaultLemmas
+pub mod RollbackLemmas
+pub mod AloneLemmas
+pub mod LoneLemmas
+pub mod BoundLemmas
+pub mod PoolLemmas
+pub mod SeatedLemmas
+pub mod ActLemmas
+pub mod RowLemmas
+pub mod VisitLemmas
+pub mod StopLemmas
+pub mod UndoLemmas
+pub mod SoundLemmas
+pub mod RunLemmas

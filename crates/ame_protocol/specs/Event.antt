@@ -1,0 +1,14 @@
+pub mod Counting
+pub mod Faults
+pub mod Causes
+pub mod Lone
+pub mod Bounds
+pub mod Rollbacks
+pub mod Undoing
+pub mod Seated
+pub mod State
+pub mod Event
+pub mod After
+pub mod May
+pub mod Sound
+pub mod Runs

@@ -1,0 +1,28 @@
+-- The state of a runtime: all that its events change.
+use Rattle.std.specs.Prelude.{ℕ, List, [], Option, None}
+use Rattle.ame_term.specs.Tree.{Val, Tree}
+use Rattle.ame_store.specs.declared.cell.Cell.{Cell}
+use Rattle.ame_protocol.specs.declared.types.Limits.{Limits}
+use Rattle.ame_protocol.specs.Row.Heap.{cell_at}
+use Rattle.ame_protocol.specs.Engine.Parts.{Parts, heap_in}
+use Rattle.ame_protocol.specs.Engine.Events.{started}
+use Rattle.ame_protocol.specs.declared.certificate.Certificate.{Certificate}
+use Rattle.ame_protocol.specs.declared.counters.Counters.{Counters}
+use Rattle.ame_protocol.specs.declared.stop.Stop.{Stop}
+use Rattle.ame_protocol.specs.Event.Counting.{nothing_counted}
+
+-- The parts (journal, memory, tasks of the seats, pool of members), how many events of each kind there were, the stop that is
+-- kept, if one is, and the certificates that tell of blocked members then.
+pub record State : Type 0 where
+  pub parts : Parts
+  pub counters : Counters
+  pub stop : Option Stop
+  pub certificates : List Certificate
+
+-- the state of a program that has just started: the program is member 0, and each seat is idle
+abbrev pub started_state : Tree → ℕ → Limits → State
+started_state program devices limits = record { parts = started program devices limits 0; counters = nothing_counted; stop = None; certificates = [] }
+
+-- the cell at a location
+abbrev pub cell : State → ℕ → Cell Val
+cell s l = cell_at (heap_in s.parts) l

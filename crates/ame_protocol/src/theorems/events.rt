@@ -1,0 +1,48 @@
+//! What events and their runs keep.
+
+ghost use Rattle.std.specs.Prelude.{◌≡◌, ◌≤◌, ◌+◌, ◌++◌, ◌∷◌, [], ℕ, List, length, None};
+ghost use Rattle.ame_term.specs.Tree.{Tree, Typ};
+ghost use Rattle.ame_term.specs.SourceTerm.{IsSourceTerm};
+ghost use Rattle.ame_term.specs.Typing.{Accepts};
+ghost use Rattle.ame_protocol.specs.declared.types.Limits.{Limits};
+ghost use Rattle.ame_protocol.specs.Event.Counting.{turns_in};
+ghost use Rattle.ame_protocol.specs.Event.State.{State, started_state};
+ghost use Rattle.ame_protocol.specs.Event.Event.{Event};
+ghost use Rattle.ame_protocol.specs.Event.After.{after};
+ghost use Rattle.ame_protocol.specs.Event.May.{May};
+ghost use Rattle.ame_protocol.specs.Event.Sound.{Sound};
+ghost use Rattle.ame_protocol.specs.Event.Runs.{Follows, entries_along};
+
+/// The state that starts a program which the types accept is sound.
+pub fn states_start_sound()
+    ensures { (program : Tree) (devices : ℕ) (limits : Limits) (places : List ℕ) (refs : List Typ) → Accepts devices places program refs
+        → IsSourceTerm program → 1 ≤ limits.slice → Sound (started_state program devices limits) }
+{}
+
+/// Each event that may be keeps a state sound.
+pub fn events_keep_states_sound()
+    ensures { (e : Event) (s : State) → May e s → Sound s → Sound (after e s) }
+{}
+
+/// So does each run.
+pub fn runs_keep_states_sound()
+    ensures { (es : List Event) (s end : State) → Follows s es end → Sound s → Sound end }
+{}
+
+/// A run goes on with each event that may be where it has come.
+pub fn runs_go_on()
+    ensures { (es : List Event) (s end : State) (e : Event) → Follows s es end → May e end → Follows s (es ++ e ∷ []) (after e end) }
+{}
+
+/// The journal grows by the entries of the run's events, in order.
+pub fn runs_tell_their_entries()
+    ensures { (es : List Event) (s end : State) → Follows s es end → end.parts.entries ≡ s.parts.entries ++ entries_along es }
+{}
+
+/// No event takes more than one turn, and until a stop is kept each takes one. The counters of all kinds together are the turns.
+pub fn runs_take_turns()
+    ensures few { (es : List Event) (s end : State) → Follows s es end → end.parts.turns ≤ s.parts.turns + length es }
+    ensures going { (es : List Event) (s end : State) → Follows s es end → Sound s → end.stop ≡ None
+        → end.parts.turns ≡ s.parts.turns + length es }
+    ensures counted { (s : State) → Sound s → turns_in s.counters ≡ s.parts.turns }
+{}

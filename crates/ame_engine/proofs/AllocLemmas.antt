@@ -41,11 +41,15 @@ use Rattle.ame_engine.specs.Core.{Core}
 use Rattle.ame_protocol.specs.Event.Causes.{HasCause}
 use Rattle.ame_protocol.proofs.Event.CauseLemmas.{task-more, working-cause}
 use Rattle.ame_protocol.specs.Event.Counting.{Counted, one_counted}
-use Rattle.ame_engine.specs.Seen.{parts_of, MakesEvent}
+use Rattle.ame_protocol.specs.Event.Event.{Event}
+use Rattle.ame_protocol.specs.Event.May.{May}
+use Rattle.ame_engine.specs.Seen.{parts_of}
+use Rattle.ame_engine.specs.Makes.{state_of, Makes}
 use Rattle.ame_engine.specs.Whole.{IsGoodUndo, IsGoodLog, IsGoodMemory, IsSound}
 use Rattle.ame_engine.specs.AtWork.{IsOnSeat, IsOn}
 use Rattle.ame_protocol.proofs.Event.CountLemmas.{one-counts}
-use Rattle.ame_engine.proofs.ReadLemmas.{row-good, runs-as, comes-to}
+use Rattle.ame_engine.proofs.MakesLemmas.{made-event}
+use Rattle.ame_engine.proofs.ReadLemmas.{row-good, runs-as, comes-to, has-come}
 use Rattle.ame_engine.proofs.RunLemmas.{can-run}
 use Rattle.ame_protocol.specs.Event.Lone.{IsLone}
 use Rattle.ame_protocol.proofs.Event.LoneLemmas.{allocation-lone}
@@ -192,21 +196,33 @@ module _ {C V M : Type 0} (meaning : Meaning C V M) (same : V → V → Type 0)
       text = whole.text;
     }
 
+    -- so the seat may make it
+    may-allocate : now.stop ≡ None → (meaning.stage now.code m).since < now.limits.slice
+        → May (Event.Alloc seat sort number (meaning.value_of core.code value)) (state_of meaning core)
+    may-allocate going early = subst (λ (v : Val). May (Event.Alloc seat sort number v) (state_of meaning core)) value-is (
+      record { going = subst (λ (x : Core C V M). x.stop ≡ None) (sym view) going; left = left' },
+      has-come (state_of meaning core) seat s on' (Act.Allocates sort next-act.0) outside' next-act.1
+          (subst (λ (x : Core C V M). (meaning.stage x.code m).since < x.limits.slice) (sym view) early),
+    )
+
     -- whatever is told of what is wanted
-    pub makes-allocated : (t : Sort) (n : TyNo) (v : Val) → (meaning.stage now.code m).want ≡ Some (wants.Alloc t n) → value_to_set (meaning.stage now.code m) ≡ Some v
-        → MakesEvent meaning (one_counted Counted.Alloc) (has_allocated seat t n v) now after
+    pub makes-allocated : now.stop ≡ None → (meaning.stage now.code m).since < now.limits.slice → (t : Sort) (n : TyNo) (v : Val)
+        → (meaning.stage now.code m).want ≡ Some (wants.Alloc t n) → value_to_set (meaning.stage now.code m) ≡ Some v
+        → Makes meaning (Event.Alloc seat t n v) now after
     unfolding sort-wanted number-wanted
-    makes-allocated t n v e set =
+    makes-allocated going early t n v e set =
         let sets-now : value_to_set (meaning.stage now.code m) ≡ Some (meaning.value_of core.code value) =
         subst (λ (x : Core C V M). value_to_set (meaning.stage x.code m) ≡ Some (meaning.value_of core.code value)) view (sets ∙ ap Some (shows core.code lent value copied)) in
         let one-value : meaning.value_of core.code value ≡ v = ap (λ (o : Option Val). unwrap_or o v) (sym sets-now ∙ set) in
         let one-sort : sort ≡ t = ap (λ (w : Option Wants). sort-wanted w sort) (sym wants-it ∙ e) in
         let one-number : number ≡ n = ap (λ (w : Option Wants). number-wanted w number) (sym wants-it ∙ e) in
-        subst (λ (x : Val). MakesEvent meaning (one_counted Counted.Alloc) (has_allocated seat t n x) now after) one-value
-        (subst (λ (x : Sort). MakesEvent meaning (one_counted Counted.Alloc) (has_allocated seat x n (meaning.value_of core.code value)) now after) one-sort
-        (subst (λ (x : TyNo). MakesEvent meaning (one_counted Counted.Alloc) (has_allocated seat sort x (meaning.value_of core.code value)) now after) one-number
-        (subst (λ (x : Core C V M). MakesEvent meaning (one_counted Counted.Alloc) (has_allocated seat sort number (meaning.value_of core.code value)) x after) view
-        (record { code = refl; parts = parts-allocated; counted = refl; stop = refl }))))
+        subst (λ (x : Val). Makes meaning (Event.Alloc seat t n x) now after) one-value
+        (subst (λ (x : Sort). Makes meaning (Event.Alloc seat x n (meaning.value_of core.code value)) now after) one-sort
+        (subst (λ (x : TyNo). Makes meaning (Event.Alloc seat sort x (meaning.value_of core.code value)) now after) one-number
+        (subst (λ (x : Core C V M). Makes meaning (Event.Alloc seat sort number (meaning.value_of core.code value)) x after) view
+        (made-event meaning (one_counted Counted.Alloc) (has_allocated seat sort number (meaning.value_of core.code value))
+        (Event.Alloc seat sort number (meaning.value_of core.code value)) core after refl refl (may-allocate going early)
+        (record { code = refl; parts = parts-allocated; counted = refl; stop = refl })))))
 
     pub runs-allocated : now.stop ≡ None → (meaning.stage now.code m).since < now.limits.slice → (t : MachineView) → IsOnSeat (parts_of meaning after) seat t → t.inside ≡ false → CanRun t
     runs-allocated going early t stands out = can-run (parts_of meaning after) (whole-allocated going early).stands seat t stands out

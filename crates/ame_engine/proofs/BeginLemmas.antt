@@ -33,7 +33,11 @@ use Rattle.ame_engine.specs.Core.{Core}
 use Rattle.ame_protocol.specs.Event.Causes.{HasCause, is_from_outside}
 use Rattle.ame_protocol.specs.Event.Counting.{Counted, one_counted}
 use Rattle.ame_protocol.specs.Engine.Shown.{shown_pool}
+use Rattle.ame_protocol.specs.Event.Event.{Event}
+use Rattle.ame_protocol.specs.Event.May.{May}
 use Rattle.ame_engine.specs.Seen.{parts_of, term_shown, MakesEvent}
+use Rattle.ame_engine.specs.Makes.{state_of, Makes}
+use Rattle.ame_engine.proofs.MakesLemmas.{made-event}
 use Rattle.ame_engine.specs.Whole.{resting_at, IsAtRest, IsSound}
 use Rattle.ame_engine.specs.AtWork.{IsOn}
 use Rattle.ame_engine.specs.Begins.{pick_by, pick_of, begun_by, HasBegun}
@@ -252,10 +256,23 @@ module _ {C V M : Type 0} (meaning : Meaning C V M) (same : M → M → Type 0)
       (begun-whole meaning core whole seat number within' idle' first' ready' left'
       (subst (λ (x : Core C V M). x.stop ≡ None) (sym view) going))
 
-  makes-begun : MakesEvent meaning (one_counted Counted.Begin) (has_begun seat number) now after
-  makes-begun = subst (λ (x : Core C V M). MakesEvent meaning (one_counted Counted.Begin) (has_begun seat number) x after) view
-      (subst (MakesEvent meaning (one_counted Counted.Begin) (has_begun seat number) core) (sym after-is)
-      (begun-makes meaning core whole seat number within' idle' first' ready' left'))
+  -- so it may begin
+  may-begin : now.stop ≡ None → May (Event.Begin seat number) (state_of meaning core)
+  may-begin going = (
+    record { going = subst (λ (x : Core C V M). x.stop ≡ None) (sym view) going; left = left' },
+    record {
+      idle = idle';
+      there = within';
+      first = oldest-shown (term_shown meaning.stage core.code) core.pool ∙ first';
+      ready = ready-same (term_shown meaning.stage core.code) number core.pool ready';
+    },
+  )
+
+  makes-begun : now.stop ≡ None → Makes meaning (Event.Begin seat number) now after
+  makes-begun going = subst (λ (x : Core C V M). Makes meaning (Event.Begin seat number) x after) view
+      (subst (Makes meaning (Event.Begin seat number) core) (sym after-is)
+      (made-event meaning (one_counted Counted.Begin) (has_begun seat number) (Event.Begin seat number) core (begun_by seat number core) refl refl (may-begin going)
+      (begun-makes meaning core whole seat number within' idle' first' ready' left')))
 
   module _ (m : M) (copied : ForSome (machine_of number core.pool) (λ resting. same resting m)) where
     resting : (x : M) × (machine_of number core.pool ≡ Some x)
@@ -287,8 +304,8 @@ module _ {C V M : Type 0} (meaning : Meaning C V M) (same : M → M → Type 0)
     runs-after = begun-runs meaning core whole seat number within' idle' first' ready' left'
         resting.0 resting.1 m (sym (shows core.code resting.0 m (copied resting.0 resting.1)))
 
-    pub has-begun-after : HasBegun meaning seat number now after m
-    has-begun-after = record { event = makes-begun; on = on-after; rests = rests-after; runs = runs-after }
+    pub has-begun-after : now.stop ≡ None → HasBegun meaning seat number now after m
+    has-begun-after going = record { event = makes-begun going; on = on-after; rests = rests-after; runs = runs-after }
 
 -- What a seat meets is the cause of a stop
 

@@ -42,7 +42,11 @@ use Rattle.ame_protocol.proofs.Waits.OnceEvents.{note-once}
 use Rattle.ame_engine.specs.Core.{Core}
 use Rattle.ame_protocol.specs.declared.stop.Stop.{Stop}
 use Rattle.ame_protocol.specs.Event.Counting.{Counted, one_counted}
-use Rattle.ame_engine.specs.Seen.{parts_of, term_shown, MakesEvent}
+use Rattle.ame_protocol.specs.Event.Event.{Event}
+use Rattle.ame_protocol.specs.Event.May.{May}
+use Rattle.ame_engine.specs.Seen.{parts_of, term_shown}
+use Rattle.ame_engine.specs.Makes.{state_of, MakesAt}
+use Rattle.ame_engine.proofs.MakesLemmas.{made-event}
 use Rattle.ame_protocol.specs.Event.Rollbacks.{IsGoodPool}
 use Rattle.ame_engine.specs.Whole.{IsAtRest, IsSound}
 use Rattle.ame_engine.specs.AtWork.{IsOn}
@@ -211,12 +215,33 @@ module _ {C V M : Type 0} (meaning : Meaning C V M)
         text = whole.text;
       }
 
-      pub makes-noted : MakesEvent meaning (one_counted Counted.Block)
-          (has_noted seat attempt (meaning.stage now.code m).steps (place_shown (meaning.stage now.code m))) now after
+      -- so this may be
+      may-note : May (Event.Note seat attempt s.steps p) (state_of meaning core)
+      may-note = (
+        record { going = going'; left = turns-left },
+        record {
+          task = is;
+          used = p-used;
+          more = commit-low meaning core now view whole seat m on outside sound left attempt runs-now valid-now;
+        },
+        reads-valid,
+        fails,
+      )
+
+      pub makes-noted : MakesAt meaning (meaning.stage now.code m) None (λ q. Event.Note seat attempt (meaning.stage now.code m).steps q) now after
       makes-noted =
-          subst (λ (x : Core C V M). MakesEvent meaning (one_counted Counted.Block)
-          (has_noted seat attempt (meaning.stage x.code m).steps (place_shown (meaning.stage x.code m))) x after) view
-          (record { code = refl; parts = parts-noted; counted = refl; stop = refl })
+          subst (λ (x : Core C V M). MakesAt meaning (meaning.stage x.code m) None (λ q. Event.Note seat attempt (meaning.stage x.code m).steps q) x after) view
+          (record {
+            place = p;
+            shows = p-shown;
+            makes = made-event meaning (one_counted Counted.Block) (has_noted seat attempt s.steps p) (Event.Note seat attempt s.steps p) core after refl refl may-note
+                (record {
+                  code = refl;
+                  parts = subst (λ (q : LocalState). parts_of meaning after ≡ has_noted seat attempt s.steps q parts) (sym p-shown) parts-noted;
+                  counted = refl;
+                  stop = refl;
+                });
+          })
 
 -- the locations of reads, one after another
 pub locations-more : (reads : List ReadNote) (i : ℕ) (d : ReadNote) (locs new : List Loc) → i < length reads → new ≡ locs ++ (get_or reads i d).loc ∷ []

@@ -46,11 +46,16 @@ use Rattle.ame_protocol.specs.declared.counters.Counters.{Counters}
 use Rattle.ame_engine.specs.Core.{Core}
 use Rattle.ame_engine.specs.Stops.{stopped_by}
 use Rattle.ame_protocol.specs.Event.Causes.{HasCause}
-use Rattle.ame_protocol.specs.Event.Counting.{Counted, one_counted, CountsTurns}
-use Rattle.ame_engine.specs.Seen.{parts_of, term_shown, MakesEvent}
+use Rattle.ame_protocol.specs.Event.Counting.{Counted, one_counted, one_invalid, CountsTurns}
+use Rattle.ame_protocol.specs.Event.Event.{Event, Find, Reverse}
+use Rattle.ame_protocol.specs.Event.After.{counted_find}
+use Rattle.ame_protocol.specs.Event.May.{May}
+use Rattle.ame_engine.specs.Seen.{parts_of, term_shown}
+use Rattle.ame_engine.specs.Makes.{state_of, Makes}
 use Rattle.ame_protocol.specs.Event.Rollbacks.{MayBeRolledBack}
 use Rattle.ame_engine.specs.Whole.{IsSound}
 use Rattle.ame_engine.specs.AtWork.{IsOnSeat, IsOn}
+use Rattle.ame_engine.proofs.MakesLemmas.{made-event}
 use Rattle.ame_engine.proofs.ReadLemmas.{place-by, runs-as}
 use Rattle.ame_protocol.proofs.Event.CountLemmas.{one-counts}
 use Rattle.ame_protocol.proofs.Event.CauseLemmas.{task-more, working-cause}
@@ -237,6 +242,22 @@ module _ {C V M : Type 0} (meaning : Meaning C V M) where
         subst (λ (x : Attempt). MayBeRolledBack x.tried.number now.pool) (its-attempt a e)
         (still-rolls (unexhausted-invalid invalid (ap (λ (o : Option Stop). is_some o) (subst (λ (x : Core C V M). x.stop ≡ None) (sym view) none))))
 
+    -- where one of its reads isn't valid it may turn back, whatever it was asked
+    pub makes-stale : (find : Find) → (IsValid core.memory.cells seat (row_at core.memory.rows seat).reads → ⊥) → now.stop ≡ None
+        → (a : Attempt) → task_at now.tasks seat ≡ Task.Running a → Makes meaning (Event.TurnBack seat a (Reverse.Stale find)) now (after-bad (one_invalid (counted_find find) core.counters))
+    makes-stale find invalid going a e =
+        subst (λ (x : Attempt). Makes meaning (Event.TurnBack seat x (Reverse.Stale find)) now (after-bad (one_invalid (counted_find find) core.counters))) (its-attempt a e)
+        (subst (λ (x : Core C V M). Makes meaning (Event.TurnBack seat attempt (Reverse.Stale find)) x (after-bad (one_invalid (counted_find find) core.counters))) view
+        (record {
+          code = refl;
+          may = (
+            record { going = subst (λ (x : Core C V M). x.stop ≡ None) (sym view) going; left = left' },
+            is,
+            (λ valid. invalid (valid-by_parts valid)),
+          );
+          state = refl;
+        }))
+
     -- or its row is valid
     module _ (full : (meaning.stage now.code m).since ≡ now.limits.slice) (steps : ℕ) (steps_are : steps ≡ (meaning.stage now.code m).steps)
         (valid : IsValid core.memory.cells seat (row_at core.memory.rows seat).reads) (later : Attempt) (base entries : List Entry)
@@ -324,9 +345,19 @@ module _ {C V M : Type 0} (meaning : Meaning C V M) where
         text = whole.text;
       }
 
-      pub makes-valid : (a : Attempt) → task_at now.tasks seat ≡ Task.Running a
-          → MakesEvent meaning (one_counted Counted.Check) (has_checked seat (meaning.stage now.code m).steps a) now after-valid
-      makes-valid a e =
-          subst (λ (x : Attempt). MakesEvent meaning (one_counted Counted.Check) (has_checked seat (meaning.stage now.code m).steps x) now after-valid) (its-attempt a e)
-          (subst (λ (x : Core C V M). MakesEvent meaning (one_counted Counted.Check) (has_checked seat (meaning.stage x.code m).steps attempt) x after-valid) view
-          (record { code = refl; parts = parts-valid; counted = refl; stop = refl }))
+      -- so this may be
+      may-check : now.stop ≡ None → May (Event.Check seat attempt s.steps) (state_of meaning core)
+      may-check going = (
+        record { going = subst (λ (x : Core C V M). x.stop ≡ None) (sym view) going; left = left' },
+        (used.0, record { task = is; used = used.1; more = let b = since in omega arith }),
+        are-valid,
+        (let b = since in let d = full' in omega arith),
+      )
+
+      pub makes-valid : now.stop ≡ None → (a : Attempt) → task_at now.tasks seat ≡ Task.Running a
+          → Makes meaning (Event.Check seat a (meaning.stage now.code m).steps) now after-valid
+      makes-valid going a e =
+          subst (λ (x : Attempt). Makes meaning (Event.Check seat x (meaning.stage now.code m).steps) now after-valid) (its-attempt a e)
+          (subst (λ (x : Core C V M). Makes meaning (Event.Check seat attempt (meaning.stage x.code m).steps) x after-valid) view
+          (made-event meaning (one_counted Counted.Check) (has_checked seat s.steps attempt) (Event.Check seat attempt s.steps) core after-valid refl refl
+          (may-check going) (record { code = refl; parts = parts-valid; counted = refl; stop = refl })))

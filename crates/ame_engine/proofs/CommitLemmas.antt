@@ -63,10 +63,14 @@ use Rattle.ame_protocol.specs.declared.stop.Stop.{Stop}
 use Rattle.ame_protocol.proofs.Event.CauseLemmas.{going-cause}
 use Rattle.ame_protocol.specs.Event.Counting.{Counted, one_counted}
 use Rattle.ame_protocol.specs.Event.Rollbacks.{IsGoodPool}
-use Rattle.ame_engine.specs.Seen.{parts_of, term_shown, MakesEvent}
+use Rattle.ame_protocol.specs.Event.Event.{Event}
+use Rattle.ame_protocol.specs.Event.May.{May}
+use Rattle.ame_engine.specs.Seen.{parts_of, term_shown}
+use Rattle.ame_engine.specs.Makes.{state_of, MakesAt}
+use Rattle.ame_engine.proofs.MakesLemmas.{made-event}
 use Rattle.ame_engine.specs.Whole.{IsGoodUndo, IsGoodLog, IsGoodMemory, IsAtRest, IsSound}
 use Rattle.ame_engine.specs.AtWork.{IsOnSeat, IsOn}
-use Rattle.ame_engine.specs.Committing.{commits, owned_places, ended_at, left_at}
+use Rattle.ame_engine.specs.Committing.{commits, owned_places, ended_at, left_at, ends_at, leaves_at}
 use Rattle.ame_engine.proofs.ReadLemmas.{runs-as}
 use Rattle.ame_engine.proofs.CheckLemmas.{valid-shown}
 use Rattle.ame_protocol.proofs.Event.CountLemmas.{one-counts}
@@ -504,14 +508,65 @@ module _ {C V M : Type 0} (meaning : Meaning C V M)
             text = text-is;
           }
 
-          pub makes-ended : (meaning.stage now.code m).want ≡ Some wants.Done
-              → MakesEvent meaning (one_counted Counted.Commit) (ended_at seat number (meaning.stage now.code m)) now after
-          makes-ended done =
-              subst (λ (x : Core C V M). MakesEvent meaning (one_counted Counted.Commit) (ended_at seat number (meaning.stage x.code m)) x after) view
-              (record { code = refl; parts = ended-parts (subst (λ (x : Core C V M). (meaning.stage x.code m).want ≡ Some wants.Done) (sym view) done); counted = refl; stop = refl })
+          -- so these may be
+          going' : now.stop ≡ None → core.stop ≡ None
+          going' = subst (λ (x : Core C V M). x.stop ≡ None) (sym view)
 
-          pub makes-left : (meaning.stage now.code m).want ≡ Some wants.Leave
-              → MakesEvent meaning (one_counted Counted.Commit) (left_at seat number (meaning.stage now.code m)) now after
-          makes-left leaves =
-              subst (λ (x : Core C V M). MakesEvent meaning (one_counted Counted.Commit) (left_at seat number (meaning.stage x.code m)) x after) view
-              (record { code = refl; parts = left-parts (subst (λ (x : Core C V M). (meaning.stage x.code m).want ≡ Some wants.Leave) (sym view) leaves); counted = refl; stop = refl })
+          may-end : now.stop ≡ None → s.want ≡ Some wants.Done → May (Event.End seat attempt s.steps place.0 (owned_places seat parts.memory.cells)) (state_of meaning core)
+          may-end going done = (
+            record { going = going' going; left = left' },
+            record { task = is; used = used; more = commit-low },
+            are-valid,
+            at-value done,
+            woken-there,
+          )
+
+          may-leave : now.stop ≡ None → s.want ≡ Some wants.Leave
+              → May (Event.Leave seat attempt s.steps place.0 (owned_places seat parts.memory.cells)) (state_of meaning core)
+          may-leave going leaves = (
+            record { going = going' going; left = left' },
+            record { task = is; used = used; more = commit-low },
+            are-valid,
+            at-unprotected leaves,
+            woken-there,
+          )
+
+          pub makes-ended : now.stop ≡ None → (meaning.stage now.code m).want ≡ Some wants.Done → MakesAt meaning (meaning.stage now.code m) None
+              (ends_at seat attempt (meaning.stage now.code m) (parts_of meaning now)) now after
+          makes-ended going done =
+              let done' : s.want ≡ Some wants.Done = subst (λ (x : Core C V M). (meaning.stage x.code m).want ≡ Some wants.Done) (sym view) done in
+              subst (λ (x : Core C V M). MakesAt meaning (meaning.stage x.code m) None
+              (ends_at seat attempt (meaning.stage x.code m) (parts_of meaning x)) x after) view
+              (record {
+                place = place.0;
+                shows = place.2;
+                makes = made-event meaning (one_counted Counted.Commit) (has_ended seat number s.steps place.0 (owned_places seat parts.memory.cells))
+                    (Event.End seat attempt s.steps place.0 (owned_places seat parts.memory.cells)) core after refl refl (may-end going done')
+                    (record {
+                      code = refl;
+                      parts = subst (λ (q : LocalState). parts_of meaning after ≡ has_ended seat number s.steps q (owned_places seat parts.memory.cells) parts) (sym place.2)
+                          (ended-parts done');
+                      counted = refl;
+                      stop = refl;
+                    });
+              })
+
+          pub makes-left : now.stop ≡ None → (meaning.stage now.code m).want ≡ Some wants.Leave → MakesAt meaning (meaning.stage now.code m) None
+              (leaves_at seat attempt (meaning.stage now.code m) (parts_of meaning now)) now after
+          makes-left going leaves =
+              let leaves' : s.want ≡ Some wants.Leave = subst (λ (x : Core C V M). (meaning.stage x.code m).want ≡ Some wants.Leave) (sym view) leaves in
+              subst (λ (x : Core C V M). MakesAt meaning (meaning.stage x.code m) None
+              (leaves_at seat attempt (meaning.stage x.code m) (parts_of meaning x)) x after) view
+              (record {
+                place = place.0;
+                shows = place.2;
+                makes = made-event meaning (one_counted Counted.Commit) (has_left seat number s.steps place.0 (owned_places seat parts.memory.cells))
+                    (Event.Leave seat attempt s.steps place.0 (owned_places seat parts.memory.cells)) core after refl refl (may-leave going leaves')
+                    (record {
+                      code = refl;
+                      parts = subst (λ (q : LocalState). parts_of meaning after ≡ has_left seat number s.steps q (owned_places seat parts.memory.cells) parts) (sym place.2)
+                          (left-parts leaves');
+                      counted = refl;
+                      stop = refl;
+                    });
+              })

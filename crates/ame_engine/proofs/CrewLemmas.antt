@@ -19,11 +19,9 @@ use Rattle.ame_protocol.specs.Engine.Shown.{shown_member, shown_pool}
 use Rattle.ame_protocol.specs.Engine.Tasks.{is_busy_as}
 use Rattle.ame_protocol.specs.Engine.Events.{woken_for, with_newcomers}
 use Rattle.ame_protocol.proofs.Engine.ShownPoolLemmas.{found-shown, woken-shown, exchanged-shown}
-use Rattle.ame_protocol.specs.Event.Rollbacks.{IsGoodPool}
 use Rattle.ame_engine.specs.Seen.{term_shown}
 use Rattle.ame_engine.specs.Whole.{resting_at, IsAtRest}
 use Rattle.ame_engine.proofs.MemberLemmas.{all_altered}
-use Rattle.ame_protocol.proofs.Event.RollbackLemmas.{good-woken}
 
 -- what all members pass, all pass once one has left
 pub all_except : {M : Type 0} (n : ℕ) (P : Member M → Type 0) (ms : List (Member M)) → All P ms → All P (except n ms)

@@ -35,7 +35,11 @@ use Rattle.ame_protocol.specs.declared.stop.Stop.{Stop}
 use Rattle.ame_engine.specs.Core.{Core}
 use Rattle.ame_protocol.specs.Event.Causes.{EndsWith, HasCause}
 use Rattle.ame_protocol.specs.Event.Counting.{Counted, one_counted}
-use Rattle.ame_engine.specs.Seen.{parts_of, MakesLastEvent}
+use Rattle.ame_protocol.specs.Event.Event.{Event}
+use Rattle.ame_protocol.specs.Event.May.{May}
+use Rattle.ame_engine.specs.Seen.{parts_of}
+use Rattle.ame_engine.specs.Makes.{state_of, MakesAt}
+use Rattle.ame_engine.proofs.MakesLemmas.{made-last}
 use Rattle.ame_engine.specs.Stops.{stopped_by}
 use Rattle.ame_engine.specs.Whole.{IsSound}
 use Rattle.ame_engine.specs.AtWork.{is_free, IsOnSeat, IsOn}
@@ -295,15 +299,26 @@ module _ {C V M : Type 0} (meaning : Meaning C V M)
           text = whole.text;
         }
 
+        -- so this may be
+        may-cut : May (Event.Cut seat attempt s.steps place.0) (state_of meaning core)
+        may-cut = (going', used-up', (running_side s, record { works = on'.has; may = may; more = last-low attempt last-has }))
+
         pub makes-cut : (a : Attempt) → working (task_at now.tasks seat) ≡ Some a
-            → MakesLastEvent meaning (Stop.Spent) (λ c. c)
-            (has_been_cut seat a.tried.number (meaning.stage now.code m).steps (place_shown (meaning.stage now.code m)) (task_at now.tasks seat)) now after-cut
+            → MakesAt meaning (meaning.stage now.code m) None (λ q. Event.Cut seat a (meaning.stage now.code m).steps q) now after-cut
         makes-cut a e =
-            subst (λ (b : Attempt). MakesLastEvent meaning (Stop.Spent) (λ c. c)
-            (has_been_cut seat b.tried.number (meaning.stage now.code m).steps (place_shown (meaning.stage now.code m)) (task_at now.tasks seat)) now after-cut) (last-attempt a e)
-            (subst (λ (x : Core C V M). MakesLastEvent meaning (Stop.Spent) (λ c. c)
-            (has_been_cut seat number (meaning.stage x.code m).steps (place_shown (meaning.stage x.code m)) (task_at x.tasks seat)) x after-cut) view
-            (record { code = refl; parts = cut-parts; counted = refl; stop = refl }))
+            subst (λ (b : Attempt). MakesAt meaning (meaning.stage now.code m) None (λ q. Event.Cut seat b (meaning.stage now.code m).steps q) now after-cut) (last-attempt a e)
+            (subst (λ (x : Core C V M). MakesAt meaning (meaning.stage x.code m) None (λ q. Event.Cut seat attempt (meaning.stage x.code m).steps q) x after-cut) view
+            (record {
+              place = place.0;
+              shows = place.2;
+              makes = made-last meaning Stop.Spent (λ c. c) (has_been_cut seat number s.steps place.0 task) (Event.Cut seat attempt s.steps place.0) core after-cut refl refl may-cut
+                  (record {
+                    code = refl;
+                    parts = subst (λ (q : LocalState). parts_of meaning after-cut ≡ has_been_cut seat number s.steps q task parts) (sym place.2) cut-parts;
+                    counted = refl;
+                    stop = refl;
+                  });
+            }))
 
         pub cut-told : attempt_of later ≡ Some (record attempt { logged = true })
         cut-told = last-places EntryKind.Cut entry cut-entry before entries before_is pushes later cut-later
@@ -395,15 +410,34 @@ module _ {C V M : Type 0} (meaning : Meaning C V M)
           text = whole.text;
         }
 
+        -- so this may be
+        may-tall : May (Event.Tall seat attempt s.steps place.0) (state_of meaning core)
+        may-tall = (
+          record { going = going'; left = left' },
+          (
+            running_side s,
+            record { works = on'.has; may = may; more = last-low attempt last-has },
+            too-high s place.0 low.low (sym high) (ap (λ (x : LocalState). x.term) place.2),
+          ),
+        )
+
         pub makes-tall : (a : Attempt) → working (task_at now.tasks seat) ≡ Some a
-            → MakesLastEvent meaning (Stop.Tall a.tried.number) (one_counted Counted.Tall)
-            (has_grown_tall seat a.tried.number (meaning.stage now.code m).steps (place_shown (meaning.stage now.code m)) (task_at now.tasks seat)) now after-tall
+            → MakesAt meaning (meaning.stage now.code m) None (λ q. Event.Tall seat a (meaning.stage now.code m).steps q) now after-tall
         makes-tall a e =
-            subst (λ (b : Attempt). MakesLastEvent meaning (Stop.Tall b.tried.number) (one_counted Counted.Tall)
-            (has_grown_tall seat b.tried.number (meaning.stage now.code m).steps (place_shown (meaning.stage now.code m)) (task_at now.tasks seat)) now after-tall) (last-attempt a e)
-            (subst (λ (x : Core C V M). MakesLastEvent meaning (Stop.Tall number) (one_counted Counted.Tall)
-            (has_grown_tall seat number (meaning.stage x.code m).steps (place_shown (meaning.stage x.code m)) (task_at x.tasks seat)) x after-tall) view
-            (record { code = refl; parts = tall-parts; counted = refl; stop = ap (λ (a : Attempt). Some (Stop.Tall a.tried.number)) tall-attempt }))
+            subst (λ (b : Attempt). MakesAt meaning (meaning.stage now.code m) None (λ q. Event.Tall seat b (meaning.stage now.code m).steps q) now after-tall) (last-attempt a e)
+            (subst (λ (x : Core C V M). MakesAt meaning (meaning.stage x.code m) None (λ q. Event.Tall seat attempt (meaning.stage x.code m).steps q) x after-tall) view
+            (record {
+              place = place.0;
+              shows = place.2;
+              makes = made-last meaning (Stop.Tall number) (one_counted Counted.Tall) (has_grown_tall seat number s.steps place.0 task) (Event.Tall seat attempt s.steps place.0)
+                  core after-tall refl refl may-tall
+                  (record {
+                    code = refl;
+                    parts = subst (λ (q : LocalState). parts_of meaning after-tall ≡ has_grown_tall seat number s.steps q task parts) (sym place.2) tall-parts;
+                    counted = refl;
+                    stop = ap (λ (a : Attempt). Some (Stop.Tall a.tried.number)) tall-attempt;
+                  });
+            }))
 
         pub tall-told : attempt_of later ≡ Some (record attempt { logged = true })
         tall-told = last-places EntryKind.Tall entry tall-entry before entries before_is pushes later tall-later

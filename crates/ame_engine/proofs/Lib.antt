@@ -4,6 +4,7 @@ pub mod PlaceLemmas
 pub mod WorkLemmas
 pub mod StartLemmas
 pub mod ReadLemmas
+pub mod MakesLemmas
 pub mod RunLemmas
 pub mod BeginLemmas
 pub mod ReadingLemmas

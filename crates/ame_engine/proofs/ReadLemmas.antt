@@ -43,7 +43,11 @@ use Rattle.ame_protocol.specs.Engine.Shown.{shown_notes}
 use Rattle.ame_protocol.proofs.Engine.ShownMemoryLemmas.{read-shown}
 use Rattle.ame_rows.specs.Access.{IsRead}
 use Rattle.ame_rows.proofs.LookupLemmas.{get_there, all_at}
+use Rattle.ame_protocol.specs.Event.State.{State}
+use Rattle.ame_protocol.specs.Event.Event.{Event}
+use Rattle.ame_protocol.specs.Event.May.{May, ComesToAct}
 use Rattle.ame_engine.specs.Seen.{parts_of}
+use Rattle.ame_engine.specs.Makes.{state_of}
 use Rattle.ame_engine.specs.Whole.{IsGoodUndo, IsGoodLog, IsSound}
 use Rattle.ame_engine.specs.AtWork.{IsOnSeat, is_free}
 use Rattle.ame_protocol.proofs.Event.CountLemmas.{one-counts}
@@ -108,6 +112,20 @@ comes-to parts seat s on act outside there =
         };
       },
     )
+
+-- a machine on the run of a seat that wants an act before the slice is full has come to that act
+pub has-come : (st : State) (seat : ℕ) (s : MachineView) (on : IsOnSeat st.parts seat s) (act : Act) → s.inside ≡ false → HasNextAct s act
+    → s.since < st.parts.limits.slice → ComesToAct st seat act
+has-come st seat s on act outside next early =
+    let at = comes-to st.parts seat s on act outside next in
+    record {
+      attempt = on.attempt;
+      task = runs-as st.parts seat s on outside;
+      steps = s.steps;
+      place = at.0;
+      comes = at.1;
+      early = let since = on.since in omega arith;
+    }
 
 -- The whole engine
 
@@ -182,6 +200,16 @@ module _ {C V M : Type 0} (meaning : Meaning C V M) where
           (sym (get_or_from_slice_get parts.memory.cells l.0 (shown_cell (meaning.value_of core.code) there.0) no_cell
           (slice_get-map (shown_cell (meaning.value_of core.code)) core.memory.cells l.0 ∙ ap (option_map (shown_cell (meaning.value_of core.code))) there.1)))
           (all_at HasItsParity core.memory.cells l.0 there.0 read-within there.1 parity)
+
+      -- so the seat may read
+      pub may-read : core.stop ≡ None → (meaning.stage core.code m).since < core.limits.slice → All HasItsParity core.memory.cells
+          → May (Event.Read seat l) (state_of meaning core)
+      may-read going early parity =
+          let s = meaning.stage core.code m in (
+            record { going = going; left = left },
+            has-come (state_of meaning core) seat s on (Act.Reads l.0) outside (comes_as s (Need.Read l.0) need) early,
+            its-parity parity,
+          )
 
       pub read-whole : core.stop ≡ None → (meaning.stage core.code m).since < core.limits.slice → All HasItsParity core.memory.cells
           → IsSound meaning read_with

@@ -18,10 +18,13 @@ use Rattle.ame_protocol.specs.Engine.Parts.{heap_in}
 use Rattle.ame_protocol.specs.Engine.Events.{has_read}
 use Rattle.ame_engine.specs.Core.{Core}
 use Rattle.ame_protocol.specs.Event.Counting.{Counted, one_counted}
-use Rattle.ame_engine.specs.Seen.{parts_of, MakesEvent}
+use Rattle.ame_protocol.specs.Event.Event.{Event}
+use Rattle.ame_engine.specs.Seen.{parts_of}
+use Rattle.ame_engine.specs.Makes.{Makes}
 use Rattle.ame_engine.specs.Whole.{IsSound}
 use Rattle.ame_engine.specs.AtWork.{IsOnSeat, IsOn}
-use Rattle.ame_engine.proofs.ReadLemmas.{read-within, in-place, read-parts, read-whole}
+use Rattle.ame_engine.proofs.MakesLemmas.{made-event}
+use Rattle.ame_engine.proofs.ReadLemmas.{read-within, in-place, read-parts, read-whole, may-read}
 use Rattle.ame_engine.proofs.RunLemmas.{can-run}
 use Rattle.ame_machine.specs.Meaning.{Meaning}
 
@@ -79,18 +82,23 @@ module _ {C V M : Type 0} (meaning : Meaning C V M) (same : V → V → Type 0)
         (subst (λ (x : Core C V M). x.stop ≡ None) (sym view) going)
         (subst (λ (x : Core C V M). (meaning.stage x.code m).since < x.limits.slice) (sym view) early) parity)
 
-    pub makes-read : (k : Loc) → (meaning.stage now.code m).want ≡ Some (wants.Read k) → MakesEvent meaning (one_counted Counted.Read) (has_read seat k) now after
-    makes-read k e =
-        subst (λ (x : Loc). MakesEvent meaning (one_counted Counted.Read) (has_read seat x) now after) (read-same l k (meaning.stage now.code m).want told e)
-        (subst (λ (x : Core C V M). MakesEvent meaning (one_counted Counted.Read) (has_read seat l) x after) view
-        (subst (MakesEvent meaning (one_counted Counted.Read) (has_read seat l) core) (sym after-is)
+    pub makes-read : now.stop ≡ None → (meaning.stage now.code m).since < now.limits.slice → All HasItsParity core.memory.cells
+        → (k : Loc) → (meaning.stage now.code m).want ≡ Some (wants.Read k) → Makes meaning (Event.Read seat k) now after
+    makes-read going early parity k e =
+        subst (λ (x : Loc). Makes meaning (Event.Read seat x) now after) (read-same l k (meaning.stage now.code m).want told e)
+        (subst (λ (x : Core C V M). Makes meaning (Event.Read seat l) x after) view
+        (subst (Makes meaning (Event.Read seat l) core) (sym after-is)
+        (made-event meaning (one_counted Counted.Read) (has_read seat l) (Event.Read seat l) core _ refl refl
+        (may-read meaning core whole seat m l on' outside' need' left' same shows' (keeps core.code) (row_at memory.rows seat) row
+        (subst (λ (x : Core C V M). x.stop ≡ None) (sym view) going)
+        (subst (λ (x : Core C V M). (meaning.stage x.code m).since < x.limits.slice) (sym view) early) parity)
         (record {
           code = refl;
           parts = read-parts meaning core whole seat m l on' outside' need' left' same shows' (keeps core.code)
               (row_at memory.rows seat) row;
           counted = refl;
           stop = refl;
-        })))
+        }))))
 
     good-value : meaning.is_value core.code value
     good-value = keeps core.code there.0.value value (gives there.0 there.1)

@@ -26,7 +26,11 @@ use Rattle.ame_protocol.specs.Row.Shown.{shown_undo}
 use Rattle.ame_protocol.specs.declared.counters.Counters.{Counters}
 use Rattle.ame_engine.specs.Core.{Core}
 use Rattle.ame_protocol.specs.Event.Counting.{one_undone}
+use Rattle.ame_protocol.specs.Event.Event.{Event}
+use Rattle.ame_protocol.specs.Event.May.{MayUndo}
 use Rattle.ame_engine.specs.Seen.{parts_of, term_shown, MakesEvent}
+use Rattle.ame_engine.specs.Makes.{state_of, Makes}
+use Rattle.ame_engine.proofs.MakesLemmas.{made-event}
 use Rattle.ame_engine.specs.Whole.{IsSound}
 use Rattle.ame_protocol.specs.Event.Undoing.{is_undoing, reason_to_undo, is_busy_for, home_for}
 use Rattle.ame_engine.proofs.CheckLemmas.{task-read}
@@ -165,13 +169,16 @@ module _ {C V M : Type 0} (meaning : Meaning C V M)
       its-own a e =
           let both : Some attempt ≡ Some a = sym has-it ∙ subst (λ (x : Core C V M). attempt_of (task_at x.tasks seat) ≡ Some a) (sym view) e in cc
 
-      pub makes-undone : (a : Attempt) → attempt_of (task_at now.tasks seat) ≡ Some a
-          → MakesEvent meaning (one_undone (is_some now.stop)) (has_undone seat a (reason_to_undo (task_at now.tasks seat))) now after-more
-      makes-undone a e =
-          subst (λ (x : Core C V M). MakesEvent meaning (one_undone (is_some x.stop)) (has_undone seat a (reason_to_undo (task_at x.tasks seat))) x after-more)
-          view
-          (subst (λ (x : Attempt). MakesEvent meaning (one_undone (is_some core.stop)) (has_undone seat x (reason_to_undo (task_at core.tasks seat))) core after-more)
-          (its-own a e) makes-core)
+      may-undo : MayUndo (state_of meaning core) seat attempt
+      may-undo = record { has = has-it; undoes = undoes'; left = left' }
+
+      pub makes-undone : 1 < length (row_at core.memory.rows seat).undos → (a : Attempt) → attempt_of (task_at now.tasks seat) ≡ Some a
+          → Makes meaning (Event.Undo seat a) now after-more
+      makes-undone more a e =
+          subst (λ (x : Core C V M). Makes meaning (Event.Undo seat a) x after-more) view
+          (subst (λ (x : Attempt). Makes meaning (Event.Undo seat x) core after-more) (its-own a e)
+          (made-event meaning (one_undone (is_some core.stop)) (has_undone seat attempt (reason_to_undo (task_at core.tasks seat))) (Event.Undo seat attempt)
+          core after-more refl refl (may-undo, (let e = many in omega arith)) makes-core))
 
       -- none is left
       module _ (pool : Roster M) (pool-is : pool ≡ home_for reason attempt.tried.number core.pool) (tried : List Tried) (tried-is : tried ≡ with_try attempt core.tried) where
@@ -204,12 +211,12 @@ module _ {C V M : Type 0} (meaning : Meaning C V M)
             (gone-whole meaning core whole seat attempt has-it undoes' left'
             (let e = many in omega (arith, e, few)))
 
-        pub makes-gone : (a : Attempt) → attempt_of (task_at now.tasks seat) ≡ Some a
-            → MakesEvent meaning (one_undone (is_some now.stop)) (has_gone_home seat a (reason_to_undo (task_at now.tasks seat))) now after-gone
-        makes-gone a e =
-            subst (λ (x : Core C V M). MakesEvent meaning (one_undone (is_some x.stop)) (has_gone_home seat a (reason_to_undo (task_at x.tasks seat))) x after-gone)
-            view
-            (subst (λ (x : Attempt). MakesEvent meaning (one_undone (is_some core.stop)) (has_gone_home seat x (reason_to_undo (task_at core.tasks seat))) core after-gone)
-            (its-own a e)
+        pub makes-gone : (1 < length (row_at core.memory.rows seat).undos → ⊥) → (a : Attempt) → attempt_of (task_at now.tasks seat) ≡ Some a
+            → Makes meaning (Event.Home seat a) now after-gone
+        makes-gone few a e =
+            subst (λ (x : Core C V M). Makes meaning (Event.Home seat a) x after-gone) view
+            (subst (λ (x : Attempt). Makes meaning (Event.Home seat x) core after-gone) (its-own a e)
+            (made-event meaning (one_undone (is_some core.stop)) (has_gone_home seat attempt (reason_to_undo (task_at core.tasks seat))) (Event.Home seat attempt)
+            core after-gone refl refl (may-undo, (let e = many in omega (arith, e, few)))
             (subst (MakesEvent meaning (one_undone (is_some core.stop)) (has_gone_home seat attempt (reason_to_undo (task_at core.tasks seat))) core)
-            (sym after-home) (gone-makes meaning core whole seat attempt has-it undoes' left')))
+            (sym after-home) (gone-makes meaning core whole seat attempt has-it undoes' left'))))

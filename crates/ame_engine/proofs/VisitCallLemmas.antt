@@ -48,10 +48,13 @@ use Rattle.ame_protocol.specs.declared.stop.Stop.{Stop}
 use Rattle.ame_engine.specs.Core.{Core}
 use Rattle.ame_protocol.specs.Event.Counting.{Counted, one_counted}
 use Rattle.ame_protocol.specs.Event.Rollbacks.{IsGoodPool}
-use Rattle.ame_engine.specs.Seen.{parts_of, term_shown, MakesEvent, MakesLastEvent}
+use Rattle.ame_protocol.specs.Event.Event.{Event}
+use Rattle.ame_engine.specs.Seen.{parts_of, term_shown}
+use Rattle.ame_engine.specs.Makes.{Makes, MakesAt}
+use Rattle.ame_engine.proofs.MakesLemmas.{made-last, visited-made}
 use Rattle.ame_engine.specs.Whole.{IsAtRest, IsSound}
 use Rattle.ame_engine.specs.AtWork.{IsOnSeat, IsOn}
-use Rattle.ame_engine.specs.Visiting.{IsVisiting, VisitsTo, IsVisitTo, visited_at, SettlesThere, HasComeHome}
+use Rattle.ame_engine.specs.Visiting.{IsVisiting, VisitsTo, IsVisitTo, SettlesThere, HasComeHome, visits_at}
 use Rattle.ame_protocol.proofs.Event.CauseLemmas.{refused-cause}
 use Rattle.ame_protocol.proofs.Event.CountLemmas.{one-counts}
 use Rattle.ame_protocol.proofs.Event.FaultLemmas.{alone-run}
@@ -143,11 +146,14 @@ module _ {C V M : Type 0} (meaning : Meaning C V M)
       text = whole.text;
     }
 
-    pub makes-refused : MakesLastEvent meaning (Stop.DeviceFault device) (one_counted Counted.Free) (has_been_refused seat number) now after-refused
-    makes-refused =
-        subst (λ (x : Core C V M). MakesLastEvent meaning (Stop.DeviceFault device) (one_counted Counted.Free) (has_been_refused seat number)
-        x after-refused) view
-        (record { code = refl; parts = refused-parts; counted = refl; stop = refl })
+    pub makes-refused : now.stop ≡ None → LeadsToCall (parts_of meaning now) device → Makes meaning (Event.Refuse seat attempt device) now after-refused
+    makes-refused going leads =
+        subst (λ (x : Core C V M). Makes meaning (Event.Refuse seat attempt device) x after-refused) view
+        (made-last meaning (Stop.DeviceFault device) (one_counted Counted.Free) (has_been_refused seat number) (Event.Refuse seat attempt device) core after-refused refl refl (
+          record { going = subst (λ (x : Core C V M). x.stop ≡ None) (sym view) going; left = left' },
+          is,
+          subst (λ (x : Core C V M). LeadsToCall (parts_of meaning x) device) (sym view) leads,
+        ) (record { code = refl; parts = refused-parts; counted = refl; stop = refl }))
 
   -- A device is called
 
@@ -315,17 +321,18 @@ module _ {C V M : Type 0} (meaning : Meaning C V M)
             old-entries entries entry entry-so old_is pushes core.next (omega arith)
             (subst (λ (x : Core C V M). x.stop ≡ None) (sym view) going) low-called
 
-        makes-called : MakesEvent meaning (one_counted Counted.Free)
-            (visited_at seat number (Some answer) (meaning.stage core.code n) parts.memory) core after-called
-        makes-called =
+        makes-called : now.stop ≡ None → MakesAt meaning (meaning.stage core.code n) (Some answer) (visits_at seat attempt (meaning.stage core.code n) parts.memory)
+            core after-called
+        makes-called going =
             makes-visited meaning core core refl whole seat attempt is left' n (Some answer) changes.Stays visit-called
             0 (sym (ap (λ (xs : List Tree). length xs) none-made)) (with_room 0 core.pool) refl core.pool joined-same n final keeps-stage sends machine settles-called
             (λ h. h) (λ h all. all) send-rests (λ h. record { rising = h.rising; few = h.few }) send-good core.memory refl tt
             core.output core.output [] (sym none-printed) refl (sym (append-nil core.output)) core.text core.text [] [] [] (sym none-printed) refl refl refl (sym (append-nil core.text))
             old-entries entries entry entry-so old_is pushes core.next (omega arith)
+            (subst (λ (x : Core C V M). x.stop ≡ None) (sym view) going) low-called
 
-        pub home-called : HasComeHome meaning seat number (meaning.stage now.code m) before after now after-called
-        home-called =
+        pub home-called : now.stop ≡ None → HasComeHome meaning seat number (meaning.stage now.code m) before after now after-called
+        home-called going =
             subst (λ (x : Core C V M). HasComeHome meaning seat number (meaning.stage x.code m) before after x after-called) view
             (record {
               answer = Some answer;
@@ -333,5 +340,8 @@ module _ {C V M : Type 0} (meaning : Meaning C V M)
               memory = parts.memory;
               visits = visits-called;
               visit = visit-called;
-              event = makes-called;
+              event = visited-made meaning core after-called seat attempt (Some answer) (meaning.stage core.code n) parts.memory (makes-called going);
+              makes = λ a e.
+                  subst (λ (x : Attempt). MakesAt meaning (meaning.stage core.code n) (Some answer) (visits_at seat x (meaning.stage core.code n) parts.memory) core after-called)
+                  (ap (λ (t : Task). unwrap_or (working t) attempt) (sym is ∙ e)) (makes-called going);
             })

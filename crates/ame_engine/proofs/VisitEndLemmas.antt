@@ -38,9 +38,13 @@ use Rattle.ame_engine.specs.declared.engine.free.change.Change.{Change}
 use Rattle.ame_engine.specs.Core.{Core}
 use Rattle.ame_protocol.specs.Event.Counting.{Counted, one_counted}
 use Rattle.ame_protocol.specs.Event.Rollbacks.{IsGoodPool}
-use Rattle.ame_engine.specs.Seen.{parts_of, term_shown, MakesEvent}
+use Rattle.ame_protocol.specs.Event.Event.{Event}
+use Rattle.ame_protocol.specs.Event.May.{May}
+use Rattle.ame_engine.specs.Seen.{parts_of, term_shown}
+use Rattle.ame_engine.specs.Makes.{state_of, MakesAt}
+use Rattle.ame_engine.proofs.MakesLemmas.{made-event}
 use Rattle.ame_engine.specs.Whole.{resting_at, IsAtRest, IsGoodMemory, IsSound}
-use Rattle.ame_engine.specs.Visiting.{IsVisitTo, visited_at, SettlesThere, changed_by, IsGoodChange}
+use Rattle.ame_engine.specs.Visiting.{IsVisitTo, visited_at, SettlesThere, changed_by, IsGoodChange, visits_at}
 use Rattle.ame_protocol.proofs.Event.CauseLemmas.{going-cause}
 use Rattle.ame_protocol.proofs.Event.CountLemmas.{one-counts}
 use Rattle.ame_protocol.proofs.Event.LoneLemmas.{lone-left}
@@ -310,10 +314,32 @@ module _ {C V M : Type 0} (meaning : Meaning C V M)
             text = text-is;
           }
 
-          pub makes-visited : MakesEvent meaning (one_counted Counted.Free)
-              (visited_at seat number answer (meaning.stage now.code m)
-              (changed_by (meaning.value_of now.code) change (parts_of meaning now).memory)) now after
-          makes-visited =
-              subst (λ (x : Core C V M). MakesEvent meaning (one_counted Counted.Free)
-              (visited_at seat number answer (meaning.stage x.code m) (changed_by (meaning.value_of x.code) change (parts_of meaning x).memory)) x after) view
-              (record { code = refl; parts = visited-parts; counted = refl; stop = refl })
+          -- so this may be
+          may-visit : now.stop ≡ None → attempt.tried.steps ≤ (meaning.stage now.code m).steps
+              → May (Event.Visit seat attempt s.steps visit.place s.inside plain) (state_of meaning core)
+          may-visit going low = (
+            record { going = subst (λ (x : Core C V M). x.stop ≡ None) (sym view) going; left = left' },
+            record {
+              task = is;
+              visit = visit.visit;
+              more = subst (λ (x : Core C V M). attempt.tried.steps ≤ (meaning.stage x.code m).steps) (sym view) low;
+            },
+          )
+
+          pub makes-visited : now.stop ≡ None → attempt.tried.steps ≤ (meaning.stage now.code m).steps → MakesAt meaning (meaning.stage now.code m) answer
+              (visits_at seat attempt (meaning.stage now.code m) (changed_by (meaning.value_of now.code) change (parts_of meaning now).memory)) now after
+          makes-visited going low =
+              subst (λ (x : Core C V M). MakesAt meaning (meaning.stage x.code m) answer
+              (visits_at seat attempt (meaning.stage x.code m) (changed_by (meaning.value_of x.code) change (parts_of meaning x).memory)) x after) view
+              (record {
+                place = visit.place;
+                shows = visit.shows;
+                makes = made-event meaning (one_counted Counted.Free) (has_visited seat number s.steps visit.place s.inside plain)
+                    (Event.Visit seat attempt s.steps visit.place s.inside plain) core after refl refl (may-visit going low)
+                    (record {
+                      code = refl;
+                      parts = subst (λ (q : LocalState). parts_of meaning after ≡ has_visited seat number s.steps q s.inside plain parts) (sym visit.shows) visited-parts;
+                      counted = refl;
+                      stop = refl;
+                    });
+              })

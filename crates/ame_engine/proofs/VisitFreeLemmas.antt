@@ -9,10 +9,11 @@ use Rattle.ame_protocol.specs.Engine.Parts.{Parts, task_at, working}
 use Rattle.ame_protocol.specs.Engine.Simulates.{Simulates}
 use Rattle.ame_engine.specs.declared.engine.free.change.Change.{Change}
 use Rattle.ame_engine.specs.Core.{Core}
-use Rattle.ame_protocol.specs.Event.Counting.{Counted, one_counted}
-use Rattle.ame_engine.specs.Seen.{parts_of, MakesEvent}
+use Rattle.ame_engine.specs.Seen.{parts_of}
+use Rattle.ame_engine.specs.Makes.{MakesAt}
+use Rattle.ame_engine.proofs.MakesLemmas.{visited-made}
 use Rattle.ame_engine.specs.AtWork.{IsOn}
-use Rattle.ame_engine.specs.Visiting.{IsVisiting, IsVisitTo, visited_at, SettlesThere, changed_by, HasMadeItsStep, HasComeHome}
+use Rattle.ame_engine.specs.Visiting.{IsVisiting, IsVisitTo, visits_at, SettlesThere, changed_by, HasMadeItsStep, HasComeHome}
 use Rattle.ame_engine.proofs.CheckLemmas.{working-within, task-read}
 use Rattle.ame_engine.proofs.VisitPlaceLemmas.{visits-as, visit-is, visit-settles}
 use Rattle.ame_engine.proofs.VisitPlaceLemmas.{visit-grows}
@@ -25,6 +26,10 @@ its-free {C} {V} {M} core now view seat held has t a e f =
     subst (λ (x : Core C V M). task_at x.tasks seat ≡ Task.Free a) view
     (task-read core.tasks seat t
     (working-within core.tasks seat held (subst (λ (x : Core C V M). working (task_at x.tasks seat) ≡ Some held) (sym view) has)) e ∙ f)
+
+-- a seat visits with one attempt
+pub same-attempt : (t : Task) (a b : Attempt) → t ≡ Task.Free a → t ≡ Task.Free b → a ≡ b
+same-attempt t a b e f = ap (λ (x : Task). unwrap_or (working x) a) (sym e ∙ f)
 
 -- a seat visits one member
 pub same-number : (t : Task) (a b : Attempt) → t ≡ Task.Free a → t ≡ Task.Free b → a.tried.number ≡ b.tried.number
@@ -64,14 +69,19 @@ module _ {C V M : Type 0} (meaning : Meaning C V M)
 
     -- it is home
     pub home-served : (told : List Told) (new : Core C V M)
-        → MakesEvent meaning (one_counted Counted.Free)
-        (visited_at seat attempt.tried.number None (meaning.stage now.code n) (changed_by (meaning.value_of now.code) change parts.memory)) now new
+        → MakesAt meaning (meaning.stage now.code n) None
+        (visits_at seat attempt (meaning.stage now.code n) (changed_by (meaning.value_of now.code) change parts.memory)) now new
         → HasComeHome meaning seat attempt.tried.number (meaning.stage now.code m) told told now new
-    home-served told new makes = record {
-      answer = None;
-      comes = meaning.stage now.code n;
-      memory = changed_by (meaning.value_of now.code) change parts.memory;
-      visits = served.visits told;
-      visit = served-visit;
-      event = makes;
-    }
+    home-served told new makes =
+        let memory = changed_by (meaning.value_of now.code) change parts.memory in
+        record {
+          answer = None;
+          comes = meaning.stage now.code n;
+          memory = memory;
+          visits = served.visits told;
+          visit = served-visit;
+          event = visited-made meaning now new seat attempt None (meaning.stage now.code n) memory makes;
+          makes = λ a e.
+              subst (λ (x : Attempt). MakesAt meaning (meaning.stage now.code n) None (visits_at seat x (meaning.stage now.code n) memory) now new)
+              (same-attempt (task_at now.tasks seat) attempt a is e) makes;
+        }

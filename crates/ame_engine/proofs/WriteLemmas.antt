@@ -1,5 +1,5 @@
 -- A seat writes.
-use Rattle.std.proofs.Common.{◌≡◌, ◌≢◌, ℕ, ◌+◌, ◌<◌, ◌==◌, ◌⊎◌, inl, inr, Bool, true, false, cond, [], ◌∷◌, ◌++◌, set, length, All, Option, Some, None, option_map, refl, sym, ap, ◌∙◌, subst, arith, is_some}
+use Rattle.std.proofs.Common.{Result, Ok, ◌≡◌, ◌≢◌, ℕ, ◌+◌, ◌<◌, ◌==◌, ◌⊎◌, inl, inr, Bool, true, false, cond, [], ◌∷◌, ◌++◌, set, length, All, Option, Some, None, option_map, refl, sym, ap, ◌∙◌, subst, arith, is_some}
 use Rattle.std.specs.Prelude.{slice_get, slice_set, unwrap_or}
 use Rattle.std.specs.Option.{ForSome, option_map_or}
 use Rattle.std.proofs.lemmas.List.{length-map}
@@ -40,7 +40,7 @@ use Rattle.ame_protocol.specs.Engine.Parts.{Parts, heap_in, task_at, attempt_of,
 use Rattle.ame_protocol.specs.Engine.Shown.{shown_memory}
 use Rattle.ame_protocol.specs.Engine.Simulates.{Simulates}
 use Rattle.ame_protocol.specs.Engine.Alone.{RunsExclusively}
-use Rattle.ame_protocol.specs.Engine.Events.{has_written, has_turned_back}
+use Rattle.ame_protocol.specs.Engine.Events.{has_written}
 use Rattle.ame_protocol.proofs.Engine.AccessLemmas.{write-there, write-first_stands, write-later_stands}
 use Rattle.ame_protocol.proofs.Engine.ToldLemmas.{cells-grow}
 use Rattle.ame_protocol.proofs.Engine.AloneLemmas.{write-first_alone, write-later_alone}
@@ -56,12 +56,16 @@ use Rattle.ame_engine.specs.Core.{Core}
 use Rattle.ame_protocol.specs.Event.Causes.{HasCause}
 use Rattle.ame_protocol.proofs.Event.CauseLemmas.{task-more, working-cause}
 use Rattle.ame_protocol.specs.Event.Counting.{Counted, one_counted}
-use Rattle.ame_engine.specs.Seen.{parts_of, MakesEvent}
+use Rattle.ame_protocol.specs.Event.Event.{Event, Reverse}
+use Rattle.ame_protocol.specs.Event.May.{May}
+use Rattle.ame_engine.specs.Seen.{parts_of}
+use Rattle.ame_engine.specs.Makes.{state_of, Makes}
 use Rattle.ame_engine.specs.Whole.{IsGoodUndo, IsGoodLog, IsGoodMemory, IsSound}
 use Rattle.ame_engine.specs.AtWork.{IsOnSeat, IsOn}
 use Rattle.ame_engine.specs.Writing.{answer_to_write, refused_by}
 use Rattle.ame_protocol.specs.Event.Rollbacks.{MayBeRolledBack}
-use Rattle.ame_engine.proofs.ReadLemmas.{row-good, runs-as, comes-to, seat-in_rows}
+use Rattle.ame_engine.proofs.MakesLemmas.{made-event}
+use Rattle.ame_engine.proofs.ReadLemmas.{row-good, runs-as, comes-to, has-come, seat-in_rows}
 use Rattle.ame_engine.proofs.CheckLemmas.{whole-back, unexhausted-apart, crowded-apart, still-rolls}
 use Rattle.ame_engine.proofs.RunLemmas.{can-run}
 use Rattle.ame_protocol.proofs.Event.CountLemmas.{one-counts, conflict-refused}
@@ -82,6 +86,16 @@ write-same : (l k : Loc) (o : Option Wants) → o ≡ Some (wants.Write l) → o
 unfolding write-at
 write-same l k o e f = ap (λ (w : Option Wants). write-at w l) (sym e ∙ f)
 
+-- The seat that is told of in an answer
+
+owner-in : {E : Type 0} → Result Answer E → ℕ → ℕ
+owner-in (Ok (answer.Conflict owner)) d = owner
+owner-in _ d = d
+
+pub one-owner : {E : Type 0} (owner other : ℕ) → ◌≡◌ {A = Result Answer E} (Ok (answer.Conflict owner)) (Ok (answer.Conflict other)) → owner ≡ other
+unfolding owner-in
+one-owner {E} owner other e = ap (λ (r : Result Answer E). owner-in r owner) e
+
 -- What is told
 
 module _ {V : Type 0} (seat : ℕ) (value : V) (cell : Cell V) where
@@ -97,19 +111,22 @@ module _ {V : Type 0} (seat : ℕ) (value : V) (cell : Cell V) where
       by None e = inl e
       by (Some owner) e = its owner e (which owner seat)
 
-  pub conflict-cell : (other : ℕ) → Some other ≡ refused_by (told_write seat value cell.owner) → (owner : ℕ) × IsOwnedBy owner cell × (owner ≢ seat)
-  conflict-cell other h = by cell.owner refl
+  pub conflict-cell : (owner : ℕ) → Some owner ≡ refused_by (told_write seat value cell.owner) → IsOwnedBy owner cell × (owner ≢ seat)
+  conflict-cell owner h = by cell.owner refl
     where
       no-done : told_write seat value cell.owner ≡ told.Done → ⊥
-      no-done e = let clash : ◌≡◌ {A = Option ℕ} (Some other) None = h ∙ ap (λ (a : WriteAnswer V). refused_by a) e in cc
+      no-done e = let clash : ◌≡◌ {A = Option ℕ} (Some owner) None = h ∙ ap (λ (a : WriteAnswer V). refused_by a) e in cc
 
-      its : (owner : ℕ) → cell.owner ≡ Some owner → (owner ≡ seat) ⊎ ((owner ≡ seat) → ⊥) → (owner : ℕ) × IsOwnedBy owner cell × (owner ≢ seat)
-      its owner e (inl same) = absurd (no-done (told_again seat value cell (e ∙ ap Some same)))
-      its owner e (inr n) = (owner, e, n)
+      its : (other : ℕ) → cell.owner ≡ Some other → (other ≡ seat) ⊎ ((other ≡ seat) → ⊥) → IsOwnedBy owner cell × (owner ≢ seat)
+      its other e (inl same) = absurd (no-done (told_again seat value cell (e ∙ ap Some same)))
+      its other e (inr n) =
+          let told : Some owner ≡ Some other = h ∙ ap (λ (a : WriteAnswer V). refused_by a) (told_refused seat other value cell e n) in
+          let one : owner ≡ other = ap (λ (o : Option ℕ). unwrap_or o owner) told in
+          (e ∙ sym told, λ same. n (sym one ∙ same))
 
-      by : (o : Option ℕ) → cell.owner ≡ o → (owner : ℕ) × IsOwnedBy owner cell × (owner ≢ seat)
+      by : (o : Option ℕ) → cell.owner ≡ o → IsOwnedBy owner cell × (owner ≢ seat)
       by None e = absurd (no-done (told_first seat value cell e))
-      by (Some owner) e = its owner e (which owner seat)
+      by (Some other) e = its other e (which other seat)
 
 answered : Option ℕ → Answer
 answered None = answer.Wrote
@@ -328,16 +345,27 @@ module _ {C V M : Type 0} (meaning : Meaning C V M) (same : V → V → Type 0)
         text = whole.text;
       }
 
-      pub makes-written : (k : Loc) (v : Val) → (meaning.stage now.code m).want ≡ Some (wants.Write k) → value_to_set (meaning.stage now.code m) ≡ Some v
-          → MakesEvent meaning (one_counted Counted.Write) (has_written seat k v) now after
-      makes-written k v e set =
+      -- so the seat may write
+      may-write : now.stop ≡ None → (meaning.stage now.code m).since < now.limits.slice → May (Event.Write seat l (meaning.value_of core.code value)) (state_of meaning core)
+      may-write going early = subst (λ (v : Val). May (Event.Write seat l v) (state_of meaning core)) value-is (
+        record { going = subst (λ (x : Core C V M). x.stop ≡ None) (sym view) going; left = left' },
+        has-come (state_of meaning core) seat s on' (Act.Writes l.0 next-act.0) outside' next-act.1
+            (subst (λ (x : Core C V M). (meaning.stage x.code m).since < x.limits.slice) (sym view) early),
+        owned,
+      )
+
+      pub makes-written : now.stop ≡ None → (meaning.stage now.code m).since < now.limits.slice
+          → (k : Loc) (v : Val) → (meaning.stage now.code m).want ≡ Some (wants.Write k) → value_to_set (meaning.stage now.code m) ≡ Some v
+          → Makes meaning (Event.Write seat k v) now after
+      makes-written going early k v e set =
           let sets-now : value_to_set (meaning.stage now.code m) ≡ Some (meaning.value_of core.code value) =
           subst (λ (x : Core C V M). value_to_set (meaning.stage x.code m) ≡ Some (meaning.value_of core.code value)) view (sets ∙ ap Some (shows core.code lent value copied)) in
           let one : meaning.value_of core.code value ≡ v = ap (λ (o : Option Val). unwrap_or o v) (sym sets-now ∙ set) in
-          subst (λ (x : Val). MakesEvent meaning (one_counted Counted.Write) (has_written seat k x) now after) one
-          (subst (λ (x : Loc). MakesEvent meaning (one_counted Counted.Write) (has_written seat x (meaning.value_of core.code value)) now after) (write-same l k (meaning.stage now.code m).want wants-it e)
-          (subst (λ (x : Core C V M). MakesEvent meaning (one_counted Counted.Write) (has_written seat l (meaning.value_of core.code value)) x after) view
-          (record { code = refl; parts = parts-written; counted = refl; stop = refl })))
+          subst (λ (x : Val). Makes meaning (Event.Write seat k x) now after) one
+          (subst (λ (x : Loc). Makes meaning (Event.Write seat x (meaning.value_of core.code value)) now after) (write-same l k (meaning.stage now.code m).want wants-it e)
+          (subst (λ (x : Core C V M). Makes meaning (Event.Write seat l (meaning.value_of core.code value)) x after) view
+          (made-event meaning (one_counted Counted.Write) (has_written seat l (meaning.value_of core.code value)) (Event.Write seat l (meaning.value_of core.code value))
+          core after refl refl (may-write going early) (record { code = refl; parts = parts-written; counted = refl; stop = refl }))))
 
       pub runs-written : now.stop ≡ None → (meaning.stage now.code m).since < now.limits.slice → (t : MachineView) → IsOnSeat (parts_of meaning after) seat t → t.inside ≡ false → CanRun t
       runs-written going early t stands out = can-run (parts_of meaning after) (whole-written going early).stands seat t stands out
@@ -358,7 +386,7 @@ module _ {C V M : Type 0} (meaning : Meaning C V M) (same : V → V → Type 0)
       memory-stays : memory ≡ core.memory
       memory-stays =
           let other = conflict-cell seat value found.0 owner refused in
-          is ∙ written_refused seat other.0 l value input core.memory found.0 write-seat found.1 other.1 other.2
+          is ∙ written_refused seat owner l value input core.memory found.0 write-seat found.1 other.0 other.1
 
       its-attempt : (a : Attempt) → task_at now.tasks seat ≡ Task.Running a → attempt ≡ a
       its-attempt a e =
@@ -368,15 +396,15 @@ module _ {C V M : Type 0} (meaning : Meaning C V M) (same : V → V → Type 0)
       unexhausted : IsAt is_exhausted attempt.tried.number parts.pool → ⊥
       unexhausted =
           let other = conflict-cell seat value found.0 owner refused in
-          unexhausted-apart meaning core now view whole seat m on outside left attempt runs l.0 other.0
-          (ap (λ (c : Cell Val). c.owner) found-is ∙ other.1) other.2
+          unexhausted-apart meaning core now view whole seat m on outside left attempt runs l.0 owner
+          (ap (λ (c : Cell Val). c.owner) found-is ∙ other.0) other.1
 
       -- and the seat isn't the only one
       crowded : core.limits.seats ≡ 1 → ⊥
       crowded =
           let other = conflict-cell seat value found.0 owner refused in
-          crowded-apart meaning core now view whole seat m on outside left attempt runs l.0 other.0
-          (ap (λ (c : Cell Val). c.owner) found-is ∙ other.1) other.2
+          crowded-apart meaning core now view whole seat m on outside left attempt runs l.0 owner
+          (ap (λ (c : Cell Val). c.owner) found-is ∙ other.0) other.1
 
       pub rolls-conflict : (a : Attempt) → task_at now.tasks seat ≡ Task.Running a → MayBeRolledBack a.tried.number now.pool
       rolls-conflict a e =
@@ -406,13 +434,25 @@ module _ {C V M : Type 0} (meaning : Meaning C V M) (same : V → V → Type 0)
           (one_counted Counted.Conflict core.counters) (one-counts core.turns core.counters whole.counters Counted.Conflict)
           (conflict-refused core.counters) going (λ still exhausted. unexhausted exhausted) crowded)
 
-      pub makes-conflict : (a : Attempt) → task_at now.tasks seat ≡ Task.Running a → MakesEvent meaning (one_counted Counted.Conflict) (has_turned_back seat a) now after-conflict
+      -- so the seat may turn back
+      may-turn : now.stop ≡ None → May (Event.TurnBack seat attempt (Reverse.Met l owner)) (state_of meaning core)
+      may-turn going =
+          let other = conflict-cell seat value found.0 owner refused in (
+            record { going = subst (λ (x : Core C V M). x.stop ≡ None) (sym view) going; left = left' },
+            runs,
+            (ap (λ (c : Cell Val). c.owner) found-is ∙ other.0, other.1),
+          )
+
+      pub makes-conflict : now.stop ≡ None → (k : Loc) (a : Attempt) → (meaning.stage now.code m).want ≡ Some (wants.Write k) → task_at now.tasks seat ≡ Task.Running a
+          → (other : ℕ) → owner ≡ other → Makes meaning (Event.TurnBack seat a (Reverse.Met k other)) now after-conflict
       unfolding with-memory
-      makes-conflict a e =
-          subst (λ (x : Attempt). MakesEvent meaning (one_counted Counted.Conflict) (has_turned_back seat x) now after-conflict) (its-attempt a e)
-          (subst (λ (x : Core C V M). MakesEvent meaning (one_counted Counted.Conflict) (has_turned_back seat attempt) x after-conflict) view
-          (subst (λ (d : MemoryView V). MakesEvent meaning (one_counted Counted.Conflict) (has_turned_back seat attempt) core (with-memory d)) (sym memory-stays)
-          (record { code = refl; parts = refl; counted = refl; stop = refl })))
+      makes-conflict going k a e runs-it other one =
+          subst (λ (n : ℕ). Makes meaning (Event.TurnBack seat a (Reverse.Met k n)) now after-conflict) one
+          (subst (λ (x : Loc). Makes meaning (Event.TurnBack seat a (Reverse.Met x owner)) now after-conflict) (write-same l k (meaning.stage now.code m).want wants-it e)
+          (subst (λ (x : Attempt). Makes meaning (Event.TurnBack seat x (Reverse.Met l owner)) now after-conflict) (its-attempt a runs-it)
+          (subst (λ (x : Core C V M). Makes meaning (Event.TurnBack seat attempt (Reverse.Met l owner)) x after-conflict) view
+          (subst (λ (d : MemoryView V). Makes meaning (Event.TurnBack seat attempt (Reverse.Met l owner)) core (with-memory d)) (sym memory-stays)
+          (record { code = refl; may = may-turn going; state = refl })))))
 
       pub runs-conflict : now.stop ≡ None → (t : MachineView) → IsOnSeat (parts_of meaning after-conflict) seat t → t.inside ≡ false → CanRun t
       runs-conflict going t stands out = can-run (parts_of meaning after-conflict) (whole-conflict going).stands seat t stands out

@@ -5,14 +5,15 @@ use Rattle.ame_pool.specs.Begin.{oldest}
 use Rattle.ame_pool.specs.Calls.{held}
 use Rattle.ame_pool.specs.Keeps.{is_inside_at}
 use Rattle.ame_machine.specs.Sound.{CanRun}
-use Rattle.ame_protocol.specs.Engine.Events.{attempt_after, begun_task, has_begun}
+use Rattle.ame_protocol.specs.Engine.Events.{attempt_after, begun_task}
 use Rattle.ame_engine.specs.declared.answer.Begin.{Begin}
 use Rattle.ame_engine.specs.declared.answer.Begin.TheVariants as answer
 use Rattle.ame_engine.specs.declared.pick.Pick.{Pick}
 use Rattle.ame_protocol.specs.declared.stop.Stop.{Stop}
 use Rattle.ame_protocol.specs.Event.Counting.{Counted, one_counted}
 use Rattle.ame_engine.specs.Core.{Core}
-use Rattle.ame_engine.specs.Seen.{MakesEvent}
+use Rattle.ame_protocol.specs.Event.Event.{Event}
+use Rattle.ame_engine.specs.Makes.{Makes}
 use Rattle.ame_engine.specs.Whole.{resting_at}
 use Rattle.ame_engine.specs.AtWork.{IsOn}
 use Rattle.ame_machine.specs.Meaning.{Meaning}
@@ -54,7 +55,7 @@ module _ {C V M : Type 0} (meaning : Meaning C V M) where
   -- A seat has begun a member. The machine that it is given is where the seat's run begins: it has made no step and wants nothing,
   -- and it can run.
   pub record HasBegun (seat number : ℕ) (old new : Core C V M) (m : M) : Type 0 where
-    pub event : MakesEvent meaning (one_counted Counted.Begin) (has_begun seat number) old new
+    pub event : Makes meaning (Event.Begin seat number) old new
     pub on : IsOn meaning new seat m
     pub rests : meaning.stage new.code m ≡ resting_at (meaning.stage new.code m).term (meaning.stage new.code m).inside
     pub runs : CanRun (meaning.stage new.code m)

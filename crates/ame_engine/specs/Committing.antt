@@ -7,7 +7,10 @@ use Rattle.ame_rows.specs.Access.{is_owned_by}
 use Rattle.ame_machine.specs.declared.wants.Wants.{Wants}
 use Rattle.ame_machine.specs.declared.wants.Wants.TheVariants as wants
 use Rattle.ame_machine.specs.MachineView.{MachineView, place_shown}
+use Rattle.ame_machine.specs.Run.Local.{LocalState}
+use Rattle.ame_protocol.specs.declared.types.Attempt.{Attempt}
 use Rattle.ame_protocol.specs.Engine.Parts.{Parts}
+use Rattle.ame_protocol.specs.Event.Event.{Event}
 use Rattle.ame_protocol.specs.Engine.Events.{has_ended, has_left}
 
 -- whether a machine that wants this is to be committed: it has ended, or it leaves
@@ -32,3 +35,10 @@ ended_at seat number s parts = has_ended seat number s.steps (place_shown s) (ow
 -- or has come to `unprotected`
 abbrev pub left_at : ℕ → ℕ → MachineView → Parts → Parts
 left_at seat number s parts = has_left seat number s.steps (place_shown s) (owned_places seat parts.memory.cells) parts
+
+-- the events of such commits, at the place to which the run has come
+abbrev pub ends_at : ℕ → Attempt → MachineView → Parts → LocalState → Event
+ends_at seat attempt s parts = λ place. Event.End seat attempt s.steps place (owned_places seat parts.memory.cells)
+
+abbrev pub leaves_at : ℕ → Attempt → MachineView → Parts → LocalState → Event
+leaves_at seat attempt s parts = λ place. Event.Leave seat attempt s.steps place (owned_places seat parts.memory.cells)

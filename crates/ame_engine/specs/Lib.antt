@@ -1,5 +1,6 @@
 pub mod Core
 pub mod Seen
+pub mod Makes
 pub mod Places
 pub mod Certifying
 pub mod Whole

@@ -1,5 +1,5 @@
 -- How an engine stops.
-use Rattle.std.specs.Prelude.{Bool, true, false, List, Some, unwrap_or}
+use Rattle.std.specs.Prelude.{List, Some, unwrap_or}
 use Rattle.ame_protocol.specs.declared.certificate.Certificate.{Certificate}
 use Rattle.ame_protocol.specs.declared.stop.Stop.{Stop}
 use Rattle.ame_engine.specs.Core.{Core}

@@ -19,14 +19,18 @@ use Rattle.ame_machine.specs.MachineView.{MachineView, place_shown, without_foot
 use Rattle.ame_machine.specs.Move.{fed_stage, closed_stage, tells_leave}
 use Rattle.ame_machine.specs.Input.{value_to_set}
 use Rattle.ame_machine.specs.Acting.{takes_input}
-use Rattle.ame_protocol.specs.Engine.Parts.{Parts}
+use Rattle.ame_protocol.specs.declared.types.Task.{Task}
+use Rattle.ame_protocol.specs.declared.types.Attempt.{Attempt}
+use Rattle.ame_protocol.specs.Engine.Parts.{Parts, task_at}
 use Rattle.ame_protocol.specs.Visits.Visit.{IsVisit, has_visited, has_been_refused}
 use Rattle.ame_engine.specs.declared.engine.free.change.Change.{Change}
 use Rattle.ame_engine.specs.declared.engine.free.change.Change.TheVariants as changes
 use Rattle.ame_protocol.specs.declared.stop.Stop.{Stop}
 use Rattle.ame_protocol.specs.Event.Counting.{Counted, one_counted}
 use Rattle.ame_engine.specs.Core.{Core}
+use Rattle.ame_protocol.specs.Event.Event.{Event}
 use Rattle.ame_engine.specs.Seen.{parts_of, MakesEvent, MakesLastEvent}
+use Rattle.ame_engine.specs.Makes.{Makes, MakesAt}
 use Rattle.ame_machine.specs.Meaning.{Meaning}
 
 -- Unprotected code has come so far: it is to be fed what it wants, or it has made steps alone, and its next value isn't too high.
@@ -67,6 +71,10 @@ pub record IsVisitTo (parts : Parts) (number : ℕ) (answer : Option ℤ) (n : M
 -- what it makes of the plain parts
 abbrev pub visited_at : ℕ → ℕ → Option ℤ → MachineView → MemoryView Val → Parts → Parts
 visited_at seat number answer n memory parts = has_visited seat number n.steps (with_answer answer (place_shown n)) n.inside memory parts
+
+-- the event of such a visit, at the place to which the run has come
+abbrev pub visits_at : ℕ → Attempt → MachineView → MemoryView Val → LocalState → Event
+visits_at seat attempt n memory = λ place. Event.Visit seat attempt n.steps place n.inside memory
 
 -- a machine that settles there stays inside, or outside
 abbrev pub SettlesThere : MachineView → Type 0
@@ -115,6 +123,7 @@ module _ {C V M : Type 0} (meaning : Meaning C V M) where
     pub visits : VisitsTo s (parts_of meaning old).memory before answer comes memory after
     pub visit : IsVisitTo (parts_of meaning old) number answer comes memory
     pub event : MakesEvent meaning (one_counted Counted.Free) (visited_at seat number answer comes memory) old new
+    pub makes : (attempt : Attempt) → task_at old.tasks seat ≡ Task.Free attempt → MakesAt meaning comes answer (visits_at seat attempt comes memory) old new
 
   -- The device that its machine wanted has failed: its member has gone home as it was begun, and that stop is kept.
   pub record HasBeenRefused (seat number device : ℕ) (s : MachineView) (before after : List Told) (old new : Core C V M) : Type 0 where
@@ -122,3 +131,4 @@ module _ {C V M : Type 0} (meaning : Meaning C V M) where
     pub wanted : s.want ≡ Some (wants.Device device argument)
     pub fails : CallsOne before device argument (Err DeviceFail.Failed) after
     pub event : MakesLastEvent meaning (Stop.DeviceFault device) (one_counted Counted.Free) (has_been_refused seat number) old new
+    pub makes : (attempt : Attempt) → task_at old.tasks seat ≡ Task.Free attempt → Makes meaning (Event.Refuse seat attempt device) old new

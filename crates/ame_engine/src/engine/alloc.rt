@@ -8,9 +8,9 @@ ghost use Rattle.ame_machine.specs.declared.wants.Wants.{Wants};
 ghost use Rattle.ame_machine.specs.MachineView.{MachineView};
 ghost use Rattle.ame_machine.specs.Input.{value_to_set};
 ghost use Rattle.ame_machine.specs.Sound.{CanRun};
-ghost use Rattle.ame_protocol.specs.Engine.Events.{has_allocated};
-ghost use Rattle.ame_protocol.specs.Event.Counting.{Counted, one_counted};
-ghost use Rattle.ame_engine.specs.Seen.{parts_of, MakesEvent};
+ghost use Rattle.ame_protocol.specs.Event.Event.{Event};
+ghost use Rattle.ame_engine.specs.Seen.{parts_of};
+ghost use Rattle.ame_engine.specs.Makes.{Makes};
 ghost use Rattle.ame_engine.specs.AtWork.{IsOn, IsOnSeat, IsAllocating};
 
 use super::Engine;
@@ -32,7 +32,7 @@ where
         ensures location { IfOk result (λ l. l.0 ≡ length self.old.memory.cells) }
         ensures event { (sort : Sort) (number : TyNo) (v : Val) → (M.meaning.stage self.old.code at.now).want ≡ Some (Wants.Alloc sort number)
             → value_to_set (M.meaning.stage self.old.code at.now) ≡ Some v → OnOk result
-            (MakesEvent M.meaning (one_counted Counted.Alloc) (has_allocated seat sort number v) self.old self.new) }
+            (Makes M.meaning (Event.Alloc seat sort number v) self.old self.new) }
         ensures runs { OnOk result ((s : MachineView) → IsOnSeat (parts_of M.meaning self.new) seat s → s.inside ≡ false → CanRun s) }
         ensures err { OnErr result (self.new ≡ self.old) }
     {

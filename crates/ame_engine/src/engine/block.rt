@@ -5,13 +5,10 @@ ghost use Rattle.ame_rows.specs.declared.notes.Bad.{Bad};
 ghost use Rattle.ame_rows.specs.Valid.{IsValid, IsFirstBad};
 ghost use Rattle.ame_rows.specs.MemoryView.{row_at};
 ghost use Rattle.ame_protocol.specs.Row.Waiting.{read_places};
-ghost use Rattle.ame_machine.specs.MachineView.{place_shown};
 ghost use Rattle.ame_protocol.specs.declared.types.Attempt.{Attempt};
 ghost use Rattle.ame_protocol.specs.Engine.Parts.{task_at};
-ghost use Rattle.ame_protocol.specs.Engine.Events.{has_turned_back};
-ghost use Rattle.ame_protocol.specs.Waits.Noted.{has_noted};
-ghost use Rattle.ame_protocol.specs.Event.Counting.{Counted, one_counted, one_invalid};
-ghost use Rattle.ame_engine.specs.Seen.{MakesEvent};
+ghost use Rattle.ame_protocol.specs.Event.Event.{Event, Find, Reverse};
+ghost use Rattle.ame_engine.specs.Makes.{Makes, MakesAt};
 ghost use Rattle.ame_engine.specs.AtWork.{IsOn, IsBlocking};
 ghost use Rattle.ame_protocol.specs.Event.Rollbacks.{MayBeRolledBack};
 
@@ -48,8 +45,8 @@ where
         requires going { self.old.stop ≡ None }
         requires task { task_at self.old.tasks seat ≡ Task.Running attempt }
         requires valid { IsValid self.old.memory.cells seat (row_at self.old.memory.rows seat).reads }
-        ensures noted { OnOk result (MakesEvent M.meaning (one_counted Counted.Block)
-            (has_noted seat attempt (M.meaning.stage self.old.code at.now).steps (place_shown (M.meaning.stage self.old.code at.now))) self.old self.new) }
+        ensures noted { OnOk result (MakesAt M.meaning (M.meaning.stage self.old.code at.now) None
+            (λ place. Event.Note seat attempt (M.meaning.stage self.old.code at.now).steps place) self.old self.new) }
         ensures err { OnErr result (self.new ≡ self.old) }
     {
         let alloc = *self.tasks.allocator();
@@ -74,10 +71,10 @@ where
         requires left { self.old.turns < self.old.limits.turns }
         requires going { self.old.stop ≡ None }
         ensures noted { (attempt : Attempt) → task_at self.old.tasks seat ≡ Task.Running attempt → result ≡ Ok Noted.Noted
-            → MakesEvent M.meaning (one_counted Counted.Block)
-            (has_noted seat attempt (M.meaning.stage self.old.code at.now).steps (place_shown (M.meaning.stage self.old.code at.now))) self.old self.new }
+            → MakesAt M.meaning (M.meaning.stage self.old.code at.now) None
+            (λ place. Event.Note seat attempt (M.meaning.stage self.old.code at.now).steps place) self.old self.new }
         ensures back { (attempt : Attempt) (bad : Bad) → task_at self.old.tasks seat ≡ Task.Running attempt → result ≡ Ok (Noted.Invalid bad)
-            → MakesEvent M.meaning (one_invalid Counted.Block) (has_turned_back seat attempt) self.old self.new }
+            → Makes M.meaning (Event.TurnBack seat attempt (Reverse.Stale Find.Block)) self.old self.new }
         ensures exact { IfOk result (λ noted. (noted ≡ Noted.Noted) ↔ IsValid self.old.memory.cells seat (row_at self.old.memory.rows seat).reads) }
         ensures bad { (bad : Bad) → result ≡ Ok (Noted.Invalid bad) → IsFirstBad self.old.memory.cells seat (row_at self.old.memory.rows seat).reads bad }
         ensures rolls { (attempt : Attempt) (bad : Bad) → task_at self.old.tasks seat ≡ Task.Running attempt

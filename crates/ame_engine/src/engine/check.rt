@@ -6,9 +6,8 @@ ghost use Rattle.ame_rows.specs.Valid.{IsValid, IsFirstBad};
 ghost use Rattle.ame_rows.specs.MemoryView.{row_at};
 ghost use Rattle.ame_protocol.specs.declared.types.Attempt.{Attempt};
 ghost use Rattle.ame_protocol.specs.Engine.Parts.{task_at};
-ghost use Rattle.ame_protocol.specs.Engine.Events.{has_checked, has_turned_back};
-ghost use Rattle.ame_protocol.specs.Event.Counting.{Counted, one_counted, one_invalid};
-ghost use Rattle.ame_engine.specs.Seen.{MakesEvent};
+ghost use Rattle.ame_protocol.specs.Event.Event.{Event, Find, Reverse};
+ghost use Rattle.ame_engine.specs.Makes.{Makes};
 ghost use Rattle.ame_engine.specs.AtWork.{IsOn};
 ghost use Rattle.ame_protocol.specs.Event.Rollbacks.{MayBeRolledBack};
 
@@ -45,10 +44,9 @@ where
         requires left { self.old.turns < self.old.limits.turns }
         requires going { self.old.stop ≡ None }
         ensures valid { (attempt : Attempt) → task_at self.old.tasks seat ≡ Task.Running attempt → result ≡ Checked.Valid
-            → MakesEvent M.meaning (one_counted Counted.Check)
-            (has_checked seat (M.meaning.stage self.old.code at.now).steps attempt) self.old self.new }
+            → Makes M.meaning (Event.Check seat attempt (M.meaning.stage self.old.code at.now).steps) self.old self.new }
         ensures back { (attempt : Attempt) (bad : Bad) → task_at self.old.tasks seat ≡ Task.Running attempt → result ≡ Checked.Invalid bad
-            → MakesEvent M.meaning (one_invalid Counted.Check) (has_turned_back seat attempt) self.old self.new }
+            → Makes M.meaning (Event.TurnBack seat attempt (Reverse.Stale Find.Check)) self.old self.new }
         ensures rolls { (attempt : Attempt) (bad : Bad) → self.old.stop ≡ None → task_at self.old.tasks seat ≡ Task.Running attempt
             → result ≡ Checked.Invalid bad → MayBeRolledBack attempt.tried.number self.old.pool }
         ensures exact { (result ≡ Checked.Valid) ↔ IsValid self.old.memory.cells seat (row_at self.old.memory.rows seat).reads }

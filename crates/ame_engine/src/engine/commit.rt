@@ -7,12 +7,12 @@ ghost use Rattle.ame_rows.specs.MemoryView.{row_at};
 ghost use Rattle.ame_machine.specs.declared.wants.Wants.{Wants};
 ghost use Rattle.ame_protocol.specs.declared.types.Attempt.{Attempt};
 ghost use Rattle.ame_protocol.specs.Engine.Parts.{task_at};
-ghost use Rattle.ame_protocol.specs.Engine.Events.{has_turned_back};
-ghost use Rattle.ame_protocol.specs.Event.Counting.{Counted, one_counted, one_invalid};
-ghost use Rattle.ame_engine.specs.Seen.{MakesEvent};
+ghost use Rattle.ame_protocol.specs.Event.Event.{Event, Find, Reverse};
+ghost use Rattle.ame_engine.specs.Seen.{parts_of};
+ghost use Rattle.ame_engine.specs.Makes.{Makes, MakesAt};
 ghost use Rattle.ame_engine.specs.AtWork.{IsOn};
 ghost use Rattle.ame_protocol.specs.Event.Rollbacks.{MayBeRolledBack};
-ghost use Rattle.ame_engine.specs.Committing.{IsCommitting, ended_at, left_at};
+ghost use Rattle.ame_engine.specs.Committing.{IsCommitting, ends_at, leaves_at};
 
 use super::Engine;
 use crate::answer::Noted;
@@ -37,10 +37,10 @@ where
         requires going { self.old.stop ≡ None }
         requires task { task_at self.old.tasks seat ≡ Task.Running attempt }
         requires valid { IsValid self.old.memory.cells seat (row_at self.old.memory.rows seat).reads }
-        ensures ended { (M.meaning.stage self.old.code at).want ≡ Some Wants.Done → OnOk result (MakesEvent M.meaning
-            (one_counted Counted.Commit) (ended_at seat attempt.tried.number (M.meaning.stage self.old.code at)) self.old self.new) }
-        ensures left { (M.meaning.stage self.old.code at).want ≡ Some Wants.Leave → OnOk result (MakesEvent M.meaning
-            (one_counted Counted.Commit) (left_at seat attempt.tried.number (M.meaning.stage self.old.code at)) self.old self.new) }
+        ensures ended { (M.meaning.stage self.old.code at).want ≡ Some Wants.Done → OnOk result (MakesAt M.meaning (M.meaning.stage self.old.code at) None
+            (ends_at seat attempt (M.meaning.stage self.old.code at) (parts_of M.meaning self.old)) self.old self.new) }
+        ensures left { (M.meaning.stage self.old.code at).want ≡ Some Wants.Leave → OnOk result (MakesAt M.meaning (M.meaning.stage self.old.code at) None
+            (leaves_at seat attempt (M.meaning.stage self.old.code at) (parts_of M.meaning self.old)) self.old self.new) }
         ensures err { OnErr result (self.new ≡ self.old) }
     {
         let alloc = *self.tasks.allocator();
@@ -82,13 +82,13 @@ where
         requires left { self.old.turns < self.old.limits.turns }
         requires going { self.old.stop ≡ None }
         ensures ended { (attempt : Attempt) → task_at self.old.tasks seat ≡ Task.Running attempt → (M.meaning.stage self.old.code at).want ≡ Some Wants.Done
-            → result ≡ Ok Noted.Noted → MakesEvent M.meaning (one_counted Counted.Commit)
-            (ended_at seat attempt.tried.number (M.meaning.stage self.old.code at)) self.old self.new }
+            → result ≡ Ok Noted.Noted → MakesAt M.meaning (M.meaning.stage self.old.code at) None
+            (ends_at seat attempt (M.meaning.stage self.old.code at) (parts_of M.meaning self.old)) self.old self.new }
         ensures left { (attempt : Attempt) → task_at self.old.tasks seat ≡ Task.Running attempt → (M.meaning.stage self.old.code at).want ≡ Some Wants.Leave
-            → result ≡ Ok Noted.Noted → MakesEvent M.meaning (one_counted Counted.Commit)
-            (left_at seat attempt.tried.number (M.meaning.stage self.old.code at)) self.old self.new }
+            → result ≡ Ok Noted.Noted → MakesAt M.meaning (M.meaning.stage self.old.code at) None
+            (leaves_at seat attempt (M.meaning.stage self.old.code at) (parts_of M.meaning self.old)) self.old self.new }
         ensures back { (attempt : Attempt) (bad : Bad) → task_at self.old.tasks seat ≡ Task.Running attempt → result ≡ Ok (Noted.Invalid bad)
-            → MakesEvent M.meaning (one_invalid Counted.Commit) (has_turned_back seat attempt) self.old self.new }
+            → Makes M.meaning (Event.TurnBack seat attempt (Reverse.Stale Find.Commit)) self.old self.new }
         ensures exact { IfOk result (λ noted. (noted ≡ Noted.Noted) ↔ IsValid self.old.memory.cells seat (row_at self.old.memory.rows seat).reads) }
         ensures bad { (bad : Bad) → result ≡ Ok (Noted.Invalid bad) → IsFirstBad self.old.memory.cells seat (row_at self.old.memory.rows seat).reads bad }
         ensures rolls { (attempt : Attempt) (bad : Bad) → task_at self.old.tasks seat ≡ Task.Running attempt

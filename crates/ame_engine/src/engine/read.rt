@@ -8,9 +8,9 @@ ghost use Rattle.ame_machine.specs.declared.wants.Wants.{Wants};
 ghost use Rattle.ame_machine.specs.MachineView.{MachineView};
 ghost use Rattle.ame_machine.specs.Sound.{CanRun};
 ghost use Rattle.ame_protocol.specs.Engine.Parts.{heap_in};
-ghost use Rattle.ame_protocol.specs.Engine.Events.{has_read};
-ghost use Rattle.ame_protocol.specs.Event.Counting.{Counted, one_counted};
-ghost use Rattle.ame_engine.specs.Seen.{parts_of, MakesEvent};
+ghost use Rattle.ame_protocol.specs.Event.Event.{Event};
+ghost use Rattle.ame_engine.specs.Seen.{parts_of};
+ghost use Rattle.ame_engine.specs.Makes.{Makes};
 ghost use Rattle.ame_engine.specs.AtWork.{IsOn, IsOnSeat, IsReading};
 
 use super::Engine;
@@ -39,7 +39,7 @@ where
         requires going { self.old.stop ≡ None }
         requires early { (M.meaning.stage self.old.code at.now).since < self.old.limits.slice }
         ensures event { (l : Loc) → (M.meaning.stage self.old.code at.now).want ≡ Some (Wants.Read l)
-            → OnOk result (MakesEvent M.meaning (one_counted Counted.Read) (has_read seat l) self.old self.new) }
+            → OnOk result (Makes M.meaning (Event.Read seat l) self.old self.new) }
         ensures value { (l : Loc) → (M.meaning.stage self.old.code at.now).want ≡ Some (Wants.Read l) → IfOk result (λ value.
             M.meaning.value_of self.old.code value ≡ (cell_at (heap_in (parts_of M.meaning self.old)) l.0).value) }
         ensures good { IfOk result (M.meaning.is_value self.old.code) }

@@ -4,12 +4,12 @@ ghost use Rattle.std.specs.Prelude.{◌≡◌, IfOk, OnOk, OnErr, IsSome, IsTrue
 ghost use Rattle.std.specs.Option.{ForSome};
 ghost use Rattle.ame_rows.specs.Valid.{IsValid};
 ghost use Rattle.ame_rows.specs.MemoryView.{row_at};
-ghost use Rattle.ame_machine.specs.MachineView.{place_shown};
 ghost use Rattle.ame_protocol.specs.declared.types.Attempt.{Attempt};
 ghost use Rattle.ame_protocol.specs.Engine.Parts.{task_at, attempt_of, working};
-ghost use Rattle.ame_protocol.specs.Visits.Stops.{has_been_cut};
+ghost use Rattle.ame_protocol.specs.Event.Event.{Event};
 ghost use Rattle.ame_protocol.specs.Event.Causes.{HasCause};
-ghost use Rattle.ame_engine.specs.Seen.{parts_of, MakesLastEvent};
+ghost use Rattle.ame_engine.specs.Seen.{parts_of};
+ghost use Rattle.ame_engine.specs.Makes.{MakesAt};
 ghost use Rattle.ame_engine.specs.Stops.{stopped_by};
 ghost use Rattle.ame_engine.specs.AtWork.{IsOn};
 ghost use Rattle.ame_protocol.specs.Event.Bounds.{LeavesNoTry};
@@ -34,9 +34,8 @@ where
         requires going { self.old.stop ≡ None }
         requires valid { IsValid self.old.memory.cells seat (row_at self.old.memory.rows seat).reads }
         ensures cut { (attempt : Attempt) → working (task_at self.old.tasks seat) ≡ Some attempt
-            → OnOk result (MakesLastEvent M.meaning Stop.Spent (λ counters. counters)
-            (has_been_cut seat attempt.tried.number (M.meaning.stage self.old.code at.now).steps (place_shown (M.meaning.stage self.old.code at.now))
-            (task_at self.old.tasks seat)) self.old self.new) }
+            → OnOk result (MakesAt M.meaning (M.meaning.stage self.old.code at.now) None
+            (λ place. Event.Cut seat attempt (M.meaning.stage self.old.code at.now).steps place) self.old self.new) }
         ensures err { OnErr result (self.new ≡ self.old) }
     {
         let task = self.tasks[seat as usize];
@@ -82,9 +81,8 @@ where
         requires going { self.old.stop ≡ None }
         ensures cut { ForSome at.entry (λ m. IsValid self.old.memory.cells seat (row_at self.old.memory.rows seat).reads → (attempt : Attempt)
             → working (task_at self.old.tasks seat) ≡ Some attempt
-            → OnOk result (MakesLastEvent M.meaning Stop.Spent (λ counters. counters)
-            (has_been_cut seat attempt.tried.number (M.meaning.stage self.old.code m.now).steps (place_shown (M.meaning.stage self.old.code m.now))
-            (task_at self.old.tasks seat)) self.old self.new)) }
+            → OnOk result (MakesAt M.meaning (M.meaning.stage self.old.code m.now) None
+            (λ place. Event.Cut seat attempt (M.meaning.stage self.old.code m.now).steps place) self.old self.new)) }
         ensures undoing { at.entry ≡ None → (result ≡ Ok tt) × (self.new ≡ stopped_by Stop.Spent self.old) }
         ensures invalid { (IsValid self.old.memory.cells seat (row_at self.old.memory.rows seat).reads → ⊥)
             → (result ≡ Ok tt) × (self.new ≡ stopped_by Stop.Spent self.old) }

@@ -5,9 +5,10 @@ ghost use Rattle.ame_pool.specs.Calls.{IsAt};
 ghost use Rattle.ame_rows.specs.MemoryView.{row_at};
 ghost use Rattle.ame_protocol.specs.declared.types.Attempt.{Attempt};
 ghost use Rattle.ame_protocol.specs.Engine.Parts.{task_at, attempt_of};
-ghost use Rattle.ame_protocol.specs.Engine.Events.{with_try, has_undone, has_gone_home};
+ghost use Rattle.ame_protocol.specs.Engine.Events.{with_try};
 ghost use Rattle.ame_protocol.specs.Event.Counting.{one_undone};
-ghost use Rattle.ame_engine.specs.Seen.{MakesEvent};
+ghost use Rattle.ame_protocol.specs.Event.Event.{Event};
+ghost use Rattle.ame_engine.specs.Makes.{Makes};
 ghost use Rattle.ame_protocol.specs.Event.Undoing.{is_undoing, reason_to_undo, is_busy_for, home_for};
 
 use super::Engine;
@@ -96,11 +97,9 @@ where
         requires left { is_some self.old.stop ≡ false → self.old.turns < self.old.limits.turns }
         ensures answer { (result ≡ Undone.More) ↔ (1 < length (row_at self.old.memory.rows seat).undos) }
         ensures more { (attempt : Attempt) → attempt_of (task_at self.old.tasks seat) ≡ Some attempt → result ≡ Undone.More
-            → MakesEvent M.meaning (one_undone (is_some self.old.stop))
-            (has_undone seat attempt (reason_to_undo (task_at self.old.tasks seat))) self.old self.new }
+            → Makes M.meaning (Event.Undo seat attempt) self.old self.new }
         ensures home { (attempt : Attempt) → attempt_of (task_at self.old.tasks seat) ≡ Some attempt → result ≡ Undone.Home
-            → MakesEvent M.meaning (one_undone (is_some self.old.stop))
-            (has_gone_home seat attempt (reason_to_undo (task_at self.old.tasks seat))) self.old self.new }
+            → Makes M.meaning (Event.Home seat attempt) self.old self.new }
     {
         let task = self.tasks[seat as usize];
         let attempt = attempt_at(task);

@@ -10,9 +10,9 @@ ghost use Rattle.ame_machine.specs.Input.{value_to_set};
 ghost use Rattle.ame_machine.specs.Sound.{CanRun};
 ghost use Rattle.ame_protocol.specs.declared.types.Attempt.{Attempt};
 ghost use Rattle.ame_protocol.specs.Engine.Parts.{heap_in, task_at};
-ghost use Rattle.ame_protocol.specs.Engine.Events.{has_written, has_turned_back};
-ghost use Rattle.ame_protocol.specs.Event.Counting.{Counted, one_counted};
-ghost use Rattle.ame_engine.specs.Seen.{parts_of, MakesEvent};
+ghost use Rattle.ame_protocol.specs.Event.Event.{Event, Reverse};
+ghost use Rattle.ame_engine.specs.Seen.{parts_of};
+ghost use Rattle.ame_engine.specs.Makes.{Makes};
 ghost use Rattle.ame_engine.specs.AtWork.{IsOn, IsOnSeat, IsWriting};
 ghost use Rattle.ame_engine.specs.Writing.{answer_to_write, refused_by};
 ghost use Rattle.ame_protocol.specs.Event.Rollbacks.{MayBeRolledBack};
@@ -51,9 +51,10 @@ where
             answer ≡ answer_to_write seat (cell_at (heap_in (parts_of M.meaning self.old)) l.0).owner) }
         ensures event { (l : Loc) (v : Val) → (M.meaning.stage self.old.code at.now).want ≡ Some (Wants.Write l)
             → value_to_set (M.meaning.stage self.old.code at.now) ≡ Some v → result ≡ Ok Wrote.Wrote
-            → MakesEvent M.meaning (one_counted Counted.Write) (has_written seat l v) self.old self.new }
-        ensures back { (attempt : Attempt) (owner : ℕ) → task_at self.old.tasks seat ≡ Task.Running attempt → result ≡ Ok (Wrote.Conflict owner)
-            → MakesEvent M.meaning (one_counted Counted.Conflict) (has_turned_back seat attempt) self.old self.new }
+            → Makes M.meaning (Event.Write seat l v) self.old self.new }
+        ensures back { (l : Loc) (attempt : Attempt) (owner : ℕ) → (M.meaning.stage self.old.code at.now).want ≡ Some (Wants.Write l)
+            → task_at self.old.tasks seat ≡ Task.Running attempt → result ≡ Ok (Wrote.Conflict owner)
+            → Makes M.meaning (Event.TurnBack seat attempt (Reverse.Met l owner)) self.old self.new }
         ensures rolls { (attempt : Attempt) (owner : ℕ) → task_at self.old.tasks seat ≡ Task.Running attempt → result ≡ Ok (Wrote.Conflict owner)
             → MayBeRolledBack attempt.tried.number self.old.pool }
         ensures runs { OnOk result ((s : MachineView) → IsOnSeat (parts_of M.meaning self.new) seat s → s.inside ≡ false → CanRun s) }

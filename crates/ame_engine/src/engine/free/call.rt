@@ -4,9 +4,9 @@ ghost use Rattle.std.specs.Prelude.{◌≡◌, ◌<◌, ◌+◌, ◌≤◌, ◌^
 ghost use Rattle.ame_device.specs.Calls.{all_told};
 ghost use Rattle.ame_machine.specs.declared.wants.Wants.{Wants};
 ghost use Rattle.ame_protocol.specs.Engine.Parts.{task_at};
-ghost use Rattle.ame_protocol.specs.Visits.Visit.{has_been_refused};
-ghost use Rattle.ame_protocol.specs.Event.Counting.{Counted, one_counted};
-ghost use Rattle.ame_engine.specs.Seen.{parts_of, MakesLastEvent};
+ghost use Rattle.ame_protocol.specs.Event.Event.{Event};
+ghost use Rattle.ame_engine.specs.Seen.{parts_of};
+ghost use Rattle.ame_engine.specs.Makes.{Makes};
 ghost use Rattle.ame_protocol.specs.Event.Faults.{LeadsToCall};
 ghost use Rattle.ame_engine.specs.AtWork.{IsOn};
 ghost use Rattle.ame_engine.specs.Visiting.{IsVisiting, HasComeHome, HasBeenRefused};
@@ -45,8 +45,7 @@ where
         requires going { self.old.stop ≡ None }
         requires left { self.old.turns < self.old.limits.turns }
         requires calls { LeadsToCall (parts_of M.meaning self.old) device }
-        ensures { MakesLastEvent M.meaning (Stop.DeviceFault device) (one_counted Counted.Free)
-            (has_been_refused seat attempt.tried.number) self.old self.new }
+        ensures { Makes M.meaning (Event.Refuse seat attempt device) self.old self.new }
     {
         self.pool.home(attempt.tried.number, false);
         self.tasks[seat as usize] = Task::Idle;

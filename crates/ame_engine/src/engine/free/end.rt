@@ -2,9 +2,9 @@
 
 ghost use Rattle.std.specs.Prelude.{◌≡◌, ◌<◌, ◌≤◌, OnOk, OnErr, None, true, []};
 ghost use Rattle.ame_protocol.specs.Engine.Parts.{task_at};
-ghost use Rattle.ame_protocol.specs.Event.Counting.{Counted, one_counted};
-ghost use Rattle.ame_engine.specs.Seen.{parts_of, MakesEvent};
-ghost use Rattle.ame_engine.specs.Visiting.{IsVisitTo, visited_at, SettlesThere, changed_by, CanChange, IsGoodChange, makes_cell};
+ghost use Rattle.ame_engine.specs.Seen.{parts_of};
+ghost use Rattle.ame_engine.specs.Makes.{MakesAt};
+ghost use Rattle.ame_engine.specs.Visiting.{IsVisitTo, visits_at, SettlesThere, changed_by, CanChange, IsGoodChange, makes_cell};
 
 use super::change::{Change, change_memory};
 use super::home::{free_entry, send_home};
@@ -39,8 +39,8 @@ where
         requires good { IsGoodChange (M.meaning.is_value self.old.code) change }
         requires fits { CanChange self.old.memory change }
         requires lone { makes_cell change ≡ true → (M.meaning.stage self.old.code at).spawns ≡ [] }
-        ensures event { OnOk result (MakesEvent M.meaning (one_counted Counted.Free)
-            (visited_at seat attempt.tried.number None (M.meaning.stage self.old.code at)
+        ensures event { OnOk result (MakesAt M.meaning (M.meaning.stage self.old.code at) None
+            (visits_at seat attempt (M.meaning.stage self.old.code at)
             (changed_by (M.meaning.value_of self.old.code) change (parts_of M.meaning self.old).memory)) self.old self.new) }
         ensures err { OnErr result (self.new ≡ self.old) }
     {

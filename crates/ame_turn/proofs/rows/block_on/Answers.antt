@@ -1,6 +1,8 @@
 use Rattle.std.proofs.Common.{Ok, refl, ap, ◌∙◌}
 use Rattle.ame_machine.specs.declared.wants.Wants.TheVariants as wants
 use Rattle.ame_machine.specs.MachineView.{place_shown}
+use Rattle.ame_protocol.specs.Event.Event.{Find}
+use Rattle.ame_engine.proofs.MakesLemmas.{noted-made, stale-made}
 use Rattle.ame_turn.proofs.HandLemmas.{running, back-fits, noted-fits}
 use Rattle.ame_turn.proofs.DoneLemmas.{told-ok, runs-from}
 use Rattle.ame_turn.proofs.rows.block_on.Goals as goal
@@ -9,7 +11,7 @@ pub returns-in-Ok-Noted-clause-fits : goal.returns-in-Ok-Noted-clause-fits
 returns-in-Ok-Noted-clause-fits g c =
     let a = c.requires.turn.at.on.stands.attempt in
     let task = running g.M.Runner.meaning c.args.engine.now c.args.engine.now c.args.seat c.args.machine c.requires.turn.at c.requires.outside in
-    noted-fits g.M.Runner.meaning c.args.engine.now c.block.new.self c.args.seat _ a (g.M.Runner.meaning.stage c.args.engine.now.code c.args.machine).steps (place_shown (g.M.Runner.meaning.stage c.args.engine.now.code c.args.machine)) task (c.block.ensures.noted a task (c.in-Ok-Noted.is ∙ ap Ok c.in-Ok-Noted.field-0-is))
+    noted-fits g.M.Runner.meaning c.args.engine.now c.block.new.self c.args.seat _ a (g.M.Runner.meaning.stage c.args.engine.now.code c.args.machine).steps (place_shown (g.M.Runner.meaning.stage c.args.engine.now.code c.args.machine)) task (noted-made g.M.Runner.meaning c.args.engine.now c.block.new.self (g.M.Runner.meaning.stage c.args.engine.now.code c.args.machine) c.args.seat a (c.block.ensures.noted a task (c.in-Ok-Noted.is ∙ ap Ok c.in-Ok-Noted.field-0-is)))
 
 pub returns-in-Ok-Noted-clause-done : goal.returns-in-Ok-Noted-clause-done
 returns-in-Ok-Noted-clause-done g c = λ told.
@@ -22,7 +24,7 @@ returns-in-Ok-Noted-clause-done g c = λ told.
         runs-from c.args.engine.now (g.M.Runner.meaning.stage c.args.engine.now.code c.args.machine) c.requires.turn.going c.requires.turn.left wants.Block c.requires.told c.requires.outside,
         a,
         record { task = task; valid = (told-ok _ _ _ is c.block.ensures.exact).0 refl },
-        c.block.ensures.noted a task is,
+        noted-made g.M.Runner.meaning c.args.engine.now c.block.new.self (g.M.Runner.meaning.stage c.args.engine.now.code c.args.machine) c.args.seat a (c.block.ensures.noted a task is),
       );
       quiet = λ _. refl;
     }
@@ -31,7 +33,7 @@ pub returns-in-Ok-Invalid-clause-fits : goal.returns-in-Ok-Invalid-clause-fits
 returns-in-Ok-Invalid-clause-fits g c =
     let a = c.requires.turn.at.on.stands.attempt in
     let task = running g.M.Runner.meaning c.args.engine.now c.args.engine.now c.args.seat c.args.machine c.requires.turn.at c.requires.outside in
-    back-fits g.M.Runner.meaning c.args.engine.now c.block.new.self c.args.seat _ a task (c.block.ensures.back a c.in-Ok-Invalid.bad task (c.in-Ok-Invalid.is ∙ ap Ok c.in-Ok-Invalid.field-0-is))
+    back-fits g.M.Runner.meaning c.args.engine.now c.block.new.self c.args.seat _ a task (stale-made g.M.Runner.meaning c.args.engine.now c.block.new.self c.args.seat a Find.Block (c.block.ensures.back a c.in-Ok-Invalid.bad task (c.in-Ok-Invalid.is ∙ ap Ok c.in-Ok-Invalid.field-0-is)))
 
 pub returns-in-Ok-Invalid-clause-done : goal.returns-in-Ok-Invalid-clause-done
 returns-in-Ok-Invalid-clause-done g c = λ told.
@@ -46,7 +48,7 @@ returns-in-Ok-Invalid-clause-done g c = λ told.
           attempt = a;
           task = task;
           invalid = c.block.ensures.bad c.in-Ok-Invalid.bad is;
-          event = c.block.ensures.back a c.in-Ok-Invalid.bad task is;
+          event = stale-made g.M.Runner.meaning c.args.engine.now c.block.new.self c.args.seat a Find.Block (c.block.ensures.back a c.in-Ok-Invalid.bad task is);
         },
       );
       quiet = λ _. refl;

@@ -1,6 +1,8 @@
 use Rattle.std.proofs.Common.{Ok, refl, ap, ◌∙◌}
 use Rattle.ame_machine.specs.declared.wants.Wants.TheVariants as wants
 use Rattle.ame_machine.specs.MachineView.{place_shown}
+use Rattle.ame_protocol.specs.Event.Event.{Find}
+use Rattle.ame_engine.proofs.MakesLemmas.{tall-made, stale-made}
 use Rattle.ame_turn.proofs.HandLemmas.{running, back-fits, tall-fits}
 use Rattle.ame_turn.proofs.DoneLemmas.{told-ok, asks-from, runs-from, bad-outside}
 use Rattle.ame_turn.proofs.rows.tall_on.Goals as goal
@@ -8,7 +10,7 @@ use Rattle.ame_turn.proofs.rows.tall_on.Goals as goal
 pub returns-in-Ok-Noted-clause-fits : goal.returns-in-Ok-Noted-clause-fits
 returns-in-Ok-Noted-clause-fits g c =
     let on = c.requires.turn.at.on.stands in
-    tall-fits g.M.Runner.meaning c.args.engine.now c.tall.new.self c.args.seat _ _ on.attempt (g.M.Runner.meaning.stage c.args.engine.now.code c.args.machine).steps (place_shown (g.M.Runner.meaning.stage c.args.engine.now.code c.args.machine)) on.has (c.tall.ensures.noted on.attempt on.has (c.in-Ok-Noted.is ∙ ap Ok c.in-Ok-Noted.field-0-is))
+    tall-fits g.M.Runner.meaning c.args.engine.now c.tall.new.self c.args.seat _ _ on.attempt (g.M.Runner.meaning.stage c.args.engine.now.code c.args.machine).steps (place_shown (g.M.Runner.meaning.stage c.args.engine.now.code c.args.machine)) on.has (tall-made g.M.Runner.meaning c.args.engine.now c.tall.new.self (g.M.Runner.meaning.stage c.args.engine.now.code c.args.machine) c.args.seat on.attempt (c.tall.ensures.noted on.attempt on.has (c.in-Ok-Noted.is ∙ ap Ok c.in-Ok-Noted.field-0-is)))
 
 pub returns-in-Ok-Noted-clause-done : goal.returns-in-Ok-Noted-clause-done
 returns-in-Ok-Noted-clause-done g c = λ told.
@@ -21,7 +23,7 @@ returns-in-Ok-Noted-clause-done g c = λ told.
         on.attempt,
         on.has,
         (told-ok _ _ _ is c.tall.ensures.exact).0 refl,
-        c.tall.ensures.noted on.attempt on.has is,
+        tall-made g.M.Runner.meaning c.args.engine.now c.tall.new.self (g.M.Runner.meaning.stage c.args.engine.now.code c.args.machine) c.args.seat on.attempt (c.tall.ensures.noted on.attempt on.has is),
       );
       quiet = λ _. refl;
     }
@@ -32,7 +34,7 @@ returns-in-Ok-Invalid-clause-fits g c =
     let outside = bad-outside g.M.Runner.meaning c.args.engine.now c.args.seat c.args.machine c.stands.ensures c.requires.turn.at c.in-Ok-Invalid.bad (c.tall.ensures.bad c.in-Ok-Invalid.bad is) in
     let a = c.requires.turn.at.on.stands.attempt in
     let task = running g.M.Runner.meaning c.args.engine.now c.args.engine.now c.args.seat c.args.machine c.requires.turn.at outside in
-    back-fits g.M.Runner.meaning c.args.engine.now c.tall.new.self c.args.seat _ a task (c.tall.ensures.back a c.in-Ok-Invalid.bad task is)
+    back-fits g.M.Runner.meaning c.args.engine.now c.tall.new.self c.args.seat _ a task (stale-made g.M.Runner.meaning c.args.engine.now c.tall.new.self c.args.seat a Find.Tall (c.tall.ensures.back a c.in-Ok-Invalid.bad task is))
 
 pub returns-in-Ok-Invalid-clause-done : goal.returns-in-Ok-Invalid-clause-done
 returns-in-Ok-Invalid-clause-done g c = λ told.
@@ -48,7 +50,7 @@ returns-in-Ok-Invalid-clause-done g c = λ told.
           attempt = a;
           task = task;
           invalid = c.tall.ensures.bad c.in-Ok-Invalid.bad is;
-          event = c.tall.ensures.back a c.in-Ok-Invalid.bad task is;
+          event = stale-made g.M.Runner.meaning c.args.engine.now c.tall.new.self c.args.seat a Find.Tall (c.tall.ensures.back a c.in-Ok-Invalid.bad task is);
         },
       );
       quiet = λ _. refl;

@@ -2,6 +2,7 @@ use Rattle.std.proofs.Common.{inl, inr, Some, refl, sym, subst}
 use Rattle.ame_rows.specs.MemoryView.{row_at}
 use Rattle.ame_machine.specs.MachineView.{place_shown}
 use Rattle.ame_protocol.specs.declared.stop.Stop.{Stop}
+use Rattle.ame_engine.proofs.MakesLemmas.{cut-made}
 use Rattle.ame_turn.specs.declared.work.Work.TheVariants as work
 use Rattle.ame_turn.specs.Work.{Fits}
 use Rattle.ame_turn.specs.Deeds.{IsDone}
@@ -16,7 +17,7 @@ returns-in-Ok-clause-fits g c =
     subst (λ w. Fits g.M.Runner.meaning c.spend.new.self c.args.seat w) (sym c.spent.ensures.work)
     (elim (valid-or-not c.args.seat c.args.engine.now.memory.cells (row_at c.args.engine.now.memory.rows c.args.seat).reads) [
       | inl valid ↦ cut-fits g.M.Runner.meaning c.args.engine.now c.spend.new.self c.args.seat Stop.Spent (λ counters. counters) on.attempt (g.M.Runner.meaning.stage c.args.engine.now.code c.args.machine).steps (place_shown (g.M.Runner.meaning.stage c.args.engine.now.code c.args.machine)) on.has
-          (told-on _ _ _ c.in-Ok.is (c.spend.ensures.cut _ refl valid on.attempt on.has))
+          (cut-made g.M.Runner.meaning c.args.engine.now c.spend.new.self (g.M.Runner.meaning.stage c.args.engine.now.code c.args.machine) c.args.seat on.attempt (told-on _ _ _ c.in-Ok.is (c.spend.ensures.cut _ refl valid on.attempt on.has)))
       | inr bad ↦ stopped-undoes g.M.Runner.meaning c.args.engine.now c.spend.new.self c.args.seat Stop.Spent (at-work-busy g.M.Runner.meaning c.args.engine.now c.args.engine.now c.args.seat c.args.machine c.requires.at)
           (c.spend.ensures.invalid bad).1
     ])
@@ -33,7 +34,7 @@ returns-in-Ok-clause-done g c = λ told.
             attempt = on.attempt;
             has = on.has;
             valid = valid;
-            event = told-on _ _ _ c.in-Ok.is (c.spend.ensures.cut _ refl valid on.attempt on.has);
+            event = cut-made g.M.Runner.meaning c.args.engine.now c.spend.new.self (g.M.Runner.meaning.stage c.args.engine.now.code c.args.machine) c.args.seat on.attempt (told-on _ _ _ c.in-Ok.is (c.spend.ensures.cut _ refl valid on.attempt on.has));
           })
           | inr bad ↦ inr (bad, (c.spend.ensures.invalid bad).1)
         ],

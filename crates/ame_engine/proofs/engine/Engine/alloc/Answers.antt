@@ -36,7 +36,7 @@ returns-clause-event g c =
     (g.met.M.Runner.sound c.args.self.now.code c.args.at.now c.requires.on.machine) c.requires.left
     c.wanted.result.now c.in_ok-value.value c.location_value-input.result good sets c.in_ok-value.ensures
     (c.location_value-input.ensures.good (arc_value c.self.inside.code)) _ (c.location_value-input.ensures.stands (arc_value c.self.inside.code)) place
-    c.allocate.new.self c.in_ok-l.ensures.contents
+    c.allocate.new.self c.in_ok-l.ensures.contents c.requires.going c.requires.early
 
 pub returns-clause-runs : goal.returns-clause-runs
 returns-clause-runs g c =

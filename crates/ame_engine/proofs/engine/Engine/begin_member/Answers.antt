@@ -30,4 +30,4 @@ returns-clause-begun g c =
     g.M.Copied.same g.met.M.Runner.same_machines g.met.M.Runner.stage_shown _ c.args.self.now c.self.view_is c.self.invariant.whole c.args.seat c.args.number
     c.requires.seat c.requires.idle c.requires.oldest c.requires.ready c.requires.left _ _ _ _ _ _
     c.begun_task-task.ensures c.is_inside.ensures c.attempt_now-attempt.ensures c.entries.ensures.entries c.entries-2.ensures.entries c.hold.ensures
-    _ c.reserve.ensures.items c.in_ok-machine.machine c.in_ok-machine.ensures
+    _ c.reserve.ensures.items c.in_ok-machine.machine c.in_ok-machine.ensures c.requires.going

@@ -94,7 +94,7 @@ returns-clause-ended g c =
     c.make_room.new.text.items c.append-2.new.list.items c.as_slice-2.result.now c.in_ok-bytes.bytes.items c.prints.result.now
     (c.prints.ensures (arc_value c.self.inside.code)) c.in_ok-bytes.ensures c.as_slice-2.ensures.value c.make_room.ensures.text c.append-2.ensures
     c.make_room.new.journal.entries c.push.new.self.entries c.in_ok-entry.entry (c.in_ok-entry.ensures (arc_value c.self.inside.code))
-    c.make_room.ensures.entries c.push.ensures.entries c.in_ok-next.next c.in_ok-next.ensures
+    c.make_room.ensures.entries c.push.ensures.entries c.in_ok-next.next c.in_ok-next.ensures c.requires.going
 
 pub returns-clause-left : goal.returns-clause-left
 returns-clause-left g c =
@@ -114,4 +114,4 @@ returns-clause-left g c =
     c.make_room.new.text.items c.append-2.new.list.items c.as_slice-2.result.now c.in_ok-bytes.bytes.items c.prints.result.now
     (c.prints.ensures (arc_value c.self.inside.code)) c.in_ok-bytes.ensures c.as_slice-2.ensures.value c.make_room.ensures.text c.append-2.ensures
     c.make_room.new.journal.entries c.push.new.self.entries c.in_ok-entry.entry (c.in_ok-entry.ensures (arc_value c.self.inside.code))
-    c.make_room.ensures.entries c.push.ensures.entries c.in_ok-next.next c.in_ok-next.ensures
+    c.make_room.ensures.entries c.push.ensures.entries c.in_ok-next.next c.in_ok-next.ensures c.requires.going

@@ -71,4 +71,4 @@ returns-clause-event g c =
     c.make_room.new.text.items c.append-2.new.list.items c.as_slice.result.now c.in_ok-bytes.bytes.items c.prints.result.now
     (c.prints.ensures (arc_value c.self.inside.code)) c.in_ok-bytes.ensures c.as_slice.ensures.value c.make_room.ensures.text c.append-2.ensures
     c.make_room.new.journal.entries c.push.new.self.entries c.in_ok-entry.entry (c.in_ok-entry.ensures (arc_value c.self.inside.code))
-    c.make_room.ensures.entries c.push.ensures.entries c.in_ok-next.next c.in_ok-next.ensures
+    c.make_room.ensures.entries c.push.ensures.entries c.in_ok-next.next c.in_ok-next.ensures c.requires.going c.requires.low

@@ -27,7 +27,7 @@ returns-clause-event g c =
     makes-read g.M.Runner.meaning
     g.M.Value.Copied.same g.met.M.Runner.same_values g.met.M.Runner.value_shown _ c.args.self.now c.self.view_is c.self.invariant.whole c.args.seat c.args.at.now
     c.in-Some-Read.l c.requires.on c.requires.reads.outside told (g.met.M.Runner.sound c.args.self.now.code c.args.at.now c.requires.on.machine) c.requires.left
-    c.in_ok-value.value c.read.new.self c.in_ok-value.ensures.value c.in_ok-value.ensures.row c.in_ok-value.ensures.others
+    c.in_ok-value.value c.read.new.self c.in_ok-value.ensures.value c.in_ok-value.ensures.row c.in_ok-value.ensures.others c.requires.going c.requires.early c.numbers_tell_owners.ensures
 
 pub returns-clause-value : goal.returns-clause-value
 returns-clause-value g c =

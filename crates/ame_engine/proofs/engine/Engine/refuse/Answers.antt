@@ -21,4 +21,4 @@ pub returns : goal.returns
 returns g c =
     makes-refused g.M.Runner.meaning
     _ c.args.self.now c.self.view_is c.self.invariant.whole c.args.seat c.args.attempt c.requires.task c.requires.left
-    c.args.device c.home.new.self c.home.ensures
+    c.args.device c.home.new.self c.home.ensures c.requires.going c.requires.calls

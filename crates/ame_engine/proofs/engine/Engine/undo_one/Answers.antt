@@ -62,17 +62,19 @@ invariant_of-self-else-is_left g c =
 
 pub returns-then-is_left-clause-more : goal.returns-then-is_left-clause-more
 returns-then-is_left-clause-more g c =
+    let more : 1 < length (row_at c.self.inside.memory.rows c.args.seat).undos = search rules in
     (λ attempt has _. makes-undone g.M.Runner.meaning
     _ c.args.self.now c.self.view_is c.self.invariant.whole c.args.seat c.requires.busy c.requires.undoes c.requires.left
     c.index-task.result.now c.index-task.ensures c.attempt_at-attempt.result c.attempt_at-attempt.ensures c.why_undone-reason.result c.why_undone-reason.ensures
     c.undo_last-is_left.new.self c.undo_last-is_left.ensures.contents c.is_some-stopped.result c.is_some-stopped.ensures
-    c.undo_turns-self-inside.result c.undo_turns-self-inside.ensures c.undo_counters-self-inside.result c.undo_counters-self-inside.ensures attempt has)
+    c.undo_turns-self-inside.result c.undo_turns-self-inside.ensures c.undo_counters-self-inside.result c.undo_counters-self-inside.ensures more attempt has)
 
 pub returns-else-is_left-clause-home : goal.returns-else-is_left-clause-home
 returns-else-is_left-clause-home g c =
+    let none : 1 < length (row_at c.self.inside.memory.rows c.args.seat).undos → ⊥ = search rules in
     (λ attempt has _. makes-gone g.M.Runner.meaning
     _ c.args.self.now c.self.view_is c.self.invariant.whole c.args.seat c.requires.busy c.requires.undoes c.requires.left
     c.index-task.result.now c.index-task.ensures c.attempt_at-attempt.result c.attempt_at-attempt.ensures c.why_undone-reason.result c.why_undone-reason.ensures
     c.undo_last-is_left.new.self c.undo_last-is_left.ensures.contents c.is_some-stopped.result c.is_some-stopped.ensures
     c.undo_turns-self-inside.result c.undo_turns-self-inside.ensures c.undo_counters-self-inside.result c.undo_counters-self-inside.ensures
-    c.bring_home.new.pool c.bring_home.ensures c.tell_try.new.tried.items c.tell_try.ensures.items attempt has)
+    c.bring_home.new.pool c.bring_home.ensures c.tell_try.new.tried.items c.tell_try.ensures.items none attempt has)

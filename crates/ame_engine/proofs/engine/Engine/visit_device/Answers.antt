@@ -85,7 +85,7 @@ returns-in-Ok-clause-home g c =
     c.in-Ok.answer c.feed.new.self machine fed _ _ called
     c.in_ok-entry.entry c.answered.result (c.in_ok-entry.ensures (arc_value c.self.inside.code)) entry
     c.push.new.self.entries c.room.new.self.entries c.room.ensures.entries c.push.ensures.entries
-    c.send_home.new.pool (c.send_home.ensures.shown (arc_value c.self.inside.code)) (c.send_home.ensures.rests (arc_value c.self.inside.code)) c.send_home.ensures.good
+    c.send_home.new.pool (c.send_home.ensures.shown (arc_value c.self.inside.code)) (c.send_home.ensures.rests (arc_value c.self.inside.code)) c.send_home.ensures.good c.requires.going
 
 pub returns-clause-quiet : goal.returns-clause-quiet
 returns-clause-quiet g c =

@@ -111,7 +111,7 @@ def definitions(file):
     lines, found, modules, at = file.text.split("\n"), [], [], 0
     while at < len(lines):
         line = lines[at]
-        if is_blank_or_comment(line) or line.lstrip().startswith(("use ", "pub use ")):
+        if is_blank_or_comment(line) or line.lstrip().startswith(("use ", "pub use ", "pub mod ")):
             at += 1
             continue
         modules = [m for m in modules if indent_of(m[0]) < indent_of(line)]

@@ -1,10 +1,13 @@
 -- What the status of a call must be.
 use Rattle.std.proofs.Common.{◌≡◌, ◌≢◌, ◌⊎◌, inl, inr, ℕ, ◌<◌, ◌≤◌, List, ◌++◌, length, Option, Some, None, Result, Ok, Err, IfSome, refl, sym, ap, ◌∙◌, subst, arith}
+use Rattle.std.specs.Prelude.{IsSome}
 use Rattle.ame_io.specs.Counts.{HasNotRisen}
 use Rattle.ame_io.specs.Reads.{whole_limit}
 use Rattle.ame_io.specs.Lines.{lines}
 use Rattle.ame_io.proofs.CountsLemmas.{HasNotRisen-excludes}
 use Rattle.ame_lex.specs.Bytes.{Text}
+use Rattle.ame_lex.specs.declared.tokens.LexFault.{LexFault}
+use Rattle.ame_parse.specs.declared.fault.ParseFault.{ParseFault}
 use Rattle.ame_parse.specs.Text.{Source, source_of, reading}
 use Rattle.ame_term.specs.Tree.{Typ}
 use Rattle.ame_term.specs.Shown.{TypeFault as PlainFault}
@@ -12,44 +15,37 @@ use Rattle.ame_term.specs.Typing.{typing}
 use Rattle.ame_types.specs.declared.fault.TypeFault.{TypeFault}
 use Rattle.ame_protocol.proofs.Row.CellLemmas.{which}
 use Rattle.ame_journal.specs.Replayed.{Replayed}
-use Rattle.ame_code.specs.FlatCode.{FlatCode}
 use Rattle.ame_value.specs.declared.val.Val.{Val}
 use Rattle.ame_cli.specs.declared.command.Options.{Options}
 use Rattle.ame_cli.specs.declared.command.Command.{Command}
 use Rattle.ame_cli.specs.Grammar.{SpellsCommand, SpellsNothing}
 use Rattle.ame_device.specs.declared.told.Told.{Told}
 use Rattle.ame_protocol.specs.declared.stop.Stop.{Stop}
+use Rattle.ame_protocol.specs.declared.certificate.Certificate.{Certificate}
 use Rattle.ame_engine.specs.Ending.{End}
 use Rattle.ame_shell.specs.Ends.{Ends, told_at}
-use Rattle.ame_shell.specs.Heard.{NoneFailed, HaveFailed}
-use Rattle.ame_app.specs.declared.status.TextKind.{TextKind}
-use Rattle.ame_app.specs.declared.status.TextFault.{TextFault}
+use Rattle.ame_shell.specs.Heard.{HaveFailed}
+use Rattle.ame_app.specs.declared.fault.TextFault.{TextFault}
+use Rattle.ame_app.specs.declared.parts.Front.{Front}
 use Rattle.ame_app.specs.declared.status.Status.{Status}
+use Rattle.ame_app.specs.Verbs.{reads_source, Takes, Declines, behind}
 use Rattle.ame_app.specs.Calls.{Call, Given, Asks}
-use Rattle.ame_app.specs.Texts.{IsNoProgram, IsIllTyped}
-use Rattle.ame_app.specs.Causes.{RunCause, status_of, number_told}
-use Rattle.ame_app.specs.Headline.{Headline, IsTurnedAway, IsWritten, verdict_of}
-use Rattle.ame_app.specs.Complete.{IsGivenText, IsUnread, IsRefused, IsAcceptedText, NothingFailed, IsUnlessMemory, TellsFault, TellsRule, TellsEnd, TellsText, too_long, IsComplete}
+use Rattle.ame_app.specs.Texts.{why_of, IsNoProgram, IsIllTyped}
+use Rattle.ame_app.specs.Causes.{RefusalCause, RunCause, status_at, status_of}
+use Rattle.ame_app.specs.Causes.RefusalCause.{by_words, by_source, by_length, by_input, by_text, by_types, by_memory}
+use Rattle.ame_app.specs.Headline.{Reported, Headline, IsTurnedAway, IsWritten, verdict_of}
+use Rattle.ame_app.specs.Complete.{IsGiven, IsGivenText, IsGivenInVain, IsUnread, IsRefused, IsAcceptedText, NothingFailed, IsUnlessMemory, TellsFault, TellsRule, TellsEnd, TellsText, TellsInput, IsComplete}
+use Rattle.ame_app.specs.Answered.{IsAnswered}
 use Rattle.ame_app.specs.Verdict.{verdict}
-use Rattle.ame_app.proofs.TurnedLemmas.{SpellOne}
-use Rattle.ame_app.proofs.GivenLemmas.{asked-given, given-more}
-use Rattle.ame_app.proofs.RefusalLemmas.{Refusal, refusal, source-stays}
-use Rattle.ame_app.proofs.RefusalLemmas.Refusal.{by_words, by_source, by_length, by_text, by_types, by_memory}
+use Rattle.ame_app.proofs.VerbLemmas.{takes-one, takes-none, declines-one}
+use Rattle.ame_app.proofs.TurnedLemmas.{SpellOne, input-stays}
+use Rattle.ame_app.proofs.GivenLemmas.{command-is, input-given, asked-takes, asked-most, given-more}
 
 -- The sink
 
 is-fault : (status : Status) → (status ≡ Status.WriteFault) ⊎ (status ≢ Status.WriteFault)
 is-fault Status.WriteFault = inl refl
-is-fault Status.Finished = inr (λ e. absurd (cc))
-is-fault Status.Blocked = inr (λ e. absurd (cc))
-is-fault Status.Spent = inr (λ e. absurd (cc))
-is-fault Status.Usage = inr (λ e. absurd (cc))
-is-fault Status.ReadFault = inr (λ e. absurd (cc))
-is-fault (Status.Text fault) = inr (λ e. absurd (cc))
-is-fault (Status.Types fault) = inr (λ e. absurd (cc))
-is-fault (Status.DeviceFault device) = inr (λ e. absurd (cc))
-is-fault Status.NoMemory = inr (λ e. absurd (cc))
-is-fault Status.Tall = inr (λ e. absurd (cc))
+is-fault status = inr (λ e. absurd (cc))
 
 module _ (status : Status) (text : List ℕ) (before after : Ends) (written : IsWritten status text before after) where
   sink-told : before.write_faults < after.write_faults → status ≡ Status.WriteFault
@@ -63,34 +59,35 @@ module _ (status : Status) (text : List ℕ) (before after : Ends) (written : Is
 
 -- Devices
 
-none-told : (before after : List Told) (status : Status) (k : ℕ) → NoneFailed before after → (told_at before k).faults < (told_at after k).faults → status ≡ Status.DeviceFault k
-none-told before after status k none rises = absurd (let stayed = none k in omega (arith, stayed, rises))
-
-device-told : (stop : Option Stop) (before after : List Told) (k : ℕ) → HaveFailed stop before after → (told_at before k).faults < (told_at after k).faults
-    → status_of stop ≡ Status.DeviceFault k
-device-told (Some (Stop.DeviceFault j)) before after k failed rises = elim (which k j) [
+device-told : (stop : Option Stop) (certificates : List Certificate) (before after : List Told) (k : ℕ) → HaveFailed stop before after
+    → (told_at before k).faults < (told_at after k).faults → status_at stop certificates ≡ Status.DeviceFault k
+device-told (Some (Stop.DeviceFault j)) certificates before after k failed rises = elim (which k j) [
   | inl e ↦ ap Status.DeviceFault (sym e)
   | inr other ↦ absurd (let stayed = failed.others k other in omega (arith, stayed, rises))
 ]
-device-told None before after k none rises = none-told before after Status.NoMemory k none rises
-device-told (Some Stop.Finished) before after k none rises = none-told before after Status.Finished k none rises
-device-told (Some Stop.Blocked) before after k none rises = none-told before after Status.Blocked k none rises
-device-told (Some Stop.Spent) before after k none rises = none-told before after Status.Spent k none rises
-device-told (Some (Stop.Tall n)) before after k none rises = none-told before after Status.Tall k none rises
-device-told (Some Stop.NoMemory) before after k none rises = none-told before after Status.NoMemory k none rises
-device-told (Some Stop.WriteFault) before after k none rises = none-told before after Status.WriteFault k none rises
+device-told stop certificates before after k none rises = absurd (let stayed = none k in omega (arith, stayed, rises))
 
--- What a text must give
+-- What an input must give
 
-data Due (text : Text) (devices : ℕ) (status : Status) : Type 0 where
-  is_long : status ≡ Status.Text too_long → whole_limit < length text → Due text devices status
-  is_unread : (fault : TextFault) → status ≡ Status.Text fault → IsNoProgram text fault → length text ≤ whole_limit → Due text devices status
-  is_refused : (fault : TypeFault) → status ≡ Status.Types fault → IsIllTyped text devices fault → length text ≤ whole_limit → Due text devices status
-  is_run : TellsEnd status → IsAcceptedText text devices → length text ≤ whole_limit → Due text devices status
-  lacks : status ≡ Status.NoMemory → Due text devices status
+data Due (command : Command) (bytes : List ℕ) (devices : ℕ) (status : Status) : Type 0 where
+  is_long : status ≡ Status.TooLong → whole_limit < length bytes → Due command bytes devices status
+  is_declined : Declines command bytes status → length bytes ≤ whole_limit → Due command bytes devices status
+  is_unread : (front : Front) (text : Text) (fault : TextFault) → status ≡ Status.Text fault → Takes command bytes front text → IsNoProgram text fault
+      → length bytes ≤ whole_limit → Due command bytes devices status
+  is_refused : (front : Front) (text : Text) (fault : TypeFault) → status ≡ Status.Types fault → Takes command bytes front text
+      → IsIllTyped text devices fault → length bytes ≤ whole_limit → Due command bytes devices status
+  is_run : (front : Front) (text : Text) → TellsEnd status → Takes command bytes front text → IsAcceptedText text devices
+      → length bytes ≤ whole_limit → Due command bytes devices status
+  lacks : status ≡ Status.NoMemory → Due command bytes devices status
 
 err-ok : {A E : Type 0} (r : Result A E) (x : A) (e : E) → r ≡ Ok x → r ≡ Err e → ⊥
 err-ok r x e is bad = let clash : Ok x ≡ Err e = sym is ∙ bad in cc
+
+-- a text that is no program is read as none
+never-reads : (text : Text) (fault : TextFault) (source : Source) → IsNoProgram text fault → reading text ≡ Ok source → ⊥
+never-reads text (TextFault.Lexical LexFault.NoMemory) source none reads = none
+never-reads text (TextFault.Syntactic ParseFault.NoMemory) source none reads = none
+never-reads text fault source none reads = err-ok (reading text) source (why_of fault) reads none
 
 -- a program of a text that is read is that one
 typed-same : (text : Text) (devices : ℕ) (one other : Source) (fault : PlainFault) → reading text ≡ Ok one → reading text ≡ Ok other
@@ -100,176 +97,227 @@ typed-same text devices one other fault reads again typed breaks =
     let same : one ≡ other = cc in
     err-ok (typing devices other.places other.tree) Typ.Unit fault (subst (λ (s : Source). typing devices s.places s.tree ≡ Ok Typ.Unit) same typed) breaks
 
-module _ (text : Text) (devices : ℕ) (status : Status) where
-  due-long : whole_limit < length text → Due text devices status → IsUnlessMemory (Status.Text too_long) status
+module _ (command : Command) (bytes : List ℕ) (devices : ℕ) (status : Status) where
+  due-long : whole_limit < length bytes → Due command bytes devices status → IsUnlessMemory Status.TooLong status
   due-long over (is_long e long) = inl e
-  due-long over (is_unread fault e unread most) = absurd (omega (arith, over, most))
-  due-long over (is_refused fault e ill most) = absurd (omega (arith, over, most))
-  due-long over (is_run run accepted most) = absurd (omega (arith, over, most))
+  due-long over (is_declined d most) = absurd (omega (arith, over, most))
+  due-long over (is_unread f t fault e takes unread most) = absurd (omega (arith, over, most))
+  due-long over (is_refused f t fault e takes ill most) = absurd (omega (arith, over, most))
+  due-long over (is_run f t run takes accepted most) = absurd (omega (arith, over, most))
   due-long over (lacks e) = inr e
 
-  due-unread : length text ≤ whole_limit → IsUnread text → Due text devices status → TellsFault text status
-  due-unread short un (is_long e long) = absurd (omega (arith, short, long))
-  due-unread short un (is_unread fault e unread most) = subst (TellsFault text) (sym e) unread
-  due-unread short un (is_refused fault e ill most) = absurd (err-ok (reading text) ill.source un.why ill.reads un.reads)
-  due-unread short un (is_run run accepted most) = absurd (err-ok (reading text) accepted.source un.why accepted.reads un.reads)
-  due-unread short un (lacks e) = subst (TellsFault text) (sym e) tt
+  due-declined : length bytes ≤ whole_limit → (told : Status) → Declines command bytes told → Due command bytes devices status → IsUnlessMemory told status
+  due-declined short told d (is_long e long) = absurd (omega (arith, short, long))
+  due-declined short told d (is_declined other most) = inl (declines-one command bytes status told other d)
+  due-declined short told d (is_unread f t fault e takes unread most) = absurd (takes-none command bytes f t told takes d)
+  due-declined short told d (is_refused f t fault e takes ill most) = absurd (takes-none command bytes f t told takes d)
+  due-declined short told d (is_run f t run takes accepted most) = absurd (takes-none command bytes f t told takes d)
+  due-declined short told d (lacks e) = inr e
 
-  due-refused : length text ≤ whole_limit → IsRefused text devices → Due text devices status → TellsRule text devices status
-  due-refused short bad (is_long e long) = absurd (omega (arith, short, long))
-  due-refused short bad (is_unread fault e unread most) = absurd (err-ok (reading text) bad.source unread.why bad.reads unread.reads)
-  due-refused short bad (is_refused fault e ill most) = subst (TellsRule text devices) (sym e) ill
-  due-refused short bad (is_run run accepted most) =
-      absurd (typed-same text devices accepted.source bad.source bad.fault accepted.reads bad.reads accepted.typed bad.breaks)
-  due-refused short bad (lacks e) = subst (TellsRule text devices) (sym e) tt
+  module _ (short : length bytes ≤ whole_limit) (front : Front) (text : Text) (takes : Takes command bytes front text) where
+    same : (other : Front) (also : Text) → Takes command bytes other also → also ≡ text
+    same other also again = takes-one command bytes other front also text again takes
 
-  due-accepted : length text ≤ whole_limit → IsAcceptedText text devices → Due text devices status → TellsEnd status
-  due-accepted short good (is_long e long) = absurd (omega (arith, short, long))
-  due-accepted short good (is_unread fault e unread most) = absurd (err-ok (reading text) good.source unread.why good.reads unread.reads)
-  due-accepted short good (is_refused fault e ill most) =
-      absurd (typed-same text devices good.source ill.source _ good.reads ill.reads good.typed ill.is)
-  due-accepted short good (is_run run accepted most) = run
-  due-accepted short good (lacks e) = subst TellsEnd (sym e) tt
+    due-unread : IsUnread text → Due command bytes devices status → TellsFault text status
+    due-unread un (is_long e long) = absurd (omega (arith, short, long))
+    due-unread un (is_declined d most) = absurd (takes-none command bytes front text status takes d)
+    due-unread un (is_unread f t fault e again unread most) =
+        subst (TellsFault text) (sym e) (subst (λ (l : Text). IsNoProgram l fault) (same f t again) unread)
+    due-unread un (is_refused f t fault e again ill most) =
+        absurd (err-ok (reading text) ill.source un.why (subst (λ (l : Text). reading l ≡ Ok ill.source) (same f t again) ill.reads) un.reads)
+    due-unread un (is_run f t run again accepted most) =
+        absurd (err-ok (reading text) accepted.source un.why (subst (λ (l : Text). reading l ≡ Ok accepted.source) (same f t again) accepted.reads) un.reads)
+    due-unread un (lacks e) = subst (TellsFault text) (sym e) tt
+
+    due-refused : IsRefused text devices → Due command bytes devices status → TellsRule text devices status
+    due-refused bad (is_long e long) = absurd (omega (arith, short, long))
+    due-refused bad (is_declined d most) = absurd (takes-none command bytes front text status takes d)
+    due-refused bad (is_unread f t fault e again unread most) =
+        absurd (never-reads text fault bad.source (subst (λ (l : Text). IsNoProgram l fault) (same f t again) unread) bad.reads)
+    due-refused bad (is_refused f t fault e again ill most) =
+        subst (TellsRule text devices) (sym e) (subst (λ (l : Text). IsIllTyped l devices fault) (same f t again) ill)
+    due-refused bad (is_run f t run again accepted most) =
+        absurd (typed-same text devices accepted.source bad.source bad.fault
+        (subst (λ (l : Text). reading l ≡ Ok accepted.source) (same f t again) accepted.reads) bad.reads accepted.typed bad.breaks)
+    due-refused bad (lacks e) = subst (TellsRule text devices) (sym e) tt
+
+    due-accepted : IsAcceptedText text devices → Due command bytes devices status → TellsEnd status
+    due-accepted good (is_long e long) = absurd (omega (arith, short, long))
+    due-accepted good (is_declined d most) = absurd (takes-none command bytes front text status takes d)
+    due-accepted good (is_unread f t fault e again unread most) =
+        absurd (never-reads text fault good.source (subst (λ (l : Text). IsNoProgram l fault) (same f t again) unread) good.reads)
+    due-accepted good (is_refused f t fault e again ill most) =
+        absurd (typed-same text devices good.source ill.source _ good.reads
+        (subst (λ (l : Text). reading l ≡ Ok ill.source) (same f t again) ill.reads) good.typed ill.is)
+    due-accepted good (is_run f t run again accepted most) = run
+    due-accepted good (lacks e) = subst TellsEnd (sym e) tt
 
 -- Where no run was begun
 
-abbrev fault_at : ℕ → TextKind → TextFault
-fault_at place kind = record { place = place; kind = kind }
-
-long-is : (fault : TextFault) → fault.kind ≡ TextKind.TooLong → fault.place ≡ whole_limit → fault ≡ too_long
-long-is fault kind place = ap (fault_at fault.place) kind ∙ ap (λ (p : ℕ). fault_at p TextKind.TooLong) place
-
-short-as : (asked text : Text) → asked ≡ text → length asked ≤ whole_limit → length text ≤ whole_limit
-short-as asked text same most = subst (λ (t : Text). length t ≤ whole_limit) same most
-
 run-text : (status : Status) → TellsEnd status → TellsText status
 run-text Status.Finished run = tt
-run-text Status.Blocked run = tt
+run-text (Status.Blocked number) run = tt
 run-text Status.Spent run = tt
-run-text Status.Tall run = tt
+run-text (Status.Tall number) run = tt
 run-text Status.NoMemory run = tt
-run-text Status.Usage run = absurd run
-run-text Status.ReadFault run = absurd run
-run-text Status.WriteFault run = absurd run
-run-text (Status.DeviceFault device) run = absurd run
-run-text (Status.Text fault) run = absurd run
-run-text (Status.Types fault) run = absurd run
+run-text status run = absurd run
 
-module _ (call : Call) (told : Status) where
-  usage-refusal : SpellsNothing call.words → Refusal call told → IsUnlessMemory Status.Usage told
-  usage-refusal nothing (by_words e u) = inl e
-  usage-refusal nothing (by_source e r) = absurd (nothing (Command.Run r.options) r.words)
-  usage-refusal nothing (by_length fault e kind long) = absurd (nothing (Command.Run long.options) long.words)
-  usage-refusal nothing (by_text fault e un) = absurd (nothing un.asked.command un.asked.spelled)
-  usage-refusal nothing (by_types fault e ill) = absurd (nothing ill.asked.command ill.asked.spelled)
-  usage-refusal nothing (by_memory e c) = inr e
+asked-stays : (call : Call) (command : Command) (front : Front) (text : Text) → Asks call command front text → call.source_after.faults ≡ call.source.faults
+asked-stays call command front text asked =
+    input-stays (reads_source command) call.source call.source_after asked.text_is.bytes asked.text_is.input
 
-  text-refusal : (command : Command) → SpellsCommand call.words command → HasNotRisen call.source.faults call.source_after.faults → Refusal call told
-      → TellsText told
-  text-refusal command spelled still (by_words e u) = absurd (u.words command spelled)
-  text-refusal command spelled still (by_source e r) = absurd (HasNotRisen-excludes call.source.faults call.source_after.faults still r.faults)
-  text-refusal command spelled still (by_length fault e kind long) = subst TellsText (sym e) tt
-  text-refusal command spelled still (by_text fault e un) = subst TellsText (sym e) tt
-  text-refusal command spelled still (by_types fault e ill) = subst TellsText (sym e) tt
-  text-refusal command spelled still (by_memory e c) = subst TellsText (sym e) tt
+module _ (one : SpellOne) (call : Call) (report : Text) where
+  usage-refusal : (ahead : List ℕ) (told : Status) → SpellsNothing call.words → RefusalCause call report ahead told → IsUnlessMemory Status.Usage told
+  usage-refusal ahead told nothing (by_words u) = inl refl
+  usage-refusal ahead told nothing (by_source r) = absurd (nothing r.reader.command r.reader.spelled)
+  usage-refusal ahead told nothing (by_length long) = absurd (nothing long.reader.command long.reader.spelled)
+  usage-refusal ahead told nothing (by_input other d) = absurd (nothing d.command d.spelled)
+  usage-refusal ahead told nothing (by_text fault un) = absurd (nothing un.command un.asked.spelled)
+  usage-refusal ahead told nothing (by_types fault ill) = absurd (nothing ill.command ill.asked.spelled)
+  usage-refusal ahead told nothing (by_memory c) = inr refl
 
-  asked-stays : (options : Options) (text : Text) → Asks call options text → call.source_after.faults ≡ call.source.faults
-  asked-stays options text asked = source-stays asked.command call.source call.source_after text asked.text_is
+  text-refusal : (ahead : List ℕ) (told : Status) (command : Command) → SpellsCommand call.words command
+      → HasNotRisen call.source.faults call.source_after.faults → RefusalCause call report ahead told → TellsInput command told
+  text-refusal ahead told command spelled still (by_words u) = absurd (u.words command spelled)
+  text-refusal ahead told command spelled still (by_source r) = absurd (HasNotRisen-excludes call.source.faults call.source_after.faults still r.faults)
+  text-refusal ahead told command spelled still (by_length long) = inl tt
+  text-refusal ahead told command spelled still (by_input other d) =
+      inr (d.bytes, subst (λ (k : Command). Declines k d.bytes other) (one call.words d.command command d.spelled spelled) d.declines)
+  text-refusal ahead told command spelled still (by_text fault un) = inl tt
+  text-refusal ahead told command spelled still (by_types fault ill) = inl tt
+  text-refusal ahead told command spelled still (by_memory c) = inl tt
 
-  source-refusal : call.source.faults < call.source_after.faults → Refusal call told → told ≡ Status.ReadFault
-  source-refusal rises (by_words e u) = absurd (let stayed = ap (λ (g : Given). g.faults) u.source in omega (arith, stayed, rises))
-  source-refusal rises (by_source e r) = e
-  source-refusal rises (by_length fault e kind long) = absurd (let stayed = long.faults in omega (arith, stayed, rises))
-  source-refusal rises (by_text fault e un) = absurd (let stayed = asked-stays un.options un.text un.asked in omega (arith, stayed, rises))
-  source-refusal rises (by_types fault e ill) = absurd (let stayed = asked-stays ill.options ill.text ill.asked in omega (arith, stayed, rises))
-  source-refusal rises (by_memory e c) = absurd (let stayed = c.faults in omega (arith, stayed, rises))
+  source-refusal : (ahead : List ℕ) (told : Status) → call.source.faults < call.source_after.faults → RefusalCause call report ahead told → told ≡ Status.ReadFault
+  source-refusal ahead told rises (by_words u) = absurd (let stayed = ap (λ (g : Given). g.faults) u.source in omega (arith, stayed, rises))
+  source-refusal ahead told rises (by_source r) = refl
+  source-refusal ahead told rises (by_length long) = absurd (let stayed = long.faults in omega (arith, stayed, rises))
+  source-refusal ahead told rises (by_input other d) =
+      absurd (let stayed = input-stays (reads_source d.command) call.source call.source_after d.bytes d.input in omega (arith, stayed, rises))
+  source-refusal ahead told rises (by_text fault un) = absurd (let stayed = asked-stays call un.command un.front report un.asked in omega (arith, stayed, rises))
+  source-refusal ahead told rises (by_types fault ill) = absurd (let stayed = asked-stays call ill.command ill.front report ill.asked in omega (arith, stayed, rises))
+  source-refusal ahead told rises (by_memory c) = absurd (let stayed = c.faults in omega (arith, stayed, rises))
 
 -- Where a run was begun, or none
 
 module _ (call : Call) (before after : Ends) (n : NothingFailed call before after) where
-  run-told : (told : Status) (number : ℕ) (options : Options) (end : End Val) (r : Replayed) → RunCause told number options end r before after → TellsEnd told
-  run-told Status.Finished number options end r c = tt
-  run-told Status.Blocked number options end r c = tt
-  run-told Status.Spent number options end r c = tt
-  run-told Status.Tall number options end r c = tt
-  run-told Status.NoMemory number options end r c = tt
-  run-told (Status.DeviceFault k) number options end r c =
+  run-told : (told : Status) (options : Options) (end : End Val) (r : Replayed) → RunCause told options end r before after → TellsEnd told
+  run-told Status.Finished options end r c = tt
+  run-told (Status.Blocked number) options end r c = tt
+  run-told Status.Spent options end r c = tt
+  run-told (Status.Tall number) options end r c = tt
+  run-told Status.NoMemory options end r c = tt
+  run-told (Status.DeviceFault k) options end r c =
       absurd (HasNotRisen-excludes (told_at before.told k).faults (told_at after.told k).faults (n.devices k) c.faults)
-  run-told Status.WriteFault number options end r c = absurd (HasNotRisen-excludes before.write_faults after.write_faults n.sink c)
-  run-told Status.Usage number options end r c = absurd c
-  run-told Status.ReadFault number options end r c = absurd c
-  run-told (Status.Text fault) number options end r c = absurd c
-  run-told (Status.Types fault) number options end r c = absurd c
+  run-told Status.WriteFault options end r c = absurd (HasNotRisen-excludes before.write_faults after.write_faults n.sink c)
+  run-told told options end r c = absurd c
 
-module _ (one : SpellOne) (call : Call) (before after : Ends) (n : NothingFailed call before after) (text : Text) (given : IsGivenText call text) where
-  same-text : (options : Options) (asked : Text) → Asks call options asked → asked ≡ text
-  same-text options asked asks = asked-given one call text given options asked asks
+module _ (one : SpellOne) (call : Call) (before after : Ends) (n : NothingFailed call before after) (bytes : List ℕ) (given : IsGiven call bytes) where
+  due-refusal : (report : Text) (ahead : List ℕ) (told : Status) → RefusalCause call report ahead told → Due given.command bytes call.devices told
+  due-refusal report ahead told (by_words u) = absurd (u.words given.command given.spelled)
+  due-refusal report ahead told (by_source r) = absurd (HasNotRisen-excludes call.source.faults call.source_after.faults n.source r.faults)
+  due-refusal report ahead told (by_length long) = is_long refl (given-more one call bytes given whole_limit long.reader long.given)
+  due-refusal report ahead told (by_input other d) =
+      let same = input-given one call bytes given d.command d.spelled d.bytes d.input in
+      is_declined (subst (λ (k : Command). Declines k bytes other) (command-is one call bytes given d.command d.spelled)
+      (subst (λ (l : List ℕ). Declines d.command l other) same d.declines)) (subst (λ (l : List ℕ). length l ≤ whole_limit) same d.most)
+  due-refusal report ahead told (by_text fault un) =
+      is_unread un.front report fault refl (asked-takes one call bytes given un.command un.front report un.asked) un.cause
+      (asked-most one call bytes given un.command un.front report whole_limit un.asked un.asked.text_is.most)
+  due-refusal report ahead told (by_types fault ill) =
+      is_refused ill.front report fault refl (asked-takes one call bytes given ill.command ill.front report ill.asked) ill.cause
+      (asked-most one call bytes given ill.command ill.front report whole_limit ill.asked ill.asked.text_is.most)
+  due-refusal report ahead told (by_memory c) = lacks refl
 
-  due-refusal : (told : Status) → Refusal call told → Due text call.devices told
-  due-refusal told (by_words e u) = absurd (u.words given.command given.spelled)
-  due-refusal told (by_source e r) = absurd (HasNotRisen-excludes call.source.faults call.source_after.faults n.source r.faults)
-  due-refusal told (by_length fault e kind long) =
-      is_long (e ∙ ap Status.Text (long-is fault kind long.limit)) (given-more one call text given long.options whole_limit long.words long.given)
-  due-refusal told (by_text fault e un) =
-      let same = same-text un.options un.text un.asked in
-      is_unread fault e (subst (λ (t : Text). IsNoProgram t fault) same un.cause) (short-as un.text text same un.asked.most)
-  due-refusal told (by_types fault e ill) =
-      let same = same-text ill.options ill.text ill.asked in
-      is_refused fault e (subst (λ (t : Text). IsIllTyped t call.devices fault) same ill.cause) (short-as ill.text text same ill.asked.most)
-  due-refusal told (by_memory e c) = lacks e
-
-  due-run : (status : Status) (code : Option FlatCode) (end : End Val) → Headline call status code end before after → Due text call.devices status
-  due-run status code end h =
-      let same = same-text h.options h.text h.asked in
-      let spoken = h.spoken (sink-held status (lines h.final.state.output ++ verdict_of end) before after h.output n.sink) in
-      let run = run-told call before after n (status_of end.stop) (number_told end) h.options end h.final h.cause in
-      is_run (subst TellsEnd (sym spoken) run) (record {
-        source = source_of h.compiled.accepted.program;
-        reads = subst (λ (t : Text). reading t ≡ Ok (source_of h.compiled.accepted.program)) same h.program.reads;
-        typed = h.program.typed;
-      }) (short-as h.text text same h.asked.most)
+  due-run : (report : Reported) (end : End Val) → Headline call report end before after → Due given.command bytes call.devices report.status
+  due-run report end h =
+      let spoken = h.spoken (sink-held report.status (lines h.final.state.output ++ (verdict_of end ++ behind h.command report.own (status_of end))) before after h.output n.sink) in
+      let run = run-told call before after n (status_of end) h.options end h.final h.cause in
+      is_run h.front h.text (subst TellsEnd (sym spoken) run) (asked-takes one call bytes given h.command h.front h.text h.asked)
+      (record { source = source_of h.compiled.accepted.program; reads = h.program.reads; typed = h.program.typed })
+      (asked-most one call bytes given h.command h.front h.text whole_limit h.asked h.asked.text_is.most)
 
 -- Both
 
-module _ (one : SpellOne) (call : Call) (status : Status) (code : Option FlatCode) (before after : Ends) where
-  complete-run : (end : End Val) → Headline call status code end before after → IsComplete call status before after
+-- what is due is told
+module _ (one : SpellOne) (call : Call) (status : Status) (before after : Ends)
+    (due : (n : NothingFailed call before after) (bytes : List ℕ) (given : IsGiven call bytes) → Due given.command bytes call.devices status) where
+  told-long : NothingFailed call before after → (bytes : List ℕ) → IsGiven call bytes → whole_limit < length bytes → IsUnlessMemory Status.TooLong status
+  told-long n bytes given over = due-long given.command bytes call.devices status over (due n bytes given)
+
+  told-declined : NothingFailed call before after → (told : Status) → IsGivenInVain call told → IsUnlessMemory told status
+  told-declined n told v = due-declined v.given.command v.bytes call.devices status v.most told v.declines (due n v.bytes v.given)
+
+  told-unread : NothingFailed call before after → (text : Text) → IsGivenText call text → IsUnread text → TellsFault text status
+  told-unread n text g un = due-unread g.given.command g.bytes call.devices status g.most g.front text g.takes un (due n g.bytes g.given)
+
+  told-refused : NothingFailed call before after → (text : Text) → IsGivenText call text → IsRefused text call.devices → TellsRule text call.devices status
+  told-refused n text g bad = due-refused g.given.command g.bytes call.devices status g.most g.front text g.takes bad (due n g.bytes g.given)
+
+  told-accepted : NothingFailed call before after → (text : Text) → IsGivenText call text → IsAcceptedText text call.devices → TellsEnd status
+  told-accepted n text g good = due-accepted g.given.command g.bytes call.devices status g.most g.front text g.takes good (due n g.bytes g.given)
+
+module _ (one : SpellOne) (call : Call) (report : Reported) (before after : Ends) where
+  complete-run : (end : End Val) → Headline call report end before after → IsComplete call report.status before after
   complete-run end h =
-      let held = sink-held status (lines h.final.state.output ++ verdict_of end) before after h.output in
+      let written = lines h.final.state.output ++ (verdict_of end ++ behind h.command report.own (status_of end)) in
+      let held = sink-held report.status written before after h.output in
+      let due : (n : NothingFailed call before after) (bytes : List ℕ) (given : IsGiven call bytes) → Due given.command bytes call.devices report.status =
+      λ n bytes given. due-run one call before after n bytes given report end h in
       record {
-        usage = λ n nothing. absurd (nothing h.asked.command h.asked.spelled);
-        spelled = λ n command words. subst TellsText (sym (h.spoken (held n.sink)))
-            (run-text (status_of end.stop) (run-told call before after n (status_of end.stop) (number_told end) h.options end h.final h.cause));
-        long = λ n text given over. due-long text call.devices status over (due-run one call before after n text given status code end h);
-        unread = λ n text given un. due-unread text call.devices status given.most un (due-run one call before after n text given.given status code end h);
-        refused = λ n text given bad. due-refused text call.devices status given.most bad (due-run one call before after n text given.given status code end h);
-        accepted = λ n text given good. due-accepted text call.devices status given.most good (due-run one call before after n text given.given status code end h);
-        sink_failed = sink-told status (lines h.final.state.output ++ verdict_of end) before after h.output;
-        device_failed = λ still k rises. h.spoken (held still) ∙ device-told end.stop before.told after.told k h.devices.failed rises;
-        source_failed = λ still rises. absurd (let stayed = asked-stays call status h.options h.text h.asked in omega (arith, stayed, rises));
+        usage = λ n nothing. absurd (nothing h.command h.asked.spelled);
+        spelled = λ n command words. inl (subst TellsText (sym (h.spoken (held n.sink)))
+            (run-text (status_of end) (run-told call before after n (status_of end) h.options end h.final h.cause)));
+        long = told-long one call report.status before after due;
+        declined = told-declined one call report.status before after due;
+        unread = told-unread one call report.status before after due;
+        refused = told-refused one call report.status before after due;
+        accepted = told-accepted one call report.status before after due;
+        sink_failed = sink-told report.status written before after h.output;
+        device_failed = λ still k rises. h.spoken (held still) ∙ device-told end.stop end.certificates before.told after.told k h.devices.failed rises;
+        source_failed = λ still rises. absurd (let stayed = asked-stays call h.command h.front h.text h.asked in omega (arith, stayed, rises));
       }
 
-  complete-turned : IsTurnedAway call status code before after → IsComplete call status before after
+  complete-turned : IsTurnedAway call report before after → IsComplete call report.status before after
   complete-turned t =
-      let held = sink-held status (verdict t.told 0) before after t.alone.output in
-      let why = refusal call t.told t.cause in
-      let due : (n : NothingFailed call before after) (text : Text) → IsGivenText call text → Due text call.devices status =
-      λ n text given. subst (Due text call.devices) (sym (t.alone.spoken (held n.sink))) (due-refusal one call before after n text given t.told why) in
+      let held = sink-held report.status (t.ahead ++ verdict t.told) before after t.alone.output in
+      let due : (n : NothingFailed call before after) (bytes : List ℕ) (given : IsGiven call bytes) → Due given.command bytes call.devices report.status =
+      λ n bytes given. subst (Due given.command bytes call.devices) (sym (t.alone.spoken (held n.sink)))
+      (due-refusal one call before after n bytes given report.text t.ahead t.told t.cause) in
       record {
-        usage = λ n nothing. subst (IsUnlessMemory Status.Usage) (sym (t.alone.spoken (held n.sink))) (usage-refusal call t.told nothing why);
-        spelled = λ n command words. subst TellsText (sym (t.alone.spoken (held n.sink))) (text-refusal call t.told command words n.source why);
-        long = λ n text given over. due-long text call.devices status over (due n text given);
-        unread = λ n text given un. due-unread text call.devices status given.most un (due n text given.given);
-        refused = λ n text given bad. due-refused text call.devices status given.most bad (due n text given.given);
-        accepted = λ n text given good. due-accepted text call.devices status given.most good (due n text given.given);
-        sink_failed = sink-told status (verdict t.told 0) before after t.alone.output;
+        usage = λ n nothing. subst (IsUnlessMemory Status.Usage) (sym (t.alone.spoken (held n.sink))) (usage-refusal one call report.text t.ahead t.told nothing t.cause);
+        spelled = λ n command words. subst (TellsInput command) (sym (t.alone.spoken (held n.sink)))
+            (text-refusal one call report.text t.ahead t.told command words n.source t.cause);
+        long = told-long one call report.status before after due;
+        declined = told-declined one call report.status before after due;
+        unread = told-unread one call report.status before after due;
+        refused = told-refused one call report.status before after due;
+        accepted = told-accepted one call report.status before after due;
+        sink_failed = sink-told report.status (t.ahead ++ verdict t.told) before after t.alone.output;
         device_failed = λ still k rises. absurd (
             let stayed = ap (λ (devices : List Told). (told_at devices k).faults) t.alone.devices in
             omega (arith, stayed, rises)
             );
-        source_failed = λ still rises. t.alone.spoken (held still) ∙ source-refusal call t.told rises why;
+        source_failed = λ still rises. t.alone.spoken (held still) ∙ source-refusal one call report.text t.ahead t.told rises t.cause;
       }
 
-  pub complete : (ended : Option (End Val)) → IfSome ended (λ end. Headline call status code end before after)
-      → (ended ≡ None → IsTurnedAway call status code before after) → IsComplete call status before after
-  complete None ran turned = complete-turned (turned refl)
-  complete (Some end) ran turned = complete-run end ran
+  -- a run was begun, and its headline holds
+  pub answered-run : (ended : Option (End Val)) → IsSome ended → IfSome ended (λ end. Headline call report end before after)
+      → IsAnswered call report ended before after
+  answered-run None some ran = absurd (cc)
+  answered-run (Some end) some ran = record {
+    ran = ran;
+    turned_away = λ e. absurd (cc);
+    complete = complete-run end ran;
+    short = subst (λ (l : Text). length l ≤ whole_limit) (sym ran.text_is) ran.asked.most;
+  }
+
+  -- none was
+  pub answered-turned : (ended : Option (End Val)) → ended ≡ None → length report.text ≤ whole_limit → IsTurnedAway call report before after
+      → IsAnswered call report ended before after
+  answered-turned None none short turned = record { ran = tt; turned_away = λ _. turned; complete = complete-turned turned; short = short }
+  answered-turned (Some end) none short turned = absurd (cc)
+
+  pub answered : (ended : Option (End Val)) → length report.text ≤ whole_limit → IfSome ended (λ end. Headline call report end before after)
+      → (ended ≡ None → IsTurnedAway call report before after) → IsAnswered call report ended before after
+  answered None short ran turned = answered-turned None refl short (turned refl)
+  answered (Some end) short ran turned = answered-run (Some end) refl ran

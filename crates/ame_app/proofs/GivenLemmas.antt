@@ -1,14 +1,16 @@
--- The text that words ask for is the one that they give.
-use Rattle.std.proofs.Common.{◌≡◌, ℕ, ◌+◌, ◌<◌, ◌≤◌, List, ◌++◌, length, Option, Some, None, sym, ap, ◌∙◌, subst, arith, append-nil}
+-- The input of words is what they are given.
+use Rattle.std.proofs.Common.{◌≡◌, ℕ, ◌+◌, ◌<◌, ◌≤◌, Bool, true, false, List, ◌++◌, length, Option, Some, None, sym, ap, ◌∙◌, subst, arith, append-nil}
 use Rattle.std.proofs.lemmas.List.{length-append}
 use Rattle.std.specs.Io.KnownBytes.{Consumes}
 use Rattle.ame_io.specs.Reads.{IsReadWhole, GivesMoreThan}
 use Rattle.ame_lex.specs.Bytes.{Text}
-use Rattle.ame_cli.specs.declared.command.Options.{Options}
 use Rattle.ame_cli.specs.declared.command.Command.{Command}
 use Rattle.ame_cli.specs.Grammar.{SpellsCommand}
-use Rattle.ame_app.specs.Calls.{Given, Call, Asks, IsTextOf}
-use Rattle.ame_app.specs.Complete.{IsTextGiven, IsGivenText}
+use Rattle.ame_app.specs.declared.parts.Front.{Front}
+use Rattle.ame_app.specs.Verbs.{reads_source, Takes}
+use Rattle.ame_app.specs.Calls.{Given, Call, IsInput, Asks}
+use Rattle.ame_app.specs.Causes.{IsReader}
+use Rattle.ame_app.specs.Complete.{IsGivenBy, IsGiven}
 use Rattle.ame_app.proofs.TurnedLemmas.{SpellOne}
 
 some-same : (xs text : List ℕ) → Some xs ≡ Some text → xs ≡ text
@@ -29,21 +31,44 @@ taken-within (Some xs) (Some ys) bytes text taken e =
     let all : length bytes + length ys ≡ length text = sym (length-append bytes ys) ∙ ap length (sym taken ∙ some-same xs text e) in
     omega (arith, all)
 
-text-of : (command : Command) (source after : Given) (asked text : Text) → IsTextOf command source after asked → IsTextGiven command source text → asked ≡ text
-text-of (Command.Run options) source after asked text t given = whole-is source.left after.left asked text t.0 given
-text-of (Command.Bench seed size options) source after asked text t given = t.0 ∙ sym given
+input-is : (reads : Bool) (source after : Given) (bytes given : List ℕ) → IsInput reads source after bytes → IsGivenBy reads source given → bytes ≡ given
+input-is true source after bytes given input is = whole-is source.left after.left bytes given input.whole is
+input-is false source after bytes given input is = input.0 ∙ sym is
 
-module _ (one : SpellOne) (call : Call) (text : Text) (given : IsGivenText call text) where
-  given-as : (command : Command) → SpellsCommand call.words command → IsTextGiven command call.source text
-  given-as command spelled = subst (λ (k : Command). IsTextGiven k call.source text) (one call.words given.command command given.spelled spelled) given.given
+more-is : (reads : Bool) (source after : Given) (limit : ℕ) (given : List ℕ) → reads ≡ true → GivesMoreThan limit source.left after.left
+    → IsGivenBy reads source given → limit < length given
+more-is true source after limit given e more is =
+    let over = more.more in
+    let within = taken-within source.left after.left more.bytes given more.taken is in
+    omega (arith, over, within)
+more-is false source after limit given e more is = absurd (cc)
 
-  pub asked-given : (options : Options) (asked : Text) → Asks call options asked → asked ≡ text
-  asked-given options asked asks =
-      text-of asks.command call.source call.source_after asked text asks.text_is (given-as asks.command asks.spelled)
+module _ (one : SpellOne) (call : Call) (given : List ℕ) (is : IsGiven call given) where
+  -- words that spell a command spell that one
+  pub command-is : (command : Command) → SpellsCommand call.words command → command ≡ is.command
+  command-is command spelled = one call.words command is.command spelled is.spelled
 
-  pub given-more : (options : Options) (limit : ℕ) → SpellsCommand call.words (Command.Run options) → GivesMoreThan limit call.source.left call.source_after.left
-      → limit < length text
-  given-more options limit spelled more =
-      let over = more.more in
-      let within = taken-within call.source.left call.source_after.left more.bytes text more.taken (given-as (Command.Run options) spelled) in
-      omega (arith, over, within)
+  given-as : (command : Command) → SpellsCommand call.words command → IsGivenBy (reads_source command) call.source given
+  given-as command spelled = subst (λ (k : Command). IsGivenBy (reads_source k) call.source given) (sym (command-is command spelled)) is.given
+
+  -- what is taken as input is what is given
+  pub input-given : (command : Command) → SpellsCommand call.words command → (bytes : List ℕ)
+      → IsInput (reads_source command) call.source call.source_after bytes → bytes ≡ given
+  input-given command spelled bytes input =
+      input-is (reads_source command) call.source call.source_after bytes given input (given-as command spelled)
+
+  -- and a command that asks takes that
+  pub asked-takes : (command : Command) (front : Front) (text : Text) → Asks call command front text → Takes is.command given front text
+  asked-takes command front text asked =
+      subst (λ (k : Command). Takes k given front text) (command-is command asked.spelled)
+      (subst (λ (l : List ℕ). Takes command l front text) (input-given command asked.spelled asked.text_is.bytes asked.text_is.input) asked.text_is.takes)
+
+  pub asked-most : (command : Command) (front : Front) (text : Text) (limit : ℕ) → (asked : Asks call command front text)
+      → length asked.text_is.bytes ≤ limit → length given ≤ limit
+  asked-most command front text limit asked most =
+      subst (λ (l : List ℕ). length l ≤ limit) (input-given command asked.spelled asked.text_is.bytes asked.text_is.input) most
+
+  -- a source that gives more is given more
+  pub given-more : (limit : ℕ) → (reader : IsReader call) → GivesMoreThan limit call.source.left call.source_after.left → limit < length given
+  given-more limit reader more =
+      more-is (reads_source reader.command) call.source call.source_after limit given reader.reads more (given-as reader.command reader.spelled)

@@ -1,10 +1,10 @@
 pub mod CrossingLemmas
-pub mod TextLemmas
+pub mod VerbLemmas
 pub mod CountLemmas
 pub mod WrittenLemmas
 pub mod TurnedLemmas
-pub mod JobLemmas
+pub mod AskedLemmas
+pub mod CodeLemmas
 pub mod RunLemmas
-pub mod RefusalLemmas
 pub mod GivenLemmas
 pub mod CompleteLemmas

@@ -16,21 +16,25 @@ use Rattle.ame_protocol.specs.declared.types.Limits.{Limits}
 use Rattle.ame_value.specs.declared.val.Val.{Val}
 use Rattle.ame_code.specs.FlatCode.{FlatCode}
 use Rattle.ame_code.specs.Code.{program_of}
-use Rattle.ame_eval.specs.Values.{value_meant}
 use Rattle.ame_cli.specs.declared.command.Options.{Options}
+use Rattle.ame_cli.specs.declared.command.Command.{Command}
+use Rattle.ame_lex.specs.Bytes.{Text}
 use Rattle.ame_protocol.specs.declared.stop.Stop.{Stop}
 use Rattle.ame_protocol.specs.Event.Causes.{NotesStop}
-use Rattle.ame_engine.specs.Ending.{End, CertifyAll, HasStopped}
+use Rattle.ame_engine.specs.Ending.{End, HasStopped}
 use Rattle.ame_shell.specs.Ends.{Ends}
 use Rattle.ame_device.specs.declared.told.Told.{Told}
 use Rattle.ame_shell.specs.Heard.{HaveHeard, HaveFailed}
-use Rattle.ame_shell.specs.Over.{AreOfSeats, IsOver}
+use Rattle.ame_app.specs.declared.parts.Front.{Front}
+use Rattle.ame_app.specs.declared.parts.Own.{Own}
 use Rattle.ame_app.specs.declared.status.Status.{Status}
 use Rattle.ame_app.specs.Calls.{Call}
-use Rattle.ame_app.specs.Causes.{status_of, number_at_stop, number_told, RunCause}
-use Rattle.ame_protocol.specs.Event.Bounds.{HasBounds}
-use Rattle.ame_app.specs.Headline.{limits_of, Headline, IsTypedState, journal_of, verdict_of, IsWritten}
-use Rattle.ame_app.specs.Jobs.{IsJobOf, Speaks}
+use Rattle.ame_app.specs.Causes.{status_at, status_of, RunCause}
+use Rattle.ame_app.specs.Headline.{limits_of, reported, Headline, IsTypedState, journal_of, verdict_of, IsWritten}
+use Rattle.ame_app.specs.Jobs.{IsJobOf, IsMade, Speaks}
+use Rattle.ame_app.specs.Verbs.{behind}
+use Rattle.ame_app.specs.Verdict.{verdict}
+use Rattle.ame_app.proofs.VerbLemmas.{nothing-behind}
 use Rattle.ame_app.proofs.WrittenLemmas.{after-lines, tells-fault, spoken-is}
 use Rattle.ame_app.proofs.CountLemmas.{certified-count}
 
@@ -61,18 +65,13 @@ module _ (limits : Limits) (options : Options) (r : Replayed) (end : End Val) (b
     written : status ≡ Status.WriteFault → HasRisen before.write_faults after.write_faults
     told : end.stop ≡ Some Stop.WriteFault → status ≡ Status.WriteFault
 
-  blocked-cause : IsOrderly r.state → CertifyAll r.state end.certificates → (stop : Option Stop) → end.stop ≡ stop → stop ≡ Some Stop.Blocked
-      → RunCause Status.Blocked (number_at_stop stop end.certificates) options end r before after
-  blocked-cause orderly certified stop is blocked = record {
-    certified = certified;
-    number_is = ap (λ (o : Option Stop). number_at_stop o end.certificates) blocked ∙ certified-count r.state orderly end.certificates certified;
-  }
-
   stop-cause : (status : Status) → Causes status → (stop : Option Stop) → end.stop ≡ stop
-      → RunCause (status_of stop) (number_at_stop stop end.certificates) options end r before after
+      → RunCause (status_at stop end.certificates) options end r before after
   stop-cause status c None e = tt
   stop-cause status c (Some Stop.Finished) e = c.stopped.finished e
-  stop-cause status c (Some Stop.Blocked) e = blocked-cause c.orderly (c.stopped.blocked e) (Some Stop.Blocked) e refl
+  stop-cause status c (Some Stop.Blocked) e =
+      let certified = c.stopped.blocked e in
+      record { certified = certified; number_is = certified-count r.state c.orderly end.certificates certified }
   stop-cause status c (Some Stop.Spent) e =
       let spent = c.stopped.spent e in
       record { turns_are = spent.0 ∙ c.turns; left = spent.1 }
@@ -86,70 +85,72 @@ module _ (limits : Limits) (options : Options) (r : Replayed) (end : End Val) (b
 
 -- The headline
 
--- where a journal begins with nothing, all of it is of the same seats
-seats-of-all : (workers seats : ℕ) (base entries : List Entry) → seats ≡ workers → base ≡ [] → AreOfSeats seats entries → AreOfSeats workers (base ++ entries)
-seats-of-all workers seats base entries same none are =
-    subst (λ (b : List Entry). AreOfSeats workers (b ++ entries)) (sym none)
-    (subst (λ (n : ℕ). AreOfSeats n entries) same are)
-
-module _ (call : Call) (status : Status) (code : FlatCode) (options : Options) (limits : Limits) (end : End Val) (before mid after : Ends)
-    (job : IsJobOf call code options) (over : IsOver (program_of code) limits (value_meant code) before end mid)
-    (speaks : Speaks (status_of end.stop) (number_told end) status mid.written mid.write_faults after.written after.write_faults)
+module _ (call : Call) (status : Status) (text : Text) (code : FlatCode) (command : Command) (front : Front) (own : Own) (end : End Val) (before mid after : Ends)
+    (job : IsJobOf call text code command front) (made : IsMade command front code before own end mid)
+    (speaks : Speaks (status_of end) (verdict_of end ++ behind command own (status_of end)) status mid.written mid.write_faults after.written after.write_faults)
     (kept : after.told ≡ mid.told) where
-  text-written : IsWritten status (lines over.ends.r.state.output ++ verdict_of end) before after
-  text-written = after-lines end.stop before mid after status (number_told end) (lines over.ends.r.state.output) speaks over.sent
+  nothing-more : (told : Status) → told ≡ Status.WriteFault → verdict told ++ behind command own told ≡ []
+  nothing-more told e = ap (λ (t : Status). verdict t ++ behind command own t) e ∙ nothing-behind command own
 
-  is-reached : IsReached call.devices over.ends.r.state
+  text-written : IsWritten status (lines made.over.ends.r.state.output ++ (verdict_of end ++ behind command own (status_of end))) before after
+  text-written =
+      after-lines end.stop end.certificates before mid after status (lines made.over.ends.r.state.output) (verdict_of end ++ behind command own (status_of end))
+      (nothing-more (status_of end)) speaks made.over.sent
+
+  is-reached : IsReached call.devices made.over.ends.r.state
   is-reached =
       replayed-reached call.devices code.accepted.program.places.items (program_of code) job.program.typed code.accepted.program.source
-      (journal_of end) over.ends.r over.ends.replays
+      (journal_of end) made.over.ends.r made.over.ends.replays
 
   have-failed : HaveFailed end.stop before.told after.told
-  have-failed = subst (λ (t : List Told). HaveFailed end.stop before.told t) (sym kept) over.failed
+  have-failed = subst (λ (t : List Told). HaveFailed end.stop before.told t) (sym kept) made.over.failed
 
-  has-causes : limits.turns ≡ options.turns → Causes limits options over.ends.r end before after status
-  has-causes turns = record {
-    turns = turns;
+  has-causes : Causes (limits_of made.options) made.options made.over.ends.r end before after status
+  has-causes = record {
+    turns = refl;
     orderly = is-reached.orderly;
-    stopped = over.ends.stopped;
+    stopped = made.over.ends.stopped;
     failed = have-failed;
     written = λ e. (text-written.front e).1;
-    told = λ e. tells-fault before mid after status (number_told end) (lines over.ends.r.state.output) (subst (λ (o : Option Stop). Speaks (status_of o) (number_told end) status
-        mid.written mid.write_faults after.written after.write_faults) e speaks);
+    told = λ e. tells-fault (verdict_of end ++ behind command own (status_of end)) status mid.written mid.write_faults after.written after.write_faults
+        (subst (λ (t : Status). Speaks t (verdict_of end ++ behind command own (status_of end)) status mid.written mid.write_faults after.written after.write_faults)
+        (ap (λ (o : Option Stop). status_at o end.certificates) e) speaks);
   }
 
-  pub headline : limits ≡ limits_of options → Headline call status (Some code) end before after
-  headline same = let workers : limits.seats ≡ options.workers = ap (λ (l : Limits). l.seats) same in record {
-    options = options;
-    text = job.text;
+  pub headline : Headline call (reported status text (Some code) own) end before after
+  headline = record {
+    command = command;
+    front = front;
+    options = made.options;
+    text = text;
     compiled = code;
-    final = over.ends.r;
+    final = made.over.ends.r;
     asked = job.asked;
+    with_options = made.with_options;
+    text_is = refl;
     program = job.program;
     code_is = refl;
-    begun = over.base;
-    replays = over.ends.replays;
-    seats = seats-of-all options.workers limits.seats end.base end.entries workers over.base over.seats;
+    begun = made.begun;
+    replays = made.over.ends.replays;
+    seats = made.over.seats;
     output = text-written;
-    store = record { stored = over.ends.store; free = over.ends.free };
+    store = record { stored = made.over.ends.store; free = made.over.ends.free };
     typed = is-reached.typed;
     devices = record {
-      heard = subst (λ (es : List Entry). HaveHeard (program_of code) es before.told after.told) (ap (λ (b : List Entry). b ++ end.entries) (sym over.base))
-          (subst (λ (t : List Told). HaveHeard (program_of code) end.entries before.told t) (sym kept) over.heard);
+      heard = subst (λ (es : List Entry). HaveHeard (program_of code) es before.told after.told) (ap (λ (b : List Entry). b ++ end.entries) (sym made.over.base))
+          (subst (λ (t : List Told). HaveHeard (program_of code) end.entries before.told t) (sym kept) made.over.heard);
       failed = have-failed;
     };
-    cause = stop-cause limits options over.ends.r end before after status (has-causes (ap (λ (l : Limits). l.turns) same)) end.stop refl;
-    spoken = spoken-is (status_of end.stop) status (number_told end) mid.written mid.write_faults after.written after.write_faults speaks;
-    notes = over.ends.stopped.ends;
-    once = over.ends.once;
-    lone = λ e. over.lone (workers ∙ e);
-    bounds = subst (λ (l : Limits). HasBounds (program_of code) l over.ends.r end.base end.entries end.turns end.counters end.tried end.stop) same over.ends.bounds;
+    cause = stop-cause (limits_of made.options) made.options made.over.ends.r end before after status has-causes end.stop refl;
+    spoken = spoken-is (status_of end) status (verdict_of end ++ behind command own (status_of end)) mid.written mid.write_faults after.written after.write_faults speaks;
+    own = made.own_is;
+    notes = made.over.ends.stopped.ends;
+    once = made.over.ends.once;
+    lone = made.over.lone;
+    bounds = made.over.ends.bounds;
   }
 
 -- what is told is told of the stop
-pub told-of : (told : Status) (number : ℕ) (stop : Option Stop) (end : End Val) (status : Status) (a : Option (List ℕ)) (m : ℕ) (b : Option (List ℕ)) (n : ℕ)
-    → told ≡ status_of stop → stop ≡ end.stop → number ≡ number_told end → Speaks told number status a m b n
-    → Speaks (status_of end.stop) (number_told end) status a m b n
-told-of told number stop end status a m b n is kept numbered speaks =
-    subst (λ (t : Status). Speaks t (number_told end) status a m b n) (is ∙ ap status_of kept)
-    (subst (λ (k : ℕ). Speaks told k status a m b n) numbered speaks)
+pub told-of : (told : Status) (more : Status → List ℕ) (end : End Val) (status : Status) (a : Option (List ℕ)) (m : ℕ) (b : Option (List ℕ)) (n : ℕ)
+    → told ≡ status_of end → Speaks told (more told) status a m b n → Speaks (status_of end) (more (status_of end)) status a m b n
+told-of told more end status a m b n is speaks = subst (λ (t : Status). Speaks t (more t) status a m b n) is speaks

@@ -1,12 +1,12 @@
 -- What a call is given, and the text that it is to run.
-use Rattle.std.specs.Prelude.{◌≡◌, ℕ, ◌≤◌, List, Option, length}
+use Rattle.std.specs.Prelude.{◌≡◌, ℕ, ◌≤◌, Bool, true, false, List, [], Option, length}
 use Rattle.ame_io.specs.Reads.{whole_limit, IsReadWhole}
 use Rattle.ame_lex.specs.Bytes.{Text}
-use Rattle.ame_cli.specs.declared.command.Options.{Options}
 use Rattle.ame_cli.specs.declared.command.Command.{Command}
 use Rattle.ame_cli.specs.Items.{Word}
 use Rattle.ame_cli.specs.Grammar.{SpellsCommand}
-use Rattle.ame_gen.specs.Template.{program_text}
+use Rattle.ame_app.specs.declared.parts.Front.{Front}
+use Rattle.ame_app.specs.Verbs.{reads_source, Takes}
 
 -- what a source tells: the bytes that it has left, where it tells them, and its count of faults
 pub record Given : Type 0 where
@@ -26,21 +26,25 @@ pub record Call : Type 0 where
 abbrev pub call_of : List Word → Given → Given → ℕ → Call
 call_of words source source_after devices = record { words = words; source = source; source_after = source_after; devices = devices }
 
--- the options of a command
-abbrev pub options_of : Command → Options
-options_of (Command.Run options) = options
-options_of (Command.Bench seed size options) = options
+-- all the bytes that a source had left were read to their end, without a fault
+pub record IsReadThrough (source after : Given) (bytes : List ℕ) : Type 0 where
+  pub whole : IsReadWhole source.left after.left bytes
+  pub faults : after.faults ≡ source.faults
 
--- The text of a command: all the bytes that the source had left, read to their end without a fault; or the generated text, and
--- the source isn't read.
-abbrev pub IsTextOf : Command → Given → Given → Text → Type 0
-IsTextOf (Command.Run options) source source_after text = IsReadWhole source.left source_after.left text × (source_after.faults ≡ source.faults)
-IsTextOf (Command.Bench seed size options) source source_after text = (text ≡ program_text seed size) × (source_after ≡ source)
+-- so it is where the source is read; else there are no bytes, and it isn't touched
+abbrev pub IsInput : Bool → Given → Given → List ℕ → Type 0
+IsInput true source after bytes = IsReadThrough source after bytes
+IsInput false source after bytes = (bytes ≡ []) × (after ≡ source)
 
--- the words ask for this text, of at most so many bytes, to be run with these options
-pub record Asks (call : Call) (options : Options) (text : Text) : Type 0 where
-  pub command : Command
+-- the front and the text of a command: those that it takes of the bytes of its input
+pub record IsTextOf (command : Command) (source after : Given) (front : Front) (text : Text) : Type 0 where
+  pub bytes : List ℕ
+  pub input : IsInput (reads_source command) source after bytes
+  pub most : length bytes ≤ whole_limit
+  pub takes : Takes command bytes front text
+
+-- the words spell this command, which has this front and this text, of at most so many bytes
+pub record Asks (call : Call) (command : Command) (front : Front) (text : Text) : Type 0 where
   pub spelled : SpellsCommand call.words command
-  pub with_options : options_of command ≡ options
-  pub text_is : IsTextOf command call.source call.source_after text
+  pub text_is : IsTextOf command call.source call.source_after front text
   pub most : length text ≤ whole_limit

@@ -1,5 +1,5 @@
 -- Why a call ends with a status.
-use Rattle.std.specs.Prelude.{◌≡◌, ◌≢◌, ℕ, List, [], Option, Some, None, length, ⊤}
+use Rattle.std.specs.Prelude.{◌≡◌, ◌≢◌, ℕ, ◌≤◌, true, false, List, [], Option, Some, None, length, ⊤}
 use Rattle.ame_io.specs.Counts.{HasRisen}
 use Rattle.ame_io.specs.Reads.{whole_limit, GivesMoreThan}
 use Rattle.ame_lex.specs.Bytes.{Text}
@@ -16,10 +16,11 @@ use Rattle.ame_protocol.specs.Event.Causes.{IsTall}
 use Rattle.ame_protocol.specs.Event.Faults.{ComesToCall}
 use Rattle.ame_engine.specs.Ending.{End, CertifyAll}
 use Rattle.ame_shell.specs.Ends.{Ends, told_at}
-use Rattle.ame_app.specs.declared.status.TextKind.{TextKind}
-use Rattle.ame_app.specs.declared.status.TextFault.{TextFault}
+use Rattle.ame_app.specs.declared.fault.TextFault.{TextFault}
+use Rattle.ame_app.specs.declared.parts.Front.{Front}
 use Rattle.ame_app.specs.declared.status.Status.{Status}
-use Rattle.ame_app.specs.Calls.{Call, Asks}
+use Rattle.ame_app.specs.Verbs.{reads_source, Declines}
+use Rattle.ame_app.specs.Calls.{Call, IsInput, Asks}
 use Rattle.ame_app.specs.Texts.{IsNoProgram, IsIllTyped}
 
 -- Where no run was begun
@@ -29,73 +30,77 @@ pub record IsUsage (call : Call) : Type 0 where
   pub words : SpellsNothing call.words
   pub source : call.source_after ≡ call.source
 
--- a program was to be read, and the source failed, or its count stands at its last value
+-- the words spell a command that reads its source
+pub record IsReader (call : Call) : Type 0 where
+  pub command : Command
+  pub spelled : SpellsCommand call.words command
+  pub reads : reads_source command ≡ true
+
+-- the source was to be read, and failed, or its count stands at its last value
 pub record IsReadFault (call : Call) : Type 0 where
-  pub options : Options
-  pub words : SpellsCommand call.words (Command.Run options)
+  pub reader : IsReader call
   pub faults : HasRisen call.source.faults call.source_after.faults
 
--- a program was to be read, and the source gave more bytes than one may have
-pub record IsTooLong (call : Call) (place : ℕ) : Type 0 where
-  pub options : Options
-  pub words : SpellsCommand call.words (Command.Run options)
+-- the source was to be read, and gave more bytes than one may have
+pub record IsTooLong (call : Call) : Type 0 where
+  pub reader : IsReader call
   pub given : GivesMoreThan whole_limit call.source.left call.source_after.left
-  pub limit : place ≡ whole_limit
   pub faults : call.source_after.faults ≡ call.source.faults
 
+-- the bytes of the source are none that the command takes, which is told so
+pub record IsDeclined (call : Call) (told : Status) : Type 0 where
+  pub command : Command
+  pub spelled : SpellsCommand call.words command
+  pub bytes : List ℕ
+  pub input : IsInput (reads_source command) call.source call.source_after bytes
+  pub most : length bytes ≤ whole_limit
+  pub declines : Declines command bytes told
+
 -- the text that was asked for is no program
-pub record IsUnreadable (call : Call) (fault : TextFault) : Type 0 where
-  pub options : Options
-  pub text : Text
-  pub asked : Asks call options text
+pub record IsUnreadable (call : Call) (text : Text) (fault : TextFault) : Type 0 where
+  pub command : Command
+  pub front : Front
+  pub asked : Asks call command front text
   pub cause : IsNoProgram text fault
 
 -- it is a program that the types refuse
-pub record IsRefusedByTypes (call : Call) (fault : TypeFault) : Type 0 where
-  pub options : Options
-  pub text : Text
-  pub asked : Asks call options text
+pub record IsRefusedByTypes (call : Call) (text : Text) (fault : TypeFault) : Type 0 where
+  pub command : Command
+  pub front : Front
+  pub asked : Asks call command front text
   pub cause : IsIllTyped text call.devices fault
 
--- memory was wanted, and the source didn't fail
+-- memory was wanted, and the source didn't fail; one that isn't read wasn't touched
 pub record IsWithoutMemory (call : Call) : Type 0 where
   pub faults : call.source_after.faults ≡ call.source.faults
-  pub generated : (seed size : ℕ) (options : Options) → SpellsCommand call.words (Command.Bench seed size options) → call.source_after ≡ call.source
+  pub untouched : (command : Command) → SpellsCommand call.words command → reads_source command ≡ false → call.source_after ≡ call.source
 
-abbrev pub TextCause : Call → TextFault → TextKind → Type 0
-TextCause call fault TextKind.TooLong = IsTooLong call fault.place
-TextCause call fault _ = IsUnreadable call fault
-
--- what the status of a call tells in which no run was begun
-abbrev pub RefusalCause : Call → Status → Type 0
-RefusalCause call Status.Usage = IsUsage call
-RefusalCause call Status.ReadFault = IsReadFault call
-RefusalCause call (Status.Text fault) = TextCause call fault fault.kind
-RefusalCause call (Status.Types fault) = IsRefusedByTypes call fault
-RefusalCause call Status.NoMemory = IsWithoutMemory call
-RefusalCause call _ = ⊥
+-- Why no run was begun, a case a cause: by the text that the report has, with the bytes that are written ahead of the verdict line.
+pub data RefusalCause (call : Call) (text : Text) : List ℕ → Status → Type 0 where
+  by_words : IsUsage call → RefusalCause call text [] Status.Usage
+  by_source : IsReadFault call → RefusalCause call text [] Status.ReadFault
+  by_length : IsTooLong call → RefusalCause call text [] Status.TooLong
+  by_input : (told : Status) → IsDeclined call told → RefusalCause call text [] told
+  by_text : (fault : TextFault) → IsUnreadable call text fault → RefusalCause call text [] (Status.Text fault)
+  by_types : (fault : TypeFault) → IsRefusedByTypes call text fault → RefusalCause call text [] (Status.Types fault)
+  by_memory : IsWithoutMemory call → RefusalCause call text [] Status.NoMemory
 
 -- Where a run was begun
 
--- how a stop is told
-abbrev pub status_of : Option Stop → Status
-status_of (Some Stop.Finished) = Status.Finished
-status_of (Some Stop.Blocked) = Status.Blocked
-status_of (Some Stop.Spent) = Status.Spent
-status_of (Some (Stop.Tall number)) = Status.Tall
-status_of (Some Stop.NoMemory) = Status.NoMemory
-status_of (Some Stop.WriteFault) = Status.WriteFault
-status_of (Some (Stop.DeviceFault device)) = Status.DeviceFault device
-status_of None = Status.NoMemory
+-- how a stop is told, with the number of certificates of members that are blocked
+abbrev pub status_at : Option Stop → List Certificate → Status
+status_at (Some Stop.Finished) certificates = Status.Finished
+status_at (Some Stop.Blocked) certificates = Status.Blocked (length certificates)
+status_at (Some Stop.Spent) certificates = Status.Spent
+status_at (Some (Stop.Tall number)) certificates = Status.Tall number
+status_at (Some Stop.NoMemory) certificates = Status.NoMemory
+status_at (Some Stop.WriteFault) certificates = Status.WriteFault
+status_at (Some (Stop.DeviceFault device)) certificates = Status.DeviceFault device
+status_at None certificates = Status.NoMemory
 
--- the number that a run's verdict line tells: how many members are blocked, or which one came to a value that is too high
-abbrev pub number_at_stop : Option Stop → List Certificate → ℕ
-number_at_stop (Some Stop.Blocked) certificates = length certificates
-number_at_stop (Some (Stop.Tall number)) certificates = number
-number_at_stop _ certificates = 0
-
-abbrev pub number_told : End Val → ℕ
-number_told end = number_at_stop end.stop end.certificates
+-- how a run is told that ended so
+abbrev pub status_of : End Val → Status
+status_of end = status_at end.stop end.certificates
 
 -- so many members are left, and for each there is a certificate that its condition is false
 pub record IsBlocked (s : State) (certificates : List Certificate) (number : ℕ) : Type 0 where
@@ -113,13 +118,13 @@ pub record IsDeviceFault (device : ℕ) (r : Replayed) (before after : Ends) : T
   pub faults : HasRisen (told_at before.told device).faults (told_at after.told device).faults
 
 -- What the status tells of a run that was begun: of what its engine had at the end, of the state to which its journal leads,
--- and of its ends before and after. The number is the one that the verdict line tells.
-abbrev pub RunCause : Status → ℕ → Options → End Val → Replayed → Ends → Ends → Type 0
-RunCause Status.Finished number options end r before after = r.state.members ≡ []
-RunCause Status.Blocked number options end r before after = IsBlocked r.state end.certificates number
-RunCause Status.Spent number options end r before after = IsSpent options.turns end.turns r.state
-RunCause Status.Tall number options end r before after = IsTall number end.entries
-RunCause (Status.DeviceFault device) number options end r before after = IsDeviceFault device r before after
-RunCause Status.NoMemory number options end r before after = ⊤
-RunCause Status.WriteFault number options end r before after = HasRisen before.write_faults after.write_faults
-RunCause _ number options end r before after = ⊥
+-- and of its ends before and after.
+abbrev pub RunCause : Status → Options → End Val → Replayed → Ends → Ends → Type 0
+RunCause Status.Finished options end r before after = r.state.members ≡ []
+RunCause (Status.Blocked number) options end r before after = IsBlocked r.state end.certificates number
+RunCause Status.Spent options end r before after = IsSpent options.turns end.turns r.state
+RunCause (Status.Tall number) options end r before after = IsTall number end.entries
+RunCause (Status.DeviceFault device) options end r before after = IsDeviceFault device r before after
+RunCause Status.NoMemory options end r before after = ⊤
+RunCause Status.WriteFault options end r before after = HasRisen before.write_faults after.write_faults
+RunCause _ options end r before after = ⊥

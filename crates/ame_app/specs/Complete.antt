@@ -1,5 +1,5 @@
 -- What the status of a call must be.
-use Rattle.std.specs.Prelude.{◌≡◌, ◌⊎◌, ℕ, ◌<◌, ◌≤◌, Some, Ok, Err, length, ⊤}
+use Rattle.std.specs.Prelude.{◌≡◌, ◌⊎◌, ℕ, ◌<◌, ◌≤◌, Bool, true, false, List, [], Some, Ok, Err, length, ⊤}
 use Rattle.ame_io.specs.Counts.{HasNotRisen}
 use Rattle.ame_io.specs.Reads.{whole_limit}
 use Rattle.ame_lex.specs.Bytes.{Text}
@@ -9,31 +9,40 @@ use Rattle.ame_term.specs.Shown.{TypeFault}
 use Rattle.ame_term.specs.Typing.{typing}
 use Rattle.ame_cli.specs.declared.command.Command.{Command}
 use Rattle.ame_cli.specs.Grammar.{SpellsCommand, SpellsNothing}
-use Rattle.ame_gen.specs.Template.{program_text}
 use Rattle.ame_shell.specs.Ends.{Ends, told_at}
-use Rattle.ame_app.specs.declared.status.TextKind.{TextKind}
-use Rattle.ame_app.specs.declared.status.TextFault.{TextFault}
+use Rattle.ame_app.specs.declared.parts.Front.{Front}
 use Rattle.ame_app.specs.declared.status.Status.{Status}
+use Rattle.ame_app.specs.Verbs.{reads_source, Takes, Declines}
 use Rattle.ame_app.specs.Calls.{Given, Call}
 use Rattle.ame_app.specs.Texts.{IsNoProgram, IsIllTyped}
 
 -- What is given
 
--- the text of a command: the bytes that the source has left, where it tells them; or the generated text
-abbrev pub IsTextGiven : Command → Given → Text → Type 0
-IsTextGiven (Command.Run options) source text = source.left ≡ Some text
-IsTextGiven (Command.Bench seed size options) source text = text ≡ program_text seed size
+-- the bytes that a command is given: those that the source has left, where it tells them; none, where it isn't read
+abbrev pub IsGivenBy : Bool → Given → List ℕ → Type 0
+IsGivenBy true source bytes = source.left ≡ Some bytes
+IsGivenBy false source bytes = bytes ≡ []
 
--- the words spell a command, and this is its text
-pub record IsGivenText (call : Call) (text : Text) : Type 0 where
+-- the words spell a command, which is given these bytes
+pub record IsGiven (call : Call) (bytes : List ℕ) : Type 0 where
   pub command : Command
   pub spelled : SpellsCommand call.words command
-  pub given : IsTextGiven command call.source text
+  pub given : IsGivenBy (reads_source command) call.source bytes
 
--- so it is, and the text isn't too long
-pub record IsGivenShort (call : Call) (text : Text) : Type 0 where
-  pub given : IsGivenText call text
-  pub most : length text ≤ whole_limit
+-- the words spell a command, and this is the text that it takes of the bytes that it is given, which aren't too many
+pub record IsGivenText (call : Call) (text : Text) : Type 0 where
+  pub bytes : List ℕ
+  pub given : IsGiven call bytes
+  pub most : length bytes ≤ whole_limit
+  pub front : Front
+  pub takes : Takes given.command bytes front text
+
+-- the words spell a command, and the bytes that it is given, which aren't too many, are none that it takes, which is told so
+pub record IsGivenInVain (call : Call) (told : Status) : Type 0 where
+  pub bytes : List ℕ
+  pub given : IsGiven call bytes
+  pub most : length bytes ≤ whole_limit
+  pub declines : Declines given.command bytes told
 
 -- the text is no program
 pub record IsUnread (text : Text) : Type 0 where
@@ -80,33 +89,35 @@ TellsRule text devices _ = ⊥
 -- it tells how a run ended, or memory was wanted
 abbrev pub TellsEnd : Status → Type 0
 TellsEnd Status.Finished = ⊤
-TellsEnd Status.Blocked = ⊤
+TellsEnd (Status.Blocked number) = ⊤
 TellsEnd Status.Spent = ⊤
-TellsEnd Status.Tall = ⊤
+TellsEnd (Status.Tall number) = ⊤
 TellsEnd Status.NoMemory = ⊤
 TellsEnd _ = ⊥
 
 -- it tells what is so of a text, or how a run ended, or memory was wanted
 abbrev pub TellsText : Status → Type 0
+TellsText Status.TooLong = ⊤
 TellsText (Status.Text fault) = ⊤
 TellsText (Status.Types fault) = ⊤
 TellsText status = TellsEnd status
 
--- how a text is told that has too many bytes
-abbrev pub too_long : TextFault
-too_long = record { place = whole_limit; kind = TextKind.TooLong }
+-- so it does, or it tells that some bytes are none that the command takes
+abbrev pub TellsInput : Command → Status → Type 0
+TellsInput command status = TellsText status ⊎ ((bytes : List ℕ) × Declines command bytes status)
 
--- Where nothing failed, the words and their text decide the status, but for how a run ends and for want of memory. Where something
--- failed the status tells it: the sink first, then a device, then the source.
+-- Where nothing failed, the words, what they are given and its text decide the status, but for how a run ends and for want of
+-- memory. Where something failed the status tells it: the sink first, then a device, then the source.
 pub record IsComplete (call : Call) (status : Status) (before after : Ends) : Type 0 where
   pub usage : NothingFailed call before after → SpellsNothing call.words → IsUnlessMemory Status.Usage status
-  pub spelled : NothingFailed call before after → (command : Command) → SpellsCommand call.words command → TellsText status
-  pub long : NothingFailed call before after → (text : Text) → IsGivenText call text → whole_limit < length text
-      → IsUnlessMemory (Status.Text too_long) status
-  pub unread : NothingFailed call before after → (text : Text) → IsGivenShort call text → IsUnread text → TellsFault text status
-  pub refused : NothingFailed call before after → (text : Text) → IsGivenShort call text → IsRefused text call.devices
+  pub spelled : NothingFailed call before after → (command : Command) → SpellsCommand call.words command → TellsInput command status
+  pub long : NothingFailed call before after → (bytes : List ℕ) → IsGiven call bytes → whole_limit < length bytes
+      → IsUnlessMemory Status.TooLong status
+  pub declined : NothingFailed call before after → (told : Status) → IsGivenInVain call told → IsUnlessMemory told status
+  pub unread : NothingFailed call before after → (text : Text) → IsGivenText call text → IsUnread text → TellsFault text status
+  pub refused : NothingFailed call before after → (text : Text) → IsGivenText call text → IsRefused text call.devices
       → TellsRule text call.devices status
-  pub accepted : NothingFailed call before after → (text : Text) → IsGivenShort call text → IsAcceptedText text call.devices → TellsEnd status
+  pub accepted : NothingFailed call before after → (text : Text) → IsGivenText call text → IsAcceptedText text call.devices → TellsEnd status
   pub sink_failed : before.write_faults < after.write_faults → status ≡ Status.WriteFault
   pub device_failed : HasNotRisen before.write_faults after.write_faults → (k : ℕ) → (told_at before.told k).faults < (told_at after.told k).faults
       → status ≡ Status.DeviceFault k

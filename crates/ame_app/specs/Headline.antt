@@ -1,5 +1,5 @@
 -- What is promised of a call.
-use Rattle.std.specs.Prelude.{◌≡◌, ◌≢◌, ◌++◌, ℕ, List, [], map, All, Option, Some, None}
+use Rattle.std.specs.Prelude.{◌≡◌, ◌≢◌, ◌++◌, ℕ, List, map, All, Option, Some, None}
 use Rattle.std.specs.Io.KnownBytes.{Appends}
 use Rattle.ame_io.specs.Counts.{HasRisen}
 use Rattle.ame_io.specs.Lines.{lines}
@@ -22,6 +22,7 @@ use Rattle.ame_code.specs.Code.{program_of}
 use Rattle.ame_value.specs.declared.val.Val.{Val}
 use Rattle.ame_eval.specs.Values.{value_meant}
 use Rattle.ame_cli.specs.declared.command.Options.{Options}
+use Rattle.ame_cli.specs.declared.command.Command.{Command}
 use Rattle.ame_protocol.specs.declared.types.Limits.{Limits}
 use Rattle.ame_protocol.specs.Event.Bounds.{HasBounds}
 use Rattle.ame_protocol.specs.Event.Causes.{NotesStop}
@@ -29,11 +30,25 @@ use Rattle.ame_engine.specs.Ending.{End}
 use Rattle.ame_shell.specs.Ends.{Ends}
 use Rattle.ame_shell.specs.Heard.{HaveHeard, HaveFailed}
 use Rattle.ame_shell.specs.Over.{AreOfSeats, NoneWereInTheWay}
+use Rattle.ame_app.specs.declared.parts.Front.{Front}
+use Rattle.ame_app.specs.declared.parts.Own.{Own}
 use Rattle.ame_app.specs.declared.status.Status.{Status}
 use Rattle.ame_app.specs.Verdict.{verdict}
+use Rattle.ame_app.specs.Verbs.{options_of, Begins, Promises, behind}
 use Rattle.ame_app.specs.Calls.{Call, Asks}
 use Rattle.ame_app.specs.Texts.{IsProgramOf}
-use Rattle.ame_app.specs.Causes.{RefusalCause, RunCause, status_of, number_told}
+use Rattle.ame_app.specs.Causes.{RefusalCause, RunCause, status_of}
+
+-- What a call reports beside its ends and its run: how it ended, the text of the program, which is empty where none was taken, the
+-- code that was run, and what the command has of its own.
+pub record Reported : Type 0 where
+  pub status : Status
+  pub text : Text
+  pub code : Option FlatCode
+  pub own : Own
+
+abbrev pub reported : Status → Text → Option FlatCode → Own → Reported
+reported status text code own = record { status = status; text = text; code = code; own = own }
 
 -- the entries of a run, those from which it was opened first
 abbrev pub journal_of : End Val → List Entry
@@ -56,7 +71,7 @@ pub record DevicesTell (code : FlatCode) (end : End Val) (before after : Ends) :
 
 -- the verdict line of a run
 abbrev pub verdict_of : End Val → List ℕ
-verdict_of end = verdict (status_of end.stop) (number_told end)
+verdict_of end = verdict (status_of end)
 
 -- A text was written, by the status of the call: all of it; after a fault of the sink a front of it, and nothing more.
 pub record IsWritten (status : Status) (text : List ℕ) (before after : Ends) : Type 0 where
@@ -68,27 +83,33 @@ abbrev pub limits_of : Options → Limits
 limits_of options = record { turns = options.turns; slice = options.slice; seats = options.workers }
 
 -- The headline: what is promised of a call in which a run was begun, with what its ends tell before and after.
-pub record Headline (call : Call) (status : Status) (code : Option FlatCode) (end : End Val) (before after : Ends) : Type 0 where
+pub record Headline (call : Call) (report : Reported) (end : End Val) (before after : Ends) : Type 0 where
+  pub command : Command
+  pub front : Front
   pub options : Options
   pub text : Text
   pub compiled : FlatCode
   pub final : Replayed
   -- The code is that of the text that the words ask for, which is a program that the types accept.
-  pub asked : Asks call options text
+  pub asked : Asks call command front text
+  pub with_options : options_of command ≡ Some options
+  pub text_is : report.text ≡ text
   pub program : IsProgramOf text call.devices compiled.accepted
-  pub code_is : code ≡ Some compiled
-  -- The journal, all of which is of this run, replays from the program as one run of the strong semantics.
-  pub begun : end.base ≡ []
+  pub code_is : report.code ≡ Some compiled
+  -- The journal, which begins as the command says, replays from the program as one run of the strong semantics.
+  pub begun : Begins command front end.base
   pub replays : replay (program_of compiled) (journal_of end) ≡ Some final
-  pub seats : AreOfSeats options.workers (journal_of end)
+  pub seats : AreOfSeats options.workers end.entries
   -- What was written is the output of that run, a line each, and the verdict line; what is left is its state.
-  pub output : IsWritten status (lines final.state.output ++ verdict_of end) before after
+  pub output : IsWritten report.status (lines final.state.output ++ (verdict_of end ++ behind command report.own (status_of end))) before after
   pub store : IsStore compiled end.cells final.state
   pub typed : IsTypedState call.devices final.state
   pub devices : DevicesTell compiled end before after
   -- The verdict is that of the stop, and has its cause; it is the status, unless the sink failed.
-  pub cause : RunCause (status_of end.stop) (number_told end) options end final before after
-  pub spoken : status ≢ Status.WriteFault → status ≡ status_of end.stop
+  pub cause : RunCause (status_of end) options end final before after
+  pub spoken : report.status ≢ Status.WriteFault → report.status ≡ status_of end
+  -- The report has what the command promises of its own.
+  pub own : Promises command front options report.own end
   -- A fragment that was cut off, or that came to a value that is too high, is noted last, and only with that stop. That a fragment
   -- waits is noted once until somebody commits.
   pub notes : NotesStop end.stop end.entries
@@ -99,15 +120,17 @@ pub record Headline (call : Call) (status : Status) (code : Option FlatCode) (en
   -- entries. Turns that are used up were spent on entries and on tries; with one worker by itself there is no try then.
   pub bounds : HasBounds (program_of compiled) (limits_of options) final end.base end.entries end.turns end.counters end.tried end.stop
 
--- Just the verdict line of a refusal was written. There is no code, and no device was called.
-pub record IsToldAlone (told status : Status) (code : Option FlatCode) (before after : Ends) : Type 0 where
-  pub spoken : status ≢ Status.WriteFault → status ≡ told
-  pub output : IsWritten status (verdict told 0) before after
+-- Just the verdict line of a refusal was written, behind what stands ahead of it. There is no code, and no device was called.
+pub record IsToldAlone (ahead : List ℕ) (told : Status) (report : Reported) (before after : Ends) : Type 0 where
+  pub spoken : report.status ≢ Status.WriteFault → report.status ≡ told
+  pub output : IsWritten report.status (ahead ++ verdict told) before after
   pub devices : after.told ≡ before.told
-  pub nothing : code ≡ None
+  pub nothing : report.code ≡ None
+  pub own : report.own ≡ Own.Nothing
 
 -- What is promised of a call in which no run was begun: what is told of it has its cause.
-pub record IsTurnedAway (call : Call) (status : Status) (code : Option FlatCode) (before after : Ends) : Type 0 where
+pub record IsTurnedAway (call : Call) (report : Reported) (before after : Ends) : Type 0 where
+  pub ahead : List ℕ
   pub told : Status
-  pub cause : RefusalCause call told
-  pub alone : IsToldAlone told status code before after
+  pub cause : RefusalCause call report.text ahead told
+  pub alone : IsToldAlone ahead told report before after

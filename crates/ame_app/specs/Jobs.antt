@@ -1,20 +1,64 @@
--- What comes before a run, and what is written after it, for the private functions.
-use Rattle.std.specs.Prelude.{◌≡◌, ℕ, ◌⊎◌, List, Option, ⊤}
+-- What comes before a run, the run, and what is written after it, for the private functions.
+use Rattle.std.specs.Prelude.{◌≡◌, ℕ, ◌⊎◌, List, Option, Some, ⊤}
 use Rattle.std.specs.Io.KnownBytes.{Appends}
 use Rattle.ame_io.specs.Counts.{HasRisen}
 use Rattle.ame_io.specs.Writes.{AppendsFront}
+use Rattle.ame_io.specs.declared.whole_read.ReadAllFail.{ReadAllFail}
 use Rattle.ame_lex.specs.Bytes.{Text}
+use Rattle.ame_lex.specs.declared.tokens.LexFault.{LexFault}
+use Rattle.ame_parse.specs.declared.fault.ParseFault.{ParseFault}
+use Rattle.ame_types.specs.declared.fault.TypesFail.{TypesFail}
 use Rattle.ame_code.specs.FlatCode.{FlatCode}
+use Rattle.ame_code.specs.Code.{program_of}
+use Rattle.ame_value.specs.declared.val.Val.{Val}
+use Rattle.ame_eval.specs.Values.{value_meant}
+use Rattle.ame_cli.specs.declared.command.CliFail.{CliFail}
 use Rattle.ame_cli.specs.declared.command.Options.{Options}
+use Rattle.ame_cli.specs.declared.command.Command.{Command}
+use Rattle.ame_engine.specs.Ending.{End}
+use Rattle.ame_shell.specs.Ends.{Ends}
+use Rattle.ame_shell.specs.Over.{IsOver}
+use Rattle.ame_app.specs.declared.fault.TextFault.{TextFault}
+use Rattle.ame_app.specs.declared.parts.Front.{Front}
+use Rattle.ame_app.specs.declared.parts.Own.{Own}
 use Rattle.ame_app.specs.declared.status.Status.{Status}
-use Rattle.ame_app.specs.Verdict.{verdict}
+use Rattle.ame_app.specs.Verbs.{Declines, options_of, Begins, Promises}
 use Rattle.ame_app.specs.Calls.{Call, Asks}
 use Rattle.ame_app.specs.Texts.{IsNoProgram, IsIllTyped, IsProgramOf}
+use Rattle.ame_app.specs.Headline.{limits_of}
 
--- code to run, with its options
-pub record IsJobOf (call : Call) (code : FlatCode) (options : Options) : Type 0 where
-  pub text : Text
-  pub asked : Asks call options text
+-- How failures of what comes before a run are told
+
+abbrev pub words_told : CliFail → Status
+words_told CliFail.Usage = Status.Usage
+words_told CliFail.NoMemory = Status.NoMemory
+
+abbrev pub source_told : ReadAllFail → Status
+source_told ReadAllFail.ReadFault = Status.ReadFault
+source_told ReadAllFail.TooLong = Status.TooLong
+source_told ReadAllFail.NoMemory = Status.NoMemory
+
+abbrev pub bytes_told : LexFault → Status
+bytes_told LexFault.NoMemory = Status.NoMemory
+bytes_told fault = Status.Text (TextFault.Lexical fault)
+
+abbrev pub tokens_told : ParseFault → Status
+tokens_told ParseFault.NoMemory = Status.NoMemory
+tokens_told fault = Status.Text (TextFault.Syntactic fault)
+
+abbrev pub types_told : TypesFail → Status
+types_told (TypesFail.Fault fault) = Status.Types fault
+types_told TypesFail.NoMemory = Status.NoMemory
+
+-- What is to be run
+
+-- the bytes are none that the command takes, which is told so, or memory was wanted
+abbrev pub IsUntaken : Command → List ℕ → Status → Type 0
+IsUntaken command bytes told = Declines command bytes told ⊎ (told ≡ Status.NoMemory)
+
+-- a command with a front, and code of its text
+pub record IsJobOf (call : Call) (text : Text) (code : FlatCode) (command : Command) (front : Front) : Type 0 where
+  pub asked : Asks call command front text
   pub program : IsProgramOf text call.devices code.accepted
 
 -- why there is no code of a text
@@ -24,19 +68,33 @@ IsTextStatus text devices (Status.Types fault) = IsIllTyped text devices fault
 IsTextStatus text devices Status.NoMemory = ⊤
 IsTextStatus text devices _ = ⊥
 
--- a verdict line was written whole, and the status is as before
-pub record IsSpoken (told : Status) (number : ℕ) (status : Status) (written : Option (List ℕ)) (faults : ℕ) (written_after : Option (List ℕ)) (faults_after : ℕ) : Type 0 where
+-- The run
+
+-- a run that a command makes is over, and has kept what the command promises
+pub record IsMade (command : Command) (front : Front) (code : FlatCode) (before : Ends) (own : Own) (end : End Val) (after : Ends) : Type 0 where
+  pub options : Options
+  pub with_options : options_of command ≡ Some options
+  pub over : IsOver (program_of code) (limits_of options) (value_meant code) before end after
+  pub begun : Begins command front end.base
+  pub own_is : Promises command front options own end
+
+-- What is written
+
+-- a text was written whole, and the status is as before
+pub record IsSpoken (told : Status) (text : List ℕ) (status : Status) (written : Option (List ℕ)) (faults : ℕ) (after : Option (List ℕ)) (faults_after : ℕ)
+    : Type 0 where
   pub is : status ≡ told
-  pub appended : Appends written written_after (verdict told number)
+  pub appended : Appends written after text
   pub stayed : faults_after ≡ faults
 
 -- it was written in part, and the sink failed
-pub record IsCutShort (told : Status) (number : ℕ) (status : Status) (written : Option (List ℕ)) (faults : ℕ) (written_after : Option (List ℕ)) (faults_after : ℕ) : Type 0 where
+pub record IsCutShort (text : List ℕ) (status : Status) (written : Option (List ℕ)) (faults : ℕ) (after : Option (List ℕ)) (faults_after : ℕ)
+    : Type 0 where
   pub is : status ≡ Status.WriteFault
-  pub appended : AppendsFront written written_after (verdict told number)
+  pub appended : AppendsFront written after text
   pub risen : HasRisen faults faults_after
 
 -- one or the other
-abbrev pub Speaks : Status → ℕ → Status → Option (List ℕ) → ℕ → Option (List ℕ) → ℕ → Type 0
-Speaks told number status written faults written_after faults_after =
-    IsSpoken told number status written faults written_after faults_after ⊎ IsCutShort told number status written faults written_after faults_after
+abbrev pub Speaks : Status → List ℕ → Status → Option (List ℕ) → ℕ → Option (List ℕ) → ℕ → Type 0
+Speaks told text status written faults after faults_after =
+    IsSpoken told text status written faults after faults_after ⊎ IsCutShort text status written faults after faults_after

@@ -1,5 +1,5 @@
 -- The devices of a process.
-use Rattle.std.specs.Prelude.{ℕ, List, [], ◌∷◌, Option, Some}
+use Rattle.std.specs.Prelude.{ℕ, List, [], replicate, Option, Some}
 use Rattle.ame_device.specs.declared.told.Heard.{Heard}
 use Rattle.ame_device.specs.Calls.{told}
 use Rattle.ame_shell.specs.Ends.{Ends}
@@ -14,6 +14,6 @@ abbrev pub faults_of : StandardDevice → ℕ
 faults_of (StandardDevice.Counter device) = device.faults
 faults_of (StandardDevice.Adder device) = device.faults
 
--- what a sink tells, and two devices that heard nothing yet
-abbrev pub with_two_new : Option (List ℕ) → ℕ → Ends
-with_two_new written faults = record { written = written; write_faults = faults; told = told (Some []) 0 ∷ told (Some []) 0 ∷ [] }
+-- what a sink tells, and so many devices that heard nothing yet
+abbrev pub with_new : ℕ → Option (List ℕ) → ℕ → Ends
+with_new count written faults = record { written = written; write_faults = faults; told = replicate count (told (Some []) 0) }

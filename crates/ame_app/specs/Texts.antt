@@ -1,5 +1,5 @@
 -- What a text is: a program that the types accept, or none, and why.
-use Rattle.std.specs.Prelude.{◌≡◌, ℕ, Option, Some, None, Ok, Err}
+use Rattle.std.specs.Prelude.{◌≡◌, ℕ, Ok, Err}
 use Rattle.ame_lex.specs.Bytes.{Text}
 use Rattle.ame_lex.specs.declared.tokens.LexFault.{LexFault}
 use Rattle.ame_parse.specs.declared.fault.ParseFault.{ParseFault}
@@ -10,25 +10,18 @@ use Rattle.ame_term.specs.Typing.{typing}
 use Rattle.ame_term.specs.declared.accepted.Accepted.{Accepted}
 use Rattle.ame_types.specs.Fault.{fault_of}
 use Rattle.ame_types.specs.declared.fault.TypeFault.{TypeFault}
-use Rattle.ame_app.specs.declared.status.TextKind.{TextKind}
-use Rattle.ame_app.specs.declared.status.TextFault.{TextFault}
+use Rattle.ame_app.specs.declared.fault.TextFault.{TextFault}
 
--- how a fault of the bytes or of the tokens is told
-abbrev pub fault_told : ReadingFault → Option TextFault
-fault_told (ReadingFault.Lexical (LexFault.BadByte place)) = Some (record { place = place; kind = TextKind.BadByte })
-fault_told (ReadingFault.Lexical (LexFault.LongNumber place)) = Some (record { place = place; kind = TextKind.LongNumber })
-fault_told (ReadingFault.Lexical LexFault.NoMemory) = None
-fault_told (ReadingFault.Syntactic (ParseFault.Expected place want)) = Some (record { place = place; kind = TextKind.Expected want })
-fault_told (ReadingFault.Syntactic (ParseFault.UnknownName place)) = Some (record { place = place; kind = TextKind.UnknownName })
-fault_told (ReadingFault.Syntactic (ParseFault.TooNested place)) = Some (record { place = place; kind = TextKind.TooNested })
-fault_told (ReadingFault.Syntactic (ParseFault.Trailing place)) = Some (record { place = place; kind = TextKind.Trailing })
-fault_told (ReadingFault.Syntactic ParseFault.NoMemory) = None
+-- why the reading of a text fails, by its fault
+abbrev pub why_of : TextFault → ReadingFault
+why_of (TextFault.Lexical fault) = ReadingFault.Lexical fault
+why_of (TextFault.Syntactic fault) = ReadingFault.Syntactic fault
 
--- the text is no program, and this tells why
-pub record IsNoProgram (text : Text) (fault : TextFault) : Type 0 where
-  pub why : ReadingFault
-  pub reads : reading text ≡ Err why
-  pub is : fault_told why ≡ Some fault
+-- the text is no program, and this is its first fault; want of memory is none
+abbrev pub IsNoProgram : Text → TextFault → Type 0
+IsNoProgram text (TextFault.Lexical LexFault.NoMemory) = ⊥
+IsNoProgram text (TextFault.Syntactic ParseFault.NoMemory) = ⊥
+IsNoProgram text fault = reading text ≡ Err (why_of fault)
 
 -- the text is a program that isn't Unit under protected with so many devices, and this is its first fault
 pub record IsIllTyped (text : Text) (devices : ℕ) (fault : TypeFault) : Type 0 where

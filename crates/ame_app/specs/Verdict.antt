@@ -1,24 +1,26 @@
 -- How a status is told: its number and its line.
 use Rattle.std.specs.Prelude.{ℕ, List, [], ◌++◌, codes, decimal}
+use Rattle.ame_lex.specs.declared.tokens.LexFault.{LexFault}
 use Rattle.ame_parse.specs.declared.fault.Want.{Want}
-use Rattle.ame_app.specs.declared.status.TextKind.{TextKind}
-use Rattle.ame_app.specs.declared.status.TextFault.{TextFault}
+use Rattle.ame_parse.specs.declared.fault.ParseFault.{ParseFault}
+use Rattle.ame_app.specs.declared.fault.TextFault.{TextFault}
+use Rattle.ame_app.specs.declared.fault.WordsFault.{WordsFault}
 use Rattle.ame_app.specs.declared.status.Status.{Status}
-use Rattle.ame_app.specs.declared.status.WordsFault.{WordsFault}
 
 -- the status of the process
 abbrev pub number_of : Status → ℕ
 number_of Status.Finished = 0
-number_of Status.Blocked = 1
+number_of (Status.Blocked number) = 1
 number_of Status.Spent = 2
 number_of Status.Usage = 3
 number_of Status.ReadFault = 4
+number_of Status.TooLong = 5
 number_of (Status.Text fault) = 5
 number_of (Status.Types fault) = 6
 number_of Status.WriteFault = 7
 number_of (Status.DeviceFault device) = 8
 number_of Status.NoMemory = 9
-number_of Status.Tall = 10
+number_of (Status.Tall number) = 10
 
 -- the status of a process whose words can't be read
 abbrev pub unread : WordsFault → Status
@@ -41,30 +43,34 @@ want_line Want.Closing = codes "refused: expected closing at "
 abbrev pub line_at : List ℕ → ℕ → List ℕ
 line_at text number = text ++ (decimal number ++ codes "\n")
 
--- the line of a fault of the text
-abbrev pub text_line_at : TextKind → ℕ → List ℕ
-text_line_at TextKind.TooLong place = codes "refused: too long" ++ codes "\n"
-text_line_at TextKind.BadByte place = line_at (codes "refused: bad byte at ") place
-text_line_at TextKind.LongNumber place = line_at (codes "refused: long number at ") place
-text_line_at (TextKind.Expected want) place = line_at (want_line want) place
-text_line_at TextKind.UnknownName place = line_at (codes "refused: unknown name at ") place
-text_line_at TextKind.TooNested place = line_at (codes "refused: too nested at ") place
-text_line_at TextKind.Trailing place = line_at (codes "refused: trailing at ") place
+-- the line of a fault of the bytes, or of the tokens
+abbrev pub lexical_line : LexFault → List ℕ
+lexical_line (LexFault.BadByte place) = line_at (codes "refused: bad byte at ") place
+lexical_line (LexFault.LongNumber place) = line_at (codes "refused: long number at ") place
+lexical_line LexFault.NoMemory = codes "no memory" ++ codes "\n"
+
+abbrev pub syntactic_line : ParseFault → List ℕ
+syntactic_line (ParseFault.Expected place want) = line_at (want_line want) place
+syntactic_line (ParseFault.UnknownName place) = line_at (codes "refused: unknown name at ") place
+syntactic_line (ParseFault.TooNested place) = line_at (codes "refused: too nested at ") place
+syntactic_line (ParseFault.Trailing place) = line_at (codes "refused: trailing at ") place
+syntactic_line ParseFault.NoMemory = codes "no memory" ++ codes "\n"
 
 abbrev pub text_line : TextFault → List ℕ
-text_line fault = text_line_at fault.kind fault.place
+text_line (TextFault.Lexical fault) = lexical_line fault
+text_line (TextFault.Syntactic fault) = syntactic_line fault
 
--- The verdict line. The number is how many members are blocked, or which one came to a value that is too high. There is no
--- line after a write fault.
-abbrev pub verdict : Status → ℕ → List ℕ
-verdict Status.Finished number = codes "finished" ++ codes "\n"
-verdict Status.Blocked number = line_at (codes "blocked ") number
-verdict Status.Spent number = codes "spent" ++ codes "\n"
-verdict Status.Usage number = codes "usage" ++ codes "\n"
-verdict Status.ReadFault number = codes "read fault" ++ codes "\n"
-verdict (Status.Text fault) number = text_line fault
-verdict (Status.Types fault) number = codes "types: rule " ++ (decimal fault.rule ++ line_at (codes " at ") fault.place)
-verdict Status.WriteFault number = []
-verdict (Status.DeviceFault device) number = codes "device " ++ (decimal device ++ (codes " failed" ++ codes "\n"))
-verdict Status.NoMemory number = codes "no memory" ++ codes "\n"
-verdict Status.Tall number = line_at (codes "tall ") number
+-- the verdict line; there is none after a write fault
+abbrev pub verdict : Status → List ℕ
+verdict Status.Finished = codes "finished" ++ codes "\n"
+verdict (Status.Blocked number) = line_at (codes "blocked ") number
+verdict Status.Spent = codes "spent" ++ codes "\n"
+verdict Status.Usage = codes "usage" ++ codes "\n"
+verdict Status.ReadFault = codes "read fault" ++ codes "\n"
+verdict Status.TooLong = codes "refused: too long" ++ codes "\n"
+verdict (Status.Text fault) = text_line fault
+verdict (Status.Types fault) = codes "types: rule " ++ (decimal fault.rule ++ line_at (codes " at ") fault.place)
+verdict Status.WriteFault = []
+verdict (Status.DeviceFault device) = codes "device " ++ (decimal device ++ (codes " failed" ++ codes "\n"))
+verdict Status.NoMemory = codes "no memory" ++ codes "\n"
+verdict (Status.Tall number) = line_at (codes "tall ") number

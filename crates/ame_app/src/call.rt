@@ -1,35 +1,28 @@
 //! The top call: from words and a program's bytes to its lines.
 
-ghost use Rattle.std.specs.Prelude.{◌≡◌, ◌≢◌, ◌≤◌, IfSome, IsSome, None, map, option_map, string_bytes, vec_len};
+ghost use Rattle.std.specs.Prelude.{◌≡◌, ◌≢◌, ◌≤◌, IfSome, IsSome, None, [], length, map, option_map, string_bytes, vec_len};
 ghost use Rattle.std.specs.Arc.{arc_value};
 ghost use Rattle.ame_types.specs.Limits.{max_devices};
-ghost use Rattle.ame_cli.specs.Ranges.{AreInRange};
-ghost use Rattle.ame_code.specs.Code.{program_of};
-ghost use Rattle.ame_eval.specs.Values.{value_meant};
+ghost use Rattle.ame_cli.specs.Ranges.{IsInRange};
 ghost use Rattle.ame_shell.specs.Ends.{Ends, ends_of};
-ghost use Rattle.ame_shell.specs.Over.{IsOver};
+ghost use Rattle.ame_app.specs.Answered.{IsAnswered};
 ghost use Rattle.ame_app.specs.Calls.{Call, what_is_given, call_of};
-ghost use Rattle.ame_app.specs.Causes.{RefusalCause, number_told};
-ghost use Rattle.ame_app.specs.Complete.{IsComplete};
-ghost use Rattle.ame_app.specs.Headline.{Headline, IsToldAlone, IsTurnedAway};
-ghost use Rattle.ame_app.specs.Jobs.{IsJobOf};
+ghost use Rattle.ame_app.specs.Headline.{reported, Headline, IsToldAlone, IsTurnedAway};
+ghost use Rattle.ame_app.specs.Jobs.{IsJobOf, IsMade};
 
-use crate::job::{Job, job_of};
+use crate::asked::{Asked, asked_of};
+use crate::code::code_of;
+use crate::parts::Own;
 use crate::report::Report;
-use crate::speak::speak;
+use crate::speak::{speak, speak_of};
 use crate::status::Status;
+use crate::verbs::{Job, Made, make};
 use ame_cli::spells_one_command;
 use ame_device::Device;
-use ame_engine::{Ended, Stop};
-use ame_eval::Fragment;
 use ame_io::{Sink, Source};
-use ame_protocol::Limits;
-use ame_shell::Remains;
-use ame_team::run_by_workers;
-use ame_value::Val;
 use ame_worker::Gate;
 use std::alloc::Global;
-use std::sync::{Arc, Wait};
+use std::sync::Wait;
 use std::thread::Threads;
 
 /// Does what the words ask for: runs the program of the source or a generated one, by as many workers as they say, writes the
@@ -51,24 +44,32 @@ where
     D: Device + Send,
     G: Gate + Sync,
     requires few { vec_len devices ≤ max_devices }
-    ensures ran { IfSome result.ended (λ end. Headline (call_of (map string_bytes words.now)
+    ensures answered { IsAnswered (call_of (map string_bytes words.now)
         (what_is_given S.left S.faults source.old) (what_is_given S.left S.faults source.new) (vec_len devices))
-        result.status (option_map arc_value result.code) end
-        (ends_of K.written K.faults D.device_heard D.device_faults sink devices.items)
-        (ends_of K.written K.faults D.device_heard D.device_faults result.sink result.devices.items)) }
-    ensures turned_away { result.ended ≡ None → IsTurnedAway (call_of (map string_bytes words.now)
-        (what_is_given S.left S.faults source.old) (what_is_given S.left S.faults source.new) (vec_len devices))
-        result.status (option_map arc_value result.code)
-        (ends_of K.written K.faults D.device_heard D.device_faults sink devices.items)
-        (ends_of K.written K.faults D.device_heard D.device_faults result.sink result.devices.items) }
-    ensures complete { IsComplete (call_of (map string_bytes words.now)
-        (what_is_given S.left S.faults source.old) (what_is_given S.left S.faults source.new) (vec_len devices))
-        result.status
+        (reported result.status result.text.items (option_map arc_value result.code) result.own) result.ended
         (ends_of K.written K.faults D.device_heard D.device_faults sink devices.items)
         (ends_of K.written K.faults D.device_heard D.device_faults result.sink result.devices.items) }
 {
     spells_one_command();
-    run_asked(rt, alloc, words, source, sink, devices, gate)
+    let Asked {
+        command,
+        front,
+        text,
+    } = match asked_of(alloc, words, source) {
+        Ok(asked) => asked,
+        Err(told) => return turn_away(told, Vec::new(alloc), sink, devices),
+    };
+    match code_of(alloc, &text, devices.len() as u32) {
+        Ok(code) => {
+            let job = Job {
+                code,
+                command,
+                front,
+            };
+            run(rt, alloc, job, text, sink, devices, gate)
+        }
+        Err(told) => turn_away(told, text, sink, devices),
+    }
 }
 
 /// The same with boxed devices.
@@ -87,64 +88,21 @@ where
     K: Sink + Send + Drop,
     G: Gate + Sync,
     requires few { vec_len devices ≤ max_devices }
-    ensures ran { IfSome result.ended (λ end. Headline (call_of (map string_bytes words.now)
+    ensures answered { IsAnswered (call_of (map string_bytes words.now)
         (what_is_given S.left S.faults source.old) (what_is_given S.left S.faults source.new) (vec_len devices))
-        result.status (option_map arc_value result.code) end
-        (ends_of K.written K.faults device_heard device_faults sink devices.items)
-        (ends_of K.written K.faults device_heard device_faults result.sink result.devices.items)) }
-    ensures turned_away { result.ended ≡ None → IsTurnedAway (call_of (map string_bytes words.now)
-        (what_is_given S.left S.faults source.old) (what_is_given S.left S.faults source.new) (vec_len devices))
-        result.status (option_map arc_value result.code)
-        (ends_of K.written K.faults device_heard device_faults sink devices.items)
-        (ends_of K.written K.faults device_heard device_faults result.sink result.devices.items) }
-    ensures complete { IsComplete (call_of (map string_bytes words.now)
-        (what_is_given S.left S.faults source.old) (what_is_given S.left S.faults source.new) (vec_len devices))
-        result.status
+        (reported result.status result.text.items (option_map arc_value result.code) result.own) result.ended
         (ends_of K.written K.faults device_heard device_faults sink devices.items)
         (ends_of K.written K.faults device_heard device_faults result.sink result.devices.items) }
 {
     run_words_over(rt, alloc, words, source, sink, devices, gate)
 }
 
-/// The same, without what follows of all answers together.
-fn run_asked<R, S, K, D, G>(
-    rt: &R,
-    alloc: Global,
-    words: &[String],
-    source: &mut S,
-    sink: K,
-    devices: Vec<D>,
-    gate: &G,
-) -> Report<K, D>
-where
-    R: Threads + Wait + Sync,
-    S: Source,
-    K: Sink + Send + Drop,
-    D: Device + Send,
-    G: Gate + Sync,
-    requires few { vec_len devices ≤ max_devices }
-    ensures ran { IfSome result.ended (λ end. Headline (call_of (map string_bytes words.now)
-        (what_is_given S.left S.faults source.old) (what_is_given S.left S.faults source.new) (vec_len devices))
-        result.status (option_map arc_value result.code) end
-        (ends_of K.written K.faults D.device_heard D.device_faults sink devices.items)
-        (ends_of K.written K.faults D.device_heard D.device_faults result.sink result.devices.items)) }
-    ensures turned_away { result.ended ≡ None → IsTurnedAway (call_of (map string_bytes words.now)
-        (what_is_given S.left S.faults source.old) (what_is_given S.left S.faults source.new) (vec_len devices))
-        result.status (option_map arc_value result.code)
-        (ends_of K.written K.faults D.device_heard D.device_faults sink devices.items)
-        (ends_of K.written K.faults D.device_heard D.device_faults result.sink result.devices.items) }
-{
-    match job_of(alloc, words, source, devices.len() as u32) {
-        Ok(job) => run(rt, alloc, job, sink, devices, gate),
-        Err(status) => turn_away(status, sink, devices),
-    }
-}
-
-/// Runs code, by as many workers as its options say.
+/// Makes a run, and tells how it ended.
 fn run<R, K, D, G>(
     rt: &R,
     alloc: Global,
     job: Job,
+    text: Vec<u8>,
     sink: K,
     devices: Vec<D>,
     gate: &G,
@@ -154,88 +112,73 @@ where
     K: Sink + Send + Drop,
     D: Device + Send,
     G: Gate + Sync,
-    requires ranges { AreInRange job.options }
+    requires ranges { IsInRange job.command }
     requires devices { (arc_value job.code).accepted.devices ≡ vec_len devices }
-    ensures ran { IfSome result.ended (λ end. (call : Call) → call.devices ≡ vec_len devices → IsJobOf call (arc_value job.code) job.options
-        → Headline call result.status (option_map arc_value result.code) end
+    ensures text { result.text ≡ text }
+    ensures ran { IfSome result.ended (λ end. (call : Call) → call.devices ≡ vec_len devices
+        → IsJobOf call text.items (arc_value job.code) job.command job.front
+        → Headline call (reported result.status result.text.items (option_map arc_value result.code) result.own) end
         (ends_of K.written K.faults D.device_heard D.device_faults sink devices.items)
         (ends_of K.written K.faults D.device_heard D.device_faults result.sink result.devices.items)) }
-    ensures turned_away { result.ended ≡ None → (call : Call) → IsJobOf call (arc_value job.code) job.options → IsTurnedAway call
-        result.status (option_map arc_value result.code)
+    ensures turned_away { result.ended ≡ None → IsToldAlone [] Status.NoMemory
+        (reported result.status result.text.items (option_map arc_value result.code) result.own)
         (ends_of K.written K.faults D.device_heard D.device_faults sink devices.items)
         (ends_of K.written K.faults D.device_heard D.device_faults result.sink result.devices.items) }
 {
-    spells_one_command();
-    let Ok(code) = Arc::try_clone(&job.code) else {
-        return turn_away(Status::NoMemory, sink, devices);
-    };
-    let limits = Limits {
-        turns: job.options.turns,
-        slice: job.options.slice,
-        seats: job.options.workers,
-    };
-    match run_by_workers::<Fragment, K, D, G, R>(rt, alloc, code, limits, sink, devices, gate) {
-        Ok(left) => conclude(job, left),
-        Err((sink, devices)) => turn_away(Status::NoMemory, sink, devices),
+    match make(rt, alloc, &job, sink, devices, gate) {
+        Ok(made) => conclude(job, text, made),
+        Err((sink, devices)) => turn_away(Status::NoMemory, text, sink, devices),
     }
 }
 
 /// Tells how a run ended.
-fn conclude<K: Sink + Drop, D: Device>(job: Job, left: Remains<Val, K, D>) -> Report<K, D>
+fn conclude<K: Sink + Drop, D: Device>(job: Job, text: Vec<u8>, made: Made<K, D>) -> Report<K, D>
     ensures ended { IsSome result.ended }
-    ensures ran { IfSome result.ended (λ end. (call : Call) (before : Ends) → IsJobOf call (arc_value job.code) job.options
-        → IsOver (program_of (arc_value job.code)) (record { turns = job.options.turns; slice = job.options.slice; seats = job.options.workers })
-        (value_meant (arc_value job.code)) before left.ended (ends_of K.written K.faults D.device_heard D.device_faults left.sink left.devices.items)
-        → Headline call result.status (option_map arc_value result.code) end before
+    ensures text { result.text ≡ text }
+    ensures ran { IfSome result.ended (λ end. (call : Call) (before : Ends) → IsJobOf call text.items (arc_value job.code) job.command job.front
+        → IsMade job.command job.front (arc_value job.code) before made.own made.left.ended
+        (ends_of K.written K.faults D.device_heard D.device_faults made.left.sink made.left.devices.items)
+        → Headline call (reported result.status result.text.items (option_map arc_value result.code) result.own) end before
         (ends_of K.written K.faults D.device_heard D.device_faults result.sink result.devices.items)) }
 {
-    let Remains {
-        ended,
-        mut sink,
-        devices,
-    } = left;
-    let told = Status::of(ended.stopped());
-    let number = number_told(&ended);
-    let status = speak(&mut sink, told, number);
+    let Made { left, own } = made;
+    let mut sink = left.sink;
+    let told = Status::of(&left.ended);
+    let status = speak_of(&mut sink, told, &job.command, &own);
     Report {
         status,
+        text,
         code: Some(job.code),
-        ended: Some(ended),
+        ended: Some(left.ended),
+        own,
         sink,
-        devices,
-    }
-}
-
-/// The number that the verdict line tells.
-fn number_told(ended: &Ended<Val>) -> u64
-    ensures { result ≡ number_told ended.now }
-{
-    match ended.stopped() {
-        Some(Stop::Blocked) => ended.certificates().len() as u64,
-        Some(Stop::Tall(number)) => number,
-        _ => 0,
+        devices: left.devices,
     }
 }
 
 /// Tells why nothing was run.
 pub(crate) fn turn_away<K: Sink + Drop, D: Device>(
     told: Status,
+    text: Vec<u8>,
     sink: K,
     devices: Vec<D>,
 ) -> Report<K, D>
     requires other { told ≢ Status.WriteFault }
     ensures ended { result.ended ≡ None }
+    ensures text { result.text ≡ text }
     ensures devices { result.devices ≡ devices }
-    ensures alone { IsToldAlone told result.status (option_map arc_value result.code)
+    ensures alone { IsToldAlone [] told (reported result.status result.text.items (option_map arc_value result.code) result.own)
         (ends_of K.written K.faults D.device_heard D.device_faults sink devices.items)
         (ends_of K.written K.faults D.device_heard D.device_faults result.sink result.devices.items) }
 {
     let mut sink = sink;
-    let status = speak(&mut sink, told, 0);
+    let status = speak(&mut sink, told);
     Report {
         status,
+        text,
         code: None,
         ended: None,
+        own: Own::Nothing,
         sink,
         devices,
     }

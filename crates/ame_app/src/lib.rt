@@ -1,17 +1,24 @@
 //! From words and a program's bytes to its lines: reading, checking, running, and telling how it ended.
 #![tactic(auto)]
 
+mod asked;
 mod call;
-mod job;
+mod code;
+mod fault;
+mod parts;
 mod process;
 mod report;
 mod speak;
 mod standard;
 mod status;
+mod told;
+mod verbs;
 mod verdict;
 
 pub use call::{run_words, run_words_over};
+pub use fault::{TextFault, WordsFault};
+pub use parts::{Front, Own};
 pub use process::{process_words, run_process};
 pub use report::Report;
 pub use standard::StandardDevice;
-pub use status::{Status, TextFault, TextKind, WordsFault};
+pub use status::Status;

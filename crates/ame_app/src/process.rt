@@ -1,21 +1,23 @@
 //! A process: its words, and its devices.
 
-ghost use Rattle.std.specs.Prelude.{◌≡◌, [], ◌∷◌, IfOk, IfErr, IfSome, Some, None, map, option_map, string_bytes};
+ghost use Rattle.std.specs.Prelude.{◌≡◌, ◌≤◌, [], ◌∷◌, IfOk, IfErr, IfSome, Some, None, map, option_map, string_bytes, vec_len};
 ghost use Rattle.std.specs.Arc.{arc_value};
 ghost use Rattle.ame_device.specs.Calls.{told, all_told};
 ghost use Rattle.ame_shell.specs.Ends.{ends_of};
 ghost use Rattle.ame_app.specs.Calls.{what_is_given, call_of};
-ghost use Rattle.ame_app.specs.Complete.{IsComplete};
-ghost use Rattle.ame_app.specs.Headline.{Headline, IsToldAlone, IsTurnedAway};
-ghost use Rattle.ame_app.specs.Standard.{heard_by, faults_of, with_two_new};
+ghost use Rattle.ame_app.specs.Answered.{IsAnswered};
+ghost use Rattle.ame_app.specs.Headline.{reported, IsToldAlone};
+ghost use Rattle.ame_app.specs.Standard.{heard_by, faults_of, with_new};
 ghost use Rattle.ame_app.specs.Verdict.{unread};
 
 use crate::call::{run_words_over, turn_away};
+use crate::fault::WordsFault;
 use crate::report::Report;
 use crate::standard::StandardDevice;
-use crate::status::{Status, WordsFault};
+use crate::status::Status;
+use ame_cli::spells_one_command;
 use ame_device::{Adder, Counter};
-use ame_io::{Sink, Source};
+use ame_io::{READ_LIMIT, Sink, Source};
 use ame_worker::NoGate;
 use std::alloc::{Alloc, AllocError, Global};
 use std::env::{self, Env};
@@ -48,31 +50,26 @@ where
     R: Threads + Wait + Sync,
     S: Source,
     K: Sink + Send + Drop,
-    ensures ran { IfOk words (λ ws. IfSome result.ended (λ end. Headline (call_of (map string_bytes ws.items)
+    ensures answered { IfOk words (λ ws. IsAnswered (call_of (map string_bytes ws.items)
         (what_is_given S.left S.faults source.old) (what_is_given S.left S.faults source.new) 2)
-        result.status (option_map arc_value result.code) end
-        (with_two_new (K.written sink) (K.faults sink))
-        (ends_of K.written K.faults heard_by faults_of result.sink result.devices.items))) }
-    ensures turned_away { IfOk words (λ ws. result.ended ≡ None → IsTurnedAway (call_of (map string_bytes ws.items)
-        (what_is_given S.left S.faults source.old) (what_is_given S.left S.faults source.new) 2)
-        result.status (option_map arc_value result.code)
-        (ends_of K.written K.faults heard_by faults_of sink result.devices.items)
+        (reported result.status result.text.items (option_map arc_value result.code) result.own) result.ended
+        (with_new (vec_len result.devices) (K.written sink) (K.faults sink))
         (ends_of K.written K.faults heard_by faults_of result.sink result.devices.items)) }
-    ensures complete { IfOk words (λ ws. IsComplete (call_of (map string_bytes ws.items)
-        (what_is_given S.left S.faults source.old) (what_is_given S.left S.faults source.new) 2)
-        result.status (with_two_new (K.written sink) (K.faults sink))
-        (ends_of K.written K.faults heard_by faults_of result.sink result.devices.items)) }
-    ensures unread { IfErr words (λ fault. (result.ended ≡ None) × IsToldAlone (unread fault) result.status (option_map arc_value result.code)
+    ensures two { IfSome result.ended (λ _. vec_len result.devices ≡ 2) }
+    ensures unread { IfErr words (λ fault. (result.ended ≡ None) × IsToldAlone [] (unread fault)
+        (reported result.status result.text.items (option_map arc_value result.code) result.own)
         (ends_of K.written K.faults heard_by faults_of sink [])
         (ends_of K.written K.faults heard_by faults_of result.sink result.devices.items)) }
+    ensures small { vec_len result.text ≤ READ_LIMIT }
 {
+    spells_one_command();
     let words = match words {
         Ok(words) => words,
-        Err(fault) => return turn_away(unread(fault), sink, Vec::new(alloc)),
+        Err(fault) => return turn_away(unread(fault), Vec::new(alloc), sink, Vec::new(alloc)),
     };
     match standard_devices(alloc) {
         Ok(devices) => run_words_over(rt, alloc, &words, source, sink, devices, &NoGate),
-        Err(_) => turn_away(Status::NoMemory, sink, Vec::new(alloc)),
+        Err(_) => turn_away(Status::NoMemory, Vec::new(alloc), sink, Vec::new(alloc)),
     }
 }
 

@@ -1,34 +1,39 @@
 //! What a call reports.
 
+use crate::parts::Own;
 use crate::status::Status;
 use ame_code::Code;
 use ame_engine::{Certificate, Ended};
 use ame_value::Val;
 use std::sync::Arc;
 
-/// How a call ended, the code that was run, what the run left, and the sink and the devices that were handed in.
+/// How a call ended, the text that was read or generated, the code that was run, what the run left, what the command has of its own, and
+/// the sink and the devices that were handed in.
 #[derive(Drop)]
 pub struct Report<K, D> {
     pub status: Status,
+    /// The text of the program, in which a status has its places; empty where none was read or generated.
+    pub text: Vec<u8>,
     /// Given exactly where a run was begun.
     pub code: Option<Arc<Code>>,
     /// Given exactly where a run was begun.
     pub ended: Option<Ended<Val>>,
+    pub own: Own,
     pub sink: K,
     pub devices: Vec<D>,
 }
 
 impl<K, D> Report<K, D> {
-    ghost use Rattle.std.specs.Prelude.{◌≡◌, ◌≢◌, [], IfSome, None};
+    ghost use Rattle.std.specs.Prelude.{◌≡◌, ◌≢◌, ℕ, [], IfSome, None};
     ghost use Rattle.ame_app.specs.declared.status.Status.{Status};
 
     /// A certificate for each member that is left, in order of their numbers, where all are blocked.
     pub fn blocked(&self) -> &[Certificate]
-        ensures blocked { self.now.status ≡ Status.Blocked → IfSome self.now.ended (λ end. result.now ≡ end.certificates) }
-        ensures other { self.now.status ≢ Status.Blocked → result.now ≡ [] }
+        ensures blocked { (members : ℕ) → self.now.status ≡ Status.Blocked members → IfSome self.now.ended (λ end. result.now ≡ end.certificates) }
+        ensures other { ((members : ℕ) → self.now.status ≢ Status.Blocked members) → result.now ≡ [] }
     {
         match (&self.status, &self.ended) {
-            (Status::Blocked, Some(ended)) => ended.certificates(),
+            (Status::Blocked(_), Some(ended)) => ended.certificates(),
             _ => &[],
         }
     }

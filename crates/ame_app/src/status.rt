@@ -1,61 +1,39 @@
 //! How a call ends.
 
 ghost use Rattle.std.specs.Prelude.{◌≡◌};
-ghost use Rattle.ame_app.specs.Verdict.{number_of};
+ghost use Rattle.ame_app.specs.Verdict.{number_of, verdict};
 ghost use Rattle.ame_app.specs.Causes.{status_of};
 
-use ame_engine::Stop;
-use ame_parse::Want;
+use crate::fault::TextFault;
+use crate::verdict::{device_failed, ill_typed, numbered, plain, refused};
+use ame_engine::{Ended, Stop};
+use ame_io::Line;
 use ame_types::TypeFault;
-
-/// Why a text is no program.
-#[derive(Clone, Copy, PartialEq, Eq, Debug)]
-pub enum TextKind {
-    /// It has more bytes than a program may have.
-    TooLong,
-    BadByte,
-    LongNumber,
-    Expected(Want),
-    UnknownName,
-    TooNested,
-    Trailing,
-}
-
-/// Why a text is no program, and where: an offset in bytes.
-#[derive(Clone, Copy, PartialEq, Eq, Debug)]
-pub struct TextFault {
-    pub place: u32,
-    pub kind: TextKind,
-}
+use ame_value::Val;
 
 /// How a call ends.
 #[derive(Drop)]
 pub enum Status {
     /// No member is left.
     Finished,
-    /// Members are left, and the condition of each is false.
-    Blocked,
+    /// So many members are left, and the condition of each is false.
+    Blocked(u64),
     /// All turns are used, and members are left.
     Spent,
     /// The words aren't those of a call.
     Usage,
     ReadFault,
+    /// The source has more bytes than one may have.
+    TooLong,
+    /// The text is no program.
     Text(TextFault),
     Types(TypeFault),
     WriteFault,
     /// This device failed.
     DeviceFault(u8),
     NoMemory,
-    /// A member came to a value that is too high.
-    Tall,
-}
-
-/// Why the words of a process can't be read.
-#[derive(Clone, Copy, PartialEq, Eq, Debug)]
-pub enum WordsFault {
-    /// One of them isn't text.
-    NotText,
-    NoMemory,
+    /// The member with this number came to a value that is too high.
+    Tall(u64),
 }
 
 impl Status {
@@ -65,28 +43,48 @@ impl Status {
     {
         match self {
             Status::Finished => 0,
-            Status::Blocked => 1,
+            Status::Blocked(_) => 1,
             Status::Spent => 2,
             Status::Usage => 3,
             Status::ReadFault => 4,
-            Status::Text(_) => 5,
+            Status::TooLong | Status::Text(_) => 5,
             Status::Types(_) => 6,
             Status::WriteFault => 7,
             Status::DeviceFault(_) => 8,
             Status::NoMemory => 9,
-            Status::Tall => 10,
+            Status::Tall(_) => 10,
         }
     }
 
-    /// How a run's stop is told.
-    pub(crate) fn of(stop: Option<Stop>) -> Status
-        ensures { result ≡ status_of stop }
+    /// The verdict line, with its line feed; it is empty after a write fault.
+    pub fn line(&self) -> Line
+        ensures { result.bytes ≡ verdict self.now }
     {
-        match stop {
+        match self {
+            Status::Finished => plain("finished"),
+            Status::Blocked(members) => numbered("blocked ", *members),
+            Status::Spent => plain("spent"),
+            Status::Usage => plain("usage"),
+            Status::ReadFault => plain("read fault"),
+            Status::TooLong => plain("refused: too long"),
+            Status::Text(fault) => refused(fault),
+            Status::Types(fault) => ill_typed(fault),
+            Status::WriteFault => Line::new(),
+            Status::DeviceFault(device) => device_failed(*device),
+            Status::NoMemory => plain("no memory"),
+            Status::Tall(member) => numbered("tall ", *member),
+        }
+    }
+
+    /// How a run is told that is over.
+    pub(crate) fn of(ended: &Ended<Val>) -> Status
+        ensures { result ≡ status_of ended.now }
+    {
+        match ended.stopped() {
             Some(Stop::Finished) => Status::Finished,
-            Some(Stop::Blocked) => Status::Blocked,
+            Some(Stop::Blocked) => Status::Blocked(ended.certificates().len() as u64),
             Some(Stop::Spent) => Status::Spent,
-            Some(Stop::Tall(_)) => Status::Tall,
+            Some(Stop::Tall(member)) => Status::Tall(member),
             Some(Stop::WriteFault) => Status::WriteFault,
             Some(Stop::DeviceFault(device)) => Status::DeviceFault(device),
             Some(Stop::NoMemory) | None => Status::NoMemory,

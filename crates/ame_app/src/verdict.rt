@@ -1,16 +1,17 @@
-//! The line that tells how a call ended.
+//! The lines that tell how a call ended.
 
 ghost use Rattle.std.specs.Prelude.{◌≡◌, ◌≤◌, ◌++◌, length, codes, decimal};
-ghost use Rattle.ame_app.specs.Verdict.{verdict, text_line, want_line};
+ghost use Rattle.ame_app.specs.Verdict.{text_line, lexical_line, syntactic_line, want_line};
 
-use crate::status::{Status, TextFault, TextKind};
+use crate::fault::TextFault;
 use ame_io::Line;
-use ame_parse::Want;
+use ame_lex::LexFault;
+use ame_parse::{ParseFault, Want};
 use ame_types::TypeFault;
 use itoa::Buffer;
 
 /// A text and a line feed.
-fn plain(text: &str) -> Line
+pub(crate) fn plain(text: &str) -> Line
     requires { length text.now ≤ 40 }
     ensures { result.bytes ≡ text.now ++ codes "\n" }
 {
@@ -21,7 +22,7 @@ fn plain(text: &str) -> Line
 }
 
 /// A text, a number and a line feed.
-fn numbered(text: &str, number: u64) -> Line
+pub(crate) fn numbered(text: &str, number: u64) -> Line
     requires { length text.now ≤ 40 }
     ensures { result.bytes ≡ text.now ++ (decimal number ++ codes "\n") }
 {
@@ -58,23 +59,42 @@ fn expected(want: Want, place: u32) -> Line
     }
 }
 
+/// The line of a fault of the bytes.
+fn lexical(fault: LexFault) -> Line
+    ensures { result.bytes ≡ lexical_line fault }
+{
+    match fault {
+        LexFault::BadByte(place) => placed("refused: bad byte at ", place),
+        LexFault::LongNumber(place) => placed("refused: long number at ", place),
+        LexFault::NoMemory => plain("no memory"),
+    }
+}
+
+/// The line of a fault of the tokens.
+fn syntactic(fault: ParseFault) -> Line
+    ensures { result.bytes ≡ syntactic_line fault }
+{
+    match fault {
+        ParseFault::Expected(place, want) => expected(want, place),
+        ParseFault::UnknownName(place) => placed("refused: unknown name at ", place),
+        ParseFault::TooNested(place) => placed("refused: too nested at ", place),
+        ParseFault::Trailing(place) => placed("refused: trailing at ", place),
+        ParseFault::NoMemory => plain("no memory"),
+    }
+}
+
 /// The line of a fault of the text.
-fn refused(fault: &TextFault) -> Line
+pub(crate) fn refused(fault: &TextFault) -> Line
     ensures { result.bytes ≡ text_line fault.now }
 {
-    match fault.kind {
-        TextKind::TooLong => plain("refused: too long"),
-        TextKind::BadByte => placed("refused: bad byte at ", fault.place),
-        TextKind::LongNumber => placed("refused: long number at ", fault.place),
-        TextKind::Expected(want) => expected(want, fault.place),
-        TextKind::UnknownName => placed("refused: unknown name at ", fault.place),
-        TextKind::TooNested => placed("refused: too nested at ", fault.place),
-        TextKind::Trailing => placed("refused: trailing at ", fault.place),
+    match fault {
+        TextFault::Lexical(fault) => lexical(*fault),
+        TextFault::Syntactic(fault) => syntactic(*fault),
     }
 }
 
 /// The line of a fault of the types.
-fn ill_typed(fault: &TypeFault) -> Line
+pub(crate) fn ill_typed(fault: &TypeFault) -> Line
     ensures { result.bytes ≡ codes "types: rule " ++ (decimal fault.now.rule ++ (codes " at " ++ (decimal fault.now.place ++ codes "\n"))) }
 {
     let mut buffer = Buffer::new();
@@ -88,7 +108,7 @@ fn ill_typed(fault: &TypeFault) -> Line
 }
 
 /// The line of a device that failed.
-fn failed(device: u8) -> Line
+pub(crate) fn device_failed(device: u8) -> Line
     ensures { result.bytes ≡ codes "device " ++ (decimal device ++ (codes " failed" ++ codes "\n")) }
 {
     let mut buffer = Buffer::new();
@@ -98,24 +118,4 @@ fn failed(device: u8) -> Line
     line.push_str(" failed");
     line.push_str("\n");
     line
-}
-
-/// The verdict line; it is empty after a write fault. The number is how many members are blocked, or which
-/// one came to a value that is too high.
-pub(crate) fn verdict_line(status: &Status, number: u64) -> Line
-    ensures { result.bytes ≡ verdict status.now number }
-{
-    match status {
-        Status::Finished => plain("finished"),
-        Status::Blocked => numbered("blocked ", number),
-        Status::Spent => plain("spent"),
-        Status::Usage => plain("usage"),
-        Status::ReadFault => plain("read fault"),
-        Status::Text(fault) => refused(fault),
-        Status::Types(fault) => ill_typed(fault),
-        Status::WriteFault => Line::new(),
-        Status::DeviceFault(device) => failed(*device),
-        Status::NoMemory => plain("no memory"),
-        Status::Tall => numbered("tall ", number),
-    }
 }

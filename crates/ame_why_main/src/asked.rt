@@ -1,5 +1,7 @@
 //! What the words ask for, before those that `ame` has.
 
+use ame_cli::Verb;
+
 /// What is shown.
 #[derive(Clone, Copy, PartialEq, Eq, Debug)]
 pub enum View {
@@ -36,5 +38,5 @@ pub fn file_of(words: &mut Vec<String>) -> Option<String> {
 
 /// Whether a word is none that `ame` has.
 fn is_file(word: &str) -> bool {
-    word != "run" && word != "bench" && !word.starts_with('-')
+    Verb::named(word).is_none() && !word.starts_with('-')
 }

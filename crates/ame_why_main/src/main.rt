@@ -7,12 +7,13 @@ mod explain;
 mod given;
 mod run;
 
-use crate::asked::{View, file_of, view_of};
-use crate::given::text_of;
-use crate::run::{show_ended, show_run, show_unread};
+use crate::asked::{file_of, view_of};
+use crate::given::Unopened;
+use crate::run::show;
 use ame_app::process_words;
-use std::io;
+use ame_io::StdSource;
 use std::process::ExitCode;
+use std::{fs, io};
 
 fn main(rt: HostRuntime) -> ExitCode {
     let Ok(mut words) = process_words(&rt) else {
@@ -20,11 +21,12 @@ fn main(rt: HostRuntime) -> ExitCode {
     };
     let view = view_of(&mut words);
     let file = file_of(&mut words);
-    let number = match text_of(&rt, &words, file) {
-        Err(fail) => show_unread(io::writer(&rt), fail),
-        Ok(text) => match view {
-            View::Why => show_run(&rt, io::writer(&rt), words, &text),
-            View::Journal | View::Trace => { show_ended(&rt, io::writer(&rt), words, &text, view) }
+    let writer = io::writer(&rt);
+    let number = match file {
+        None => show(&rt, words, &mut StdSource::new(rt.reader()), view, writer),
+        Some(name) => match fs::open(&rt, name.as_str()) {
+            Ok(file) => show(&rt, words, &mut StdSource::new(file), view, writer),
+            Err(_) => show(&rt, words, &mut Unopened::new(), view, writer),
         },
     };
     ExitCode::from(number)

@@ -1,89 +1,81 @@
 //! A run, and what is shown of it.
 
-ghost use Rattle.std.specs.Prelude.{◌≤◌, length};
+ghost use Rattle.std.specs.Prelude.{◌≤◌, length, vec_len};
 ghost use Rattle.ame_lex.specs.Bytes.{max_text};
 
 use crate::asked::View;
 use crate::explain::explain;
-use ame_app::{Report, StandardDevice, run_process};
+use ame_app::{Report, StandardDevice, Status, run_process};
+use ame_code::Code;
 use ame_engine::Ended;
-use ame_io::{MemSource, ReadAllFail, StdSink, write_all};
+use ame_io::{Source, StdSink, write_all};
 use ame_journal::Entry;
 use ame_store::Store;
 use ame_term::{Loc, NoMemory, copy_term, push};
 use ame_value::Val;
 use ame_why::{Made, forms_of, input_of, journal_of, lines_of, table_of};
-use std::alloc::{AllocError, Global};
+use std::alloc::Global;
 use std::io;
-use std::sync::Wait;
+use std::sync::{Arc, Wait};
 use std::thread::Threads;
-
-/// The most bytes that a read of the text takes.
-const PIECE: usize = 65_536;
 
 /// The most steps of a run whose entries are replayed for their lines. A replay over terms goes down each term, so it takes stack and
 /// time by the depth of terms, which grows with the steps.
 const REPLAYED_STEPS: u64 = 10_000;
 
-/// The text as a source.
-fn source_of(alloc: Global, text: &[u8]) -> Result<MemSource, AllocError> {
-    let text = Vec::from_slice(alloc, text)?;
-    Ok(MemSource::new(text, PIECE, Vec::new(alloc)))
-}
-
-/// Writes what `ame` writes, and then why. The answer is the status of the process.
-pub fn show_run<R, W>(rt: &R, writer: W, words: Vec<String>, text: &[u8]) -> u8
+/// Runs what the words ask for, and writes what is asked for of it. The answer is the status of the process.
+pub fn show<R, S, W>(rt: &R, words: Vec<String>, source: &mut S, view: View, writer: W) -> u8
 where
     R: AllocGlobal + Threads + Wait + Sync,
+    S: Source,
     W: io::Write + Send + Drop,
-    requires small { length text.now ≤ max_text }
 {
-    let Ok(mut source) = source_of(rt.alloc(), text) else {
-        return write(writer, b"no memory\n", 9);
-    };
-    let mut report = run_process(rt, rt.alloc(), Ok(words), &mut source, StdSink::new(writer));
-    if let Ok(page) = explain(rt.alloc(), text, &report.status) {
+    match view {
+        View::Why => show_run(rt, words, source, writer),
+        View::Journal | View::Trace => show_ended(rt, words, source, view, writer),
+    }
+}
+
+/// Writes what `ame` writes, and then why.
+fn show_run<R, S, W>(rt: &R, words: Vec<String>, source: &mut S, writer: W) -> u8
+where
+    R: AllocGlobal + Threads + Wait + Sync,
+    S: Source,
+    W: io::Write + Send + Drop,
+{
+    let mut report = run_process(rt, rt.alloc(), Ok(words), source, StdSink::new(writer));
+    if let Ok(page) = explain(rt.alloc(), &report.text, &report.status) {
         let _ = write_all(&mut report.sink, &page);
     }
     report.status.number()
 }
 
-/// Writes what is asked for of the journal of the run; where no run is begun, what `show_run` writes.
-pub fn show_ended<R, W>(rt: &R, writer: W, words: Vec<String>, text: &[u8], view: View) -> u8
+/// Writes what is asked for of the journal of the run; where none was begun, the verdict line, and then why.
+fn show_ended<R, S, W>(rt: &R, words: Vec<String>, source: &mut S, view: View, writer: W) -> u8
 where
     R: AllocGlobal + Threads + Wait + Sync,
+    S: Source,
     W: io::Write + Send + Drop,
-    requires small { length text.now ≤ max_text }
 {
-    let Ok(again) = copy_of(rt.alloc(), &words) else {
-        return write(writer, b"no memory\n", 9);
+    let alloc = rt.alloc();
+    let report = run_process(rt, alloc, Ok(words), source, StdSink::new(io::sink()));
+    let page = match &report.ended {
+        Some(ended) => page_of(alloc, view, &report, ended),
+        None => refusal_of(alloc, &report.text, &report.status),
     };
-    let Ok(mut source) = source_of(rt.alloc(), text) else {
-        return write(writer, b"no memory\n", 9);
-    };
-    let report = run_process(
-        rt,
-        rt.alloc(),
-        Ok(words),
-        &mut source,
-        StdSink::new(io::sink()),
-    );
-    if report.ended.is_none() {
-        return show_run(rt, writer, again, text);
-    }
-    match page_of(rt.alloc(), view, &report, text) {
+    match page {
         Ok(page) => write(writer, &page, report.status.number()),
         Err(NoMemory) => write(writer, b"no memory\n", 9),
     }
 }
 
-/// A copy of the words.
-fn copy_of(alloc: Global, words: &[String]) -> Result<Vec<String>, AllocError> {
-    let mut copy = Vec::new(alloc);
-    for word in words {
-        copy.push(String::from_str(alloc, word.as_str())?)?;
-    }
-    Ok(copy)
+/// The verdict line of a call, and why it ended so.
+fn refusal_of(alloc: Global, text: &[u8], status: &Status) -> Result<Vec<u8>, NoMemory>
+    requires small { length text.now ≤ max_text }
+{
+    let mut page = Vec::from_slice(alloc, status.line().as_str().as_bytes())?;
+    page.extend_from_slice(&explain(alloc, text, status)?)?;
+    Ok(page)
 }
 
 /// What is asked for of a run's journal.
@@ -91,16 +83,13 @@ fn page_of<K>(
     alloc: Global,
     view: View,
     report: &Report<K, StandardDevice>,
-    text: &[u8],
+    ended: &Ended<Val>,
 ) -> Result<Vec<u8>, NoMemory>
-    requires small { length text.now ≤ max_text }
+    requires small { vec_len report.now.text ≤ max_text }
 {
-    let Some(ended) = &report.ended else {
-        return Ok(Vec::new(alloc));
-    };
     match view {
-        View::Trace => trace_text(alloc, report, ended, text),
-        View::Why | View::Journal => journal_text(alloc, ended.journal(), text),
+        View::Trace => trace_text(alloc, report, ended),
+        View::Why | View::Journal => journal_text(alloc, ended.journal(), &report.text),
     }
 }
 
@@ -109,11 +98,10 @@ fn trace_text<K>(
     alloc: Global,
     report: &Report<K, StandardDevice>,
     ended: &Ended<Val>,
-    text: &[u8],
 ) -> Result<Vec<u8>, NoMemory>
-    requires small { length text.now ≤ max_text }
+    requires small { vec_len report.now.text ≤ max_text }
 {
-    let lines = lines_told(alloc, report)?;
+    let lines = lines_told(alloc, &report.code, ended)?;
     let mut page = table_of(alloc, ended.journal(), &lines)?;
     if lines.is_empty() {
         page.extend_from_slice(b"\nwhat entries printed isn't told\n")?;
@@ -121,7 +109,7 @@ fn trace_text<K>(
     let made = made_in(alloc, ended.store())?;
     if !made.is_empty() {
         page.push(b'\n')?;
-        page.extend_from_slice(&forms_of(alloc, text, &made)?)?;
+        page.extend_from_slice(&forms_of(alloc, &report.text, &made)?)?;
     }
     Ok(page)
 }
@@ -155,11 +143,12 @@ fn steps_of(entries: &[Entry]) -> u64 {
 }
 
 /// The lines of each entry of a run's journal; none where they aren't told.
-fn lines_told<K>(
+fn lines_told(
     alloc: Global,
-    report: &Report<K, StandardDevice>,
+    code: &Option<Arc<Code>>,
+    ended: &Ended<Val>,
 ) -> Result<Vec<Vec<i64>>, NoMemory> {
-    let (Some(code), Some(ended)) = (&report.code, &report.ended) else {
+    let Some(code) = code else {
         return Ok(Vec::new(alloc));
     };
     if steps_of(ended.journal()) > REPLAYED_STEPS {
@@ -177,19 +166,6 @@ fn journal_text(alloc: Global, entries: &[Entry], text: &[u8]) -> Result<Vec<u8>
     match journal_of(alloc, entries)? {
         Some(journal) => input_of(alloc, &journal, text),
         None => Ok(Vec::new(alloc)),
-    }
-}
-
-/// Writes what `ame` writes where the text isn't read.
-pub fn show_unread<W: io::Write + Drop>(writer: W, fail: ReadAllFail) -> u8 {
-    match fail {
-        ReadAllFail::ReadFault => write(writer, b"read fault\nthe text can't be read\n", 4),
-        ReadAllFail::TooLong => write(
-            writer,
-            b"refused: too long\na text has at most 1048576 bytes\n",
-            5,
-        ),
-        ReadAllFail::NoMemory => write(writer, b"no memory\n", 9),
     }
 }
 

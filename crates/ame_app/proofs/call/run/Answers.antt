@@ -1,29 +1,8 @@
-use denote.Param.Send.{sendable}
-use Rattle.ame_eval.proofs.FragmentCrossing.{fragment_send}
-use Rattle.std.proofs.Common.{subst}
-use Rattle.ame_code.specs.FlatCode.{FlatCode}
-use Rattle.ame_code.specs.Code.{program_of}
-use Rattle.ame_eval.specs.Values.{value_meant}
 use Rattle.ame_shell.specs.Ends.{ends_of}
-use Rattle.ame_shell.specs.Over.{IsOver}
-use Rattle.ame_app.proofs.CrossingLemmas.{code_send, code_sync}
-use Rattle.ame_app.proofs.JobLemmas.{some-weaker}
+use Rattle.ame_app.proofs.CodeLemmas.{some-weaker}
 use Rattle.ame_app.proofs.call.run.Goals as goal
 
-pub returns-in-Ok-run_by_workers-clause-ran : goal.returns-in-Ok-run_by_workers-clause-ran
-returns-in-Ok-run_by_workers-clause-ran g c =
-    let left = c.in-Ok-run_by_workers.left in
+pub returns-in-Ok-clause-ran : goal.returns-in-Ok-clause-ran
+returns-in-Ok-clause-ran g c =
     let before = ends_of g.K.Sink.written g.K.Sink.faults g.D.Device.device_heard g.D.Device.device_faults c.args.sink c.args.devices.items in
-    let after = ends_of g.K.Sink.written g.K.Sink.faults g.D.Device.device_heard g.D.Device.device_faults left.sink left.devices.items in
-    let over = subst (λ (k : FlatCode). IsOver (program_of k) (record { turns = c.args.job.options.turns; slice = c.args.job.options.slice; seats = c.args.job.options.workers })
-    (value_meant k) before left.ended after) c.in-Ok.ensures c.in-Ok-run_by_workers.ensures.over in
-    some-weaker c.conclude.result.ended _ _ (λ end ran. λ call devices job. ran call before job over) c.conclude.ensures.ran
-
-pub run_by_workers-requires-send-M : goal.run_by_workers-requires-send-M
-run_by_workers-requires-send-M g c κs within = search (sendable, fragment_send)
-
-pub run_by_workers-requires-send-M-Code : goal.run_by_workers-requires-send-M-Code
-run_by_workers-requires-send-M-Code g c κs within = search (sendable, code_send) depth 20
-
-pub run_by_workers-requires-sync-M-Code : goal.run_by_workers-requires-sync-M-Code
-run_by_workers-requires-sync-M-Code g c κs within = search (sendable, code_sync) depth 20
+    some-weaker c.conclude.result.ended _ _ (λ end ran. λ call devices job. ran call before job c.in-Ok.ensures.made) c.conclude.ensures.ran

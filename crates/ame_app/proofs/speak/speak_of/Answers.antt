@@ -1,0 +1,18 @@
+use Rattle.std.proofs.Common.{ℕ, List, inr, refl, subst}
+use Rattle.std.specs.Io.KnownBytes.{Appends}
+use Rattle.ame_io.specs.Counts.{HasRisen}
+use Rattle.ame_io.proofs.WritesLemmas.{AppendsFront-after}
+use Rattle.ame_app.specs.Verbs.{behind}
+use Rattle.ame_app.specs.Verdict.{verdict}
+use Rattle.ame_app.proofs.speak.speak_of.Goals as goal
+
+pub returns-in-Err : goal.returns-in-Err
+returns-in-Err g c =
+    let written = g.K.Sink.written in
+    let whole = subst (λ (l : List ℕ). Appends (written c.args.sink.now) (written c.write_line.new.sink) l) c.line.ensures c.in-Ok.ensures.whole in
+    inr (record {
+      is = refl;
+      appended = AppendsFront-after (written c.args.sink.now) (written c.write_line.new.sink) (written c.write_behind.new._sink)
+          (verdict c.args.told) (behind c.args.command.now c.args.own.now c.args.told) whole c.in-Err.ensures.front;
+      risen = subst (λ (n : ℕ). HasRisen n (g.K.Sink.faults c.write_behind.new._sink)) c.in-Ok.ensures.stayed c.in-Err.ensures.risen;
+    })

@@ -1,0 +1,56 @@
+-- What each command does: tables with a row a verb.
+pub mod Run
+pub mod Bench
+use Rattle.std.specs.Prelude.{ℕ, Bool, true, false, List, [], Option, Some}
+use Rattle.ame_lex.specs.Bytes.{Text}
+use Rattle.ame_journal.specs.declared.entry.Entry.{Entry}
+use Rattle.ame_value.specs.declared.val.Val.{Val}
+use Rattle.ame_cli.specs.declared.command.Options.{Options}
+use Rattle.ame_cli.specs.declared.command.Command.{Command}
+use Rattle.ame_engine.specs.Ending.{End}
+use Rattle.ame_app.specs.declared.parts.Front.{Front}
+use Rattle.ame_app.specs.declared.parts.Own.{Own}
+use Rattle.ame_app.specs.declared.status.Status.{Status}
+use Rattle.ame_app.specs.Verbs.Run.{TakesAll, BeginsWithNothing, HasNothing}
+use Rattle.ame_app.specs.Verbs.Bench.{TakesGenerated}
+
+-- What is given
+
+-- whether the source is read
+abbrev pub reads_source : Command → Bool
+reads_source (Command.Run options) = true
+reads_source (Command.Bench seed size options) = false
+
+-- the bytes that were read are this front and this text of a program
+abbrev pub Takes : Command → List ℕ → Front → Text → Type 0
+Takes (Command.Run options) bytes front text = TakesAll bytes front text
+Takes (Command.Bench seed size options) bytes front text = TakesGenerated seed size front text
+
+-- they are no front and text, which is told so
+abbrev pub Declines : Command → List ℕ → Status → Type 0
+Declines (Command.Run options) bytes told = ⊥
+Declines (Command.Bench seed size options) bytes told = ⊥
+
+-- What is run
+
+-- the options of the run, where one is to be made
+abbrev pub options_of : Command → Option Options
+options_of (Command.Run options) = Some options
+options_of (Command.Bench seed size options) = Some options
+
+-- the entries with which the run begins
+abbrev pub Begins : Command → Front → List Entry → Type 0
+Begins (Command.Run options) front base = BeginsWithNothing base
+Begins (Command.Bench seed size options) front base = BeginsWithNothing base
+
+-- What is told
+
+-- what the report has of the command's own, of a run that ended so
+abbrev pub Promises : Command → Front → Options → Own → End Val → Type 0
+Promises (Command.Run options) front with own end = HasNothing own
+Promises (Command.Bench seed size options) front with own end = HasNothing own
+
+-- what is written behind the verdict line of a run
+abbrev pub behind : Command → Own → Status → List ℕ
+behind (Command.Run options) own told = []
+behind (Command.Bench seed size options) own told = []

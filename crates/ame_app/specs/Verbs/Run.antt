@@ -1,0 +1,18 @@
+-- `run`: a source that is the text of a program.
+use Rattle.std.specs.Prelude.{◌≡◌, ℕ, List, []}
+use Rattle.ame_lex.specs.Bytes.{Text}
+use Rattle.ame_journal.specs.declared.entry.Entry.{Entry}
+use Rattle.ame_app.specs.declared.parts.Front.{Front}
+use Rattle.ame_app.specs.declared.parts.Own.{Own}
+
+-- the bytes are the text
+abbrev pub TakesAll : List ℕ → Front → Text → Type 0
+TakesAll bytes front text = (front ≡ Front.Nothing) × (text ≡ bytes)
+
+-- the run begins with nothing
+abbrev pub BeginsWithNothing : List Entry → Type 0
+BeginsWithNothing base = base ≡ []
+
+-- and has nothing of its own
+abbrev pub HasNothing : Own → Type 0
+HasNothing own = own ≡ Own.Nothing

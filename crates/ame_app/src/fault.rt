@@ -1,0 +1,21 @@
+//! Why a text is no program, and why words can't be read.
+
+use ame_lex::LexFault;
+use ame_parse::ParseFault;
+
+/// Why a text is no program, and where: an offset in bytes.
+#[derive(Clone, Copy, PartialEq, Eq, Debug)]
+pub enum TextFault {
+    /// Its bytes are no tokens.
+    Lexical(LexFault),
+    /// Its tokens are no program.
+    Syntactic(ParseFault),
+}
+
+/// Why the words of a process can't be read.
+#[derive(Clone, Copy, PartialEq, Eq, Debug)]
+pub enum WordsFault {
+    /// One of them isn't text.
+    NotText,
+    NoMemory,
+}

@@ -1,0 +1,118 @@
+//! What each command does: functions with an arm a verb.
+
+mod bench;
+mod run;
+
+ghost use Rattle.std.specs.Prelude.{◌≡◌, ◌≤◌, IfOk, IfErr, OnOk, OnErr, vec_len};
+ghost use Rattle.std.specs.Arc.{arc_value};
+ghost use Rattle.std.specs.Io.KnownBytes.{Appends};
+ghost use Rattle.ame_cli.specs.Ranges.{IsInRange};
+ghost use Rattle.ame_io.specs.Counts.{HasRisen};
+ghost use Rattle.ame_io.specs.Writes.{AppendsFront};
+ghost use Rattle.ame_shell.specs.Ends.{ends_of};
+ghost use Rattle.ame_app.specs.Jobs.{IsMade, IsUntaken};
+ghost use Rattle.ame_app.specs.Verbs as spec;
+
+use crate::parts::{Front, Own};
+use crate::status::Status;
+use ame_cli::Command;
+use ame_code::Code;
+use ame_device::Device;
+use ame_io::{READ_LIMIT, Sink, WriteFault};
+use ame_shell::Remains;
+use ame_value::Val;
+use ame_worker::Gate;
+use std::alloc::Global;
+use std::sync::{Arc, Wait};
+use std::thread::Threads;
+
+/// Code to run, by a command and with what stood before its text.
+#[derive(Drop)]
+pub(crate) struct Job {
+    pub(crate) code: Arc<Code>,
+    pub(crate) command: Command,
+    pub(crate) front: Front,
+}
+
+/// What a command takes of the bytes that it is given.
+#[derive(Drop)]
+pub(crate) struct Taken {
+    pub(crate) front: Front,
+    pub(crate) text: Vec<u8>,
+}
+
+/// What a run left, and what the command has of its own.
+pub(crate) struct Made<K, D> {
+    pub(crate) left: Remains<Val, K, D>,
+    pub(crate) own: Own,
+}
+
+/// Whether a command reads its source.
+pub(crate) fn reads_source(command: &Command) -> bool
+    ensures { result ≡ spec.reads_source command.now }
+{
+    match command {
+        Command::Run(_) => true,
+        Command::Bench(_, _, _) => false,
+    }
+}
+
+/// The front and the text of a command, or that the bytes are none that it takes.
+pub(crate) fn take(alloc: Global, command: &Command, bytes: Vec<u8>) -> Result<Taken, Status>
+    requires ranges { IsInRange command.now }
+    requires most { vec_len bytes ≤ READ_LIMIT }
+    ensures takes { IfOk result (λ taken. spec.Takes command.now bytes.items taken.front taken.text.items) }
+    ensures small { IfOk result (λ taken. vec_len taken.text ≤ READ_LIMIT) }
+    ensures declines { IfErr result (λ told. IsUntaken command.now bytes.items told) }
+{
+    match command {
+        Command::Run(_) => Ok(run::take(bytes)),
+        Command::Bench(seed, size, _) => bench::take(alloc, *seed, *size),
+    }
+}
+
+/// Makes the run that a command asks for. Where nothing was begun, for want of memory, it hands sink and devices back as they were.
+pub(crate) fn make<R, K, D, G>(
+    rt: &R,
+    alloc: Global,
+    job: &Job,
+    sink: K,
+    devices: Vec<D>,
+    gate: &G,
+) -> Result<Made<K, D>, (K, Vec<D>)>
+where
+    R: Threads + Wait + Sync,
+    K: Sink + Send + Drop,
+    D: Device + Send,
+    G: Gate + Sync,
+    requires ranges { IsInRange job.now.command }
+    requires devices { (arc_value job.now.code).accepted.devices ≡ vec_len devices }
+    ensures made { IfOk result (λ made. IsMade job.now.command job.now.front (arc_value job.now.code)
+        (ends_of K.written K.faults D.device_heard D.device_faults sink devices.items) made.own made.left.ended
+        (ends_of K.written K.faults D.device_heard D.device_faults made.left.sink made.left.devices.items)) }
+    ensures sink { IfErr result (λ back. back.0 ≡ sink) }
+    ensures devices { IfErr result (λ back. back.1 ≡ devices) }
+{
+    match job.command {
+        Command::Run(options) | Command::Bench(_, _, options) => {
+            run::run(rt, alloc, &job.code, options, sink, devices, gate)
+        }
+    }
+}
+
+/// Writes what stands behind the verdict line of a run.
+pub(crate) fn write_behind<K: Sink>(
+    _sink: &mut K,
+    command: &Command,
+    _own: &Own,
+    _told: &Status,
+) -> Result<(), WriteFault>
+    ensures whole { OnOk result (Appends (K.written _sink.old) (K.written _sink.new) (spec.behind command.now _own.now _told.now)) }
+    ensures stayed { OnOk result (K.faults _sink.new ≡ K.faults _sink.old) }
+    ensures front { OnErr result (AppendsFront (K.written _sink.old) (K.written _sink.new) (spec.behind command.now _own.now _told.now)) }
+    ensures risen { OnErr result (HasRisen (K.faults _sink.old) (K.faults _sink.new)) }
+{
+    match command {
+        Command::Run(_) | Command::Bench(_, _, _) => Ok(()),
+    }
+}

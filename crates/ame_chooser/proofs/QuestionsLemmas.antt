@@ -40,8 +40,8 @@ pub length-questions_along : (waits : List Bool) (picks : List Picked) → lengt
 length-questions_along waits [] = refl
 length-questions_along waits (pick ∷ picks) = ap suc (length-questions_along (waits_after waits pick) picks)
 
--- one waits more where one is told to that doesn't wait
-count-waits : (waits : List Bool) (seat : ℕ) → seat < length waits → get_or waits seat false ≡ false → count_of (set waits seat true) ≡ count_of waits + 1
+-- One waits more where one is told to that doesn't wait.
+pub count-waits : (waits : List Bool) (seat : ℕ) → seat < length waits → get_or waits seat false ≡ false → count_of (set waits seat true) ≡ count_of waits + 1
 count-waits waits seat below free =
     let one : ℕ = 1 in
     let none : ℕ = 0 in

@@ -3,3 +3,5 @@ pub mod DrawnLemmas
 pub mod ListedLemmas
 pub mod WaitsLemmas
 pub mod QuestionsLemmas
+pub mod SignLemmas
+pub mod TextLemmas

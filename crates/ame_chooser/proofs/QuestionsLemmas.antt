@@ -9,39 +9,39 @@ use Rattle.std.proofs.lemmas.List.Folds.{sum_by-replicate}
 use Rattle.ame_chooser.specs.Strategy.{Answers}
 use Rattle.ame_chooser.specs.Listed.{listed}
 use Rattle.ame_chooser.specs.Waits.{may_be_picked}
-use Rattle.ame_chooser.specs.Questions.{Pick, seats_of, idles_of, turns_of, waits_after, waits_along, questions_along, count_of, AreAnswers, AllWaited}
+use Rattle.ame_chooser.specs.Questions.{Picked, seats_of, idles_of, turns_of, waits_after, waits_along, questions_along, count_of, AreAnswers, AllWaited}
 use Rattle.ame_chooser.proofs.ListedLemmas.{listed-whole}
 use Rattle.ame_chooser.proofs.WaitsLemmas.{free-seat}
 
 -- one pick more
-pub waits_along-push : (waits : List Bool) (picks : List Pick) (pick : Pick) → waits_along waits (picks ++ pick ∷ []) ≡ waits_after (waits_along waits picks) pick
+pub waits_along-push : (waits : List Bool) (picks : List Picked) (pick : Picked) → waits_along waits (picks ++ pick ∷ []) ≡ waits_after (waits_along waits picks) pick
 waits_along-push waits [] pick = refl
 waits_along-push waits (first ∷ picks) pick = waits_along-push (waits_after waits first) picks pick
 
-pub questions_along-push : (waits : List Bool) (picks : List Pick) (pick : Pick) →
+pub questions_along-push : (waits : List Bool) (picks : List Picked) (pick : Picked) →
     questions_along waits (picks ++ pick ∷ []) ≡ questions_along waits picks ++ may_be_picked (waits_along waits picks) ∷ []
 questions_along-push waits [] pick = refl
 questions_along-push waits (first ∷ picks) pick = ap (λ t. may_be_picked waits ∷ t) (questions_along-push (waits_after waits first) picks pick)
 
 -- there is a flag for each seat, however many picks were made
-pub length-waits_after : (waits : List Bool) (pick : Pick) → length (waits_after waits pick) ≡ length waits
+pub length-waits_after : (waits : List Bool) (pick : Picked) → length (waits_after waits pick) ≡ length waits
 length-waits_after waits pick = by_case pick.waited
   where
     by_case : (waited : Bool) → length (cond waited (set waits pick.seat true) (replicate (length waits) false)) ≡ length waits
     by_case true = length-set waits pick.seat true
     by_case false = length-replicate (length waits) false
 
-pub length-waits_along : (waits : List Bool) (picks : List Pick) → length (waits_along waits picks) ≡ length waits
+pub length-waits_along : (waits : List Bool) (picks : List Picked) → length (waits_along waits picks) ≡ length waits
 length-waits_along waits [] = refl
 length-waits_along waits (pick ∷ picks) = length-waits_along (waits_after waits pick) picks ∙ length-waits_after waits pick
 
 -- a question a pick
-pub length-questions_along : (waits : List Bool) (picks : List Pick) → length (questions_along waits picks) ≡ length picks
+pub length-questions_along : (waits : List Bool) (picks : List Picked) → length (questions_along waits picks) ≡ length picks
 length-questions_along waits [] = refl
 length-questions_along waits (pick ∷ picks) = ap suc (length-questions_along (waits_after waits pick) picks)
 
--- one waits more where one is told to that doesn't wait
-count-waits : (waits : List Bool) (seat : ℕ) → seat < length waits → get_or waits seat false ≡ false → count_of (set waits seat true) ≡ count_of waits + 1
+-- One waits more where one is told to that doesn't wait.
+pub count-waits : (waits : List Bool) (seat : ℕ) → seat < length waits → get_or waits seat false ≡ false → count_of (set waits seat true) ≡ count_of waits + 1
 count-waits waits seat below free =
     let one : ℕ = 1 in
     let none : ℕ = 0 in
@@ -50,18 +50,18 @@ count-waits waits seat below free =
     omega (arith, change, had)
 
 -- what a pick adds: one that found nothing to do, and one that did something
-pick-counts : (waits : List Bool) (seat : ℕ) (waited : Bool) (picks : List Pick) → let pick : Pick = record { seat = seat; waited = waited } in
+pick-counts : (waits : List Bool) (seat : ℕ) (waited : Bool) (picks : List Picked) → let pick : Picked = record { seat = seat; waited = waited } in
     Contains (may_be_picked waits) seat →
     idles_of picks + count_of (waits_after waits pick) ≤ length (waits_after waits pick) * turns_of picks + count_of (waits_along (waits_after waits pick) picks) →
     idles_of (pick ∷ picks) + count_of waits ≤ length waits * turns_of (pick ∷ picks) + count_of (waits_along (waits_after waits pick) picks)
 pick-counts waits seat true picks free rest =
-    let idles = sum_by-cons (λ (p : Pick). cond p.waited 1 0) (record { seat = seat; waited = true }) picks in
-    let turns = sum_by-cons (λ (p : Pick). cond (not p.waited) 1 0) (record { seat = seat; waited = true }) picks in
+    let idles = sum_by-cons (λ (p : Picked). cond p.waited 1 0) (record { seat = seat; waited = true }) picks in
+    let turns = sum_by-cons (λ (p : Picked). cond (not p.waited) 1 0) (record { seat = seat; waited = true }) picks in
     let at = free-seat seat waits free in
     omega (arith, idles, ap (λ n. length waits * n) turns, count-waits waits seat at.0 at.1, ap (λ n. n * turns_of picks) (length-set waits seat true))
 pick-counts waits seat false picks free rest =
-    let idles = sum_by-cons (λ (p : Pick). cond p.waited 1 0) (record { seat = seat; waited = false }) picks in
-    let turns = sum_by-cons (λ (p : Pick). cond (not p.waited) 1 0) (record { seat = seat; waited = false }) picks in
+    let idles = sum_by-cons (λ (p : Picked). cond p.waited 1 0) (record { seat = seat; waited = false }) picks in
+    let turns = sum_by-cons (λ (p : Picked). cond (not p.waited) 1 0) (record { seat = seat; waited = false }) picks in
     omega (
       arith,
       idles,
@@ -72,13 +72,13 @@ pick-counts waits seat false picks free rest =
     )
 
 -- Picks that found nothing to do are few: between two that did something, each seat is told to wait once at most.
-pub idles-few : (waits : List Bool) (picks : List Pick) → AreAnswers waits picks →
+pub idles-few : (waits : List Bool) (picks : List Picked) → AreAnswers waits picks →
     idles_of picks + count_of waits ≤ length waits * turns_of picks + count_of (waits_along waits picks)
 idles-few waits [] answers = omega arith
 idles-few waits (pick ∷ picks) answers = pick-counts waits pick.seat pick.waited picks answers.0 (idles-few (waits_after waits pick) picks answers.1)
 
 -- From the beginning on, they are at most the seats times one more than the picks that did something.
-pub idles-bounded : (seats : ℕ) (picks : List Pick) → AreAnswers (replicate seats false) picks → idles_of picks ≤ seats * (turns_of picks + 1)
+pub idles-bounded : (seats : ℕ) (picks : List Picked) → AreAnswers (replicate seats false) picks → idles_of picks ≤ seats * (turns_of picks + 1)
 idles-bounded seats picks answers =
     let begun = replicate seats false in
     let few = idles-few begun picks answers in
@@ -87,23 +87,23 @@ idles-bounded seats picks answers =
     omega (arith, few, ap (λ n. n * turns_of picks) long, count_by-le-length (λ w. w) (waits_along begun picks), last)
 
 -- picks are made of those that found nothing to do and those that did something
-one-counted : (seat : ℕ) (waited : Bool) (picks : List Pick) → length picks ≡ turns_of picks + idles_of picks →
-    let pick : Pick = record { seat = seat; waited = waited } in length (pick ∷ picks) ≡ turns_of (pick ∷ picks) + idles_of (pick ∷ picks)
+one-counted : (seat : ℕ) (waited : Bool) (picks : List Picked) → length picks ≡ turns_of picks + idles_of picks →
+    let pick : Picked = record { seat = seat; waited = waited } in length (pick ∷ picks) ≡ turns_of (pick ∷ picks) + idles_of (pick ∷ picks)
 one-counted seat true picks rest =
-    let idles = sum_by-cons (λ (p : Pick). cond p.waited 1 0) (record { seat = seat; waited = true }) picks in
-    let turns = sum_by-cons (λ (p : Pick). cond (not p.waited) 1 0) (record { seat = seat; waited = true }) picks in
+    let idles = sum_by-cons (λ (p : Picked). cond p.waited 1 0) (record { seat = seat; waited = true }) picks in
+    let turns = sum_by-cons (λ (p : Picked). cond (not p.waited) 1 0) (record { seat = seat; waited = true }) picks in
     omega (arith, idles, turns)
 one-counted seat false picks rest =
-    let idles = sum_by-cons (λ (p : Pick). cond p.waited 1 0) (record { seat = seat; waited = false }) picks in
-    let turns = sum_by-cons (λ (p : Pick). cond (not p.waited) 1 0) (record { seat = seat; waited = false }) picks in
+    let idles = sum_by-cons (λ (p : Picked). cond p.waited 1 0) (record { seat = seat; waited = false }) picks in
+    let turns = sum_by-cons (λ (p : Picked). cond (not p.waited) 1 0) (record { seat = seat; waited = false }) picks in
     omega (arith, idles, turns)
 
-pub length-picks : (picks : List Pick) → length picks ≡ turns_of picks + idles_of picks
+pub length-picks : (picks : List Picked) → length picks ≡ turns_of picks + idles_of picks
 length-picks [] = refl
 length-picks (pick ∷ picks) = one-counted pick.seat pick.waited picks (length-picks picks)
 
 -- picks in two parts
-waits_along-append : (waits : List Bool) (picks more : List Pick) → waits_along waits (picks ++ more) ≡ waits_along (waits_along waits picks) more
+waits_along-append : (waits : List Bool) (picks more : List Picked) → waits_along waits (picks ++ more) ≡ waits_along (waits_along waits picks) more
 waits_along-append waits [] more = refl
 waits_along-append waits (pick ∷ picks) more = waits_along-append (waits_after waits pick) picks more
 
@@ -115,19 +115,19 @@ waits-more waits seat other below wait = by_case (cases_Bool (eqb seat other))
     by_case (inl same) = ap (λ s. get_or (set waits s true) seat false) (sym (eqb-true seat other same)) ∙ get_or-set_same waits seat true false below
     by_case (inr apart) = get_or-set_other waits other seat true false (eqb-false seat other apart) ∙ wait
 
-waits-stay : (waits : List Bool) (picks : List Pick) (seat : ℕ) → seat < length waits → get_or waits seat false ≡ true → AllWaited picks →
+waits-stay : (waits : List Bool) (picks : List Picked) (seat : ℕ) → seat < length waits → get_or waits seat false ≡ true → AllWaited picks →
     get_or (waits_along waits picks) seat false ≡ true
 waits-stay waits [] seat below wait all = wait
 waits-stay waits (pick ∷ picks) seat below wait all =
-    let waited : pick.waited ≡ true = All-head (λ (p : Pick). p.waited ≡ true) pick picks all in
+    let waited : pick.waited ≡ true = All-head (λ (p : Picked). p.waited ≡ true) pick picks all in
     let told : waits_after waits pick ≡ set waits pick.seat true = ap (λ (w : Bool). cond w (set waits pick.seat true) (replicate (length waits) false)) waited in
     let long = length-waits_after waits pick in
     let within : seat < length (waits_after waits pick) = omega arith in
     waits-stay (waits_after waits pick) picks seat within (ap (λ ws. get_or ws seat false) told ∙ waits-more waits seat pick.seat below wait)
-    (All-tail (λ (p : Pick). p.waited ≡ true) pick picks all)
+    (All-tail (λ (p : Picked). p.waited ≡ true) pick picks all)
 
 -- A seat that was told to wait isn't asked again until anybody does something.
-pub told-not-asked : (waits : List Bool) (picks between : List Pick) (seat : ℕ) → seat < length waits → AllWaited between →
+pub told-not-asked : (waits : List Bool) (picks between : List Picked) (seat : ℕ) → seat < length waits → AllWaited between →
     ¬ Contains (may_be_picked (waits_along waits (picks ++ record { seat = seat; waited = true } ∷ between))) seat
 told-not-asked waits picks between seat below all asked =
     let before = waits_along waits picks in
@@ -139,5 +139,5 @@ told-not-asked waits picks between seat below all asked =
     true≢false (sym wait ∙ ap (λ ws. get_or ws seat false) (sym (waits_along-append waits picks (record { seat = seat; waited = true } ∷ between))) ∙ free)
 
 -- The list of the picks of a run leads to the same picks, where the same is asked.
-pub picks-replayed : (waits : List Bool) (picks : List Pick) → AreAnswers waits picks → Answers (listed (seats_of picks)) (questions_along waits picks) (seats_of picks) (listed [])
+pub picks-replayed : (waits : List Bool) (picks : List Picked) → AreAnswers waits picks → Answers (listed (seats_of picks)) (questions_along waits picks) (seats_of picks) (listed [])
 picks-replayed waits picks answers = listed-whole (questions_along waits picks) (seats_of picks) answers

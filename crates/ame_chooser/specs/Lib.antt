@@ -3,3 +3,4 @@ pub mod Drawn
 pub mod Listed
 pub mod Waits
 pub mod Questions
+pub mod Schedule

@@ -1,0 +1,9 @@
+//! Schedules as text: the seats that were picked, one after the other, as one line, both ways.
+mod fault;
+mod read;
+mod sign;
+mod write;
+
+pub use fault::ScheduleFault;
+pub use read::{Scheduled, read_schedule};
+pub use write::{schedule_line, schedule_text};

@@ -1,2 +1,0 @@
-pub mod SignLemmas
-pub mod TextLemmas

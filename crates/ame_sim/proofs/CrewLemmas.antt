@@ -1,0 +1,162 @@
+-- What seats have at hand.
+use Rattle.std.proofs.Common.{◌≡◌, ◌≢◌, ℕ, zero, suc, ◌<◌, ◌≤◌, ◌⊎◌, inl, inr, true, false, List, Option, Some, length, set, IsTrue, refl, sym, ap, ◌∙◌, subst, arith}
+use Rattle.std.specs.Prelude.{slice_index_or, replicate}
+use Rattle.std.specs.List.{list_any}
+use Rattle.std.proofs.lemmas.List.{get_or-set_same, get_or-set_other, length-set, length-replicate}
+use Rattle.ame_protocol.specs.Event.Seated.{AreSeated}
+use Rattle.ame_io.specs.Lines.{lines}
+use Rattle.ame_machine.specs.MachineView.{MachineView}
+use Rattle.ame_machine.specs.Meaning.{Meaning}
+use Rattle.ame_pool.specs.Begin.{oldest}
+use Rattle.ame_pool.specs.declared.oldest.Oldest.{Oldest}
+use Rattle.ame_pool.specs.Members.{IsRising, is_busy}
+use Rattle.ame_protocol.specs.declared.types.Limits.{Limits}
+use Rattle.ame_protocol.specs.declared.types.Task.{Task}
+use Rattle.ame_protocol.specs.Engine.Parts.{Parts, task_at, member_of}
+use Rattle.ame_protocol.specs.Engine.Simulates.{Simulates}
+use Rattle.ame_protocol.specs.Engine.Events.{started}
+use Rattle.ame_protocol.proofs.Row.CellLemmas.{which}
+use Rattle.ame_protocol.specs.declared.stop.Stop.{Stop}
+use Rattle.ame_engine.specs.AtWork.{IsOnSeat}
+use Rattle.ame_engine.specs.Core.{Core}
+use Rattle.ame_engine.specs.Seen.{parts_of, term_shown}
+use Rattle.ame_engine.specs.Stops.{stopped_by}
+use Rattle.ame_engine.specs.Whole.{AreLimits}
+use Rattle.ame_shell.specs.Shell.{ShellView}
+use Rattle.ame_shell.specs.Turned.{HasTurned}
+use Rattle.ame_sim.specs.Places.{member_told, place_wanted, place_told}
+use Rattle.ame_sim.specs.Played.{HasPlayed}
+use Rattle.ame_turn.specs.declared.work.Deed.{Deed}
+use Rattle.ame_turn.specs.declared.work.Work.{Work}
+use Rattle.ame_turn.specs.declared.work.Work.TheVariants as work
+use Rattle.ame_turn.specs.Ready.{CanBePrepared, IsPrepared}
+use Rattle.ame_turn.specs.Work.{Fits, stage_at}
+use Rattle.ame_turn.proofs.OthersLemmas.{stays-on}
+use Rattle.ame_sim.specs.Crew.{IsCrew, SomeSeatIsAtWork}
+use Rattle.ame_sim.proofs.BusyLemmas.{busy-there, busy-shown, busy-seat}
+use Rattle.ame_sim.proofs.SeatLemmas.{start-seated}
+
+pub same-all : {X : Type 0} (n k : ℕ) (x : X) → slice_index_or (replicate n x) k x ≡ x
+same-all zero k x = refl
+same-all (suc n) zero x = refl
+same-all (suc n) (suc k) x = same-all n k x
+
+module _ {C V M : Type 0} (meaning : Meaning C V M) where
+  -- as the engine has started
+  pub crew-starts : (core : Core C V M) (code : C) (hands : List (Work M)) (limits : Limits) (tools : ℕ) → code ≡ core.code
+      → parts_of meaning core ≡ started (meaning.program code) (meaning.devices code) limits 0 → hands ≡ replicate limits.seats work.Idle
+      → meaning.devices core.code ≤ tools → AreLimits limits → IsCrew meaning core 0 code hands tools
+  crew-starts core code hands limits tools same starts all enough right = record {
+    same = same;
+    count = ap length all ∙ length-replicate limits.seats work.Idle ∙ ap (λ (p : Parts). p.limits.seats) (sym starts);
+    fit =
+        λ seat.
+        let idle : task_at core.tasks seat ≡ Task.Idle = ap (λ (p : Parts). task_at p.tasks seat) starts ∙ same-all limits.seats seat Task.Idle in
+        let nothing : slice_index_or hands seat work.Idle ≡ work.Idle = ap (λ (s : List (Work M)). slice_index_or s seat work.Idle) all ∙ same-all limits.seats seat work.Idle in
+        subst (λ (w : Work M). Fits meaning core seat w) (sym nothing) idle;
+    limits = subst AreLimits (ap (λ (p : Parts). p.limits) (sym starts)) right;
+    seated = subst AreSeated (sym starts) (start-seated (meaning.program code) (meaning.devices code) limits);
+    enough = enough;
+    within = omega arith;
+  }
+
+  -- and after a seat's turn
+  pub crew-turned : (old new : Core C V M) (code : C) (hands : List (Work M)) (seat : ℕ) (mid last : Work M) (before after sent later : ℕ)
+      → IsCrew meaning old sent code hands before
+      → seat < length hands → new.code ≡ old.code → new.limits ≡ old.limits → Fits meaning new seat last
+      → ((other : ℕ) (rest : Work M) → other ≢ seat → Fits meaning old other rest → Fits meaning new other rest)
+      → after ≡ before → later ≤ length (lines new.output) → AreSeated (parts_of meaning new)
+      → IsCrew meaning new later code (set (set hands seat mid) seat last) after
+  crew-turned old new code hands seat mid last before after sent later crew within same limits fits others tools more seated = record {
+    same = crew.same ∙ sym same;
+    count = length-set (set hands seat mid) seat last ∙ length-set hands seat mid ∙ crew.count ∙ ap (λ (l : Limits). l.seats) (sym limits);
+    fit = λ other. by other (which other seat);
+    limits = subst AreLimits (sym limits) crew.limits;
+    seated = seated;
+    enough = subst (λ (n : ℕ). meaning.devices new.code ≤ n) (sym tools) (subst (λ (c : C). meaning.devices c ≤ before) (sym same) crew.enough);
+    within = more;
+  }
+    where
+      by : (other : ℕ) → (other ≡ seat) ⊎ ((other ≡ seat) → ⊥)
+          → Fits meaning new other (slice_index_or (set (set hands seat mid) seat last) other work.Idle)
+      by other (inl here) =
+          let is : slice_index_or (set (set hands seat mid) seat last) seat work.Idle ≡ last =
+          get_or-set_same (set hands seat mid) seat last work.Idle (subst (λ (n : ℕ). seat < n) (sym (length-set hands seat mid)) within) in
+          subst (λ (k : ℕ). Fits meaning new k (slice_index_or (set (set hands seat mid) seat last) k work.Idle)) (sym here)
+          (subst (λ (w : Work M). Fits meaning new seat w) (sym is) fits)
+      by other (inr apart) =
+          let is : slice_index_or (set (set hands seat mid) seat last) other work.Idle ≡ slice_index_or hands other work.Idle =
+          get_or-set_other (set hands seat mid) seat other last work.Idle apart ∙ get_or-set_other hands seat other mid work.Idle apart in
+          subst (λ (w : Work M). Fits meaning new other w) (sym is)
+          (others other (slice_index_or hands other work.Idle) apart (crew.fit other))
+
+  -- what is at hand fits once a stop is kept
+  fits-stopped : (why : Stop) (core : Core C V M) (seat : ℕ) (w : Work M) → Fits meaning core seat w → Fits meaning (stopped_by why core) seat w
+  fits-stopped why core seat work.Idle h = h
+  fits-stopped why core seat (work.Running m) h = record {
+    on = record {
+      machine = h.on.machine;
+      stands =
+          stays-on (parts_of meaning core) (parts_of meaning (stopped_by why core)) seat (meaning.stage core.code m) refl refl (λ a e. refl) h.on.stands;
+    };
+    within = h.within;
+  }
+  fits-stopped why core seat work.Undoing h = record {
+    busy = h.busy;
+    undoes = λ going. absurd (let clash : true ≡ false = going in cc);
+  }
+
+  pub crew-stopped : (why : Stop) (core : Core C V M) (sent : ℕ) (code : C) (hands : List (Work M)) (tools : ℕ) → IsCrew meaning core sent code hands tools
+      → IsCrew meaning (stopped_by why core) sent code hands tools
+  crew-stopped why core sent code hands tools crew = record {
+    same = crew.same;
+    limits = crew.limits;
+    count = crew.count;
+    fit = λ seat. fits-stopped why core seat (slice_index_or hands seat work.Idle) (crew.fit seat);
+    seated = crew.seated;
+    enough = crew.enough;
+    within = crew.within;
+  }
+
+  -- where the machine at hand stands is where the seat's run stands
+  pub hand-on : (core : Core C V M) (seat : ℕ) (w : Work M) → Fits meaning core seat w → (s : MachineView) → stage_at meaning.stage core.code w ≡ Some s
+      → IsOnSeat (parts_of meaning core) seat s
+  hand-on core seat (work.Running m) fits s e =
+      let is : meaning.stage core.code m ≡ s = cc in
+      subst (IsOnSeat (parts_of meaning core) seat) is fits.on.stands
+  hand-on core seat work.Idle fits s e = cc
+  hand-on core seat work.Undoing fits s e = cc
+
+  -- what a turn tells, piece by piece
+  pub turn-played : (seat : ℕ) (hand : Option MachineView) (old seen new : ShellView C V M) (deed : Deed) (before after member wanted place : Option ℕ) (cells : ℕ)
+      → seen ≡ old → ((s : MachineView) → hand ≡ Some s → IsOnSeat (parts_of meaning seen.core) seat s) → HasTurned meaning seat hand seen new deed
+      → before ≡ member_of (task_at seen.core.tasks seat) → after ≡ member_of (task_at new.core.tasks seat) → member ≡ member_told before after
+      → cells ≡ length seen.core.memory.cells → wanted ≡ place_wanted cells hand → place ≡ place_told deed wanted
+      → HasPlayed meaning (record { seat = seat; member = member; deed = deed; place = place }) old new
+  turn-played seat hand old seen new deed before after member wanted place cells is on turned was now its many wants told =
+      subst (λ (v : ShellView C V M). HasPlayed meaning (record { seat = seat; member = member; deed = deed; place = place }) v new) is
+      (record {
+        hand = hand;
+        stands = on;
+        turned = turned;
+        member = its ∙ ap (λ (b : Option ℕ). member_told b after) was ∙ ap (member_told (member_of (task_at seen.core.tasks seat))) now;
+        place = told ∙ ap (place_told deed) (wants ∙ ap (λ (n : ℕ). place_wanted n hand) many);
+      })
+
+  -- somebody is waited for that a seat has at work
+  pub waits-for-seat : (core : Core C V M) → Simulates (parts_of meaning core) → AreSeated (parts_of meaning core) → IsRising core.pool.members
+      → (oldest core.pool ≡ Oldest.Wait → IsTrue (list_any is_busy core.pool.members)) → SomeSeatIsAtWork core
+  waits-for-seat core stands seated rising some waits =
+      let busy = busy-there core.pool.members rising (some waits) in
+      let at = seated busy.0 (busy-shown (term_shown meaning.stage core.code) busy.0 core.pool busy.1) in
+      let its = busy-seat core.tasks at.0 busy.0 at.1 in
+      let long = stands.bounded.tasks in
+      record { seat = at.0; there = omega (arith, its.1, long); busy = its.0 }
+
+-- what is prepared with the engine's code and slice
+module _ {C M : Type 0} (is_machine : C → M → Type 0) (stage : C → M → MachineView) (code other : C) (slice most : ℕ) (same : code ≡ other) (is : slice ≡ most) where
+  pub can-with : (w : Work M) → CanBePrepared is_machine stage other most w → CanBePrepared is_machine stage code slice w
+  can-with w can = subst (λ (n : ℕ). CanBePrepared is_machine stage code n w) (sym is) (subst (λ (c : C). CanBePrepared is_machine stage c most w) (sym same) can)
+
+  pub prepared-with : (v w : Work M) → IsPrepared is_machine stage code slice v w → IsPrepared is_machine stage other most v w
+  prepared-with v w can = subst (λ (n : ℕ). IsPrepared is_machine stage other n v w) is (subst (λ (c : C). IsPrepared is_machine stage c slice v w) same can)

@@ -1,0 +1,5 @@
+pub mod Places
+pub mod Picks
+pub mod Played
+pub mod Crew
+pub mod Run

@@ -1,0 +1,243 @@
+//! A shell whose seats have their turns on one thread.
+
+ghost use Rattle.std.specs.Prelude.{◌≡◌, ◌≢◌, ◌≤◌, ◌<◌, ℕ, None, IsSome, IfOk, IfErr, true, false, is_some, vec_len};
+ghost use Rattle.std.specs.Arc.{arc_value};
+ghost use Rattle.ame_protocol.specs.declared.types.Task.{Task};
+ghost use Rattle.ame_protocol.specs.Engine.Events.{started};
+ghost use Rattle.ame_protocol.specs.Engine.Parts.{task_at};
+ghost use Rattle.ame_engine.specs.Ending.{end_of};
+ghost use Rattle.ame_engine.specs.Seen.{parts_of};
+ghost use Rattle.ame_engine.specs.Whole.{AreLimits};
+ghost use Rattle.ame_shell.specs.Ends.{ends_of};
+ghost use Rattle.ame_shell.specs.Over.{IsOver};
+ghost use Rattle.ame_shell.specs.Shell.{Opening, IsShell};
+ghost use Rattle.ame_turn.specs.declared.work.Work.TheVariants as work;
+ghost use Rattle.ame_sim.specs.Crew.{lacking, left_to_undo, IsUnwound, SomeSeatIsAtWork};
+ghost use Rattle.ame_sim.specs.Played.{HasPlayed};
+
+use crate::hands::{idle_hands, lacks_memory};
+use crate::made::Made;
+use crate::places::{member_at, member_told, place_told, place_wanted};
+use ame_device::Device;
+use ame_engine::{Engine, Stop};
+use ame_io::Sink;
+use ame_machine::Runner;
+use ame_protocol::{Limits, Task};
+use ame_shell::{Remains, Shell};
+use ame_turn::{Turned, Work};
+use std::alloc::Global;
+use std::marker::Model;
+use std::mem;
+use std::sync::Arc;
+
+/// An engine with its sink and its devices, its code, and what each of its seats has at hand. Contracts see the shell.
+pub struct Crew<M: Runner, K: Sink, D: Device>
+where
+    M::Code: Drop,
+{
+    shell: Shell<M, K, D>,
+    code: Arc<M::Code>,
+    hands: Vec<Work<M>>,
+}
+
+impl<M: Runner, K: Sink + Drop, D: Device + Drop> Drop for Crew<M, K, D>
+where
+    M::Code: Drop,
+{
+    fn drop(self) {
+        let Crew {
+            shell: _,
+            code: _,
+            hands: _,
+        } = self;
+    }
+}
+
+impl<M: Runner, K: Sink, D: Device> Model for Crew<M, K, D>
+where
+    M::Code: Drop,
+{
+    ghost use Rattle.std.specs.Prelude.{vec_len};
+    ghost use Rattle.std.specs.Arc.{arc_value};
+    ghost use Rattle.ame_shell.specs.Shell.{ShellView, shown};
+    ghost use Rattle.ame_sim.specs.Crew.{IsCrew};
+
+    ghost Value = { ShellView M.Code M.Value M };
+
+    ghost view = { λ c. shown K.written K.faults D.device_heard D.device_faults c.shell.engine c.shell.sent c.shell.sink c.shell.devices.items };
+
+    ghost invariant = { λ c. IsCrew M.meaning c.shell.engine c.shell.sent (arc_value c.code) c.hands.items (vec_len c.shell.devices) };
+}
+
+impl<M: Runner, K: Sink, D: Device> Crew<M, K, D>
+where
+    M::Code: Drop,
+{
+    /// A crew whose seats are idle, and of which nothing was run. Where memory is lacking, sink and devices come back.
+    pub fn open(
+        alloc: Global,
+        code: Arc<M::Code>,
+        limits: Limits,
+        sink: K,
+        devices: Vec<D>,
+    ) -> Result<Crew<M, K, D>, (K, Vec<D>)>
+        requires limits { AreLimits limits }
+        requires devices { M.meaning.devices (arc_value code) ≤ vec_len devices }
+        ensures opens { IfOk result (IsShell M.meaning.program (record {
+          code = arc_value code;
+          limits = limits;
+          ends = ends_of K.written K.faults D.device_heard D.device_faults sink devices.items;
+        })) }
+        ensures starts { IfOk result (λ crew. parts_of M.meaning crew.core
+            ≡ started (M.meaning.program (arc_value code)) (M.meaning.devices (arc_value code)) limits 0) }
+        ensures sink { IfErr result (λ back. back.0 ≡ sink) }
+        ensures devices { IfErr result (λ back. back.1 ≡ devices) }
+    {
+        let Ok(hands) = idle_hands(alloc, limits.seats) else {
+            return Err((sink, devices));
+        };
+        let Ok(share) = Arc::try_clone(&code) else {
+            return Err((sink, devices));
+        };
+        let Ok(engine) = Engine::<M>::start(alloc, share, limits) else {
+            return Err((sink, devices));
+        };
+        let shell = Shell {
+            engine,
+            sink,
+            sent: 0,
+            devices,
+        };
+        Ok(Crew { shell, code, hands })
+    }
+
+    /// The engine.
+    pub fn engine(&self) -> &Engine<M>
+        ensures { result.now ≡ self.now.core }
+    {
+        &self.shell.engine
+    }
+
+    /// A seat has its turn, for which its machine is prepared first.
+    pub fn turn(&mut self, seat: u32) -> Made
+        requires { seat < self.old.core.limits.seats }
+        ensures seat { result.seat ≡ seat }
+        ensures played { HasPlayed M.meaning result self.old self.new }
+        ensures keeps { (opening : Opening M.Code) → IsShell M.meaning.program opening self.old → IsShell M.meaning.program opening self.new }
+        ensures limits { self.new.core.limits ≡ self.old.core.limits }
+        ensures within { self.new.core.turns ≤ self.new.core.limits.turns }
+    {
+        let alloc = *self.hands.allocator();
+        let mut work = mem::replace(&mut self.hands[seat as usize], Work::Idle);
+        let lacks = lacks_memory(&self.shell.engine, alloc, &self.code, seat, &mut work);
+        let wanted = place_wanted(self.shell.engine.cells(), &work);
+        let before = member_at(&self.shell.engine, seat);
+        self.shell.engine.stands();
+        self.shell.engine.members_are_rolled_back_seldom();
+        let Turned { deed, work } = self.shell.turn(&self.code, seat, work, lacks);
+        self.shell.engine.stands();
+        self.hands[seat as usize] = work;
+        Made {
+            seat,
+            member: member_told(before, member_at(&self.shell.engine, seat)),
+            deed,
+            place: place_told(deed, wanted),
+        }
+    }
+
+    /// Where members are left that may not begin and aren't all parked, some seat has a member at work.
+    pub fn who_waits_waits_for_a_seat(&self)
+        ensures { SomeSeatIsAtWork self.now.core }
+    {
+        self.shell.engine.stands();
+        self.shell.engine.members_are_rolled_back_seldom();
+        self.shell.engine.who_waits_waits_for_somebody();
+    }
+
+    /// Whether no stop is kept.
+    pub fn goes_on(&self) -> bool
+        ensures going { result ≡ true → self.now.core.stop ≡ None }
+        ensures stopped { result ≡ false → IsSome self.now.core.stop }
+    {
+        self.shell.engine.stopped().is_none()
+    }
+
+    /// Memory was lacking, and that stop is kept.
+    pub fn give_up(&mut self)
+        requires { self.old.core.stop ≡ None }
+        ensures lacks { self.new ≡ lacking self.old }
+        ensures keeps { (opening : Opening M.Code) → IsShell M.meaning.program opening self.old → IsShell M.meaning.program opening self.new }
+    {
+        self.shell.engine.stands();
+        self.shell.engine.stop(Stop::NoMemory);
+    }
+
+    /// A seat undoes an entry of what it has at work, once a stop is kept.
+    fn undo(&mut self, seat: u32)
+        requires seat { seat < self.old.core.limits.seats }
+        requires stopped { IsSome self.old.core.stop }
+        ensures unwound { IsUnwound self.old.core self.new.core }
+        ensures others { (other : ℕ) → task_at self.old.core.tasks other ≡ Task.Idle → task_at self.new.core.tasks other ≡ Task.Idle }
+        ensures less { task_at self.old.core.tasks seat ≢ Task.Idle → left_to_undo self.new.core seat < left_to_undo self.old.core seat }
+        ensures keeps { (opening : Opening M.Code) → IsShell M.meaning.program opening self.old → IsShell M.meaning.program opening self.new }
+    {
+        let work = mem::replace(&mut self.hands[seat as usize], Work::Idle);
+        self.shell.engine.stands();
+        self.shell.engine.members_are_rolled_back_seldom();
+        let Turned { deed: _, work } = self.shell.turn(&self.code, seat, work, true);
+        self.hands[seat as usize] = work;
+    }
+
+    /// Whether a seat has nothing at work.
+    fn is_idle(&self, seat: u32) -> bool
+        requires { seat < self.now.core.limits.seats }
+        ensures idle { result ≡ true → task_at self.now.core.tasks seat ≡ Task.Idle }
+        ensures busy { result ≡ false → task_at self.now.core.tasks seat ≢ Task.Idle }
+    {
+        matches!(self.shell.engine.task(seat), Task::Idle)
+    }
+
+    /// A seat undoes all that it has at work, once a stop is kept.
+    fn unwind(&mut self, seat: u32)
+        requires seat { seat < self.old.core.limits.seats }
+        requires stopped { IsSome self.old.core.stop }
+        ensures unwound { IsUnwound self.old.core self.new.core }
+        ensures others { (other : ℕ) → task_at self.old.core.tasks other ≡ Task.Idle → task_at self.new.core.tasks other ≡ Task.Idle }
+        ensures idle { task_at self.new.core.tasks seat ≡ Task.Idle }
+        ensures keeps { (opening : Opening M.Code) → IsShell M.meaning.program opening self.old → IsShell M.meaning.program opening self.new }
+    {
+        while !self.is_idle(seat) {
+            self.undo(seat);
+        }
+    }
+
+    /// All that seats have at work is undone, seat by seat, once a stop is kept. It counts no turn, and takes no memory.
+    pub fn unwind_all(&mut self)
+        requires { IsSome self.old.core.stop }
+        ensures unwound { IsUnwound self.old.core self.new.core }
+        ensures idle { (seat : ℕ) → task_at self.new.core.tasks seat ≡ Task.Idle }
+        ensures keeps { (opening : Opening M.Code) → IsShell M.meaning.program opening self.old → IsShell M.meaning.program opening self.new }
+    {
+        for seat in 0..self.shell.engine.limits().seats {
+            self.unwind(seat);
+        }
+        self.shell.engine.stands();
+    }
+
+    /// What is left once a stop is kept and all seats are idle. Takes no memory.
+    pub fn finish(self) -> Remains<M::Value, K, D>
+        requires idle { (seat : ℕ) → task_at self.core.tasks seat ≡ Task.Idle }
+        requires stopped { IsSome self.core.stop }
+        ensures told { result.ended ≡ end_of self.core }
+        ensures over { (opening : Opening M.Code) → IsShell M.meaning.program opening self
+            → IsOver (M.meaning.program opening.code) opening.limits (M.meaning.value_of opening.code) opening.ends result.ended
+            (ends_of K.written K.faults D.device_heard D.device_faults result.sink result.devices.items) }
+    {
+        let Crew {
+            shell,
+            code: _,
+            hands: _,
+        } = self;
+        shell.finish()
+    }
+}

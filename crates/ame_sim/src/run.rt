@@ -1,0 +1,140 @@
+//! A whole run of a program on one thread.
+
+ghost use Rattle.std.specs.Prelude.{◌≡◌, ◌<◌, ◌≤◌, ◌⊎◌, ℕ, Bool, List, None, IsSome, IfOk, IfErr, true, false, [], OnOk, OnErr, vec_len};
+ghost use Rattle.std.specs.Arc.{arc_value};
+ghost use Rattle.ame_chooser.specs.Questions.{questions, seats_of, who_waits};
+ghost use Rattle.ame_chooser.specs.Strategy.{Answers};
+ghost use Rattle.ame_engine.specs.Whole.{AreLimits};
+ghost use Rattle.ame_shell.specs.Ends.{ends_of};
+ghost use Rattle.ame_shell.specs.Over.{IsOver};
+ghost use Rattle.ame_shell.specs.Shell.{Opening, ShellView, IsShell};
+ghost use Rattle.ame_sim.specs.Crew.{AreResting, left_to_play};
+ghost use Rattle.ame_sim.specs.Picks.{picks_of, HasAnswered};
+ghost use Rattle.ame_sim.specs.Run.{IsPlaying, IsPlayed};
+
+use crate::book::Book;
+use crate::crew::Crew;
+use crate::made::Made;
+use ame_chooser::Chooser;
+use ame_device::Device;
+use ame_io::Sink;
+use ame_machine::Runner;
+use ame_protocol::Limits;
+use ame_shell::Remains;
+use ame_term::NoMemory;
+use std::alloc::Global;
+use std::sync::Arc;
+
+/// What a run on one thread leaves, and what each pick did.
+#[derive(Drop)]
+pub struct Played<V, K, D> {
+    pub left: Remains<V, K, D>,
+    pub mades: Vec<Made>,
+}
+
+/// One question is asked, and the seat that is picked has its turn. Where memory is lacking nothing was done.
+fn pick<M, K, D, H>(
+    crew: &mut Crew<M, K, D>,
+    book: &mut Book,
+    chooser: &mut H,
+) -> Result<(), NoMemory>
+where
+    M: Runner,
+    M::Code: Drop,
+    K: Sink,
+    D: Device,
+    H: Chooser,
+    requires limits { AreLimits crew.old.core.limits }
+    requires going { crew.old.core.stop ≡ None }
+    requires waits { book.old.waits ≡ who_waits crew.old.core.limits.seats (picks_of book.old.mades.items) }
+    requires rests { AreResting book.old.waits crew.old.core }
+    ensures plays { (first : ShellView M.Code M.Value M) → IsPlaying M.meaning crew.old.core.limits.seats first crew.old book.old.mades.items
+        → IsPlaying M.meaning crew.old.core.limits.seats first crew.new book.new.mades.items }
+    ensures answers { HasAnswered crew.old.core.limits.seats (H.strategy chooser.old) book.old.mades.items (H.strategy chooser.new) book.new.mades.items }
+    ensures keeps { (opening : Opening M.Code) → IsShell M.meaning.program opening crew.old → IsShell M.meaning.program opening crew.new }
+    ensures limits { crew.new.core.limits ≡ crew.old.core.limits }
+    ensures waits { book.new.waits ≡ who_waits crew.old.core.limits.seats (picks_of book.new.mades.items) }
+    ensures rests { crew.new.core.stop ≡ None → AreResting book.new.waits crew.new.core }
+    ensures less { OnOk result (left_to_play crew.new.core book.new.waits < left_to_play crew.old.core book.old.waits) }
+    ensures stays { OnErr result (crew.new ≡ crew.old) }
+{
+    crew.who_waits_waits_for_a_seat();
+    book.make_room()?;
+    let seat = chooser.choose(book.waits.may_be_picked())?;
+    let made = crew.turn(seat);
+    book.note(made);
+    Ok(())
+}
+
+/// Seats are picked until a stop is kept.
+fn play<M, K, D, H>(crew: &mut Crew<M, K, D>, book: &mut Book, chooser: &mut H)
+where
+    M: Runner,
+    M::Code: Drop,
+    K: Sink,
+    D: Device,
+    H: Chooser,
+    requires limits { AreLimits crew.old.core.limits }
+    requires waits { book.old.waits ≡ who_waits crew.old.core.limits.seats (picks_of book.old.mades.items) }
+    requires rests { AreResting book.old.waits crew.old.core }
+    ensures plays { (first : ShellView M.Code M.Value M) → IsPlaying M.meaning crew.old.core.limits.seats first crew.old book.old.mades.items
+        → IsPlaying M.meaning crew.old.core.limits.seats first crew.new book.new.mades.items }
+    ensures answers { HasAnswered crew.old.core.limits.seats (H.strategy chooser.old) book.old.mades.items (H.strategy chooser.new) book.new.mades.items }
+    ensures keeps { (opening : Opening M.Code) → IsShell M.meaning.program opening crew.old → IsShell M.meaning.program opening crew.new }
+    ensures stopped { IsSome crew.new.core.stop }
+{
+    while crew.goes_on() {
+        let Ok(()) = pick(crew, book, chooser) else {
+            crew.give_up();
+            return;
+        };
+    }
+}
+
+/// Runs a program to its end, by as many seats as the limits have, on one thread. Who has the next turn is the chooser's pick. Where
+/// nothing was begun, for want of memory, it hands sink and devices back as they were.
+pub fn run_by_chooser<M, K, D, H>(
+    alloc: Global,
+    code: Arc<M::Code>,
+    limits: Limits,
+    sink: K,
+    devices: Vec<D>,
+    chooser: &mut H,
+) -> Result<Played<M::Value, K, D>, (K, Vec<D>)>
+where
+    M: Runner,
+    M::Code: Drop,
+    K: Sink + Drop,
+    D: Device,
+    H: Chooser,
+    requires limits { AreLimits limits }
+    requires devices { M.meaning.devices (arc_value code) ≤ vec_len devices }
+    ensures over { IfOk result (λ played. IsOver (M.meaning.program (arc_value code)) limits (M.meaning.value_of (arc_value code))
+        (ends_of K.written K.faults D.device_heard D.device_faults sink devices.items)
+        played.left.ended (ends_of K.written K.faults D.device_heard D.device_faults played.left.sink played.left.devices.items)) }
+    ensures played { IfOk result (λ played. IsPlayed M.meaning (record {
+      code = arc_value code;
+      limits = limits;
+      ends = ends_of K.written K.faults D.device_heard D.device_faults sink devices.items;
+    }) played.mades.items played.left.ended) }
+    ensures answers { IfOk result (λ played. Answers (H.strategy chooser.old) (questions limits.seats (picks_of played.mades.items))
+        (seats_of (picks_of played.mades.items)) (H.strategy chooser.new)) }
+    ensures sink { IfErr result (λ back. back.0 ≡ sink) }
+    ensures devices { IfErr result (λ back. back.1 ≡ devices) }
+{
+    let Ok(book) = Book::new(alloc, limits.seats) else {
+        return Err((sink, devices));
+    };
+    let mut book = book;
+    let mut crew = match Crew::<M, K, D>::open(alloc, code, limits, sink, devices) {
+        Ok(crew) => crew,
+        Err(back) => return Err(back),
+    };
+    play(&mut crew, &mut book, chooser);
+    crew.unwind_all();
+    let Book { waits: _, mades } = book;
+    Ok(Played {
+        left: crew.finish(),
+        mades,
+    })
+}

@@ -294,7 +294,6 @@ const REFUSED: &[&[&str]] = &[
     &["check"],
     &["resume"],
     &["resume", "--workers", "2"],
-    &["replay"],
     &["weak", "1", "--turns", "9"],
 ];
 

@@ -5,7 +5,7 @@ use Rattle.ame_cli.specs.declared.bounds.Bounds.{Bounds}
 use Rattle.ame_cli.specs.declared.item.Item.{Item}
 use Rattle.ame_cli.specs.declared.item.Item.TheVariants.{Workers, Turns, Slice}
 use Rattle.ame_cli.specs.declared.verb.Verb.{Verb}
-use Rattle.ame_cli.specs.declared.verb.Verb.TheVariants.{Run, Bench}
+use Rattle.ame_cli.specs.declared.verb.Verb.TheVariants.{Run, Bench, Sim, Replay}
 use Rattle.ame_cli.specs.declared.command.Options.{Options}
 use Rattle.ame_cli.specs.declared.command.Command.{Command}
 use Rattle.ame_cli.specs.declared.command.Command.TheVariants as command
@@ -34,15 +34,19 @@ all_items = Workers ∷ Turns ∷ Slice ∷ []
 abbrev pub verb_form : Verb → VerbForm
 verb_form Run = record { word = codes "run"; numbers = []; items = all_items }
 verb_form Bench = record { word = codes "bench"; numbers = seeds ∷ sizes ∷ []; items = all_items }
+verb_form Sim = record { word = codes "sim"; numbers = seeds ∷ []; items = all_items }
+verb_form Replay = record { word = codes "replay"; numbers = []; items = all_items }
 
 -- what a verb makes of its numbers and of the options
 abbrev pub command_with : Verb → List ℕ → Options → Command
 command_with Run numbers options = command.Run options
 command_with Bench numbers options = command.Bench (slice_index numbers 0) (slice_index numbers 1) options
+command_with Sim numbers options = command.Sim (slice_index numbers 0) options
+command_with Replay numbers options = command.Replay options
 
 -- all verbs
 unfoldable pub verbs : List Verb
-verbs = Run ∷ Bench ∷ []
+verbs = Run ∷ Bench ∷ Sim ∷ Replay ∷ []
 
 -- the word of a verb
 abbrev pub verb_word : Verb → Word

@@ -34,6 +34,10 @@ pub enum Command {
     Run(Options),
     /// Runs the generated program of this seed and size.
     Bench(u32, u32, Options),
+    /// Runs the program on the standard input on one thread, under the choices of this seed.
+    Sim(u32, Options),
+    /// Runs the program on the standard input on one thread, under the choices of the schedule before it.
+    Replay(Options),
 }
 
 /// Why words gave no command.

@@ -11,6 +11,8 @@ use crate::limits::{SEED_LIMIT, SIZE_LIMIT};
 pub enum Verb {
     Run,
     Bench,
+    Sim,
+    Replay,
 }
 
 /// A verb's word, the bounds of its number words in their order, and the options that it may be given.
@@ -40,7 +42,7 @@ impl Verb {
     pub fn all() -> &'static [Verb]
         ensures { result.now ≡ verbs }
     {
-        &[Verb::Run, Verb::Bench]
+        &[Verb::Run, Verb::Bench, Verb::Sim, Verb::Replay]
     }
 
     /// What may stand behind a verb.
@@ -60,6 +62,16 @@ impl Verb {
                 numbers: &[SEEDS, SIZES],
                 items: ALL_ITEMS,
             },
+            Verb::Sim => Form {
+                word: "sim",
+                numbers: &[SEEDS],
+                items: ALL_ITEMS,
+            },
+            Verb::Replay => Form {
+                word: "replay",
+                numbers: &[],
+                items: ALL_ITEMS,
+            },
         }
     }
 
@@ -71,6 +83,8 @@ impl Verb {
         match self {
             Verb::Run => Command::Run(options),
             Verb::Bench => Command::Bench(numbers[0], numbers[1], options),
+            Verb::Sim => Command::Sim(numbers[0], options),
+            Verb::Replay => Command::Replay(options),
         }
     }
 

@@ -150,6 +150,39 @@ fn bench_with_its_numbers_in_any_places(rt: HostRuntime) -> Result<(), Fail> {
     Ok(())
 }
 
+/// Words, with the seed and the options that they spell.
+const SIMS: &[(&[&str], u32, Options)] = &[
+    (&["sim", "1"], 1, DEFAULTS),
+    (&["sim", "65536", "--workers=4"], 65_536, FOUR_WORKERS),
+    (&["sim", "--workers", "4", "0"], 0, FOUR_WORKERS),
+    (&["sim", "--slice", "3", "009", "--turns=2"], 9, SHORT),
+];
+
+#[test]
+fn sim_with_its_seed_in_any_place(rt: HostRuntime) -> Result<(), Fail> {
+    for &(words, seed, options) in SIMS {
+        let command = Command::Sim(seed, options);
+        assert!(rt; is_read_as(rt.alloc(), words, Ok(command))?, "{words:?}");
+    }
+    Ok(())
+}
+
+/// Words, with the options that they spell.
+const REPLAYS: &[(&[&str], Options)] = &[
+    (&["replay"], DEFAULTS),
+    (&["replay", "--workers", "4"], FOUR_WORKERS),
+    (&["replay", "--slice=3", "--turns", "2"], SHORT),
+];
+
+#[test]
+fn replay_with_its_options(rt: HostRuntime) -> Result<(), Fail> {
+    for &(words, options) in REPLAYS {
+        let command = Command::Replay(options);
+        assert!(rt; is_read_as(rt.alloc(), words, Ok(command))?, "{words:?}");
+    }
+    Ok(())
+}
+
 const REFUSED: &[&[&str]] = &[
     // Numbers out of range, or no number words.
     &["run", "--workers=0"],
@@ -227,6 +260,12 @@ const REFUSED: &[&[&str]] = &[
     &["bench", "-1", "2"],
     &["bench", "1", "two"],
     &["bench", "run", "2"],
+    &["sim"],
+    &["sim", "65537"],
+    &["sim", "1", "2"],
+    &["sim", "--seed", "1"],
+    &["replay", "1"],
+    &["replay", "schedule"],
     // First words.
     &["help"],
     &["--help"],
@@ -255,8 +294,6 @@ const REFUSED: &[&[&str]] = &[
     &["check"],
     &["resume"],
     &["resume", "--workers", "2"],
-    &["sim", "1"],
-    &["replay"],
     &["weak", "1", "--turns", "9"],
 ];
 

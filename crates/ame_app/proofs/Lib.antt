@@ -8,3 +8,4 @@ pub mod CodeLemmas
 pub mod RunLemmas
 pub mod GivenLemmas
 pub mod CompleteLemmas
+pub mod PickLemmas

@@ -1,6 +1,8 @@
 -- What each command does: tables with a row a verb.
 pub mod Run
 pub mod Bench
+pub mod Sim
+pub mod Replay
 use Rattle.std.specs.Prelude.{ℕ, Bool, true, false, List, [], Option, Some}
 use Rattle.ame_lex.specs.Bytes.{Text}
 use Rattle.ame_journal.specs.declared.entry.Entry.{Entry}
@@ -13,6 +15,9 @@ use Rattle.ame_app.specs.declared.parts.Own.{Own}
 use Rattle.ame_app.specs.declared.status.Status.{Status}
 use Rattle.ame_app.specs.Verbs.Run.{TakesAll, BeginsWithNothing, HasNothing}
 use Rattle.ame_app.specs.Verbs.Bench.{TakesGenerated}
+use Rattle.ame_app.specs.Verbs.Sim.{IsPicked, schedule_behind}
+use Rattle.ame_app.specs.Verbs.Replay.{TakesScheduled, HasNoSchedule, IsPickedAsListed}
+use Rattle.ame_chooser.specs.Drawn.{drawn}
 
 -- What is given
 
@@ -20,16 +25,22 @@ use Rattle.ame_app.specs.Verbs.Bench.{TakesGenerated}
 abbrev pub reads_source : Command → Bool
 reads_source (Command.Run options) = true
 reads_source (Command.Bench seed size options) = false
+reads_source (Command.Sim seed options) = true
+reads_source (Command.Replay options) = true
 
 -- the bytes that were read are this front and this text of a program
 abbrev pub Takes : Command → List ℕ → Front → Text → Type 0
 Takes (Command.Run options) bytes front text = TakesAll bytes front text
 Takes (Command.Bench seed size options) bytes front text = TakesGenerated seed size front text
+Takes (Command.Sim seed options) bytes front text = TakesAll bytes front text
+Takes (Command.Replay options) bytes front text = TakesScheduled bytes front text
 
 -- they are no front and text, which is told so
 abbrev pub Declines : Command → List ℕ → Status → Type 0
 Declines (Command.Run options) bytes told = ⊥
 Declines (Command.Bench seed size options) bytes told = ⊥
+Declines (Command.Sim seed options) bytes told = ⊥
+Declines (Command.Replay options) bytes told = HasNoSchedule bytes told
 
 -- What is run
 
@@ -37,11 +48,15 @@ Declines (Command.Bench seed size options) bytes told = ⊥
 abbrev pub options_of : Command → Option Options
 options_of (Command.Run options) = Some options
 options_of (Command.Bench seed size options) = Some options
+options_of (Command.Sim seed options) = Some options
+options_of (Command.Replay options) = Some options
 
 -- the entries with which the run begins
 abbrev pub Begins : Command → Front → List Entry → Type 0
 Begins (Command.Run options) front base = BeginsWithNothing base
 Begins (Command.Bench seed size options) front base = BeginsWithNothing base
+Begins (Command.Sim seed options) front base = BeginsWithNothing base
+Begins (Command.Replay options) front base = BeginsWithNothing base
 
 -- What is told
 
@@ -49,8 +64,12 @@ Begins (Command.Bench seed size options) front base = BeginsWithNothing base
 abbrev pub Promises : Command → Front → Options → Own → End Val → Type 0
 Promises (Command.Run options) front with own end = HasNothing own
 Promises (Command.Bench seed size options) front with own end = HasNothing own
+Promises (Command.Sim seed options) front with own end = IsPicked (drawn seed) with.workers own end
+Promises (Command.Replay options) front with own end = IsPickedAsListed front with.workers own end
 
 -- what is written behind the verdict line of a run
 abbrev pub behind : Command → Own → Status → List ℕ
 behind (Command.Run options) own told = []
 behind (Command.Bench seed size options) own told = []
+behind (Command.Sim seed options) own told = schedule_behind own told
+behind (Command.Replay options) own told = schedule_behind own told

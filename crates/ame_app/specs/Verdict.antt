@@ -21,6 +21,7 @@ number_of Status.WriteFault = 7
 number_of (Status.DeviceFault device) = 8
 number_of Status.NoMemory = 9
 number_of (Status.Tall number) = 10
+number_of Status.BadSchedule = 17
 
 -- the status of a process whose words can't be read
 abbrev pub unread : WordsFault → Status
@@ -74,3 +75,4 @@ verdict Status.WriteFault = []
 verdict (Status.DeviceFault device) = codes "device " ++ (decimal device ++ (codes " failed" ++ codes "\n"))
 verdict Status.NoMemory = codes "no memory" ++ codes "\n"
 verdict (Status.Tall number) = line_at (codes "tall ") number
+verdict Status.BadSchedule = codes "bad schedule" ++ codes "\n"

@@ -5,6 +5,7 @@ mod asked;
 mod call;
 mod code;
 mod fault;
+mod lists;
 mod parts;
 mod process;
 mod report;
@@ -17,6 +18,7 @@ mod verdict;
 
 pub use call::{run_words, run_words_over};
 pub use fault::{TextFault, WordsFault};
+pub use lists::{Mades, Picks};
 pub use parts::{Front, Own};
 pub use process::{process_words, run_process};
 pub use report::Report;

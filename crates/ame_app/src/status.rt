@@ -34,6 +34,8 @@ pub enum Status {
     NoMemory,
     /// The member with this number came to a value that is too high.
     Tall(u64),
+    /// The source doesn't begin with a schedule and the line `program`.
+    BadSchedule,
 }
 
 impl Status {
@@ -53,6 +55,7 @@ impl Status {
             Status::DeviceFault(_) => 8,
             Status::NoMemory => 9,
             Status::Tall(_) => 10,
+            Status::BadSchedule => 17,
         }
     }
 
@@ -73,6 +76,7 @@ impl Status {
             Status::DeviceFault(device) => device_failed(*device),
             Status::NoMemory => plain("no memory"),
             Status::Tall(member) => numbered("tall ", *member),
+            Status::BadSchedule => plain("bad schedule"),
         }
     }
 

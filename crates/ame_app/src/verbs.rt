@@ -1,7 +1,9 @@
 //! What each command does: functions with an arm a verb.
 
 mod bench;
+mod replay;
 mod run;
+mod sim;
 
 ghost use Rattle.std.specs.Prelude.{◌≡◌, ◌≤◌, IfOk, IfErr, OnOk, OnErr, vec_len};
 ghost use Rattle.std.specs.Arc.{arc_value};
@@ -11,10 +13,12 @@ ghost use Rattle.ame_io.specs.Counts.{HasRisen};
 ghost use Rattle.ame_io.specs.Writes.{AppendsFront};
 ghost use Rattle.ame_shell.specs.Ends.{ends_of};
 ghost use Rattle.ame_app.specs.Jobs.{IsMade, IsUntaken};
+ghost use Rattle.ame_app.specs.Verbs.Sim.{CanBeScheduled};
 ghost use Rattle.ame_app.specs.Verbs as spec;
 
 use crate::parts::{Front, Own};
 use crate::status::Status;
+use ame_chooser::Drawn;
 use ame_cli::Command;
 use ame_code::Code;
 use ame_device::Device;
@@ -54,6 +58,7 @@ pub(crate) fn reads_source(command: &Command) -> bool
     match command {
         Command::Run(_) => true,
         Command::Bench(_, _, _) => false,
+        Command::Sim(_, _) | Command::Replay(_) => true,
     }
 }
 
@@ -66,8 +71,9 @@ pub(crate) fn take(alloc: Global, command: &Command, bytes: Vec<u8>) -> Result<T
     ensures declines { IfErr result (λ told. IsUntaken command.now bytes.items told) }
 {
     match command {
-        Command::Run(_) => Ok(run::take(bytes)),
+        Command::Run(_) | Command::Sim(_, _) => Ok(run::take(bytes)),
         Command::Bench(seed, size, _) => bench::take(alloc, *seed, *size),
+        Command::Replay(_) => replay::take(alloc, &bytes),
     }
 }
 
@@ -90,6 +96,7 @@ where
     ensures made { IfOk result (λ made. IsMade job.now.command job.now.front (arc_value job.now.code)
         (ends_of K.written K.faults D.device_heard D.device_faults sink devices.items) made.own made.left.ended
         (ends_of K.written K.faults D.device_heard D.device_faults made.left.sink made.left.devices.items)) }
+    ensures seats { IfOk result (λ made. CanBeScheduled made.own) }
     ensures sink { IfErr result (λ back. back.0 ≡ sink) }
     ensures devices { IfErr result (λ back. back.1 ≡ devices) }
 {
@@ -97,22 +104,31 @@ where
         Command::Run(options) | Command::Bench(_, _, options) => {
             run::run(rt, alloc, &job.code, options, sink, devices, gate)
         }
+        Command::Sim(seed, options) => {
+            let mut chooser = Drawn::new(seed);
+            sim::run(alloc, &job.code, options, sink, devices, &mut chooser)
+        }
+        Command::Replay(options) => {
+            replay::run(alloc, &job.code, options, &job.front, sink, devices)
+        }
     }
 }
 
 /// Writes what stands behind the verdict line of a run.
 pub(crate) fn write_behind<K: Sink>(
-    _sink: &mut K,
+    sink: &mut K,
     command: &Command,
-    _own: &Own,
-    _told: &Status,
+    own: &Own,
+    told: &Status,
 ) -> Result<(), WriteFault>
-    ensures whole { OnOk result (Appends (K.written _sink.old) (K.written _sink.new) (spec.behind command.now _own.now _told.now)) }
-    ensures stayed { OnOk result (K.faults _sink.new ≡ K.faults _sink.old) }
-    ensures front { OnErr result (AppendsFront (K.written _sink.old) (K.written _sink.new) (spec.behind command.now _own.now _told.now)) }
-    ensures risen { OnErr result (HasRisen (K.faults _sink.old) (K.faults _sink.new)) }
+    requires seats { CanBeScheduled own.now }
+    ensures whole { OnOk result (Appends (K.written sink.old) (K.written sink.new) (spec.behind command.now own.now told.now)) }
+    ensures stayed { OnOk result (K.faults sink.new ≡ K.faults sink.old) }
+    ensures front { OnErr result (AppendsFront (K.written sink.old) (K.written sink.new) (spec.behind command.now own.now told.now)) }
+    ensures risen { OnErr result (HasRisen (K.faults sink.old) (K.faults sink.new)) }
 {
     match command {
         Command::Run(_) | Command::Bench(_, _, _) => Ok(()),
+        Command::Sim(_, _) | Command::Replay(_) => sim::write_behind(sink, own, told),
     }
 }

@@ -11,5 +11,7 @@ mod waits;
 pub use chooser::Chooser;
 pub use drawn::Drawn;
 pub use listed::Listed;
-pub use schedule::{ScheduleFault, Scheduled, read_schedule, schedule_line, schedule_text};
+pub use schedule::{
+    ScheduleFault, Scheduled, read_schedule, schedule_line, schedule_text, sign_of,
+};
 pub use waits::Waits;

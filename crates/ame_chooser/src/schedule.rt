@@ -6,4 +6,5 @@ mod write;
 
 pub use fault::ScheduleFault;
 pub use read::{Scheduled, read_schedule};
+pub use sign::sign_of;
 pub use write::{schedule_line, schedule_text};

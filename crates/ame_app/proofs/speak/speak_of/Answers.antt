@@ -12,7 +12,7 @@ returns-in-Err g c =
     let whole = subst (λ (l : List ℕ). Appends (written c.args.sink.now) (written c.write_line.new.sink) l) c.line.ensures c.in-Ok.ensures.whole in
     inr (record {
       is = refl;
-      appended = AppendsFront-after (written c.args.sink.now) (written c.write_line.new.sink) (written c.write_behind.new._sink)
+      appended = AppendsFront-after (written c.args.sink.now) (written c.write_line.new.sink) (written c.write_behind.new.sink)
           (verdict c.args.told) (behind c.args.command.now c.args.own.now c.args.told) whole c.in-Err.ensures.front;
-      risen = subst (λ (n : ℕ). HasRisen n (g.K.Sink.faults c.write_behind.new._sink)) c.in-Ok.ensures.stayed c.in-Err.ensures.risen;
+      risen = subst (λ (n : ℕ). HasRisen n (g.K.Sink.faults c.write_behind.new.sink)) c.in-Ok.ensures.stayed c.in-Err.ensures.risen;
     })

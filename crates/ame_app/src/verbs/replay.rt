@@ -1,0 +1,76 @@
+//! `replay`: a source that is a schedule, and the text of the program that it is for.
+
+ghost use Rattle.std.specs.Prelude.{◌≡◌, ◌≤◌, ◌⊎◌, IfOk, IfErr, length, vec_len};
+ghost use Rattle.std.specs.Arc.{arc_value};
+ghost use Rattle.ame_cli.specs.Ranges.{AreInRange};
+ghost use Rattle.ame_code.specs.Code.{program_of};
+ghost use Rattle.ame_eval.specs.Values.{value_meant};
+ghost use Rattle.ame_shell.specs.Ends.{ends_of};
+ghost use Rattle.ame_shell.specs.Over.{IsOver};
+ghost use Rattle.ame_app.specs.Headline.{limits_of};
+ghost use Rattle.ame_app.specs.Verbs.Sim.{CanBeScheduled};
+ghost use Rattle.ame_app.specs.Verbs.Replay.{TakesScheduled, HasNoSchedule, IsPickedAsListed};
+ghost use Rattle.ame_app.specs.declared.status.Status.{Status as Told};
+
+use crate::lists::Picks;
+use crate::parts::Front;
+use crate::status::Status;
+use crate::verbs::{Made, Taken, sim};
+use ame_chooser::{Listed, ScheduleFault, read_schedule};
+use ame_cli::Options;
+use ame_code::Code;
+use ame_device::Device;
+use ame_io::Sink;
+use std::alloc::Global;
+use std::sync::Arc;
+
+/// The picks of the schedule, and the text behind it.
+pub(crate) fn take(alloc: Global, bytes: &[u8]) -> Result<Taken, Status>
+    ensures takes { IfOk result (λ taken. TakesScheduled bytes.now taken.front taken.text.items) }
+    ensures small { IfOk result (λ taken. vec_len taken.text ≤ length bytes.now) }
+    ensures declines { IfErr result (λ told. HasNoSchedule bytes.now told ⊎ (told ≡ Told.NoMemory)) }
+{
+    match read_schedule(alloc, bytes) {
+        Ok(scheduled) => match Vec::from_slice(alloc, scheduled.program) {
+            Ok(text) => Ok(Taken {
+                front: Front::Schedule(Picks::from_vec(scheduled.picks)),
+                text,
+            }),
+            Err(_) => Err(Status::NoMemory),
+        },
+        Err(ScheduleFault::BadSchedule) => Err(Status::BadSchedule),
+        Err(ScheduleFault::NoMemory) => Err(Status::NoMemory),
+    }
+}
+
+/// Runs code on one thread, with the picks that stand before its text. Where none stand there, nothing is begun.
+pub(crate) fn run<K, D>(
+    alloc: Global,
+    code: &Arc<Code>,
+    options: Options,
+    front: &Front,
+    sink: K,
+    devices: Vec<D>,
+) -> Result<Made<K, D>, (K, Vec<D>)>
+where
+    K: Sink + Drop,
+    D: Device,
+    requires ranges { AreInRange options }
+    requires devices { (arc_value code.now).accepted.devices ≡ vec_len devices }
+    ensures over { IfOk result (λ made. IsOver (program_of (arc_value code.now)) (limits_of options) (value_meant (arc_value code.now))
+        (ends_of K.written K.faults D.device_heard D.device_faults sink devices.items) made.left.ended
+        (ends_of K.written K.faults D.device_heard D.device_faults made.left.sink made.left.devices.items)) }
+    ensures own { IfOk result (λ made. IsPickedAsListed front.now options.workers made.own made.left.ended) }
+    ensures seats { IfOk result (λ made. CanBeScheduled made.own) }
+    ensures sink { IfErr result (λ back. back.0 ≡ sink) }
+    ensures devices { IfErr result (λ back. back.1 ≡ devices) }
+{
+    let Front::Schedule(picks) = front else {
+        return Err((sink, devices));
+    };
+    let Ok(seats) = Vec::from_slice(alloc, picks.as_slice()) else {
+        return Err((sink, devices));
+    };
+    let mut chooser = Listed::new(seats);
+    sim::run(alloc, code, options, sink, devices, &mut chooser)
+}

@@ -1,0 +1,157 @@
+//! `sim`: a run on one thread, under a chooser.
+
+ghost use Rattle.std.specs.Prelude.{◌≡◌, ◌≤◌, ◌<◌, All, IfOk, IfErr, OnOk, OnErr, true, false, [], length, vec_len};
+ghost use Rattle.std.specs.Arc.{arc_value};
+ghost use Rattle.std.specs.Io.KnownBytes.{Appends};
+ghost use Rattle.ame_cli.specs.Ranges.{AreInRange};
+ghost use Rattle.ame_io.specs.Counts.{HasRisen};
+ghost use Rattle.ame_io.specs.Writes.{AppendsFront};
+ghost use Rattle.ame_code.specs.Code.{program_of};
+ghost use Rattle.ame_eval.specs.Values.{value_meant};
+ghost use Rattle.ame_shell.specs.Ends.{ends_of};
+ghost use Rattle.ame_shell.specs.Over.{IsOver};
+ghost use Rattle.ame_chooser.specs.Questions.{seats_of};
+ghost use Rattle.ame_chooser.specs.Schedule.{schedule_line, signs};
+ghost use Rattle.ame_sim.specs.Picks.{picks_of};
+ghost use Rattle.ame_app.specs.Headline.{limits_of};
+ghost use Rattle.ame_app.specs.Verbs.Sim.{IsPicked, mades_in, seats_picked, schedule_behind, CanBeScheduled};
+ghost use Rattle.ame_app.specs.declared.parts.Own.{Own as Owned};
+
+use crate::lists::Mades;
+use crate::parts::Own;
+use crate::status::Status;
+use crate::verbs::Made;
+use ame_chooser::{Chooser, sign_of};
+use ame_cli::Options;
+use ame_code::Code;
+use ame_device::Device;
+use ame_eval::Fragment;
+use ame_io::{Sink, WriteFault, write_all};
+use ame_protocol::Limits;
+use ame_sim::{Made as Done, run_by_chooser};
+use arrayvec::ArrayVec;
+use std::alloc::Global;
+use std::sync::Arc;
+
+/// How many signs are written at a time.
+const PIECE: usize = 64;
+
+/// Runs code on one thread, by as many seats as the options have workers.
+pub(crate) fn run<K, D, H>(
+    alloc: Global,
+    code: &Arc<Code>,
+    options: Options,
+    sink: K,
+    devices: Vec<D>,
+    chooser: &mut H,
+) -> Result<Made<K, D>, (K, Vec<D>)>
+where
+    K: Sink + Drop,
+    D: Device,
+    H: Chooser,
+    requires ranges { AreInRange options }
+    requires devices { (arc_value code.now).accepted.devices ≡ vec_len devices }
+    ensures over { IfOk result (λ made. IsOver (program_of (arc_value code.now)) (limits_of options) (value_meant (arc_value code.now))
+        (ends_of K.written K.faults D.device_heard D.device_faults sink devices.items) made.left.ended
+        (ends_of K.written K.faults D.device_heard D.device_faults made.left.sink made.left.devices.items)) }
+    ensures own { IfOk result (λ made. IsPicked (H.strategy chooser.old) options.workers made.own made.left.ended) }
+    ensures seats { IfOk result (λ made. CanBeScheduled made.own) }
+    ensures sink { IfErr result (λ back. back.0 ≡ sink) }
+    ensures devices { IfErr result (λ back. back.1 ≡ devices) }
+{
+    let Ok(code) = Arc::try_clone(code) else {
+        return Err((sink, devices));
+    };
+    let limits = Limits {
+        turns: options.turns,
+        slice: options.slice,
+        seats: options.workers,
+    };
+    match run_by_chooser::<Fragment, K, D, H>(alloc, code, limits, sink, devices, chooser) {
+        Ok(played) => Ok(Made {
+            left: played.left,
+            own: Own::Picked(Mades::from_vec(played.mades)),
+        }),
+        Err(back) => Err(back),
+    }
+}
+
+/// Whether a schedule stands behind the verdict line of a status.
+fn has_schedule(told: &Status) -> bool
+    ensures stands { result ≡ true → (own : Owned) → schedule_behind own told.now ≡ schedule_line (seats_picked own) }
+    ensures none { result ≡ false → (own : Owned) → schedule_behind own told.now ≡ [] }
+{
+    !matches!(told, Status::NoMemory | Status::WriteFault)
+}
+
+/// What picks did, where the report has it.
+fn mades_of(own: &Own) -> &[Done]
+    ensures { result.now ≡ mades_in own.now }
+{
+    match own {
+        Own::Picked(mades) => mades.as_slice(),
+        Own::Nothing => &[],
+    }
+}
+
+/// Writes the schedule of a run behind its verdict line. Takes no memory.
+pub(crate) fn write_behind<K: Sink>(
+    sink: &mut K,
+    own: &Own,
+    told: &Status,
+) -> Result<(), WriteFault>
+    requires seats { CanBeScheduled own.now }
+    ensures whole { OnOk result (Appends (K.written sink.old) (K.written sink.new) (schedule_behind own.now told.now)) }
+    ensures stayed { OnOk result (K.faults sink.new ≡ K.faults sink.old) }
+    ensures front { OnErr result (AppendsFront (K.written sink.old) (K.written sink.new) (schedule_behind own.now told.now)) }
+    ensures risen { OnErr result (HasRisen (K.faults sink.old) (K.faults sink.new)) }
+{
+    if !has_schedule(told) {
+        return Ok(());
+    }
+    write_schedule(sink, mades_of(own))
+}
+
+/// Writes the line of a schedule.
+fn write_schedule<K: Sink>(sink: &mut K, mades: &[Done]) -> Result<(), WriteFault>
+    requires seats { All (λ made. made.seat < 32) mades.now }
+    ensures whole { OnOk result (Appends (K.written sink.old) (K.written sink.new) (schedule_line (seats_of (picks_of mades.now)))) }
+    ensures stayed { OnOk result (K.faults sink.new ≡ K.faults sink.old) }
+    ensures front { OnErr result (AppendsFront (K.written sink.old) (K.written sink.new) (schedule_line (seats_of (picks_of mades.now)))) }
+    ensures risen { OnErr result (HasRisen (K.faults sink.old) (K.faults sink.new)) }
+{
+    write_all(sink, b"schedule ")?;
+    write_signs(sink, mades)?;
+    write_all(sink, b"\n")
+}
+
+/// Writes a sign for each pick, some at a time.
+fn write_signs<K: Sink>(sink: &mut K, mades: &[Done]) -> Result<(), WriteFault>
+    requires seats { All (λ made. made.seat < 32) mades.now }
+    ensures whole { OnOk result (Appends (K.written sink.old) (K.written sink.new) (signs (seats_of (picks_of mades.now)))) }
+    ensures stayed { OnOk result (K.faults sink.new ≡ K.faults sink.old) }
+    ensures front { OnErr result (AppendsFront (K.written sink.old) (K.written sink.new) (signs (seats_of (picks_of mades.now)))) }
+    ensures risen { OnErr result (HasRisen (K.faults sink.old) (K.faults sink.new)) }
+{
+    let mut gone = 0;
+    'pieces: while gone < mades.len() {
+        let next = mades.len().min(gone + PIECE);
+        let piece = signs_of(&mades[gone..next]);
+        write_all(sink, piece.as_slice())?;
+        gone = next;
+    }
+    Ok(())
+}
+
+/// The signs of some picks.
+fn signs_of(mades: &[Done]) -> ArrayVec<u8, PIECE>
+    requires seats { All (λ made. made.seat < 32) mades.now }
+    requires few { length mades.now ≤ PIECE }
+    ensures { result.items ≡ signs (seats_of (picks_of mades.now)) }
+{
+    let mut signs = ArrayVec::new();
+    for made in mades {
+        signs.push(sign_of(made.seat));
+    }
+    signs
+}

@@ -1,7 +1,12 @@
 -- What a run under a chooser tells of its picks.
-use Rattle.std.proofs.Common.{◌≡◌, ℕ, ◌<◌, ◌≤◌, List, ◌++◌, map, sym, ap, ◌∙◌, subst, arith}
-use Rattle.std.specs.Prelude.{All}
-use Rattle.std.proofs.lemmas.List.{map-append}
+use Rattle.std.proofs.Common.{◌≡◌, ℕ, ◌+◌, ◌-◌, ◌<◌, ◌≤◌, List, ◌++◌, map, take, drop, Result, Ok, Err, Option, sym, ap, ◌∙◌, subst, arith}
+use Rattle.std.specs.Prelude.{All, OnErr}
+use Rattle.std.specs.Io.KnownBytes.{Appends}
+use Rattle.std.proofs.KnownBytes.{Appends-trans}
+use Rattle.std.proofs.Math.Seq.{take-add}
+use Rattle.std.proofs.lemmas.List.{map-append, take-append-drop}
+use Rattle.ame_io.specs.Writes.{AppendsFront}
+use Rattle.ame_io.proofs.WritesLemmas.{AppendsFront-after, AppendsFront-longer}
 use Rattle.std.proofs.lemmas.List.Elements.{All-weaker}
 use Rattle.ame_chooser.specs.Questions.{Picked, questions, seats_of}
 use Rattle.ame_chooser.specs.Schedule.{sign, signs}
@@ -26,6 +31,35 @@ signs-append xs ys =
     ap (λ (ps : List Picked). map sign (map (λ p. p.seat) ps)) (map-append picked_by xs ys)
     ∙ ap (map sign) (map-append (λ (p : Picked). p.seat) (picks_of xs) (picks_of ys))
     ∙ map-append sign (seats_of (picks_of xs)) (seats_of (picks_of ys))
+
+-- what is so anyway is so of an error
+pub on-err : {T E : Type 0} (r : Result T E) (P : Type 0) → P → OnErr r P
+on-err (Ok x) P p = tt
+on-err (Err e) P p = p
+
+pub on-err-then : {T E : Type 0} (r : Result T E) (P Q : Type 0) → (P → Q) → OnErr r P → OnErr r Q
+on-err-then (Ok x) P Q go h = tt
+on-err-then (Err e) P Q go h = go h
+
+module _ (mades : List Made) (gone next : ℕ) (more : gone ≤ next) (a b c : Option (List ℕ))
+    (before : Appends a b (signs_made (take gone mades))) where
+  -- behind the signs of the first picks those of the next ones are written
+  pub signs-more : Appends b c (signs_made (take (next - gone) (drop gone mades))) → Appends a c (signs_made (take next mades))
+  signs-more now =
+      subst (λ (l : List ℕ). Appends a c l)
+      (sym (signs-append (take gone mades) (take (next - gone) (drop gone mades)))
+      ∙ ap signs_made (sym (take-add gone (next - gone) mades) ∙ ap (λ (n : ℕ). take n mades) (omega (arith, more))))
+      (Appends-trans a b c _ _ before now)
+
+  -- or a front of them
+  pub signs-front : AppendsFront b c (signs_made (take (next - gone) (drop gone mades))) → AppendsFront a c (signs_made mades)
+  signs-front now =
+      let rest = drop (next - gone) (drop gone mades) in
+      subst (λ (l : List ℕ). AppendsFront a c l)
+      (ap (λ (l : List ℕ). signs_made (take gone mades) ++ l) (sym (signs-append (take (next - gone) (drop gone mades)) rest))
+      ∙ sym (signs-append (take gone mades) (take (next - gone) (drop gone mades) ++ rest))
+      ∙ ap signs_made (ap (λ (l : List Made). take gone mades ++ l) (take-append-drop (next - gone) (drop gone mades)) ∙ take-append-drop gone mades))
+      (AppendsFront-after a b c _ _ before (AppendsFront-longer b c _ (signs_made rest) now))
 
 -- seats of a run have signs
 pub picked-low : (strategy : List (List ℕ) → List ℕ) (seats : ℕ) (own : Own) (end : End Val) → seats ≤ 32 → IsPicked strategy seats own end

@@ -10,3 +10,8 @@ pub mod StraightLemmas
 pub mod TryLemmas
 pub mod LabelLemmas
 pub mod ReleaseLemmas
+pub mod RoomLemmas
+pub mod TranscriptLemmas
+pub mod StraightenedLemmas
+pub mod WeakFollowed
+pub mod WeakToldLemmas

@@ -1,17 +1,31 @@
 //! Theorems: promises of this crate that nothing above it cites, each the statement of a lemma.
 
-ghost use Rattle.std.specs.Prelude.{◌≡◌, ℕ, List, Some, None};
+ghost use Rattle.std.specs.Prelude.{◌≡◌, ◌↔◌, ℕ, List, Some, None};
+ghost use Rattle.ame_term.specs.Tree.{Tree};
 ghost use Rattle.ame_term.specs.View.{tree_of};
 ghost use Rattle.ame_term.specs.declared.semantics.Label.{Label};
 ghost use Rattle.ame_journal.specs.Replayed.{Replayed};
 ghost use Rattle.ame_journal.specs.Replay.{replay};
 ghost use Rattle.ame_journal.specs.Calls.{device_calls};
-ghost use Rattle.ame_weak.specs.Weak.{Weak, IsWeakRun, holding_none, weak_start, weak_calls};
+ghost use Rattle.ame_weak.specs.Weak.{Weak, IsWeakRun, holding_none, weak_start, weak_after, weak_run, weak_calls};
+ghost use Rattle.ame_weak.specs.WeakRules.{WeakRule, WeakBegins, WeakRuns};
 ghost use Rattle.ame_weak.specs.Straight.{straight, outset};
 ghost use Rattle.ame_weak.specs.Tries.{AreTried, straight_with};
 ghost use Rattle.ame_weak.specs.declared.tries.Try.{Try};
 
 use ame_term::Accepted;
+
+/// A label leads from one weak state to another exactly where a weak rule has it.
+pub fn weak_labels_follow_the_rules()
+    ensures { (w v : Weak) (label : Label) → (weak_after w label ≡ Some v) ↔ WeakRule w label v }
+{}
+
+/// `weak_start` is the weak state in which a program begins, and `weak_run` leads where labels lead, each by a
+/// weak rule.
+pub fn weak_runs_follow_the_rules()
+    ensures begins { (program : Tree) (w : Weak) → (w ≡ weak_start program) ↔ WeakBegins program w }
+    ensures runs { (w : Weak) (labels : List Label) (v : Weak) → (weak_run w labels ≡ Some v) ↔ WeakRuns w labels v }
+{}
 
 /// A weak run of an accepted program looks strong: where nothing is active at its end, the journal of
 /// its labels leads to the same state, with the same store, members, output and next number.

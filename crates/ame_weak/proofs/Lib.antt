@@ -14,4 +14,5 @@ pub mod RoomLemmas
 pub mod TranscriptLemmas
 pub mod StraightenedLemmas
 pub mod WeakFollowed
+pub mod BoundLemmas
 pub mod WeakToldLemmas

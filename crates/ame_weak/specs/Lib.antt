@@ -6,3 +6,4 @@ pub mod Answer
 pub mod Straightened
 pub mod WeakRules
 pub mod WeakTold
+pub mod Bounds

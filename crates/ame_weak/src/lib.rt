@@ -1,6 +1,7 @@
 //! The weak semantics, and the journal of a weak run.
 #![tactic(auto)]
 
+mod bounds;
 mod copy;
 mod held;
 mod let_go;

@@ -15,4 +15,6 @@ pub mod TranscriptLemmas
 pub mod StraightenedLemmas
 pub mod WeakFollowed
 pub mod BoundLemmas
+pub mod TypedRuns
+pub mod NoteLemmas
 pub mod WeakToldLemmas

@@ -1,16 +1,19 @@
 //! Theorems: promises of this crate that nothing above it cites, each the statement of a lemma.
 
-ghost use Rattle.std.specs.Prelude.{◌≡◌, ◌↔◌, ℕ, List, Some, None};
+ghost use Rattle.std.specs.Prelude.{◌≡◌, ◌↔◌, ℕ, List, length, map, Some, None};
 ghost use Rattle.ame_term.specs.Tree.{Tree};
 ghost use Rattle.ame_term.specs.View.{tree_of};
 ghost use Rattle.ame_term.specs.declared.semantics.Label.{Label};
 ghost use Rattle.ame_journal.specs.Replayed.{Replayed};
 ghost use Rattle.ame_journal.specs.Replay.{replay};
 ghost use Rattle.ame_journal.specs.Calls.{device_calls};
+ghost use Rattle.ame_journal.specs.Totals.{without_notes};
+ghost use Rattle.ame_laws.specs.Typed.StoreTyping.{StoreTyping};
+ghost use Rattle.ame_laws.specs.Typed.TypedState.{IsTyped};
 ghost use Rattle.ame_weak.specs.Weak.{Weak, IsWeakRun, holding_none, weak_start, weak_after, weak_run, weak_calls};
 ghost use Rattle.ame_weak.specs.WeakRules.{WeakRule, WeakBegins, WeakRuns};
 ghost use Rattle.ame_weak.specs.Straight.{straight, outset};
-ghost use Rattle.ame_weak.specs.Tries.{AreTried, straight_with};
+ghost use Rattle.ame_weak.specs.Tries.{AreTried, AreInOrder, notes_of, note_for, straight_with};
 ghost use Rattle.ame_weak.specs.declared.tries.Try.{Try};
 
 use ame_term::Accepted;
@@ -56,4 +59,18 @@ pub fn calls_are_told_with(accepted: &Accepted)
         → IsWeakRun (tree_of accepted.now.program.term) labels w
         → device_calls device (tree_of accepted.now.program.term) (straight_with 0 tries outset labels)
         ≡ weak_calls device (weak_start (tree_of accepted.now.program.term)) labels }
+{}
+
+/// The notes of a journal are those of the tries, in their order, where the tries stand in order and none is
+/// behind the labels; and without its notes it is the journal of the labels.
+pub fn notes_are_of_the_tries()
+    ensures notes { (labels : List Label) (tries : List Try) → AreInOrder 0 (length labels) tries
+        → notes_of (straight_with 0 tries outset labels) ≡ map note_for tries }
+    ensures others { (labels : List Label) (tries : List Try) → without_notes (straight_with 0 tries outset labels) ≡ straight labels }
+{}
+
+/// The strong state in the weak state to which the labels of an accepted program lead is typed.
+pub fn weak_runs_are_typed(accepted: &Accepted)
+    ensures { (labels : List Label) (w : Weak) → IsWeakRun (tree_of accepted.now.program.term) labels w
+        → (cells : StoreTyping) × IsTyped accepted.now.devices cells w.state }
 {}

@@ -109,3 +109,8 @@ module _ {C V M : Type 0} (meaning : Meaning C V M) (code : C) (accepted : IsAcc
 pub quiet-of : (o : Option ℤ) → is_some o ≡ false → o ≡ None
 quiet-of None e = refl
 quiet-of (Some n) e = cc
+
+-- an answer
+pub told-of : (o : Option ℤ) → is_some o ≡ true → (n : ℤ) × (o ≡ Some n)
+told-of None e = cc
+told-of (Some n) e = (n, refl)

@@ -1,5 +1,5 @@
 -- A machine on the way through an entry's steps, with what it set laid over the cells.
-use Rattle.std.specs.Prelude.{◌≡◌, ℕ, ◌+◌, ◌<◌, ◌++◌, ℤ, List, Option, None, Some, ◌⊎◌}
+use Rattle.std.specs.Prelude.{◌≡◌, ℕ, ◌+◌, ◌<◌, ◌++◌, ℤ, Bool, true, false, List, Option, None, Some, ◌⊎◌}
 use Rattle.ame_term.specs.Tree.{Val}
 use Rattle.ame_term.specs.Frame.{Side}
 use Rattle.ame_term.specs.State.{State}
@@ -33,6 +33,17 @@ Allocates want = (sort : Sort) × (number : TyNo) × (want ≡ Some (wants.Alloc
 -- it wants that what it hands out is accepted
 abbrev pub Hands : Option Wants → Type 0
 Hands want = (want ≡ Some wants.Spawn) ⊎ ((n : ℤ) × (want ≡ Some (wants.Print n)))
+
+-- it wants the answer of a device
+abbrev pub Calls : Option Wants → Type 0
+Calls want = (device : ℕ) × (n : ℤ) × (want ≡ Some (wants.Device device n))
+
+-- whether a want under `unprotected` is none of a device, of closing, and of a value that is too high
+abbrev pub is_plain : Wants → Bool
+is_plain (wants.Device device n) = false
+is_plain wants.Close = false
+is_plain wants.Tall = false
+is_plain _ = true
 
 module _ {C V M : Type 0} (meaning : Meaning C V M) (code : C) where
   -- A machine of member i has come so far from a state whose store the cells show, with these locations to use in all.

@@ -1,8 +1,11 @@
 //! A replay of journals by the strong rules, on machines, at the speed of a run.
 #![tactic(auto)]
 
+mod judging;
 mod replay;
 mod step;
+mod visit;
 mod walk;
 
+pub use judging::{Judged, MOST_STEPS, judge};
 pub use replay::{Made, Replay};

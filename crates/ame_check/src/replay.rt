@@ -13,6 +13,7 @@ ghost use Rattle.ame_journal.specs.Totals.{is_note};
 ghost use Rattle.ame_check.specs.Entries.{is_confirmed};
 ghost use Rattle.ame_check.specs.Shows.{ShowsMembers, Adopts};
 
+use crate::visit::{Visited, visit};
 use crate::walk::{Walked, run};
 use ame_journal::{Entry, EntryKind};
 use ame_machine::{Runner, Wants};
@@ -194,6 +195,38 @@ where
         }
     }
 
+    /// A `Free` entry: steps under `unprotected`, of which the last may call a device or close. Otherwise as `ran`.
+    pub fn free(&mut self, alloc: Global, code: &M::Code, entry: &Entry) -> Result<Made, NoMemory>
+        requires kind { entry.now.kind ≡ EntryKind.Free }
+        requires stands { (entries : List Entry) × StandsForEntries M.meaning code.now entries
+            (record { cells = self.old.cells.entries; members = self.old.members.entries; output = self.old.output.items; next = self.old.next }) }
+        ensures { IfOk result (λ made. (entries : List Entry) → StandsForEntries M.meaning code.now entries
+            (record { cells = self.old.cells.entries; members = self.old.members.entries; output = self.old.output.items; next = self.old.next })
+            → CameOf M.meaning code.now entries entry.now
+            (record { cells = self.new.cells.entries; members = self.new.members.entries; output = self.new.output.items; next = self.new.next }) made) }
+    {
+        if entry.steps == 0 {
+            return Ok(Made::Undefined);
+        }
+        let Some(mut machine) = self.members.remove(&entry.number) else {
+            return Ok(Made::Undefined);
+        };
+        if !machine.inside() {
+            return Ok(Made::Undefined);
+        }
+        let mut overlay = BTreeMap::new(alloc);
+        match visit(alloc, code, &self.cells, entry, &mut overlay, &mut machine)? {
+            Visited::Stays | Visited::Closes => {
+                self.keep(alloc, code, &mut overlay, &mut machine)?;
+                machine.settle();
+                self.members.insert(entry.number, machine)?;
+                Ok(Made::Made)
+            }
+            Visited::Undefined => Ok(Made::Undefined),
+            Visited::Tall => Ok(Made::Tall),
+        }
+    }
+
     /// A note (`Stuck`, `Cut`, `Tall`), on a copy of its member's machine. One that stands at `unprotected` makes its steps there.
     /// Nothing changes. Costs a copy of the machine, and its steps.
     pub fn note(&self, alloc: Global, code: &M::Code, entry: &Entry) -> Result<Made, NoMemory>
@@ -226,5 +259,34 @@ where
             Walked::Undefined => Ok(Made::Undefined),
             Walked::Tall => Ok(Made::Tall),
         }
+    }
+
+    /// One more entry.
+    pub fn make(&mut self, alloc: Global, code: &M::Code, entry: &Entry) -> Result<Made, NoMemory>
+        requires stands { (entries : List Entry) × StandsForEntries M.meaning code.now entries
+            (record { cells = self.old.cells.entries; members = self.old.members.entries; output = self.old.output.items; next = self.old.next }) }
+        ensures { IfOk result (λ made. (entries : List Entry) → StandsForEntries M.meaning code.now entries
+            (record { cells = self.old.cells.entries; members = self.old.members.entries; output = self.old.output.items; next = self.old.next })
+            → CameOf M.meaning code.now entries entry.now
+            (record { cells = self.new.cells.entries; members = self.new.members.entries; output = self.new.output.items; next = self.new.next }) made) }
+    {
+        match entry.kind {
+            EntryKind::Ran => self.ran(alloc, code, entry),
+            EntryKind::Free => self.free(alloc, code, entry),
+            EntryKind::Stuck | EntryKind::Cut | EntryKind::Tall => self.note(alloc, code, entry),
+        }
+    }
+
+    /// What was printed.
+    pub fn into_output(self) -> Vec<i64>
+        ensures { result ≡ self.output }
+    {
+        let Replay {
+            cells: _,
+            members: _,
+            output,
+            next: _,
+        } = self;
+        output
     }
 }

@@ -1,11 +1,11 @@
 -- A `Free` entry, by what its call finds.
-use Rattle.std.proofs.Common.{◌≡◌, ℕ, ◌+◌, ◌<◌, ◌≤◌, ◌++◌, ◌∷◌, [], ◌||◌, ◌⊎◌, inl, inr, ℤ, Bool, true, false, List, Option, Some, None, refl, sym, ap, ◌∙◌, subst}
+use Rattle.std.proofs.Common.{◌≡◌, ℕ, ◌+◌, ◌<◌, ◌≤◌, ◌++◌, ◌∷◌, [], ◌⊎◌, inl, inr, ℤ, Bool, true, false, List, Option, Some, None, refl, sym, ap, ◌∙◌, subst}
 use Rattle.ame_term.specs.Tree.{Tree}
 use Rattle.ame_term.specs.Frame.{Side, side_told}
 use Rattle.ame_term.specs.Context.{focus}
 use Rattle.ame_term.specs.Maps.{at, put}
 use Rattle.ame_term.specs.State.{State, at_unprotected}
-use Rattle.ame_journal.specs.Replayed.{Replayed, is_inside, is_at_unprotected, has_such, side_at, staying, leaving}
+use Rattle.ame_journal.specs.Replayed.{Replayed, is_inside, has_such, side_at, leaving}
 use Rattle.ame_journal.specs.Replay.{replay, replay_entry, or_else}
 use Rattle.ame_journal.specs.declared.entry.Entry.{Entry}
 use Rattle.ame_journal.specs.declared.entry.EntryKind.{EntryKind}

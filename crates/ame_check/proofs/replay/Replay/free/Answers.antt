@@ -1,6 +1,6 @@
-use Rattle.std.proofs.Common.{◌≢◌, ◌+◌, ◌-◌, ◌<◌, sym, ◌∙◌, arith}
+use Rattle.std.proofs.Common.{◌≢◌, ◌-◌, ◌<◌, sym, ◌∙◌, arith}
 use Rattle.ame_laws.proofs.MapLemmas.{is_at-apart}
-use Rattle.ame_check.proofs.FreeEntries.{visits-none, visits-nobody, visits-outside, rests-free, begins-free, visit-undefined, visit-tall, visit-made}
+use Rattle.ame_check.proofs.FreeEntries.{visits-none, visits-nobody, visits-outside, begins-free, visit-undefined, visit-tall, visit-made}
 use Rattle.ame_check.proofs.replay.Replay.free.Goals as goal
 
 pub returns-then-entry-eq0 : goal.returns-then-entry-eq0

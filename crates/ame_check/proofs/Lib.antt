@@ -17,3 +17,4 @@ pub mod LastLemmas
 pub mod VisitLemmas
 pub mod FreeEntries
 pub mod JudgeLemmas
+pub mod InputLemmas

@@ -4,3 +4,4 @@ pub mod Walked
 pub mod Entries
 pub mod Visit
 pub mod Judge
+pub mod Input

@@ -17,7 +17,10 @@ use Rattle.ame_machine.specs.Move.{settled_stage}
 use Rattle.ame_check.specs.Shows.{ReplayView, ShowsMember, ShowsMembers, StandsForEntries, IsResting}
 use Rattle.ame_check.specs.Walk.{ComesToTall}
 use Rattle.ame_check.specs.Walked.{IsAtStep}
-use Rattle.ame_check.specs.Visit.{HasCome, VisitsTo}
+use Rattle.ame_check.specs.Visit.{HasCome, VisitsTo, VisitMeets}
+use Rattle.ame_check.specs.Reasons.{IsMet}
+use Rattle.ame_check.specs.declared.reason.Reason.{Reason}
+use Rattle.ame_check.specs.declared.reason.Reason.TheVariants as reason
 use Rattle.ame_check.specs.Entries.{MeetsTall}
 use Rattle.ame_check.specs.declared.visit.Visited.{Visited}
 use Rattle.ame_check.specs.declared.visit.Visited.TheVariants as visited
@@ -26,6 +29,7 @@ use Rattle.ame_check.proofs.FreeLemmas.{free-outside, free-empty, free-stays, fr
 use Rattle.ame_check.proofs.MadeLemmas.{rest_of, shows-rest, outside-next, shows-store, shows-output, shows-next, shows-back, leaving-other, leaving-own}
 use Rattle.ame_check.proofs.NoteLemmas.{side-tall}
 use Rattle.ame_check.proofs.RanLemmas.{AdoptsAll, undefined-there}
+use Rattle.ame_check.proofs.ReasonLemmas.{FailsBy, visit-met}
 use Rattle.ame_check.proofs.StartLemmas.{its-term, its-rest, its-machine, is-early, walk-begins}
 
 module _ {C V M : Type 0} (meaning : Meaning C V M) (code : C) (accepted : IsAccepted (meaning.devices code) (meaning.program code)) (entry : Entry) (kind : entry.kind ≡ EntryKind.Free)
@@ -36,8 +40,11 @@ module _ {C V M : Type 0} (meaning : Meaning C V M) (code : C) (accepted : IsAcc
   none-there : replay_entry st.led entry ≡ None → replay (meaning.program code) (entries ++ entry ∷ []) ≡ None
   none-there = undefined-there meaning code entries entry place st.led st.replayed st.shows calm
 
-  pub visits-none : entry.steps ≡ 0 → replay (meaning.program code) (entries ++ entry ∷ []) ≡ None
-  visits-none none = none-there (free-empty st.led entry kind none)
+  fails : (why : Reason) → replay (meaning.program code) (entries ++ entry ∷ []) ≡ None → IsMet st.led entry why → FailsBy (meaning.program code) entries entry why
+  fails why none met = (none, (st.led, st.replayed, met))
+
+  pub visits-none : entry.steps ≡ 0 → FailsBy (meaning.program code) entries entry reason.NoSteps
+  visits-none none = fails reason.NoSteps (none-there (free-empty st.led entry kind none)) (kind, none)
 
   absent-outside : at st.led.state.members entry.number ≡ None → (b : Bool) → is_inside st.led entry.number ≡ b → b ≡ false
   absent-outside none true inside =
@@ -46,10 +53,10 @@ module _ {C V M : Type 0} (meaning : Meaning C V M) (code : C) (accepted : IsAcc
       cc
   absent-outside none false inside = refl
 
-  pub visits-nobody : None ≡ at place.members entry.number → replay (meaning.program code) (entries ++ entry ∷ []) ≡ None
+  pub visits-nobody : None ≡ at place.members entry.number → FailsBy (meaning.program code) entries entry reason.NoMember
   visits-nobody none =
       let absent = subst (λ (o : Option M). ShowsMember meaning code (is_inside st.led entry.number) o (at st.led.state.members entry.number)) (sym none) (st.shows.members entry.number) in
-      none-there (free-outside st.led entry kind (absent-outside absent (is_inside st.led entry.number) refl))
+      fails reason.NoMember (none-there (free-outside st.led entry kind (absent-outside absent (is_inside st.led entry.number) refl))) absent
 
   module _ (machine : M) (found : Some machine ≡ at place.members entry.number) where
     term : at st.led.state.members entry.number ≡ Some (meaning.stage code machine).term
@@ -58,8 +65,10 @@ module _ {C V M : Type 0} (meaning : Meaning C V M) (code : C) (accepted : IsAcc
     rest : meaning.stage code machine ≡ record (starting_at (meaning.stage code machine).term) { inside = is_inside st.led entry.number }
     rest = its-rest meaning code accepted entries place st.led st.replayed st.shows entry.number machine found
 
-    pub visits-outside : (meaning.stage code machine).inside ≡ false → replay (meaning.program code) (entries ++ entry ∷ []) ≡ None
-    visits-outside flag = none-there (free-outside st.led entry kind (sym (ap (λ (z : MachineView). z.inside) rest) ∙ flag))
+    pub visits-outside : (meaning.stage code machine).inside ≡ false → FailsBy (meaning.program code) entries entry reason.Outside
+    visits-outside flag =
+        let outside = sym (ap (λ (z : MachineView). z.inside) rest) ∙ flag in
+        fails reason.Outside (none-there (free-outside st.led entry kind outside)) (kind, outside)
 
     pub rests-free : (meaning.stage code machine).steps ≡ 0
     rests-free = ap (λ (z : MachineView). z.steps) rest
@@ -84,8 +93,11 @@ module _ {C V M : Type 0} (meaning : Meaning C V M) (code : C) (accepted : IsAcc
         to v is =
             subst (VisitsTo meaning code st.led.state entry.number entry.fresh entry.answer later m n) is (visits st.led.state entry.number n count begins-free)
 
-        pub visit-undefined : found_as ≡ visited.Undefined → replay (meaning.program code) (entries ++ entry ∷ []) ≡ None
-        visit-undefined is = let none = to visited.Undefined is in none-there (free-neither st.led entry calm.idle kind inside n count none.0 none.1)
+        pub visit-undefined : (why : Reason) → found_as ≡ visited.Undefined why → FailsBy (meaning.program code) entries entry why
+        visit-undefined why is =
+            let none = to (visited.Undefined why) is in
+            fails why (none-there (free-neither st.led entry calm.idle kind inside n count none.0 none.1))
+            (visit-met st.led entry kind why (subst (λ (k : ℕ). VisitMeets st.led.state entry.number entry.fresh entry.answer k why) count none.2))
 
         pub visit-tall : found_as ≡ visited.Tall → (r : Replayed) × (replay (meaning.program code) entries ≡ Some r) × MeetsTall r entry
         visit-tall is =

@@ -1,5 +1,5 @@
 -- How a journal is judged, entry by entry.
-use Rattle.std.proofs.Common.{◌≡◌, ℕ, ◌+◌, ◌-◌, ◌<◌, ◌≤◌, ℤ, List, [], ◌∷◌, ◌++◌, length, take, get_or, Some, None, refl, sym, ap, ◌∙◌, subst, arith}
+use Rattle.std.proofs.Common.{◌≡◌, ℕ, ◌+◌, ◌-◌, ◌<◌, ◌≤◌, ℤ, List, [], ◌∷◌, ◌++◌, length, take, get_or, Some, refl, sym, ap, ◌∙◌, subst, arith}
 use Rattle.std.proofs.lemmas.List.{take_more, take_all}
 use Rattle.std.proofs.lemmas.List.Sums.{sum_by_more}
 use Rattle.ame_journal.specs.Replayed.{Replayed}
@@ -9,6 +9,8 @@ use Rattle.ame_journal.specs.declared.entry.Entry.{Entry}
 use Rattle.ame_machine.specs.Meaning.{Meaning}
 use Rattle.ame_check.specs.Shows.{ReplayView, StandsForEntries}
 use Rattle.ame_check.specs.Entries.{MeetsTall}
+use Rattle.ame_check.specs.declared.reason.Reason.{Reason}
+use Rattle.ame_check.proofs.ReasonLemmas.{FailsBy}
 use Rattle.ame_check.specs.Judge.{most_steps, IsLong, LeadsTo, IsInvalid, IsTallAt}
 
 -- the steps of the entries before an index, none of which is too many
@@ -74,15 +76,23 @@ module _ {C V M : Type 0} (meaning : Meaning C V M) (code : C) (entries : List E
     pub made-so : (later : ReplayView V M) → StandsForEntries meaning code (take index entries ++ entry ∷ []) later → StandsForEntries meaning code (take (index + 1) entries) later
     made-so later s = subst (λ (es : List Entry). StandsForEntries meaning code es later) (sym (one-more_entry entries index below entry is)) s
 
-    pub invalid-so : replay (meaning.program code) (take index entries ++ entry ∷ []) ≡ None → IsInvalid (meaning.program code) entries (place + 1)
-    invalid-so none = record {
+    is-next : take (place + 1) entries ≡ take (place + 1 - 1) entries ++ entry ∷ []
+    is-next =
+        ap (λ (k : ℕ). take k entries) next ∙ one-more_entry entries index below entry is
+        ∙ ap (λ (k : ℕ). take k entries ++ entry ∷ []) (sym before)
+
+    pub invalid-so : (why : Reason) → FailsBy (meaning.program code) (take index entries) entry why → IsInvalid (meaning.program code) entries (place + 1) why
+    invalid-so why fails = record {
       short = short;
       place = in-place;
-      led = st.led;
-      replayed = ap (λ (k : ℕ). replay (meaning.program code) (take k entries)) before ∙ st.replayed;
+      led = fails.1.0;
+      replayed = ap (λ (k : ℕ). replay (meaning.program code) (take k entries)) before ∙ fails.1.1;
       undefined =
           ap (λ (k : ℕ). replay (meaning.program code) (take k entries)) next
-          ∙ ap (replay (meaning.program code)) (one-more_entry entries index below entry is) ∙ none;
+          ∙ ap (replay (meaning.program code)) (one-more_entry entries index below entry is) ∙ fails.0;
+      entry = entry;
+      is_entry = is-next;
+      met = fails.1.2;
     }
 
     pub tall-so : (r : Replayed) × (replay (meaning.program code) (take index entries) ≡ Some r) × MeetsTall r entry → IsTallAt (meaning.program code) entries (place + 1)
@@ -92,8 +102,6 @@ module _ {C V M : Type 0} (meaning : Meaning C V M) (code : C) (entries : List E
       led = tall.0;
       replayed = ap (λ (k : ℕ). replay (meaning.program code) (take k entries)) before ∙ tall.1;
       entry = entry;
-      is_entry =
-          ap (λ (k : ℕ). take k entries) next ∙ one-more_entry entries index below entry is
-          ∙ ap (λ (k : ℕ). take k entries ++ entry ∷ []) (sym before);
+      is_entry = is-next;
       meets = tall.2;
     }

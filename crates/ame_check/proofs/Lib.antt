@@ -18,3 +18,4 @@ pub mod VisitLemmas
 pub mod FreeEntries
 pub mod JudgeLemmas
 pub mod InputLemmas
+pub mod ReasonLemmas

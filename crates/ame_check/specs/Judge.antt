@@ -6,6 +6,8 @@ use Rattle.ame_journal.specs.Replay.{replay}
 use Rattle.ame_journal.specs.Totals.{total_steps}
 use Rattle.ame_journal.specs.declared.entry.Entry.{Entry}
 use Rattle.ame_check.specs.Entries.{MeetsTall}
+use Rattle.ame_check.specs.Reasons.{IsMet}
+use Rattle.ame_check.specs.declared.reason.Reason.{Reason}
 use Rattle.ame_check.specs.declared.judging.Judged.{Judged}
 use Rattle.ame_check.specs.declared.judging.Judged.TheVariants as judged
 
@@ -31,13 +33,16 @@ module _ (program : Tree) (entries : List Entry) where
     pub replayed : replay program entries ≡ Some led
     pub printed : output ≡ led.state.output
 
-  -- those before the n-th can be made, and with it they can't be
-  pub record IsInvalid (n : ℕ) : Type 0 where
+  -- those before the n-th can be made, and with it they can't be, for this reason
+  pub record IsInvalid (n : ℕ) (why : Reason) : Type 0 where
     pub short : total_steps entries ≤ most_steps
     pub place : IsPlace entries n
     pub led : Replayed
     pub replayed : replay program (take (n - 1) entries) ≡ Some led
     pub undefined : replay program (take n entries) ≡ None
+    pub entry : Entry
+    pub is_entry : take n entries ≡ take (n - 1) entries ++ entry ∷ []
+    pub met : IsMet led entry why
 
   -- those before the n-th can be made, and it passes a form that would become a value that is too high
   pub record IsTallAt (n : ℕ) : Type 0 where
@@ -51,6 +56,6 @@ module _ (program : Tree) (entries : List Entry) where
 
   abbrev pub Judges : Judged → Type 0
   Judges (judged.Valid output) = LeadsTo output.items
-  Judges (judged.Invalid n) = IsInvalid n
+  Judges (judged.Invalid n why) = IsInvalid n why
   Judges (judged.Long n) = IsLong entries n
   Judges (judged.Tall n) = IsTallAt n

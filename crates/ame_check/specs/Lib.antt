@@ -5,3 +5,4 @@ pub mod Entries
 pub mod Visit
 pub mod Judge
 pub mod Input
+pub mod Reasons

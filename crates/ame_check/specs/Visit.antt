@@ -1,5 +1,5 @@
 -- What the steps of a `Free` entry come to.
-use Rattle.std.specs.Prelude.{◌≡◌, ℕ, ◌+◌, ℤ, Bool, true, false, List, Option, Some, None, option_and_then}
+use Rattle.std.specs.Prelude.{◌≡◌, ℕ, ◌+◌, ℤ, Bool, true, false, List, Option, Some, None, is_some, option_and_then}
 use Rattle.ame_term.specs.Tree.{Val}
 use Rattle.ame_term.specs.Frame.{Side}
 use Rattle.ame_term.specs.Maps.{at}
@@ -11,6 +11,9 @@ use Rattle.ame_machine.specs.Run.AgreesWith.{IsAfterRun}
 use Rattle.ame_check.specs.Shows.{ShowsCells}
 use Rattle.ame_check.specs.Walk.{begun_on, steps_on, ComesToTall}
 use Rattle.ame_check.specs.Walked.{place_with}
+use Rattle.ame_check.specs.Reasons.{Meets}
+use Rattle.ame_check.specs.declared.reason.Reason.{Reason}
+use Rattle.ame_check.specs.declared.reason.Reason.TheVariants as reason
 use Rattle.ame_check.specs.declared.visit.Visited.{Visited}
 use Rattle.ame_check.specs.declared.visit.Visited.TheVariants as visited
 
@@ -22,6 +25,11 @@ visiting i n fresh answer s = steps_on Side.Unprotected i n fresh answer (begun_
 abbrev pub closing : ℕ → ℕ → List ℕ → Option ℤ → State → Option State
 closing i n fresh None s = option_and_then (λ t. after t (Label.Close i)) (visiting i n fresh None s)
 closing i n fresh (Some answer) s = None
+
+-- what a visit of some steps meets
+abbrev pub VisitMeets : State → ℕ → List ℕ → Option ℤ → ℕ → Reason → Type 0
+VisitMeets s i fresh answer total reason.Answered = is_some answer ≡ true
+VisitMeets s i fresh answer total why = Meets Side.Unprotected s i fresh total why
 
 module _ {C V M : Type 0} (meaning : Meaning C V M) (code : C) where
   -- A machine of member i stands where its steps from a state led; once it settles, it is under `unprotected` or isn't.
@@ -40,5 +48,5 @@ module _ {C V M : Type 0} (meaning : Meaning C V M) (code : C) where
     abbrev pub VisitsTo : Visited → Type 0
     VisitsTo visited.Stays = HasCome s i overlay m true (visiting i (n + 1) fresh answer s)
     VisitsTo visited.Closes = (visiting i (n + 1) fresh answer s ≡ None) × HasCome s i overlay m false (closing i n fresh answer s)
-    VisitsTo visited.Undefined = (visiting i (n + 1) fresh answer s ≡ None) × (closing i n fresh answer s ≡ None)
+    VisitsTo (visited.Undefined why) = (visiting i (n + 1) fresh answer s ≡ None) × (closing i n fresh answer s ≡ None) × VisitMeets s i fresh answer (n + 1) why
     VisitsTo visited.Tall = ComesToTall Side.Unprotected i (n + 1) fresh s

@@ -4,6 +4,7 @@ ghost use Rattle.std.specs.Prelude.{◌≡◌, ◌≤◌, IfOk, MatchOption};
 ghost use Rattle.ame_journal.specs.Totals.{total_steps};
 ghost use Rattle.ame_check.specs.Judge.{most_steps, IsLong, Judges};
 
+use crate::reason::Reason;
 use crate::replay::{Made, Replay};
 use ame_journal::Entry;
 use ame_machine::Runner;
@@ -18,8 +19,8 @@ pub const MOST_STEPS: u64 = 100_000_000;
 pub enum Judged {
     /// It is the journal of a run of the program, which printed this.
     Valid(Vec<i64>),
-    /// This entry is the first that can't be made.
-    Invalid(u64),
+    /// This entry is the first that can't be made, for this reason.
+    Invalid(u64, Reason),
     /// With this entry the steps and entries are more than `MOST_STEPS`. It is looked for first.
     Long(u64),
     /// All before this entry can be made, and it passes a form whose value would be too high for a machine.
@@ -57,7 +58,7 @@ where
         place += 1;
         match replay.make(alloc, code, entry)? {
             Made::Made => {}
-            Made::Undefined => return Ok(Judged::Invalid(place)),
+            Made::Undefined(why) => return Ok(Judged::Invalid(place, why)),
             Made::Tall => return Ok(Judged::Tall(place)),
         }
     }

@@ -3,6 +3,7 @@
 
 mod input;
 mod judging;
+mod reason;
 mod replay;
 mod step;
 mod visit;
@@ -10,4 +11,5 @@ mod walk;
 
 pub use input::split_input;
 pub use judging::{Judged, MOST_STEPS, judge};
+pub use reason::Reason;
 pub use replay::{Made, Replay};

@@ -13,6 +13,7 @@ ghost use Rattle.ame_journal.specs.Totals.{is_note};
 ghost use Rattle.ame_check.specs.Entries.{is_confirmed};
 ghost use Rattle.ame_check.specs.Shows.{ShowsMembers, Adopts};
 
+use crate::reason::Reason;
 use crate::visit::{Visited, visit};
 use crate::walk::{Walked, run};
 use ame_journal::{Entry, EntryKind};
@@ -27,7 +28,7 @@ pub enum Made {
     /// The entry was made.
     Made,
     /// It can't be made here.
-    Undefined,
+    Undefined(Reason),
     /// It passes a form whose value would be too high.
     Tall,
 }
@@ -167,13 +168,13 @@ where
             (record { cells = self.new.cells.entries; members = self.new.members.entries; output = self.new.output.items; next = self.new.next }) made) }
     {
         if entry.answer.is_some() {
-            return Ok(Made::Undefined);
+            return Ok(Made::Undefined(Reason::Answered));
         }
         let Some(mut machine) = self.members.remove(&entry.number) else {
-            return Ok(Made::Undefined);
+            return Ok(Made::Undefined(Reason::NoMember));
         };
         if machine.inside() {
-            return Ok(Made::Undefined);
+            return Ok(Made::Undefined(Reason::Inside));
         }
         let mut overlay = BTreeMap::new(alloc);
         match run(alloc, code, &self.cells, entry, &mut overlay, &mut machine)? {
@@ -188,9 +189,9 @@ where
                     self.members.insert(entry.number, machine)?;
                     Ok(Made::Made)
                 }
-                _ => Ok(Made::Undefined),
+                _ => Ok(Made::Undefined(Reason::Stops(entry.steps, want))),
             },
-            Walked::Undefined => Ok(Made::Undefined),
+            Walked::Undefined(why) => Ok(Made::Undefined(why)),
             Walked::Tall => Ok(Made::Tall),
         }
     }
@@ -206,13 +207,13 @@ where
             (record { cells = self.new.cells.entries; members = self.new.members.entries; output = self.new.output.items; next = self.new.next }) made) }
     {
         if entry.steps == 0 {
-            return Ok(Made::Undefined);
+            return Ok(Made::Undefined(Reason::NoSteps));
         }
         let Some(mut machine) = self.members.remove(&entry.number) else {
-            return Ok(Made::Undefined);
+            return Ok(Made::Undefined(Reason::NoMember));
         };
         if !machine.inside() {
-            return Ok(Made::Undefined);
+            return Ok(Made::Undefined(Reason::Outside));
         }
         let mut overlay = BTreeMap::new(alloc);
         match visit(alloc, code, &self.cells, entry, &mut overlay, &mut machine)? {
@@ -222,7 +223,7 @@ where
                 self.members.insert(entry.number, machine)?;
                 Ok(Made::Made)
             }
-            Visited::Undefined => Ok(Made::Undefined),
+            Visited::Undefined(why) => Ok(Made::Undefined(why)),
             Visited::Tall => Ok(Made::Tall),
         }
     }
@@ -239,10 +240,10 @@ where
             (record { cells = self.now.cells.entries; members = self.now.members.entries; output = self.now.output.items; next = self.now.next }) made) }
     {
         if entry.answer.is_some() {
-            return Ok(Made::Undefined);
+            return Ok(Made::Undefined(Reason::Answered));
         }
         let Some(member) = self.members.get(&entry.number) else {
-            return Ok(Made::Undefined);
+            return Ok(Made::Undefined(Reason::NoMember));
         };
         let mut machine = member.copy(alloc)?;
         let _next = machine.advance(alloc, code, 0)?;
@@ -253,10 +254,10 @@ where
                 if confirms(entry.kind, want) {
                     Ok(Made::Made)
                 } else {
-                    Ok(Made::Undefined)
+                    Ok(Made::Undefined(Reason::Stops(entry.steps, want)))
                 }
             }
-            Walked::Undefined => Ok(Made::Undefined),
+            Walked::Undefined(why) => Ok(Made::Undefined(why)),
             Walked::Tall => Ok(Made::Tall),
         }
     }

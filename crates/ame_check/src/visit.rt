@@ -7,6 +7,7 @@ ghost use Rattle.ame_machine.specs.declared.wants.Wants.{Wants};
 ghost use Rattle.ame_check.specs.Walked.{IsWalking, IsAtStep, Calls, is_plain};
 ghost use Rattle.ame_check.specs.Visit.{VisitsTo};
 
+use crate::reason::Reason;
 use crate::walk::{Walked, run, walk};
 use ame_journal::Entry;
 use ame_machine::{Input, Runner, Wants};
@@ -22,7 +23,7 @@ pub enum Visited {
     /// All were made, by the last of which the member closes.
     Closes,
     /// They can't be made.
-    Undefined,
+    Undefined(Reason),
     /// A form before the last step would become a value that is too high.
     Tall,
 }
@@ -36,11 +37,13 @@ fn hear<M: Runner>(code: &M::Code, entry: &Entry, machine: &mut M) -> Visited
         → IsAtStep M.meaning code.now s i entry.now.fresh cells overlay machine.old Side.Unprotected n
         → VisitsTo M.meaning code.now s i entry.now.fresh entry.now.answer overlay machine.new n result }
 {
+    let fresh = entry.fresh.as_slice();
+    let used = machine.fresh().len();
     let Some(answer) = entry.answer else {
-        return Visited::Undefined;
+        return Visited::Undefined(Reason::Unanswered(machine.steps()));
     };
-    if machine.fresh().len() < entry.fresh.as_slice().len() {
-        return Visited::Undefined;
+    if used < fresh.len() {
+        return Visited::Undefined(Reason::Unused(machine.steps(), fresh[used]));
     }
     machine.feed(code, Input::Int(answer));
     Visited::Stays
@@ -55,11 +58,13 @@ fn close<M: Runner>(code: &M::Code, entry: &Entry, machine: &mut M) -> Visited
         → IsAtStep M.meaning code.now s i entry.now.fresh cells overlay machine.old Side.Unprotected n
         → VisitsTo M.meaning code.now s i entry.now.fresh entry.now.answer overlay machine.new n result }
 {
+    let fresh = entry.fresh.as_slice();
+    let used = machine.fresh().len();
     if entry.answer.is_some() {
-        return Visited::Undefined;
+        return Visited::Undefined(Reason::Answered);
     }
-    if machine.fresh().len() < entry.fresh.as_slice().len() {
-        return Visited::Undefined;
+    if used < fresh.len() {
+        return Visited::Undefined(Reason::Unused(machine.steps(), fresh[used]));
     }
     machine.feed(code, Input::Unit);
     Visited::Closes
@@ -84,11 +89,11 @@ fn go_on<M: Runner>(
         → VisitsTo M.meaning code.now s i entry.now.fresh entry.now.answer overlay.new.entries machine.new n visited) }
 {
     if entry.answer.is_some() {
-        return Ok(Visited::Undefined);
+        return Ok(Visited::Undefined(Reason::Answered));
     }
     match run(alloc, code, cells, entry, overlay, machine)? {
         Walked::Whole(_) => Ok(Visited::Stays),
-        Walked::Undefined => Ok(Visited::Undefined),
+        Walked::Undefined(why) => Ok(Visited::Undefined(why)),
         Walked::Tall => Ok(Visited::Tall),
     }
 }
@@ -137,7 +142,7 @@ pub fn visit<M: Runner>(
 {
     match walk(alloc, code, cells, entry.fresh.as_slice(), overlay, machine, entry.steps - 1)? {
         Walked::Whole(want) => last(alloc, code, cells, entry, overlay, machine, want),
-        Walked::Undefined => Ok(Visited::Undefined),
+        Walked::Undefined(why) => Ok(Visited::Undefined(why)),
         Walked::Tall => Ok(Visited::Tall),
     }
 }

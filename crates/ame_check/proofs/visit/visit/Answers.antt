@@ -8,6 +8,7 @@ use Rattle.ame_check.specs.Walk.{IsNoWalk}
 use Rattle.ame_check.specs.declared.visit.Visited.{Visited}
 use Rattle.ame_check.specs.declared.walk.Walked.TheVariants as walked
 use Rattle.ame_check.proofs.VisitLemmas.{goes-as, all-before, walks-on, none-before, tall-last}
+use Rattle.ame_check.proofs.ReasonLemmas.{met-visit, meets-later}
 use Rattle.ame_check.proofs.visit.visit.Goals as goal
 
 pub last-requires-clause-walking : goal.last-requires-clause-walking
@@ -46,9 +47,15 @@ returns-in-Whole g c =
 pub returns-in-Undefined : goal.returns-in-Undefined
 returns-in-Undefined g c = λ s i n count a.
     let few : c.args.entry.now.steps - 1 ≡ n = omega arith in
-    none-before s i c.args.entry.now.fresh n c.args.entry.now.answer
-    (subst (λ (k : ℕ). IsNoWalk Side.Unprotected i k c.args.entry.now.fresh s) few (goes-as g.M.Runner.meaning c.args.code.now c.args.entry.now.fresh c.as_slice.result.now c.as_slice.ensures c.args.cells.now.entries c.args.overlay.now.entries
-    c.walk.new.overlay.entries c.args.machine.now c.walk.new.machine (c.args.entry.now.steps - 1) c.in_ok-want.field-0 c.in_ok-want.ensures s i Side.Unprotected 0 a walked.Undefined c.in-Undefined.is))
+    let never = goes-as g.M.Runner.meaning c.args.code.now c.args.entry.now.fresh c.as_slice.result.now c.as_slice.ensures c.args.cells.now.entries c.args.overlay.now.entries
+    c.walk.new.overlay.entries c.args.machine.now c.walk.new.machine (c.args.entry.now.steps - 1) c.in_ok-want.field-0 c.in_ok-want.ensures s i Side.Unprotected 0 a (walked.Undefined c.in-Undefined.why) c.in-Undefined.is in
+    let none = none-before s i c.args.entry.now.fresh n c.args.entry.now.answer
+    (subst (λ (k : ℕ). IsNoWalk Side.Unprotected i k c.args.entry.now.fresh s) few never.0) in (
+      none.0,
+      none.1,
+      met-visit s i c.args.entry.now.fresh c.args.entry.now.answer (n + 1) c.in-Undefined.why
+          (meets-later Side.Unprotected s i c.args.entry.now.fresh (c.args.entry.now.steps - 1) (n + 1) (omega arith) c.in-Undefined.why never.1),
+    )
 
 pub returns-in-Tall : goal.returns-in-Tall
 returns-in-Tall g c = λ s i n count a.

@@ -38,7 +38,7 @@ pub returns-in-Undefined : goal.returns-in-Undefined
 returns-in-Undefined g c = λ entries st.
     visit-undefined g.M.Runner.meaning c.args.code.now (g.met.M.Runner.accepted c.args.code.now) c.args.entry.now c.requires.kind _ entries st
     c.in-Some.machine c.in-Some.ensures.value (sym (c.inside.ensures c.args.code.now) ∙ c.if-not-inside.false) c.new-overlay.result.entries c.new-overlay.ensures.empty
-    (c.args.entry.now.steps - 1) (let some : 0 < c.args.entry.now.steps = (let apart : c.args.entry.now.steps ≢ 0 = c.if-entry-eq0.false in omega arith) in omega arith) c.visit.new.overlay.entries c.visit.new.machine c.in_ok-visit.field-0 c.in_ok-visit.ensures c.in-Undefined.is
+    (c.args.entry.now.steps - 1) (let some : 0 < c.args.entry.now.steps = (let apart : c.args.entry.now.steps ≢ 0 = c.if-entry-eq0.false in omega arith) in omega arith) c.visit.new.overlay.entries c.visit.new.machine c.in_ok-visit.field-0 c.in_ok-visit.ensures c.in-Undefined.why c.in-Undefined.is
 
 pub returns-in-Tall : goal.returns-in-Tall
 returns-in-Tall g c = λ entries st.

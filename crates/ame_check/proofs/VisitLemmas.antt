@@ -134,7 +134,7 @@ module _ {C V M : Type 0} (meaning : Meaning C V M) (code : C) where
         → (visiting i (n + 1) fresh answer s ≡ None) × (closing i n fresh answer s ≡ None)
     unheard want told tall device answer x is = (
       ap (λ (o : Option ℤ). visiting i (n + 1) fresh o s) is ∙ last-from (Some x)
-      ∙ no-answer (label_by Side.Unprotected i) i here.now a.walking.rest x (λ act e called. calls-none want tall device (focus view.term) (tells want told) act (act-here act e) called),
+          ∙ no-answer (label_by Side.Unprotected i) i here.now a.walking.rest x (λ act e called. calls-none want tall device (focus view.term) (tells want told) act (act-here act e) called),
       ap (λ (o : Option ℤ). closing i n fresh o s) is,
     )
 
@@ -157,7 +157,7 @@ module _ {C V M : Type 0} (meaning : Meaning C V M) (code : C) where
       pub unanswered : (answer : Option ℤ) → answer ≡ None → (visiting i (n + 1) fresh answer s ≡ None) × (closing i n fresh answer s ≡ None)
       unanswered answer none = (
         ap (λ (o : Option ℤ). visiting i (n + 1) fresh o s) none ∙ last-from None
-        ∙ halts-device Side.Unprotected i here.now a.walking.rest calls.0 calls.1 call-there 0 None (λ e. refl),
+            ∙ halts-device Side.Unprotected i here.now a.walking.rest calls.0 calls.1 call-there 0 None (λ e. refl),
         open-still answer,
       )
 
@@ -165,8 +165,8 @@ module _ {C V M : Type 0} (meaning : Meaning C V M) (code : C) where
           → (visiting i (n + 1) fresh answer s ≡ None) × (closing i n fresh answer s ≡ None)
       heard-left answer x is l more left = (
         ap (λ (o : Option ℤ). visiting i (n + 1) fresh o s) is ∙ last-from (Some x)
-        ∙ ap (λ (xs : List ℕ). steps_on Side.Unprotected i 1 xs (Some x) here.now) left
-        ∙ no-location (label_by Side.Unprotected i) i here.now l more x calls.0 calls.1 call-there,
+            ∙ ap (λ (xs : List ℕ). steps_on Side.Unprotected i 1 xs (Some x) here.now) left
+            ∙ no-location (label_by Side.Unprotected i) i here.now l more x calls.0 calls.1 call-there,
         open-still answer,
       )
 

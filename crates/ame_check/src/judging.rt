@@ -44,7 +44,11 @@ fn too_long(entries: &[Entry]) -> Option<u64>
 }
 
 /// Judges a journal of a program. Costs what its run did, with the logarithm of cells and members for each access.
-pub fn judge<M: Runner>(alloc: Global, code: &M::Code, entries: &[Entry]) -> Result<Judged, NoMemory>
+pub fn judge<M: Runner>(
+    alloc: Global,
+    code: &M::Code,
+    entries: &[Entry],
+) -> Result<Judged, NoMemory>
 where
     M::Code: Drop,
     ensures { IfOk result (Judges (M.meaning.program code.now) entries.now) }

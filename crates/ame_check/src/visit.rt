@@ -140,7 +140,15 @@ pub fn visit<M: Runner>(
         → IsAtStep M.meaning code.now s i entry.now.fresh cells.now.entries overlay.old.entries machine.old Side.Unprotected 0
         → VisitsTo M.meaning code.now s i entry.now.fresh entry.now.answer overlay.new.entries machine.new n visited) }
 {
-    match walk(alloc, code, cells, entry.fresh.as_slice(), overlay, machine, entry.steps - 1)? {
+    match walk(
+        alloc,
+        code,
+        cells,
+        entry.fresh.as_slice(),
+        overlay,
+        machine,
+        entry.steps - 1,
+    )? {
         Walked::Whole(want) => last(alloc, code, cells, entry, overlay, machine, want),
         Walked::Undefined(why) => Ok(Visited::Undefined(why)),
         Walked::Tall => Ok(Visited::Tall),

@@ -23,9 +23,9 @@ pub loop-entry-preserved : goal.loop-entry-preserved
 loop-entry-preserved g c = (
   ap (λ (n : ℕ). n + 1) c.loop-entry.invariant.0,
   made-so g.M.Runner.meaning c.args.code.now c.args.entries.now c.in_default.ensures c.loop-entry.entry-index c.loop-entry.place c.loop-entry.invariant.0 _ c.loop-entry.invariant.1
-    c.loop-entry-test.true c.entry-item.result c.entry-item.is
+      c.loop-entry-test.true c.entry-item.result c.entry-item.is
       (record { cells = c.make.new.self.cells.entries; members = c.make.new.self.members.entries; output = c.make.new.self.output.items; next = c.make.new.self.next })
       (subst (CameOf g.M.Runner.meaning c.args.code.now (take c.loop-entry.entry-index c.args.entries.now) c.entry-item.result
-    (record { cells = c.make.new.self.cells.entries; members = c.make.new.self.members.entries; output = c.make.new.self.output.items; next = c.make.new.self.next })) c.in-Made.is
-    (c.in_ok-make.ensures (take c.loop-entry.entry-index c.args.entries.now) c.loop-entry.invariant.1)),
+      (record { cells = c.make.new.self.cells.entries; members = c.make.new.self.members.entries; output = c.make.new.self.output.items; next = c.make.new.self.next })) c.in-Made.is
+      (c.in_ok-make.ensures (take c.loop-entry.entry-index c.args.entries.now) c.loop-entry.invariant.1)),
 )

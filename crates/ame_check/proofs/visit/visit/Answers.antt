@@ -16,7 +16,7 @@ last-requires-clause-walking g c = (
   c.requires.walking.0,
   c.requires.walking.1,
   (walks-on g.M.Runner.meaning c.args.code.now c.args.entry.now.fresh c.as_slice.result.now c.as_slice.ensures c.args.cells.now.entries c.args.overlay.now.entries
-    c.walk.new.overlay.entries c.args.machine.now c.walk.new.machine (c.args.entry.now.steps - 1) c.in_ok-want.field-0 c.in_ok-want.ensures c.in-Whole.want c.in-Whole.is c.requires.walking.0 c.requires.walking.1 c.requires.walking.2).0.walking,
+      c.walk.new.overlay.entries c.args.machine.now c.walk.new.machine (c.args.entry.now.steps - 1) c.in_ok-want.field-0 c.in_ok-want.ensures c.in-Whole.want c.in-Whole.is c.requires.walking.0 c.requires.walking.1 c.requires.walking.2).0.walking,
 )
 
 pub last-requires-clause-told : goal.last-requires-clause-told

@@ -19,8 +19,7 @@ pub returns-then-used-fresh : goal.returns-then-used-fresh
 returns-then-used-fresh g c = λ s i side n a.
     let from = subst (λ (xs : List ℕ). IsAtStep g.M.Runner.meaning c.args.code.now s i xs c.args.cells.now.entries c.args.overlay.now.entries c.args.machine.now side n) c.as_slice-fresh.ensures a in
     let there = subst (WalksAlong g.M.Runner.meaning c.args.code.now s i _ c.args.cells.now.entries c.walk.new.overlay.entries c.walk.new.machine side c.args.entry.now.steps) c.in-Whole.is
-    (c.in_ok-want.ensures s i side n from) in
-    (
+    (c.in_ok-want.ensures s i side n from) in (
       some-left g.M.Runner.meaning c.args.code.now s i c.as_slice-fresh.result.now c.fresh-used.result.now c.args.cells.now.entries c.walk.new.overlay.entries c.walk.new.machine side c.args.entry.now.steps
           c.args.entry.now.fresh c.as_slice-fresh.ensures (c.fresh-used.ensures c.args.code.now) there.0 c.if-used-fresh.true,
       subst (λ (xs : List ℕ). Meets side s i xs c.args.entry.now.steps

@@ -1,9 +1,11 @@
 -- How a journal is judged, entry by entry.
-use Rattle.std.proofs.Common.{◌≡◌, ℕ, ◌+◌, ◌-◌, ◌<◌, ◌≤◌, ℤ, List, [], ◌∷◌, ◌++◌, length, take, get_or, Some, refl, sym, ap, ◌∙◌, subst, arith}
-use Rattle.std.proofs.lemmas.List.{take_more, take_all}
+use Rattle.std.proofs.Common.{◌≡◌, ℕ, ◌+◌, ◌-◌, ◌<◌, ◌≤◌, ℤ, List, [], ◌∷◌, ◌++◌, length, take, drop, get_or, option_and_then, Some, None, refl, sym, ap, ◌∙◌, subst, arith}
+use Rattle.std.proofs.lemmas.List.{take_more, take_all, take-append-drop}
 use Rattle.std.proofs.lemmas.List.Sums.{sum_by_more}
-use Rattle.ame_journal.specs.Replayed.{Replayed}
-use Rattle.ame_journal.specs.Replay.{replay}
+use Rattle.ame_term.specs.Tree.{Tree}
+use Rattle.ame_journal.specs.Replayed.{Replayed, begun_at}
+use Rattle.ame_journal.specs.Replay.{replay, replay_from}
+use Rattle.ame_journal.proofs.ReplayLemmas.{replay_from-append}
 use Rattle.ame_journal.specs.Totals.{total_steps}
 use Rattle.ame_journal.specs.declared.entry.Entry.{Entry}
 use Rattle.ame_machine.specs.Meaning.{Meaning}
@@ -12,6 +14,12 @@ use Rattle.ame_check.specs.Entries.{MeetsTall}
 use Rattle.ame_check.specs.declared.reason.Reason.{Reason}
 use Rattle.ame_check.proofs.ReasonLemmas.{FailsBy}
 use Rattle.ame_check.specs.Judge.{most_steps, IsLong, LeadsTo, IsInvalid, IsTallAt}
+
+-- what follows entries that can't be replayed doesn't change that
+pub undefined-all : (program : Tree) (entries : List Entry) (n : ℕ) → replay program (take n entries) ≡ None → replay program entries ≡ None
+undefined-all program entries n none =
+    ap (replay program) (sym (take-append-drop n entries)) ∙ replay_from-append (begun_at program) (take n entries) (drop n entries)
+    ∙ ap (option_and_then (λ (t : Replayed). replay_from t (drop n entries))) none
 
 -- the steps of the entries before an index, none of which is too many
 abbrev pub CountsSteps : List Entry → ℕ → ℕ → ℕ → Type 0
@@ -81,15 +89,19 @@ module _ {C V M : Type 0} (meaning : Meaning C V M) (code : C) (entries : List E
         ap (λ (k : ℕ). take k entries) next ∙ one-more_entry entries index below entry is
         ∙ ap (λ (k : ℕ). take k entries ++ entry ∷ []) (sym before)
 
+    none-with : (why : Reason) → FailsBy (meaning.program code) (take index entries) entry why → replay (meaning.program code) (take (place + 1) entries) ≡ None
+    none-with why fails =
+        ap (λ (k : ℕ). replay (meaning.program code) (take k entries)) next
+        ∙ ap (replay (meaning.program code)) (one-more_entry entries index below entry is) ∙ fails.0
+
     pub invalid-so : (why : Reason) → FailsBy (meaning.program code) (take index entries) entry why → IsInvalid (meaning.program code) entries (place + 1) why
     invalid-so why fails = record {
       short = short;
       place = in-place;
       led = fails.1.0;
       replayed = ap (λ (k : ℕ). replay (meaning.program code) (take k entries)) before ∙ fails.1.1;
-      undefined =
-          ap (λ (k : ℕ). replay (meaning.program code) (take k entries)) next
-          ∙ ap (replay (meaning.program code)) (one-more_entry entries index below entry is) ∙ fails.0;
+      undefined = none-with why fails;
+      never = undefined-all (meaning.program code) entries (place + 1) (none-with why fails);
       entry = entry;
       is_entry = is-next;
       met = fails.1.2;

@@ -33,13 +33,14 @@ module _ (program : Tree) (entries : List Entry) where
     pub replayed : replay program entries ≡ Some led
     pub printed : output ≡ led.state.output
 
-  -- those before the n-th can be made, and with it they can't be, for this reason
+  -- those before the n-th can be made, and with it they can't be, nor can all of them, for this reason
   pub record IsInvalid (n : ℕ) (why : Reason) : Type 0 where
     pub short : total_steps entries ≤ most_steps
     pub place : IsPlace entries n
     pub led : Replayed
     pub replayed : replay program (take (n - 1) entries) ≡ Some led
     pub undefined : replay program (take n entries) ≡ None
+    pub never : replay program entries ≡ None
     pub entry : Entry
     pub is_entry : take n entries ≡ take (n - 1) entries ++ entry ∷ []
     pub met : IsMet led entry why

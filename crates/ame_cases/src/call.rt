@@ -3,7 +3,7 @@
 use crate::case::Case;
 use crate::device::Boxed;
 use crate::fault::Fault;
-use crate::told::Told;
+use crate::told::CaseReport;
 use ame_app::run_words;
 use ame_io::{MemSink, MemSource};
 use ame_worker::Gate;
@@ -44,7 +44,7 @@ pub fn report_of<R, G>(
     workers: Option<&str>,
     boxes: Vec<Boxed>,
     gate: &G,
-) -> Result<Told, Fault>
+) -> Result<CaseReport, Fault>
 where
     R: Threads + Wait + Sync + AllocGlobal,
     G: Gate + Sync,

@@ -59,7 +59,7 @@ impl Case {
             "words" => split_words(alloc, &mut self.words, item.value())?,
             "word" => self.words.push(String::from_str(alloc, item.value())?)?,
             "workers" => split_words(alloc, &mut self.workers, item.value())?,
-            "program" => self.text.extend_from_slice(item.value().as_bytes())?,
+            "program" | "input" => self.text.extend_from_slice(item.value().as_bytes())?,
             "piece" => add_piece(&mut self.text, &item)?,
             "bytes" => add_bytes(&mut self.text, &item)?,
             "certificate" => self.certificate = Some(item.into_lines()),

@@ -4,7 +4,7 @@ use crate::call::report_of;
 use crate::case::{Case, Fact};
 use crate::device::{Boxed, Kind};
 use crate::fault::Fault;
-use crate::told::{Told, told};
+use crate::told::{CaseReport, told};
 use ame_device::{Adder, Counter, FailsAt, Tape};
 use ame_worker::{Gate, NoGate};
 use std::sync::Wait;
@@ -57,7 +57,7 @@ fn are_facts_as_told<R: Print + AllocGlobal>(
     rt: &R,
     case: &Case,
     workers: Option<&str>,
-    report: &Told,
+    report: &CaseReport,
 ) -> Result<bool, Fault> {
     let is_alone = matches!(workers, None | Some("1"));
     let mut is_right = true;

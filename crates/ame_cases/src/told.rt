@@ -17,13 +17,13 @@ use ame_term::copy_term;
 use std::alloc::Global;
 
 /// What a call reports.
-pub type Told = Report<MemSink, Boxed>;
+pub type CaseReport = Report<MemSink, Boxed>;
 
 /// What a call gave of a field, by one worker alone or by several.
 pub fn told(
     alloc: Global,
     case: &Case,
-    report: &Told,
+    report: &CaseReport,
     field: Field,
     is_alone: bool,
 ) -> Result<String, Fault> {
@@ -66,7 +66,7 @@ fn written(alloc: Global, bytes: &[u8]) -> Result<String, Fault> {
 }
 
 /// Whether a run was begun, of which there are code and an end then.
-fn begun(alloc: Global, report: &Told) -> Result<String, Fault> {
+fn begun(alloc: Global, report: &CaseReport) -> Result<String, Fault> {
     match (report.code.is_some(), report.ended.is_some()) {
         (true, true) => word(alloc, "some"),
         (false, false) => word(alloc, "none"),
@@ -111,7 +111,7 @@ fn sizes(alloc: Global, code: &Code, field: Field) -> Result<String, Fault> {
 }
 
 /// What the strong semantics comes to by the certificate, or by the journal of the run.
-fn replay(alloc: Global, case: &Case, report: &Told) -> Result<String, Fault> {
+fn replay(alloc: Global, case: &Case, report: &CaseReport) -> Result<String, Fault> {
     let (Some(code), Some(ended)) = (&report.code, &report.ended) else {
         return word(alloc, "none");
     };

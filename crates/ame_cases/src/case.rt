@@ -1,116 +1,111 @@
 //! A call, and what it must give.
 
-use ame_term::Loc;
+use crate::device::{Kind, add_counting};
+use crate::ends::Ends;
+use crate::fault::Fault;
+use crate::field::Field;
+use crate::item::{Item, items_of};
+use crate::text::{add_bytes, add_piece, split_words};
+use std::alloc::Global;
 
-/// The bytes that the source has.
-#[derive(Clone, Copy)]
-pub enum Text {
-    Whole(&'static str),
-    /// Pieces, each so many times.
-    Pieces(&'static [(&'static str, usize)]),
+/// What must come of a field, as it is told.
+#[derive(Drop)]
+pub struct Fact {
+    pub field: Field,
+    pub lines: String,
 }
 
-/// How source and sink behave.
-#[derive(Clone, Copy)]
-pub struct Ends {
-    /// The most bytes of a read, and of a write.
-    pub read_chunk: usize,
-    pub write_chunk: usize,
-    /// The read, and the write, that fails; 0 where none does.
-    pub failing_read: u64,
-    pub failing_write: u64,
-    /// How many bytes the sink takes in all.
-    pub room: usize,
-}
-
-/// Ends that never fail.
-pub const AMPLE: Ends = Ends {
-    read_chunk: 4096,
-    write_chunk: 4096,
-    failing_read: 0,
-    failing_write: 0,
-    room: 4096,
-};
-
-/// A device that is handed in.
-#[derive(Clone, Copy)]
-pub enum Kind {
-    Counts,
-    Adds,
-    /// Answers its argument, and fails at the call with this number; 0 where none does.
-    FailsAt(u64),
-    /// Answers these, one after another, and fails when none is left.
-    Answers(&'static [i64]),
-}
-
-/// What a run leaves.
-#[derive(Clone, Copy)]
-pub struct Run {
-    /// With several workers any seat may have made an entry.
-    pub journal: &'static str,
-    /// What was printed by what was committed.
-    pub output: &'static [i64],
-    /// How many members are left.
-    pub members: usize,
-    /// The events that counted, and the undos after the stop, with one worker.
-    pub turns: u32,
-    pub unwound: u32,
-    /// The number, the steps and the new locations of each member that is blocked.
-    pub blocked: &'static [(u64, u64, &'static [Loc])],
-    /// The location and the integer of each live cell.
-    pub cells: &'static [(u32, i64)],
-}
-
-/// A run that prints nothing and leaves nothing.
-pub const RUN: Run = Run {
-    journal: "",
-    output: &[],
-    members: 0,
-    turns: 0,
-    unwound: 0,
-    blocked: &[],
-    cells: &[],
-};
-
-/// What there is of a run.
-#[derive(Clone, Copy)]
-pub enum Left {
-    /// None was begun.
-    Nothing,
-    /// What it leaves is long, or another run leaves something else.
-    Anything,
-    This(Run),
-}
-
-/// Words, a text, ends and devices, and what the call gives.
-#[derive(Clone, Copy)]
+/// Words, a text, ends and devices, and what the call must give.
+#[derive(Drop)]
 pub struct Case {
-    pub name: &'static str,
-    /// With a space between two.
-    pub words: &'static str,
+    /// The number of its first line in the file.
+    pub line: usize,
+    pub name: String,
+    pub words: Vec<String>,
     /// Each of these numbers is told behind the words, one after another. With none, the words are all.
-    pub workers: &'static [u32],
-    pub text: Text,
+    pub workers: Vec<String>,
+    pub text: Vec<u8>,
     pub ends: Ends,
-    pub devices: &'static [Kind],
-    /// The status of the process.
-    pub status: u8,
-    pub lines: &'static str,
-    /// What each device was asked, and answered.
-    pub heard: &'static [&'static [(i64, i64)]],
-    pub left: Left,
+    pub devices: Vec<Kind>,
+    /// A journal that is replayed in place of that of the run.
+    pub certificate: Option<String>,
+    pub facts: Vec<Fact>,
 }
 
-/// No words, no text, no devices and no run.
-pub const CASE: Case = Case {
-    name: "",
-    words: "",
-    workers: &[],
-    text: Text::Whole(""),
-    ends: AMPLE,
-    devices: &[],
-    status: 0,
-    lines: "finished\n",
-    heard: &[],
-    left: Left::Nothing,
-};
+impl Case {
+    /// A case of which only the name is told.
+    fn new(alloc: Global, item: &Item) -> Result<Case, Fault> {
+        Ok(Case {
+            line: item.line,
+            name: String::from_str(alloc, item.value())?,
+            words: Vec::new(alloc),
+            workers: Vec::new(alloc),
+            text: Vec::new(alloc),
+            ends: Ends::ample(alloc),
+            devices: Vec::new(alloc),
+            certificate: None,
+            facts: Vec::new(alloc),
+        })
+    }
+
+    /// Takes what an item tells.
+    fn take(&mut self, alloc: Global, item: Item) -> Result<(), Fault> {
+        if let Some(field) = Field::of(item.key.as_str()) {
+            let lines = item.into_lines();
+            self.facts.push(Fact { field, lines })?;
+            return Ok(());
+        }
+        match item.key.as_str() {
+            "words" => split_words(alloc, &mut self.words, item.value())?,
+            "word" => self.words.push(String::from_str(alloc, item.value())?)?,
+            "workers" => split_words(alloc, &mut self.workers, item.value())?,
+            "program" | "input" => self.text.extend_from_slice(item.value().as_bytes())?,
+            "piece" => add_piece(&mut self.text, &item)?,
+            "bytes" => add_bytes(&mut self.text, &item)?,
+            "certificate" => self.certificate = Some(item.into_lines()),
+            "device" => self.devices.push(Kind::of(alloc, &item)?)?,
+            "devices" => add_counting(&mut self.devices, &item)?,
+            _ => self.ends.take(alloc, &item)?,
+        }
+        Ok(())
+    }
+}
+
+impl Case {
+    /// Whether a journal of it is replayed.
+    pub fn is_replayed(&self) -> bool {
+        self.facts.iter().any(|fact| fact.field == Field::Replay)
+    }
+}
+
+/// The cases of a file's text.
+pub fn cases_of(alloc: Global, text: &str) -> Result<Vec<Case>, Fault> {
+    let mut cases = Vec::new(alloc);
+    for item in items_of(alloc, text)? {
+        if item.key.as_str() == "case" {
+            cases.push(Case::new(alloc, &item)?)?;
+        } else {
+            take_item(alloc, &mut cases, item)?;
+        }
+    }
+    each_asks(&cases)?;
+    Ok(cases)
+}
+
+/// What an item tells of the last case.
+fn take_item(alloc: Global, cases: &mut Vec<Case>, item: Item) -> Result<(), Fault> {
+    match cases.last_mut() {
+        Some(case) => case.take(alloc, item),
+        None => Err(item.fault("a case begins with the key `case` and its name")),
+    }
+}
+
+/// Each case asks for something.
+fn each_asks(cases: &[Case]) -> Result<(), Fault> {
+    for case in cases {
+        if case.facts.is_empty() {
+            return Err(Fault::Line(case.line, "the case asks for nothing"));
+        }
+    }
+    Ok(())
+}

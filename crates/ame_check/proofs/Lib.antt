@@ -13,3 +13,9 @@ pub mod RanEntries
 pub mod NoteLemmas
 pub mod NoteEntries
 pub mod FreeLemmas
+pub mod LastLemmas
+pub mod VisitLemmas
+pub mod FreeEntries
+pub mod JudgeLemmas
+pub mod InputLemmas
+pub mod ReasonLemmas

@@ -1,5 +1,5 @@
 -- A note, by what its call finds.
-use Rattle.std.proofs.Common.{◌≡◌, ℕ, ◌++◌, ◌∷◌, [], ℤ, Bool, true, false, List, Option, Some, None, refl, sym, ap, ◌∙◌, subst, is_some}
+use Rattle.std.proofs.Common.{◌≡◌, ℕ, ◌≤◌, ◌++◌, ◌∷◌, [], ℤ, Bool, true, false, List, Option, Some, None, refl, sym, ap, ◌∙◌, subst, is_some, arith}
 use Rattle.ame_term.specs.Frame.{Side}
 use Rattle.ame_term.specs.Maps.{at}
 use Rattle.ame_term.specs.State.{State}
@@ -17,10 +17,14 @@ use Rattle.ame_check.specs.Shows.{ReplayView, ShowsMember, StandsForEntries}
 use Rattle.ame_check.specs.Walk.{steps_on, begun_on}
 use Rattle.ame_check.specs.Walked.{place_with, IsAtStep, RunsAlong}
 use Rattle.ame_check.specs.Entries.{MeetsTall, is_confirmed}
+use Rattle.ame_check.specs.Reasons.{Meets, IsMet}
+use Rattle.ame_check.specs.declared.reason.Reason.{Reason}
+use Rattle.ame_check.specs.declared.reason.Reason.TheVariants as reason
 use Rattle.ame_check.specs.declared.walk.Walked.{Walked}
 use Rattle.ame_check.specs.declared.walk.Walked.TheVariants as walked
 use Rattle.ame_check.proofs.EntryLemmas.{behind-journal, whole-leads}
 use Rattle.ame_check.proofs.StartLemmas.{its-term, its-rest, its-machine, walk-begins}
+use Rattle.ame_check.proofs.ReasonLemmas.{FailsBy, met-on, note-side, stops-met}
 use Rattle.ame_check.proofs.WalkLemmas.{can-run}
 use Rattle.ame_check.proofs.RanLemmas.{undefined-there}
 use Rattle.ame_check.proofs.NoteLemmas.{note-undefined, note-is, note-absent, note-answered, side-tall, none-made, settled-flag}
@@ -42,19 +46,26 @@ module _ {C V M : Type 0} (meaning : Meaning C V M) (code : C) (accepted : IsAcc
   none-there : replay_entry st.led entry ≡ None → replay (meaning.program code) (entries ++ entry ∷ []) ≡ None
   none-there e = undefined-there meaning code entries entry place st.led st.replayed st.shows calm e
 
-  pub noted-answer : is_some entry.answer ≡ true → replay (meaning.program code) (entries ++ entry ∷ []) ≡ None
+  fails : (why : Reason) → replay (meaning.program code) (entries ++ entry ∷ []) ≡ None → IsMet st.led entry why → FailsBy (meaning.program code) entries entry why
+  fails why none met = (none, (st.led, st.replayed, met))
+
+  on-side : (why : Reason) → Meets (side_at entry.number st.led.state) st.led.state entry.number entry.fresh entry.steps why → IsMet st.led entry why
+  on-side = met-on st.led entry (side_at entry.number st.led.state) (note-side entry.kind note entry.number st.led.state)
+
+  pub noted-answer : is_some entry.answer ≡ true → FailsBy (meaning.program code) entries entry reason.Answered
   noted-answer e =
       let a = answer-of entry.answer e in
-      none-there (as-kind ∙ ap (replay_kind entry.kind st.led entry.number entry.steps entry.fresh) a.1 ∙ note-answered st.led entry.number entry.steps entry.fresh a.0 entry.kind note)
+      let none = none-there (as-kind ∙ ap (replay_kind entry.kind st.led entry.number entry.steps entry.fresh) a.1 ∙ note-answered st.led entry.number entry.steps entry.fresh a.0 entry.kind note) in
+      fails reason.Answered none e
 
   module _ (quiet : entry.answer ≡ None) where
     as-quiet : replay_entry st.led entry ≡ replay_kind entry.kind st.led entry.number entry.steps entry.fresh None
     as-quiet = as-kind ∙ ap (replay_kind entry.kind st.led entry.number entry.steps entry.fresh) quiet
 
-    pub noted-none : None ≡ at place.members entry.number → replay (meaning.program code) (entries ++ entry ∷ []) ≡ None
+    pub noted-none : None ≡ at place.members entry.number → FailsBy (meaning.program code) entries entry reason.NoMember
     noted-none none =
-        none-there (as-quiet ∙ note-absent st.led entry.number entry.steps entry.fresh calm.idle
-        (subst (λ (o : Option M). ShowsMember meaning code (is_inside st.led entry.number) o (at st.led.state.members entry.number)) (sym none) (st.shows.members entry.number)) entry.kind note)
+        let absent = subst (λ (o : Option M). ShowsMember meaning code (is_inside st.led entry.number) o (at st.led.state.members entry.number)) (sym none) (st.shows.members entry.number) in
+        fails reason.NoMember (none-there (as-quiet ∙ note-absent st.led entry.number entry.steps entry.fresh calm.idle absent entry.kind note)) absent
 
     module _ (machine : M) (found : Some machine ≡ at place.members entry.number) (copy : M) (good : meaning.is_machine code machine → meaning.is_machine code copy)
         (same : meaning.stage code machine ≡ meaning.stage code copy) where
@@ -105,9 +116,11 @@ module _ {C V M : Type 0} (meaning : Meaning C V M) (code : C) (accepted : IsAcc
               subst (RunsAlong meaning code st.led.state entry.number entry.fresh place.cells later m (side_at entry.number st.led.state) entry.steps) is
               (runs st.led.state entry.number (side_at entry.number st.led.state) 0 begins-note)
 
-          pub noted-no-run : found_as ≡ walked.Undefined → replay (meaning.program code) (entries ++ entry ∷ []) ≡ None
-          noted-no-run is =
-              none-there (as-quiet ∙ note-undefined st.led entry.number entry.steps entry.fresh (meaning.stage code machine).term calm.idle term entry.kind note (to walked.Undefined is))
+          pub noted-no-run : (why : Reason) → found_as ≡ walked.Undefined why → FailsBy (meaning.program code) entries entry why
+          noted-no-run why is =
+              let none = to (walked.Undefined why) is in
+              fails why
+              (none-there (as-quiet ∙ note-undefined st.led entry.number entry.steps entry.fresh (meaning.stage code machine).term calm.idle term entry.kind note none.0)) (on-side why none.1)
 
           pub noted-tall : found_as ≡ walked.Tall → (r : Replayed) × (replay (meaning.program code) entries ≡ Some r) × MeetsTall r entry
           noted-tall is = (st.led, st.replayed, side-tall st.led entry (meaning.stage code machine).term calm.idle term (to walked.Tall is))
@@ -137,5 +150,9 @@ module _ {C V M : Type 0} (meaning : Meaning C V M) (code : C) (accepted : IsAcc
               shows = st.shows;
             }
 
-            pub noted-not : is_confirmed entry.kind next ≡ false → replay (meaning.program code) (entries ++ entry ∷ []) ≡ None
-            noted-not wrong = none-there (tells ∙ ap (λ (b : Bool). note_where b st.led) wrong)
+            pub noted-not : is_confirmed entry.kind next ≡ false → FailsBy (meaning.program code) entries entry (reason.Stops entry.steps next)
+            noted-not wrong =
+                let least : entry.steps ≤ entry.steps = omega arith in
+                fails (reason.Stops entry.steps next) (none-there (tells ∙ ap (λ (b : Bool). note_where b st.led) wrong))
+                (on-side (reason.Stops entry.steps next)
+                (stops-met meaning code sound st.led.state entry.number entry.fresh place.cells later m (side_at entry.number st.led.state) entry.steps whole.0 entry.steps least entry.steps (sym whole.0.counted) next whole.2))

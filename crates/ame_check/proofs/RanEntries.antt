@@ -1,5 +1,5 @@
 -- A `Ran` entry, by what its call finds.
-use Rattle.std.proofs.Common.{◌≡◌, ℕ, ◌<◌, ◌++◌, ◌∷◌, [], ℤ, true, false, List, Option, Some, None, refl, sym, ap, ◌∙◌, subst, is_some}
+use Rattle.std.proofs.Common.{◌≡◌, ℕ, ◌<◌, ◌≤◌, ◌++◌, ◌∷◌, [], ℤ, true, false, List, Option, Some, None, refl, sym, ap, ◌∙◌, subst, is_some, arith}
 use Rattle.ame_term.specs.Frame.{Side}
 use Rattle.ame_term.specs.Maps.{at, put}
 use Rattle.ame_term.specs.State.{State}
@@ -17,8 +17,12 @@ use Rattle.ame_machine.specs.declared.wants.Wants.TheVariants as wants
 use Rattle.ame_check.specs.Shows.{ReplayView, ShowsMember, StandsForEntries}
 use Rattle.ame_check.specs.Walked.{IsAtStep, RunsAlong}
 use Rattle.ame_check.specs.Entries.{MeetsTall}
+use Rattle.ame_check.specs.Reasons.{Meets, IsMet, entry_side}
+use Rattle.ame_check.specs.declared.reason.Reason.{Reason}
+use Rattle.ame_check.specs.declared.reason.Reason.TheVariants as reason
 use Rattle.ame_check.specs.declared.walk.Walked.{Walked}
 use Rattle.ame_check.specs.declared.walk.Walked.TheVariants as walked
+use Rattle.ame_check.proofs.ReasonLemmas.{FailsBy, met-on, stops-met}
 use Rattle.ame_check.proofs.StartLemmas.{its-term, its-rest, its-machine, is-early, walk-begins}
 use Rattle.ame_check.proofs.RanLemmas.{AdoptsAll, undefined-there, ran-undefined, ran-neither, ran-ended, ran-left, ran-answered, ran-inside, ran-absent, protected-tall}
 
@@ -32,16 +36,21 @@ module _ {C V M : Type 0} (meaning : Meaning C V M) (code : C) (accepted : IsAcc
   answer-of None e = cc
   answer-of (Some n) e = (n, refl)
 
-  pub has-answer : is_some entry.answer ≡ true → replay (meaning.program code) (entries ++ entry ∷ []) ≡ None
+  fails : (why : Reason) → replay (meaning.program code) (entries ++ entry ∷ []) ≡ None → IsMet st.led entry why → FailsBy (meaning.program code) entries entry why
+  fails why none met = (none, (st.led, st.replayed, met))
+
+  on-side : (why : Reason) → Meets Side.Protected st.led.state entry.number entry.fresh entry.steps why → IsMet st.led entry why
+  on-side = met-on st.led entry Side.Protected (ap (λ (z : EntryKind). entry_side z entry.number st.led.state) (sym kind))
+
+  pub has-answer : is_some entry.answer ≡ true → FailsBy (meaning.program code) entries entry reason.Answered
   has-answer e =
       let a = answer-of entry.answer e in
-      undefined-there meaning code entries entry place st.led st.replayed st.shows calm (ran-answered st.led entry a.0 kind a.1)
+      fails reason.Answered (undefined-there meaning code entries entry place st.led st.replayed st.shows calm (ran-answered st.led entry a.0 kind a.1)) e
 
-  pub has-none : None ≡ at place.members entry.number → replay (meaning.program code) (entries ++ entry ∷ []) ≡ None
+  pub has-none : None ≡ at place.members entry.number → FailsBy (meaning.program code) entries entry reason.NoMember
   has-none none =
-      undefined-there meaning code entries entry place st.led st.replayed st.shows calm
-      (ran-absent st.led entry calm.idle kind
-      (subst (λ (o : Option M). ShowsMember meaning code (is_inside st.led entry.number) o (at st.led.state.members entry.number)) (sym none) (st.shows.members entry.number)))
+      let absent = subst (λ (o : Option M). ShowsMember meaning code (is_inside st.led entry.number) o (at st.led.state.members entry.number)) (sym none) (st.shows.members entry.number) in
+      fails reason.NoMember (undefined-there meaning code entries entry place st.led st.replayed st.shows calm (ran-absent st.led entry calm.idle kind absent)) absent
 
   module _ (machine : M) (found : Some machine ≡ at place.members entry.number) where
     term : at st.led.state.members entry.number ≡ Some (meaning.stage code machine).term
@@ -50,9 +59,10 @@ module _ {C V M : Type 0} (meaning : Meaning C V M) (code : C) (accepted : IsAcc
     rest : meaning.stage code machine ≡ record (starting_at (meaning.stage code machine).term) { inside = is_inside st.led entry.number }
     rest = its-rest meaning code accepted entries place st.led st.replayed st.shows entry.number machine found
 
-    pub goes-on_inside : (meaning.stage code machine).inside ≡ true → replay (meaning.program code) (entries ++ entry ∷ []) ≡ None
+    pub goes-on_inside : (meaning.stage code machine).inside ≡ true → FailsBy (meaning.program code) entries entry reason.Inside
     goes-on_inside flag =
-        undefined-there meaning code entries entry place st.led st.replayed st.shows calm (ran-inside st.led entry kind (sym (ap (λ (z : MachineView). z.inside) rest) ∙ flag))
+        let inside = sym (ap (λ (z : MachineView). z.inside) rest) ∙ flag in
+        fails reason.Inside (undefined-there meaning code entries entry place st.led st.replayed st.shows calm (ran-inside st.led entry kind inside)) (kind, inside)
 
     module _ (flag : (meaning.stage code machine).inside ≡ false) (overlay : List (ℕ × V)) (empty : overlay ≡ []) where
       pub begins-ran : IsAtStep meaning code st.led.state entry.number entry.fresh place.cells overlay machine Side.Protected 0
@@ -75,9 +85,10 @@ module _ {C V M : Type 0} (meaning : Meaning C V M) (code : C) (accepted : IsAcc
         early : entry.number < st.led.state.next
         early = is-early meaning code accepted entries place st.led st.replayed st.shows entry.number machine found
 
-        pub has-no-run : found_as ≡ walked.Undefined → replay (meaning.program code) (entries ++ entry ∷ []) ≡ None
-        has-no-run is =
-            ran-undefined meaning code entries entry place st.led st.replayed st.shows calm machine found term early kind quiet outside (to walked.Undefined is)
+        pub has-no-run : (why : Reason) → found_as ≡ walked.Undefined why → FailsBy (meaning.program code) entries entry why
+        has-no-run why is =
+            let none = to (walked.Undefined why) is in
+            fails why (ran-undefined meaning code entries entry place st.led st.replayed st.shows calm machine found term early kind quiet outside none.0) (on-side why none.1)
 
         pub has-tall : found_as ≡ walked.Tall → (r : Replayed) × (replay (meaning.program code) entries ≡ Some r) × MeetsTall r entry
         has-tall is = (st.led, st.replayed, protected-tall st.led entry (meaning.stage code machine).term calm.idle term (to walked.Tall is))
@@ -86,9 +97,13 @@ module _ {C V M : Type 0} (meaning : Meaning C V M) (code : C) (accepted : IsAcc
           whole : RunsAlong meaning code st.led.state entry.number entry.fresh place.cells later m Side.Protected entry.steps (walked.Whole want)
           whole = to (walked.Whole want) is
 
-          pub has-other-want : (want ≡ wants.Done → ⊥) → (want ≡ wants.Leave → ⊥) → replay (meaning.program code) (entries ++ entry ∷ []) ≡ None
+          pub has-other-want : (want ≡ wants.Done → ⊥) → (want ≡ wants.Leave → ⊥) → FailsBy (meaning.program code) entries entry (reason.Stops entry.steps want)
           has-other-want done left =
-              ran-neither meaning code entries entry place st.led st.replayed st.shows calm machine found term early kind quiet outside later m whole.0 whole.1 (sound m whole.0.walking.machine) want whole.2 done left
+              let least : entry.steps ≤ entry.steps = omega arith in
+              fails (reason.Stops entry.steps want)
+              (ran-neither meaning code entries entry place st.led st.replayed st.shows calm machine found term early kind quiet outside later m whole.0 whole.1 (sound m whole.0.walking.machine) want whole.2 done left)
+              (on-side (reason.Stops entry.steps want)
+              (stops-met meaning code sound st.led.state entry.number entry.fresh place.cells later m Side.Protected entry.steps whole.0 entry.steps least entry.steps (sym whole.0.counted) want whole.2))
 
           module _ (machines : List (ℕ × M)) (gone : at machines entry.number ≡ None) (others : (k : ℕ) → (k ≡ entry.number → ⊥) → at machines k ≡ at place.members k)
               (cells : List (ℕ × V)) (merged : (l : ℕ) → at cells l ≡ or_else (at later l) (at place.cells l)) (output : List ℤ) (printed : output ≡ place.output ++ (meaning.stage code m).prints)
@@ -109,3 +124,8 @@ module _ {C V M : Type 0} (meaning : Meaning C V M) (code : C) (accepted : IsAcc
 pub quiet-of : (o : Option ℤ) → is_some o ≡ false → o ≡ None
 quiet-of None e = refl
 quiet-of (Some n) e = cc
+
+-- an answer
+pub told-of : (o : Option ℤ) → is_some o ≡ true → (n : ℤ) × (o ≡ Some n)
+told-of None e = cc
+told-of (Some n) e = (n, refl)

@@ -9,6 +9,7 @@ use Rattle.ame_machine.specs.declared.wants.Wants.{Wants}
 use Rattle.ame_machine.specs.declared.wants.Wants.TheVariants as wants
 use Rattle.ame_machine.specs.Meaning.{Meaning}
 use Rattle.ame_check.specs.Shows.{ReplayView, StandsForEntries}
+use Rattle.ame_check.specs.Reasons.{IsMet}
 use Rattle.ame_check.specs.declared.replay.Made.{Made}
 use Rattle.ame_check.specs.declared.replay.Made.TheVariants as made
 
@@ -24,10 +25,11 @@ pub record MeetsTall (r : Replayed) (entry : Entry) : Type 0 where
   pub tall : is_tall (side_at entry.number r.state) entry.number there ≡ true
 
 module _ {C V M : Type 0} (meaning : Meaning C V M) (code : C) where
-  -- with one more entry the replay stands for that journal; or the journal can't be replayed; or the entry meets a tall form
+  -- with one more entry the replay stands for that journal; or the journal can't be replayed, for this reason; or the entry meets a tall form
   abbrev pub CameOf : List Entry → Entry → ReplayView V M → Made → Type 0
   CameOf entries entry place made.Made = StandsForEntries meaning code (entries ++ entry ∷ []) place
-  CameOf entries entry place made.Undefined = replay (meaning.program code) (entries ++ entry ∷ []) ≡ None
+  CameOf entries entry place (made.Undefined why) =
+      (replay (meaning.program code) (entries ++ entry ∷ []) ≡ None) × ((r : Replayed) × (replay (meaning.program code) entries ≡ Some r) × IsMet r entry why)
   CameOf entries entry place made.Tall = (r : Replayed) × (replay (meaning.program code) entries ≡ Some r) × MeetsTall r entry
 
 -- whether a note of a kind tells that its member wants this next

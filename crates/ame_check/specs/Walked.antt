@@ -1,5 +1,5 @@
 -- A machine on the way through an entry's steps, with what it set laid over the cells.
-use Rattle.std.specs.Prelude.{◌≡◌, ℕ, ◌+◌, ◌<◌, ◌++◌, ℤ, List, Option, None, Some, ◌⊎◌}
+use Rattle.std.specs.Prelude.{◌≡◌, ℕ, ◌+◌, ◌<◌, ◌++◌, ℤ, Bool, true, false, List, Option, None, Some, ◌⊎◌}
 use Rattle.ame_term.specs.Tree.{Val}
 use Rattle.ame_term.specs.Frame.{Side}
 use Rattle.ame_term.specs.State.{State}
@@ -13,6 +13,7 @@ use Rattle.ame_machine.specs.Run.Local.{LocalState}
 use Rattle.ame_machine.specs.MachineView.{MachineView, running_side, place_shown}
 use Rattle.ame_check.specs.Shows.{ShowsCells}
 use Rattle.ame_check.specs.Walk.{begun_on, steps_on, IsStepping, IsNoWalk, ComesToTall}
+use Rattle.ame_check.specs.Reasons.{Meets}
 use Rattle.ame_check.specs.declared.walk.Walked.{Walked}
 use Rattle.ame_check.specs.declared.walk.Walked.TheVariants as walked
 use Rattle.ame_check.specs.declared.step.Took.{Took}
@@ -33,6 +34,17 @@ Allocates want = (sort : Sort) × (number : TyNo) × (want ≡ Some (wants.Alloc
 -- it wants that what it hands out is accepted
 abbrev pub Hands : Option Wants → Type 0
 Hands want = (want ≡ Some wants.Spawn) ⊎ ((n : ℤ) × (want ≡ Some (wants.Print n)))
+
+-- it wants the answer of a device
+abbrev pub Calls : Option Wants → Type 0
+Calls want = (device : ℕ) × (n : ℤ) × (want ≡ Some (wants.Device device n))
+
+-- whether a want under `unprotected` is none of a device, of closing, and of a value that is too high
+abbrev pub is_plain : Wants → Bool
+is_plain (wants.Device device n) = false
+is_plain wants.Close = false
+is_plain wants.Tall = false
+is_plain _ = true
 
 module _ {C V M : Type 0} (meaning : Meaning C V M) (code : C) where
   -- A machine of member i has come so far from a state whose store the cells show, with these locations to use in all.
@@ -56,18 +68,18 @@ module _ {C V M : Type 0} (meaning : Meaning C V M) (code : C) where
     -- what a walk of n steps comes to
     abbrev pub WalksAlong : Walked → Type 0
     WalksAlong (walked.Whole want) = IsAtStep s i fresh cells overlay m side n × ((meaning.stage code m).want ≡ Some want)
-    WalksAlong walked.Undefined = IsNoWalk side i n fresh s
+    WalksAlong (walked.Undefined why) = IsNoWalk side i n fresh s × Meets side s i fresh n why
     WalksAlong walked.Tall = ComesToTall side i n fresh s
 
     -- what the step behind n steps comes to
     abbrev pub TakesTo : Took → Type 0
     TakesTo took.Taken = IsAtStep s i fresh cells overlay m side (n + 1)
-    TakesTo took.Undefined = (total : ℕ) → n < total → IsNoWalk side i total fresh s
+    TakesTo (took.Undefined why) = (total : ℕ) → n < total → IsNoWalk side i total fresh s × Meets side s i fresh total why
     TakesTo took.Tall = (total : ℕ) → n < total → ComesToTall side i total fresh s
 
     -- what a run of n steps that is to use all the locations comes to
     abbrev pub RunsAlong : Walked → Type 0
     RunsAlong (walked.Whole want) =
         IsAtStep s i fresh cells overlay m side n × ((meaning.stage code m).fresh ≡ fresh) × ((meaning.stage code m).want ≡ Some want)
-    RunsAlong walked.Undefined = steps_on side i n fresh None (begun_on side i s) ≡ None
+    RunsAlong (walked.Undefined why) = (steps_on side i n fresh None (begun_on side i s) ≡ None) × Meets side s i fresh n why
     RunsAlong walked.Tall = ComesToTall side i n fresh s

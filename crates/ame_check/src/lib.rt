@@ -1,8 +1,15 @@
 //! A replay of journals by the strong rules, on machines, at the speed of a run.
 #![tactic(auto)]
 
+mod input;
+mod judging;
+mod reason;
 mod replay;
 mod step;
+mod visit;
 mod walk;
 
+pub use input::split_input;
+pub use judging::{Judged, MOST_STEPS, judge};
+pub use reason::Reason;
 pub use replay::{Made, Replay};

@@ -13,6 +13,8 @@ ghost use Rattle.ame_journal.specs.Totals.{is_note};
 ghost use Rattle.ame_check.specs.Entries.{is_confirmed};
 ghost use Rattle.ame_check.specs.Shows.{ShowsMembers, Adopts};
 
+use crate::reason::Reason;
+use crate::visit::{Visited, visit};
 use crate::walk::{Walked, run};
 use ame_journal::{Entry, EntryKind};
 use ame_machine::{Runner, Wants};
@@ -26,7 +28,7 @@ pub enum Made {
     /// The entry was made.
     Made,
     /// It can't be made here.
-    Undefined,
+    Undefined(Reason),
     /// It passes a form whose value would be too high.
     Tall,
 }
@@ -166,13 +168,13 @@ where
             (record { cells = self.new.cells.entries; members = self.new.members.entries; output = self.new.output.items; next = self.new.next }) made) }
     {
         if entry.answer.is_some() {
-            return Ok(Made::Undefined);
+            return Ok(Made::Undefined(Reason::Answered));
         }
         let Some(mut machine) = self.members.remove(&entry.number) else {
-            return Ok(Made::Undefined);
+            return Ok(Made::Undefined(Reason::NoMember));
         };
         if machine.inside() {
-            return Ok(Made::Undefined);
+            return Ok(Made::Undefined(Reason::Inside));
         }
         let mut overlay = BTreeMap::new(alloc);
         match run(alloc, code, &self.cells, entry, &mut overlay, &mut machine)? {
@@ -187,10 +189,42 @@ where
                     self.members.insert(entry.number, machine)?;
                     Ok(Made::Made)
                 }
-                _ => Ok(Made::Undefined),
+                _ => Ok(Made::Undefined(Reason::Stops(entry.steps, want))),
             },
-            Walked::Undefined => Ok(Made::Undefined),
+            Walked::Undefined(why) => Ok(Made::Undefined(why)),
             Walked::Tall => Ok(Made::Tall),
+        }
+    }
+
+    /// A `Free` entry: steps under `unprotected`, of which the last may call a device or close. Otherwise as `ran`.
+    pub fn free(&mut self, alloc: Global, code: &M::Code, entry: &Entry) -> Result<Made, NoMemory>
+        requires kind { entry.now.kind ≡ EntryKind.Free }
+        requires stands { (entries : List Entry) × StandsForEntries M.meaning code.now entries
+            (record { cells = self.old.cells.entries; members = self.old.members.entries; output = self.old.output.items; next = self.old.next }) }
+        ensures { IfOk result (λ made. (entries : List Entry) → StandsForEntries M.meaning code.now entries
+            (record { cells = self.old.cells.entries; members = self.old.members.entries; output = self.old.output.items; next = self.old.next })
+            → CameOf M.meaning code.now entries entry.now
+            (record { cells = self.new.cells.entries; members = self.new.members.entries; output = self.new.output.items; next = self.new.next }) made) }
+    {
+        if entry.steps == 0 {
+            return Ok(Made::Undefined(Reason::NoSteps));
+        }
+        let Some(mut machine) = self.members.remove(&entry.number) else {
+            return Ok(Made::Undefined(Reason::NoMember));
+        };
+        if !machine.inside() {
+            return Ok(Made::Undefined(Reason::Outside));
+        }
+        let mut overlay = BTreeMap::new(alloc);
+        match visit(alloc, code, &self.cells, entry, &mut overlay, &mut machine)? {
+            Visited::Stays | Visited::Closes => {
+                self.keep(alloc, code, &mut overlay, &mut machine)?;
+                machine.settle();
+                self.members.insert(entry.number, machine)?;
+                Ok(Made::Made)
+            }
+            Visited::Undefined(why) => Ok(Made::Undefined(why)),
+            Visited::Tall => Ok(Made::Tall),
         }
     }
 
@@ -206,10 +240,10 @@ where
             (record { cells = self.now.cells.entries; members = self.now.members.entries; output = self.now.output.items; next = self.now.next }) made) }
     {
         if entry.answer.is_some() {
-            return Ok(Made::Undefined);
+            return Ok(Made::Undefined(Reason::Answered));
         }
         let Some(member) = self.members.get(&entry.number) else {
-            return Ok(Made::Undefined);
+            return Ok(Made::Undefined(Reason::NoMember));
         };
         let mut machine = member.copy(alloc)?;
         let _next = machine.advance(alloc, code, 0)?;
@@ -220,11 +254,40 @@ where
                 if confirms(entry.kind, want) {
                     Ok(Made::Made)
                 } else {
-                    Ok(Made::Undefined)
+                    Ok(Made::Undefined(Reason::Stops(entry.steps, want)))
                 }
             }
-            Walked::Undefined => Ok(Made::Undefined),
+            Walked::Undefined(why) => Ok(Made::Undefined(why)),
             Walked::Tall => Ok(Made::Tall),
         }
+    }
+
+    /// One more entry.
+    pub fn make(&mut self, alloc: Global, code: &M::Code, entry: &Entry) -> Result<Made, NoMemory>
+        requires stands { (entries : List Entry) × StandsForEntries M.meaning code.now entries
+            (record { cells = self.old.cells.entries; members = self.old.members.entries; output = self.old.output.items; next = self.old.next }) }
+        ensures { IfOk result (λ made. (entries : List Entry) → StandsForEntries M.meaning code.now entries
+            (record { cells = self.old.cells.entries; members = self.old.members.entries; output = self.old.output.items; next = self.old.next })
+            → CameOf M.meaning code.now entries entry.now
+            (record { cells = self.new.cells.entries; members = self.new.members.entries; output = self.new.output.items; next = self.new.next }) made) }
+    {
+        match entry.kind {
+            EntryKind::Ran => self.ran(alloc, code, entry),
+            EntryKind::Free => self.free(alloc, code, entry),
+            EntryKind::Stuck | EntryKind::Cut | EntryKind::Tall => self.note(alloc, code, entry),
+        }
+    }
+
+    /// What was printed.
+    pub fn into_output(self) -> Vec<i64>
+        ensures { result ≡ self.output }
+    {
+        let Replay {
+            cells: _,
+            members: _,
+            output,
+            next: _,
+        } = self;
+        output
     }
 }

@@ -5,6 +5,7 @@ ghost use Rattle.ame_term.specs.Frame.{Side};
 ghost use Rattle.ame_term.specs.State.{State};
 ghost use Rattle.ame_check.specs.Walked.{IsWalking, IsAtStep, WalksAlong, RunsAlong};
 
+use crate::reason::Reason;
 use crate::step::{Took, take};
 use ame_journal::Entry;
 use ame_machine::{Runner, Wants};
@@ -18,7 +19,7 @@ pub enum Walked {
     /// All steps were made, and this is wanted next.
     Whole(Wants),
     /// They can't be made.
-    Undefined,
+    Undefined(Reason),
     /// A form before the last step would become a value that is too high.
     Tall,
 }
@@ -47,7 +48,7 @@ pub fn walk<M: Runner>(
         }
         match take(alloc, code, cells, fresh, overlay, machine, want)? {
             Took::Taken => {}
-            Took::Undefined => return Ok(Walked::Undefined),
+            Took::Undefined(why) => return Ok(Walked::Undefined(why)),
             Took::Tall => return Ok(Walked::Tall),
         }
     }
@@ -72,13 +73,14 @@ pub fn run<M: Runner>(
     let fresh = entry.fresh.as_slice();
     match walk(alloc, code, cells, fresh, overlay, machine, entry.steps)? {
         Walked::Whole(want) => {
-            if machine.fresh().len() < fresh.len() {
-                Ok(Walked::Undefined)
+            let used = machine.fresh().len();
+            if used < fresh.len() {
+                Ok(Walked::Undefined(Reason::Unused(machine.steps(), fresh[used])))
             } else {
                 Ok(Walked::Whole(want))
             }
         }
-        Walked::Undefined => Ok(Walked::Undefined),
+        Walked::Undefined(why) => Ok(Walked::Undefined(why)),
         Walked::Tall => Ok(Walked::Tall),
     }
 }

@@ -312,7 +312,7 @@ module _ {C V M : Type 0} (meaning : Meaning C V M) (same : M → M → Type 0)
 abbrev is-spent : {C V M : Type 0} → Core C V M → Bool
 is-spent core = if nat_lt core.turns core.limits.turns then false else true
 
-none-met : {C V M : Type 0} (core : Core C V M) (pick : Pick) → pick_of core ≡ pick → (Pick.Stopped ≡ pick → ⊥) → core.stop ≡ None
+pub none-met : {C V M : Type 0} (core : Core C V M) (pick : Pick) → pick_of core ≡ pick → (Pick.Stopped ≡ pick → ⊥) → core.stop ≡ None
 none-met core pick e other = by core.stop refl
   where
     by : (o : Option Stop) → core.stop ≡ o → core.stop ≡ None

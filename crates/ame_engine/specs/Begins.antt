@@ -1,5 +1,5 @@
 -- What a seat meets that begins.
-use Rattle.std.specs.Prelude.{◌≡◌, ℕ, ◌+◌, Bool, true, false, nat_lt, ◌++◌, slice_set, is_some, if◌then◌else◌}
+use Rattle.std.specs.Prelude.{◌≡◌, ℕ, ◌+◌, Bool, true, false, nat_lt, ◌++◌, slice_set, is_some, if◌then◌else◌, Option, Some, None}
 use Rattle.ame_pool.specs.declared.oldest.Oldest.{Oldest}
 use Rattle.ame_pool.specs.Begin.{oldest}
 use Rattle.ame_pool.specs.Calls.{held}
@@ -29,6 +29,13 @@ abbrev pub pick_by : Bool → Oldest → Pick
 pick_by spent Oldest.Empty = Pick.Finished
 pick_by spent Oldest.Parked = Pick.Blocked
 pick_by spent oldest = pick_left spent oldest
+
+-- the stop that is kept then, if one is
+abbrev pub stop_met : Pick → Option Stop
+stop_met Pick.Finished = Some Stop.Finished
+stop_met Pick.Blocked = Some Stop.Blocked
+stop_met Pick.Spent = Some Stop.Spent
+stop_met _ = None
 
 -- whether a seat meets a member that may begin, or all are parked
 abbrev pub takes_memory : Pick → Bool

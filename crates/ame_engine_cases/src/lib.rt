@@ -2,18 +2,18 @@
 //! tells.
 #![tactic(auto)]
 
-mod crew;
-
-pub use crew::Crew;
-
 #[cfg(test)]
 mod ends;
 #[cfg(test)]
 mod one_seat;
 #[cfg(test)]
+mod picked;
+#[cfg(test)]
 mod random;
 #[cfg(test)]
 mod replay;
+#[cfg(test)]
+mod schedules;
 #[cfg(test)]
 mod stops;
 #[cfg(test)]

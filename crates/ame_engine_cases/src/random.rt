@@ -2,9 +2,11 @@
 
 use crate::ends::{has_cause, have_heard};
 use crate::replay::{Replay, begun, follow, is_replayed};
-use crate::texts::{Team, team_of};
+use crate::texts::{Team, sink_of, team_of};
+use ame_chooser::{Chooser, Drawn};
 use ame_device::{Device, FailsAt};
 use ame_engine::{Counters, Ended, Stop};
+use ame_gen::SEED_LIMIT;
 use ame_protocol::Limits;
 use ame_value::Val;
 use std::alloc::Global;
@@ -104,10 +106,8 @@ const LOADS: &[Load] = &[
     },
 ];
 
-/// The next number of a stream.
-fn draw(last: u32) -> u32 {
-    last.wrapping_mul(1_664_525).wrapping_add(1_013_904_223)
-}
+/// The seats of a run.
+const SEATS: [u32; 4] = [0, 1, 2, 3];
 
 /// The limits of a text and a seed: some have few turns.
 fn limits_of(load: &Load, seed: u32) -> Limits {
@@ -122,13 +122,9 @@ fn limits_of(load: &Load, seed: u32) -> Limits {
     }
 }
 
-/// Before which turn of a seed output can't be written any more.
-fn fault_of(seed: u32) -> Option<u32> {
-    if seed % 5 == 4 {
-        Some(6 + seed % 16)
-    } else {
-        None
-    }
+/// The writes of a seed that fail.
+fn faults_of(seed: u32) -> &'static [u64] {
+    if seed % 5 == 4 { &[2] } else { &[] }
 }
 
 /// Devices of which each fails at its call.
@@ -149,40 +145,49 @@ fn turn<D: Device>(
     seat: u32,
 ) -> Result<(), Fail> {
     assert!(rt; seat < team.engine().limits().seats);
-    let _ = team.step(seat);
+    let made = team.turn(seat);
+    assert_eq!(rt; made.seat, seat);
     follow(rt, alloc, replay, team.engine().journal())?;
     is_replayed(rt, team, replay);
-    assert_eq!(rt; replay.state.pool_len(), team.members());
     Ok(())
+}
+
+/// A text in turns by a seed, until a stop is kept.
+fn play<D: Device>(
+    rt: &impl Abort,
+    alloc: Global,
+    team: &mut Team<D>,
+    replay: &mut Replay,
+    chooser: &mut Drawn,
+) -> Result<(), Fail> {
+    let seats = team.engine().limits().seats as usize;
+    assert!(rt; 0 < seats && seats <= SEATS.len());
+    for _ in 0..40_000 {
+        if !team.goes_on() {
+            return Ok(());
+        }
+        let seat = chooser.choose(&SEATS[..seats])?;
+        turn(rt, alloc, team, replay, seat)?;
+    }
+    Err("goes on".into())
 }
 
 /// A text in turns by a seed, to its end.
 fn run(rt: &impl Abort, alloc: Global, load: &Load, seed: u32) -> Result<Ended<Val>, Fail> {
-    let text = load.text;
     let limits = limits_of(load, seed);
-    let seats = limits.seats;
-    if seats == 0 {
-        return Err("no seat".into());
+    let sink = sink_of(alloc, faults_of(seed))?;
+    let mut team = team_of(alloc, load.text, limits, sink, devices_of(alloc, load)?)?;
+    let mut replay = begun(alloc, load.text)?;
+    assert!(rt; seed <= SEED_LIMIT);
+    play(rt, alloc, &mut team, &mut replay, &mut Drawn::new(seed))?;
+    if team.goes_on() {
+        return Err("goes on".into());
     }
-    let mut team = team_of(alloc, text, limits, devices_of(alloc, load)?)?;
-    let mut replay = begun(alloc, text)?;
-    let mut last = seed;
-    for event in 0..40_000 {
-        if team.is_done() {
-            break;
-        }
-        if fault_of(seed) == Some(event) {
-            team.stop();
-        }
-        last = draw(last);
-        turn(rt, alloc, &mut team, &mut replay, (last >> 16) % seats)?;
-    }
-    let Some((ended, devices)) = team.finish() else {
-        return Err("at work".into());
-    };
-    has_cause(rt, alloc, &ended, limits.turns, &replay)?;
-    have_heard(rt, &devices, &replay);
-    Ok(ended)
+    team.unwind_all();
+    let left = team.finish();
+    has_cause(rt, alloc, &left.ended, limits.turns, &replay)?;
+    have_heard(rt, &left.devices, &replay);
+    Ok(left.ended)
 }
 
 /// What was counted, kind by kind.

@@ -1,4 +1,4 @@
-//! Ends that come early, by a table: turns that are used up, values that are too high, and a stop from outside.
+//! Ends that come early, by a table: turns that are used up, values that are too high, and want of memory.
 
 use crate::table::{Event, ONE_SEAT, Row, TWO_SEATS, play_all};
 use ame_engine::Stop;
@@ -96,18 +96,18 @@ const ROWS: &[Row] = &[
         counts: (0, 0, 1),
         ..ONE_SEAT
     },
-    // output can't be written, and what is at work is undone
+    // memory is lacking, and what is at work is undone
     Row {
         text: WRITES,
         events: &[
             Event::Turns(0, &[Began, Allocated, Ended, Began, Wrote]),
             Event::Turns(1, &[Began]),
-            Event::WriteFault,
+            Event::Lacks,
             Event::Turns(0, &[WentHome, Stopped]),
             Event::Turns(1, &[WentHome, Stopped]),
         ],
         journal: "ran 0 0 5 0\n",
-        stop: Stop::WriteFault,
+        stop: Stop::NoMemory,
         turns: 6,
         counts: (0, 0, 2),
         tried: &[FIRST_TRIED, SECOND_TRIED],

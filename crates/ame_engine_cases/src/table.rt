@@ -1,6 +1,7 @@
 //! Tables: what happens, turn by turn, and what is left at the end.
 
-use crate::texts::{Team, team_of};
+use crate::schedules::is_scheduled;
+use crate::texts::{Team, sink_of, team_of};
 use ame_device::{Counter, Device, Heard};
 use ame_engine::{Certificate, Ended, Stop};
 use ame_journal::{Entry, EntryKind, Journal};
@@ -20,8 +21,8 @@ pub enum Event {
     Turns(u32, &'static [Deed]),
     /// A location has this integer in place, with this number and this owner.
     Cell(u32, i64, u64, Option<u32>),
-    /// Output couldn't be written.
-    WriteFault,
+    /// Memory is lacking.
+    Lacks,
 }
 
 /// A text, what happens, and what is left.
@@ -80,7 +81,7 @@ fn turn<D: Device>(rt: &impl Abort, team: &mut Team<D>, seat: u32) -> Result<Dee
     assert!(rt; seat < team.engine().limits().seats);
     let counters = *team.engine().counters();
     let entries = team.engine().journal().len();
-    let deed = team.step(seat);
+    let deed = team.turn(seat).deed;
     if deed == Deed::Lacked {
         assert_eq!(rt; *team.engine().counters(), counters);
         assert_eq!(rt; team.engine().journal().len(), entries);
@@ -117,7 +118,11 @@ fn happens<D: Device>(
             let found = (int_of(&cell.value), cell.number, cell.owner);
             assert_eq!(rt; found, (Some(value), number, owner), "{text}");
         }
-        Event::WriteFault => team.stop(),
+        Event::Lacks => {
+            if team.goes_on() {
+                team.give_up();
+            }
+        }
     }
     Ok(())
 }
@@ -226,23 +231,24 @@ pub fn plays<D: Device>(
     devices: Vec<D>,
 ) -> Result<(), Fail> {
     let text = row.text;
-    let mut team = team_of(alloc, text, row.limits, devices)?;
+    let mut team = team_of(alloc, text, row.limits, sink_of(alloc, &[])?, devices)?;
     for event in row.events {
         happens(rt, &mut team, text, *event)?;
     }
-    match team.finish() {
-        Some((ended, devices)) => {
-            devices_heard(rt, text, &devices, row.heard);
-            is_left(rt, alloc, &ended, row)
-        }
-        None => Err("at work".into()),
+    if team.goes_on() {
+        return Err("goes on".into());
     }
+    team.unwind_all();
+    let left = team.finish();
+    devices_heard(rt, text, &left.devices, row.heard);
+    is_left(rt, alloc, &left.ended, row)
 }
 
-/// Each row, one after another, without devices.
+/// Each row, one after another, without devices, turn by turn and as a schedule.
 pub fn play_all(rt: &impl Abort, alloc: Global, rows: &[Row]) -> Result<(), Fail> {
     for row in rows {
         plays(rt, alloc, row, Vec::<Counter>::new(alloc))?;
+        is_scheduled(rt, alloc, row)?;
     }
     Ok(())
 }

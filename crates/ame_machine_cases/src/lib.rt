@@ -13,9 +13,13 @@ mod against;
 #[cfg(test)]
 mod calls;
 #[cfg(test)]
+mod journals;
+#[cfg(test)]
 mod made_up;
 #[cfg(test)]
 mod rows;
+#[cfg(test)]
+mod strong;
 #[cfg(test)]
 mod texts;
 #[cfg(test)]

@@ -1,4 +1,4 @@
-//! Tests of terms, of the strong semantics as a program, of journals, and of the lines that a journal tells.
+//! Tests of terms, of the strong and the weak semantics as programs, of journals, and of the lines that a journal tells.
 #![tactic(auto)]
 
 #[cfg(test)]
@@ -11,3 +11,9 @@ mod strong;
 mod terms;
 #[cfg(test)]
 mod texts;
+#[cfg(test)]
+mod weak;
+#[cfg(test)]
+mod weak_programs;
+#[cfg(test)]
+mod weak_runs;

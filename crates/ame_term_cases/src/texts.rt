@@ -2,7 +2,8 @@
 
 use ame_lex::lex;
 use ame_parse::parse;
-use ame_term::Program;
+use ame_term::{Accepted, Program};
+use ame_types::check;
 use std::alloc::Global;
 use std::test::Fail;
 
@@ -13,4 +14,13 @@ pub(crate) fn read(alloc: Global, text: &[u8]) -> Result<Program, Fail> {
     }
     let tokens = lex(alloc, text)?;
     Ok(parse(alloc, text, &tokens)?)
+}
+
+/// The program of a text that the types accept, without devices.
+pub(crate) fn accept(alloc: Global, text: &[u8]) -> Result<Accepted, Fail> {
+    let program = read(alloc, text)?;
+    match check(alloc, program, 0) {
+        Ok(accepted) => Ok(accepted),
+        Err(_) => Err("not typed".into()),
+    }
 }

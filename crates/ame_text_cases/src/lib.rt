@@ -1,8 +1,13 @@
-//! Tests of texts: tokens, programs, types, canonical forms, pages on faults, tables of runs, words and generated programs.
+//! Tests of texts: tokens, programs, types, flat code, canonical forms, pages on faults, tables of runs, words and generated programs;
+//! and of labels that the strong semantics refuses.
 #![tactic(auto)]
 
 #[cfg(test)]
+mod code;
+#[cfg(test)]
 mod generated;
+#[cfg(test)]
+mod labels;
 #[cfg(test)]
 mod pages;
 #[cfg(test)]
@@ -21,5 +26,3 @@ mod types;
 mod words;
 #[cfg(test)]
 mod workload;
-#[cfg(test)]
-mod wrong_texts;

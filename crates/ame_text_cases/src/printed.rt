@@ -1,6 +1,7 @@
 //! Texts and their canonical form, and what no text has.
 
 use crate::texts::read;
+use ame_gen::generate;
 use ame_print::{print_program, print_term, print_ty};
 use ame_term::{Effect, Function, Loc, Name, Sort, Term, Ty, Value, boxed};
 use std::alloc::Global;
@@ -68,6 +69,17 @@ fn canonical_texts(rt: HostRuntime) -> Result<(), Fail> {
             "{canonical:?}"
         );
     }
+    Ok(())
+}
+
+/// The greatest generated program.
+#[test]
+fn printing_a_long_text_again_changes_nothing(rt: HostRuntime) -> Result<(), Fail> {
+    let text = generate(rt.alloc(), 7, 4000)?;
+    let once = reprinted(rt.alloc(), &text)?;
+    let twice = reprinted(rt.alloc(), &once)?;
+    assert!(rt; once.len() > 400_000);
+    assert!(rt; once == twice);
     Ok(())
 }
 

@@ -1,6 +1,6 @@
-//! Texts with their tokens or their first fault, taken from the language's description.
+//! Texts with their tokens, taken from the language's description.
 
-use ame_lex::{Kind, LexFault, Token, lex};
+use ame_lex::{Kind, Token, lex};
 use std::alloc::Global;
 use std::test::Fail;
 
@@ -252,22 +252,6 @@ const TOKENS: &[(&[u8], &[Token])] = &[
     ),
 ];
 
-/// Texts with their first fault.
-const FAULTS: &[(&[u8], LexFault)] = &[
-    (b"9223372036854775808", LexFault::LongNumber(0)),
-    (b" -9223372036854775809", LexFault::LongNumber(1)),
-    (b"18446744073709551616", LexFault::LongNumber(0)),
-    (b"99999999999999999999a", LexFault::LongNumber(0)),
-    (b"1a", LexFault::BadByte(1)),
-    (b"(-12_ 1", LexFault::BadByte(4)),
-    (b"_a", LexFault::BadByte(0)),
-    (b"\x00", LexFault::BadByte(0)),
-    (b"a \x7f", LexFault::BadByte(2)),
-    (b"(\xff", LexFault::BadByte(1)),
-    (b"a.b", LexFault::BadByte(1)),
-    (b"\x0b", LexFault::BadByte(0)),
-];
-
 /// The tokens of a text.
 fn tokens_of(alloc: Global, text: &[u8]) -> Result<Vec<Token>, Fail> {
     if text.len() > 1_048_576 {
@@ -281,21 +265,10 @@ fn has_tokens(alloc: Global, text: &[u8], tokens: &[Token]) -> Result<bool, Fail
     Ok(tokens_of(alloc, text)?.as_slice() == tokens)
 }
 
-/// The first fault of a text, if it has one.
-fn fault_of(alloc: Global, text: &[u8]) -> Result<Option<LexFault>, Fail> {
-    if text.len() > 1_048_576 {
-        return Err("too long".into());
-    }
-    Ok(lex(alloc, text).err())
-}
-
 #[test]
-fn texts_have_tokens_or_a_first_fault(rt: HostRuntime) -> Result<(), Fail> {
+fn texts_have_tokens(rt: HostRuntime) -> Result<(), Fail> {
     for &(text, tokens) in TOKENS {
         assert!(rt; has_tokens(rt.alloc(), text, tokens)?);
-    }
-    for &(text, fault) in FAULTS {
-        assert!(rt; fault_of(rt.alloc(), text)? == Some(fault));
     }
     Ok(())
 }
@@ -310,14 +283,10 @@ fn spelling(alloc: Global, sign: &[u8], zeros: usize, digits: &[u8]) -> Result<V
     Ok(text)
 }
 
-/// Signs and digits, with their number if it has at most 64 bits.
-const LIMITS: &[(&[u8], &[u8], Option<i64>)] = &[
-    (b"", b"9223372036854775807", Some(i64::MAX)),
-    (b"", b"9223372036854775808", None),
-    (b"", b"18446744073709551617", None),
-    (b"-", b"9223372036854775808", Some(i64::MIN)),
-    (b"-", b"9223372036854775809", None),
-    (b"-", b"18446744073709551617", None),
+/// Signs and digits, with their number.
+const LIMITS: &[(&[u8], &[u8], i64)] = &[
+    (b"", b"9223372036854775807", i64::MAX),
+    (b"-", b"9223372036854775808", i64::MIN),
 ];
 
 /// Whether a number is the only token.
@@ -325,16 +294,13 @@ fn is_number(tokens: &[Token], value: i64) -> bool {
     tokens.len() == 1 && tokens[0].kind == Kind::Number(value)
 }
 
-/// Whether a text is this number, or one of too many bits where there is none.
-fn is_read_as(alloc: Global, text: &[u8], value: Option<i64>) -> Result<bool, Fail> {
-    match value {
-        Some(value) => Ok(is_number(tokens_of(alloc, text)?.as_slice(), value)),
-        None => Ok(fault_of(alloc, text)? == Some(LexFault::LongNumber(0))),
-    }
+/// Whether a text is this number.
+fn is_read_as(alloc: Global, text: &[u8], value: i64) -> Result<bool, Fail> {
+    Ok(is_number(tokens_of(alloc, text)?.as_slice(), value))
 }
 
 #[test]
-fn numbers_stop_at_their_limits(rt: HostRuntime) -> Result<(), Fail> {
+fn numbers_go_up_to_their_limits(rt: HostRuntime) -> Result<(), Fail> {
     for &(sign, digits, value) in LIMITS {
         for zeros in [0, 1, 1000] {
             let text = spelling(rt.alloc(), sign, zeros, digits)?;

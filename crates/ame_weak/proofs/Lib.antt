@@ -10,3 +10,11 @@ pub mod StraightLemmas
 pub mod TryLemmas
 pub mod LabelLemmas
 pub mod ReleaseLemmas
+pub mod RoomLemmas
+pub mod TranscriptLemmas
+pub mod StraightenedLemmas
+pub mod WeakFollowed
+pub mod BoundLemmas
+pub mod TypedRuns
+pub mod NoteLemmas
+pub mod WeakToldLemmas

@@ -13,6 +13,11 @@ GoesOrStays after old new (Ok _) = after ≡ Some new
 GoesOrStays after old new (Err Illegal) = (after ≡ None) × (new ≡ old)
 GoesOrStays after old new (Err NoMemory) = IsSome after × (new ≡ old)
 
+-- why a label isn't taken: no rule has it, or one has
+abbrev pub Refuses : Option Weak → StepFail → Type 0
+Refuses after Illegal = after ≡ None
+Refuses after NoMemory = IsSome after
+
 -- a kind of step that neither prints nor makes a member
 abbrev pub IsPlain : StepKind → Type 0
 IsPlain StepKind.Spawn = ⊥

@@ -1,11 +1,12 @@
 -- Fragments that were tried, as notes in a journal.
-use Rattle.std.specs.Prelude.{◌≡◌, ℕ, ◌+◌, ◌==◌, Bool, true, List, [], ◌∷◌, ◌++◌, length, None, is_some, if◌then◌else◌}
+use Rattle.std.specs.Prelude.{◌≡◌, ℕ, ◌+◌, ◌≤◌, ◌==◌, Bool, true, List, [], ◌∷◌, ◌++◌, filter, length, None, ⊤, is_some, if◌then◌else◌}
 use Rattle.std.specs.List.{AllByRecursion}
 use Rattle.ame_term.specs.Tree.{Tree}
 use Rattle.ame_term.specs.declared.semantics.Label.{Label}
 use Rattle.ame_journal.specs.declared.entry.Entry.{Entry}
 use Rattle.ame_journal.specs.declared.entry.EntryKind.{EntryKind}
 use Rattle.ame_journal.specs.Replay.{fragment, fails_after}
+use Rattle.ame_journal.specs.Totals.{is_note}
 use Rattle.ame_weak.specs.Weak.{Weak, IsWeakRun}
 use Rattle.ame_weak.specs.Straight.{Place, entries_of, past}
 use Rattle.ame_weak.specs.declared.tries.Try.{Try}
@@ -54,3 +55,12 @@ later n (t ∷ tries) = if t.after == n then later n tries else t ∷ tries
 abbrev pub straight_with : ℕ → List Try → Place → List Label → List Entry
 straight_with n tries p [] = noted_tries n tries
 straight_with n tries p (label ∷ labels) = noted_tries n tries ++ (entries_of p label ++ straight_with (n + 1) (later n tries) (past p label) labels)
+
+-- tries in order: each after n labels at least and m at most, and none before one that it follows
+abbrev pub AreInOrder : ℕ → ℕ → List Try → Type 0
+AreInOrder n m [] = ⊤
+AreInOrder n m (t ∷ tries) = (n ≤ t.after) × (t.after ≤ m) × AreInOrder t.after m tries
+
+-- the notes among entries, in order
+abbrev pub notes_of : List Entry → List Entry
+notes_of entries = filter (λ entry. is_note entry.kind) entries

@@ -1,17 +1,34 @@
 //! Theorems: promises of this crate that nothing above it cites, each the statement of a lemma.
 
-ghost use Rattle.std.specs.Prelude.{◌≡◌, ℕ, List, Some, None};
+ghost use Rattle.std.specs.Prelude.{◌≡◌, ◌↔◌, ℕ, List, length, map, Some, None};
+ghost use Rattle.ame_term.specs.Tree.{Tree};
 ghost use Rattle.ame_term.specs.View.{tree_of};
 ghost use Rattle.ame_term.specs.declared.semantics.Label.{Label};
 ghost use Rattle.ame_journal.specs.Replayed.{Replayed};
 ghost use Rattle.ame_journal.specs.Replay.{replay};
 ghost use Rattle.ame_journal.specs.Calls.{device_calls};
-ghost use Rattle.ame_weak.specs.Weak.{Weak, IsWeakRun, holding_none, weak_start, weak_calls};
+ghost use Rattle.ame_journal.specs.Totals.{without_notes};
+ghost use Rattle.ame_laws.specs.Typed.StoreTyping.{StoreTyping};
+ghost use Rattle.ame_laws.specs.Typed.TypedState.{IsTyped};
+ghost use Rattle.ame_weak.specs.Weak.{Weak, IsWeakRun, holding_none, weak_start, weak_after, weak_run, weak_calls};
+ghost use Rattle.ame_weak.specs.WeakRules.{WeakRule, WeakBegins, WeakRuns};
 ghost use Rattle.ame_weak.specs.Straight.{straight, outset};
-ghost use Rattle.ame_weak.specs.Tries.{AreTried, straight_with};
+ghost use Rattle.ame_weak.specs.Tries.{AreTried, AreInOrder, notes_of, note_for, straight_with};
 ghost use Rattle.ame_weak.specs.declared.tries.Try.{Try};
 
 use ame_term::Accepted;
+
+/// A label leads from one weak state to another exactly where a weak rule has it.
+pub fn weak_labels_follow_the_rules()
+    ensures { (w v : Weak) (label : Label) → (weak_after w label ≡ Some v) ↔ WeakRule w label v }
+{}
+
+/// `weak_start` is the weak state in which a program begins, and `weak_run` leads where labels lead, each by a
+/// weak rule.
+pub fn weak_runs_follow_the_rules()
+    ensures begins { (program : Tree) (w : Weak) → (w ≡ weak_start program) ↔ WeakBegins program w }
+    ensures runs { (w : Weak) (labels : List Label) (v : Weak) → (weak_run w labels ≡ Some v) ↔ WeakRuns w labels v }
+{}
 
 /// A weak run of an accepted program looks strong: where nothing is active at its end, the journal of
 /// its labels leads to the same state, with the same store, members, output and next number.
@@ -42,4 +59,18 @@ pub fn calls_are_told_with(accepted: &Accepted)
         → IsWeakRun (tree_of accepted.now.program.term) labels w
         → device_calls device (tree_of accepted.now.program.term) (straight_with 0 tries outset labels)
         ≡ weak_calls device (weak_start (tree_of accepted.now.program.term)) labels }
+{}
+
+/// The notes of a journal are those of the tries, in their order, where the tries stand in order and none is
+/// behind the labels; and without its notes it is the journal of the labels.
+pub fn notes_are_of_the_tries()
+    ensures notes { (labels : List Label) (tries : List Try) → AreInOrder 0 (length labels) tries
+        → notes_of (straight_with 0 tries outset labels) ≡ map note_for tries }
+    ensures others { (labels : List Label) (tries : List Try) → without_notes (straight_with 0 tries outset labels) ≡ straight labels }
+{}
+
+/// The strong state in the weak state to which the labels of an accepted program lead is typed.
+pub fn weak_runs_are_typed(accepted: &Accepted)
+    ensures { (labels : List Label) (w : Weak) → IsWeakRun (tree_of accepted.now.program.term) labels w
+        → (cells : StoreTyping) × IsTyped accepted.now.devices cells w.state }
 {}

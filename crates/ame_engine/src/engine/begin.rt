@@ -1,6 +1,6 @@
 //! How a seat begins a member.
 
-ghost use Rattle.std.specs.Prelude.{◌≡◌, ◌<◌, ◌++◌, ℕ, None, IfOk, OnErr, IsTrue};
+ghost use Rattle.std.specs.Prelude.{◌≡◌, ◌<◌, ◌++◌, ℕ, Some, None, IfOk, OnOk, OnErr, IsTrue};
 ghost use Rattle.std.specs.Option.{ForSome};
 ghost use Rattle.ame_pool.specs.Members.{is_ready};
 ghost use Rattle.ame_pool.specs.Calls.{IsAt, held, machine_of};
@@ -9,8 +9,11 @@ ghost use Rattle.ame_pool.specs.declared.oldest.Oldest.{Oldest};
 ghost use Rattle.ame_pool.specs.Begin.{oldest as oldest_of};
 ghost use Rattle.ame_protocol.specs.Engine.Parts.{task_at};
 ghost use Rattle.ame_protocol.specs.Engine.Events.{begun_task as task_begun, attempt_after};
+ghost use Rattle.ame_protocol.specs.declared.stop.Stop.{Stop};
+ghost use Rattle.ame_protocol.specs.Event.Event.{Event};
 ghost use Rattle.ame_engine.specs.Seen.{parts_of};
-ghost use Rattle.ame_engine.specs.Begins.{pick_of, takes_memory, HasBegun, Answers};
+ghost use Rattle.ame_engine.specs.Makes.{Makes};
+ghost use Rattle.ame_engine.specs.Begins.{pick_of, stop_met, takes_memory, HasBegun, Answers};
 ghost use Rattle.ame_protocol.specs.Event.Causes.{certificates_in};
 ghost use Rattle.ame_engine.specs.Stops.{stopped_by, blocked_by};
 ghost use Rattle.ame_protocol.specs.Event.Bounds.{LeavesNoTry};
@@ -142,6 +145,7 @@ where
             (λ why. self.new ≡ stopped_by why self.old)
             (self.new ≡ blocked_by (certificates_in (parts_of M.meaning self.old)) self.old)
             (self.new ≡ self.old) (pick_of self.old)) }
+        ensures halts { (why : Stop) → stop_met (pick_of self.old) ≡ Some why → OnOk result (Makes M.meaning (Event.Halt why) self.old self.new) }
         ensures err { OnErr result (self.new ≡ self.old) }
         ensures wants { OnErr result (IsTrue (takes_memory (pick_of self.old))) }
     {

@@ -9,7 +9,7 @@ ghost use Rattle.ame_protocol.specs.Engine.Parts.{task_at, attempt_of, working};
 ghost use Rattle.ame_protocol.specs.Event.Event.{Event};
 ghost use Rattle.ame_protocol.specs.Event.Causes.{HasCause};
 ghost use Rattle.ame_engine.specs.Seen.{parts_of};
-ghost use Rattle.ame_engine.specs.Makes.{MakesAt};
+ghost use Rattle.ame_engine.specs.Makes.{Makes, MakesAt};
 ghost use Rattle.ame_engine.specs.Stops.{stopped_by};
 ghost use Rattle.ame_engine.specs.AtWork.{IsOn};
 ghost use Rattle.ame_protocol.specs.Event.Bounds.{LeavesNoTry};
@@ -83,6 +83,8 @@ where
             → working (task_at self.old.tasks seat) ≡ Some attempt
             → OnOk result (MakesAt M.meaning (M.meaning.stage self.old.code m.now) None
             (λ place. Event.Cut seat attempt (M.meaning.stage self.old.code m.now).steps place) self.old self.new)) }
+        ensures halts { (IsValid self.old.memory.cells seat (row_at self.old.memory.rows seat).reads → working (task_at self.old.tasks seat) ≡ None)
+            → Makes M.meaning (Event.Halt Stop.Spent) self.old self.new }
         ensures undoing { at.entry ≡ None → (result ≡ Ok tt) × (self.new ≡ stopped_by Stop.Spent self.old) }
         ensures invalid { (IsValid self.old.memory.cells seat (row_at self.old.memory.rows seat).reads → ⊥)
             → (result ≡ Ok tt) × (self.new ≡ stopped_by Stop.Spent self.old) }

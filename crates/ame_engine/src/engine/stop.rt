@@ -6,7 +6,9 @@ ghost use Rattle.ame_pool.specs.Begin.{oldest as oldest_of};
 ghost use Rattle.ame_engine.specs.declared.pick.Pick.{Pick};
 ghost use Rattle.ame_engine.specs.Begins.{pick_of};
 ghost use Rattle.ame_protocol.specs.Event.Causes.{HasCause, is_from_outside};
+ghost use Rattle.ame_protocol.specs.Event.Event.{Event};
 ghost use Rattle.ame_engine.specs.Seen.{parts_of};
+ghost use Rattle.ame_engine.specs.Makes.{Makes};
 ghost use Rattle.ame_engine.specs.Stops.{stopped_by};
 ghost use Rattle.ame_protocol.specs.Event.Bounds.{LeavesNoTry};
 
@@ -48,7 +50,8 @@ where
     /// Keeps a stop that comes from outside, if none is kept. Takes no memory, and counts no turn.
     pub fn stop(&mut self, why: Stop)
         requires { IsTrue (is_from_outside why) }
-        ensures { self.new ≡ stopped_by why self.old }
+        ensures stops { self.new ≡ stopped_by why self.old }
+        ensures halts { self.old.stop ≡ None → Makes M.meaning (Event.Halt why) self.old self.new }
     {
         self.stops_have_causes();
         self.keep(why);

@@ -66,7 +66,7 @@ returns-in-Undefined g c = λ entries st.
     (g.met.M.Runner.stage_shown c.args.code.now c.in-Some.member.now c.in_ok-machine.machine c.in_ok-machine.ensures)
     c.advance.new.self c.advance.ensures.machine c.advance.ensures.ran c.in_ok-_next._next c.in_ok-_next.ensures.told c.settle.new.self
     (c.settle.ensures.machine c.args.code.now c.advance.ensures.machine) (c.settle.ensures.stage c.args.code.now) c.new-overlay.result.entries c.new-overlay.ensures.empty
-    c.run.new.overlay.entries c.run.new.machine c.in_ok-want.field-0 c.in_ok-want.ensures c.in-Undefined.is
+    c.run.new.overlay.entries c.run.new.machine c.in_ok-want.field-0 c.in_ok-want.ensures c.in-Undefined.why c.in-Undefined.is
 
 pub returns : goal.returns
 returns g c = λ entries st.

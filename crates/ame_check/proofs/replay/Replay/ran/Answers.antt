@@ -56,7 +56,7 @@ pub returns-in-Undefined : goal.returns-in-Undefined
 returns-in-Undefined g c = λ entries st.
     has-no-run g.M.Runner.meaning c.args.code.now (g.met.M.Runner.accepted c.args.code.now) (g.met.M.Runner.sound c.args.code.now) c.args.entry.now c.requires.kind _ entries st
     c.in-Some.machine c.in-Some.ensures.value (sym (c.inside.ensures c.args.code.now) ∙ c.if-inside.false) c.new-overlay.result.entries c.new-overlay.ensures.empty
-    (quiet-of c.args.entry.now.answer (sym c.is_some.ensures ∙ c.if-is_some.false)) c.run.new.overlay.entries c.run.new.machine c.in_ok-want.field-0 c.in_ok-want.ensures c.in-Undefined.is
+    (quiet-of c.args.entry.now.answer (sym c.is_some.ensures ∙ c.if-is_some.false)) c.run.new.overlay.entries c.run.new.machine c.in_ok-want.field-0 c.in_ok-want.ensures c.in-Undefined.why c.in-Undefined.is
 
 pub returns-in-Tall : goal.returns-in-Tall
 returns-in-Tall g c = λ entries st.

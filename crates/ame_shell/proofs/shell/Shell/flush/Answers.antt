@@ -15,4 +15,4 @@ returns-in-Err-clause-flushes g c =
     HasFlushed.fails gone
     (subst (λ (t : List ℕ). AppendsFirst gone (g.K.Sink.written c.args.self.now.sink) (g.K.Sink.written c.write_all.new.sink) t) rest c.in-Err.ensures.gone)
     (subst (λ (t : List ℕ). gone < length t) rest c.in-Err.ensures.short)
-    c.in-Err.ensures.risen c.stop.ensures refl
+    c.in-Err.ensures.risen c.stop.ensures.stops refl

@@ -1,0 +1,105 @@
+//! What a run left, field by field.
+
+use crate::fault::Fault;
+use crate::field::Field;
+use crate::told::line;
+use ame_engine::Ended;
+use ame_journal::{Entry, EntryKind};
+use ame_store::Store;
+use ame_term::Loc;
+use ame_value::Val;
+use std::alloc::{AllocError, Global};
+
+/// What a run left of a field.
+pub fn left(
+    alloc: Global,
+    ended: &Ended<Val>,
+    field: Field,
+    is_alone: bool,
+) -> Result<String, Fault> {
+    match field {
+        Field::Journal => journal(alloc, ended.journal(), is_alone),
+        Field::Output => output(alloc, ended.output()),
+        Field::Turns => turns(alloc, ended),
+        Field::Unwound => line(alloc, u64::from(ended.counters().unwound)),
+        _ => cells(alloc, ended.store()),
+    }
+}
+
+/// The entries of a journal, a line each. With several workers any seat may have made one, so each is told with seat 0.
+fn journal(alloc: Global, entries: &[Entry], is_alone: bool) -> Result<String, Fault> {
+    let mut text = String::new(alloc);
+    for entry in entries {
+        let seat = if is_alone { entry.seat } else { 0 };
+        write_entry(&mut text, entry, seat)?;
+    }
+    Ok(text)
+}
+
+/// A line of a journal.
+fn write_entry(text: &mut String, entry: &Entry, seat: u32) -> Result<(), AllocError> {
+    let kind = kind_word(entry.kind);
+    write!(text, "{kind} {seat} {} {}", entry.number, entry.steps)?;
+    for location in entry.fresh.as_slice() {
+        write!(text, " {}", location.0)?;
+    }
+    if let Some(answer) = entry.answer {
+        write!(text, " = {answer}")?;
+    }
+    text.push_str("\n")
+}
+
+fn kind_word(kind: EntryKind) -> &'static str {
+    match kind {
+        EntryKind::Ran => "ran",
+        EntryKind::Free => "free",
+        EntryKind::Stuck => "stuck",
+        EntryKind::Cut => "cut",
+        EntryKind::Tall => "tall",
+    }
+}
+
+/// What was printed, a line each.
+fn output(alloc: Global, output: &[i64]) -> Result<String, Fault> {
+    let mut text = String::new(alloc);
+    for integer in output {
+        writeln!(text, "{integer}")?;
+    }
+    Ok(text)
+}
+
+/// The events that counted, and how often a seat was in another's way, where that was.
+fn turns(alloc: Global, ended: &Ended<Val>) -> Result<String, Fault> {
+    let counters = ended.counters();
+    let (conflicts, invalids) = (counters.conflicts, counters.invalids);
+    let turns = ended.turns();
+    if conflicts == 0 && invalids == 0 {
+        return line(alloc, u64::from(turns));
+    }
+    Ok(format!(in alloc; "{turns} with {conflicts} conflicts and {invalids} invalid reads\n")?)
+}
+
+/// Each live cell, a line each.
+fn cells(alloc: Global, store: &Store<Val>) -> Result<String, Fault> {
+    let mut text = String::new(alloc);
+    for location in 0..store.len() {
+        let cell = store.cell(Loc(location));
+        if cell.live {
+            write!(text, "{location} ")?;
+            write_value(&mut text, &cell.value)?;
+        }
+    }
+    Ok(text)
+}
+
+/// A value as it is told, with a line feed.
+fn write_value(text: &mut String, value: &Val) -> Result<(), AllocError> {
+    match value {
+        Val::Unit => writeln!(text, "unit"),
+        Val::Bool(is_so) => writeln!(text, "{is_so}"),
+        Val::Int(integer) => writeln!(text, "{integer}"),
+        Val::Loc(location) => writeln!(text, "@{}", location.0),
+        Val::Clo(_) => writeln!(text, "function"),
+        Val::Pair(_) => writeln!(text, "pair"),
+    }
+}

@@ -1,0 +1,131 @@
+//! Runs the cases of the files and the folders that are named, and tells of each whether all came as it must.
+#![tactic(auto)]
+
+mod call;
+mod case;
+mod device;
+mod dropped;
+mod ends;
+mod fault;
+mod field;
+mod files;
+mod held;
+mod item;
+mod judge;
+mod left;
+mod replay;
+mod tally;
+mod text;
+mod told;
+
+use crate::case::{Case, cases_of};
+use crate::dropped::devices_are_dropped_once;
+use crate::fault::Fault;
+use crate::files::{files_of, text_of};
+use crate::held::two_are_inside;
+use crate::judge::is_as_told;
+use crate::tally::Tally;
+use std::env::{self, Env};
+use std::process::ExitCode;
+use std::rt::Files;
+use std::sync::Wait;
+use std::thread::Threads;
+
+/// Runs a case, and prints how it came out.
+fn run_case<R>(rt: &R, file: &str, case: &Case) -> Result<bool, Fault>
+where
+    R: Print + AllocGlobal + Threads + Wait + Sync,
+{
+    let is_right = is_as_told(rt, case)?;
+    let outcome = if !is_right {
+        "differs"
+    } else if case.is_replayed() {
+        "ok, replayed"
+    } else {
+        "ok"
+    };
+    println!(rt; "{file}: {}: {outcome}", case.name)?;
+    Ok(is_right)
+}
+
+/// Runs the cases of a file.
+fn run_file<R>(rt: &R, file: &str) -> Result<Tally, Fault>
+where
+    R: Files + Print + AllocGlobal + Threads + Wait + Sync,
+{
+    let mut tally = Tally::new();
+    let text = text_of(rt, file)?;
+    for case in &cases_of(rt.alloc(), text.as_str())? {
+        tally.add(Tally::of(run_case(rt, file, case)?));
+    }
+    Ok(tally)
+}
+
+/// Tells what is wrong with a file or a folder.
+fn tell<R: Print>(rt: &R, name: &str, fault: Fault) -> Result<Tally, Fault> {
+    match fault {
+        Fault::Line(line, why) => println!(rt; "{name}:{line}: {why}")?,
+        Fault::Ends => println!(rt; "{name}: can't be read")?,
+        Fault::NoMemory => println!(rt; "{name}: there is too little memory")?,
+    }
+    Ok(Tally::of(false))
+}
+
+/// Runs the cases of a file, or of the files in a folder.
+fn run_files<R>(rt: &R, name: &str) -> Result<Tally, Fault>
+where
+    R: Files + Print + AllocGlobal + Threads + Wait + Sync + Clone + Drop,
+{
+    let files = match files_of(rt, name) {
+        Ok(files) => files,
+        Err(fault) => return tell(rt, name, fault),
+    };
+    let mut tally = Tally::new();
+    for file in &files {
+        tally.add(match run_file(rt, file.as_str()) {
+            Ok(tally) => tally,
+            Err(fault) => tell(rt, file.as_str(), fault)?,
+        });
+    }
+    Ok(tally)
+}
+
+/// Prints how a check came out that is no file.
+fn run_check<R: Print>(rt: &R, name: &str, is_right: bool) -> Result<Tally, Fault> {
+    let outcome = if is_right { "ok" } else { "differs" };
+    println!(rt; "{name}: {outcome}")?;
+    Ok(Tally::of(is_right))
+}
+
+/// Does what a word asks for.
+fn run_word<R>(rt: &R, word: &str) -> Result<Tally, Fault>
+where
+    R: Files + Print + AllocGlobal + Threads + Wait + Sync + Clone + Drop,
+{
+    match word {
+        "held" => run_check(rt, word, two_are_inside(rt)?),
+        "dropped" => run_check(rt, word, devices_are_dropped_once(rt)?),
+        _ => run_files(rt, word),
+    }
+}
+
+fn run<R>(rt: &R) -> Result<Tally, Fault>
+where
+    R: Files + Env + Print + AllocGlobal + Threads + Wait + Sync + Clone + Drop,
+{
+    let mut tally = Tally::new();
+    for word in env::args(rt)?.skip(1) {
+        tally.add(run_word(rt, word.as_str())?);
+    }
+    Ok(tally)
+}
+
+fn main(rt: HostRuntime) -> Result<ExitCode, Fault> {
+    let tally = run(&rt)?;
+    println!(rt; "{} cases are ok, {} are not", tally.right, tally.wrong)?;
+    if tally.wrong == 0 {
+        Ok(ExitCode::SUCCESS)
+    } else {
+        Ok(ExitCode::FAILURE)
+    }
+}

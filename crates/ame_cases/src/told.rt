@@ -1,0 +1,157 @@
+//! What a report tells, field by field, in the form of a case's lines. Reports and their statuses are read here alone.
+
+use crate::case::Case;
+use crate::device::Boxed;
+use crate::fault::Fault;
+use crate::field::Field;
+use crate::left::left;
+use crate::replay::replayed;
+use ame_app::Report;
+use ame_code::Code;
+use ame_device::Device;
+use ame_engine::Certificate;
+use ame_io::MemSink;
+use ame_journal::{Journal, JournalFault};
+use ame_strong::StrongState;
+use ame_term::copy_term;
+use std::alloc::Global;
+
+/// What a call reports.
+pub type CaseReport = Report<MemSink, Boxed>;
+
+/// What a call gave of a field, by one worker alone or by several.
+pub fn told(
+    alloc: Global,
+    case: &Case,
+    report: &CaseReport,
+    field: Field,
+    is_alone: bool,
+) -> Result<String, Fault> {
+    match field {
+        Field::Status => line(alloc, u64::from(report.status.number())),
+        Field::Lines => Ok(String::from_utf8_lossy(alloc, report.sink.written())?),
+        Field::Written => written(alloc, report.sink.written()),
+        Field::Run => begun(alloc, report),
+        Field::Heard => heard(alloc, &report.devices),
+        Field::Certificates => certificates(alloc, report.blocked()),
+        Field::Replay => replay(alloc, case, report),
+        Field::Names | Field::Types => match &report.code {
+            Some(code) => sizes(alloc, code, field),
+            None => word(alloc, "none"),
+        },
+        Field::Journal | Field::Output | Field::Turns | Field::Unwound | Field::Cells => {
+            match &report.ended {
+                Some(ended) => left(alloc, ended, field, is_alone),
+                None => word(alloc, "none"),
+            }
+        }
+    }
+}
+
+/// A number on a line.
+pub fn line(alloc: Global, number: u64) -> Result<String, Fault> {
+    Ok(format!(in alloc; "{number}\n")?)
+}
+
+/// A word on a line.
+fn word(alloc: Global, word: &str) -> Result<String, Fault> {
+    Ok(format!(in alloc; "{word}\n")?)
+}
+
+/// What was written, and a line feed.
+fn written(alloc: Global, bytes: &[u8]) -> Result<String, Fault> {
+    let mut text = String::from_utf8_lossy(alloc, bytes)?;
+    text.push_str("\n")?;
+    Ok(text)
+}
+
+/// Whether a run was begun, of which there are code and an end then.
+fn begun(alloc: Global, report: &CaseReport) -> Result<String, Fault> {
+    match (report.code.is_some(), report.ended.is_some()) {
+        (true, true) => word(alloc, "some"),
+        (false, false) => word(alloc, "none"),
+        _ => word(alloc, "half of one"),
+    }
+}
+
+/// The calls that each device answered, a line each.
+fn heard(alloc: Global, devices: &[Boxed]) -> Result<String, Fault> {
+    let mut text = String::new(alloc);
+    for (number, device) in devices.iter().enumerate() {
+        write!(text, "{number}:")?;
+        for call in device.heard().unwrap_or(&[]) {
+            write!(text, " {}={}", call.argument, call.answer)?;
+        }
+        text.push_str("\n")?;
+    }
+    Ok(text)
+}
+
+/// Number, steps and new locations of each member that is blocked, a line each.
+fn certificates(alloc: Global, blocked: &[Certificate]) -> Result<String, Fault> {
+    let mut text = String::new(alloc);
+    for certificate in blocked {
+        write!(text, "{} {}", certificate.number, certificate.steps)?;
+        for location in certificate.fresh.as_slice() {
+            write!(text, " {}", location.0)?;
+        }
+        text.push_str("\n")?;
+    }
+    Ok(text)
+}
+
+/// How many names, or types of locations, a program has.
+fn sizes(alloc: Global, code: &Code, field: Field) -> Result<String, Fault> {
+    let accepted = code.accepted();
+    let count = match field {
+        Field::Names => accepted.program.names.len(),
+        _ => accepted.ref_tys.len(),
+    };
+    Ok(format!(in alloc; "{count}\n")?)
+}
+
+/// What the strong semantics comes to by the certificate, or by the journal of the run.
+fn replay(alloc: Global, case: &Case, report: &CaseReport) -> Result<String, Fault> {
+    let (Some(code), Some(ended)) = (&report.code, &report.ended) else {
+        return word(alloc, "none");
+    };
+    let program = copy_term(alloc, &code.accepted().program.term)?;
+    let state = match &case.certificate {
+        None => replayed(alloc, program, ended.journal())?,
+        Some(lines) => match journal(alloc, lines.as_str())? {
+            Some(journal) => replayed(alloc, program, journal.entries())?,
+            None => return word(alloc, "no journal"),
+        },
+    };
+    match state {
+        Some(state) => come_to(alloc, &state),
+        None => word(alloc, "none"),
+    }
+}
+
+/// The journal that lines spell.
+fn journal(alloc: Global, lines: &str) -> Result<Option<Journal>, Fault> {
+    if lines.len() > 67_108_864 {
+        return Ok(None);
+    }
+    match Journal::from_text(alloc, lines.as_bytes()) {
+        Ok(journal) => Ok(Some(journal)),
+        Err(JournalFault::BadLine(_)) => Ok(None),
+        Err(JournalFault::NoMemory) => Err(Fault::NoMemory),
+    }
+}
+
+/// How many members are left, and what was printed.
+fn come_to(alloc: Global, state: &StrongState) -> Result<String, Fault> {
+    let output = integers(alloc, state.output())?;
+    Ok(format!(in alloc; "members {}\noutput{output}\n", state.pool_len())?)
+}
+
+/// Integers, each behind a space.
+pub fn integers(alloc: Global, integers: &[i64]) -> Result<String, Fault> {
+    let mut text = String::new(alloc);
+    for integer in integers {
+        write!(text, " {integer}")?;
+    }
+    Ok(text)
+}

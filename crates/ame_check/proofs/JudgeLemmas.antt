@@ -1,0 +1,119 @@
+-- How a journal is judged, entry by entry.
+use Rattle.std.proofs.Common.{◌≡◌, ℕ, ◌+◌, ◌-◌, ◌<◌, ◌≤◌, ℤ, List, [], ◌∷◌, ◌++◌, length, take, drop, get_or, option_and_then, Some, None, refl, sym, ap, ◌∙◌, subst, arith}
+use Rattle.std.proofs.lemmas.List.{take_more, take_all, take-append-drop}
+use Rattle.std.proofs.lemmas.List.Sums.{sum_by_more}
+use Rattle.ame_term.specs.Tree.{Tree}
+use Rattle.ame_journal.specs.Replayed.{Replayed, begun_at}
+use Rattle.ame_journal.specs.Replay.{replay, replay_from}
+use Rattle.ame_journal.proofs.ReplayLemmas.{replay_from-append}
+use Rattle.ame_journal.specs.Totals.{total_steps}
+use Rattle.ame_journal.specs.declared.entry.Entry.{Entry}
+use Rattle.ame_machine.specs.Meaning.{Meaning}
+use Rattle.ame_check.specs.Shows.{ReplayView, StandsForEntries}
+use Rattle.ame_check.specs.Entries.{MeetsTall}
+use Rattle.ame_check.specs.declared.reason.Reason.{Reason}
+use Rattle.ame_check.proofs.ReasonLemmas.{FailsBy}
+use Rattle.ame_check.specs.Judge.{most_steps, IsLong, LeadsTo, IsInvalid, IsTallAt}
+
+-- what follows entries that can't be replayed doesn't change that
+pub undefined-all : (program : Tree) (entries : List Entry) (n : ℕ) → replay program (take n entries) ≡ None → replay program entries ≡ None
+undefined-all program entries n none =
+    ap (replay program) (sym (take-append-drop n entries)) ∙ replay_from-append (begun_at program) (take n entries) (drop n entries)
+    ∙ ap (option_and_then (λ (t : Replayed). replay_from t (drop n entries))) none
+
+-- the steps of the entries before an index, none of which is too many
+abbrev pub CountsSteps : List Entry → ℕ → ℕ → ℕ → Type 0
+CountsSteps entries total place index = (total ≡ total_steps (take index entries)) × (total ≤ most_steps) × (place ≡ index)
+
+pub counts-none : (entries : List Entry) → CountsSteps entries 0 0 0
+counts-none entries = (refl, (let none : 0 ≤ 100000000 = omega arith in none), refl)
+
+pub counts-all : (entries : List Entry) (total place index : ℕ) → CountsSteps entries total place index → length entries ≤ index → total_steps entries ≤ most_steps
+counts-all entries total place index counts within =
+    subst (λ (n : ℕ). n ≤ most_steps) (counts.0 ∙ ap total_steps (take_all index entries within)) counts.1
+
+module _ (entries : List Entry) (index : ℕ) (below : index < length entries) (entry : Entry) (is : entry ≡ get_or entries index entry) where
+  pub one-more_entry : take (index + 1) entries ≡ take index entries ++ entry ∷ []
+  one-more_entry = take_more entries index entry below ∙ ap (λ (z : Entry). take index entries ++ z ∷ []) (sym is)
+
+  steps-more : total_steps (take (index + 1) entries) ≡ total_steps (take index entries) + (entry.steps + 1)
+  steps-more = sum_by_more (λ (z : Entry). z.steps + 1) entries index entry below ∙ ap (λ (z : Entry). total_steps (take index entries) + (z.steps + 1)) (sym is)
+
+  module _ (total place : ℕ) (counts : CountsSteps entries total place index) where
+    pub counts-more : entry.steps < most_steps - total → CountsSteps entries (total + (entry.steps + 1)) (place + 1) (index + 1)
+    counts-more few =
+        let within : total ≤ 100000000 = counts.1 in
+        let left : entry.steps < 100000000 - total = few in
+        (ap (λ (n : ℕ). n + (entry.steps + 1)) counts.0 ∙ sym steps-more, (let more : total + (entry.steps + 1) ≤ 100000000 = omega arith in more), ap (λ (n : ℕ). n + 1) counts.2)
+
+    pub is-long : most_steps - total ≤ entry.steps → IsLong entries (place + 1)
+    is-long many =
+        let counted : place ≡ index = counts.2 in
+        let before : place + 1 - 1 ≡ index = omega arith in
+        let next : index + 1 ≡ place + 1 = omega arith in
+        let within : total ≤ 100000000 = counts.1 in
+        let left : 100000000 - total ≤ entry.steps = many in
+        let above : 100000000 < total + (entry.steps + 1) = omega arith in
+        record {
+          place = ((let first : 1 ≤ place + 1 = omega arith in first), (let last : place + 1 ≤ length entries = omega arith in last));
+          before = subst (λ (n : ℕ). n ≤ most_steps) (counts.0 ∙ ap (λ (k : ℕ). total_steps (take k entries)) (sym before)) counts.1;
+          above =
+              subst (λ (n : ℕ). most_steps < n) (ap (λ (n : ℕ). n + (entry.steps + 1)) counts.0 ∙ sym steps-more ∙ ap (λ (k : ℕ). total_steps (take k entries)) next) above;
+        }
+
+module _ {C V M : Type 0} (meaning : Meaning C V M) (code : C) (entries : List Entry) (short : total_steps entries ≤ most_steps) (index place : ℕ) (counted : place ≡ index)
+    (view : ReplayView V M) (st : StandsForEntries meaning code (take index entries) view) where
+  pub valid-so : length entries ≤ index → (output : List ℤ) → output ≡ view.output → LeadsTo (meaning.program code) entries output
+  valid-so within output printed = record {
+    short = short;
+    led = st.led;
+    replayed = ap (replay (meaning.program code)) (sym (take_all index entries within)) ∙ st.replayed;
+    printed = printed ∙ st.shows.output;
+  }
+
+  module _ (below : index < length entries) (entry : Entry) (is : entry ≡ get_or entries index entry) where
+    next : place + 1 ≡ index + 1
+    next = ap (λ (n : ℕ). n + 1) counted
+
+    before : place + 1 - 1 ≡ index
+    before = let same : place ≡ index = counted in omega arith
+
+    in-place : (1 ≤ place + 1) × (place + 1 ≤ length entries)
+    in-place = let same : place ≡ index = counted in (omega arith, omega arith)
+
+    pub made-so : (later : ReplayView V M) → StandsForEntries meaning code (take index entries ++ entry ∷ []) later → StandsForEntries meaning code (take (index + 1) entries) later
+    made-so later s = subst (λ (es : List Entry). StandsForEntries meaning code es later) (sym (one-more_entry entries index below entry is)) s
+
+    is-next : take (place + 1) entries ≡ take (place + 1 - 1) entries ++ entry ∷ []
+    is-next =
+        ap (λ (k : ℕ). take k entries) next ∙ one-more_entry entries index below entry is
+        ∙ ap (λ (k : ℕ). take k entries ++ entry ∷ []) (sym before)
+
+    none-with : (why : Reason) → FailsBy (meaning.program code) (take index entries) entry why → replay (meaning.program code) (take (place + 1) entries) ≡ None
+    none-with why fails =
+        ap (λ (k : ℕ). replay (meaning.program code) (take k entries)) next
+        ∙ ap (replay (meaning.program code)) (one-more_entry entries index below entry is) ∙ fails.0
+
+    pub invalid-so : (why : Reason) → FailsBy (meaning.program code) (take index entries) entry why → IsInvalid (meaning.program code) entries (place + 1) why
+    invalid-so why fails = record {
+      short = short;
+      place = in-place;
+      led = fails.1.0;
+      replayed = ap (λ (k : ℕ). replay (meaning.program code) (take k entries)) before ∙ fails.1.1;
+      undefined = none-with why fails;
+      never = undefined-all (meaning.program code) entries (place + 1) (none-with why fails);
+      entry = entry;
+      is_entry = is-next;
+      met = fails.1.2;
+    }
+
+    pub tall-so : (r : Replayed) × (replay (meaning.program code) (take index entries) ≡ Some r) × MeetsTall r entry → IsTallAt (meaning.program code) entries (place + 1)
+    tall-so tall = record {
+      short = short;
+      place = in-place;
+      led = tall.0;
+      replayed = ap (λ (k : ℕ). replay (meaning.program code) (take k entries)) before ∙ tall.1;
+      entry = entry;
+      is_entry = is-next;
+      meets = tall.2;
+    }

@@ -1,0 +1,31 @@
+use Rattle.std.proofs.Common.{◌+◌, ap, take, subst, ℕ}
+use Rattle.ame_check.specs.Entries.{CameOf}
+use Rattle.ame_check.proofs.JudgeLemmas.{invalid-so, tall-so, made-so}
+use Rattle.ame_check.proofs.judging.judge.Goals as goal
+
+pub returns-in-Undefined : goal.returns-in-Undefined
+returns-in-Undefined g c =
+    invalid-so g.M.Runner.meaning c.args.code.now c.args.entries.now c.in_default.ensures c.loop-entry.entry-index c.loop-entry.place c.loop-entry.invariant.0 _ c.loop-entry.invariant.1
+    c.loop-entry-test.true c.entry-item.result c.entry-item.is c.in-Undefined.why
+    (subst (CameOf g.M.Runner.meaning c.args.code.now (take c.loop-entry.entry-index c.args.entries.now) c.entry-item.result
+    (record { cells = c.make.new.self.cells.entries; members = c.make.new.self.members.entries; output = c.make.new.self.output.items; next = c.make.new.self.next })) c.in-Undefined.is
+    (c.in_ok-make.ensures (take c.loop-entry.entry-index c.args.entries.now) c.loop-entry.invariant.1))
+
+pub returns-in-Tall : goal.returns-in-Tall
+returns-in-Tall g c =
+    tall-so g.M.Runner.meaning c.args.code.now c.args.entries.now c.in_default.ensures c.loop-entry.entry-index c.loop-entry.place c.loop-entry.invariant.0 _ c.loop-entry.invariant.1
+    c.loop-entry-test.true c.entry-item.result c.entry-item.is
+    (subst (CameOf g.M.Runner.meaning c.args.code.now (take c.loop-entry.entry-index c.args.entries.now) c.entry-item.result
+    (record { cells = c.make.new.self.cells.entries; members = c.make.new.self.members.entries; output = c.make.new.self.output.items; next = c.make.new.self.next })) c.in-Tall.is
+    (c.in_ok-make.ensures (take c.loop-entry.entry-index c.args.entries.now) c.loop-entry.invariant.1))
+
+pub loop-entry-preserved : goal.loop-entry-preserved
+loop-entry-preserved g c = (
+  ap (λ (n : ℕ). n + 1) c.loop-entry.invariant.0,
+  made-so g.M.Runner.meaning c.args.code.now c.args.entries.now c.in_default.ensures c.loop-entry.entry-index c.loop-entry.place c.loop-entry.invariant.0 _ c.loop-entry.invariant.1
+      c.loop-entry-test.true c.entry-item.result c.entry-item.is
+      (record { cells = c.make.new.self.cells.entries; members = c.make.new.self.members.entries; output = c.make.new.self.output.items; next = c.make.new.self.next })
+      (subst (CameOf g.M.Runner.meaning c.args.code.now (take c.loop-entry.entry-index c.args.entries.now) c.entry-item.result
+      (record { cells = c.make.new.self.cells.entries; members = c.make.new.self.members.entries; output = c.make.new.self.output.items; next = c.make.new.self.next })) c.in-Made.is
+      (c.in_ok-make.ensures (take c.loop-entry.entry-index c.args.entries.now) c.loop-entry.invariant.1)),
+)

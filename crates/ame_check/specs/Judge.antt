@@ -1,0 +1,62 @@
+-- What a journal is judged to be.
+use Rattle.std.specs.Prelude.{◌≡◌, ℕ, ◌-◌, ◌<◌, ◌≤◌, ℤ, List, [], ◌∷◌, ◌++◌, length, take, Some, None}
+use Rattle.ame_term.specs.Tree.{Tree}
+use Rattle.ame_journal.specs.Replayed.{Replayed}
+use Rattle.ame_journal.specs.Replay.{replay}
+use Rattle.ame_journal.specs.Totals.{total_steps}
+use Rattle.ame_journal.specs.declared.entry.Entry.{Entry}
+use Rattle.ame_check.specs.Entries.{MeetsTall}
+use Rattle.ame_check.specs.Reasons.{IsMet}
+use Rattle.ame_check.specs.declared.reason.Reason.{Reason}
+use Rattle.ame_check.specs.declared.judging.Judged.{Judged}
+use Rattle.ame_check.specs.declared.judging.Judged.TheVariants as judged
+
+-- the most steps and entries together that are judged
+abbrev pub most_steps : ℕ
+most_steps = 100000000
+
+-- n counts one of the entries, from 1
+abbrev pub IsPlace : List Entry → ℕ → Type 0
+IsPlace entries n = (1 ≤ n) × (n ≤ length entries)
+
+-- it is the first with which the steps and entries are more than that
+pub record IsLong (entries : List Entry) (n : ℕ) : Type 0 where
+  pub place : IsPlace entries n
+  pub before : total_steps (take (n - 1) entries) ≤ most_steps
+  pub above : most_steps < total_steps (take n entries)
+
+module _ (program : Tree) (entries : List Entry) where
+  -- the entries lead to a state, and this was printed
+  pub record LeadsTo (output : List ℤ) : Type 0 where
+    pub short : total_steps entries ≤ most_steps
+    pub led : Replayed
+    pub replayed : replay program entries ≡ Some led
+    pub printed : output ≡ led.state.output
+
+  -- those before the n-th can be made, and with it they can't be, nor can all of them, for this reason
+  pub record IsInvalid (n : ℕ) (why : Reason) : Type 0 where
+    pub short : total_steps entries ≤ most_steps
+    pub place : IsPlace entries n
+    pub led : Replayed
+    pub replayed : replay program (take (n - 1) entries) ≡ Some led
+    pub undefined : replay program (take n entries) ≡ None
+    pub never : replay program entries ≡ None
+    pub entry : Entry
+    pub is_entry : take n entries ≡ take (n - 1) entries ++ entry ∷ []
+    pub met : IsMet led entry why
+
+  -- those before the n-th can be made, and it passes a form that would become a value that is too high
+  pub record IsTallAt (n : ℕ) : Type 0 where
+    pub short : total_steps entries ≤ most_steps
+    pub place : IsPlace entries n
+    pub led : Replayed
+    pub replayed : replay program (take (n - 1) entries) ≡ Some led
+    pub entry : Entry
+    pub is_entry : take n entries ≡ take (n - 1) entries ++ entry ∷ []
+    pub meets : MeetsTall led entry
+
+  abbrev pub Judges : Judged → Type 0
+  Judges (judged.Valid output) = LeadsTo output.items
+  Judges (judged.Invalid n why) = IsInvalid n why
+  Judges (judged.Long n) = IsLong entries n
+  Judges (judged.Tall n) = IsTallAt n

@@ -1,0 +1,52 @@
+-- What the steps of a `Free` entry come to.
+use Rattle.std.specs.Prelude.{◌≡◌, ℕ, ◌+◌, ℤ, Bool, true, false, List, Option, Some, None, is_some, option_and_then}
+use Rattle.ame_term.specs.Tree.{Val}
+use Rattle.ame_term.specs.Frame.{Side}
+use Rattle.ame_term.specs.Maps.{at}
+use Rattle.ame_term.specs.State.{State, after}
+use Rattle.ame_term.specs.declared.semantics.Label.{Label}
+use Rattle.ame_machine.specs.Meaning.{Meaning}
+use Rattle.ame_machine.specs.Move.{settled_stage}
+use Rattle.ame_machine.specs.Run.AgreesWith.{IsAfterRun}
+use Rattle.ame_check.specs.Shows.{ShowsCells}
+use Rattle.ame_check.specs.Walk.{begun_on, steps_on, ComesToTall}
+use Rattle.ame_check.specs.Walked.{place_with}
+use Rattle.ame_check.specs.Reasons.{Meets}
+use Rattle.ame_check.specs.declared.reason.Reason.{Reason}
+use Rattle.ame_check.specs.declared.reason.Reason.TheVariants as reason
+use Rattle.ame_check.specs.declared.visit.Visited.{Visited}
+use Rattle.ame_check.specs.declared.visit.Visited.TheVariants as visited
+
+-- where n steps of a member under `unprotected` lead
+abbrev pub visiting : ℕ → ℕ → List ℕ → Option ℤ → State → Option State
+visiting i n fresh answer s = steps_on Side.Unprotected i n fresh answer (begun_on Side.Unprotected i s)
+
+-- where n steps lead behind which the member closes; it closes without an answer
+abbrev pub closing : ℕ → ℕ → List ℕ → Option ℤ → State → Option State
+closing i n fresh None s = option_and_then (λ t. after t (Label.Close i)) (visiting i n fresh None s)
+closing i n fresh (Some answer) s = None
+
+-- what a visit of some steps meets
+abbrev pub VisitMeets : State → ℕ → List ℕ → Option ℤ → ℕ → Reason → Type 0
+VisitMeets s i fresh answer total reason.Answered = is_some answer ≡ true
+VisitMeets s i fresh answer total why = Meets Side.Unprotected s i fresh total why
+
+module _ {C V M : Type 0} (meaning : Meaning C V M) (code : C) where
+  -- A machine of member i stands where its steps from a state led; once it settles, it is under `unprotected` or isn't.
+  pub record HasCome (s : State) (i : ℕ) (overlay : List (ℕ × V)) (m : M) (inside : Bool) (reached : Option State) : Type 0 where
+    pub machine : meaning.is_machine code m
+    pub sets : List (ℕ × Val)
+    pub laid : ShowsCells meaning code overlay sets
+    pub now : State
+    pub led : reached ≡ Some now
+    pub after_run : IsAfterRun s i (place_with sets (meaning.stage code m)) now
+    pub member : at now.members i ≡ Some (meaning.stage code m).term
+    pub settles : (settled_stage (meaning.stage code m)).inside ≡ inside
+
+  module _ (s : State) (i : ℕ) (fresh : List ℕ) (answer : Option ℤ) (overlay : List (ℕ × V)) (m : M) (n : ℕ) where
+    -- what n steps and a last one come to
+    abbrev pub VisitsTo : Visited → Type 0
+    VisitsTo visited.Stays = HasCome s i overlay m true (visiting i (n + 1) fresh answer s)
+    VisitsTo visited.Closes = (visiting i (n + 1) fresh answer s ≡ None) × HasCome s i overlay m false (closing i n fresh answer s)
+    VisitsTo (visited.Undefined why) = (visiting i (n + 1) fresh answer s ≡ None) × (closing i n fresh answer s ≡ None) × VisitMeets s i fresh answer (n + 1) why
+    VisitsTo visited.Tall = ComesToTall Side.Unprotected i (n + 1) fresh s

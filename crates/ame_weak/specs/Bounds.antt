@@ -1,0 +1,57 @@
+-- The bounds within which a step is made.
+use Rattle.std.specs.Prelude.{◌≡◌, ℕ, zero, suc, ◌+◌, min, Bool, false, ◌||◌, nat_lt, Option, Some, None, is_some, if◌then◌else◌, ⊤}
+use Rattle.ame_term.specs.Tree.{Tree, Trees, is_held}
+use Rattle.ame_term.specs.Context.{Focus, focus}
+use Rattle.ame_term.specs.Height.{max_height, height}
+use Rattle.ame_term.specs.Maps.{at}
+use Rattle.ame_term.specs.declared.semantics.Label.{Label}
+use Rattle.ame_journal.specs.Replayed.{value_height}
+use Rattle.ame_strong.specs.Pool.{pool, active_tree}
+use Rattle.ame_weak.specs.Weak.{Weak}
+
+-- the greatest number of frames in which a redex that is reduced stands
+abbrev pub max_frames : ℕ
+max_frames = 1000
+
+abbrev pub part_of : Tree → Option Tree
+part_of part = if is_held part then None else Some part
+
+-- the part of a form that is evaluated next, if it is no redex
+abbrev pub next_part : Tree → Option Tree
+next_part (Tree.Let x bound body) = part_of bound
+next_part (Tree.Do Trees.None) = None
+next_part (Tree.Do (Trees.More part rest)) = part_of part
+next_part (Tree.If test then_part else_part) = part_of test
+next_part (Tree.Unprotected part) = part_of part
+next_part (Tree.One op part) = part_of part
+next_part (Tree.Two op left right) = if is_held left then part_of right else Some left
+next_part _ = None
+
+-- whether the redex of a term stands in more than n frames
+unfoldable pub is_deeper : ℕ → Tree → Bool
+is_deeper zero t = is_some (next_part t)
+is_deeper (suc n) t = elim (next_part t) [ None ↦ false | Some part ↦ is_deeper n part ]
+
+-- the height of a term that is a value, up to the first that is too high
+abbrev pub capped_height : Tree → Option ℕ
+capped_height (Tree.Held v) = Some (min (height v) (max_height + 1))
+capped_height _ = None
+
+-- whether a redex would become a value that is too high
+abbrev pub is_tall_at : Focus → Bool
+is_tall_at (Focus.AtValue v) = false
+is_tall_at (Focus.AtRedex side redex) = nat_lt max_height (value_height redex)
+
+-- whether a term is out of the bounds
+abbrev pub is_beyond : Tree → Bool
+is_beyond term = is_deeper max_frames term || is_tall_at (focus term)
+
+abbrev pub IsWithin : Option Tree → Type 0
+IsWithin None = ⊤
+IsWithin (Some term) = is_beyond term ≡ false
+
+-- the term of which a label makes a step is within the bounds
+abbrev pub IsWithinBounds : Weak → Label → Type 0
+IsWithinBounds w (Label.Step kind) = IsWithin (active_tree w.state)
+IsWithinBounds w (Label.Free i kind) = IsWithin (at (pool w.state) i)
+IsWithinBounds w _ = ⊤

@@ -9,4 +9,4 @@ pub invariant_of-self : goal.invariant_of-self
 invariant_of-self g c =
     let shell = c.self.inside.shell in
     subst (λ core. IsCrew g.M.Runner.meaning core shell.sent (arc_value c.self.inside.code) c.self.inside.hands.items (vec_len shell.devices))
-    (sym c.stop.ensures) (crew-stopped g.M.Runner.meaning Stop.NoMemory shell.engine _ _ _ _ c.self.invariant)
+    (sym c.stop.ensures.stops) (crew-stopped g.M.Runner.meaning Stop.NoMemory shell.engine _ _ _ _ c.self.invariant)

@@ -7,9 +7,9 @@ use Rattle.std.proofs.Math.Seq.{take-add}
 use Rattle.std.proofs.lemmas.List.{map-append, take-append-drop}
 use Rattle.ame_io.specs.Writes.{AppendsFront}
 use Rattle.ame_io.proofs.WritesLemmas.{AppendsFront-after, AppendsFront-longer}
-use Rattle.std.proofs.lemmas.List.Elements.{All-weaker}
+use Rattle.std.proofs.lemmas.List.Elements.{All-map, All-take, All-weaker}
 use Rattle.ame_chooser.specs.Questions.{Picked, questions, seats_of}
-use Rattle.ame_chooser.specs.Schedule.{sign, signs}
+use Rattle.ame_chooser.specs.Schedule.{AreSeats, sign, signs}
 use Rattle.ame_chooser.specs.Strategy.{Answers}
 use Rattle.ame_machine.specs.Meaning.{Meaning}
 use Rattle.ame_journal.specs.declared.entry.Entry.{Entry}
@@ -20,7 +20,7 @@ use Rattle.ame_sim.specs.declared.made.Made.{Made}
 use Rattle.ame_sim.specs.Picks.{picked_by, picks_of}
 use Rattle.ame_sim.specs.Run.{AreTold, IsPlayed}
 use Rattle.ame_app.specs.declared.parts.Own.{Own}
-use Rattle.ame_app.specs.Verbs.Sim.{IsPicked, CanBeScheduled}
+use Rattle.ame_app.specs.Verbs.Sim.{IsPicked}
 
 -- the signs of picks, one after the other
 abbrev pub signs_made : List Made → List ℕ
@@ -62,11 +62,16 @@ module _ (mades : List Made) (gone next : ℕ) (more : gone ≤ next) (a b c : O
       (AppendsFront-after a b c _ _ before (AppendsFront-longer b c _ (signs_made rest) now))
 
 -- seats of a run have signs
-pub picked-low : (strategy : List (List ℕ) → List ℕ) (seats : ℕ) (own : Own) (end : End Val) → seats ≤ 32 → IsPicked strategy seats own end
-    → CanBeScheduled own
-picked-low strategy seats own end most picked =
-    subst CanBeScheduled (sym picked.own_is)
-    (All-weaker (λ (made : Made). made.seat < seats) (λ (made : Made). made.seat < 32) (λ made low. omega (arith, low, most)) picked.mades picked.told.within)
+pub mades-low : (seats turns : ℕ) (mades : List Made) (entries : List Entry) → seats ≤ 32 → AreTold seats turns mades entries
+    → All (λ (made : Made). made.seat < 32) mades
+mades-low seats turns mades entries most told =
+    All-weaker (λ (made : Made). made.seat < seats) (λ (made : Made). made.seat < 32) (λ made low. omega (arith, low, most)) mades told.within
+
+pub seats-low : (mades : List Made) (n : ℕ) → All (λ (made : Made). made.seat < 32) mades → AreSeats (seats_of (picks_of (take n mades)))
+seats-low mades n low =
+    All-map (λ (seat : ℕ). seat < 32) (λ (pick : Picked). pick.seat) (picks_of (take n mades))
+    (All-map (λ (pick : Picked). pick.seat < 32) picked_by (take n mades)
+    (All-take (λ (made : Made). made.seat < 32) n mades low))
 
 module _ {C M : Type 0} (meaning : Meaning C Val M) where
   -- the picks of a run that was played are those of the strategy that answered

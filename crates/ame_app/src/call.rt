@@ -9,7 +9,6 @@ ghost use Rattle.ame_app.specs.Answered.{IsAnswered};
 ghost use Rattle.ame_app.specs.Calls.{Call, what_is_given, call_of};
 ghost use Rattle.ame_app.specs.Headline.{reported, Headline, IsToldAlone, IsTurnedAway};
 ghost use Rattle.ame_app.specs.Jobs.{IsJobOf, IsMade};
-ghost use Rattle.ame_app.specs.Verbs.Sim.{CanBeScheduled};
 
 use crate::asked::{Asked, asked_of};
 use crate::code::code_of;
@@ -134,7 +133,6 @@ where
 
 /// Tells how a run ended.
 fn conclude<K: Sink + Drop, D: Device>(job: Job, text: Vec<u8>, made: Made<K, D>) -> Report<K, D>
-    requires { CanBeScheduled made.own }
     ensures ended { IsSome result.ended }
     ensures text { result.text ≡ text }
     ensures ran { IfSome result.ended (λ end. (call : Call) (before : Ends) → IsJobOf call text.items (arc_value job.code) job.command job.front

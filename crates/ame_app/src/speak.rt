@@ -3,7 +3,6 @@
 ghost use Rattle.std.specs.Prelude.{◌++◌};
 ghost use Rattle.ame_app.specs.Jobs.{Speaks};
 ghost use Rattle.ame_app.specs.Verbs.{behind};
-ghost use Rattle.ame_app.specs.Verbs.Sim.{CanBeScheduled};
 ghost use Rattle.ame_app.specs.Verdict.{verdict};
 
 use crate::parts::Own;
@@ -24,7 +23,6 @@ pub(crate) fn speak<K: Sink>(sink: &mut K, told: Status) -> Status
 
 /// The same with what a command writes behind the verdict line of a run.
 pub(crate) fn speak_of<K: Sink>(sink: &mut K, told: Status, command: &Command, own: &Own) -> Status
-    requires { CanBeScheduled own.now }
     ensures { Speaks told (verdict told ++ behind command.now own.now told) result
         (K.written sink.old) (K.faults sink.old) (K.written sink.new) (K.faults sink.new) }
 {

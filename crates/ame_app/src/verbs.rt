@@ -13,7 +13,6 @@ ghost use Rattle.ame_io.specs.Counts.{HasRisen};
 ghost use Rattle.ame_io.specs.Writes.{AppendsFront};
 ghost use Rattle.ame_shell.specs.Ends.{ends_of};
 ghost use Rattle.ame_app.specs.Jobs.{IsMade, IsUntaken};
-ghost use Rattle.ame_app.specs.Verbs.Sim.{CanBeScheduled};
 ghost use Rattle.ame_app.specs.Verbs as spec;
 
 use crate::parts::{Front, Own};
@@ -96,7 +95,6 @@ where
     ensures made { IfOk result (λ made. IsMade job.now.command job.now.front (arc_value job.now.code)
         (ends_of K.written K.faults D.device_heard D.device_faults sink devices.items) made.own made.left.ended
         (ends_of K.written K.faults D.device_heard D.device_faults made.left.sink made.left.devices.items)) }
-    ensures seats { IfOk result (λ made. CanBeScheduled made.own) }
     ensures sink { IfErr result (λ back. back.0 ≡ sink) }
     ensures devices { IfErr result (λ back. back.1 ≡ devices) }
 {
@@ -121,7 +119,6 @@ pub(crate) fn write_behind<K: Sink>(
     own: &Own,
     told: &Status,
 ) -> Result<(), WriteFault>
-    requires seats { CanBeScheduled own.now }
     ensures whole { OnOk result (Appends (K.written sink.old) (K.written sink.new) (spec.behind command.now own.now told.now)) }
     ensures stayed { OnOk result (K.faults sink.new ≡ K.faults sink.old) }
     ensures front { OnErr result (AppendsFront (K.written sink.old) (K.written sink.new) (spec.behind command.now own.now told.now)) }

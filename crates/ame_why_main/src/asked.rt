@@ -11,6 +11,8 @@ pub enum View {
     Journal,
     /// The journal as a table.
     Trace,
+    /// The schedule of a run on one thread, and the program.
+    Schedule,
 }
 
 /// Takes the word for a view, where it comes first.
@@ -23,6 +25,10 @@ pub fn view_of(words: &mut Vec<String>) -> View {
         Some(word) if word.as_str() == "--trace" => {
             let _ = words.remove(0);
             View::Trace
+        }
+        Some(word) if word.as_str() == "--schedule" => {
+            let _ = words.remove(0);
+            View::Schedule
         }
         _ => View::Why,
     }

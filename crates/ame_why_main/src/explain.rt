@@ -27,9 +27,11 @@ fn remark(status: &Status) -> &'static [u8] {
             b"each fragment that is left waits for a condition that nobody will make true\n",
         Status::Spent => b"all turns were made, and fragments are left; `--turns` allows more\n",
         Status::Usage =>
-            b"the words are those of `ame`: `run` or `bench SEED SIZE`, and options; see docs/ame.1\n",
+            b"the words are those of `ame`: `run`, `bench SEED SIZE`, `sim SEED` or `replay`, and options; see docs/ame.1\n",
         Status::ReadFault => b"the text can't be read\n",
         Status::TooLong => b"a text has at most 1048576 bytes\n",
+        Status::BadSchedule =>
+            b"the input begins with `schedule `, a sign for each pick, 0 to 9 and a to v, and the line `program`\n",
         Status::Tall(_) => b"the fragment came to a value that would be more than 1000 high\n",
         _ => b"",
     }

@@ -5,7 +5,7 @@ ghost use Rattle.ame_lex.specs.Bytes.{max_text};
 
 use crate::asked::View;
 use crate::explain::explain;
-use ame_app::{Report, StandardDevice, Status, run_process};
+use ame_app::{Own, Report, StandardDevice, Status, run_process};
 use ame_code::Code;
 use ame_engine::Ended;
 use ame_io::{Source, StdSink, write_all};
@@ -23,6 +23,9 @@ use std::thread::Threads;
 /// time by the depth of terms, which grows with the steps.
 const REPLAYED_STEPS: u64 = 10_000;
 
+/// What is said of a run that has no schedule.
+const NO_SCHEDULE: &[u8] = b"this run has no schedule; those of `sim` and `replay` have one\n";
+
 /// Runs what the words ask for, and writes what is asked for of it. The answer is the status of the process.
 pub fn show<R, S, W>(rt: &R, words: Vec<String>, source: &mut S, view: View, writer: W) -> u8
 where
@@ -32,7 +35,9 @@ where
 {
     match view {
         View::Why => show_run(rt, words, source, writer),
-        View::Journal | View::Trace => show_ended(rt, words, source, view, writer),
+        View::Journal | View::Trace | View::Schedule => {
+            show_ended(rt, words, source, view, writer)
+        }
     }
 }
 
@@ -89,7 +94,16 @@ fn page_of<K>(
 {
     match view {
         View::Trace => trace_text(alloc, report, ended),
+        View::Schedule => schedule_text(alloc, &report.own, &report.text),
         View::Why | View::Journal => journal_text(alloc, ended.journal(), &report.text),
+    }
+}
+
+/// The schedule of a run, the line `program` and the text; where the run has none, why.
+fn schedule_text(alloc: Global, own: &Own, text: &[u8]) -> Result<Vec<u8>, NoMemory> {
+    match own {
+        Own::Picked(mades) => mades.schedule_text(alloc, text),
+        Own::Nothing => Ok(Vec::from_slice(alloc, NO_SCHEDULE)?),
     }
 }
 

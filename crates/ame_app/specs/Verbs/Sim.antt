@@ -1,5 +1,5 @@
 -- `sim`: a source that is the text of a program, run on one thread under the choices of a seed.
-use Rattle.std.specs.Prelude.{◌≡◌, ℕ, ◌<◌, List, [], All}
+use Rattle.std.specs.Prelude.{◌≡◌, ℕ, List, []}
 use Rattle.ame_value.specs.declared.val.Val.{Val}
 use Rattle.ame_engine.specs.Ending.{End}
 use Rattle.ame_chooser.specs.Strategy.{Answers}
@@ -25,12 +25,9 @@ abbrev pub mades_in : Own → List Made
 mades_in (Own.Picked mades) = mades
 mades_in Own.Nothing = []
 
--- the seats that were picked, and that each has a sign
+-- the seats that were picked
 abbrev pub seats_picked : Own → List ℕ
 seats_picked own = seats_of (picks_of (mades_in own))
-
-abbrev pub CanBeScheduled : Own → Type 0
-CanBeScheduled own = All (λ made. made.seat < 32) (mades_in own)
 
 -- the schedule of a run stands behind its verdict line, but for want of memory and a fault of the sink
 abbrev pub schedule_behind : Own → Status → List ℕ

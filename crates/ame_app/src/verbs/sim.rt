@@ -14,7 +14,7 @@ ghost use Rattle.ame_chooser.specs.Questions.{seats_of};
 ghost use Rattle.ame_chooser.specs.Schedule.{schedule_line, signs};
 ghost use Rattle.ame_sim.specs.Picks.{picks_of};
 ghost use Rattle.ame_app.specs.Headline.{limits_of};
-ghost use Rattle.ame_app.specs.Verbs.Sim.{IsPicked, mades_in, seats_picked, schedule_behind, CanBeScheduled};
+ghost use Rattle.ame_app.specs.Verbs.Sim.{IsPicked, mades_in, seats_picked, schedule_behind};
 ghost use Rattle.ame_app.specs.declared.parts.Own.{Own as Owned};
 
 use crate::lists::Mades;
@@ -55,7 +55,6 @@ where
         (ends_of K.written K.faults D.device_heard D.device_faults sink devices.items) made.left.ended
         (ends_of K.written K.faults D.device_heard D.device_faults made.left.sink made.left.devices.items)) }
     ensures own { IfOk result (λ made. IsPicked (H.strategy chooser.old) options.workers made.own made.left.ended) }
-    ensures seats { IfOk result (λ made. CanBeScheduled made.own) }
     ensures sink { IfErr result (λ back. back.0 ≡ sink) }
     ensures devices { IfErr result (λ back. back.1 ≡ devices) }
 {
@@ -86,7 +85,8 @@ fn has_schedule(told: &Status) -> bool
 
 /// What picks did, where the report has it.
 fn mades_of(own: &Own) -> &[Done]
-    ensures { result.now ≡ mades_in own.now }
+    ensures value { result.now ≡ mades_in own.now }
+    ensures low { All (λ made. made.seat < 32) result.now }
 {
     match own {
         Own::Picked(mades) => mades.as_slice(),
@@ -100,7 +100,6 @@ pub(crate) fn write_behind<K: Sink>(
     own: &Own,
     told: &Status,
 ) -> Result<(), WriteFault>
-    requires seats { CanBeScheduled own.now }
     ensures whole { OnOk result (Appends (K.written sink.old) (K.written sink.new) (schedule_behind own.now told.now)) }
     ensures stayed { OnOk result (K.faults sink.new ≡ K.faults sink.old) }
     ensures front { OnErr result (AppendsFront (K.written sink.old) (K.written sink.new) (schedule_behind own.now told.now)) }

@@ -6,7 +6,7 @@ use Rattle.ame_shell.specs.Ends.{ends_of}
 use Rattle.ame_shell.specs.Over.{IsOver}
 use Rattle.ame_app.specs.Headline.{limits_of}
 use Rattle.ame_app.specs.declared.parts.Own.{Own}
-use Rattle.ame_app.proofs.PickLemmas.{played-picked, picked-low}
+use Rattle.ame_app.proofs.PickLemmas.{played-picked, mades-low}
 use Rattle.ame_app.proofs.verbs.sim.run.Goals as goal
 
 pub returns-in-Ok-run_by_chooser-clause-over : goal.returns-in-Ok-run_by_chooser-clause-over
@@ -22,8 +22,7 @@ returns-in-Ok-run_by_chooser-clause-own g c =
     played-picked _ _ (g.H.Chooser.strategy c.args.chooser.now) (g.H.Chooser.strategy c.run_by_chooser.new.chooser) _ _ _
     (ap Own.Picked c.from_vec.ensures) c.in-Ok-run_by_chooser.ensures.played c.in-Ok-run_by_chooser.ensures.answers
 
-pub returns-in-Ok-run_by_chooser-clause-seats : goal.returns-in-Ok-run_by_chooser-clause-seats
-returns-in-Ok-run_by_chooser-clause-seats g c =
-    picked-low (g.H.Chooser.strategy c.args.chooser.now) c.args.options.workers _ c.in-Ok-run_by_chooser.played.left.ended c.requires.ranges.workers.1
-    (played-picked _ _ (g.H.Chooser.strategy c.args.chooser.now) (g.H.Chooser.strategy c.run_by_chooser.new.chooser) _ _ _
-    (ap Own.Picked c.from_vec.ensures) c.in-Ok-run_by_chooser.ensures.played c.in-Ok-run_by_chooser.ensures.answers)
+pub from_vec-requires : goal.from_vec-requires
+from_vec-requires g c =
+    let played = c.in-Ok-run_by_chooser.ensures.played in
+    mades-low c.args.options.workers played.now.core.turns _ played.now.core.entries c.requires.ranges.workers.1 played.playing.told

@@ -1,0 +1,9 @@
+use Rattle.std.proofs.Common.{sym, ◌∙◌, subst}
+use Rattle.ame_chooser.specs.Schedule.{AreSeats}
+use Rattle.ame_app.proofs.PickLemmas.{seats-low}
+use Rattle.ame_app.proofs.lists.Mades.schedule_text.Goals as goal
+
+pub schedule_text-requires : goal.schedule_text-requires
+schedule_text-requires c =
+    subst AreSeats (sym (c.deref.ensures.value ∙ c.loop-made.invariant))
+    (seats-low c.as_slice-made-items.result.now c.loop-made.made-index c.as_slice-made-items.ensures.low)

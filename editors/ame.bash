@@ -24,7 +24,7 @@ _ame_offer_files() {
   mapfile -t COMPREPLY < <(compgen -d -X "$hidden" -- "$cur"; compgen -f -X '!*.ame' -- "$cur"; compgen -W "$*" -- "$cur")
 }
 
-# What may follow a command word: options that aren't given yet, and the numbers of `bench`.
+# What may follow a command word: options that aren't given yet, and the numbers of `bench` and `sim`.
 _ame_offer_parts() {
   local option given offered=() numbers=0
   for given in "${words[@]:1}"; do
@@ -34,6 +34,7 @@ _ame_offer_parts() {
     ((numbers == 0)) && offered+=($(_ame_numbers seed))
     ((numbers == 1)) && offered+=($(_ame_numbers size))
   fi
+  [[ ${words[0]-} == sim && $cur != -* && $numbers == 0 ]] && offered+=($(_ame_numbers seed))
   for option in --workers --turns --slice; do
     [[ " ${words[*]} " == *" $option"[\ =]* ]] || offered+=("$option")
   done
@@ -69,19 +70,19 @@ _ame() {
     return
   fi
   if [[ $program == why ]]; then
-    local views='--journal --trace'
-    if [[ ${words[0]-} == --journal || ${words[0]-} == --trace ]]; then
+    local views='--journal --trace --schedule'
+    if [[ ${words[0]-} == --journal || ${words[0]-} == --trace || ${words[0]-} == --schedule ]]; then
       views= words=("${words[@]:1}")
     fi
     case ${words[0]-} in
-    '') _ame_offer_files run bench $views; return ;;
-    run | bench) ;;
+    '') _ame_offer_files run bench sim replay $views; return ;;
+    run | bench | sim | replay) ;;
     *) words=("${words[@]:1}") ;;
     esac
   fi
   case ${words[0]-} in
-  '') _ame_offer run bench ;;
-  run | bench) _ame_offer_parts ;;
+  '') _ame_offer run bench sim replay ;;
+  run | bench | sim | replay) _ame_offer_parts ;;
   esac
 }
 

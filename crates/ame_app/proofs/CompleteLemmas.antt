@@ -28,13 +28,13 @@ use Rattle.ame_shell.specs.Heard.{HaveFailed}
 use Rattle.ame_app.specs.declared.fault.TextFault.{TextFault}
 use Rattle.ame_app.specs.declared.parts.Front.{Front}
 use Rattle.ame_app.specs.declared.status.Status.{Status}
-use Rattle.ame_app.specs.Verbs.{reads_source, Takes, Declines, behind}
+use Rattle.ame_app.specs.Verbs.{reads_source, TakesInput, Declines, written_behind}
 use Rattle.ame_app.specs.Calls.{Call, Given, Asks}
 use Rattle.ame_app.specs.Texts.{why_of, IsNoProgram, IsIllTyped}
 use Rattle.ame_app.specs.Causes.{RefusalCause, RunCause, status_at, status_of}
 use Rattle.ame_app.specs.Causes.RefusalCause.{by_words, by_source, by_length, by_input, by_text, by_types, by_memory}
 use Rattle.ame_app.specs.Headline.{Reported, Headline, IsTurnedAway, IsWritten, verdict_of}
-use Rattle.ame_app.specs.Complete.{IsGiven, IsGivenText, IsGivenInVain, IsUnread, IsRefused, IsAcceptedText, NothingFailed, IsUnlessMemory, TellsFault, TellsRule, TellsEnd, TellsText, TellsInput, IsComplete}
+use Rattle.ame_app.specs.Complete.{IsGivenBytes, IsGivenText, IsGivenInVain, IsUnread, IsRefused, IsAcceptedText, NothingFailed, IsUnlessMemory, TellsFault, TellsRule, TellsEnd, TellsText, TellsInput, IsComplete}
 use Rattle.ame_app.specs.Answered.{IsAnswered}
 use Rattle.ame_app.specs.Verdict.{verdict}
 use Rattle.ame_app.proofs.VerbLemmas.{takes-one, takes-none, declines-one}
@@ -72,11 +72,11 @@ device-told stop certificates before after k none rises = absurd (let stayed = n
 data Due (command : Command) (bytes : List ℕ) (devices : ℕ) (status : Status) : Type 0 where
   is_long : status ≡ Status.TooLong → whole_limit < length bytes → Due command bytes devices status
   is_declined : Declines command bytes status → length bytes ≤ whole_limit → Due command bytes devices status
-  is_unread : (front : Front) (text : Text) (fault : TextFault) → status ≡ Status.Text fault → Takes command bytes front text → IsNoProgram text fault
+  is_unread : (front : Front) (text : Text) (fault : TextFault) → status ≡ Status.Text fault → TakesInput command bytes front text → IsNoProgram text fault
       → length bytes ≤ whole_limit → Due command bytes devices status
-  is_refused : (front : Front) (text : Text) (fault : TypeFault) → status ≡ Status.Types fault → Takes command bytes front text
+  is_refused : (front : Front) (text : Text) (fault : TypeFault) → status ≡ Status.Types fault → TakesInput command bytes front text
       → IsIllTyped text devices fault → length bytes ≤ whole_limit → Due command bytes devices status
-  is_run : (front : Front) (text : Text) → TellsEnd status → Takes command bytes front text → IsAcceptedText text devices
+  is_run : (front : Front) (text : Text) → TellsEnd status → TakesInput command bytes front text → IsAcceptedText text devices
       → length bytes ≤ whole_limit → Due command bytes devices status
   lacks : status ≡ Status.NoMemory → Due command bytes devices status
 
@@ -114,8 +114,8 @@ module _ (command : Command) (bytes : List ℕ) (devices : ℕ) (status : Status
   due-declined short told d (is_run f t run takes accepted most) = absurd (takes-none command bytes f t told takes d)
   due-declined short told d (lacks e) = inr e
 
-  module _ (short : length bytes ≤ whole_limit) (front : Front) (text : Text) (takes : Takes command bytes front text) where
-    same : (other : Front) (also : Text) → Takes command bytes other also → also ≡ text
+  module _ (short : length bytes ≤ whole_limit) (front : Front) (text : Text) (takes : TakesInput command bytes front text) where
+    same : (other : Front) (also : Text) → TakesInput command bytes other also → also ≡ text
     same other also again = takes-one command bytes other front also text again takes
 
     due-unread : IsUnread text → Due command bytes devices status → TellsFault text status
@@ -211,7 +211,7 @@ module _ (call : Call) (before after : Ends) (n : NothingFailed call before afte
   run-told Status.WriteFault options end r c = absurd (HasNotRisen-excludes before.write_faults after.write_faults n.sink c)
   run-told told options end r c = absurd c
 
-module _ (one : SpellOne) (call : Call) (before after : Ends) (n : NothingFailed call before after) (bytes : List ℕ) (given : IsGiven call bytes) where
+module _ (one : SpellOne) (call : Call) (before after : Ends) (n : NothingFailed call before after) (bytes : List ℕ) (given : IsGivenBytes call bytes) where
   due-refusal : (report : Text) (ahead : List ℕ) (told : Status) → RefusalCause call report ahead told → Due given.command bytes call.devices told
   due-refusal report ahead told (by_words u) = absurd (u.words given.command given.spelled)
   due-refusal report ahead told (by_source r) = absurd (HasNotRisen-excludes call.source.faults call.source_after.faults n.source r.faults)
@@ -230,7 +230,7 @@ module _ (one : SpellOne) (call : Call) (before after : Ends) (n : NothingFailed
 
   due-run : (report : Reported) (end : End Val) → Headline call report end before after → Due given.command bytes call.devices report.status
   due-run report end h =
-      let spoken = h.spoken (sink-held report.status (lines h.final.state.output ++ (verdict_of end ++ behind h.command report.own (status_of end))) before after h.output n.sink) in
+      let spoken = h.spoken (sink-held report.status (lines h.final.state.output ++ (verdict_of end ++ written_behind h.command report.own (status_of end))) before after h.output n.sink) in
       let run = run-told call before after n (status_of end) h.options end h.final h.cause in
       is_run h.front h.text (subst TellsEnd (sym spoken) run) (asked-takes one call bytes given h.command h.front h.text h.asked)
       (record { source = source_of h.compiled.accepted.program; reads = h.program.reads; typed = h.program.typed })
@@ -240,8 +240,8 @@ module _ (one : SpellOne) (call : Call) (before after : Ends) (n : NothingFailed
 
 -- what is due is told
 module _ (one : SpellOne) (call : Call) (status : Status) (before after : Ends)
-    (due : (n : NothingFailed call before after) (bytes : List ℕ) (given : IsGiven call bytes) → Due given.command bytes call.devices status) where
-  told-long : NothingFailed call before after → (bytes : List ℕ) → IsGiven call bytes → whole_limit < length bytes → IsUnlessMemory Status.TooLong status
+    (due : (n : NothingFailed call before after) (bytes : List ℕ) (given : IsGivenBytes call bytes) → Due given.command bytes call.devices status) where
+  told-long : NothingFailed call before after → (bytes : List ℕ) → IsGivenBytes call bytes → whole_limit < length bytes → IsUnlessMemory Status.TooLong status
   told-long n bytes given over = due-long given.command bytes call.devices status over (due n bytes given)
 
   told-declined : NothingFailed call before after → (told : Status) → IsGivenInVain call told → IsUnlessMemory told status
@@ -259,9 +259,9 @@ module _ (one : SpellOne) (call : Call) (status : Status) (before after : Ends)
 module _ (one : SpellOne) (call : Call) (report : Reported) (before after : Ends) where
   complete-run : (end : End Val) → Headline call report end before after → IsComplete call report.status before after
   complete-run end h =
-      let written = lines h.final.state.output ++ (verdict_of end ++ behind h.command report.own (status_of end)) in
+      let written = lines h.final.state.output ++ (verdict_of end ++ written_behind h.command report.own (status_of end)) in
       let held = sink-held report.status written before after h.output in
-      let due : (n : NothingFailed call before after) (bytes : List ℕ) (given : IsGiven call bytes) → Due given.command bytes call.devices report.status =
+      let due : (n : NothingFailed call before after) (bytes : List ℕ) (given : IsGivenBytes call bytes) → Due given.command bytes call.devices report.status =
       λ n bytes given. due-run one call before after n bytes given report end h in
       record {
         usage = λ n nothing. absurd (nothing h.command h.asked.spelled);
@@ -280,7 +280,7 @@ module _ (one : SpellOne) (call : Call) (report : Reported) (before after : Ends
   complete-turned : IsTurnedAway call report before after → IsComplete call report.status before after
   complete-turned t =
       let held = sink-held report.status (t.ahead ++ verdict t.told) before after t.alone.output in
-      let due : (n : NothingFailed call before after) (bytes : List ℕ) (given : IsGiven call bytes) → Due given.command bytes call.devices report.status =
+      let due : (n : NothingFailed call before after) (bytes : List ℕ) (given : IsGivenBytes call bytes) → Due given.command bytes call.devices report.status =
       λ n bytes given. subst (Due given.command bytes call.devices) (sym (t.alone.spoken (held n.sink)))
       (due-refusal one call before after n bytes given report.text t.ahead t.told t.cause) in
       record {

@@ -7,10 +7,10 @@ use Rattle.ame_lex.specs.Bytes.{Text}
 use Rattle.ame_cli.specs.declared.command.Command.{Command}
 use Rattle.ame_cli.specs.Grammar.{SpellsCommand}
 use Rattle.ame_app.specs.declared.parts.Front.{Front}
-use Rattle.ame_app.specs.Verbs.{reads_source, Takes}
+use Rattle.ame_app.specs.Verbs.{reads_source, TakesInput}
 use Rattle.ame_app.specs.Calls.{Given, Call, IsInput, Asks}
 use Rattle.ame_app.specs.Causes.{IsReader}
-use Rattle.ame_app.specs.Complete.{IsGivenBy, IsGiven}
+use Rattle.ame_app.specs.Complete.{AreBytesOf, IsGivenBytes}
 use Rattle.ame_app.proofs.TurnedLemmas.{SpellOne}
 
 some-same : (xs text : List ℕ) → Some xs ≡ Some text → xs ≡ text
@@ -31,25 +31,25 @@ taken-within (Some xs) (Some ys) bytes text taken e =
     let all : length bytes + length ys ≡ length text = sym (length-append bytes ys) ∙ ap length (sym taken ∙ some-same xs text e) in
     omega (arith, all)
 
-input-is : (reads : Bool) (source after : Given) (bytes given : List ℕ) → IsInput reads source after bytes → IsGivenBy reads source given → bytes ≡ given
+input-is : (reads : Bool) (source after : Given) (bytes given : List ℕ) → IsInput reads source after bytes → AreBytesOf reads source given → bytes ≡ given
 input-is true source after bytes given input is = whole-is source.left after.left bytes given input.whole is
 input-is false source after bytes given input is = input.0 ∙ sym is
 
 more-is : (reads : Bool) (source after : Given) (limit : ℕ) (given : List ℕ) → reads ≡ true → GivesMoreThan limit source.left after.left
-    → IsGivenBy reads source given → limit < length given
+    → AreBytesOf reads source given → limit < length given
 more-is true source after limit given e more is =
     let over = more.more in
     let within = taken-within source.left after.left more.bytes given more.taken is in
     omega (arith, over, within)
 more-is false source after limit given e more is = absurd (cc)
 
-module _ (one : SpellOne) (call : Call) (given : List ℕ) (is : IsGiven call given) where
+module _ (one : SpellOne) (call : Call) (given : List ℕ) (is : IsGivenBytes call given) where
   -- words that spell a command spell that one
   pub command-is : (command : Command) → SpellsCommand call.words command → command ≡ is.command
   command-is command spelled = one call.words command is.command spelled is.spelled
 
-  given-as : (command : Command) → SpellsCommand call.words command → IsGivenBy (reads_source command) call.source given
-  given-as command spelled = subst (λ (k : Command). IsGivenBy (reads_source k) call.source given) (sym (command-is command spelled)) is.given
+  given-as : (command : Command) → SpellsCommand call.words command → AreBytesOf (reads_source command) call.source given
+  given-as command spelled = subst (λ (k : Command). AreBytesOf (reads_source k) call.source given) (sym (command-is command spelled)) is.given
 
   -- what is taken as input is what is given
   pub input-given : (command : Command) → SpellsCommand call.words command → (bytes : List ℕ)
@@ -58,10 +58,10 @@ module _ (one : SpellOne) (call : Call) (given : List ℕ) (is : IsGiven call gi
       input-is (reads_source command) call.source call.source_after bytes given input (given-as command spelled)
 
   -- and a command that asks takes that
-  pub asked-takes : (command : Command) (front : Front) (text : Text) → Asks call command front text → Takes is.command given front text
+  pub asked-takes : (command : Command) (front : Front) (text : Text) → Asks call command front text → TakesInput is.command given front text
   asked-takes command front text asked =
-      subst (λ (k : Command). Takes k given front text) (command-is command asked.spelled)
-      (subst (λ (l : List ℕ). Takes command l front text) (input-given command asked.spelled asked.text_is.bytes asked.text_is.input) asked.text_is.takes)
+      subst (λ (k : Command). TakesInput k given front text) (command-is command asked.spelled)
+      (subst (λ (l : List ℕ). TakesInput command l front text) (input-given command asked.spelled asked.text_is.bytes asked.text_is.input) asked.text_is.takes)
 
   pub asked-most : (command : Command) (front : Front) (text : Text) (limit : ℕ) → (asked : Asks call command front text)
       → length asked.text_is.bytes ≤ limit → length given ≤ limit

@@ -10,7 +10,7 @@ use Rattle.ame_io.proofs.WritesLemmas.{AppendsFront-after, AppendsFront-longer}
 use Rattle.std.proofs.lemmas.List.Elements.{All-map, All-take, All-weaker}
 use Rattle.ame_chooser.specs.Questions.{Picked, questions, seats_of}
 use Rattle.ame_chooser.specs.Schedule.{AreSeats, sign, signs}
-use Rattle.ame_chooser.specs.Strategy.{Answers}
+use Rattle.ame_chooser.specs.Strategy.{PicksSeats}
 use Rattle.ame_machine.specs.Meaning.{Meaning}
 use Rattle.ame_journal.specs.declared.entry.Entry.{Entry}
 use Rattle.ame_value.specs.declared.val.Val.{Val}
@@ -77,7 +77,7 @@ module _ {C M : Type 0} (meaning : Meaning C Val M) where
   -- the picks of a run that was played are those of the strategy that answered
   pub played-picked : (opening : Opening C) (strategy later : List (List ℕ) → List ℕ) (mades : List Made) (own : Own) (end : End Val)
       → own ≡ Own.Picked mades → IsPlayed meaning opening mades end
-      → Answers strategy (questions opening.limits.seats (picks_of mades)) (seats_of (picks_of mades)) later
+      → PicksSeats strategy (questions opening.limits.seats (picks_of mades)) (seats_of (picks_of mades)) later
       → IsPicked strategy opening.limits.seats own end
   played-picked opening strategy later mades own end is played answers = record {
     mades = mades;

@@ -31,8 +31,8 @@ use Rattle.ame_app.specs.declared.status.Status.{Status}
 use Rattle.ame_app.specs.Calls.{Call}
 use Rattle.ame_app.specs.Causes.{status_at, status_of, RunCause}
 use Rattle.ame_app.specs.Headline.{limits_of, reported, Headline, IsTypedState, journal_of, verdict_of, IsWritten}
-use Rattle.ame_app.specs.Jobs.{IsJobOf, IsMade, Speaks}
-use Rattle.ame_app.specs.Verbs.{behind}
+use Rattle.ame_app.specs.Jobs.{IsJobOf, IsRunMade, Speaks}
+use Rattle.ame_app.specs.Verbs.{written_behind}
 use Rattle.ame_app.specs.Verdict.{verdict}
 use Rattle.ame_app.proofs.VerbLemmas.{nothing-behind}
 use Rattle.ame_app.proofs.WrittenLemmas.{after-lines, tells-fault, spoken-is}
@@ -86,15 +86,15 @@ module _ (limits : Limits) (options : Options) (r : Replayed) (end : End Val) (b
 -- The headline
 
 module _ (call : Call) (status : Status) (text : Text) (code : FlatCode) (command : Command) (front : Front) (own : Own) (end : End Val) (before mid after : Ends)
-    (job : IsJobOf call text code command front) (made : IsMade command front code before own end mid)
-    (speaks : Speaks (status_of end) (verdict_of end ++ behind command own (status_of end)) status mid.written mid.write_faults after.written after.write_faults)
+    (job : IsJobOf call text code command front) (made : IsRunMade command front code before own end mid)
+    (speaks : Speaks (status_of end) (verdict_of end ++ written_behind command own (status_of end)) status mid.written mid.write_faults after.written after.write_faults)
     (kept : after.told ≡ mid.told) where
-  nothing-more : (told : Status) → told ≡ Status.WriteFault → verdict told ++ behind command own told ≡ []
-  nothing-more told e = ap (λ (t : Status). verdict t ++ behind command own t) e ∙ nothing-behind command own
+  nothing-more : (told : Status) → told ≡ Status.WriteFault → verdict told ++ written_behind command own told ≡ []
+  nothing-more told e = ap (λ (t : Status). verdict t ++ written_behind command own t) e ∙ nothing-behind command own
 
-  text-written : IsWritten status (lines made.over.ends.r.state.output ++ (verdict_of end ++ behind command own (status_of end))) before after
+  text-written : IsWritten status (lines made.over.ends.r.state.output ++ (verdict_of end ++ written_behind command own (status_of end))) before after
   text-written =
-      after-lines end.stop end.certificates before mid after status (lines made.over.ends.r.state.output) (verdict_of end ++ behind command own (status_of end))
+      after-lines end.stop end.certificates before mid after status (lines made.over.ends.r.state.output) (verdict_of end ++ written_behind command own (status_of end))
       (nothing-more (status_of end)) speaks made.over.sent
 
   is-reached : IsReached call.devices made.over.ends.r.state
@@ -112,8 +112,8 @@ module _ (call : Call) (status : Status) (text : Text) (code : FlatCode) (comman
     stopped = made.over.ends.stopped;
     failed = have-failed;
     written = λ e. (text-written.front e).1;
-    told = λ e. tells-fault (verdict_of end ++ behind command own (status_of end)) status mid.written mid.write_faults after.written after.write_faults
-        (subst (λ (t : Status). Speaks t (verdict_of end ++ behind command own (status_of end)) status mid.written mid.write_faults after.written after.write_faults)
+    told = λ e. tells-fault (verdict_of end ++ written_behind command own (status_of end)) status mid.written mid.write_faults after.written after.write_faults
+        (subst (λ (t : Status). Speaks t (verdict_of end ++ written_behind command own (status_of end)) status mid.written mid.write_faults after.written after.write_faults)
         (ap (λ (o : Option Stop). status_at o end.certificates) e) speaks);
   }
 
@@ -142,7 +142,7 @@ module _ (call : Call) (status : Status) (text : Text) (code : FlatCode) (comman
       failed = have-failed;
     };
     cause = stop-cause (limits_of made.options) made.options made.over.ends.r end before after status has-causes end.stop refl;
-    spoken = spoken-is (status_of end) status (verdict_of end ++ behind command own (status_of end)) mid.written mid.write_faults after.written after.write_faults speaks;
+    spoken = spoken-is (status_of end) status (verdict_of end ++ written_behind command own (status_of end)) mid.written mid.write_faults after.written after.write_faults speaks;
     own = made.own_is;
     notes = made.over.ends.stopped.ends;
     once = made.over.ends.once;

@@ -6,11 +6,11 @@ use Rattle.ame_cli.specs.declared.command.Command.{Command}
 use Rattle.ame_app.specs.declared.parts.Front.{Front}
 use Rattle.ame_app.specs.declared.parts.Own.{Own}
 use Rattle.ame_app.specs.declared.status.Status.{Status}
-use Rattle.ame_app.specs.Verbs.{Takes, Declines, behind}
+use Rattle.ame_app.specs.Verbs.{TakesInput, Declines, written_behind}
 
 -- a command takes one text of its bytes
 pub takes-one : (command : Command) (bytes : List ℕ) (front other : Front) (text also : Text)
-    → Takes command bytes front text → Takes command bytes other also → text ≡ also
+    → TakesInput command bytes front text → TakesInput command bytes other also → text ≡ also
 takes-one (Command.Run options) bytes front other text also one two = one.1 ∙ sym two.1
 takes-one (Command.Bench seed size options) bytes front other text also one two = one.1 ∙ sym two.1
 takes-one (Command.Sim seed options) bytes front other text also one two = one.1 ∙ sym two.1
@@ -19,7 +19,7 @@ takes-one (Command.Replay options) bytes front other text also one two =
 
 -- bytes that it takes aren't declined
 pub takes-none : (command : Command) (bytes : List ℕ) (front : Front) (text : Text) (told : Status)
-    → Takes command bytes front text → Declines command bytes told → ⊥
+    → TakesInput command bytes front text → Declines command bytes told → ⊥
 takes-none (Command.Run options) bytes front text told takes declines = declines
 takes-none (Command.Bench seed size options) bytes front text told takes declines = declines
 takes-none (Command.Sim seed options) bytes front text told takes declines = declines
@@ -40,7 +40,7 @@ declines-other (Command.Sim seed options) bytes told declines = absurd declines
 declines-other (Command.Replay options) bytes told declines = λ e. absurd (let clash : Status.BadSchedule ≡ Status.WriteFault = sym declines.told_is ∙ e in cc)
 
 -- nothing is written behind a fault of the sink
-pub nothing-behind : (command : Command) (own : Own) → behind command own Status.WriteFault ≡ []
+pub nothing-behind : (command : Command) (own : Own) → written_behind command own Status.WriteFault ≡ []
 nothing-behind (Command.Run options) own = refl
 nothing-behind (Command.Bench seed size options) own = refl
 nothing-behind (Command.Sim seed options) own = refl

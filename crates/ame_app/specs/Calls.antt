@@ -6,7 +6,7 @@ use Rattle.ame_cli.specs.declared.command.Command.{Command}
 use Rattle.ame_cli.specs.Items.{Word}
 use Rattle.ame_cli.specs.Grammar.{SpellsCommand}
 use Rattle.ame_app.specs.declared.parts.Front.{Front}
-use Rattle.ame_app.specs.Verbs.{reads_source, Takes}
+use Rattle.ame_app.specs.Verbs.{reads_source, TakesInput}
 
 -- what a source tells: the bytes that it has left, where it tells them, and its count of faults
 pub record Given : Type 0 where
@@ -41,7 +41,7 @@ pub record IsTextOf (command : Command) (source after : Given) (front : Front) (
   pub bytes : List ℕ
   pub input : IsInput (reads_source command) source after bytes
   pub most : length bytes ≤ whole_limit
-  pub takes : Takes command bytes front text
+  pub takes : TakesInput command bytes front text
 
 -- the words spell this command, which has this front and this text, of at most so many bytes
 pub record Asks (call : Call) (command : Command) (front : Front) (text : Text) : Type 0 where

@@ -12,35 +12,35 @@ use Rattle.ame_cli.specs.Grammar.{SpellsCommand, SpellsNothing}
 use Rattle.ame_shell.specs.Ends.{Ends, told_at}
 use Rattle.ame_app.specs.declared.parts.Front.{Front}
 use Rattle.ame_app.specs.declared.status.Status.{Status}
-use Rattle.ame_app.specs.Verbs.{reads_source, Takes, Declines}
+use Rattle.ame_app.specs.Verbs.{reads_source, TakesInput, Declines}
 use Rattle.ame_app.specs.Calls.{Given, Call}
 use Rattle.ame_app.specs.Texts.{IsNoProgram, IsIllTyped}
 
 -- What is given
 
 -- the bytes that a command is given: those that the source has left, where it tells them; none, where it isn't read
-abbrev pub IsGivenBy : Bool → Given → List ℕ → Type 0
-IsGivenBy true source bytes = source.left ≡ Some bytes
-IsGivenBy false source bytes = bytes ≡ []
+abbrev pub AreBytesOf : Bool → Given → List ℕ → Type 0
+AreBytesOf true source bytes = source.left ≡ Some bytes
+AreBytesOf false source bytes = bytes ≡ []
 
 -- the words spell a command, which is given these bytes
-pub record IsGiven (call : Call) (bytes : List ℕ) : Type 0 where
+pub record IsGivenBytes (call : Call) (bytes : List ℕ) : Type 0 where
   pub command : Command
   pub spelled : SpellsCommand call.words command
-  pub given : IsGivenBy (reads_source command) call.source bytes
+  pub given : AreBytesOf (reads_source command) call.source bytes
 
 -- the words spell a command, and this is the text that it takes of the bytes that it is given, which aren't too many
 pub record IsGivenText (call : Call) (text : Text) : Type 0 where
   pub bytes : List ℕ
-  pub given : IsGiven call bytes
+  pub given : IsGivenBytes call bytes
   pub most : length bytes ≤ whole_limit
   pub front : Front
-  pub takes : Takes given.command bytes front text
+  pub takes : TakesInput given.command bytes front text
 
 -- the words spell a command, and the bytes that it is given, which aren't too many, are none that it takes, which is told so
 pub record IsGivenInVain (call : Call) (told : Status) : Type 0 where
   pub bytes : List ℕ
-  pub given : IsGiven call bytes
+  pub given : IsGivenBytes call bytes
   pub most : length bytes ≤ whole_limit
   pub declines : Declines given.command bytes told
 
@@ -111,7 +111,7 @@ TellsInput command status = TellsText status ⊎ ((bytes : List ℕ) × Declines
 pub record IsComplete (call : Call) (status : Status) (before after : Ends) : Type 0 where
   pub usage : NothingFailed call before after → SpellsNothing call.words → IsUnlessMemory Status.Usage status
   pub spelled : NothingFailed call before after → (command : Command) → SpellsCommand call.words command → TellsInput command status
-  pub long : NothingFailed call before after → (bytes : List ℕ) → IsGiven call bytes → whole_limit < length bytes
+  pub long : NothingFailed call before after → (bytes : List ℕ) → IsGivenBytes call bytes → whole_limit < length bytes
       → IsUnlessMemory Status.TooLong status
   pub declined : NothingFailed call before after → (told : Status) → IsGivenInVain call told → IsUnlessMemory told status
   pub unread : NothingFailed call before after → (text : Text) → IsGivenText call text → IsUnread text → TellsFault text status

@@ -34,7 +34,7 @@ use Rattle.ame_app.specs.declared.parts.Front.{Front}
 use Rattle.ame_app.specs.declared.parts.Own.{Own}
 use Rattle.ame_app.specs.declared.status.Status.{Status}
 use Rattle.ame_app.specs.Verdict.{verdict}
-use Rattle.ame_app.specs.Verbs.{options_of, Begins, Promises, behind}
+use Rattle.ame_app.specs.Verbs.{options_of, BeginsFrom, Promises, written_behind}
 use Rattle.ame_app.specs.Calls.{Call, Asks}
 use Rattle.ame_app.specs.Texts.{IsProgramOf}
 use Rattle.ame_app.specs.Causes.{RefusalCause, RunCause, status_of}
@@ -97,11 +97,11 @@ pub record Headline (call : Call) (report : Reported) (end : End Val) (before af
   pub program : IsProgramOf text call.devices compiled.accepted
   pub code_is : report.code ≡ Some compiled
   -- The journal, which begins as the command says, replays from the program as one run of the strong semantics.
-  pub begun : Begins command front end.base
+  pub begun : BeginsFrom command front end.base
   pub replays : replay (program_of compiled) (journal_of end) ≡ Some final
   pub seats : AreOfSeats options.workers end.entries
   -- What was written is the output of that run, a line each, and the verdict line; what is left is its state.
-  pub output : IsWritten report.status (lines final.state.output ++ (verdict_of end ++ behind command report.own (status_of end))) before after
+  pub output : IsWritten report.status (lines final.state.output ++ (verdict_of end ++ written_behind command report.own (status_of end))) before after
   pub store : IsStore compiled end.cells final.state
   pub typed : IsTypedState call.devices final.state
   pub devices : DevicesTell compiled end before after

@@ -22,7 +22,7 @@ use Rattle.ame_app.specs.declared.fault.TextFault.{TextFault}
 use Rattle.ame_app.specs.declared.parts.Front.{Front}
 use Rattle.ame_app.specs.declared.parts.Own.{Own}
 use Rattle.ame_app.specs.declared.status.Status.{Status}
-use Rattle.ame_app.specs.Verbs.{Declines, options_of, Begins, Promises}
+use Rattle.ame_app.specs.Verbs.{Declines, options_of, BeginsFrom, Promises}
 use Rattle.ame_app.specs.Calls.{Call, Asks}
 use Rattle.ame_app.specs.Texts.{IsNoProgram, IsIllTyped, IsProgramOf}
 use Rattle.ame_app.specs.Headline.{limits_of}
@@ -71,11 +71,11 @@ IsTextStatus text devices _ = ⊥
 -- The run
 
 -- a run that a command makes is over, and has kept what the command promises
-pub record IsMade (command : Command) (front : Front) (code : FlatCode) (before : Ends) (own : Own) (end : End Val) (after : Ends) : Type 0 where
+pub record IsRunMade (command : Command) (front : Front) (code : FlatCode) (before : Ends) (own : Own) (end : End Val) (after : Ends) : Type 0 where
   pub options : Options
   pub with_options : options_of command ≡ Some options
   pub over : IsOver (program_of code) (limits_of options) (value_meant code) before end after
-  pub begun : Begins command front end.base
+  pub begun : BeginsFrom command front end.base
   pub own_is : Promises command front options own end
 
 -- What is written

@@ -29,11 +29,11 @@ reads_source (Command.Sim seed options) = true
 reads_source (Command.Replay options) = true
 
 -- the bytes that were read are this front and this text of a program
-abbrev pub Takes : Command → List ℕ → Front → Text → Type 0
-Takes (Command.Run options) bytes front text = TakesAll bytes front text
-Takes (Command.Bench seed size options) bytes front text = TakesGenerated seed size front text
-Takes (Command.Sim seed options) bytes front text = TakesAll bytes front text
-Takes (Command.Replay options) bytes front text = TakesScheduled bytes front text
+abbrev pub TakesInput : Command → List ℕ → Front → Text → Type 0
+TakesInput (Command.Run options) bytes front text = TakesAll bytes front text
+TakesInput (Command.Bench seed size options) bytes front text = TakesGenerated seed size front text
+TakesInput (Command.Sim seed options) bytes front text = TakesAll bytes front text
+TakesInput (Command.Replay options) bytes front text = TakesScheduled bytes front text
 
 -- they are no front and text, which is told so
 abbrev pub Declines : Command → List ℕ → Status → Type 0
@@ -52,11 +52,11 @@ options_of (Command.Sim seed options) = Some options
 options_of (Command.Replay options) = Some options
 
 -- the entries with which the run begins
-abbrev pub Begins : Command → Front → List Entry → Type 0
-Begins (Command.Run options) front base = BeginsWithNothing base
-Begins (Command.Bench seed size options) front base = BeginsWithNothing base
-Begins (Command.Sim seed options) front base = BeginsWithNothing base
-Begins (Command.Replay options) front base = BeginsWithNothing base
+abbrev pub BeginsFrom : Command → Front → List Entry → Type 0
+BeginsFrom (Command.Run options) front base = BeginsWithNothing base
+BeginsFrom (Command.Bench seed size options) front base = BeginsWithNothing base
+BeginsFrom (Command.Sim seed options) front base = BeginsWithNothing base
+BeginsFrom (Command.Replay options) front base = BeginsWithNothing base
 
 -- What is told
 
@@ -68,8 +68,8 @@ Promises (Command.Sim seed options) front with own end = IsPicked (drawn seed) w
 Promises (Command.Replay options) front with own end = IsPickedAsListed front with.workers own end
 
 -- what is written behind the verdict line of a run
-abbrev pub behind : Command → Own → Status → List ℕ
-behind (Command.Run options) own told = []
-behind (Command.Bench seed size options) own told = []
-behind (Command.Sim seed options) own told = schedule_behind own told
-behind (Command.Replay options) own told = schedule_behind own told
+abbrev pub written_behind : Command → Own → Status → List ℕ
+written_behind (Command.Run options) own told = []
+written_behind (Command.Bench seed size options) own told = []
+written_behind (Command.Sim seed options) own told = schedule_behind own told
+written_behind (Command.Replay options) own told = schedule_behind own told

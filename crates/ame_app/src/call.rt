@@ -8,7 +8,7 @@ ghost use Rattle.ame_shell.specs.Ends.{Ends, ends_of};
 ghost use Rattle.ame_app.specs.Answered.{IsAnswered};
 ghost use Rattle.ame_app.specs.Calls.{Call, what_is_given, call_of};
 ghost use Rattle.ame_app.specs.Headline.{reported, Headline, IsToldAlone, IsTurnedAway};
-ghost use Rattle.ame_app.specs.Jobs.{IsJobOf, IsMade};
+ghost use Rattle.ame_app.specs.Jobs.{IsJobOf, IsRunMade};
 
 use crate::asked::{Asked, asked_of};
 use crate::code::code_of;
@@ -136,7 +136,7 @@ fn conclude<K: Sink + Drop, D: Device>(job: Job, text: Vec<u8>, made: Made<K, D>
     ensures ended { IsSome result.ended }
     ensures text { result.text ≡ text }
     ensures ran { IfSome result.ended (λ end. (call : Call) (before : Ends) → IsJobOf call text.items (arc_value job.code) job.command job.front
-        → IsMade job.command job.front (arc_value job.code) before made.own made.left.ended
+        → IsRunMade job.command job.front (arc_value job.code) before made.own made.left.ended
         (ends_of K.written K.faults D.device_heard D.device_faults made.left.sink made.left.devices.items)
         → Headline call (reported result.status result.text.items (option_map arc_value result.code) result.own) end before
         (ends_of K.written K.faults D.device_heard D.device_faults result.sink result.devices.items)) }

@@ -2,7 +2,7 @@
 
 ghost use Rattle.std.specs.Prelude.{◌++◌};
 ghost use Rattle.ame_app.specs.Jobs.{Speaks};
-ghost use Rattle.ame_app.specs.Verbs.{behind};
+ghost use Rattle.ame_app.specs.Verbs.{written_behind};
 ghost use Rattle.ame_app.specs.Verdict.{verdict};
 
 use crate::parts::Own;
@@ -23,7 +23,7 @@ pub(crate) fn speak<K: Sink>(sink: &mut K, told: Status) -> Status
 
 /// The same with what a command writes behind the verdict line of a run.
 pub(crate) fn speak_of<K: Sink>(sink: &mut K, told: Status, command: &Command, own: &Own) -> Status
-    ensures { Speaks told (verdict told ++ behind command.now own.now told) result
+    ensures { Speaks told (verdict told ++ written_behind command.now own.now told) result
         (K.written sink.old) (K.faults sink.old) (K.written sink.new) (K.faults sink.new) }
 {
     let Ok(()) = write_line(sink, &told.line()) else {

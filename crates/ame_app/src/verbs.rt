@@ -12,7 +12,7 @@ ghost use Rattle.ame_cli.specs.Ranges.{IsInRange};
 ghost use Rattle.ame_io.specs.Counts.{HasRisen};
 ghost use Rattle.ame_io.specs.Writes.{AppendsFront};
 ghost use Rattle.ame_shell.specs.Ends.{ends_of};
-ghost use Rattle.ame_app.specs.Jobs.{IsMade, IsUntaken};
+ghost use Rattle.ame_app.specs.Jobs.{IsRunMade, IsUntaken};
 ghost use Rattle.ame_app.specs.Verbs as spec;
 
 use crate::parts::{Front, Own};
@@ -92,7 +92,7 @@ where
     G: Gate + Sync,
     requires ranges { IsInRange job.now.command }
     requires devices { (arc_value job.now.code).accepted.devices ≡ vec_len devices }
-    ensures made { IfOk result (λ made. IsMade job.now.command job.now.front (arc_value job.now.code)
+    ensures made { IfOk result (λ made. IsRunMade job.now.command job.now.front (arc_value job.now.code)
         (ends_of K.written K.faults D.device_heard D.device_faults sink devices.items) made.own made.left.ended
         (ends_of K.written K.faults D.device_heard D.device_faults made.left.sink made.left.devices.items)) }
     ensures sink { IfErr result (λ back. back.0 ≡ sink) }

@@ -17,7 +17,7 @@ use Rattle.ame_machine.specs.Move.{settled_stage}
 use Rattle.ame_check.specs.Shows.{ReplayView, ShowsMember, ShowsMembers, StandsForEntries, IsResting}
 use Rattle.ame_check.specs.Walk.{ComesToTall}
 use Rattle.ame_check.specs.Walked.{IsAtStep}
-use Rattle.ame_check.specs.Visit.{HasCome, VisitsTo, VisitMeets}
+use Rattle.ame_check.specs.Visit.{HasCome, ComesOfVisit, VisitMeets}
 use Rattle.ame_check.specs.Reasons.{IsMet}
 use Rattle.ame_check.specs.declared.reason.Reason.{Reason}
 use Rattle.ame_check.specs.declared.reason.Reason.TheVariants as reason
@@ -88,10 +88,10 @@ module _ {C V M : Type 0} (meaning : Meaning C V M) (code : C) (accepted : IsAcc
 
       module _ (n : ℕ) (count : n + 1 ≡ entry.steps) (later : List (ℕ × V)) (m : M) (found_as : Visited)
           (visits : (s : State) (i : ℕ) (n : ℕ) → n + 1 ≡ entry.steps → IsAtStep meaning code s i entry.fresh place.cells overlay machine Side.Unprotected 0
-          → VisitsTo meaning code s i entry.fresh entry.answer later m n found_as) where
-        to : (v : Visited) → found_as ≡ v → VisitsTo meaning code st.led.state entry.number entry.fresh entry.answer later m n v
+          → ComesOfVisit meaning code s i entry.fresh entry.answer later m n found_as) where
+        to : (v : Visited) → found_as ≡ v → ComesOfVisit meaning code st.led.state entry.number entry.fresh entry.answer later m n v
         to v is =
-            subst (VisitsTo meaning code st.led.state entry.number entry.fresh entry.answer later m n) is (visits st.led.state entry.number n count begins-free)
+            subst (ComesOfVisit meaning code st.led.state entry.number entry.fresh entry.answer later m n) is (visits st.led.state entry.number n count begins-free)
 
         pub visit-undefined : (why : Reason) → found_as ≡ visited.Undefined why → FailsBy (meaning.program code) entries entry why
         visit-undefined why is =

@@ -17,7 +17,7 @@ use Rattle.ame_check.specs.Shows.{ReplayView, ShowsMember, StandsForEntries}
 use Rattle.ame_check.specs.Walk.{steps_on, begun_on}
 use Rattle.ame_check.specs.Walked.{place_with, IsAtStep, RunsAlong}
 use Rattle.ame_check.specs.Entries.{MeetsTall, is_confirmed}
-use Rattle.ame_check.specs.Reasons.{Meets, IsMet}
+use Rattle.ame_check.specs.Reasons.{MeetsReason, IsMet}
 use Rattle.ame_check.specs.declared.reason.Reason.{Reason}
 use Rattle.ame_check.specs.declared.reason.Reason.TheVariants as reason
 use Rattle.ame_check.specs.declared.walk.Walked.{Walked}
@@ -49,7 +49,7 @@ module _ {C V M : Type 0} (meaning : Meaning C V M) (code : C) (accepted : IsAcc
   fails : (why : Reason) → replay (meaning.program code) (entries ++ entry ∷ []) ≡ None → IsMet st.led entry why → FailsBy (meaning.program code) entries entry why
   fails why none met = (none, (st.led, st.replayed, met))
 
-  on-side : (why : Reason) → Meets (side_at entry.number st.led.state) st.led.state entry.number entry.fresh entry.steps why → IsMet st.led entry why
+  on-side : (why : Reason) → MeetsReason (side_at entry.number st.led.state) st.led.state entry.number entry.fresh entry.steps why → IsMet st.led entry why
   on-side = met-on st.led entry (side_at entry.number st.led.state) (note-side entry.kind note entry.number st.led.state)
 
   pub noted-answer : is_some entry.answer ≡ true → FailsBy (meaning.program code) entries entry reason.Answered

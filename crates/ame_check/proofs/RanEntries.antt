@@ -17,7 +17,7 @@ use Rattle.ame_machine.specs.declared.wants.Wants.TheVariants as wants
 use Rattle.ame_check.specs.Shows.{ReplayView, ShowsMember, StandsForEntries}
 use Rattle.ame_check.specs.Walked.{IsAtStep, RunsAlong}
 use Rattle.ame_check.specs.Entries.{MeetsTall}
-use Rattle.ame_check.specs.Reasons.{Meets, IsMet, entry_side}
+use Rattle.ame_check.specs.Reasons.{MeetsReason, IsMet, entry_side}
 use Rattle.ame_check.specs.declared.reason.Reason.{Reason}
 use Rattle.ame_check.specs.declared.reason.Reason.TheVariants as reason
 use Rattle.ame_check.specs.declared.walk.Walked.{Walked}
@@ -39,7 +39,7 @@ module _ {C V M : Type 0} (meaning : Meaning C V M) (code : C) (accepted : IsAcc
   fails : (why : Reason) → replay (meaning.program code) (entries ++ entry ∷ []) ≡ None → IsMet st.led entry why → FailsBy (meaning.program code) entries entry why
   fails why none met = (none, (st.led, st.replayed, met))
 
-  on-side : (why : Reason) → Meets Side.Protected st.led.state entry.number entry.fresh entry.steps why → IsMet st.led entry why
+  on-side : (why : Reason) → MeetsReason Side.Protected st.led.state entry.number entry.fresh entry.steps why → IsMet st.led entry why
   on-side = met-on st.led entry Side.Protected (ap (λ (z : EntryKind). entry_side z entry.number st.led.state) (sym kind))
 
   pub has-answer : is_some entry.answer ≡ true → FailsBy (meaning.program code) entries entry reason.Answered

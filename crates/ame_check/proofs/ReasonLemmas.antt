@@ -17,16 +17,16 @@ use Rattle.ame_machine.specs.Need.{need_of_focus}
 use Rattle.ame_machine.specs.Sound.{IsSoundStage}
 use Rattle.ame_machine.specs.declared.wants.Wants.{Wants}
 use Rattle.ame_machine.specs.declared.wants.Wants.TheVariants as wants
-use Rattle.ame_check.specs.Reasons.{is_under, ComesAt, Meets, IsMet, entry_side}
+use Rattle.ame_check.specs.Reasons.{is_unprotected_side, ComesAt, MeetsReason, IsMet, entry_side}
 use Rattle.ame_check.specs.Visit.{VisitMeets}
-use Rattle.ame_check.specs.Walked.{place_with, Allocates, Calls, IsAtStep}
+use Rattle.ame_check.specs.Walked.{place_with, Allocates, WantsAnswer, IsAtStep}
 use Rattle.ame_check.specs.declared.reason.Reason.{Reason}
 use Rattle.ame_check.specs.declared.reason.Reason.TheVariants as reason
 use Rattle.ame_check.proofs.EntryLemmas.{whole-leads}
 use Rattle.ame_check.proofs.FedLemmas.{shown-some}
 use Rattle.ame_check.proofs.ListLemmas.{rest-some}
 
-under-is : (b : Bool) → b ≡ is_under (side_told b)
+under-is : (b : Bool) → b ≡ is_unprotected_side (side_told b)
 under-is true = refl
 under-is false = refl
 
@@ -52,30 +52,30 @@ module _ {C V M : Type 0} (meaning : Meaning C V M) (code : C) (sound : (m : M) 
         subst (λ (z : Side). ComesAt z s i fresh total k want a.walking.rest a.walking.going.now) a.runs_on
         (subst (λ (j : ℕ). ComesAt (running_side view) s i fresh total j want a.walking.rest a.walking.going.now) (sym count) (comes-here want told))
 
-    pub stops-met : (want : Wants) → view.want ≡ Some want → Meets side s i fresh total (reason.Stops k want)
+    pub stops-met : (want : Wants) → view.want ≡ Some want → MeetsReason side s i fresh total (reason.Stops k want)
     stops-met want told = (a.walking.rest, a.walking.going.now, comes-at want told)
 
-    pub unanswered-met : Calls view.want → Meets side s i fresh total (reason.Unanswered k)
+    pub unanswered-met : WantsAnswer view.want → MeetsReason side s i fresh total (reason.Unanswered k)
     unanswered-met (device, x, told) = (device, x, a.walking.rest, a.walking.going.now, comes-at (wants.Device device x) told)
 
     at_rest : (want : Wants) → view.want ≡ Some want → (rest : List ℕ) → a.walking.rest ≡ rest → ComesAt side s i fresh total k want rest a.walking.going.now
     at_rest want told rest is = subst (λ (xs : List ℕ). ComesAt side s i fresh total k want xs a.walking.going.now) is (comes-at want told)
 
-    pub missing-met : Allocates view.want → a.walking.rest ≡ [] → Meets side s i fresh total (reason.Missing k)
+    pub missing-met : Allocates view.want → a.walking.rest ≡ [] → MeetsReason side s i fresh total (reason.Missing k)
     missing-met (sort, number, told) none = (sort, number, a.walking.going.now, at_rest (wants.Alloc sort number) told [] none)
 
     pub taken-met : Allocates view.want → (l : Loc) (more : List ℕ) → a.walking.rest ≡ l.0 ∷ more → (v : V) → Some v ≡ or_else (at overlay l.0) (at cells l.0)
-        → Meets side s i fresh total (reason.Taken k l)
+        → MeetsReason side s i fresh total (reason.Taken k l)
     taken-met (sort, number, told) l more is v has =
         let shown = (shown-some meaning code (at overlay l.0) (at cells l.0) (at a.walking.sets l.0) (at s.store l.0) v (a.walking.laid l.0) (a.walking.store l.0) has).1 in
         (sort, number, more, a.walking.going.now, ap is_some (a.walking.going.after_run.stored l.0 ∙ shown), at_rest (wants.Alloc sort number) told (l.0 ∷ more) is)
 
-    pub unused-met : (want : Wants) → view.want ≡ Some want → (l : Loc) (more : List ℕ) → a.walking.rest ≡ l.0 ∷ more → Meets side s i fresh total (reason.Unused k l)
+    pub unused-met : (want : Wants) → view.want ≡ Some want → (l : Loc) (more : List ℕ) → a.walking.rest ≡ l.0 ∷ more → MeetsReason side s i fresh total (reason.Unused k l)
     unused-met want told l more is = (want, more, a.walking.going.now, at_rest want told (l.0 ∷ more) is)
 
     -- the first location that isn't used
     pub unused-first : (want : Wants) → view.want ≡ Some want → (told used : List Loc) → fresh ≡ map (λ z. z.0) told → map (λ z. z.0) used ≡ view.fresh → length used < length told
-        → Meets side s i fresh total (reason.Unused k (get_or told (length used) (record { 0 = 0 })))
+        → MeetsReason side s i fresh total (reason.Unused k (get_or told (length used) (record { 0 = 0 })))
     unused-first want wanted told used as_told as_used below =
         let front : map (λ z. z.0) told ≡ map (λ z. z.0) used ++ a.walking.rest = sym as_told ∙ a.walking.front ∙ ap (λ (xs : List ℕ). xs ++ a.walking.rest) (sym as_used) in
         let r = rest-some told used a.walking.rest (record { 0 = 0 }) front below in
@@ -83,19 +83,19 @@ module _ {C V M : Type 0} (meaning : Meaning C V M) (code : C) (sound : (m : M) 
 
 -- What a walk meets, the entry meets
 pub met-on : (r : Replayed) (entry : Entry) (side : Side) → side ≡ entry_side entry.kind entry.number r.state → (why : Reason)
-    → Meets side r.state entry.number entry.fresh entry.steps why → IsMet r entry why
-met-on r entry side is (reason.Stops k want) met = subst (λ (z : Side). Meets z r.state entry.number entry.fresh entry.steps (reason.Stops k want)) is met
-met-on r entry side is (reason.Unanswered k) met = subst (λ (z : Side). Meets z r.state entry.number entry.fresh entry.steps (reason.Unanswered k)) is met
-met-on r entry side is (reason.Missing k) met = subst (λ (z : Side). Meets z r.state entry.number entry.fresh entry.steps (reason.Missing k)) is met
-met-on r entry side is (reason.Taken k l) met = subst (λ (z : Side). Meets z r.state entry.number entry.fresh entry.steps (reason.Taken k l)) is met
-met-on r entry side is (reason.Unused k l) met = subst (λ (z : Side). Meets z r.state entry.number entry.fresh entry.steps (reason.Unused k l)) is met
+    → MeetsReason side r.state entry.number entry.fresh entry.steps why → IsMet r entry why
+met-on r entry side is (reason.Stops k want) met = subst (λ (z : Side). MeetsReason z r.state entry.number entry.fresh entry.steps (reason.Stops k want)) is met
+met-on r entry side is (reason.Unanswered k) met = subst (λ (z : Side). MeetsReason z r.state entry.number entry.fresh entry.steps (reason.Unanswered k)) is met
+met-on r entry side is (reason.Missing k) met = subst (λ (z : Side). MeetsReason z r.state entry.number entry.fresh entry.steps (reason.Missing k)) is met
+met-on r entry side is (reason.Taken k l) met = subst (λ (z : Side). MeetsReason z r.state entry.number entry.fresh entry.steps (reason.Taken k l)) is met
+met-on r entry side is (reason.Unused k l) met = subst (λ (z : Side). MeetsReason z r.state entry.number entry.fresh entry.steps (reason.Unused k l)) is met
 met-on r entry side is reason.NoMember met = absurd met
 met-on r entry side is reason.Inside met = absurd met
 met-on r entry side is reason.Outside met = absurd met
 met-on r entry side is reason.NoSteps met = absurd met
 met-on r entry side is reason.Answered met = absurd met
 
-pub met-visit : (s : State) (i : ℕ) (fresh : List ℕ) (answer : Option ℤ) (total : ℕ) (why : Reason) → Meets Side.Unprotected s i fresh total why → VisitMeets s i fresh answer total why
+pub met-visit : (s : State) (i : ℕ) (fresh : List ℕ) (answer : Option ℤ) (total : ℕ) (why : Reason) → MeetsReason Side.Unprotected s i fresh total why → VisitMeets s i fresh answer total why
 met-visit s i fresh answer total reason.Answered met = absurd met
 met-visit s i fresh answer total (reason.Stops k want) met = met
 met-visit s i fresh answer total _ met = met
@@ -125,7 +125,7 @@ comes-later side s i fresh few many k want rest now within c = record {
   wants = c.wants;
 }
 
-pub meets-later : (side : Side) (s : State) (i : ℕ) (fresh : List ℕ) (few many : ℕ) → few ≤ many → (why : Reason) → Meets side s i fresh few why → Meets side s i fresh many why
+pub meets-later : (side : Side) (s : State) (i : ℕ) (fresh : List ℕ) (few many : ℕ) → few ≤ many → (why : Reason) → MeetsReason side s i fresh few why → MeetsReason side s i fresh many why
 meets-later side s i fresh few many within (reason.Stops k want) met = (met.0, met.1, comes-later side s i fresh few many k want met.0 met.1 within met.2)
 meets-later side s i fresh few many within (reason.Unanswered k) met = (met.0, met.1, met.2, met.3, comes-later side s i fresh few many k (wants.Device met.0 met.1) met.2 met.3 within met.4)
 meets-later side s i fresh few many within (reason.Missing k) met = (met.0, met.1, met.2, comes-later side s i fresh few many k (wants.Alloc met.0 met.1) [] met.2 within met.3)

@@ -32,7 +32,7 @@ use Rattle.ame_machine.proofs.Run.RunLemmas.{step-of, acted-more}
 use Rattle.ame_machine.proofs.Run.EffectLemmas.{IsStepMade, step-made, unfed}
 use Rattle.ame_check.specs.Visit.{visiting, closing, HasCome}
 use Rattle.ame_check.specs.Walk.{label_by, steps_on, IsStepping, IsNoWalk, ComesToTall}
-use Rattle.ame_check.specs.Walked.{place_with, Calls, is_plain, IsWalking, IsAtStep, WalksAlong}
+use Rattle.ame_check.specs.Walked.{place_with, WantsAnswer, is_plain, IsWalking, IsAtStep, WalksAlong}
 use Rattle.ame_check.specs.declared.walk.Walked.{Walked}
 use Rattle.ame_check.specs.declared.walk.Walked.TheVariants as walked
 use Rattle.ame_check.proofs.EntryLemmas.{whole-leads}
@@ -140,7 +140,7 @@ module _ {C V M : Type 0} (meaning : Meaning C V M) (code : C) where
 
     -- A device
 
-    module _ (calls : Calls view.want) where
+    module _ (calls : WantsAnswer view.want) where
       device : ℕ
       device = calls.0
 

@@ -18,9 +18,9 @@ use Rattle.ame_check.specs.declared.reason.Reason.{Reason}
 use Rattle.ame_check.specs.declared.reason.Reason.TheVariants as reason
 
 -- whether a side is that under `unprotected`
-abbrev pub is_under : Side → Bool
-is_under Side.Protected = false
-is_under Side.Unprotected = true
+abbrev pub is_unprotected_side : Side → Bool
+is_unprotected_side Side.Protected = false
+is_unprotected_side Side.Unprotected = true
 
 -- After k of some steps, which use the front of the locations, the member stands where it wants this.
 pub record ComesAt (side : Side) (s : State) (i : ℕ) (fresh : List ℕ) (total k : ℕ) (want : Wants) (rest : List ℕ) (now : State) : Type 0 where
@@ -30,20 +30,20 @@ pub record ComesAt (side : Side) (s : State) (i : ℕ) (fresh : List ℕ) (total
   pub leads : steps_on side i k used None (begun_on side i s) ≡ Some now
   pub term : Tree
   pub member : at now.members i ≡ Some term
-  pub wants : need_told want ≡ need_of_focus (is_under side) (focus term)
+  pub wants : need_told want ≡ need_of_focus (is_unprotected_side side) (focus term)
 
 -- what a walk of some steps meets
-abbrev pub Meets : Side → State → ℕ → List ℕ → ℕ → Reason → Type 0
-Meets side s i fresh total (reason.Stops k want) = (rest : List ℕ) × (now : State) × ComesAt side s i fresh total k want rest now
-Meets side s i fresh total (reason.Unanswered k) =
+abbrev pub MeetsReason : Side → State → ℕ → List ℕ → ℕ → Reason → Type 0
+MeetsReason side s i fresh total (reason.Stops k want) = (rest : List ℕ) × (now : State) × ComesAt side s i fresh total k want rest now
+MeetsReason side s i fresh total (reason.Unanswered k) =
     (device : ℕ) × (n : ℤ) × (rest : List ℕ) × (now : State) × ComesAt side s i fresh total k (wants.Device device n) rest now
-Meets side s i fresh total (reason.Missing k) =
+MeetsReason side s i fresh total (reason.Missing k) =
     (sort : Sort) × (number : TyNo) × (now : State) × ComesAt side s i fresh total k (wants.Alloc sort number) [] now
-Meets side s i fresh total (reason.Taken k l) =
+MeetsReason side s i fresh total (reason.Taken k l) =
     (sort : Sort) × (number : TyNo) × (more : List ℕ) × (now : State) × (is_some (at now.store l.0) ≡ true)
     × ComesAt side s i fresh total k (wants.Alloc sort number) (l.0 ∷ more) now
-Meets side s i fresh total (reason.Unused k l) = (want : Wants) × (more : List ℕ) × (now : State) × ComesAt side s i fresh total k want (l.0 ∷ more) now
-Meets side s i fresh total _ = ⊥
+MeetsReason side s i fresh total (reason.Unused k l) = (want : Wants) × (more : List ℕ) × (now : State) × ComesAt side s i fresh total k want (l.0 ∷ more) now
+MeetsReason side s i fresh total _ = ⊥
 
 -- the side on which an entry's steps are made
 abbrev pub entry_side : EntryKind → ℕ → State → Side
@@ -58,4 +58,4 @@ IsMet r entry reason.Inside = (entry.kind ≡ EntryKind.Ran) × (is_inside r ent
 IsMet r entry reason.Outside = (entry.kind ≡ EntryKind.Free) × (is_inside r entry.number ≡ false)
 IsMet r entry reason.NoSteps = (entry.kind ≡ EntryKind.Free) × (entry.steps ≡ 0)
 IsMet r entry reason.Answered = is_some entry.answer ≡ true
-IsMet r entry why = Meets (entry_side entry.kind entry.number r.state) r.state entry.number entry.fresh entry.steps why
+IsMet r entry why = MeetsReason (entry_side entry.kind entry.number r.state) r.state entry.number entry.fresh entry.steps why

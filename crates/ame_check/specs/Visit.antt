@@ -11,7 +11,7 @@ use Rattle.ame_machine.specs.Run.AgreesWith.{IsAfterRun}
 use Rattle.ame_check.specs.Shows.{ShowsCells}
 use Rattle.ame_check.specs.Walk.{begun_on, steps_on, ComesToTall}
 use Rattle.ame_check.specs.Walked.{place_with}
-use Rattle.ame_check.specs.Reasons.{Meets}
+use Rattle.ame_check.specs.Reasons.{MeetsReason}
 use Rattle.ame_check.specs.declared.reason.Reason.{Reason}
 use Rattle.ame_check.specs.declared.reason.Reason.TheVariants as reason
 use Rattle.ame_check.specs.declared.visit.Visited.{Visited}
@@ -29,7 +29,7 @@ closing i n fresh (Some answer) s = None
 -- what a visit of some steps meets
 abbrev pub VisitMeets : State → ℕ → List ℕ → Option ℤ → ℕ → Reason → Type 0
 VisitMeets s i fresh answer total reason.Answered = is_some answer ≡ true
-VisitMeets s i fresh answer total why = Meets Side.Unprotected s i fresh total why
+VisitMeets s i fresh answer total why = MeetsReason Side.Unprotected s i fresh total why
 
 module _ {C V M : Type 0} (meaning : Meaning C V M) (code : C) where
   -- A machine of member i stands where its steps from a state led; once it settles, it is under `unprotected` or isn't.
@@ -45,8 +45,8 @@ module _ {C V M : Type 0} (meaning : Meaning C V M) (code : C) where
 
   module _ (s : State) (i : ℕ) (fresh : List ℕ) (answer : Option ℤ) (overlay : List (ℕ × V)) (m : M) (n : ℕ) where
     -- what n steps and a last one come to
-    abbrev pub VisitsTo : Visited → Type 0
-    VisitsTo visited.Stays = HasCome s i overlay m true (visiting i (n + 1) fresh answer s)
-    VisitsTo visited.Closes = (visiting i (n + 1) fresh answer s ≡ None) × HasCome s i overlay m false (closing i n fresh answer s)
-    VisitsTo (visited.Undefined why) = (visiting i (n + 1) fresh answer s ≡ None) × (closing i n fresh answer s ≡ None) × VisitMeets s i fresh answer (n + 1) why
-    VisitsTo visited.Tall = ComesToTall Side.Unprotected i (n + 1) fresh s
+    abbrev pub ComesOfVisit : Visited → Type 0
+    ComesOfVisit visited.Stays = HasCome s i overlay m true (visiting i (n + 1) fresh answer s)
+    ComesOfVisit visited.Closes = (visiting i (n + 1) fresh answer s ≡ None) × HasCome s i overlay m false (closing i n fresh answer s)
+    ComesOfVisit (visited.Undefined why) = (visiting i (n + 1) fresh answer s ≡ None) × (closing i n fresh answer s ≡ None) × VisitMeets s i fresh answer (n + 1) why
+    ComesOfVisit visited.Tall = ComesToTall Side.Unprotected i (n + 1) fresh s

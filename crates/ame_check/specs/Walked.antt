@@ -13,7 +13,7 @@ use Rattle.ame_machine.specs.Run.Local.{LocalState}
 use Rattle.ame_machine.specs.MachineView.{MachineView, running_side, place_shown}
 use Rattle.ame_check.specs.Shows.{ShowsCells}
 use Rattle.ame_check.specs.Walk.{begun_on, steps_on, IsStepping, IsNoWalk, ComesToTall}
-use Rattle.ame_check.specs.Reasons.{Meets}
+use Rattle.ame_check.specs.Reasons.{MeetsReason}
 use Rattle.ame_check.specs.declared.walk.Walked.{Walked}
 use Rattle.ame_check.specs.declared.walk.Walked.TheVariants as walked
 use Rattle.ame_check.specs.declared.step.Took.{Took}
@@ -36,8 +36,8 @@ abbrev pub Hands : Option Wants → Type 0
 Hands want = (want ≡ Some wants.Spawn) ⊎ ((n : ℤ) × (want ≡ Some (wants.Print n)))
 
 -- it wants the answer of a device
-abbrev pub Calls : Option Wants → Type 0
-Calls want = (device : ℕ) × (n : ℤ) × (want ≡ Some (wants.Device device n))
+abbrev pub WantsAnswer : Option Wants → Type 0
+WantsAnswer want = (device : ℕ) × (n : ℤ) × (want ≡ Some (wants.Device device n))
 
 -- whether a want under `unprotected` is none of a device, of closing, and of a value that is too high
 abbrev pub is_plain : Wants → Bool
@@ -68,18 +68,18 @@ module _ {C V M : Type 0} (meaning : Meaning C V M) (code : C) where
     -- what a walk of n steps comes to
     abbrev pub WalksAlong : Walked → Type 0
     WalksAlong (walked.Whole want) = IsAtStep s i fresh cells overlay m side n × ((meaning.stage code m).want ≡ Some want)
-    WalksAlong (walked.Undefined why) = IsNoWalk side i n fresh s × Meets side s i fresh n why
+    WalksAlong (walked.Undefined why) = IsNoWalk side i n fresh s × MeetsReason side s i fresh n why
     WalksAlong walked.Tall = ComesToTall side i n fresh s
 
     -- what the step behind n steps comes to
     abbrev pub TakesTo : Took → Type 0
     TakesTo took.Taken = IsAtStep s i fresh cells overlay m side (n + 1)
-    TakesTo (took.Undefined why) = (total : ℕ) → n < total → IsNoWalk side i total fresh s × Meets side s i fresh total why
+    TakesTo (took.Undefined why) = (total : ℕ) → n < total → IsNoWalk side i total fresh s × MeetsReason side s i fresh total why
     TakesTo took.Tall = (total : ℕ) → n < total → ComesToTall side i total fresh s
 
     -- what a run of n steps that is to use all the locations comes to
     abbrev pub RunsAlong : Walked → Type 0
     RunsAlong (walked.Whole want) =
         IsAtStep s i fresh cells overlay m side n × ((meaning.stage code m).fresh ≡ fresh) × ((meaning.stage code m).want ≡ Some want)
-    RunsAlong (walked.Undefined why) = (steps_on side i n fresh None (begun_on side i s) ≡ None) × Meets side s i fresh n why
+    RunsAlong (walked.Undefined why) = (steps_on side i n fresh None (begun_on side i s) ≡ None) × MeetsReason side s i fresh n why
     RunsAlong walked.Tall = ComesToTall side i n fresh s

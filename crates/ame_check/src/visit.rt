@@ -4,8 +4,8 @@ ghost use Rattle.std.specs.Prelude.{◌≡◌, true, ℕ, ◌+◌, ◌<◌, ◌^
 ghost use Rattle.ame_term.specs.Frame.{Side};
 ghost use Rattle.ame_term.specs.State.{State};
 ghost use Rattle.ame_machine.specs.declared.wants.Wants.{Wants};
-ghost use Rattle.ame_check.specs.Walked.{IsWalking, IsAtStep, Calls, is_plain};
-ghost use Rattle.ame_check.specs.Visit.{VisitsTo};
+ghost use Rattle.ame_check.specs.Walked.{IsWalking, IsAtStep, WantsAnswer, is_plain};
+ghost use Rattle.ame_check.specs.Visit.{ComesOfVisit};
 
 use crate::reason::Reason;
 use crate::walk::{Walked, run, walk};
@@ -31,11 +31,11 @@ pub enum Visited {
 /// The last step takes the answer of a device.
 fn hear<M: Runner>(code: &M::Code, entry: &Entry, machine: &mut M) -> Visited
     requires machine { M.meaning.is_machine code.now machine.old }
-    requires wants { Calls (M.meaning.stage code.now machine.old).want }
+    requires wants { WantsAnswer (M.meaning.stage code.now machine.old).want }
     requires steps { (M.meaning.stage code.now machine.old).steps + 1 < 2 ^ 64 }
     ensures { (s : State) (i : ℕ) (cells overlay : List (ℕ × M.Value)) (n : ℕ)
         → IsAtStep M.meaning code.now s i entry.now.fresh cells overlay machine.old Side.Unprotected n
-        → VisitsTo M.meaning code.now s i entry.now.fresh entry.now.answer overlay machine.new n result }
+        → ComesOfVisit M.meaning code.now s i entry.now.fresh entry.now.answer overlay machine.new n result }
 {
     let fresh = entry.fresh.as_slice();
     let used = machine.fresh().len();
@@ -56,7 +56,7 @@ fn close<M: Runner>(code: &M::Code, entry: &Entry, machine: &mut M) -> Visited
     requires steps { (M.meaning.stage code.now machine.old).steps + 1 < 2 ^ 64 }
     ensures { (s : State) (i : ℕ) (cells overlay : List (ℕ × M.Value)) (n : ℕ)
         → IsAtStep M.meaning code.now s i entry.now.fresh cells overlay machine.old Side.Unprotected n
-        → VisitsTo M.meaning code.now s i entry.now.fresh entry.now.answer overlay machine.new n result }
+        → ComesOfVisit M.meaning code.now s i entry.now.fresh entry.now.answer overlay machine.new n result }
 {
     let fresh = entry.fresh.as_slice();
     let used = machine.fresh().len();
@@ -86,7 +86,7 @@ fn go_on<M: Runner>(
     requires count { (M.meaning.stage code.now machine.old).steps + 1 ≡ entry.now.steps }
     ensures { IfOk result (λ visited. (s : State) (i : ℕ) (n : ℕ)
         → IsAtStep M.meaning code.now s i entry.now.fresh cells.now.entries overlay.old.entries machine.old Side.Unprotected n
-        → VisitsTo M.meaning code.now s i entry.now.fresh entry.now.answer overlay.new.entries machine.new n visited) }
+        → ComesOfVisit M.meaning code.now s i entry.now.fresh entry.now.answer overlay.new.entries machine.new n visited) }
 {
     if entry.answer.is_some() {
         return Ok(Visited::Undefined(Reason::Answered));
@@ -114,7 +114,7 @@ fn last<M: Runner>(
     requires fits { entry.now.steps < 2 ^ 64 }
     ensures { IfOk result (λ visited. (s : State) (i : ℕ) (n : ℕ)
         → IsAtStep M.meaning code.now s i entry.now.fresh cells.now.entries overlay.old.entries machine.old Side.Unprotected n
-        → VisitsTo M.meaning code.now s i entry.now.fresh entry.now.answer overlay.new.entries machine.new n visited) }
+        → ComesOfVisit M.meaning code.now s i entry.now.fresh entry.now.answer overlay.new.entries machine.new n visited) }
 {
     match want {
         Wants::Device(_, _) => Ok(hear(code, entry, machine)),
@@ -138,7 +138,7 @@ pub fn visit<M: Runner>(
     requires some { 0 < entry.now.steps }
     ensures { IfOk result (λ visited. (s : State) (i : ℕ) (n : ℕ) → n + 1 ≡ entry.now.steps
         → IsAtStep M.meaning code.now s i entry.now.fresh cells.now.entries overlay.old.entries machine.old Side.Unprotected 0
-        → VisitsTo M.meaning code.now s i entry.now.fresh entry.now.answer overlay.new.entries machine.new n visited) }
+        → ComesOfVisit M.meaning code.now s i entry.now.fresh entry.now.answer overlay.new.entries machine.new n visited) }
 {
     match walk(
         alloc,

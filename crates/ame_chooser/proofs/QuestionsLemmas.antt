@@ -6,8 +6,8 @@ use Rattle.std.specs.List.{Contains}
 use Rattle.std.proofs.lemmas.List.{length-set, length-replicate}
 use Rattle.std.proofs.lemmas.List.Sums.{sum_by-cons, sum_by-set, count_by-le-length}
 use Rattle.std.proofs.lemmas.List.Folds.{sum_by-replicate}
-use Rattle.ame_chooser.specs.Strategy.{Answers}
-use Rattle.ame_chooser.specs.Listed.{listed}
+use Rattle.ame_chooser.specs.Strategy.{PicksSeats}
+use Rattle.ame_chooser.specs.Listed.{picked_as_listed}
 use Rattle.ame_chooser.specs.Waits.{may_be_picked}
 use Rattle.ame_chooser.specs.Questions.{Picked, seats_of, idles_of, turns_of, waits_after, waits_along, questions_along, count_of, AreAnswers, AllWaited}
 use Rattle.ame_chooser.proofs.ListedLemmas.{listed-whole}
@@ -139,5 +139,5 @@ told-not-asked waits picks between seat below all asked =
     true≢false (sym wait ∙ ap (λ ws. get_or ws seat false) (sym (waits_along-append waits picks (record { seat = seat; waited = true } ∷ between))) ∙ free)
 
 -- The list of the picks of a run leads to the same picks, where the same is asked.
-pub picks-replayed : (waits : List Bool) (picks : List Picked) → AreAnswers waits picks → Answers (listed (seats_of picks)) (questions_along waits picks) (seats_of picks) (listed [])
+pub picks-replayed : (waits : List Bool) (picks : List Picked) → AreAnswers waits picks → PicksSeats (picked_as_listed (seats_of picks)) (questions_along waits picks) (seats_of picks) (picked_as_listed [])
 picks-replayed waits picks answers = listed-whole (questions_along waits picks) (seats_of picks) answers

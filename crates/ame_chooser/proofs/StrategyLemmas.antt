@@ -1,14 +1,14 @@
 -- A strategy that is asked in turn.
 use Rattle.std.proofs.Common.{◌≡◌, ℕ, List, [], ◌∷◌, ◌++◌, length, refl, sym, ap, ◌∙◌, append_assoc, arith}
-use Rattle.ame_chooser.specs.Strategy.{Answers}
+use Rattle.ame_chooser.specs.Strategy.{PicksSeats}
 
 -- Where nothing is asked, a strategy stays as it is.
-pub answers-none : (strategy : List (List ℕ) → List ℕ) → Answers strategy [] [] strategy
+pub answers-none : (strategy : List (List ℕ) → List ℕ) → PicksSeats strategy [] [] strategy
 answers-none strategy rest = refl
 
 -- Questions may be asked in two parts.
-pub answers-then : (first mid last : List (List ℕ) → List ℕ) (asked more : List (List ℕ)) (picked others : List ℕ) → Answers first asked picked mid →
-    Answers mid more others last → Answers first (asked ++ more) (picked ++ others) last
+pub answers-then : (first mid last : List (List ℕ) → List ℕ) (asked more : List (List ℕ)) (picked others : List ℕ) → PicksSeats first asked picked mid →
+    PicksSeats mid more others last → PicksSeats first (asked ++ more) (picked ++ others) last
 answers-then first mid last asked more picked others before after rest =
     ap first (append_assoc asked more rest) ∙ before (more ++ rest) ∙ ap (λ t. picked ++ t) (after rest) ∙ sym (append_assoc picked others (last rest))
 
@@ -25,7 +25,7 @@ fronts-same (x ∷ front) (y ∷ other) behind beyond long same =
 
 -- One strategy picks the same seats for the same questions, and goes on alike.
 pub answers-same : (strategy later other : List (List ℕ) → List ℕ) (asked : List (List ℕ)) (picked others : List ℕ) → length picked ≡ length others →
-    Answers strategy asked picked later → Answers strategy asked others other → (picked ≡ others) × ((rest : List (List ℕ)) → later rest ≡ other rest)
+    PicksSeats strategy asked picked later → PicksSeats strategy asked others other → (picked ≡ others) × ((rest : List (List ℕ)) → later rest ≡ other rest)
 answers-same strategy later other asked picked others long one two = (
   (fronts-same picked others (later []) (other []) long (sym (one []) ∙ two [])).0,
   λ rest. (fronts-same picked others (later rest) (other rest) long (sym (one rest) ∙ two rest)).1,

@@ -11,7 +11,7 @@ abbrev pub or_first : ℕ → List ℕ → ℕ
 or_first seat may = if list_any (λ s. s == seat) may then seat else first_that_may may
 
 -- each question takes the next of the seats; where none is left, it is answered by the first that may be picked
-abbrev pub listed : List ℕ → List (List ℕ) → List ℕ
-listed seats [] = []
-listed [] (may ∷ rest) = first_that_may may ∷ listed [] rest
-listed (seat ∷ seats) (may ∷ rest) = or_first seat may ∷ listed seats rest
+abbrev pub picked_as_listed : List ℕ → List (List ℕ) → List ℕ
+picked_as_listed seats [] = []
+picked_as_listed [] (may ∷ rest) = first_that_may may ∷ picked_as_listed [] rest
+picked_as_listed (seat ∷ seats) (may ∷ rest) = or_first seat may ∷ picked_as_listed seats rest

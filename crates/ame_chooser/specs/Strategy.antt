@@ -3,5 +3,5 @@
 use Rattle.std.specs.Prelude.{◌≡◌, ℕ, List, ◌++◌}
 
 -- Asked these questions, the strategy picks these seats, a seat a question, and goes on as `later`.
-abbrev pub Answers : (List (List ℕ) → List ℕ) → List (List ℕ) → List ℕ → (List (List ℕ) → List ℕ) → Type 0
-Answers strategy asked picked later = (rest : List (List ℕ)) → strategy (asked ++ rest) ≡ picked ++ later rest
+abbrev pub PicksSeats : (List (List ℕ) → List ℕ) → List (List ℕ) → List ℕ → (List (List ℕ) → List ℕ) → Type 0
+PicksSeats strategy asked picked later = (rest : List (List ℕ)) → strategy (asked ++ rest) ≡ picked ++ later rest

@@ -1,6 +1,6 @@
 //! What a chooser promises.
 ghost use Rattle.std.specs.Prelude.{ℕ, ◌<◌, List, [], ◌∷◌, Contains, length, IfOk, OnErr};
-ghost use Rattle.ame_chooser.specs.Strategy.{Answers};
+ghost use Rattle.ame_chooser.specs.Strategy.{PicksSeats};
 
 use ame_term::NoMemory;
 
@@ -13,6 +13,6 @@ pub trait Chooser: Drop {
     fn choose(&mut self, may: &[u32]) -> Result<u32, NoMemory>
         requires some { 0 < length may.now }
         ensures picks { IfOk result (Contains may.now) }
-        ensures answers { IfOk result (λ seat. Answers (strategy self.old) (may.now ∷ []) (seat ∷ []) (strategy self.new)) }
-        ensures stays { OnErr result (Answers (strategy self.old) [] [] (strategy self.new)) };
+        ensures answers { IfOk result (λ seat. PicksSeats (strategy self.old) (may.now ∷ []) (seat ∷ []) (strategy self.new)) }
+        ensures stays { OnErr result (PicksSeats (strategy self.old) [] [] (strategy self.new)) };
 }

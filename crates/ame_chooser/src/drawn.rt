@@ -1,6 +1,6 @@
 //! The chooser of a seed.
 ghost use Rattle.std.specs.Prelude.{◌≡◌, ◌<◌, ◌≤◌, [], ◌∷◌, Contains, IsOk, length, IfOk, OnErr};
-ghost use Rattle.ame_chooser.specs.Strategy.{Answers};
+ghost use Rattle.ame_chooser.specs.Strategy.{PicksSeats};
 ghost use Rattle.ame_chooser.specs.Drawn.{drawn};
 
 use crate::chooser::Chooser;
@@ -42,8 +42,8 @@ impl Chooser for Drawn {
     fn choose(&mut self, may: &[u32]) -> Result<u32, NoMemory>
         requires some { 0 < length may.now }
         ensures picks { IfOk result (Contains may.now) }
-        ensures answers { IfOk result (λ seat. Answers (drawn self.old) (may.now ∷ []) (seat ∷ []) (drawn self.new)) }
-        ensures stays { OnErr result (Answers (drawn self.old) [] [] (drawn self.new)) }
+        ensures answers { IfOk result (λ seat. PicksSeats (drawn self.old) (may.now ∷ []) (seat ∷ []) (drawn self.new)) }
+        ensures stays { OnErr result (PicksSeats (drawn self.old) [] [] (drawn self.new)) }
         ensures ok { IsOk result }
     {
         let place = self.numbers.draw() as usize % may.len();

@@ -1,7 +1,7 @@
 //! The chooser of a list of picks.
 ghost use Rattle.std.specs.Prelude.{◌≡◌, ◌<◌, [], ◌∷◌, ◌++◌, Contains, IsOk, length, IfNone, IfOk, OnErr, option_to_list};
-ghost use Rattle.ame_chooser.specs.Strategy.{Answers};
-ghost use Rattle.ame_chooser.specs.Listed.{listed};
+ghost use Rattle.ame_chooser.specs.Strategy.{PicksSeats};
+ghost use Rattle.ame_chooser.specs.Listed.{picked_as_listed};
 
 use crate::chooser::Chooser;
 use ame_term::NoMemory;
@@ -45,14 +45,14 @@ impl Listed {
 }
 
 impl Chooser for Listed {
-    ghost strategy = { listed };
+    ghost strategy = { picked_as_listed };
 
     /// It takes no memory.
     fn choose(&mut self, may: &[u32]) -> Result<u32, NoMemory>
         requires some { 0 < length may.now }
         ensures picks { IfOk result (Contains may.now) }
-        ensures answers { IfOk result (λ seat. Answers (listed self.old) (may.now ∷ []) (seat ∷ []) (listed self.new)) }
-        ensures stays { OnErr result (Answers (listed self.old) [] [] (listed self.new)) }
+        ensures answers { IfOk result (λ seat. PicksSeats (picked_as_listed self.old) (may.now ∷ []) (seat ∷ []) (picked_as_listed self.new)) }
+        ensures stays { OnErr result (PicksSeats (picked_as_listed self.old) [] [] (picked_as_listed self.new)) }
         ensures ok { IsOk result }
     {
         let Some(seat) = self.take() else {

@@ -23,7 +23,7 @@ pub struct Lone {
 }
 
 impl Lone {
-    ghost use Rattle.ame_machine_cases.specs.Alone.{IsAlone, most_steps};
+    ghost use Rattle.ame_machine_cases.specs.Alone.{IsAlone, far_steps};
 
     /// At the beginning of a program.
     pub fn start(alloc: Global, code: &Code) -> Result<Lone, NoMemory>
@@ -39,7 +39,7 @@ impl Lone {
 
     /// Whether it has made so few steps that it can run on.
     pub fn is_young(&self) -> bool
-        ensures { (code : FlatCode) → result ≡ true → (stage_by code self.now.machine).steps ≤ most_steps }
+        ensures { (code : FlatCode) → result ≡ true → (stage_by code self.now.machine).steps ≤ far_steps }
     {
         self.machine.steps() <= MOST_STEPS
     }
@@ -47,7 +47,7 @@ impl Lone {
     /// Runs to what is wanted next, by so many steps at most.
     pub fn advance(&mut self, alloc: Global, code: &Code, fuel: u32) -> Result<Wants, NoMemory>
         requires alone { IsAlone code.now self.old }
-        requires young { (stage_by code.now self.old.machine).steps ≤ most_steps }
+        requires young { (stage_by code.now self.old.machine).steps ≤ far_steps }
         ensures alone { IsAlone code.now self.new }
         ensures told { IfOk result (λ want. (stage_by code.now self.new.machine).want ≡ Some want) }
     {

@@ -5,7 +5,7 @@ use Rattle.std.proofs.lemmas.List.{map-append, length-map, length-replicate}
 use Rattle.std.proofs.lemmas.List.Sums.{sum_by-append}
 use Rattle.std.proofs.lemmas.List.Folds.{sum_by-replicate}
 use Rattle.ame_chooser.specs.Questions.{Picked, seats_of, idles_of, turns_of, waits_after, waits_along, questions, who_waits, count_of, AreAnswers}
-use Rattle.ame_chooser.specs.Strategy.{Answers}
+use Rattle.ame_chooser.specs.Strategy.{PicksSeats}
 use Rattle.ame_chooser.specs.Waits.{may_be_picked}
 use Rattle.ame_chooser.proofs.QuestionsLemmas.{waits_along-push, questions_along-push, length-picks, idles-few, idles-bounded}
 use Rattle.ame_chooser.proofs.StrategyLemmas.{answers-then}
@@ -33,7 +33,7 @@ seats-push mades made =
 
 -- a chooser that was asked once more
 pub answered-more : (seats : ℕ) (before after : List (List ℕ) → List ℕ) (mades : List Made) (made : Made)
-    → Answers before (may_be_picked (who_waits seats (picks_of mades)) ∷ []) (made.seat ∷ []) after → HasAnswered seats before mades after (mades ++ made ∷ [])
+    → PicksSeats before (may_be_picked (who_waits seats (picks_of mades)) ∷ []) (made.seat ∷ []) after → HasAnswered seats before mades after (mades ++ made ∷ [])
 answered-more seats before after mades made once strategy was rest =
     ap (λ asked. strategy (asked ++ rest)) (questions-push seats mades made)
     ∙ answers-then strategy before after (questions seats (picks_of mades)) (may_be_picked (who_waits seats (picks_of mades)) ∷ [])
@@ -41,7 +41,7 @@ answered-more seats before after mades made once strategy was rest =
     ∙ ap (λ picked. picked ++ after rest) (sym (seats-push mades made))
 
 -- or that goes on as it did
-pub answered-none : (seats : ℕ) (before after : List (List ℕ) → List ℕ) (mades : List Made) → Answers before [] [] after
+pub answered-none : (seats : ℕ) (before after : List (List ℕ) → List ℕ) (mades : List Made) → PicksSeats before [] [] after
     → HasAnswered seats before mades after mades
 answered-none seats before after mades same strategy was rest = was rest ∙ ap (λ t. seats_of (picks_of mades) ++ t) (same rest)
 

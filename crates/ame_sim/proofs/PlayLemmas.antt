@@ -7,7 +7,7 @@ use Rattle.std.proofs.lemmas.List.{map-append, length-set, length-replicate}
 use Rattle.std.proofs.lemmas.List.Elements.{All-nil, All-push}
 use Rattle.std.proofs.lemmas.List.Sums.{count_by-le-length}
 use Rattle.ame_chooser.specs.Questions.{turns_of, seats_of, waits_after, who_waits, count_of}
-use Rattle.ame_chooser.specs.Strategy.{Answers}
+use Rattle.ame_chooser.specs.Strategy.{PicksSeats}
 use Rattle.ame_chooser.specs.Waits.{may_be_picked}
 use Rattle.ame_chooser.proofs.QuestionsLemmas.{count-waits, length-waits_along}
 use Rattle.ame_chooser.proofs.WaitsLemmas.{free-seat, some-seat}
@@ -301,10 +301,10 @@ module _ (seats : ℕ) (waits roomy later : List Bool) (mades kept noted : List 
       later-is ∙ ap (λ (ws : List Bool). waits_after ws (picked_by made)) n.who ∙ sym (waits-push seats mades made)
       ∙ ap (λ (ms : List Made). who_waits seats (picks_of ms)) (sym noted-is)
 
-  pub answered-noted : (before after : List (List ℕ) → List ℕ) → Answers before (may ∷ []) (n.seat ∷ []) after → HasAnswered seats before mades after noted
+  pub answered-noted : (before after : List (List ℕ) → List ℕ) → PicksSeats before (may ∷ []) (n.seat ∷ []) after → HasAnswered seats before mades after noted
   answered-noted before after once =
       let all : may ≡ may_be_picked (who_waits seats (picks_of mades)) = n.lists ∙ ap may_be_picked (n.same ∙ n.who) in
       subst (λ (ms : List Made). HasAnswered seats before mades after ms) (sym noted-is)
       (answered-more seats before after mades made
-      (subst (λ (s : ℕ). Answers before (may_be_picked (who_waits seats (picks_of mades)) ∷ []) (s ∷ []) after) (sym n.its)
-      (subst (λ (ms : List ℕ). Answers before (ms ∷ []) (n.seat ∷ []) after) all once)))
+      (subst (λ (s : ℕ). PicksSeats before (may_be_picked (who_waits seats (picks_of mades)) ∷ []) (s ∷ []) after) (sym n.its)
+      (subst (λ (ms : List ℕ). PicksSeats before (ms ∷ []) (n.seat ∷ []) after) all once)))

@@ -29,7 +29,7 @@ use Rattle.ame_turn.specs.Deeds.{StopsBy, IsDone}
 use Rattle.ame_shell.specs.Shell.{ShellView}
 use Rattle.ame_shell.specs.Turned.{is_to_flush, HasTurned}
 use Rattle.ame_shell.proofs.DeedLemmas.{deed-more}
-use Rattle.ame_sim.specs.Crew.{IsUnwound, undos_left, left_to_undo}
+use Rattle.ame_sim.specs.Crew.{IsUnwound, undos_to_make, left_to_undo}
 use Rattle.ame_sim.proofs.TurnLemmas.{stop-met}
 
 -- Logs
@@ -53,7 +53,7 @@ undone-shorter seat memory within more =
     omega (arith, here, shorter)
 
 -- who has an attempt at work has undos left
-undos-of : (undos : ℕ) (task : Task) (attempt : Attempt) → attempt_of task ≡ Some attempt → undos_left undos task ≡ undos + 1
+undos-of : (undos : ℕ) (task : Task) (attempt : Attempt) → attempt_of task ≡ Some attempt → undos_to_make undos task ≡ undos + 1
 undos-of undos Task.Idle attempt e = cc
 undos-of undos (Task.Running a) attempt e = refl
 undos-of undos (Task.Free a) attempt e = refl
@@ -154,7 +154,7 @@ module _ {C V M : Type 0} (meaning : Meaning C V M) where
           tried = with_try e.0 (parts old).tried;
         }) in
         let now = task-now next Task.Idle e.2.event.parts e.2.event.stop refl refl refl refl refl in
-        let left : left_to_undo new seat ≡ 0 = ap (undos_left (length (row_at new.memory.rows seat).undos)) now in
+        let left : left_to_undo new seat ≡ 0 = ap (undos_to_make (length (row_at new.memory.rows seat).undos)) now in
         let had : left_to_undo old seat ≡ length (row_at old.memory.rows seat).undos + 1 =
         undos-of (length (row_at old.memory.rows seat).undos) (task_at old.tasks seat) e.0 e.2.has in
         record {

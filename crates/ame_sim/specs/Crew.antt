@@ -22,9 +22,9 @@ use Rattle.ame_turn.specs.Work.{Fits}
 use Rattle.ame_machine.specs.Meaning.{Meaning}
 
 -- how many undos a seat has yet to make, by its task
-abbrev pub undos_left : ℕ → Task → ℕ
-undos_left undos Task.Idle = 0
-undos_left undos _ = undos + 1
+abbrev pub undos_to_make : ℕ → Task → ℕ
+undos_to_make undos Task.Idle = 0
+undos_to_make undos _ = undos + 1
 
 -- how many picks there may be yet: in each turn that is left each seat may wait once
 abbrev pub picks_left : Option Stop → ℕ → List Bool → ℕ
@@ -77,7 +77,7 @@ module _ {C V M : Type 0} where
 
   -- what is left to do
   abbrev pub left_to_undo : Core C V M → ℕ → ℕ
-  left_to_undo core seat = undos_left (length (row_at core.memory.rows seat).undos) (task_at core.tasks seat)
+  left_to_undo core seat = undos_to_make (length (row_at core.memory.rows seat).undos) (task_at core.tasks seat)
 
   abbrev pub left_to_play : Core C V M → List Bool → ℕ
   left_to_play core waits = picks_left core.stop (core.limits.turns - core.turns) waits

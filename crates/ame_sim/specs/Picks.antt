@@ -1,7 +1,7 @@
 -- What picks did, as far as it tells who may be picked.
 use Rattle.std.specs.Prelude.{ℕ, Bool, true, false, List, map}
 use Rattle.ame_chooser.specs.Questions.{Picked, questions, seats_of}
-use Rattle.ame_chooser.specs.Strategy.{Answers}
+use Rattle.ame_chooser.specs.Strategy.{PicksSeats}
 use Rattle.ame_turn.specs.declared.work.Deed.{Deed}
 use Rattle.ame_sim.specs.declared.made.Made.{Made}
 
@@ -21,5 +21,5 @@ picks_of mades = map picked_by mades
 -- the others too, and goes on as the one after.
 abbrev pub HasAnswered : ℕ → (List (List ℕ) → List ℕ) → List Made → (List (List ℕ) → List ℕ) → List Made → Type 0
 HasAnswered seats before mades after more =
-    (strategy : List (List ℕ) → List ℕ) → Answers strategy (questions seats (picks_of mades)) (seats_of (picks_of mades)) before
-    → Answers strategy (questions seats (picks_of more)) (seats_of (picks_of more)) after
+    (strategy : List (List ℕ) → List ℕ) → PicksSeats strategy (questions seats (picks_of mades)) (seats_of (picks_of mades)) before
+    → PicksSeats strategy (questions seats (picks_of more)) (seats_of (picks_of more)) after

@@ -11,17 +11,17 @@ member_told (Some number) after = Some number
 member_told None after = after
 
 -- the location that a machine wants, where there are so many cells: a new one is the next
-abbrev pub place_of : ℕ → Option Wants → Option ℕ
-place_of cells (Some (wants.Read l)) = Some l.0
-place_of cells (Some (wants.Write l)) = Some l.0
-place_of cells (Some (wants.Peek l)) = Some l.0
-place_of cells (Some (wants.Alloc sort number)) = Some cells
-place_of cells _ = None
+abbrev pub location_wanted : ℕ → Option Wants → Option ℕ
+location_wanted cells (Some (wants.Read l)) = Some l.0
+location_wanted cells (Some (wants.Write l)) = Some l.0
+location_wanted cells (Some (wants.Peek l)) = Some l.0
+location_wanted cells (Some (wants.Alloc sort number)) = Some cells
+location_wanted cells _ = None
 
 -- the location that the machine at hand wants
 abbrev pub place_wanted : ℕ → Option MachineView → Option ℕ
 place_wanted cells None = None
-place_wanted cells (Some s) = place_of cells s.want
+place_wanted cells (Some s) = location_wanted cells s.want
 
 -- The location of a deed: the one that was wanted, or that of the read that was found stale.
 abbrev pub place_told : Deed → Option ℕ → Option ℕ

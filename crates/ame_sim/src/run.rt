@@ -3,7 +3,7 @@
 ghost use Rattle.std.specs.Prelude.{◌≡◌, ◌<◌, ◌≤◌, ◌⊎◌, ℕ, Bool, List, None, IsSome, IfOk, IfErr, true, false, [], OnOk, OnErr, vec_len};
 ghost use Rattle.std.specs.Arc.{arc_value};
 ghost use Rattle.ame_chooser.specs.Questions.{questions, seats_of, who_waits};
-ghost use Rattle.ame_chooser.specs.Strategy.{Answers};
+ghost use Rattle.ame_chooser.specs.Strategy.{PicksSeats};
 ghost use Rattle.ame_engine.specs.Whole.{AreLimits};
 ghost use Rattle.ame_shell.specs.Ends.{ends_of};
 ghost use Rattle.ame_shell.specs.Over.{IsOver};
@@ -117,7 +117,7 @@ where
       limits = limits;
       ends = ends_of K.written K.faults D.device_heard D.device_faults sink devices.items;
     }) played.mades.items played.left.ended) }
-    ensures answers { IfOk result (λ played. Answers (H.strategy chooser.old) (questions limits.seats (picks_of played.mades.items))
+    ensures answers { IfOk result (λ played. PicksSeats (H.strategy chooser.old) (questions limits.seats (picks_of played.mades.items))
         (seats_of (picks_of played.mades.items)) (H.strategy chooser.new)) }
     ensures sink { IfErr result (λ back. back.0 ≡ sink) }
     ensures devices { IfErr result (λ back. back.1 ≡ devices) }

@@ -11,7 +11,7 @@ use Rattle.ame_baton.specs.Keeping.{KeepsSeat}
 use Rattle.ame_worker.specs.declared.shared.Opened.{Opened}
 use Rattle.ame_worker.specs.declared.shared.Shared.{Shared}
 use Rattle.ame_worker.specs.declared.worker.Worker.{Worker}
-use Rattle.ame_worker.specs.Rows.{Row}
+use Rattle.ame_worker.specs.Rows.{SeatRow}
 use Rattle.ame_worker.specs.Workers.{IsThrough}
 use Rattle.ame_worker.proofs.HandLemmas.{some-is}
 use Rattle.ame_team.specs.Teams.{IsSeatAt}
@@ -29,9 +29,9 @@ map-there : {A B : Type 0} (f : A → B) (o : Option A) (y : B) → option_map f
 map-there f None y e = cc
 map-there f (Some x) y e = (x, refl, some-is (f x) y e)
 
-module _ {M K D C V : Type 0} (baton : Baton (Shared M K D C V) (Opened C) (Row M) Entry) (opened : Option (Opened C)) (count : ℕ) where
+module _ {M K D C V : Type 0} (baton : Baton (Shared M K D C V) (Opened C) (SeatRow M) Entry) (opened : Option (Opened C)) (count : ℕ) where
   -- a seat at its place that is through
-  pub record IsDoneAt (place : ℕ) (seat : SeatAt (Shared M K D C V) (Opened C) (Row M) Entry) : Type 0 where
+  pub record IsDoneAt (place : ℕ) (seat : SeatAt (Shared M K D C V) (Opened C) (SeatRow M) Entry) : Type 0 where
     pub at : IsSeatAt baton opened count place seat
     pub through : IsThrough (knows seat)
 
@@ -60,12 +60,12 @@ module _ {M K D C V : Type 0} (baton : Baton (Shared M K D C V) (Opened C) (Row 
           through = subst (λ (x : Worker M K D C V). IsThrough (knows x.seat)) same (through i w in_old);
         }
 
-    module _ (first : SeatAt (Shared M K D C V) (Opened C) (Row M) Entry) (rest : List (SeatAt (Shared M K D C V) (Opened C) (Row M) Entry))
+    module _ (first : SeatAt (Shared M K D C V) (Opened C) (SeatRow M) Entry) (rest : List (SeatAt (Shared M K D C V) (Opened C) (SeatRow M) Entry))
         (all : map (λ w. w.seat) new ≡ rest ++ first ∷ []) where
-      done-seat : (i : ℕ) (s : SeatAt (Shared M K D C V) (Opened C) (Row M) Entry) → slice_get (rest ++ first ∷ []) i ≡ Some s → IsDoneAt i s
+      done-seat : (i : ℕ) (s : SeatAt (Shared M K D C V) (Opened C) (SeatRow M) Entry) → slice_get (rest ++ first ∷ []) i ≡ Some s → IsDoneAt i s
       done-seat i s e =
           let there = map-there (λ (w : Worker M K D C V). w.seat) (slice_get new i) s
-          (sym (slice_get-map (λ (w : Worker M K D C V). w.seat) new i) ∙ ap (λ (l : List (SeatAt (Shared M K D C V) (Opened C) (Row M) Entry)). slice_get l i) all ∙ e) in
+          (sym (slice_get-map (λ (w : Worker M K D C V). w.seat) new i) ∙ ap (λ (l : List (SeatAt (Shared M K D C V) (Opened C) (SeatRow M) Entry)). slice_get l i) all ∙ e) in
           subst (IsDoneAt i) there.2 (done-worker i there.0 there.1)
 
       pub rest-count : length rest + 1 ≡ count
@@ -78,7 +78,7 @@ module _ {M K D C V : Type 0} (baton : Baton (Shared M K D C V) (Opened C) (Row 
       pub first-done : IsDoneAt (length rest) first
       first-done = done-seat (length rest) first (append-at rest first)
 
-      pub rest-done : (i : ℕ) (s : SeatAt (Shared M K D C V) (Opened C) (Row M) Entry) → slice_get rest i ≡ Some s → IsDoneAt i s
+      pub rest-done : (i : ℕ) (s : SeatAt (Shared M K D C V) (Opened C) (SeatRow M) Entry) → slice_get rest i ≡ Some s → IsDoneAt i s
       rest-done i s e = done-seat i s (append-before rest (first ∷ []) i s e)
 
       pub first-ready : IsReadySeat baton 0 first

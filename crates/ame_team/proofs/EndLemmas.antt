@@ -16,20 +16,20 @@ use Rattle.ame_baton.specs.Batons.{knows, left_by_each}
 use Rattle.ame_baton.specs.Seats.{left_by, Stays}
 use Rattle.ame_baton.proofs.Lookups.{get_there}
 use Rattle.ame_worker.specs.declared.shared.Opened.{Opened}
-use Rattle.ame_worker.specs.Rows.{Kept, Row, kept_at, row_of}
+use Rattle.ame_worker.specs.Rows.{Kept, SeatRow, kept_at, row_of}
 use Rattle.ame_worker.specs.Shared.{IsShared}
 use Rattle.ame_worker.specs.Turns.{maker}
 use Rattle.ame_worker.specs.Workers.{IsThrough}
 use Rattle.ame_worker.proofs.HandLemmas.{found-kept}
 use Rattle.ame_machine.specs.Meaning.{Meaning}
 
-module _ {S C M : Type 0} (first : SeatAt S (Opened C) (Row M) Entry) (rest : List (SeatAt S (Opened C) (Row M) Entry)) (rows : List (Row M)) (entries : List Entry)
-    (stays : (n : ℕ) (it : LastSeen (Row M) Entry) → slice_get (left_by (knows first) ∷ left_by_each rest) n ≡ Some it → Stays maker n it rows entries)
+module _ {S C M : Type 0} (first : SeatAt S (Opened C) (SeatRow M) Entry) (rest : List (SeatAt S (Opened C) (SeatRow M) Entry)) (rows : List (SeatRow M)) (entries : List Entry)
+    (stays : (n : ℕ) (it : LastSeen (SeatRow M) Entry) → slice_get (left_by (knows first) ∷ left_by_each rest) n ≡ Some it → Stays maker n it rows entries)
     (first-through : IsThrough (knows first))
-    (rest-through : (i : ℕ) (s : SeatAt S (Opened C) (Row M) Entry) → slice_get rest i ≡ Some s → IsThrough (knows s)) where
+    (rest-through : (i : ℕ) (s : SeatAt S (Opened C) (SeatRow M) Entry) → slice_get rest i ≡ Some s → IsThrough (knows s)) where
   -- the row of a seat that is through
   pub record IsLeft (n : ℕ) : Type 0 where
-    pub row : Row M
+    pub row : SeatRow M
     pub found : slice_get rows n ≡ Some row
     pub idle : row.task ≡ Task.Idle
     pub marked : row.marked ≡ true
@@ -45,8 +45,8 @@ module _ {S C M : Type 0} (first : SeatAt S (Opened C) (Row M) Entry) (rest : Li
       let there = get_there rest i (omega (arith, within)) in
       let s = there.0 in
       let left : slice_get (left_by_each rest) i ≡ Some (left_by (knows s)) =
-      slice_get-map (λ (x : SeatAt S (Opened C) (Row M) Entry). left_by (knows x)) rest i
-      ∙ ap (option_map (λ (x : SeatAt S (Opened C) (Row M) Entry). left_by (knows x))) there.1 in
+      slice_get-map (λ (x : SeatAt S (Opened C) (SeatRow M) Entry). left_by (knows x)) rest i
+      ∙ ap (option_map (λ (x : SeatAt S (Opened C) (SeatRow M) Entry). left_by (knows x))) there.1 in
       let through = rest-through i s there.1 in
       record { row = (knows s).row; found = (stays (suc i) (left_by (knows s)) left).row; idle = through.idle; marked = through.marked }
 
@@ -63,7 +63,7 @@ module _ {S C M : Type 0} (first : SeatAt S (Opened C) (Row M) Entry) (rest : Li
         by : (seat < shell.core.limits.seats) ⊎ (shell.core.limits.seats ≤ seat) → task_at shell.core.tasks seat ≡ Task.Idle
         by (inl within) =
             let it = rows-left seat (let c = count in omega (arith, c, within)) in
-            ap (λ (r : Row M). r.task) (sym (row-here seat within it)) ∙ it.idle
+            ap (λ (r : SeatRow M). r.task) (sym (row-here seat within it)) ∙ it.idle
         by (inr beyond) = get_or_past shell.core.tasks seat Task.Idle (let l = len in omega (arith, l, beyond))
 
     -- and a stop is kept
@@ -71,4 +71,4 @@ module _ {S C M : Type 0} (first : SeatAt S (Opened C) (Row M) Entry) (rest : Li
     has-stopped =
         let within : 0 < shell.core.limits.seats = (let c = count in omega (arith, c)) in
         let it = rows-left 0 (omega arith) in
-        shared.marks 0 (ap (λ (r : Row M). r.marked) (sym (row-here 0 within it)) ∙ it.marked)
+        shared.marks 0 (ap (λ (r : SeatRow M). r.marked) (sym (row-here 0 within it)) ∙ it.marked)

@@ -6,7 +6,7 @@ use Rattle.ame_baton.specs.Batons.{knows, IsSeatOf}
 use Rattle.ame_worker.specs.declared.shared.Opened.{Opened}
 use Rattle.ame_worker.specs.declared.shared.Shared.{Shared}
 use Rattle.ame_worker.specs.declared.worker.Worker.{Worker}
-use Rattle.ame_worker.specs.Rows.{Row}
+use Rattle.ame_worker.specs.Rows.{SeatRow}
 use Rattle.ame_worker.specs.Workers.{IsSeated}
 use Rattle.ame_protocol.specs.declared.types.Limits.{Limits}
 use Rattle.ame_baton.specs.declared.view.Knows.{Knows}
@@ -15,18 +15,18 @@ use Rattle.ame_baton.proofs.Lookups.{get_snoc, get_within}
 use Rattle.ame_team.specs.Teams.{IsFirstSeat, IsSeatAt}
 
 -- the seats of the workers are those with the numbers from 1 on, in order
-pub record IsOther {M K D C V : Type 0} (baton : Baton (Shared M K D C V) (Opened C) (Row M) Entry) (opened : Option (Opened C)) (number : ℕ)
+pub record IsOther {M K D C V : Type 0} (baton : Baton (Shared M K D C V) (Opened C) (SeatRow M) Entry) (opened : Option (Opened C)) (number : ℕ)
     (w : Worker M K D C V) : Type 0 where
   pub of : IsSeatOf baton w.seat
   pub fixed : (knows w.seat).fixed ≡ opened
   pub numbered : (knows w.seat).number ≡ number
 
-abbrev pub AreOthers : {M K D C V : Type 0} → Baton (Shared M K D C V) (Opened C) (Row M) Entry → Option (Opened C) → List (Worker M K D C V) → Type 0
+abbrev pub AreOthers : {M K D C V : Type 0} → Baton (Shared M K D C V) (Opened C) (SeatRow M) Entry → Option (Opened C) → List (Worker M K D C V) → Type 0
 AreOthers {M} {K} {D} {C} {V} baton opened workers =
     (i : ℕ) (w : Worker M K D C V) → slice_get workers i ≡ Some w → IsOther baton opened (i + 1) w
 
 -- the next seat is one of the shell, too
-pub next-seated : {C M : Type 0} (devices : C → ℕ) (code : C) (limits : Limits) (k : Knows (Opened C) (Row M) Entry) (row : Row M) → k.made < limits.seats
+pub next-seated : {C M : Type 0} (devices : C → ℕ) (code : C) (limits : Limits) (k : Knows (Opened C) (SeatRow M) Entry) (row : SeatRow M) → k.made < limits.seats
     → IsSeated devices code limits k → IsSeated devices code limits (next_seat k row)
 next-seated devices code limits k row within s = record {
   opened = s.opened;
@@ -40,7 +40,7 @@ next-seated devices code limits k row within s = record {
 }
 
 -- seat 0 made one more
-pub first-seated : {C M : Type 0} (devices : C → ℕ) (code : C) (limits : Limits) (k : Knows (Opened C) (Row M) Entry) (made : ℕ)
+pub first-seated : {C M : Type 0} (devices : C → ℕ) (code : C) (limits : Limits) (k : Knows (Opened C) (SeatRow M) Entry) (made : ℕ)
     → IsSeated devices code limits k → IsSeated devices code limits (record k { made = made })
 first-seated devices code limits k made s = record {
   opened = s.opened;
@@ -53,7 +53,7 @@ first-seated devices code limits k made s = record {
   seats = s.seats;
 }
 
-pub first-more : {C M : Type 0} (made : ℕ) (k : Knows (Opened C) (Row M) Entry) → IsFirstSeat made k → IsFirstSeat (made + 1) (record k { made = k.made + 1 })
+pub first-more : {C M : Type 0} (made : ℕ) (k : Knows (Opened C) (SeatRow M) Entry) → IsFirstSeat made k → IsFirstSeat (made + 1) (record k { made = k.made + 1 })
 first-more made k f = record {
   numbered = f.numbered;
   free = f.free;
@@ -62,7 +62,7 @@ first-more made k f = record {
   none_ended = f.none_ended;
 }
 
-module _ {M K D C V : Type 0} (baton : Baton (Shared M K D C V) (Opened C) (Row M) Entry) (opened : Option (Opened C)) where
+module _ {M K D C V : Type 0} (baton : Baton (Shared M K D C V) (Opened C) (SeatRow M) Entry) (opened : Option (Opened C)) where
   -- one more worker
   pub others-more : (workers : List (Worker M K D C V)) (w : Worker M K D C V) → AreOthers baton opened workers → IsOther baton opened (length workers + 1) w
       → AreOthers baton opened (workers ++ w ∷ [])

@@ -54,8 +54,8 @@ is_visit _ = false
 
 module _ {C V M : Type 0} (meaning : Meaning C V M) (seat : ℕ)
     (hand : Option MachineView) (old new : Core C V M) where
-  abbrev pub Makes : (Counters → Counters) → (Parts → Parts) → Type 0
-  Makes counts event = MakesEvent meaning counts event old new
+  abbrev pub MakesCounted : (Counters → Counters) → (Parts → Parts) → Type 0
+  MakesCounted counts event = MakesEvent meaning counts event old new
 
   abbrev pub MakesLast : Stop → (Counters → Counters) → (Parts → Parts) → Type 0
   MakesLast why counts event = MakesLastEvent meaning why counts event old new
@@ -69,8 +69,8 @@ module _ {C V M : Type 0} (meaning : Meaning C V M) (seat : ℕ)
   abbrev pub AreAllValid : Type 0
   AreAllValid = IsValid old.memory.cells seat (row_at old.memory.rows seat).reads
 
-  abbrev pub IsInvalid : Bad → Type 0
-  IsInvalid bad = IsFirstBad old.memory.cells seat (row_at old.memory.rows seat).reads bad
+  abbrev pub IsReadInvalid : Bad → Type 0
+  IsReadInvalid bad = IsFirstBad old.memory.cells seat (row_at old.memory.rows seat).reads bad
 
   -- what a write at a location is answered
   abbrev pub answer_at : Loc → Wrote
@@ -85,14 +85,14 @@ module _ {C V M : Type 0} (meaning : Meaning C V M) (seat : ℕ)
   pub record TurnsBack (counts : Counters → Counters) (bad : Bad) : Type 0 where
     pub attempt : Attempt
     pub task : task_at old.tasks seat ≡ Task.Running attempt
-    pub invalid : IsInvalid bad
-    pub event : Makes counts (has_turned_back seat attempt)
+    pub invalid : IsReadInvalid bad
+    pub event : MakesCounted counts (has_turned_back seat attempt)
 
   -- the seat undoes an entry, and some are left or none
   pub record UndoesAt (attempt : Attempt) (becomes : Parts → Parts) : Type 0 where
     pub undoes : IsToUndo old seat
     pub has : attempt_of (task_at old.tasks seat) ≡ Some attempt
-    pub event : Makes (one_undone (is_some old.stop)) becomes
+    pub event : MakesCounted (one_undone (is_some old.stop)) becomes
 
   -- a note tells where the machine of a seat is cut off, whose reads are valid
   pub record CutsAt (s : MachineView) : Type 0 where
@@ -109,34 +109,34 @@ module _ {C V M : Type 0} (meaning : Meaning C V M) (seat : ℕ)
   -- the event that a seat made, with what the meaning.devices told before and after
   abbrev pub IsMade : List Told → List Told → Deed → Type 0
   IsMade before after Deed.Began =
-      (number : ℕ) × Meets (Pick.Member number) × Makes (one_counted Counted.Begin) (has_begun seat number)
+      (number : ℕ) × Meets (Pick.Member number) × MakesCounted (one_counted Counted.Begin) (has_begun seat number)
   IsMade before after Deed.Waited = Meets Pick.Idle × (new ≡ old)
   IsMade before after Deed.Stopped =
       (pick : Pick) × Meets pick × StopsBy (certificates_in (parts_of meaning old)) pick old new
   IsMade before after Deed.Read =
-      (s : MachineView) × (l : Loc) × Accesses old hand s (wants.Read l) × Makes (one_counted Counted.Read) (has_read seat l)
+      (s : MachineView) × (l : Loc) × Accesses old hand s (wants.Read l) × MakesCounted (one_counted Counted.Read) (has_read seat l)
   IsMade before after Deed.Wrote =
       (s : MachineView) × (l : Loc) × (v : Val) × Accesses old hand s (wants.Write l) × (value_to_set s ≡ Some v) × (answer_at l ≡ Wrote.Wrote)
-      × Makes (one_counted Counted.Write) (has_written seat l v)
+      × MakesCounted (one_counted Counted.Write) (has_written seat l v)
   IsMade before after (Deed.Met owner) =
       (s : MachineView) × (l : Loc) × (attempt : Attempt) × Accesses old hand s (wants.Write l) × (answer_at l ≡ Wrote.Conflict owner)
-      × (task_at old.tasks seat ≡ Task.Running attempt) × Makes (one_counted Counted.Conflict) (has_turned_back seat attempt)
+      × (task_at old.tasks seat ≡ Task.Running attempt) × MakesCounted (one_counted Counted.Conflict) (has_turned_back seat attempt)
   IsMade before after Deed.Allocated =
       (s : MachineView) × (sort : Sort) × (ty : TyNo) × (v : Val) × Accesses old hand s (wants.Alloc sort ty) × (value_to_set s ≡ Some v)
-      × Makes (one_counted Counted.Alloc) (has_allocated seat sort ty v)
+      × MakesCounted (one_counted Counted.Alloc) (has_allocated seat sort ty v)
   IsMade before after Deed.Checked =
-      (s : MachineView) × IsToCheck old hand s × (attempt : Attempt) × RunsValid attempt × Makes (one_counted Counted.Check) (has_checked seat s.steps attempt)
+      (s : MachineView) × IsToCheck old hand s × (attempt : Attempt) × RunsValid attempt × MakesCounted (one_counted Counted.Check) (has_checked seat s.steps attempt)
   IsMade before after (Deed.FoundInvalid bad) = (s : MachineView) × IsToCheck old hand s × TurnsBack (one_invalid Counted.Check) bad
   IsMade before after Deed.Ended =
       (s : MachineView) × RunsTo old hand s wants.Done × (attempt : Attempt) × RunsValid attempt
-      × Makes (one_counted Counted.Commit) (ended_at seat attempt.tried.number s)
+      × MakesCounted (one_counted Counted.Commit) (ended_at seat attempt.tried.number s)
   IsMade before after Deed.Left =
       (s : MachineView) × RunsTo old hand s wants.Leave × (attempt : Attempt) × RunsValid attempt
-      × Makes (one_counted Counted.Commit) (left_at seat attempt.tried.number s)
+      × MakesCounted (one_counted Counted.Commit) (left_at seat attempt.tried.number s)
   IsMade before after (Deed.Refused bad) = (s : MachineView) × IsToCommit old hand s × TurnsBack (one_invalid Counted.Commit) bad
   IsMade before after Deed.Noted =
       (s : MachineView) × RunsTo old hand s wants.Block × (attempt : Attempt) × RunsValid attempt
-      × Makes (one_counted Counted.Block) (has_noted seat attempt s.steps (place_shown s))
+      × MakesCounted (one_counted Counted.Block) (has_noted seat attempt s.steps (place_shown s))
   IsMade before after (Deed.NotNoted bad) = (s : MachineView) × RunsTo old hand s wants.Block × TurnsBack (one_invalid Counted.Block) bad
   IsMade before after Deed.GrewTall =
       (s : MachineView) × AsksFor old hand s wants.Tall × (attempt : Attempt) × (working (task_at old.tasks seat) ≡ Some attempt) × AreAllValid

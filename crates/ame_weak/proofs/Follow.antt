@@ -23,8 +23,8 @@ use Rattle.ame_journal.proofs.LabelLemmas.{unfold-all, unfolds_all-run}
 use Rattle.ame_journal.proofs.ReachedLemmas.{IsCalm, calm-all}
 use Rattle.ame_machine.specs.Run.Told.{TellsRun}
 use Rattle.ame_machine.proofs.Run.EntryLemmas.{run-left, run-ended}
-use Rattle.ame_weak.specs.Weak.{Weak, holding_none, moved, holds_nothing, held_step, released, is_resting, may_free, weak_after}
-use Rattle.ame_weak.specs.Straight.{Place, ran, freed, arrival, came, entries_of, past}
+use Rattle.ame_weak.specs.Weak.{Weak, holding_none, moved, holds_nothing, held_step, with_held_released, is_resting, may_free, weak_after}
+use Rattle.ame_weak.specs.Straight.{Place, ran, freed, arrival, came, entries_of_label, past}
 use Rattle.ame_weak.proofs.HeldSteps.{if-gave, map-gave}
 use Rattle.ame_weak.proofs.LetGo.{let_go-is}
 use Rattle.ame_weak.proofs.WayLemmas.{IsUnderWay, way-begun, number-below, way-step, way-free, way-close}
@@ -42,8 +42,8 @@ pub record IsFollowed (devices : ℕ) (r : Replayed) (p : Place) (w : Weak) : Ty
 -- and with one more label
 pub record IsNext (devices : ℕ) (r : Replayed) (p : Place) (w : Weak) (label : Label) (v : Weak) : Type 0 where
   pub behind : Replayed
-  pub replays : replay_from r (entries_of p label) ≡ Some behind
-  pub called : (k : ℕ) → device_calls_from k r (entries_of p label) ≡ label_call k w.state label
+  pub replays : replay_from r (entries_of_label p label) ≡ Some behind
+  pub called : (k : ℕ) → device_calls_from k r (entries_of_label p label) ≡ label_call k w.state label
   pub follows : IsFollowed devices behind (past p label) v
 
 itself : (n : ℕ) → (n == n) ≡ true
@@ -65,18 +65,18 @@ pub calm-behind : (r t : Replayed) (entries : List Entry) → IsCalm r → repla
 calm-behind r t entries calm e = let all = unfold-all r entries t e in calm-all r entries all.0 t all.1 calm
 
 module _ (devices : ℕ) (r : Replayed) (p : Place) (calm : IsCalm r) (cells : StoreTyping) (typed : IsTyped devices cells r.state) (inside : p.inside ≡ r.inside) where
-  built : (w : Weak) (label : Label) (v : Weak) (t : Replayed) → replay_from r (entries_of p label) ≡ Some t
-      → ((k : ℕ) → device_calls_from k r (entries_of p label) ≡ label_call k w.state label) → (past p label).inside ≡ t.inside
+  built : (w : Weak) (label : Label) (v : Weak) (t : Replayed) → replay_from r (entries_of_label p label) ≡ Some t
+      → ((k : ℕ) → device_calls_from k r (entries_of_label p label) ≡ label_call k w.state label) → (past p label).inside ≡ t.inside
       → (v ≡ holding_none t.state) ⊎ IsUnderWay devices t.state (past p label).number (past p label).steps (past p label).fresh v → IsNext devices r p w label v
   built w label v t replays called in_then stands =
-      let all = unfold-all r (entries_of p label) t replays in
-      let later = preserved_along devices all.0 cells r.state t.state typed (unfolds_all-run r (entries_of p label) all.0 t all.1) in
+      let all = unfold-all r (entries_of_label p label) t replays in
+      let later = preserved_along devices all.0 cells r.state t.state typed (unfolds_all-run r (entries_of_label p label) all.0 t all.1) in
       record {
         behind = t;
         replays = replays;
         called = called;
         follows = record {
-          calm = calm-behind r t (entries_of p label) calm replays;
+          calm = calm-behind r t (entries_of_label p label) calm replays;
           cells = later.0;
           typed = later.2;
           inside = in_then;
@@ -122,10 +122,10 @@ module _ (devices : ℕ) (r : Replayed) (p : Place) (calm : IsCalm r) (cells : S
       sym (ap (λ (o : Option ℕ). option_and_then (λ i. held_step kind i (holding_none r.state)) o) calm.idle) ∙ e in
       cc)
   at-rest Label.Leave v e =
-      let m = map-gave (λ (s : State). released (moved (holding_none r.state) s)) (after r.state Label.Leave) v e in
+      let m = map-gave (λ (s : State). with_held_released (moved (holding_none r.state) s)) (after r.state Label.Leave) v e in
       absurd (no-active departed m.0 m.1)
   at-rest Label.End v e =
-      let m = map-gave (λ (s : State). released (moved (holding_none r.state) s)) (after r.state Label.End) v e in
+      let m = map-gave (λ (s : State). with_held_released (moved (holding_none r.state) s)) (after r.state Label.End) v e in
       absurd (no-active ended m.0 m.1)
   at-rest (Label.Free j kind) v e =
       let b = if-gave (is_resting r.state.active j && may_free r.state.active kind) (option_map (moved (holding_none r.state)) (reduce Side.Unprotected kind j r.state)) v e in
@@ -181,26 +181,26 @@ module _ (devices : ℕ) (r : Replayed) (p : Place) (calm : IsCalm r) (cells : S
         ∙ there in
         value-stands (at_value (focus u.place.term)) (record w.state { members = without w.state.members p.number; active = None }) y at_term
 
-    left-next : (y : State) → after w.state Label.Leave ≡ Some y → (v : Weak) → released (moved w y) ≡ v → IsNext devices r p w Label.Leave v
+    left-next : (y : State) → after w.state Label.Leave ≡ Some y → (v : Weak) → with_held_released (moved w y) ≡ v → IsNext devices r p w Label.Leave v
     left-next y e v is =
         let gone = leave-is p.number w.state y u.laid.active e in
         let stands : at_unprotected (focus u.place.term) ≡ true = sym (ap (has_such (λ (term : Tree). at_unprotected (focus term))) u.stands) ∙ gone.0 in
         let x = run-left r (ran p.number p.steps p.fresh) p.steps u.place tells refl refl outside stands in
-        let replays : replay_from r (entries_of p Label.Leave) ≡ Some (entering r p.number x.0) = replay-next r (entering r p.number x.0) (entering r p.number x.0) (ran p.number p.steps p.fresh) [] x.1 refl in
-        let ordered = (calm-behind r (entering r p.number x.0) (entries_of p Label.Leave) calm replays).orderly in
+        let replays : replay_from r (entries_of_label p Label.Leave) ≡ Some (entering r p.number x.0) = replay-next r (entering r p.number x.0) (entering r p.number x.0) (ran p.number p.steps p.fresh) [] x.1 refl in
+        let ordered = (calm-behind r (entering r p.number x.0) (entries_of_label p Label.Leave) calm replays).orderly in
         let same =
         let_go-is r.state p.number u.place w x.0 w.state.members u.laid u.orderly u.orderly.members_rise (λ k apart. refl) (u.stands ∙ sym x.3)
         (number-below devices r.state p.number p.steps p.fresh w u) x.2 x.4 ordered in
         built w Label.Leave v (entering r p.number x.0) replays (λ k. ran-calls k r p.number p.steps p.fresh)
         (ap (λ (xs : List ℕ). p.number ∷ xs) inside)
-        (inl (sym is ∙ ap (λ (s : State). released (moved w s)) gone.1 ∙ same))
+        (inl (sym is ∙ ap (λ (s : State). with_held_released (moved w s)) gone.1 ∙ same))
 
-    ended-next : (y : State) → after w.state Label.End ≡ Some y → (v : Weak) → released (moved w y) ≡ v → IsNext devices r p w Label.End v
+    ended-next : (y : State) → after w.state Label.End ≡ Some y → (v : Weak) → with_held_released (moved w y) ≡ v → IsNext devices r p w Label.End v
     ended-next y e v is =
         let gone = end-is p.number w.state y u.laid.active e in
         let x = run-ended r (ran p.number p.steps p.fresh) p.steps u.place tells refl refl outside calm.orderly (ends-at y e) in
-        let replays : replay_from r (entries_of p Label.End) ≡ Some (staying r x.0) = replay-next r (staying r x.0) (staying r x.0) (ran p.number p.steps p.fresh) [] x.1 refl in
-        let ordered = (calm-behind r (staying r x.0) (entries_of p Label.End) calm replays).orderly in
+        let replays : replay_from r (entries_of_label p Label.End) ≡ Some (staying r x.0) = replay-next r (staying r x.0) (staying r x.0) (ran p.number p.steps p.fresh) [] x.1 refl in
+        let ordered = (calm-behind r (staying r x.0) (entries_of_label p Label.End) calm replays).orderly in
         let same =
         let_go-is r.state p.number u.place w x.0 (without w.state.members p.number) u.laid u.orderly (rise-without w.state.members p.number u.orderly.members_rise)
         (λ k apart. at-without_other w.state.members p.number k (λ eq. apart (sym eq)))
@@ -208,7 +208,7 @@ module _ (devices : ℕ) (r : Replayed) (p : Place) (calm : IsCalm r) (cells : S
         (number-below devices r.state p.number p.steps p.fresh w u) x.2 x.4 ordered in
         built w Label.End v (staying r x.0) replays (λ k. ran-calls k r p.number p.steps p.fresh)
         inside
-        (inl (sym is ∙ ap (λ (s : State). released (moved w s)) gone ∙ same))
+        (inl (sym is ∙ ap (λ (s : State). with_held_released (moved w s)) gone ∙ same))
 
     under-way : (label : Label) (v : Weak) → weak_after w label ≡ Some v → IsNext devices r p w label v
     unfolding weak_after after
@@ -221,8 +221,8 @@ module _ (devices : ℕ) (r : Replayed) (p : Place) (calm : IsCalm r) (cells : S
     under-way (Label.Step kind) v e =
         let made : held_step kind p.number w ≡ Some v = ap (λ (o : Option ℕ). option_and_then (λ (i : ℕ). held_step kind i w) o) (sym u.laid.active) ∙ e in
         built w (Label.Step kind) v r refl (λ k. refl) inside (inr (way-step devices r.state p.number p.steps p.fresh w u kind v made))
-    under-way Label.Leave v e = let m = map-gave (λ (s : State). released (moved w s)) (after w.state Label.Leave) v e in left-next m.0 m.1 v m.2
-    under-way Label.End v e = let m = map-gave (λ (s : State). released (moved w s)) (after w.state Label.End) v e in ended-next m.0 m.1 v m.2
+    under-way Label.Leave v e = let m = map-gave (λ (s : State). with_held_released (moved w s)) (after w.state Label.Leave) v e in left-next m.0 m.1 v m.2
+    under-way Label.End v e = let m = map-gave (λ (s : State). with_held_released (moved w s)) (after w.state Label.End) v e in ended-next m.0 m.1 v m.2
     under-way (Label.Free j kind) v e =
         let b = if-gave (is_resting w.state.active j && may_free w.state.active kind) (option_map (moved w) (reduce Side.Unprotected kind j w.state)) v e in
         let both = both-true (is_resting w.state.active j) (may_free w.state.active kind) b.0 in

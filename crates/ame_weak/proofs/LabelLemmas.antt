@@ -15,7 +15,7 @@ use Rattle.ame_strong.specs.Handed.{handed_print, body_of, print_at, body_at}
 use Rattle.ame_strong.specs.Plan.{refilled}
 use Rattle.ame_strong.specs.declared.fail.StepFail.{StepFail}
 use Rattle.ame_strong.specs.declared.fail.StepFail.TheVariants.{Illegal, NoMemory}
-use Rattle.ame_weak.specs.Weak.{Weak, holding_none, moved, holds_nothing, held_performed, held_at, held_rewritten, held_step, released, is_resting, may_free, weak_after}
+use Rattle.ame_weak.specs.Weak.{Weak, holding_none, moved, holds_nothing, held_performed, held_at, held_rewritten, held_step, with_held_released, is_resting, may_free, weak_after}
 use Rattle.ame_weak.specs.Answer.{GoesOrStays, IsPlain}
 
 -- the strong state goes or stays, and what is held stays
@@ -214,20 +214,20 @@ module _ (w : Weak) where
   no-more : (s : State) → s ≡ record s { output = s.output ++ []; next = s.next + 0 }
   no-more s = let e : s.next ≡ s.next + 0 = omega arith in λ i. record s { output = sym (append-nil s.output) i; next = e i }
 
-  pub let-go-none : holds_nothing w ≡ true → (s : State) → released (moved w s) ≡ moved w s
+  pub let-go-none : holds_nothing w ≡ true → (s : State) → with_held_released (moved w s) ≡ moved w s
   let-go-none none s = by w.prints w.spawns none
     where
       by : (prints : List ℤ) (spawns : List Tree) → holds_nothing (record { state = s; prints = prints; spawns = spawns }) ≡ true
-          → released (record { state = s; prints = prints; spawns = spawns }) ≡ record { state = s; prints = prints; spawns = spawns }
+          → with_held_released (record { state = s; prints = prints; spawns = spawns }) ≡ record { state = s; prints = prints; spawns = spawns }
       by [] [] none = ap holding_none (sym (no-more s))
       by [] (body ∷ spawns) none = cc
       by (n ∷ prints) spawns none = cc
 
-  pub leave-is : weak_after w Label.Leave ≡ option_map (λ s. released (moved w s)) (after w.state Label.Leave)
+  pub leave-is : weak_after w Label.Leave ≡ option_map (λ s. with_held_released (moved w s)) (after w.state Label.Leave)
   unfolding weak_after
   leave-is = refl
 
-  pub end-is : weak_after w Label.End ≡ option_map (λ s. released (moved w s)) (after w.state Label.End)
+  pub end-is : weak_after w Label.End ≡ option_map (λ s. with_held_released (moved w s)) (after w.state Label.End)
   unfolding weak_after
   end-is = refl
 
@@ -237,7 +237,7 @@ module _ (w : Weak) where
 
   pub none-left : is_some (after w.state Label.Leave) ≡ false → weak_after w Label.Leave ≡ None
   unfolding weak_after
-  none-left gone = ap (option_map (λ s. released (moved w s))) (none-of (after w.state Label.Leave) gone)
+  none-left gone = ap (option_map (λ s. with_held_released (moved w s))) (none-of (after w.state Label.Leave) gone)
     where
       none-of : (o : Option State) → is_some o ≡ false → o ≡ None
       none-of None e = refl
@@ -245,18 +245,18 @@ module _ (w : Weak) where
 
   pub none-ended : is_some (after w.state Label.End) ≡ false → weak_after w Label.End ≡ None
   unfolding weak_after
-  none-ended gone = ap (option_map (λ s. released (moved w s))) (none-of (after w.state Label.End) gone)
+  none-ended gone = ap (option_map (λ s. with_held_released (moved w s))) (none-of (after w.state Label.End) gone)
     where
       none-of : (o : Option State) → is_some o ≡ false → o ≡ None
       none-of None e = refl
       none-of (Some x) e = cc
 
-  pub goes-some : (label : Label) → is_some (after w.state label) ≡ true → IsSome (option_map (λ s. released (moved w s)) (after w.state label))
-  goes-some label there = mapped-some (λ s. released (moved w s)) (after w.state label) there
+  pub goes-some : (label : Label) → is_some (after w.state label) ≡ true → IsSome (option_map (λ s. with_held_released (moved w s)) (after w.state label))
+  goes-some label there = mapped-some (λ s. with_held_released (moved w s)) (after w.state label) there
 
-  pub goes-free : holds_nothing w ≡ true → (label : Label) → option_map (λ s. released (moved w s)) (after w.state label) ≡ option_map (moved w) (after w.state label)
+  pub goes-free : holds_nothing w ≡ true → (label : Label) → option_map (λ s. with_held_released (moved w s)) (after w.state label) ≡ option_map (moved w) (after w.state label)
   goes-free none label = by (after w.state label)
     where
-      by : (o : Option State) → option_map (λ s. released (moved w s)) o ≡ option_map (moved w) o
+      by : (o : Option State) → option_map (λ s. with_held_released (moved w s)) o ≡ option_map (moved w) o
       by None = refl
       by (Some s) = ap Some (let-go-none none s)

@@ -8,7 +8,7 @@ use Rattle.ame_laws.specs.Orderly.{IsOrderly, NumbersRise}
 use Rattle.ame_laws.proofs.MapLemmas.{found-alike}
 use Rattle.ame_machine.specs.Run.Local.{LocalState}
 use Rattle.ame_machine.specs.Run.AgreesWith.{with_members, IsAfterRun}
-use Rattle.ame_weak.specs.Weak.{Weak, holding_none, moved, released}
+use Rattle.ame_weak.specs.Weak.{Weak, holding_none, moved, with_held_released}
 use Rattle.ame_weak.proofs.MemberLemmas.{same_or, joined-alike, joined-below, joined-rise}
 use Rattle.ame_weak.proofs.Laid.{IsLaid}
 
@@ -28,7 +28,7 @@ module _ (s : State) (i : ℕ) (p : LocalState) (w : Weak) (t : State) (ms : Lis
       ∙ ap (λ (bodies : List Tree). at (with_members s.members s.next bodies) k) h.spawns
       ∙ sym (after_run.others k apart))
 
-  pub let_go-is : released (moved w (record w.state { members = ms; active = None })) ≡ holding_none t
+  pub let_go-is : with_held_released (moved w (record w.state { members = ms; active = None })) ≡ holding_none t
   let_go-is =
       ap holding_none
       (same_state

@@ -12,7 +12,7 @@ use Rattle.ame_term.specs.declared.term.Term.{Term}
 use Rattle.ame_machine.specs.Run.AgreesWith.{with_members}
 use Rattle.ame_machine.proofs.Run.EffectLemmas.{joined-last}
 use Rattle.ame_strong.specs.Plan.{with_one_member, printed_all}
-use Rattle.ame_weak.specs.Weak.{Weak, holding_none, moved, released, all_joined}
+use Rattle.ame_weak.specs.Weak.{Weak, holding_none, moved, with_held_released, all_joined}
 use Rattle.ame_weak.specs.Answer.{HasGone}
 
 pub joined-none : (s : State) → s ≡ all_joined s []
@@ -63,9 +63,9 @@ gone-next s t (Label.Close i) gone e = absurd gone
 
 -- what is released is the weak state with all in effect
 pub released-is : (w : Weak) (s t u v : State) (label : Label) → w.state ≡ s → after s label ≡ Some t → u ≡ printed_all t w.prints → v ≡ all_joined u w.spawns
-    → option_map (λ z. released (moved w z)) (after w.state label) ≡ Some (holding_none v)
+    → option_map (λ z. with_held_released (moved w z)) (after w.state label) ≡ Some (holding_none v)
 released-is w s t u v label same stepped prints joins =
-    ap (λ (z : State). option_map (λ y. released (moved w y)) (after z label)) same ∙ ap (option_map (λ y. released (moved w y))) stepped
+    ap (λ (z : State). option_map (λ y. with_held_released (moved w y)) (after z label)) same ∙ ap (option_map (λ y. with_held_released (moved w y))) stepped
     ∙ ap (λ (z : State). Some (holding_none z)) (sym (joins ∙ ap (λ (z : State). all_joined z w.spawns) prints))
 
 -- and there is room for them

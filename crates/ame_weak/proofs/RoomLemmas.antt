@@ -12,7 +12,7 @@ use Rattle.ame_term.specs.State.{State, performed, reduce, after, closed, closed
 use Rattle.ame_term.specs.declared.semantics.StepKind.{StepKind}
 use Rattle.ame_term.specs.declared.semantics.Label.{Label}
 use Rattle.ame_journal.proofs.StepLemmas.{performed-keeps, reduced, activate-is}
-use Rattle.ame_weak.specs.Weak.{Weak, moved, holds_nothing, held_performed, held_step, released, is_resting, may_free, weak_after}
+use Rattle.ame_weak.specs.Weak.{Weak, moved, holds_nothing, held_performed, held_step, with_held_released, is_resting, may_free, weak_after}
 use Rattle.ame_weak.proofs.HeldSteps.{if-gave, map-gave, held-reduced}
 use Rattle.ame_weak.proofs.ReleaseLemmas.{gone-next}
 
@@ -52,7 +52,7 @@ held-few kind i w v e =
     let x = held-reduced kind i w v e in
     subst (λ (z : Weak). taken_numbers z ≤ taken_numbers w + 1) x.is (performed-few kind (act_of x.redex) w x.made x.performs)
 
-released-few : (w v : Weak) (s : State) → released (moved w s) ≡ v → s.next ≡ w.state.next → taken_numbers v ≤ taken_numbers w + 1
+released-few : (w v : Weak) (s : State) → with_held_released (moved w s) ≡ v → s.next ≡ w.state.next → taken_numbers v ≤ taken_numbers w + 1
 released-few w v s is next = subst (λ (z : Weak). taken_numbers z ≤ taken_numbers w + 1) is (omega arith)
 
 closed-next : (i : ℕ) (s t : State) → closed i s ≡ Some t → t.next ≡ s.next
@@ -70,10 +70,10 @@ room-after w v (Label.Activate i) e =
     moved-few w v m.0 m.2 (omega arith)
 room-after w v (Label.Step kind) e = option_and_then_some _ _ _ e (λ i is e1. held-few kind i w v e1)
 room-after w v Label.Leave e =
-    let m = map-gave (λ (s : State). released (moved w s)) (after w.state Label.Leave) v e in
+    let m = map-gave (λ (s : State). with_held_released (moved w s)) (after w.state Label.Leave) v e in
     released-few w v m.0 m.2 (gone-next w.state m.0 Label.Leave tt m.1)
 room-after w v Label.End e =
-    let m = map-gave (λ (s : State). released (moved w s)) (after w.state Label.End) v e in
+    let m = map-gave (λ (s : State). with_held_released (moved w s)) (after w.state Label.End) v e in
     released-few w v m.0 m.2 (gone-next w.state m.0 Label.End tt m.1)
 room-after w v (Label.Free i kind) e =
     let b = if-gave (is_resting w.state.active i && may_free w.state.active kind) (option_map (moved w) (reduce Side.Unprotected kind i w.state)) v e in

@@ -13,7 +13,7 @@ use Rattle.ame_journal.proofs.ReachedLemmas.{calm-replayed}
 use Rattle.ame_journal.proofs.TypedLemmas.{typed-replayed}
 use Rattle.ame_journal.proofs.CallLemmas.{calls-appended}
 use Rattle.ame_weak.specs.Weak.{Weak, holding_none, weak_start, weak_run, weak_calls}
-use Rattle.ame_weak.specs.Straight.{Place, outset, entries_of, past, straight_from, straight}
+use Rattle.ame_weak.specs.Straight.{Place, outset, entries_of_label, past, straight_from, straight}
 use Rattle.ame_weak.proofs.WayLemmas.{IsUnderWay}
 use Rattle.ame_weak.proofs.Follow.{IsFollowed, follow-label}
 
@@ -41,10 +41,10 @@ follow-labels devices r p w v (label ∷ labels) f e =
     record {
       behind = b.behind;
       replays =
-          replay_from-append r (entries_of p label) (straight_from (past p label) labels)
+          replay_from-append r (entries_of_label p label) (straight_from (past p label) labels)
           ∙ ap (λ (o : Option Replayed). option_and_then (λ t. replay_from t (straight_from (past p label) labels)) o) a.replays ∙ b.replays;
       called = λ k.
-          calls-appended k r a.behind (entries_of p label) (straight_from (past p label) labels) a.replays
+          calls-appended k r a.behind (entries_of_label p label) (straight_from (past p label) labels) a.replays
           ∙ ap (λ xs. xs ++ device_calls_from k a.behind (straight_from (past p label) labels)) (a.called k)
           ∙ ap (λ xs. label_call k w.state label ++ xs) (b.called k)
           ∙ ap (λ (o : Option Weak). label_call k w.state label ++ of_next (λ z. weak_calls k z labels) o) (sym first);

@@ -11,9 +11,9 @@ use Rattle.ame_journal.specs.declared.entry.Entry.{Entry}
 use Rattle.ame_journal.specs.Replay.{replay}
 use Rattle.ame_journal.specs.Calls.{device_calls}
 use Rattle.ame_weak.specs.Weak.{Weak, weak_start, weak_after, weak_run}
-use Rattle.ame_weak.specs.Straight.{Place, outset, entries_of, past}
-use Rattle.ame_weak.specs.Tries.{AreTried, noted_tries, later, straight_with}
-use Rattle.ame_weak.specs.Straightened.{IsFirstIllegal, EndsWith, IsStraightened, LeadsToTheEnd, MakesTheCalls, StandsFor, Adds, Writes}
+use Rattle.ame_weak.specs.Straight.{Place, outset, entries_of_label, past}
+use Rattle.ame_weak.specs.Tries.{AreTried, noted_tries, tries_behind, straight_with}
+use Rattle.ame_weak.specs.Straightened.{IsFirstIllegal, EndsActive, IsStraightened, LeadsToTheEnd, MakesTheCalls, KeepsPlace, AddsEntries, Writes}
 use Rattle.ame_weak.specs.declared.straightening.Straight.{Straight}
 use Rattle.ame_weak.specs.declared.transcript.Transcript.{Transcript}
 use Rattle.ame_weak.specs.declared.tries.Try.{Try}
@@ -25,7 +25,7 @@ use Rattle.ame_weak.proofs.TryLemmas.{tries_straighten, calls_are_told_with}
 pub record IsOnTheWay (program : Tree) (labels : List Label) (tries : List Try) (k : ℕ) (w : Weak) (t : Transcript) (ts : List Try) : Type 0 where
   pub leads : weak_run (weak_start program) (take k labels) ≡ Some w
   pub place : Place
-  pub stands : StandsFor place t
+  pub stands : KeepsPlace place t
   pub written : t.journal.entries ++ straight_with k ts place (drop k labels) ≡ straight_with 0 tries outset labels
   pub room : taken_numbers w ≤ k + 1
   pub few : t.steps ≤ k
@@ -47,7 +47,7 @@ past-steps p (Label.Free i kind) = omega arith
 past-steps p (Label.Close i) = omega arith
 
 module _ (program : Tree) (labels : List Label) (tries : List Try) where
-  pub on-begun : (w : Weak) (t : Transcript) → w ≡ weak_start program → StandsFor outset t → t.journal.entries ≡ [] → IsOnTheWay program labels tries 0 w t tries
+  pub on-begun : (w : Weak) (t : Transcript) → w ≡ weak_start program → KeepsPlace outset t → t.journal.entries ≡ [] → IsOnTheWay program labels tries 0 w t tries
   on-begun w t is stands empty = record {
     leads = ap Some (sym is);
     place = outset;
@@ -58,21 +58,21 @@ module _ (program : Tree) (labels : List Label) (tries : List Try) where
   }
 
   module _ (k : ℕ) (w : Weak) (t : Transcript) (ts : List Try) (o : IsOnTheWay program labels tries k w t ts) where
-    pub on-more : (d : Label) (v : Weak) (noted next : Transcript) (rest : List Try) → k < length labels → Adds (noted_tries k ts) t noted → rest ≡ later k ts
+    pub on-more : (d : Label) (v : Weak) (noted next : Transcript) (rest : List Try) → k < length labels → AddsEntries (noted_tries k ts) t noted → rest ≡ tries_behind k ts
         → weak_after w (get_or labels k d) ≡ Some v → Writes (get_or labels k d) noted next → IsOnTheWay program labels tries (k + 1) v next rest
     on-more d v noted next rest within notes others legal writes =
         let label = get_or labels k d in
         let x = writes o.place (stands-same o.place (noted_tries k ts) t noted notes o.stands) in
-        let more = straight_with (k + 1) (later k ts) (past o.place label) (drop (k + 1) labels) in
+        let more = straight_with (k + 1) (tries_behind k ts) (past o.place label) (drop (k + 1) labels) in
         record {
           leads = ap (weak_run (weak_start program)) (take_more labels k d within) ∙ run-more (weak_start program) w v (take k labels) label o.leads legal;
           place = past o.place label;
           stands = x.0;
           written =
               ap (λ (us : List Try). next.journal.entries ++ straight_with (k + 1) us (past o.place label) (drop (k + 1) labels)) others
-              ∙ ap (λ (es : List Entry). es ++ more) (x.1 ∙ ap (λ (es : List Entry). es ++ entries_of o.place label) notes.added)
-              ∙ append_assoc (t.journal.entries ++ noted_tries k ts) (entries_of o.place label) more
-              ∙ append_assoc t.journal.entries (noted_tries k ts) (entries_of o.place label ++ more)
+              ∙ ap (λ (es : List Entry). es ++ more) (x.1 ∙ ap (λ (es : List Entry). es ++ entries_of_label o.place label) notes.added)
+              ∙ append_assoc (t.journal.entries ++ noted_tries k ts) (entries_of_label o.place label) more
+              ∙ append_assoc t.journal.entries (noted_tries k ts) (entries_of_label o.place label ++ more)
               ∙ ap (λ (ls : List Label). t.journal.entries ++ straight_with k ts o.place ls) (sym (drop_more labels k d within))
               ∙ o.written;
           room = let a = room-after w v label legal in let b = o.room in omega arith;
@@ -96,8 +96,8 @@ module _ (program : Tree) (labels : List Label) (tries : List Try) where
       refused = refused;
     }
 
-    pub on-end : (noted : Transcript) → length labels ≤ k → Adds (noted_tries k ts) t noted
-        → EndsWith program labels w.state.active × (noted.journal.entries ≡ straight_with 0 tries outset labels)
+    pub on-end : (noted : Transcript) → length labels ≤ k → AddsEntries (noted_tries k ts) t noted
+        → EndsActive program labels w.state.active × (noted.journal.entries ≡ straight_with 0 tries outset labels)
     on-end noted all notes = (
       record { weak = w; leads = ap (weak_run (weak_start program)) (sym (take_all k labels all)) ∙ o.leads; active = refl },
       notes.added ∙ ap (λ (ls : List Label). t.journal.entries ++ straight_with k ts o.place ls) (sym (drop_all k labels all)) ∙ o.written,

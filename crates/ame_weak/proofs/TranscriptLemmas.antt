@@ -10,15 +10,15 @@ use Rattle.std.specs.List.{list_any}
 use Rattle.std.specs.Ordering.{nat_cmp}
 use Rattle.ame_journal.specs.declared.entry.Entry.{Entry}
 use Rattle.ame_weak.specs.Straight.{Place, freed, arrival, came}
-use Rattle.ame_weak.specs.Straightened.{StandsFor, Adds}
-use Rattle.ame_weak.specs.Tries.{noted_tries, later}
+use Rattle.ame_weak.specs.Straightened.{KeepsPlace, AddsEntries}
+use Rattle.ame_weak.specs.Tries.{noted_tries, tries_behind}
 use Rattle.ame_weak.specs.declared.transcript.Transcript.{Transcript}
 use Rattle.ame_weak.specs.declared.tries.Try.{Try}
 
 -- Some notes of these tries are added, and the rest is to come.
 pub record IsNotedSoFar (n : ℕ) (all rest : List Try) (old new : Transcript) : Type 0 where
   pub added : new.journal.entries ++ noted_tries n rest ≡ old.journal.entries ++ noted_tries n all
-  pub others : later n rest ≡ later n all
+  pub others : tries_behind n rest ≡ tries_behind n all
   pub inside : new.inside ≡ old.inside
   pub number : new.number ≡ old.number
   pub steps : new.steps ≡ old.steps
@@ -32,9 +32,9 @@ one-more n i x = grind (arith, nat_tests)
 one-less : (n i : ℕ) (x : Bool) → cond (is_at (nat_cmp n) i) false x ≡ (not (i == n) && x)
 one-less n i x = grind (arith, nat_tests)
 
-pub stands-entered : (p : Place) (t : Transcript) (inside : BTreeSet ℕ) → StandsFor p t
+pub stands-entered : (p : Place) (t : Transcript) (inside : BTreeSet ℕ) → KeepsPlace p t
     → ((i : ℕ) → contains nat_cmp inside i ≡ cond (is_at (nat_cmp t.number) i) true (contains nat_cmp t.inside i))
-    → StandsFor (record p { inside = p.number ∷ p.inside }) (record t { inside = inside })
+    → KeepsPlace (record p { inside = p.number ∷ p.inside }) (record t { inside = inside })
 stands-entered p t inside s update = record {
   inside = λ i.
       update i ∙ ap (cond (is_at (nat_cmp t.number) i) true) (s.inside i) ∙ one-more t.number i (list_any (λ j. j == i) p.inside)
@@ -47,9 +47,9 @@ stands-entered p t inside s update = record {
 others-same : (i n k : ℕ) → (k == i) ≡ true → not (k == n) ≡ not (i == n)
 others-same i n k e = ap (λ m. not (m == n)) (eqb-true k i e)
 
-pub stands-left : (p : Place) (t : Transcript) (n : ℕ) (inside : BTreeSet ℕ) → StandsFor p t
+pub stands-left : (p : Place) (t : Transcript) (n : ℕ) (inside : BTreeSet ℕ) → KeepsPlace p t
     → ((i : ℕ) → contains nat_cmp inside i ≡ cond (is_at (nat_cmp n) i) false (contains nat_cmp t.inside i))
-    → StandsFor (record p { inside = filter (λ j. not (j == n)) p.inside }) (record t { inside = inside })
+    → KeepsPlace (record p { inside = filter (λ j. not (j == n)) p.inside }) (record t { inside = inside })
 stands-left p t n inside s update = record {
   inside = λ i.
       update i ∙ ap (cond (is_at (nat_cmp n) i) false) (s.inside i) ∙ one-less n i (list_any (λ j. j == i) p.inside)
@@ -60,7 +60,7 @@ stands-left p t n inside s update = record {
 }
 
 -- it still stands for a place
-pub stands-same : (p : Place) (entries : List Entry) (old new : Transcript) → Adds entries old new → StandsFor p old → StandsFor p new
+pub stands-same : (p : Place) (entries : List Entry) (old new : Transcript) → AddsEntries entries old new → KeepsPlace p old → KeepsPlace p new
 stands-same p entries old new a s = record {
   inside = λ i. ap (λ (z : BTreeSet ℕ). contains nat_cmp z i) a.inside ∙ s.inside i;
   number = a.number ∙ s.number;
@@ -68,10 +68,10 @@ stands-same p entries old new a s = record {
   fresh = ap (map (λ l. l.0)) a.fresh ∙ s.fresh;
 }
 
-pub closed-out : (p : Place) (t arrived added : Transcript) (n : ℕ) (entry : Entry) (inside : BTreeSet ℕ) → StandsFor (record p { inside = came p.inside n }) arrived
-    → arrived.journal.entries ≡ t.journal.entries ++ arrival p.inside n → entry ≡ freed n [] None → Adds (entry ∷ []) arrived added
+pub closed-out : (p : Place) (t arrived added : Transcript) (n : ℕ) (entry : Entry) (inside : BTreeSet ℕ) → KeepsPlace (record p { inside = came p.inside n }) arrived
+    → arrived.journal.entries ≡ t.journal.entries ++ arrival p.inside n → entry ≡ freed n [] None → AddsEntries (entry ∷ []) arrived added
     → ((i : ℕ) → contains nat_cmp inside i ≡ cond (is_at (nat_cmp n) i) false (contains nat_cmp added.inside i))
-    → StandsFor (record p { inside = filter (λ j. not (j == n)) (came p.inside n) }) (record added { inside = inside })
+    → KeepsPlace (record p { inside = filter (λ j. not (j == n)) (came p.inside n) }) (record added { inside = inside })
     × (added.journal.entries ≡ t.journal.entries ++ (arrival p.inside n ++ freed n [] None ∷ []))
 closed-out p t arrived added n entry inside stands came_in is adds update = (
   stands-left (record p { inside = came p.inside n }) added n inside (stands-same (record p { inside = came p.inside n }) (entry ∷ []) arrived added adds stands) update,

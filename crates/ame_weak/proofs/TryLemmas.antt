@@ -17,8 +17,8 @@ use Rattle.ame_journal.proofs.StepLemmas.{activated-resting}
 use Rattle.ame_journal.proofs.ReplayLemmas.{replay_from-append}
 use Rattle.ame_journal.proofs.CallLemmas.{calls-appended}
 use Rattle.ame_weak.specs.Weak.{Weak, holding_none, weak_start, weak_after, weak_run, weak_calls}
-use Rattle.ame_weak.specs.Straight.{Place, outset, entries_of, past}
-use Rattle.ame_weak.specs.Tries.{HoldsIn, holds_in, AreTried, note_for, noted_tries, later, straight_with}
+use Rattle.ame_weak.specs.Straight.{Place, outset, entries_of_label, past}
+use Rattle.ame_weak.specs.Tries.{HoldsIn, holds_in, AreTried, note_for, noted_tries, tries_behind, straight_with}
 use Rattle.ame_weak.specs.declared.tries.Try.{Try}
 use Rattle.ame_weak.proofs.EntryLemmas.{replay-next}
 use Rattle.ame_weak.proofs.Follow.{IsFollowed, follow-label}
@@ -67,7 +67,7 @@ tried-behind n w x label labels t first tried = λ front rest v is count run.
     tried (label ∷ front) rest v (ap (λ (ls : List Label). label ∷ ls) is) more (ap (option_and_then (λ z. weak_run z front)) first ∙ run)
 
 -- what holds of all tries holds of the later ones
-later-all : (P Q : Try → Type 0) → ((t : Try) → P t → Q t) → (n : ℕ) (ts : List Try) → AllByRecursion P ts → AllByRecursion Q (later n ts)
+later-all : (P Q : Try → Type 0) → ((t : Try) → P t → Q t) → (n : ℕ) (ts : List Try) → AllByRecursion P ts → AllByRecursion Q (tries_behind n ts)
 later-all P Q f n [] all = tt
 later-all P Q f n (t ∷ ts) all = by (t.after == n) (later-all P Q f n ts all.1)
   where
@@ -75,7 +75,7 @@ later-all P Q f n (t ∷ ts) all = by (t.after == n) (later-all P Q f n ts all.1
     rest [] all = tt
     rest (u ∷ us) all = (f u all.0, rest us all.1)
 
-    by : (b : Bool) → AllByRecursion Q (later n ts) → AllByRecursion Q (if b then later n ts else t ∷ ts)
+    by : (b : Bool) → AllByRecursion Q (tries_behind n ts) → AllByRecursion Q (if b then tries_behind n ts else t ∷ ts)
     by true others = others
     by false others = (f t all.0, rest ts all.1)
 
@@ -117,19 +117,19 @@ module _ (devices : ℕ) where
       let notes = notes-made n r p w (label ∷ labels) f ts all in
       let a = follow-label devices r p w x label f first in
       let others = later-all (IsTriedFrom n w (label ∷ labels)) (IsTriedFrom (n + 1) x labels) (λ t tried. tried-behind n w x label labels t first tried) n ts all in
-      let b = follow-with (n + 1) (later n ts) a.behind (past p label) x v labels a.follows others rest in
-      let last = straight_with (n + 1) (later n ts) (past p label) labels in
-      let of_label : replay_from r (entries_of p label ++ last) ≡ Some b.behind =
-      replay_from-append r (entries_of p label) last ∙ ap (λ (o : Option Replayed). option_and_then (λ t. replay_from t last) o) a.replays ∙ b.replays in
+      let b = follow-with (n + 1) (tries_behind n ts) a.behind (past p label) x v labels a.follows others rest in
+      let last = straight_with (n + 1) (tries_behind n ts) (past p label) labels in
+      let of_label : replay_from r (entries_of_label p label ++ last) ≡ Some b.behind =
+      replay_from-append r (entries_of_label p label) last ∙ ap (λ (o : Option Replayed). option_and_then (λ t. replay_from t last) o) a.replays ∙ b.replays in
       record {
         behind = b.behind;
         replays =
-            replay_from-append r (noted_tries n ts) (entries_of p label ++ last)
-            ∙ ap (λ (o : Option Replayed). option_and_then (λ t. replay_from t (entries_of p label ++ last)) o) notes.replays ∙ of_label;
+            replay_from-append r (noted_tries n ts) (entries_of_label p label ++ last)
+            ∙ ap (λ (o : Option Replayed). option_and_then (λ t. replay_from t (entries_of_label p label ++ last)) o) notes.replays ∙ of_label;
         called = λ k.
-            calls-appended k r r (noted_tries n ts) (entries_of p label ++ last) notes.replays
-            ∙ ap (λ xs. xs ++ device_calls_from k r (entries_of p label ++ last)) (notes.called k)
-            ∙ calls-appended k r a.behind (entries_of p label) last a.replays
+            calls-appended k r r (noted_tries n ts) (entries_of_label p label ++ last) notes.replays
+            ∙ ap (λ xs. xs ++ device_calls_from k r (entries_of_label p label ++ last)) (notes.called k)
+            ∙ calls-appended k r a.behind (entries_of_label p label) last a.replays
             ∙ ap (λ xs. xs ++ device_calls_from k a.behind last) (a.called k)
             ∙ ap (λ xs. label_call k w.state label ++ xs) (b.called k)
             ∙ ap (λ (o : Option Weak). label_call k w.state label ++ of_next (λ z. weak_calls k z labels) o) (sym first);

@@ -20,7 +20,7 @@ use Rattle.ame_machine.specs.Run.AgreesWith.{with_members}
 use Rattle.ame_strong.specs.Handed.{print_at, body_at}
 use Rattle.ame_strong.specs.Plan.{refilled}
 use Rattle.ame_weak.specs.Answer.{IsPlain}
-use Rattle.ame_weak.specs.Weak.{Weak, moved, holds_none, holds_nothing, held_performed, held_rewritten, held_step, released, is_resting, may_free, weak_after, weak_start, weak_run}
+use Rattle.ame_weak.specs.Weak.{Weak, moved, holds_none, holds_nothing, held_performed, held_rewritten, held_step, with_held_released, is_resting, may_free, weak_after, weak_start, weak_run}
 use Rattle.ame_weak.specs.WeakRules.{Joins, Releases, WeakRule, WeakBegins, WeakRuns}
 use Rattle.ame_weak.proofs.HeldSteps.{if-gave, map-gave, held-reduced}
 use Rattle.ame_weak.proofs.LabelLemmas.{activate-free, step-active, free-may, close-may, plain-step, print-some, spawn-some, leave-is, end-is}
@@ -50,10 +50,10 @@ joins-are _ _ _ _ _ (Joins.more members later next end body bodies joins) =
     let count : end ≡ (next + 1) + length bodies = x.1 in
     (x.0, omega arith)
 
-releases-of : (w : Weak) (s : State) → Releases s w.prints w.spawns (released (moved w s))
+releases-of : (w : Weak) (s : State) → Releases s w.prints w.spawns (with_held_released (moved w s))
 releases-of w s = record { store = refl; active = refl; output = refl; members = joins-of s.members s.next w.spawns; no_prints = refl; no_spawns = refl }
 
-released-by : (w : Weak) (s : State) (v : Weak) → Releases s w.prints w.spawns v → released (moved w s) ≡ v
+released-by : (w : Weak) (s : State) (v : Weak) → Releases s w.prints w.spawns v → with_held_released (moved w s) ≡ v
 released-by w s v r =
     let j = joins-are s.members s.next w.spawns v.state.members v.state.next r.members in
     λ i. record {
@@ -254,11 +254,11 @@ module _ (w v : Weak) where
       subst (WeakRule w (Label.Activate i)) m.2 (WeakRule.activates i m.0 n.0 n.1 (rule_of w.state (Label.Activate i) m.0 m.1))
   weak_rule_of (Label.Step kind) e = option_and_then_some _ _ _ e (λ i is e1. step-rule kind i is e1)
   weak_rule_of Label.Leave e =
-      let m = map-gave (λ (s : State). released (moved w s)) (after w.state Label.Leave) v e in
-      subst (WeakRule w Label.Leave) m.2 (WeakRule.leaves m.0 (released (moved w m.0)) (rule_of w.state Label.Leave m.0 m.1) (releases-of w m.0))
+      let m = map-gave (λ (s : State). with_held_released (moved w s)) (after w.state Label.Leave) v e in
+      subst (WeakRule w Label.Leave) m.2 (WeakRule.leaves m.0 (with_held_released (moved w m.0)) (rule_of w.state Label.Leave m.0 m.1) (releases-of w m.0))
   weak_rule_of Label.End e =
-      let m = map-gave (λ (s : State). released (moved w s)) (after w.state Label.End) v e in
-      subst (WeakRule w Label.End) m.2 (WeakRule.ends m.0 (released (moved w m.0)) (rule_of w.state Label.End m.0 m.1) (releases-of w m.0))
+      let m = map-gave (λ (s : State). with_held_released (moved w s)) (after w.state Label.End) v e in
+      subst (WeakRule w Label.End) m.2 (WeakRule.ends m.0 (with_held_released (moved w m.0)) (rule_of w.state Label.End m.0 m.1) (releases-of w m.0))
   weak_rule_of (Label.Free i kind) e =
       let b = if-gave (is_resting w.state.active i && may_free w.state.active kind) (option_map (moved w) (reduce Side.Unprotected kind i w.state)) v e in
       let both = both-true (is_resting w.state.active i) (may_free w.state.active kind) b.0 in
@@ -301,9 +301,9 @@ weak_after_of w _ _ (WeakRule.spawns i frames body is member on) =
     ∙ ap (λ (ms : List (ℕ × Tree)). Some (record { state = record w.state { members = ms }; prints = w.prints; spawns = w.spawns ++ body ∷ [] }))
     (held-at w i frames (Tree.Async body) member (filled frames (Tree.Async body) unit_tree refl))
 weak_after_of w _ _ (WeakRule.leaves s v rule releases) =
-    leave-is w ∙ ap (option_map (λ z. released (moved w z))) (after_of w.state Label.Leave s rule) ∙ ap Some (released-by w s v releases)
+    leave-is w ∙ ap (option_map (λ z. with_held_released (moved w z))) (after_of w.state Label.Leave s rule) ∙ ap Some (released-by w s v releases)
 weak_after_of w _ _ (WeakRule.ends s v rule releases) =
-    end-is w ∙ ap (option_map (λ z. released (moved w z))) (after_of w.state Label.End s rule) ∙ ap Some (released-by w s v releases)
+    end-is w ∙ ap (option_map (λ z. with_held_released (moved w z))) (after_of w.state Label.End s rule) ∙ ap Some (released-by w s v releases)
 weak_after_of w _ _ (WeakRule.frees i kind s apart idle steps) =
     free-may w i kind (true-both (is_resting w.state.active i) (may_free w.state.active kind) (other-resting w.state.active i apart) (idle-peek w.state.active kind idle))
     ∙ ap (option_map (moved w)) (reduce_of w.state Side.Unprotected kind i s steps)

@@ -13,18 +13,18 @@ use Rattle.ame_weak.specs.Weak.{Weak}
 abbrev pub max_frames : ℕ
 max_frames = 1000
 
-abbrev pub part_of : Tree → Option Tree
-part_of part = if is_held part then None else Some part
+abbrev pub unheld_part : Tree → Option Tree
+unheld_part part = if is_held part then None else Some part
 
 -- the part of a form that is evaluated next, if it is no redex
 abbrev pub next_part : Tree → Option Tree
-next_part (Tree.Let x bound body) = part_of bound
+next_part (Tree.Let x bound body) = unheld_part bound
 next_part (Tree.Do Trees.None) = None
-next_part (Tree.Do (Trees.More part rest)) = part_of part
-next_part (Tree.If test then_part else_part) = part_of test
-next_part (Tree.Unprotected part) = part_of part
-next_part (Tree.One op part) = part_of part
-next_part (Tree.Two op left right) = if is_held left then part_of right else Some left
+next_part (Tree.Do (Trees.More part rest)) = unheld_part part
+next_part (Tree.If test then_part else_part) = unheld_part test
+next_part (Tree.Unprotected part) = unheld_part part
+next_part (Tree.One op part) = unheld_part part
+next_part (Tree.Two op left right) = if is_held left then unheld_part right else Some left
 next_part _ = None
 
 -- whether the redex of a term stands in more than n frames
@@ -46,12 +46,12 @@ is_tall_at (Focus.AtRedex side redex) = nat_lt max_height (value_height redex)
 abbrev pub is_beyond : Tree → Bool
 is_beyond term = is_deeper max_frames term || is_tall_at (focus term)
 
-abbrev pub IsWithin : Option Tree → Type 0
-IsWithin None = ⊤
-IsWithin (Some term) = is_beyond term ≡ false
+abbrev pub IsTermWithinBounds : Option Tree → Type 0
+IsTermWithinBounds None = ⊤
+IsTermWithinBounds (Some term) = is_beyond term ≡ false
 
 -- the term of which a label makes a step is within the bounds
 abbrev pub IsWithinBounds : Weak → Label → Type 0
-IsWithinBounds w (Label.Step kind) = IsWithin (active_tree w.state)
-IsWithinBounds w (Label.Free i kind) = IsWithin (at (pool w.state) i)
+IsWithinBounds w (Label.Step kind) = IsTermWithinBounds (active_tree w.state)
+IsWithinBounds w (Label.Free i kind) = IsTermWithinBounds (at (pool w.state) i)
 IsWithinBounds w _ = ⊤

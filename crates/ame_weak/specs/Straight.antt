@@ -39,13 +39,13 @@ abbrev pub arrival : List ℕ → ℕ → List Entry
 arrival inside i = arrival_where (list_any (λ j. j == i) inside) i
 
 -- the entries that a label adds
-abbrev pub entries_of : Place → Label → List Entry
-entries_of p (Label.Activate i) = []
-entries_of p (Label.Step kind) = []
-entries_of p Label.Leave = ran p.number p.steps p.fresh ∷ []
-entries_of p Label.End = ran p.number p.steps p.fresh ∷ []
-entries_of p (Label.Free i kind) = arrival p.inside i ++ freed i (fresh_of kind) (device_answer kind) ∷ []
-entries_of p (Label.Close i) = arrival p.inside i ++ freed i [] None ∷ []
+abbrev pub entries_of_label : Place → Label → List Entry
+entries_of_label p (Label.Activate i) = []
+entries_of_label p (Label.Step kind) = []
+entries_of_label p Label.Leave = ran p.number p.steps p.fresh ∷ []
+entries_of_label p Label.End = ran p.number p.steps p.fresh ∷ []
+entries_of_label p (Label.Free i kind) = arrival p.inside i ++ freed i (fresh_of kind) (device_answer kind) ∷ []
+entries_of_label p (Label.Close i) = arrival p.inside i ++ freed i [] None ∷ []
 
 abbrev pub came_where : Bool → List ℕ → ℕ → List ℕ
 came_where true inside i = inside
@@ -67,7 +67,7 @@ past p (Label.Close i) = record p { inside = filter (λ j. not (j == i)) (came p
 -- the entries of labels from here
 abbrev pub straight_from : Place → List Label → List Entry
 straight_from p [] = []
-straight_from p (label ∷ labels) = entries_of p label ++ straight_from (past p label) labels
+straight_from p (label ∷ labels) = entries_of_label p label ++ straight_from (past p label) labels
 
 -- the journal of a weak run's labels
 abbrev pub straight : List Label → List Entry

@@ -10,7 +10,7 @@ use Rattle.ame_journal.specs.Replayed.{Replayed}
 use Rattle.ame_journal.specs.Replay.{replay}
 use Rattle.ame_journal.specs.Calls.{device_calls}
 use Rattle.ame_weak.specs.Weak.{Weak, IsWeakRun, weak_after, weak_start, weak_calls}
-use Rattle.ame_weak.specs.Straight.{Place, outset, arrival, came, entries_of, past}
+use Rattle.ame_weak.specs.Straight.{Place, outset, arrival, came, entries_of_label, past}
 use Rattle.ame_weak.specs.Tries.{straight_with}
 use Rattle.ame_weak.specs.declared.tries.Try.{Try}
 use Rattle.ame_weak.specs.declared.transcript.Transcript.{Transcript}
@@ -28,7 +28,7 @@ pub record IsFirstIllegal (program : Tree) (labels : List Label) (n : ℕ) : Typ
   pub refused : weak_after weak label ≡ None
 
 -- all labels are legal, and this is active at their end
-pub record EndsWith (program : Tree) (labels : List Label) (who : Option ℕ) : Type 0 where
+pub record EndsActive (program : Tree) (labels : List Label) (who : Option ℕ) : Type 0 where
   pub weak : Weak
   pub leads : IsWeakRun program labels weak
   pub active : weak.state.active ≡ who
@@ -36,9 +36,9 @@ pub record EndsWith (program : Tree) (labels : List Label) (who : Option ℕ) : 
 -- What an answer tells: the entries of the labels with the notes of the tries, where nothing is active at
 -- their end; the first label without a rule; or who is active at the end.
 abbrev pub IsStraightened : Tree → List Label → List Try → Straight → Type 0
-IsStraightened program labels tries (Straight.Journal journal) = EndsWith program labels None × (journal.entries ≡ straight_with 0 tries outset labels)
+IsStraightened program labels tries (Straight.Journal journal) = EndsActive program labels None × (journal.entries ≡ straight_with 0 tries outset labels)
 IsStraightened program labels tries (Straight.Illegal n) = IsFirstIllegal program labels n
-IsStraightened program labels tries (Straight.Active i) = EndsWith program labels (Some i)
+IsStraightened program labels tries (Straight.Active i) = EndsActive program labels (Some i)
 
 -- entries and labels lead to the same store, members, output and next number, with nothing active or held
 pub record LeadTogether (program : Tree) (labels : List Label) (entries : List Entry) : Type 0 where
@@ -67,14 +67,14 @@ MakesTheCalls program labels _ = ⊤
 -- The code's journal so far
 
 -- what it keeps of where the labels have come to; who is inside is told by look-up
-pub record StandsFor (p : Place) (t : Transcript) : Type 0 where
+pub record KeepsPlace (p : Place) (t : Transcript) : Type 0 where
   pub inside : (i : ℕ) → contains nat_cmp t.inside i ≡ list_any (λ j. j == i) p.inside
   pub number : t.number ≡ p.number
   pub steps : t.steps ≡ p.steps
   pub fresh : map (λ l. l.0) t.fresh.items ≡ p.fresh
 
 -- entries are added, and no more
-pub record Adds (entries : List Entry) (old new : Transcript) : Type 0 where
+pub record AddsEntries (entries : List Entry) (old new : Transcript) : Type 0 where
   pub added : new.journal.entries ≡ old.journal.entries ++ entries
   pub inside : new.inside ≡ old.inside
   pub number : new.number ≡ old.number
@@ -83,8 +83,8 @@ pub record Adds (entries : List Entry) (old new : Transcript) : Type 0 where
 
 -- a label's entries are added, and it stands for the place behind the label
 abbrev pub Writes : Label → Transcript → Transcript → Type 0
-Writes label old new = (p : Place) → StandsFor p old → StandsFor (past p label) new × (new.journal.entries ≡ old.journal.entries ++ entries_of p label)
+Writes label old new = (p : Place) → KeepsPlace p old → KeepsPlace (past p label) new × (new.journal.entries ≡ old.journal.entries ++ entries_of_label p label)
 
 -- a member comes in, if it isn't inside
 abbrev pub Arrives : ℕ → Transcript → Transcript → Type 0
-Arrives i old new = (p : Place) → StandsFor p old → StandsFor (record p { inside = came p.inside i }) new × (new.journal.entries ≡ old.journal.entries ++ arrival p.inside i)
+Arrives i old new = (p : Place) → KeepsPlace p old → KeepsPlace (record p { inside = came p.inside i }) new × (new.journal.entries ≡ old.journal.entries ++ arrival p.inside i)

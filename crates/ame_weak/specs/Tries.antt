@@ -8,7 +8,7 @@ use Rattle.ame_journal.specs.declared.entry.EntryKind.{EntryKind}
 use Rattle.ame_journal.specs.Replay.{fragment, fails_after}
 use Rattle.ame_journal.specs.Totals.{is_note}
 use Rattle.ame_weak.specs.Weak.{Weak, IsWeakRun}
-use Rattle.ame_weak.specs.Straight.{Place, entries_of, past}
+use Rattle.ame_weak.specs.Straight.{Place, entries_of_label, past}
 use Rattle.ame_weak.specs.declared.tries.Try.{Try}
 
 -- What a try tells of a weak state where nothing is active: its fragment comes to a condition that is false, or
@@ -47,19 +47,19 @@ noted_tries n [] = []
 noted_tries n (t ∷ tries) = if t.after == n then note_for t ∷ noted_tries n tries else []
 
 -- the tries behind those
-abbrev pub later : ℕ → List Try → List Try
-later n [] = []
-later n (t ∷ tries) = if t.after == n then later n tries else t ∷ tries
+abbrev pub tries_behind : ℕ → List Try → List Try
+tries_behind n [] = []
+tries_behind n (t ∷ tries) = if t.after == n then tries_behind n tries else t ∷ tries
 
 -- the entries of labels from here, which is after n labels, with the notes of the tries in order
 abbrev pub straight_with : ℕ → List Try → Place → List Label → List Entry
 straight_with n tries p [] = noted_tries n tries
-straight_with n tries p (label ∷ labels) = noted_tries n tries ++ (entries_of p label ++ straight_with (n + 1) (later n tries) (past p label) labels)
+straight_with n tries p (label ∷ labels) = noted_tries n tries ++ (entries_of_label p label ++ straight_with (n + 1) (tries_behind n tries) (past p label) labels)
 
 -- tries in order: each after n labels at least and m at most, and none before one that it follows
-abbrev pub AreInOrder : ℕ → ℕ → List Try → Type 0
-AreInOrder n m [] = ⊤
-AreInOrder n m (t ∷ tries) = (n ≤ t.after) × (t.after ≤ m) × AreInOrder t.after m tries
+abbrev pub AreTriesInOrder : ℕ → ℕ → List Try → Type 0
+AreTriesInOrder n m [] = ⊤
+AreTriesInOrder n m (t ∷ tries) = (n ≤ t.after) × (t.after ≤ m) × AreTriesInOrder t.after m tries
 
 -- the notes among entries, in order
 abbrev pub notes_of : List Entry → List Entry

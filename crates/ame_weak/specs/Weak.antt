@@ -71,8 +71,8 @@ abbrev pub all_joined : State → List Tree → State
 all_joined s bodies = record s { members = with_members s.members s.next bodies; next = s.next + length bodies }
 
 -- What is held takes effect: prints stand behind the output, and new members get the next numbers in order.
-abbrev pub released : Weak → Weak
-released w = holding_none (all_joined (with_output w.state (w.state.output ++ w.prints)) w.spawns)
+abbrev pub with_held_released : Weak → Weak
+with_held_released w = holding_none (all_joined (with_output w.state (w.state.output ++ w.prints)) w.spawns)
 
 -- Labels
 
@@ -90,8 +90,8 @@ may_free _ kind = true
 unfoldable pub weak_after : Weak → Label → Option Weak
 weak_after w (Label.Activate i) = if holds_nothing w then option_map (moved w) (after w.state (Label.Activate i)) else None
 weak_after w (Label.Step kind) = option_and_then (λ i. held_step kind i w) w.state.active
-weak_after w Label.Leave = option_map (λ s. released (moved w s)) (after w.state Label.Leave)
-weak_after w Label.End = option_map (λ s. released (moved w s)) (after w.state Label.End)
+weak_after w Label.Leave = option_map (λ s. with_held_released (moved w s)) (after w.state Label.Leave)
+weak_after w Label.End = option_map (λ s. with_held_released (moved w s)) (after w.state Label.End)
 weak_after w (Label.Free i kind) =
     if is_resting w.state.active i && may_free w.state.active kind then option_map (moved w) (reduce Side.Unprotected kind i w.state) else None
 weak_after w (Label.Close i) = if is_resting w.state.active i then option_map (moved w) (closed i w.state) else None

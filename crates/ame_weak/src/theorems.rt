@@ -13,7 +13,7 @@ ghost use Rattle.ame_laws.specs.Typed.TypedState.{IsTyped};
 ghost use Rattle.ame_weak.specs.Weak.{Weak, IsWeakRun, holding_none, weak_start, weak_after, weak_run, weak_calls};
 ghost use Rattle.ame_weak.specs.WeakRules.{WeakRule, WeakBegins, WeakRuns};
 ghost use Rattle.ame_weak.specs.Straight.{straight, outset};
-ghost use Rattle.ame_weak.specs.Tries.{AreTried, AreInOrder, notes_of, note_for, straight_with};
+ghost use Rattle.ame_weak.specs.Tries.{AreTried, AreTriesInOrder, notes_of, note_for, straight_with};
 ghost use Rattle.ame_weak.specs.declared.tries.Try.{Try};
 
 use ame_term::Accepted;
@@ -64,7 +64,7 @@ pub fn calls_are_told_with(accepted: &Accepted)
 /// The notes of a journal are those of the tries, in their order, where the tries stand in order and none is
 /// behind the labels; and without its notes it is the journal of the labels.
 pub fn notes_are_of_the_tries()
-    ensures notes { (labels : List Label) (tries : List Try) → AreInOrder 0 (length labels) tries
+    ensures notes { (labels : List Label) (tries : List Try) → AreTriesInOrder 0 (length labels) tries
         → notes_of (straight_with 0 tries outset labels) ≡ map note_for tries }
     ensures others { (labels : List Label) (tries : List Try) → without_notes (straight_with 0 tries outset labels) ≡ straight labels }
 {}

@@ -6,8 +6,8 @@ ghost use Rattle.ame_journal.specs.Labels.{fresh_of};
 ghost use Rattle.ame_term.specs.Act.{device_answer};
 ghost use Rattle.ame_term.specs.declared.semantics.Label.{Label};
 ghost use Rattle.ame_weak.specs.Straight.{outset, ran, freed};
-ghost use Rattle.ame_weak.specs.Tries.{note_for, noted_tries, later};
-ghost use Rattle.ame_weak.specs.Straightened.{StandsFor, Writes, Arrives, Adds};
+ghost use Rattle.ame_weak.specs.Tries.{note_for, noted_tries, tries_behind};
+ghost use Rattle.ame_weak.specs.Straightened.{KeepsPlace, Writes, Arrives, AddsEntries};
 
 use crate::tries::Try;
 use ame_journal::{Entry, EntryKind, Journal};
@@ -29,7 +29,7 @@ pub(crate) struct Transcript {
 impl Transcript {
     /// Before the first label.
     pub(crate) fn new(alloc: Global) -> Transcript
-        ensures stands { StandsFor outset result }
+        ensures stands { KeepsPlace outset result }
         ensures empty { result.journal.entries ≡ [] }
     {
         Transcript {
@@ -44,7 +44,7 @@ impl Transcript {
     /// One more entry.
     fn add(&mut self, entry: Entry) -> Result<(), NoMemory>
         requires { IsFit entry }
-        ensures { OnOk result (Adds (entry ∷ []) self.old self.new) }
+        ensures { OnOk result (AddsEntries (entry ∷ []) self.old self.new) }
     {
         self.journal.room()?;
         self.journal.push(entry);
@@ -53,7 +53,7 @@ impl Transcript {
 
     /// The note of a try.
     fn note(&mut self, alloc: Global, t: &Try) -> Result<(), NoMemory>
-        ensures { OnOk result (Adds (note_for t.now ∷ []) self.old self.new) }
+        ensures { OnOk result (AddsEntries (note_for t.now ∷ []) self.old self.new) }
     {
         let fresh = Vec::from_slice(alloc, t.certificate.fresh.as_slice())?;
         self.add(Entry {
@@ -77,8 +77,8 @@ impl Transcript {
         tries: &'a [Try],
         n: u64,
     ) -> Result<&'a [Try], NoMemory>
-        ensures notes { OnOk result (Adds (noted_tries n tries.now) self.old self.new) }
-        ensures later { IfOk result (λ rest. rest.now ≡ later n tries.now) }
+        ensures notes { OnOk result (AddsEntries (noted_tries n tries.now) self.old self.new) }
+        ensures later { IfOk result (λ rest. rest.now ≡ tries_behind n tries.now) }
     {
         let mut rest = tries;
         while let Some((t, others)) = rest.split_first() {

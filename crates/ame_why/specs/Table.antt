@@ -4,7 +4,7 @@ use Rattle.std.specs.Fmt.{signed_decimal}
 use Rattle.std.specs.List.{flat_map}
 use Rattle.ame_journal.specs.declared.entry.Entry.{Entry}
 use Rattle.ame_journal.specs.declared.entry.EntryKind.{EntryKind}
-use Rattle.ame_why.specs.Nexts.{next_kind}
+use Rattle.ame_why.specs.Nexts.{kind_of_next}
 
 -- a number in a column of this width, and a space
 abbrev pub column : ℕ → ℕ → List ℕ
@@ -71,7 +71,7 @@ row n entry next printed = counts n entry ++ deed entry next printed
 -- the rows of entries, the first of which is entry n, where it is told what each entry printed
 unfoldable pub rows : ℕ → List Entry → (ℕ → List ℤ) → List ℕ
 rows n [] told = []
-rows n (entry ∷ entries) told = row n entry (next_kind entry.number entries) (told n) ++ rows (n + 1) entries told
+rows n (entry ∷ entries) told = row n entry (kind_of_next entry.number entries) (told n) ++ rows (n + 1) entries told
 
 -- the lines of entry n, counted from 1; none where there are fewer
 abbrev pub lines_at : List (List ℤ) → ℕ → List ℤ

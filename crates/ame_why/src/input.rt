@@ -3,7 +3,7 @@
 ghost use Rattle.std.specs.Prelude.{◌≡◌, ◌++◌, ◌∷◌, [], ◌↔◌, ℕ, List, All, IfOk, OnOk, IsTrue, MatchOption};
 ghost use Rattle.ame_journal.specs.declared.entry.Entry.{Entry};
 ghost use Rattle.ame_journal.specs.JournalView.{IsFit};
-ghost use Rattle.ame_why.specs.Input.{IsInput};
+ghost use Rattle.ame_why.specs.Input.{IsCertificateInput};
 
 use crate::caret::append;
 use ame_journal::{Entry, EntryKind, Journal};
@@ -12,7 +12,7 @@ use std::alloc::Global;
 
 /// The journal's text, the line `program`, and the program's text.
 pub fn input_of(alloc: Global, journal: &Journal, program: &[u8]) -> Result<Vec<u8>, NoMemory>
-    ensures { IfOk result (λ input. IsInput input.items journal.now.entries program.now) }
+    ensures { IfOk result (λ input. IsCertificateInput input.items journal.now.entries program.now) }
 {
     let mut input = journal.to_text(alloc)?;
     append(&mut input, b"program\n")?;
@@ -22,7 +22,7 @@ pub fn input_of(alloc: Global, journal: &Journal, program: &[u8]) -> Result<Vec<
 
 /// Such a text has one journal and one program.
 pub fn input_is_of_one_run()
-    ensures { (input program other : List ℕ) (entries others : List Entry) → IsInput input entries program → IsInput input others other
+    ensures { (input program other : List ℕ) (entries others : List Entry) → IsCertificateInput input entries program → IsCertificateInput input others other
         → (entries ≡ others) × (program ≡ other) }
 {}
 

@@ -14,7 +14,7 @@ use Rattle.ame_baton.specs.Keeping.{KeepsSeat}
 use Rattle.ame_baton.proofs.Keeping.{give_leaves}
 use Rattle.ame_baton.proofs.Lookups.{get_set_here}
 use Rattle.ame_worker.specs.declared.shared.Opened.{Opened}
-use Rattle.ame_worker.specs.Rows.{Kept, Row, nothing_kept, row_of}
+use Rattle.ame_worker.specs.Rows.{Kept, SeatRow, nothing_kept, row_of}
 use Rattle.ame_worker.specs.Shared.{keeping, IsShared}
 use Rattle.ame_worker.specs.Turns.{maker, HasGivenRow}
 use Rattle.ame_worker.specs.Workers.{IsSeated, IsReadyToTurn}
@@ -27,22 +27,22 @@ pub some-and : {F : Type 0} (P : F → Type 0) (o : Option F) (f : F) → o ≡ 
 some-and {F} P o f e h = subst (λ (x : Option F). IsSomeAnd x P) e h
 
 module _ {C V M : Type 0} (meaning : Meaning C V M) where
-  abbrev Shares : Opened C → ShellView C V M → List (Kept M) → List (Row M) → List Entry → Type 0
+  abbrev Shares : Opened C → ShellView C V M → List (Kept M) → List (SeatRow M) → List Entry → Type 0
   Shares = IsShared meaning
 
   -- the row is what the engine has of the seat, and what was kept
-  row-given : (opened : Opened C) (new : ShellView C V M) (places : List (Kept M)) (rows : List (Row M)) (told : List Entry) (seat : ℕ) (row : Row M) (kept : Kept M)
+  row-given : (opened : Opened C) (new : ShellView C V M) (places : List (Kept M)) (rows : List (SeatRow M)) (told : List Entry) (seat : ℕ) (row : SeatRow M) (kept : Kept M)
       → Shares opened new (set places seat kept) (set rows seat row) told → seat < length rows → seat < length places → seat < new.core.limits.seats
       → row ≡ row_of new.core seat kept
   row-given opened new places rows told seat row kept shared in_rows in_places within =
       some-is row (row_of new.core seat kept)
       (sym (get_set_here rows seat row in_rows)
-      ∙ ap (λ (all : List (Row M)). slice_get all seat) (sym shared.rows)
+      ∙ ap (λ (all : List (SeatRow M)). slice_get all seat) (sym shared.rows)
       ∙ rows-there new.core (set places seat kept) seat within
       ∙ ap (λ (x : Kept M). Some (row_of new.core seat x)) (get_or-set_same places seat kept nothing_kept in_places))
 
-  module _ {S : Type 0} (shown_of : S → ShellView C V M) (places_of : S → List (Kept M)) (leaves : Row M → Type 0)
-      (k after : Knows (Opened C) (Row M) Entry) (state : S)
+  module _ {S : Type 0} (shown_of : S → ShellView C V M) (places_of : S → List (Kept M)) (leaves : SeatRow M → Type 0)
+      (k after : Knows (Opened C) (SeatRow M) Entry) (state : S)
       (gives : Gives (λ s opened rows told. Shares opened (shown_of s) (places_of s) rows told) maker leaves k state after)
       (opened : Opened C) (is : k.fixed ≡ Some opened) (new : ShellView C V M) (shows : shown_of state ≡ new) (places : List (Kept M)) (hand : Work M)
       (keeps : places_of state ≡ set places k.number (keeping new.core hand))
@@ -58,7 +58,7 @@ module _ {C V M : Type 0} (meaning : Meaning C V M) where
         row-given opened new places k.rows (k.seen ++ gives.0.added) k.number gives.0.row (keeping new.core hand) it-shared in_rows in_places within
 
     row-is : after.row ≡ gives.0.row
-    row-is = ap (λ (x : Knows (Opened C) (Row M) Entry). x.row) gives.1
+    row-is = ap (λ (x : Knows (Opened C) (SeatRow M) Entry). x.row) gives.1
 
     pub gave-row : HasGivenRow (row_of new.core k.number (keeping new.core hand)) k after
     gave-row =
@@ -76,13 +76,13 @@ module _ {C V M : Type 0} (meaning : Meaning C V M) where
     pub then-shared : Shares opened new (set places k.number (keeping new.core hand)) (set k.rows k.number after.row) after.seen
     then-shared =
         subst (λ (told : List Entry). Shares opened new (set places k.number (keeping new.core hand)) (set k.rows k.number after.row) told)
-        (sym (ap (λ (x : Knows (Opened C) (Row M) Entry). x.seen) gives.1))
-        (subst (λ (row : Row M). Shares opened new (set places k.number (keeping new.core hand)) (set k.rows k.number row) (k.seen ++ gives.0.added)) (sym row-is) it-shared)
+        (sym (ap (λ (x : Knows (Opened C) (SeatRow M) Entry). x.seen) gives.1))
+        (subst (λ (row : SeatRow M). Shares opened new (set places k.number (keeping new.core hand)) (set k.rows k.number row) (k.seen ++ gives.0.added)) (sym row-is) it-shared)
 
   -- and a seat may give what is so
-  pub may-give-on : {S : Type 0} (shown_of : S → ShellView C V M) (places_of : S → List (Kept M)) (leaves : Row M → Type 0)
-      (k : Knows (Opened C) (Row M) Entry) (state : S) (opened : Opened C) → k.fixed ≡ Some opened → (new : ShellView C V M) → shown_of state ≡ new
-      → (places : List (Kept M)) → places_of state ≡ places → (row : Row M) → leaves row → (added : List Entry) → All (λ e. maker e ≡ k.number) added
+  pub may-give-on : {S : Type 0} (shown_of : S → ShellView C V M) (places_of : S → List (Kept M)) (leaves : SeatRow M → Type 0)
+      (k : Knows (Opened C) (SeatRow M) Entry) (state : S) (opened : Opened C) → k.fixed ≡ Some opened → (new : ShellView C V M) → shown_of state ≡ new
+      → (places : List (Kept M)) → places_of state ≡ places → (row : SeatRow M) → leaves row → (added : List Entry) → All (λ e. maker e ≡ k.number) added
       → Shares opened new places (set k.rows k.number row) (k.seen ++ added)
       → MayGive (λ s opened rows told. Shares opened (shown_of s) (places_of s) rows told) maker leaves k state
   may-give-on shown_of places_of leaves k state opened is new shows places keeps row left added by_seat on = record {
@@ -97,7 +97,7 @@ module _ {C V M : Type 0} (meaning : Meaning C V M) where
   }
 
 -- a seat stays one of the shell
-pub still-seated : {C M : Type 0} (devices : C → ℕ) (code : C) (limits : Limits) (before after : Knows (Opened C) (Row M) Entry) → KeepsSeat before after
+pub still-seated : {C M : Type 0} (devices : C → ℕ) (code : C) (limits : Limits) (before after : Knows (Opened C) (SeatRow M) Entry) → KeepsSeat before after
     → IsSeated devices code limits before → IsSeated devices code limits after
 still-seated devices code limits before after keeps s = record {
   opened = s.opened;
@@ -112,22 +112,22 @@ still-seated devices code limits before after keeps s = record {
 
 -- and is ready for its next turn
 pub ready-again : {C M : Type 0} (devices : C → ℕ) (is_machine : C → M → Type 0) (stage : C → M → MachineView) (code : C) (limits : Limits)
-    (before after : Knows (Opened C) (Row M) Entry) (left : Row M) (hand : Work M) → HasGivenRow left before after → left.hand ≡ hand
+    (before after : Knows (Opened C) (SeatRow M) Entry) (left : SeatRow M) (hand : Work M) → HasGivenRow left before after → left.hand ≡ hand
     → IsSeated devices code limits before → CanBePrepared is_machine stage code limits.slice hand
     → IsReadyToTurn devices is_machine stage code limits after hand
 ready-again {C} {M} devices is_machine stage code limits before after left hand gave same seated can = record {
   seated = still-seated devices code limits before after gave.keeps seated;
   free = gave.free;
   prepared =
-      subst (λ (w : Work M). IsPrepared is_machine stage code limits.slice w hand) (sym (ap (λ (r : Row M). r.hand) gave.row ∙ same))
+      subst (λ (w : Work M). IsPrepared is_machine stage code limits.slice w hand) (sym (ap (λ (r : SeatRow M). r.hand) gave.row ∙ same))
       (prepared-none is_machine stage code limits.slice hand can);
   can = can;
 }
 
 -- the limits are those of the shell
 pub same-limits : {C V M : Type 0} (meaning : Meaning C V M)
-    (limits : Limits) (code : C) (k : Knows (Opened C) (Row M) Entry) (seated : IsSeated meaning.devices code limits k) (shell : ShellView C V M) (places : List (Kept M))
-    (rows : List (Row M)) (told : List Entry) → IsSomeAnd k.fixed (λ o. IsShared meaning o shell places rows told)
+    (limits : Limits) (code : C) (k : Knows (Opened C) (SeatRow M) Entry) (seated : IsSeated meaning.devices code limits k) (shell : ShellView C V M) (places : List (Kept M))
+    (rows : List (SeatRow M)) (told : List Entry) → IsSomeAnd k.fixed (λ o. IsShared meaning o shell places rows told)
     → limits ≡ shell.core.limits
 same-limits {C} meaning limits code k seated shell places rows told stands =
     let was = some-and (λ (o : Opened C). IsShared meaning o shell places rows told) k.fixed seated.opened seated.is stands in

@@ -22,7 +22,7 @@ use Rattle.ame_turn.specs.Work.{Fits}
 use Rattle.ame_turn.proofs.ReadyLemmas.{prepared-fits}
 use Rattle.ame_shell.specs.Shell.{ShellView, GoesTo, IsShell}
 use Rattle.ame_worker.specs.declared.shared.Opened.{Opened}
-use Rattle.ame_worker.specs.Rows.{Kept, Row, nothing_kept, kept_at, row_of, rows_in}
+use Rattle.ame_worker.specs.Rows.{Kept, SeatRow, nothing_kept, kept_at, row_of, rows_in}
 use Rattle.ame_worker.specs.Shared.{opening_of, keeping, IsShared}
 use Rattle.ame_worker.proofs.Slots.{Slot, slot_at}
 use Rattle.ame_worker.proofs.StayLemmas.{SlotsStay, map-set}
@@ -46,7 +46,7 @@ module _ {C V M : Type 0} where
       let f = λ (n : ℕ). row_of core n (kept_at places n) in
       let d = f seat in
       slice_get-get_or (rows_in core places) seat d (subst (λ (n : ℕ). seat < n) (sym (length-map-range_with_len f 0 core.limits.seats)) within)
-      ∙ ap (λ (r : Row M). Some r) (get_or-map-range_with_len f 0 core.limits.seats seat seat d within (omega arith))
+      ∙ ap (λ (r : SeatRow M). Some r) (get_or-map-range_with_len f 0 core.limits.seats seat seat d within (omega arith))
 
 module _ {M : Type 0} where
   -- what is kept for one seat is what was kept for it last, and for the others what was kept before
@@ -57,12 +57,12 @@ module _ {M : Type 0} where
   kept-else places seat other kept apart = get_or-set_other places seat other kept nothing_kept apart
 
 -- rows with the same task, reads and work at hand that are marked alike are the same
-pub row-same : {M : Type 0} (a b : Row M) → a.task ≡ b.task → a.reads ≡ b.reads → a.hand ≡ b.hand → a.marked ≡ b.marked → a ≡ b
+pub row-same : {M : Type 0} (a b : SeatRow M) → a.task ≡ b.task → a.reads ≡ b.reads → a.hand ≡ b.hand → a.marked ≡ b.marked → a ≡ b
 row-same {M} a b task reads hand marked =
-    ap (λ (t : Task). let it : Row M = record { task = t; reads = a.reads; hand = a.hand; marked = a.marked } in it) task
-    ∙ ap (λ (rs : List ReadNote). let it : Row M = record { task = b.task; reads = rs; hand = a.hand; marked = a.marked } in it) reads
-    ∙ ap (λ (w : Work M). let it : Row M = record { task = b.task; reads = b.reads; hand = w; marked = a.marked } in it) hand
-    ∙ ap (λ (m : Bool). let it : Row M = record { task = b.task; reads = b.reads; hand = b.hand; marked = m } in it) marked
+    ap (λ (t : Task). let it : SeatRow M = record { task = t; reads = a.reads; hand = a.hand; marked = a.marked } in it) task
+    ∙ ap (λ (rs : List ReadNote). let it : SeatRow M = record { task = b.task; reads = rs; hand = a.hand; marked = a.marked } in it) reads
+    ∙ ap (λ (w : Work M). let it : SeatRow M = record { task = b.task; reads = b.reads; hand = w; marked = a.marked } in it) hand
+    ∙ ap (λ (m : Bool). let it : SeatRow M = record { task = b.task; reads = b.reads; hand = b.hand; marked = m } in it) marked
 
 module _ {C V M : Type 0} (meaning : Meaning C V M) where
   abbrev parts : Core C V M → Parts
@@ -78,21 +78,21 @@ module _ {C V M : Type 0} (meaning : Meaning C V M) where
       ∙ ap (λ (n : Log Val). n.reads) (row-shown (meaning.value_of old.code) old.memory.rows other))
       (ap (λ (x : Kept M). x.hand) kept) (ap (λ (x : Kept M). x.marked) kept)
 
-  module _ (opened : Opened C) (old new : ShellView C V M) (places : List (Kept M)) (rows : List (Row M)) (told : List Entry)
+  module _ (opened : Opened C) (old new : ShellView C V M) (places : List (Kept M)) (rows : List (SeatRow M)) (told : List Entry)
       (was : IsShared meaning opened old places rows told) (seat : ℕ) (within : seat < old.core.limits.seats) where
     -- a seat's row says what was kept for it
-    pub found-kept : (row : Row M) → slice_get rows seat ≡ Some row → row ≡ row_of old.core seat (kept_at places seat)
+    pub found-kept : (row : SeatRow M) → slice_get rows seat ≡ Some row → row ≡ row_of old.core seat (kept_at places seat)
     found-kept row found =
         some-is row (row_of old.core seat (kept_at places seat))
-        (sym found ∙ ap (λ (all : List (Row M)). slice_get all seat) (sym was.rows) ∙ rows-there old.core places seat within)
+        (sym found ∙ ap (λ (all : List (SeatRow M)). slice_get all seat) (sym was.rows) ∙ rows-there old.core places seat within)
 
     -- what a seat has at hand fits
-    pub hand-fits : (row : Row M) → slice_get rows seat ≡ Some row → (hand : Work M)
+    pub hand-fits : (row : SeatRow M) → slice_get rows seat ≡ Some row → (hand : Work M)
         → IsPrepared meaning.is_machine meaning.stage old.core.code old.core.limits.slice row.hand hand → Fits meaning old.core seat hand
     hand-fits row found hand is =
         prepared-fits meaning old.core seat (kept_at places seat).hand hand (was.fits seat within)
         (subst (λ (w : Work M). IsPrepared meaning.is_machine meaning.stage old.core.code old.core.limits.slice w hand)
-        (ap (λ (r : Row M). r.hand) (found-kept row found)) is)
+        (ap (λ (r : SeatRow M). r.hand) (found-kept row found)) is)
 
     -- What is given once the seat made its event
     module _ (hand : Work M) (extends : Extends seat old.core new.core) (stay : SlotsStay seat (parts old.core) (parts new.core))
@@ -138,8 +138,8 @@ module _ {C V M : Type 0} (meaning : Meaning C V M) where
           ∙ map-set f g seat
           (λ other apart. row-stays old.core new.core other (kept_at places other) (kept_at after other) (stay other apart) (kept-else places seat other kept apart))
           0 old.core.limits.seats seat (omega arith)
-          ∙ ap (λ (r : Row M). set (rows_in old.core places) seat r) (ap (row_of new.core seat) (kept-here places seat kept there))
-          ∙ ap (λ (all : List (Row M)). set all seat (row_of new.core seat kept)) was.rows
+          ∙ ap (λ (r : SeatRow M). set (rows_in old.core places) seat r) (ap (row_of new.core seat) (kept-here places seat kept there))
+          ∙ ap (λ (all : List (SeatRow M)). set all seat (row_of new.core seat kept)) was.rows
 
       pub shared-on : IsShared meaning opened new after (set rows seat (row_of new.core seat kept)) (told ++ extends.added)
       shared-on = record {

@@ -22,7 +22,7 @@ use Rattle.ame_baton.specs.declared.view.Knows.{Knows}
 use Rattle.ame_worker.specs.declared.gate.Point.{Point}
 use Rattle.ame_worker.specs.declared.worker.Turned.{Turned}
 use Rattle.ame_worker.specs.declared.shared.Opened.{Opened}
-use Rattle.ame_worker.specs.Rows.{Row}
+use Rattle.ame_worker.specs.Rows.{SeatRow}
 use Rattle.ame_worker.specs.Points.{point_of}
 use Rattle.ame_worker.specs.Turns.{MakesTurn}
 use Rattle.ame_worker.specs.Workers.{IsThrough}
@@ -65,7 +65,7 @@ module _ {C V M : Type 0} where
   stops-so certificates (Pick.Member number) old new met is = absurd is
 
 module _ {C V M : Type 0} (meaning : Meaning C V M) where
-  pub is-through : (code : C) (old new : Work M) (holding after : Knows (Opened C) (Row M) Entry) (point : Point)
+  pub is-through : (code : C) (old new : Work M) (holding after : Knows (Opened C) (SeatRow M) Entry) (point : Point)
       → MakesTurn meaning code old new holding after point → point ≡ Point.Stopped → IsThrough after
   is-through code old new holding after point m e =
       let seat = holding.number in
@@ -78,12 +78,12 @@ module _ {C V M : Type 0} (meaning : Meaning C V M) where
       record {
         free = m.gave.free;
         idle =
-            ap (λ (r : Row M). r.task) m.gave.row
+            ap (λ (r : SeatRow M). r.task) m.gave.row
             ∙ ap (λ (c : Core C V M). task_at c.tasks seat) core
             ∙ ap (λ (ts : List Task). task_at ts seat) stops.tasks
             ∙ event.1.idle;
         marked =
-            ap (λ (r : Row M). r.marked) m.gave.row
+            ap (λ (r : SeatRow M). r.marked) m.gave.row
             ∙ ap (λ (c : Core C V M). is_some c.stop) core
             ∙ stops.stop;
       }

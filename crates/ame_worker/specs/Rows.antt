@@ -15,7 +15,7 @@ pub record Kept (M : Type 0) : Type 0 where
   pub marked : Bool
 
 -- what a seat is at, what it read, what it had at hand when it gave the turn last, and whether a stop was kept then
-pub record Row (M : Type 0) : Type 0 where
+pub record SeatRow (M : Type 0) : Type 0 where
   pub task : Task
   pub reads : List ReadNote
   pub hand : Work M
@@ -26,7 +26,7 @@ module _ {M : Type 0} where
   nothing_kept = record { hand = work.Idle; marked = false }
 
   -- of a seat that did nothing
-  abbrev pub empty_row : Row M
+  abbrev pub empty_row : SeatRow M
   empty_row = record { task = Task.Idle; reads = []; hand = work.Idle; marked = false }
 
   abbrev pub kept_at : List (Kept M) → ℕ → Kept M
@@ -34,7 +34,7 @@ module _ {M : Type 0} where
 
 module _ {C V M : Type 0} where
   -- a seat's row, by the engine and by what was kept
-  abbrev pub row_of : Core C V M → ℕ → Kept M → Row M
+  abbrev pub row_of : Core C V M → ℕ → Kept M → SeatRow M
   row_of core seat kept = record {
     task = task_at core.tasks seat;
     reads = (row_at core.memory.rows seat).reads;
@@ -43,5 +43,5 @@ module _ {C V M : Type 0} where
   }
 
   -- those of all seats, in order
-  abbrev pub rows_in : Core C V M → List (Kept M) → List (Row M)
+  abbrev pub rows_in : Core C V M → List (Kept M) → List (SeatRow M)
   rows_in core places = map (λ seat. row_of core seat (kept_at places seat)) (range_with_len 0 core.limits.seats)

@@ -8,7 +8,7 @@ use Rattle.ame_turn.specs.Work.{Fits}
 use Rattle.ame_shell.specs.Ends.{Ends}
 use Rattle.ame_shell.specs.Shell.{ShellView, Opening, IsShell}
 use Rattle.ame_worker.specs.declared.shared.Opened.{Opened}
-use Rattle.ame_worker.specs.Rows.{Kept, Row, kept_at, rows_in}
+use Rattle.ame_worker.specs.Rows.{Kept, SeatRow, kept_at, rows_in}
 use Rattle.ame_machine.specs.Meaning.{Meaning}
 
 -- how it was opened
@@ -40,7 +40,7 @@ keeping core hand = record { hand = hand; marked = is_some core.stop }
 module _ {C V M : Type 0} (meaning : Meaning C V M) where
   -- The shell is as it is from this opening on. What each seat had at hand fits the engine still, and a stop is kept where one was.
   -- The rows tell this of each seat, and the journal has these entries.
-  pub record IsShared (opened : Opened C) (shared : ShellView C V M) (places : List (Kept M)) (all : List (Row M)) (told : List Entry) : Type 0 where
+  pub record IsShared (opened : Opened C) (shared : ShellView C V M) (places : List (Kept M)) (all : List (SeatRow M)) (told : List Entry) : Type 0 where
     pub shell : IsShell meaning.program (opening_of opened) shared
     pub count : length places ≡ shared.core.limits.seats
     pub fits : (seat : ℕ) → seat < shared.core.limits.seats

@@ -9,10 +9,10 @@ use Rattle.ame_turn.specs.declared.work.Work.{Work}
 use Rattle.ame_turn.specs.Ready.{CanBePrepared, IsPrepared}
 use Rattle.ame_baton.specs.declared.view.Knows.{Knows}
 use Rattle.ame_worker.specs.declared.shared.Opened.{Opened}
-use Rattle.ame_worker.specs.Rows.{Row}
+use Rattle.ame_worker.specs.Rows.{SeatRow}
 
 -- A seat is one of a shell that was opened with this code and these limits, and with devices enough.
-pub record IsSeated {C M : Type 0} (devices : C → ℕ) (code : C) (limits : Limits) (k : Knows (Opened C) (Row M) Entry) : Type 0 where
+pub record IsSeated {C M : Type 0} (devices : C → ℕ) (code : C) (limits : Limits) (k : Knows (Opened C) (SeatRow M) Entry) : Type 0 where
   pub opened : Opened C
   pub is : k.fixed ≡ Some opened
   pub of_code : opened.code ≡ code
@@ -24,14 +24,14 @@ pub record IsSeated {C M : Type 0} (devices : C → ℕ) (code : C) (limits : Li
 
 module _ {C M : Type 0} (devices : C → ℕ) (is_machine : C → M → Type 0) (stage : C → M → MachineView) where
   -- It hasn't the turn. What it has at hand is what it had when it gave the turn, but for steps that its machine made alone.
-  pub record IsReadyToTurn (code : C) (limits : Limits) (k : Knows (Opened C) (Row M) Entry) (hand : Work M) : Type 0 where
+  pub record IsReadyToTurn (code : C) (limits : Limits) (k : Knows (Opened C) (SeatRow M) Entry) (hand : Work M) : Type 0 where
     pub seated : IsSeated devices code limits k
     pub free : k.holds ≡ false
     pub prepared : IsPrepared is_machine stage code limits.slice k.row.hand hand
     pub can : CanBePrepared is_machine stage code limits.slice hand
 
 -- It has nothing at work, and a stop was kept when it gave the turn.
-pub record IsThrough {C M : Type 0} (k : Knows (Opened C) (Row M) Entry) : Type 0 where
+pub record IsThrough {C M : Type 0} (k : Knows (Opened C) (SeatRow M) Entry) : Type 0 where
   pub free : k.holds ≡ false
   pub idle : k.row.task ≡ Task.Idle
   pub marked : k.row.marked ≡ true

@@ -102,9 +102,9 @@ pub struct SeatRow<M> {
 }
 
 impl<M> Model for SeatRow<M> {
-    ghost use Rattle.ame_worker.specs.Rows.{Row, empty_row};
+    ghost use Rattle.ame_worker.specs.Rows.{SeatRow, empty_row};
 
-    ghost Value = { Row M };
+    ghost Value = { SeatRow M };
 
     ghost view = { λ _. empty_row };
 }

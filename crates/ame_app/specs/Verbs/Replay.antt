@@ -3,7 +3,7 @@ use Rattle.std.specs.Prelude.{◌≡◌, ℕ, List}
 use Rattle.ame_lex.specs.Bytes.{Text}
 use Rattle.ame_value.specs.declared.val.Val.{Val}
 use Rattle.ame_engine.specs.Ending.{End}
-use Rattle.ame_chooser.specs.Listed.{listed}
+use Rattle.ame_chooser.specs.Listed.{picked_as_listed}
 use Rattle.ame_chooser.specs.Schedule.{IsScheduled}
 use Rattle.ame_app.specs.declared.parts.Front.{Front}
 use Rattle.ame_app.specs.declared.parts.Own.{Own}
@@ -25,4 +25,4 @@ pub record HasNoSchedule (bytes : List ℕ) (told : Status) : Type 0 where
 pub record IsPickedAsListed (front : Front) (seats : ℕ) (own : Own) (end : End Val) : Type 0 where
   pub picks : List ℕ
   pub front_is : front ≡ Front.Schedule picks
-  pub picked : IsPicked (listed picks) seats own end
+  pub picked : IsPicked (picked_as_listed picks) seats own end

@@ -2,7 +2,7 @@
 use Rattle.std.specs.Prelude.{◌≡◌, ℕ, List, []}
 use Rattle.ame_value.specs.declared.val.Val.{Val}
 use Rattle.ame_engine.specs.Ending.{End}
-use Rattle.ame_chooser.specs.Strategy.{Answers}
+use Rattle.ame_chooser.specs.Strategy.{PicksSeats}
 use Rattle.ame_chooser.specs.Questions.{questions, seats_of}
 use Rattle.ame_chooser.specs.Schedule.{schedule_line}
 use Rattle.ame_sim.specs.declared.made.Made.{Made}
@@ -18,7 +18,7 @@ pub record IsPicked (strategy : List (List ℕ) → List ℕ) (seats : ℕ) (own
   pub own_is : own ≡ Own.Picked mades
   pub told : AreTold seats end.turns mades end.entries
   pub later : List (List ℕ) → List ℕ
-  pub answers : Answers strategy (questions seats (picks_of mades)) (seats_of (picks_of mades)) later
+  pub answers : PicksSeats strategy (questions seats (picks_of mades)) (seats_of (picks_of mades)) later
 
 -- what picks did, where the report has it
 abbrev pub mades_in : Own → List Made

@@ -4,7 +4,7 @@ use Rattle.ame_check.specs.Walked.{RunsAlong}
 use Rattle.ame_check.specs.Walk.{ComesToTall}
 use Rattle.ame_check.proofs.RanEntries.{quiet-of, told-of}
 use Rattle.ame_check.proofs.VisitLemmas.{unheard, no-closing, plain-no_tall, plain-no_device, plain-no_close, no-visit, stays-on, as-counted}
-use Rattle.ame_check.specs.Reasons.{Meets}
+use Rattle.ame_check.specs.Reasons.{MeetsReason}
 use Rattle.ame_check.proofs.ReasonLemmas.{met-visit}
 use Rattle.ame_check.proofs.visit.go_on.Goals as goal
 
@@ -34,7 +34,7 @@ returns-in-Undefined g c = λ s i n a.
       no-closing g.M.Runner.meaning c.args.code.now (g.met.M.Runner.sound c.args.code.now) s i c.args.entry.now.fresh c.args.cells.now.entries c.args.overlay.now.entries c.args.machine.now n a c.args.want c.requires.told
           (plain-no_close c.args.want c.requires.other) c.args.entry.now.answer,
       met-visit s i c.args.entry.now.fresh c.args.entry.now.answer (n + 1) c.in-Undefined.why
-          (subst (λ (k : ℕ). Meets Side.Unprotected s i c.args.entry.now.fresh k c.in-Undefined.why) (sym count) none.1),
+          (subst (λ (k : ℕ). MeetsReason Side.Unprotected s i c.args.entry.now.fresh k c.in-Undefined.why) (sym count) none.1),
     )
 
 pub returns-in-Tall : goal.returns-in-Tall

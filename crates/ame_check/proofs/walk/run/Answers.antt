@@ -2,7 +2,7 @@ use Rattle.std.proofs.Common.{get_or, length, ◌≤◌, ℕ, List, None, sym, �
 use Rattle.ame_check.specs.Walked.{IsWalking, IsAtStep, WalksAlong}
 use Rattle.ame_check.specs.Walk.{ComesToTall, steps_on, begun_on}
 use Rattle.ame_check.proofs.WalkLemmas.{all-used, some-left}
-use Rattle.ame_check.specs.Reasons.{Meets}
+use Rattle.ame_check.specs.Reasons.{MeetsReason}
 use Rattle.ame_check.specs.declared.reason.Reason.TheVariants as reason
 use Rattle.ame_check.proofs.ReasonLemmas.{unused-first}
 use Rattle.ame_check.proofs.walk.run.Goals as goal
@@ -22,7 +22,7 @@ returns-then-used-fresh g c = λ s i side n a.
     (c.in_ok-want.ensures s i side n from) in (
       some-left g.M.Runner.meaning c.args.code.now s i c.as_slice-fresh.result.now c.fresh-used.result.now c.args.cells.now.entries c.walk.new.overlay.entries c.walk.new.machine side c.args.entry.now.steps
           c.args.entry.now.fresh c.as_slice-fresh.ensures (c.fresh-used.ensures c.args.code.now) there.0 c.if-used-fresh.true,
-      subst (λ (xs : List ℕ). Meets side s i xs c.args.entry.now.steps
+      subst (λ (xs : List ℕ). MeetsReason side s i xs c.args.entry.now.steps
           (reason.Unused c.steps.result (get_or c.as_slice-fresh.result.now (length c.fresh-used.result.now) (record { 0 = 0 })))) (sym c.as_slice-fresh.ensures)
           (unused-first g.M.Runner.meaning c.args.code.now (g.met.M.Runner.sound c.args.code.now) s i _ c.args.cells.now.entries c.walk.new.overlay.entries c.walk.new.machine side
           c.args.entry.now.steps there.0 c.args.entry.now.steps (omega arith) c.steps.result (c.steps.ensures c.args.code.now) c.in-Whole.want there.1 c.as_slice-fresh.result.now c.fresh-used.result.now refl
@@ -46,7 +46,7 @@ returns-in-Undefined g c = λ s i side n a.
     (c.in_ok-want.ensures s i side n from) in
     let least : c.args.entry.now.steps ≤ c.args.entry.now.steps = omega arith in (
       ap (λ (xs : List ℕ). steps_on side i c.args.entry.now.steps xs None (begun_on side i s)) c.as_slice-fresh.ensures ∙ there.0 c.args.entry.now.steps None least (λ e. refl),
-      subst (λ (xs : List ℕ). Meets side s i xs c.args.entry.now.steps c.in-Undefined.why) (sym c.as_slice-fresh.ensures) there.1,
+      subst (λ (xs : List ℕ). MeetsReason side s i xs c.args.entry.now.steps c.in-Undefined.why) (sym c.as_slice-fresh.ensures) there.1,
     )
 
 pub returns-in-Tall : goal.returns-in-Tall

@@ -1,7 +1,7 @@
 use Rattle.std.proofs.Common.{◌≡◌, refl, sym, ap, ◌∙◌, subst}
 use Rattle.std.specs.Arc.{arc_value}
 use Rattle.ame_chooser.specs.Questions.{questions, seats_of}
-use Rattle.ame_chooser.specs.Strategy.{Answers}
+use Rattle.ame_chooser.specs.Strategy.{PicksSeats}
 use Rattle.ame_engine.specs.Ending.{End}
 use Rattle.ame_protocol.specs.Engine.Parts.{Parts}
 use Rattle.ame_shell.specs.Ends.{ends_of}
@@ -49,6 +49,6 @@ returns-clause-answers g c =
     let after = g.H.Chooser.strategy c.play.new.chooser in
     let seats = c.in-Ok-open.crew.core.limits.seats in
     let same : seats ≡ c.args.limits.seats = ap (λ (p : Parts). p.limits.seats) c.in-Ok-open.ensures.starts in
-    let none = subst (λ mades. Answers before (questions seats (picks_of mades)) (seats_of (picks_of mades)) before) (sym c.in-Ok.ensures.none) (λ rest. refl) in
+    let none = subst (λ mades. PicksSeats before (questions seats (picks_of mades)) (seats_of (picks_of mades)) before) (sym c.in-Ok.ensures.none) (λ rest. refl) in
     let picked = picks_of c.play.new.book.mades.items in
-    subst (λ n. Answers before (questions n picked) (seats_of picked) after) same (c.play.ensures.answers before none)
+    subst (λ n. PicksSeats before (questions n picked) (seats_of picked) after) same (c.play.ensures.answers before none)

@@ -1,7 +1,7 @@
 use Rattle.std.proofs.Common.{◌≡◌, ◌≤◌, ℕ, length, sym, ap, subst, ◌∙◌, arith, Err}
 use Rattle.ame_term.specs.View.{tree_of}
 use Rattle.ame_weak.specs.View.{weak_of}
-use Rattle.ame_weak.specs.Straightened.{EndsWith, Adds}
+use Rattle.ame_weak.specs.Straightened.{EndsActive, AddsEntries}
 use Rattle.ame_weak.specs.Tries.{noted_tries}
 use Rattle.ame_weak.proofs.StraightenedLemmas.{on-more, on-refused, on-end}
 use Rattle.ame_weak.proofs.straightening.told.Goals as goal
@@ -26,8 +26,8 @@ returns c =
     let all : length c.args.labels.now ≡ c.loop-n.n = omega arith in
     let e = on-end (tree_of c.args.accepted.now.program.term) c.args.labels.now c.args.tries.now c.loop-n.n (weak_of c.loop-n.state) c.loop-n.transcript c.loop-n.rest.now
     c.loop-n.invariant c.note_all-2.new.self c.loop-n-test.false
-    (subst (λ (m : ℕ). Adds (noted_tries m c.loop-n.rest.now) c.loop-n.transcript c.note_all-2.new.self) all c.in_ok-_none.ensures.notes) in
+    (subst (λ (m : ℕ). AddsEntries (noted_tries m c.loop-n.rest.now) c.loop-n.transcript c.note_all-2.new.self) all c.in_ok-_none.ensures.notes) in
     elim c.match-active.branch [
-      | in-Some w ↦ rw w.result-is (subst (EndsWith (tree_of c.args.accepted.now.program.term) c.args.labels.now) (sym c.active.ensures ∙ w.in-Some.is) e.0)
-      | in-None w ↦ rw w.result-is (subst (EndsWith (tree_of c.args.accepted.now.program.term) c.args.labels.now) (sym c.active.ensures ∙ w.in-None.is) e.0, e.1)
+      | in-Some w ↦ rw w.result-is (subst (EndsActive (tree_of c.args.accepted.now.program.term) c.args.labels.now) (sym c.active.ensures ∙ w.in-Some.is) e.0)
+      | in-None w ↦ rw w.result-is (subst (EndsActive (tree_of c.args.accepted.now.program.term) c.args.labels.now) (sym c.active.ensures ∙ w.in-None.is) e.0, e.1)
     ]

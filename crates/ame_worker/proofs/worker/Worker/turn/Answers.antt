@@ -6,7 +6,7 @@ use Rattle.ame_turn.specs.Ready.{IsPrepared, IsReadyWork}
 use Rattle.ame_baton.specs.Batons.{knows}
 use Rattle.ame_baton.proofs.Keeping.{take_finds}
 use Rattle.ame_worker.specs.declared.gate.Point.{Point}
-use Rattle.ame_worker.specs.Rows.{Row}
+use Rattle.ame_worker.specs.Rows.{SeatRow}
 use Rattle.ame_worker.specs.Turns.{maker}
 use Rattle.ame_worker.specs.Workers.{IsSeated, IsReadyToTurn}
 use Rattle.ame_worker.proofs.WorkLemmas.{prepared-twice, prepared-can, ready-unless}
@@ -61,7 +61,7 @@ hand-point-requires-clause-prepared g c =
     subst (λ work. IsPrepared r.is_machine r.stage c.deref-code.result.now shared.shell.value.engine.limits.slice holding.row.hand work) (sym c.replace-work.ensures.value)
     (subst (λ code. IsPrepared r.is_machine r.stage code shared.shell.value.engine.limits.slice holding.row.hand work) (sym c.deref-code.ensures)
     (subst (λ (l : Limits). IsPrepared r.is_machine r.stage code l.slice holding.row.hand work) same
-    (subst (λ (row : Row g.row.M.Denot). IsPrepared r.is_machine r.stage code limits.slice row.hand work) (sym found.row) all)))
+    (subst (λ (row : SeatRow g.row.M.Denot). IsPrepared r.is_machine r.stage code limits.slice row.hand work) (sym found.row) all)))
 
 pub hand-point-requires-clause-ready : goal.hand-point-requires-clause-ready
 hand-point-requires-clause-ready g c = λ fine.

@@ -14,3 +14,5 @@ pub mod StopLemmas
 pub mod UndoLemmas
 pub mod SoundLemmas
 pub mod RunLemmas
+pub mod RefusalLemmas
+pub mod FreshLemmas

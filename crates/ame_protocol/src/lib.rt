@@ -12,8 +12,8 @@ pub use certificate::Certificate;
 pub use counters::Counters;
 pub use stop::Stop;
 pub use theorems::events::{
-    events_keep_states_sound, runs_go_on, runs_keep_states_sound, runs_take_turns,
-    runs_tell_their_entries, states_start_sound,
+    entries_take_rollbacks_off, events_keep_states_sound, runs_go_on, runs_keep_states_sound,
+    runs_take_turns, runs_tell_their_entries, runs_turn_back_seldom, states_start_sound,
 };
 pub use theorems::{
     certificates_are_computed, ended_rows_commit, engines_open, engines_start,

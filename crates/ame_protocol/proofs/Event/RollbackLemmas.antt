@@ -2,7 +2,7 @@
 use Rattle.std.proofs.Common.{◌≡◌, ℕ, ◌+◌, ◌<◌, ◌≤◌, ◌==◌, Bool, true, false, List, [], ◌∷◌, map, All, Option, Some, None, IsTrue, IsSomeAnd, option_map, eq-eqb, refl, sym, ap, ◌∙◌, subst, arith}
 use Rattle.std.proofs.Math.Nat.{min-le_left}
 use Rattle.std.proofs.lemmas.Option.{same_Some}
-use Rattle.std.proofs.lemmas.List.Elements.{All-map, All-weaker}
+use Rattle.std.proofs.lemmas.List.Elements.{All-map, All-weaker, All-cons, All-head, All-nil, All-tail}
 use Rattle.ame_term.specs.Tree.{Tree}
 use Rattle.ame_pool.specs.declared.member.Member.{Member}
 use Rattle.ame_pool.specs.Members.{IsRising, find}
@@ -120,6 +120,28 @@ module _ {M : Type 0} (term : M → Tree) where
       by : (ms : List (Member M)) → IsRising ms → IsRising (map (shown_member term) ms)
       by [] h = h
       by (m ∷ ms) h = (above m.number ms h.0, by ms h.1)
+
+  -- a pool is good that is so by its terms
+  pub good-told : (pool : Roster M) → IsGoodPool (shown_pool term pool) → IsGoodPool pool
+  good-told pool good = record { rising = rising pool.members good.rising; few = few pool.members good.few }
+    where
+      above : (n : ℕ) (ms : List (Member M)) → All (λ m. n < m.number) (map (shown_member term) ms) → All (λ m. n < m.number) ms
+      above n [] all = All-nil (λ (m : Member M). n < m.number)
+      above n (m ∷ ms) all =
+          let head : n < m.number = All-head (λ (x : Member Tree). n < x.number) (shown_member term m) (map (shown_member term) ms) all in
+          let rest = above n ms (All-tail (λ (x : Member Tree). n < x.number) (shown_member term m) (map (shown_member term) ms) all) in
+          All-cons (λ (x : Member M). n < x.number) m ms head rest
+
+      rising : (ms : List (Member M)) → IsRising (map (shown_member term) ms) → IsRising ms
+      rising [] h = h
+      rising (m ∷ ms) h = (above m.number ms h.0, rising ms h.1)
+
+      few : (ms : List (Member M)) → All (λ m. m.rollbacks ≤ max_rollbacks) (map (shown_member term) ms) → All (λ m. m.rollbacks ≤ max_rollbacks) ms
+      few [] all = All-nil (λ (m : Member M). m.rollbacks ≤ max_rollbacks)
+      few (m ∷ ms) all =
+          let head : m.rollbacks ≤ max_rollbacks = All-head (λ (x : Member Tree). x.rollbacks ≤ max_rollbacks) (shown_member term m) (map (shown_member term) ms) all in
+          let rest = few ms (All-tail (λ (x : Member Tree). x.rollbacks ≤ max_rollbacks) (shown_member term m) (map (shown_member term) ms) all) in
+          All-cons (λ (x : Member M). x.rollbacks ≤ max_rollbacks) m ms head rest
 
   -- one that is there by its term and isn't exhausted may be rolled back once more
   pub may-roll : (n : ℕ) (pool : Roster M) → IsGoodPool pool → (x : Member Tree) → find n (shown_pool term pool).members ≡ Some x

@@ -25,6 +25,38 @@ pub follows-more : (es : List Event) (s end : State) (e : Event) → Follows s e
 follows-more [] s end e run may = (subst (May e) run may, ap (after e) run)
 follows-more (first ∷ es) s end e run may = (run.0, follows-more es (after first s) end e run.1 may)
 
+-- What no event changes
+
+undo-limits : (parts : Parts) → (undo_turn parts).limits ≡ parts.limits
+undo-limits parts = by parts.stopped
+  where
+    by : (b : Bool) → (if b then parts else one_turn parts).limits ≡ parts.limits
+    by true = refl
+    by false = refl
+
+pub limits-stay : (e : Event) (s : State) → (after e s).parts.limits ≡ s.parts.limits
+limits-stay (Event.Begin seat number) s = refl
+limits-stay (Event.Read seat l) s = refl
+limits-stay (Event.Write seat l v) s = refl
+limits-stay (Event.Alloc seat sort ty v) s = refl
+limits-stay (Event.Check seat attempt steps) s = refl
+limits-stay (Event.TurnBack seat attempt why) s = refl
+limits-stay (Event.End seat attempt steps place woken) s = refl
+limits-stay (Event.Leave seat attempt steps place woken) s = refl
+limits-stay (Event.Note seat attempt steps place) s = refl
+limits-stay (Event.Visit seat attempt steps place inside memory) s = refl
+limits-stay (Event.Refuse seat attempt device) s = refl
+limits-stay (Event.Undo seat attempt) s = undo-limits (with_task seat (Task.Undoing attempt (reason_to_undo (task_at s.parts.tasks seat)))
+    (with_memory (undone_last seat s.parts.memory) s.parts))
+limits-stay (Event.Home seat attempt) s = undo-limits (with_task seat Task.Idle (record s.parts {
+  memory = undone_last seat s.parts.memory;
+  pool = brought_home (reason_to_undo (task_at s.parts.tasks seat)) attempt.tried.number s.parts.pool;
+  tried = with_try attempt s.parts.tried;
+}))
+limits-stay (Event.Cut seat attempt steps place) s = refl
+limits-stay (Event.Tall seat attempt steps place) s = refl
+limits-stay (Event.Halt why) s = refl
+
 -- What a run tells
 
 undo-tells : (parts : Parts) → (undo_turn parts).entries ≡ parts.entries

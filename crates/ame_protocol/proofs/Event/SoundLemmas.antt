@@ -1,21 +1,19 @@
 -- A state that has just started is sound, and stays so after each event.
-use Rattle.std.proofs.Common.{Bool, IsSomeAnd, IsTrue, List, None, Some, [], arith, cond, false, refl, true, ℕ, ◌<◌, ◌==◌, ◌≡◌, ◌≤◌}
+use Rattle.std.proofs.Common.{IsSomeAnd, IsTrue, List, None, Some, [], arith, false, refl, true, ℕ, ◌<◌, ◌≡◌, ◌≤◌, All, Option, sym, ap, ◌∙◌, subst, option_and_then}
 use Rattle.std.proofs.lemmas.List.Elements.{All-cons, All-nil}
 use Rattle.ame_term.specs.SourceTerm.{IsSourceTerm}
 use Rattle.ame_term.specs.Tree.{Tree, Typ}
 use Rattle.ame_term.specs.Typing.{Accepts}
-use Rattle.ame_pool.specs.Calls.{newcomer}
-use Rattle.ame_pool.specs.Members.{is_busy}
+use Rattle.ame_pool.specs.Calls.{newcomer, IsAt}
+use Rattle.ame_pool.specs.Members.{is_busy, find, is_ready}
 use Rattle.ame_pool.specs.Standings.{max_rollbacks}
 use Rattle.ame_pool.specs.declared.member.Member.{Member}
 use Rattle.ame_protocol.specs.Engine.Events.{started}
 use Rattle.ame_protocol.specs.declared.types.Limits.{Limits}
 use Rattle.ame_protocol.proofs.Bounds.PaidEvents.{row-clear}
-use Rattle.ame_protocol.proofs.Engine.AloneEvents.{start-alone}
 use Rattle.ame_protocol.proofs.Engine.StartLemmas.{started_stands, task-idle}
 use Rattle.ame_protocol.proofs.Waits.OnceEvents.{start-once}
-use Rattle.ame_protocol.proofs.Waits.TaskLemmas.{start-waiting}
-use Rattle.ame_protocol.specs.Event.Counting.{nothing_counted}
+use Rattle.ame_protocol.specs.Event.Counting.{nothing_counted, CountsTurns}
 use Rattle.ame_protocol.proofs.Event.BoundLemmas.{idle-bounded}
 use Rattle.ame_protocol.proofs.Event.CauseLemmas.{started-cause}
 use Rattle.ame_protocol.proofs.Event.CountLemmas.{none-counted}
@@ -23,7 +21,6 @@ use Rattle.ame_protocol.proofs.Event.LoneLemmas.{lone-idle}
 use Rattle.ame_protocol.specs.Event.After.{after}
 use Rattle.ame_protocol.specs.Event.Event.{Event}
 use Rattle.ame_protocol.specs.Event.May.{May}
-use Rattle.ame_protocol.specs.Event.Seated.{AreSeated}
 use Rattle.ame_protocol.specs.Event.Sound.{Sound}
 use Rattle.ame_protocol.specs.Event.State.{State, started_state}
 use Rattle.ame_protocol.proofs.Event.ActLemmas.{sound-allocated, sound-begun, sound-read, sound-written}
@@ -31,34 +28,84 @@ use Rattle.ame_protocol.proofs.Event.RowLemmas.{sound-checked, sound-ended, soun
 use Rattle.ame_protocol.proofs.Event.StopLemmas.{sound-cut, sound-halted, sound-tall}
 use Rattle.ame_protocol.proofs.Event.UndoLemmas.{sound-gone, sound-undone}
 use Rattle.ame_protocol.proofs.Event.VisitLemmas.{sound-refused, sound-visited}
+use Rattle.ame_pool.specs.declared.member.Standing.{Standing}
+use Rattle.ame_pool.proofs.MemberLemmas.{find_passes}
+use Rattle.ame_rows.specs.MemoryView.{row_at, no_log}
+use Rattle.ame_protocol.specs.Engine.Parts.{Parts, task_at}
+use Rattle.ame_protocol.specs.declared.types.Task.{Task}
+use Rattle.ame_protocol.specs.Engine.Simulates.{Simulates}
+use Rattle.ame_protocol.specs.Engine.Alone.{is_of_protected}
+use Rattle.ame_protocol.specs.Waits.Once.{AreNotedOnce}
+use Rattle.ame_protocol.specs.Waits.Waiting.{watch_list, watched_by}
+use Rattle.ame_protocol.specs.Event.Rollbacks.{IsGoodPool}
+use Rattle.ame_protocol.proofs.Event.SeatedLemmas.{seated-none}
 
-start-seated : (program : Tree) (devices : ℕ) (limits : Limits) → AreSeated (started program devices limits 0)
-start-seated program devices limits i busy = absurd (by (0 == i) busy)
-  where
-    by : (b : Bool) → IsSomeAnd (cond b (Some (newcomer 0 program false)) None) (λ m. IsTrue (is_busy m)) → ⊥
-    by true e = let clash : false ≡ true = e in cc
-    by false e = e
+-- Where each seat is idle and each member ready, nothing was counted yet, and no entry was added
+
+module _ (parts : Parts) (stands : Simulates parts) (pool : IsGoodPool parts.pool) (once : AreNotedOnce parts) (slice : 1 ≤ parts.limits.slice)
+    (idle : (seat : ℕ) → task_at parts.tasks seat ≡ Task.Idle) (clear : (seat : ℕ) → row_at parts.memory.rows seat ≡ no_log)
+    (ready : All (λ m. IsTrue (is_ready m)) parts.pool.members) (unused : parts.turns ≡ 0) (untried : parts.tried ≡ []) (untold : parts.entries ≡ [])
+    (going : parts.stopped ≡ false) where
+  nobody : (k : ℕ) → is_of_protected (task_at parts.tasks k) ≡ true → ⊥
+  nobody k e = let clash : false ≡ true = sym (ap is_of_protected (idle k)) ∙ e in cc
+
+  ready-found : (i : ℕ) (m : Member Tree) → find i parts.pool.members ≡ Some m → IsTrue (is_ready m)
+  ready-found i m e = find_passes (λ (x : Member Tree). IsTrue (is_ready x)) i parts.pool.members ready m e
+
+  none-busy : (i : ℕ) → IsAt is_busy i parts.pool → ⊥
+  none-busy i h = by (find i parts.pool.members) refl h
+    where
+      calm : (m : Member Tree) (x : Standing) → IsTrue (is_ready (record m { standing = x })) → IsTrue (is_busy (record m { standing = x })) → ⊥
+      calm m Standing.Ready r b = let clash : false ≡ true = b in cc
+      calm m (Standing.Busy w) r b = let clash : false ≡ true = r in cc
+      calm m (Standing.Parked locs) r b = let clash : false ≡ true = r in cc
+
+      by : (o : Option (Member Tree)) → find i parts.pool.members ≡ o → IsSomeAnd o (λ m. IsTrue (is_busy m)) → ⊥
+      by None e b = b
+      by (Some m) e b = calm m m.standing (ready-found i m e) b
+
+  none-waits : (i : ℕ) → watched_by i parts.pool ≡ None
+  none-waits i = by (find i parts.pool.members) refl
+    where
+      calm : (m : Member Tree) (x : Standing) → IsTrue (is_ready (record m { standing = x })) → watch_list x ≡ None
+      calm m Standing.Ready r = refl
+      calm m (Standing.Busy w) r = absurd (let clash : false ≡ true = r in cc)
+      calm m (Standing.Parked locs) r = absurd (let clash : false ≡ true = r in cc)
+
+      by : (o : Option (Member Tree)) → find i parts.pool.members ≡ o → option_and_then (λ (m : Member Tree). watch_list m.standing) o ≡ None
+      by None e = refl
+      by (Some m) e = calm m m.standing (ready-found i m e)
+
+  pub sound-idle : Sound (record { parts = parts; counters = nothing_counted; stop = None; certificates = [] })
+  sound-idle = record {
+    stopped = going;
+    stands = stands;
+    pool = pool;
+    alone = record {
+      alone = λ k other t exhausted e. absurd (nobody k exhausted.task);
+      running = λ still k t exhausted. absurd (nobody k exhausted.task);
+      valid = λ still k t exhausted. absurd (nobody k exhausted.task);
+    };
+    lone = lone-idle parts nothing_counted idle (record { conflicts = refl; invalids = refl });
+    bounds = idle-bounded parts nothing_counted refl untried slice unused idle clear;
+    waiting = record { failed = λ i ws e. absurd (let clash : ◌≡◌ {A = Option (List ℕ)} None (Some ws) = sym (none-waits i) ∙ e in cc) };
+    once = once;
+    caused = started-cause parts untold;
+    counters = subst (λ (n : ℕ). CountsTurns n nothing_counted) (sym unused) none-counted;
+    seated = seated-none parts none-busy;
+  }
 
 pub sound-start : (program : Tree) (devices : ℕ) (limits : Limits) (places : List ℕ) (refs : List Typ) → Accepts devices places program refs
     → IsSourceTerm program
     → 1 ≤ limits.slice → Sound (started_state program devices limits)
-sound-start program devices limits places refs accepts source slice = record {
-  stopped = refl;
-  stands = started_stands program devices limits 0 places refs accepts source;
-  pool = record {
-    rising = (All-nil (λ (m : Member Tree). 0 < m.number), tt);
-    few = All-cons (λ (m : Member Tree). m.rollbacks ≤ max_rollbacks) (newcomer 0 program false) [] (omega arith)
-        (All-nil (λ (m : Member Tree). m.rollbacks ≤ max_rollbacks));
-  };
-  alone = start-alone program devices limits 0;
-  lone = lone-idle (started program devices limits 0) nothing_counted (task-idle limits.seats) (record { conflicts = refl; invalids = refl });
-  bounds = idle-bounded (started program devices limits 0) nothing_counted refl refl slice refl (task-idle limits.seats) (row-clear limits.seats);
-  waiting = start-waiting program devices limits 0;
-  once = start-once program devices limits 0;
-  caused = started-cause (started program devices limits 0) refl;
-  counters = none-counted;
-  seated = start-seated program devices limits;
-}
+sound-start program devices limits places refs accepts source slice =
+    sound-idle (started program devices limits 0) (started_stands program devices limits 0 places refs accepts source)
+    (record {
+      rising = (All-nil (λ (m : Member Tree). 0 < m.number), tt);
+      few = All-cons (λ (m : Member Tree). m.rollbacks ≤ max_rollbacks) (newcomer 0 program false) [] (omega arith)
+          (All-nil (λ (m : Member Tree). m.rollbacks ≤ max_rollbacks));
+    }) (start-once program devices limits 0) slice (task-idle limits.seats) (row-clear limits.seats)
+    (All-cons (λ (m : Member Tree). IsTrue (is_ready m)) (newcomer 0 program false) [] refl (All-nil (λ (m : Member Tree). IsTrue (is_ready m)))) refl refl refl refl
 
 pub sound-after : (e : Event) (s : State) → May e s → Sound s → Sound (after e s)
 sound-after (Event.Begin seat number) s m h = sound-begun s h m.0 seat number m.1

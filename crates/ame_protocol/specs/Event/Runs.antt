@@ -1,5 +1,5 @@
 -- Runs: events one after another.
-use Rattle.std.specs.Prelude.{◌≡◌, List, [], ◌∷◌, ◌++◌}
+use Rattle.std.specs.Prelude.{◌≡◌, Bool, true, false, List, [], ◌∷◌, ◌++◌}
 use Rattle.ame_journal.specs.declared.entry.Entry.{Entry}
 use Rattle.ame_journal.specs.declared.entry.EntryKind.{EntryKind}
 use Rattle.ame_protocol.specs.Engine.Events.{ran_entry}
@@ -30,3 +30,8 @@ entries_told _ = []
 abbrev pub entries_along : List Event → List Entry
 entries_along [] = []
 entries_along (e ∷ es) = entries_told e ++ entries_along es
+
+-- whether a seat turns back
+abbrev pub is_back : Event → Bool
+is_back (Event.TurnBack seat attempt why) = true
+is_back _ = false

@@ -1,6 +1,6 @@
 //! What events and their runs keep.
 
-ghost use Rattle.std.specs.Prelude.{◌≡◌, ◌≤◌, ◌+◌, ◌++◌, ◌∷◌, [], ℕ, List, length, None};
+ghost use Rattle.std.specs.Prelude.{◌≡◌, ◌≤◌, ◌+◌, ◌*◌, ◌++◌, ◌∷◌, [], ℕ, true, List, All, count_by, length, None};
 ghost use Rattle.ame_term.specs.Tree.{Tree, Typ};
 ghost use Rattle.ame_term.specs.SourceTerm.{IsSourceTerm};
 ghost use Rattle.ame_term.specs.Typing.{Accepts};
@@ -11,7 +11,11 @@ ghost use Rattle.ame_protocol.specs.Event.Event.{Event};
 ghost use Rattle.ame_protocol.specs.Event.After.{after};
 ghost use Rattle.ame_protocol.specs.Event.May.{May};
 ghost use Rattle.ame_protocol.specs.Event.Sound.{Sound};
-ghost use Rattle.ame_protocol.specs.Event.Runs.{Follows, entries_along};
+ghost use Rattle.ame_protocol.specs.Event.Runs.{Follows, entries_along, entries_told, is_back};
+ghost use Rattle.ame_protocol.specs.Event.Bounds.{refusals};
+ghost use Rattle.ame_protocol.specs.Event.Causes.{is_ordinary};
+ghost use Rattle.ame_protocol.specs.Bounds.Rollbacks.{rollbacks_at};
+ghost use Rattle.ame_pool.specs.Standings.{max_rollbacks};
 
 /// The state that starts a program which the types accept is sound.
 pub fn states_start_sound()
@@ -45,4 +49,18 @@ pub fn runs_take_turns()
     ensures going { (es : List Event) (s end : State) → Follows s es end → Sound s → end.stop ≡ None
         → end.parts.turns ≡ s.parts.turns + length es }
     ensures counted { (s : State) → Sound s → turns_in s.counters ≡ s.parts.turns }
+{}
+
+/// The answers that turned a member back are those events in which a seat turns back; each is counted. There are at most eight
+/// of them for each member that there ever was and for each entry.
+pub fn runs_turn_back_seldom()
+    ensures counted { (es : List Event) (s end : State) → Follows s es end → refusals end.counters ≡ refusals s.counters + count_by is_back es }
+    ensures few { (es : List Event) (s end : State) → Follows s es end → Sound s
+        → refusals s.counters + count_by is_back es ≤ max_rollbacks * (end.parts.next + length end.parts.entries) }
+{}
+
+/// An entry that isn't the last one, which tells how a run stopped, takes the rollbacks of its member off.
+pub fn entries_take_rollbacks_off()
+    ensures { (s : State) → Sound s → (e : Event)
+        → All (λ entry. is_ordinary entry.kind ≡ true → rollbacks_at entry.number (after e s).parts.pool ≡ 0) (entries_told e) }
 {}

@@ -2,6 +2,7 @@ pub mod OrderLemmas
 pub mod PickLemmas
 pub mod BusyLemmas
 pub mod TurnLemmas
+pub mod SeatLemmas
 pub mod UnwindLemmas
 pub mod CrewLemmas
 pub mod PlayLemmas

@@ -110,6 +110,17 @@ module _ {M : Type 0} (term : M → Tree) where
   exhausted-same n pool h =
       subst (λ (o : Option (Member Tree)). IsSomeAnd o (λ m. IsTrue (is_exhausted m))) (sym (found-shown term n pool.members)) (exhausted-by (find n pool.members) h)
 
+  -- numbers rise among terms
+  pub rising-shown : (pool : Roster M) → IsRising pool.members → IsRising (shown_pool term pool).members
+  rising-shown pool rising = by pool.members rising
+    where
+      above : (n : ℕ) (ms : List (Member M)) → All (λ m. n < m.number) ms → All (λ m. n < m.number) (map (shown_member term) ms)
+      above n ms all = All-map (λ (m : Member Tree). n < m.number) (shown_member term) ms all
+
+      by : (ms : List (Member M)) → IsRising ms → IsRising (map (shown_member term) ms)
+      by [] h = h
+      by (m ∷ ms) h = (above m.number ms h.0, by ms h.1)
+
   -- a pool is good that is so by its terms
   pub good-told : (pool : Roster M) → IsGoodPool (shown_pool term pool) → IsGoodPool pool
   good-told pool good = record { rising = rising pool.members good.rising; few = few pool.members good.few }

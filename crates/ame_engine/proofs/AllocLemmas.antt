@@ -1,5 +1,5 @@
 -- A seat makes a cell.
-use Rattle.std.proofs.Common.{◌≡◌, ℕ, ◌+◌, ◌<◌, false, length, Option, Some, refl, sym, ap, ◌∙◌, subst, arith, None, is_some}
+use Rattle.std.proofs.Common.{◌≡◌, ℕ, ◌+◌, ◌<◌, false, length, Option, Some, refl, sym, ap, ◌∙◌, subst, None}
 use Rattle.std.specs.Prelude.{unwrap_or}
 use Rattle.std.proofs.lemmas.List.{length-map}
 use Rattle.std.proofs.lemmas.List.Elements.{All-push, All-set}
@@ -11,11 +11,9 @@ use Rattle.ame_journal.specs.Replay.{redex_act}
 use Rattle.ame_store.specs.declared.cell.Cell.{Cell}
 use Rattle.ame_store.specs.Changes.{made}
 use Rattle.ame_rows.specs.declared.notes.Undo.TheVariants.{Made}
-use Rattle.ame_machine.specs.Run.Local.{LocalState}
 use Rattle.ame_rows.specs.MemoryView.{MemoryView, row_at}
 use Rattle.ame_rows.specs.Access.{next_place, allocated_by}
 use Rattle.ame_protocol.specs.Row.Shown.{shown_cell}
-use Rattle.ame_protocol.specs.Row.SeatRun.{ComesTo}
 use Rattle.ame_machine.specs.declared.wants.Wants.{Wants}
 use Rattle.ame_machine.specs.declared.wants.Wants.TheVariants as wants
 use Rattle.ame_machine.specs.MachineView.{MachineView}
@@ -24,22 +22,11 @@ use Rattle.ame_machine.specs.Input.{value_set, value_to_set}
 use Rattle.ame_machine.specs.Comes.{HasNextAct}
 use Rattle.ame_machine.specs.Sound.{IsSoundStage, CanRun}
 use Rattle.ame_machine.proofs.NeedLemmas.{comes_as}
-use Rattle.ame_protocol.specs.declared.types.Task.{Task}
-use Rattle.ame_protocol.specs.Engine.Parts.{Parts, task_at, attempt_of, run_in}
+use Rattle.ame_protocol.specs.Engine.Parts.{Parts}
 use Rattle.ame_protocol.specs.Engine.Shown.{shown_memory}
-use Rattle.ame_protocol.specs.Engine.Simulates.{Simulates}
-use Rattle.ame_protocol.specs.Engine.Alone.{RunsExclusively}
 use Rattle.ame_protocol.specs.Engine.Events.{has_allocated}
-use Rattle.ame_protocol.proofs.Engine.AloneLemmas.{allocation-alone}
-use Rattle.ame_protocol.proofs.Engine.AccessLemmas.{allocation-stands}
 use Rattle.ame_protocol.proofs.Engine.ShownMemoryLemmas.{allocation-shown}
-use Rattle.ame_protocol.specs.Waits.Waiting.{AreWaiting}
-use Rattle.ame_protocol.specs.Waits.Once.{AreNotedOnce}
-use Rattle.ame_protocol.proofs.Waits.TaskLemmas.{allocation-waiting}
-use Rattle.ame_protocol.proofs.Waits.OnceLemmas.{once-on}
 use Rattle.ame_engine.specs.Core.{Core}
-use Rattle.ame_protocol.specs.Event.Causes.{HasCause}
-use Rattle.ame_protocol.proofs.Event.CauseLemmas.{task-more, working-cause}
 use Rattle.ame_protocol.specs.Event.Counting.{Counted, one_counted}
 use Rattle.ame_protocol.specs.Event.Event.{Event}
 use Rattle.ame_protocol.specs.Event.May.{May}
@@ -47,16 +34,11 @@ use Rattle.ame_engine.specs.Seen.{parts_of}
 use Rattle.ame_engine.specs.Makes.{state_of, Makes}
 use Rattle.ame_engine.specs.Whole.{IsGoodUndo, IsGoodLog, IsGoodMemory, IsSound}
 use Rattle.ame_engine.specs.AtWork.{IsOnSeat, IsOn}
-use Rattle.ame_protocol.proofs.Event.CountLemmas.{one-counts}
 use Rattle.ame_engine.proofs.MakesLemmas.{made-event}
-use Rattle.ame_engine.proofs.ReadLemmas.{row-good, runs-as, comes-to, has-come}
+use Rattle.ame_engine.proofs.ReadLemmas.{row-good, has-come}
 use Rattle.ame_engine.proofs.RunLemmas.{can-run}
-use Rattle.ame_protocol.specs.Event.Lone.{IsLone}
-use Rattle.ame_protocol.proofs.Event.LoneLemmas.{allocation-lone}
-use Rattle.ame_protocol.specs.Event.Bounds.{KeepsBounds}
-use Rattle.ame_protocol.proofs.Event.BoundLemmas.{allocation-bounded}
-use Rattle.ame_protocol.specs.declared.stop.Stop.{Stop}
 use Rattle.ame_machine.specs.Meaning.{Meaning}
+use Rattle.ame_engine.proofs.SoundLemmas.{sound-next}
 
 -- The sort and the form of the cell that is wanted
 
@@ -110,12 +92,6 @@ module _ {C V M : Type 0} (meaning : Meaning C V M) (same : V → V → Type 0)
   next-act : (v : Val) × HasNextAct s (Act.Allocates sort v)
   next-act = comes_as s (Need.Alloc sort) need'
 
-  comes : (p : LocalState) × ComesTo (run_in parts seat on'.attempt.tried.number) (Act.Allocates sort next-act.0) s.steps p
-  comes = comes-to parts seat s on' (Act.Allocates sort next-act.0) outside' next-act.1
-
-  task : task_at parts.tasks seat ≡ Task.Running on'.attempt
-  task = runs-as parts seat s on' outside'
-
   same-count : length parts.memory.cells ≡ length core.memory.cells
   same-count = length-map core.memory.cells (shown_cell (meaning.value_of core.code))
 
@@ -146,56 +122,6 @@ module _ {C V M : Type 0} (meaning : Meaning C V M) (same : V → V → Type 0)
         (ap (shown_memory (meaning.value_of core.code)) is ∙ allocation-shown (meaning.value_of core.code) seat sort number value input core.memory
         ∙ ap (λ (u : Val). allocated_by seat sort number (meaning.value_of core.code value) u parts.memory) input-is)
 
-    stands-allocated : Simulates (has_allocated seat sort number (meaning.value_of core.code value) parts)
-    stands-allocated =
-        subst (λ (v : Val). Simulates (has_allocated seat sort number v parts)) value-is
-        (allocation-stands parts whole.stands seat on'.attempt task s.steps comes.0 left' sort number next-act.0 comes.1)
-
-    alone-allocated : RunsExclusively (has_allocated seat sort number (meaning.value_of core.code value) parts)
-    alone-allocated =
-        subst (λ (v : Val). RunsExclusively (has_allocated seat sort number v parts)) value-is
-        (allocation-alone parts whole.stands whole.alone seat on'.attempt task s.steps comes.0 sort number next-act.0 comes.1)
-
-    lone-allocated : IsLone (has_allocated seat sort number (meaning.value_of core.code value) parts) (one_counted Counted.Alloc core.counters)
-    lone-allocated =
-        subst (λ (v : Val). IsLone (has_allocated seat sort number v parts) (one_counted Counted.Alloc core.counters)) value-is
-        (allocation-lone parts whole.stands core.counters (one_counted Counted.Alloc core.counters) whole.lone refl refl seat on'.attempt task
-        s.steps comes.0 sort number next-act.0 comes.1)
-
-    waiting-allocated : AreWaiting (has_allocated seat sort number (meaning.value_of core.code value) parts)
-    waiting-allocated = allocation-waiting parts whole.stands seat on'.attempt task whole.waiting sort number (meaning.value_of core.code value)
-
-    bounded-allocated : core.stop ≡ None → s.since < core.limits.slice
-        → KeepsBounds core.stop (one_counted Counted.Alloc core.counters) (has_allocated seat sort number (meaning.value_of core.code value) parts)
-    bounded-allocated none early =
-        subst (λ (v : Val). KeepsBounds core.stop (one_counted Counted.Alloc core.counters) (has_allocated seat sort number v parts)) value-is
-        (allocation-bounded parts whole.stands core.stop none (ap (λ (o : Option Stop). is_some o) none) core.counters (one_counted Counted.Alloc core.counters)
-        whole.bounds refl seat on'.attempt task s.steps comes.0 (let since = on'.since in omega arith) sort number next-act.0 comes.1)
-
-    pub whole-allocated : now.stop ≡ None → (meaning.stage now.code m).since < now.limits.slice → IsSound meaning after
-    whole-allocated going early = record {
-      stands = subst Simulates (sym parts-allocated) stands-allocated;
-      limits = whole.limits;
-      memory =
-          subst (IsGoodMemory (meaning.is_value core.code)) (sym is)
-          (memory-good (meaning.is_value core.code) seat sort number value input (keeps core.code lent value copied lent-good) input-good core.memory whole.memory);
-      members = whole.members;
-      pool = whole.pool;
-      alone = subst RunsExclusively (sym parts-allocated) alone-allocated;
-      lone = subst (λ (x : Parts). IsLone x (one_counted Counted.Alloc core.counters)) (sym parts-allocated) lone-allocated;
-      bounds = subst (λ (x : Parts). KeepsBounds core.stop (one_counted Counted.Alloc core.counters) x) (sym parts-allocated)
-          (bounded-allocated (subst (λ (x : Core C V M). x.stop ≡ None) (sym view) going)
-          (subst (λ (x : Core C V M). (meaning.stage x.code m).since < x.limits.slice) (sym view) early));
-      waiting = subst AreWaiting (sym parts-allocated) waiting-allocated;
-      once = subst AreNotedOnce (sym parts-allocated)
-          (once-on parts (has_allocated seat sort number (meaning.value_of core.code value) parts) refl (λ i some. some) whole.once);
-      caused = subst (HasCause core.stop core.certificates) (sym parts-allocated)
-          (working-cause parts (has_allocated seat sort number (meaning.value_of core.code value) parts)
-          (task-more parts whole.stands seat on'.attempt (ap attempt_of task)) (record { program = refl; base = refl; entries = refl }) left' core.stop core.certificates whole.caused);
-      counters = one-counts core.turns core.counters whole.counters Counted.Alloc;
-      text = whole.text;
-    }
-
     -- so the seat may make it
     may-allocate : now.stop ≡ None → (meaning.stage now.code m).since < now.limits.slice
         → May (Event.Alloc seat sort number (meaning.value_of core.code value)) (state_of meaning core)
@@ -204,6 +130,14 @@ module _ {C V M : Type 0} (meaning : Meaning C V M) (same : V → V → Type 0)
       has-come (state_of meaning core) seat s on' (Act.Allocates sort next-act.0) outside' next-act.1
           (subst (λ (x : Core C V M). (meaning.stage x.code m).since < x.limits.slice) (sym view) early),
     )
+
+    makes-it : now.stop ≡ None → (meaning.stage now.code m).since < now.limits.slice
+        → Makes meaning (Event.Alloc seat sort number (meaning.value_of core.code value)) now after
+    makes-it going early =
+        subst (λ (x : Core C V M). Makes meaning (Event.Alloc seat sort number (meaning.value_of core.code value)) x after) view
+        (made-event meaning (one_counted Counted.Alloc) (has_allocated seat sort number (meaning.value_of core.code value))
+        (Event.Alloc seat sort number (meaning.value_of core.code value)) core after refl refl (may-allocate going early)
+        (record { code = refl; parts = parts-allocated; counted = refl; stop = refl }))
 
     -- whatever is told of what is wanted
     pub makes-allocated : now.stop ≡ None → (meaning.stage now.code m).since < now.limits.slice → (t : Sort) (n : TyNo) (v : Val)
@@ -218,11 +152,14 @@ module _ {C V M : Type 0} (meaning : Meaning C V M) (same : V → V → Type 0)
         let one-number : number ≡ n = ap (λ (w : Option Wants). number-wanted w number) (sym wants-it ∙ e) in
         subst (λ (x : Val). Makes meaning (Event.Alloc seat t n x) now after) one-value
         (subst (λ (x : Sort). Makes meaning (Event.Alloc seat x n (meaning.value_of core.code value)) now after) one-sort
-        (subst (λ (x : TyNo). Makes meaning (Event.Alloc seat sort x (meaning.value_of core.code value)) now after) one-number
-        (subst (λ (x : Core C V M). Makes meaning (Event.Alloc seat sort number (meaning.value_of core.code value)) x after) view
-        (made-event meaning (one_counted Counted.Alloc) (has_allocated seat sort number (meaning.value_of core.code value))
-        (Event.Alloc seat sort number (meaning.value_of core.code value)) core after refl refl (may-allocate going early)
-        (record { code = refl; parts = parts-allocated; counted = refl; stop = refl })))))
+        (subst (λ (x : TyNo). Makes meaning (Event.Alloc seat sort x (meaning.value_of core.code value)) now after) one-number (makes-it going early)))
+
+    pub whole-allocated : now.stop ≡ None → (meaning.stage now.code m).since < now.limits.slice → IsSound meaning after
+    whole-allocated going early =
+        sound-next meaning core now after view whole (Event.Alloc seat sort number (meaning.value_of core.code value)) (makes-it going early)
+        (subst (IsGoodMemory (meaning.is_value core.code)) (sym is)
+        (memory-good (meaning.is_value core.code) seat sort number value input (keeps core.code lent value copied lent-good) input-good core.memory whole.memory))
+        whole.members whole.text
 
     pub runs-allocated : now.stop ≡ None → (meaning.stage now.code m).since < now.limits.slice → (t : MachineView) → IsOnSeat (parts_of meaning after) seat t → t.inside ≡ false → CanRun t
-    runs-allocated going early t stands out = can-run (parts_of meaning after) (whole-allocated going early).stands seat t stands out
+    runs-allocated going early t stands out = can-run (parts_of meaning after) (whole-allocated going early).state.stands seat t stands out

@@ -1,5 +1,5 @@
 -- A seat begins a member.
-use Rattle.std.proofs.Common.{◌≡◌, ℕ, ◌+◌, ◌<◌, Bool, true, false, List, ◌++◌, length, Option, Some, None, option_map, refl, sym, ap, ◌∙◌, subst, arith}
+use Rattle.std.proofs.Common.{◌≡◌, ℕ, ◌+◌, ◌<◌, Bool, true, false, List, ◌++◌, length, Option, Some, None, option_map, refl, sym, ap, ◌∙◌, subst, arith, All}
 use Rattle.std.specs.Prelude.{◌≤◌, nat_lt, is_some, unwrap_or, slice_set, if◌then◌else◌}
 use Rattle.std.proofs.Common.{inl}
 use Rattle.std.proofs.lemmas.Bool.{ltb-false}
@@ -19,16 +19,8 @@ use Rattle.ame_protocol.specs.declared.types.Task.{Task}
 use Rattle.ame_protocol.specs.declared.types.Tried.{Tried}
 use Rattle.ame_protocol.specs.Engine.Parts.{Parts, task_at, term_at}
 use Rattle.ame_protocol.specs.Engine.Tasks.{MeetsTask}
-use Rattle.ame_protocol.specs.Engine.Simulates.{Simulates}
-use Rattle.ame_protocol.specs.Engine.Alone.{RunsExclusively}
 use Rattle.ame_protocol.specs.Engine.Events.{attempt_after, begun_task, has_begun, one_turn, with_task}
 use Rattle.ame_protocol.proofs.Engine.StepLemmas.{task_here}
-use Rattle.ame_protocol.proofs.Engine.HomeLemmas.{begun_stands}
-use Rattle.ame_protocol.proofs.Engine.AloneEvents.{begun-alone}
-use Rattle.ame_protocol.specs.Waits.Waiting.{AreWaiting}
-use Rattle.ame_protocol.specs.Waits.Once.{AreNotedOnce}
-use Rattle.ame_protocol.proofs.Waits.TaskLemmas.{begin-waiting}
-use Rattle.ame_protocol.proofs.Waits.OnceEvents.{begin-once}
 use Rattle.ame_engine.specs.Core.{Core}
 use Rattle.ame_protocol.specs.Event.Causes.{HasCause, is_from_outside}
 use Rattle.ame_protocol.specs.Event.Counting.{Counted, one_counted}
@@ -49,16 +41,14 @@ use Rattle.ame_protocol.proofs.Engine.ShownPoolLemmas.{machine-shown, held-shown
 use Rattle.ame_engine.proofs.MemberLemmas.{all_altered, inside-told, ready-machine, inside-same, ready-same}
 use Rattle.ame_engine.proofs.WorkLemmas.{on-begun}
 use Rattle.ame_engine.proofs.RunLemmas.{rest-runs}
-use Rattle.ame_protocol.proofs.Event.CountLemmas.{one-counts}
 use Rattle.ame_protocol.specs.declared.stop.Stop.{Stop}
 use Rattle.ame_engine.specs.Stops.{stopped_by}
-use Rattle.ame_protocol.proofs.Event.CauseLemmas.{begins-more, working-cause, empty-members, empty-oldest, fault-cause}
-use Rattle.ame_protocol.proofs.Event.RollbackLemmas.{good-held}
+use Rattle.ame_protocol.proofs.Event.CauseLemmas.{empty-members, empty-oldest, fault-cause}
 use Rattle.ame_engine.proofs.OldestLemmas.{oldest-shown}
-use Rattle.ame_protocol.proofs.Event.LoneLemmas.{lone-begun}
-use Rattle.ame_protocol.specs.Event.Bounds.{KeepsBounds, LeavesNoTry}
-use Rattle.ame_protocol.proofs.Event.BoundLemmas.{begun-bounded, idle-leaves_no_try}
+use Rattle.ame_protocol.specs.Event.Bounds.{LeavesNoTry}
+use Rattle.ame_protocol.proofs.Event.BoundLemmas.{idle-leaves_no_try}
 use Rattle.ame_machine.specs.Meaning.{Meaning}
+use Rattle.ame_engine.proofs.SoundLemmas.{sound-next}
 
 module _ {C V M : Type 0} (meaning : Meaning C V M) where
   -- the plain parts, once a seat has begun a member that is inside or not, with this pool
@@ -77,40 +67,9 @@ module _ {C V M : Type 0} (meaning : Meaning C V M) where
   module _ (core : Core C V M) (whole : IsSound meaning core) (seat number : ℕ)
       (within : seat < core.limits.seats) (idle : task_at core.tasks seat ≡ Task.Idle) (first : oldest core.pool ≡ Oldest.Member number)
       (ready : IsAt is_ready number core.pool) (left : core.turns < core.limits.turns) where
-    pub begun-stands : Simulates (has_begun seat number (parts_of meaning core))
-    begun-stands =
-        begun_stands (parts_of meaning core) whole.stands seat number idle within
-        (ready-same (term_shown meaning.stage core.code) number core.pool ready) left
-
-    pub begun-whole : core.stop ≡ None → IsSound meaning (begun_by seat number core)
-    begun-whole going = record {
-      stands = subst Simulates (sym (begun-parts seat number core)) begun-stands;
-      limits = whole.limits;
-      memory = whole.memory;
-      members = all_altered number begun (IsAtRest meaning.is_machine meaning.stage core.code)
-          (λ m rests. record { machine = rests.machine; rests = rests.rests }) core.pool.members whole.members;
-      pool = good-held number core.pool whole.pool;
-      alone = subst RunsExclusively (sym (begun-parts seat number core))
-          (begun-alone (parts_of meaning core) whole.stands whole.alone seat number idle within
-          (oldest-shown (term_shown meaning.stage core.code) core.pool ∙ first) (ready-same (term_shown meaning.stage core.code) number core.pool ready));
-      lone = lone-begun (parts_of meaning core) (parts_of meaning (begun_by seat number core)) whole.stands
-          core.counters (one_counted Counted.Begin core.counters) whole.lone seat
-          (let seats : length core.tasks ≡ core.limits.seats = whole.stands.bounded.tasks in omega (arith, seats, within)) refl refl refl
-          (is_inside_at core.pool.members number) (attempt_after number (core.base ++ core.entries)) refl idle refl;
-      bounds = subst (KeepsBounds core.stop (one_counted Counted.Begin core.counters)) (sym (begun-parts seat number core))
-          (begun-bounded (parts_of meaning core) whole.stands core.stop going (ap (λ (o : Option Stop). is_some o) going) core.counters
-          (one_counted Counted.Begin core.counters) whole.bounds refl seat number idle within);
-      waiting = subst AreWaiting (sym (begun-parts seat number core))
-          (begin-waiting (parts_of meaning core) whole.waiting seat number idle);
-      once = subst AreNotedOnce (sym (begun-parts seat number core))
-          (begin-once (parts_of meaning core) seat number (ready-same (term_shown meaning.stage core.code) number core.pool ready) whole.once);
-      caused = subst (HasCause core.stop core.certificates) (sym (begun-parts seat number core))
-          (working-cause (parts_of meaning core) (has_begun seat number (parts_of meaning core))
-          (begins-more (parts_of meaning core) number (oldest-shown (term_shown meaning.stage core.code) core.pool ∙ first)) (record { program = refl; base = refl; entries = refl }) left
-          core.stop core.certificates whole.caused);
-      counters = one-counts core.turns core.counters whole.counters Counted.Begin;
-      text = whole.text;
-    }
+    pub begun-rest : All (IsAtRest meaning.is_machine meaning.stage core.code) (held number core.pool).members
+    begun-rest = all_altered number begun (IsAtRest meaning.is_machine meaning.stage core.code)
+        (λ m rests. record { machine = rests.machine; rests = rests.rests }) core.pool.members whole.members
 
     pub begun-makes : MakesEvent meaning (one_counted Counted.Begin) (has_begun seat number) core (begun_by seat number core)
     begun-makes = record { code = refl; parts = begun-parts seat number core; counted = refl; stop = refl }
@@ -154,10 +113,10 @@ module _ {C V M : Type 0} (meaning : Meaning C V M) where
       }
         where
           there : seat < length core.tasks
-          there = let seats : length core.tasks ≡ core.limits.seats = whole.stands.bounded.tasks in omega (arith, seats, within)
+          there = let seats : length core.tasks ≡ core.limits.seats = whole.state.stands.bounded.tasks in omega (arith, seats, within)
 
           clear : row_at (parts_of meaning core).memory.rows seat ≡ no_log
-          clear = subst (MeetsTask (parts_of meaning core) whole.stands.types seat) idle (whole.stands.seats seat)
+          clear = subst (MeetsTask (parts_of meaning core) whole.state.stands.types seat) idle (whole.state.stands.seats seat)
 
       -- it rests
       pub begun-rests : (m : M) → meaning.stage core.code m ≡ meaning.stage core.code held_machine
@@ -171,7 +130,7 @@ module _ {C V M : Type 0} (meaning : Meaning C V M) where
       pub begun-runs : (m : M) → meaning.stage core.code m ≡ meaning.stage core.code held_machine → CanRun (meaning.stage core.code m)
       begun-runs m same =
           subst CanRun (sym (same ∙ rest-by (find number core.pool.members) refl))
-          (rest-runs (parts_of meaning core) whole.stands number (meaning.stage core.code held_machine).term (is_inside_at core.pool.members number)
+          (rest-runs (parts_of meaning core) whole.state.stands number (meaning.stage core.code held_machine).term (is_inside_at core.pool.members number)
           (machine-shown (term_shown meaning.stage core.code) number core.pool ∙ ap (option_map (term_shown meaning.stage core.code)) found)
           (inside-same (term_shown meaning.stage core.code) number core.pool))
 
@@ -251,11 +210,6 @@ module _ {C V M : Type 0} (meaning : Meaning C V M) (same : M → M → Type 0)
   left' : core.turns < core.limits.turns
   left' = subst (λ (x : Core C V M). x.turns < x.limits.turns) (sym view) left
 
-  pub whole-begun : now.stop ≡ None → IsSound meaning after
-  whole-begun going = subst (IsSound meaning) (sym after-is)
-      (begun-whole meaning core whole seat number within' idle' first' ready' left'
-      (subst (λ (x : Core C V M). x.stop ≡ None) (sym view) going))
-
   -- so it may begin
   may-begin : now.stop ≡ None → May (Event.Begin seat number) (state_of meaning core)
   may-begin going = (
@@ -273,6 +227,12 @@ module _ {C V M : Type 0} (meaning : Meaning C V M) (same : M → M → Type 0)
       (subst (Makes meaning (Event.Begin seat number) core) (sym after-is)
       (made-event meaning (one_counted Counted.Begin) (has_begun seat number) (Event.Begin seat number) core (begun_by seat number core) refl refl (may-begin going)
       (begun-makes meaning core whole seat number within' idle' first' ready' left')))
+
+  pub whole-begun : now.stop ≡ None → IsSound meaning after
+  whole-begun going =
+      sound-next meaning core now after view whole (Event.Begin seat number) (makes-begun going) whole.memory
+      (subst (λ (p : Roster M). All (IsAtRest meaning.is_machine meaning.stage core.code) p.members) (sym pool_is)
+      (begun-rest meaning core whole seat number within' idle' first' ready' left')) whole.text
 
   module _ (m : M) (copied : ForSome (machine_of number core.pool) (λ resting. same resting m)) where
     resting : (x : M) × (machine_of number core.pool ≡ Some x)
@@ -363,7 +323,7 @@ module _ {C V M : Type 0} (meaning : Meaning C V M) (core now : Core C V M) (vie
   kept why x = HasCause (Some why) x.certificates (parts_of meaning (stopped_by why x))
 
   none-kept : core.stop ≡ None → HasCause None core.certificates (parts_of meaning core)
-  none-kept none = subst (λ (o : Option Stop). HasCause o core.certificates (parts_of meaning core)) none whole.caused
+  none-kept none = subst (λ (o : Option Stop). HasCause o core.certificates (parts_of meaning core)) none whole.state.caused
 
   oldest-is : (o : Oldest) → oldest core.pool ≡ o → oldest (parts_of meaning core).pool ≡ o
   oldest-is o e = oldest-shown (term_shown meaning.stage core.code) core.pool ∙ e
@@ -389,7 +349,7 @@ module _ {C V M : Type 0} (meaning : Meaning C V M) (core now : Core C V M) (vie
           let given = none-kept none in
           let is = spent-by (is-spent core) (oldest core.pool) (met-by core Pick.Spent h none) in
           let enough = used-up core.turns core.limits.turns is.0 in
-          let most : core.turns ≤ core.limits.turns = whole.stands.bounded.turns in record {
+          let most : core.turns ≤ core.limits.turns = whole.state.stands.bounded.turns in record {
             cause = record {
               turns = omega (arith, enough, most);
               left = λ empty. is.1 (sym (oldest-shown (term_shown meaning.stage core.code) core.pool) ∙ empty-oldest (parts_of meaning core).pool empty);
@@ -413,7 +373,7 @@ module _ {C V M : Type 0} (meaning : Meaning C V M) (core now : Core C V M) (vie
       → LeavesNoTry Stop.Spent (parts_of meaning now)
   idle-leaves seat within idle =
       subst (λ (x : Core C V M). seat < x.limits.seats → task_at x.tasks seat ≡ Task.Idle → LeavesNoTry Stop.Spent (parts_of meaning x)) view
-      (λ there none. idle-leaves_no_try (parts_of meaning core) whole.stands seat there none) within idle
+      (λ there none. idle-leaves_no_try (parts_of meaning core) whole.state.stands seat there none) within idle
 
   pub parked-met : pick_of now ≡ Pick.Blocked → oldest now.pool ≡ Oldest.Parked
   parked-met e = blocked-parked (is-spent now) (oldest now.pool) (met-by now Pick.Blocked e (none-met now Pick.Blocked e (λ c. cc)))

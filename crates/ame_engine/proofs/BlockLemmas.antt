@@ -1,5 +1,5 @@
 -- The row of a seat is noted: its member came to a condition that is false.
-use Rattle.std.proofs.Common.{◌≡◌, ℕ, ◌+◌, ◌<◌, true, false, List, [], ◌∷◌, ◌++◌, map, get_or, take, length, All, Option, Some, None, refl, sym, ap, ◌∙◌, subst, rules, is_some}
+use Rattle.std.proofs.Common.{◌≡◌, ℕ, ◌+◌, ◌<◌, true, false, List, [], ◌∷◌, ◌++◌, map, get_or, take, length, All, Some, None, refl, sym, ap, ◌∙◌, subst, rules}
 use Rattle.std.specs.Prelude.{slice_set}
 use Rattle.std.proofs.lemmas.List.{take_more, map-append}
 use Rattle.ame_term.specs.Tree.{Val, Tree}
@@ -26,41 +26,26 @@ use Rattle.ame_machine.proofs.NeedLemmas.{comes_as}
 use Rattle.ame_protocol.specs.declared.types.Attempt.{Attempt}
 use Rattle.ame_protocol.specs.declared.types.Reason.{Reason}
 use Rattle.ame_protocol.specs.declared.types.Task.{Task}
-use Rattle.ame_protocol.specs.Engine.Parts.{Parts, heap_in, task_at, attempt_of, run_in}
+use Rattle.ame_protocol.specs.Engine.Parts.{Parts, heap_in, task_at, run_in}
 use Rattle.ame_protocol.specs.Engine.Shown.{shown_pool}
-use Rattle.ame_protocol.specs.Engine.Simulates.{Simulates}
-use Rattle.ame_protocol.specs.Engine.Alone.{RunsExclusively}
-use Rattle.ame_protocol.proofs.Engine.StepLemmas.{seat_within}
 use Rattle.ame_protocol.proofs.Engine.ShownMemoryLemmas.{row-shown}
 use Rattle.ame_protocol.proofs.Engine.ShownPoolLemmas.{noted-shown}
-use Rattle.ame_protocol.specs.Waits.Waiting.{AreWaiting}
-use Rattle.ame_protocol.specs.Waits.Once.{AreNotedOnce}
 use Rattle.ame_protocol.specs.Waits.Noted.{stuck_entry, has_noted}
-use Rattle.ame_protocol.proofs.Waits.NotedLemmas.{noted_stands, noted-alone}
-use Rattle.ame_protocol.proofs.Waits.TaskLemmas.{note-waiting}
-use Rattle.ame_protocol.proofs.Waits.OnceEvents.{note-once}
 use Rattle.ame_engine.specs.Core.{Core}
-use Rattle.ame_protocol.specs.declared.stop.Stop.{Stop}
 use Rattle.ame_protocol.specs.Event.Counting.{Counted, one_counted}
 use Rattle.ame_protocol.specs.Event.Event.{Event}
 use Rattle.ame_protocol.specs.Event.May.{May}
 use Rattle.ame_engine.specs.Seen.{parts_of, term_shown}
 use Rattle.ame_engine.specs.Makes.{state_of, MakesAt}
 use Rattle.ame_engine.proofs.MakesLemmas.{made-event}
-use Rattle.ame_protocol.specs.Event.Rollbacks.{IsGoodPool}
 use Rattle.ame_engine.specs.Whole.{IsAtRest, IsSound}
 use Rattle.ame_engine.specs.AtWork.{IsOn}
-use Rattle.ame_protocol.proofs.Event.CauseLemmas.{going-cause}
 use Rattle.ame_engine.proofs.CommitLemmas.{sound', left', place, used, are-valid, its-runs, commit-runs, commit-few}
-use Rattle.ame_protocol.proofs.Event.CountLemmas.{one-counts}
 use Rattle.ame_engine.proofs.CrewLemmas.{busy-told}
 use Rattle.ame_engine.proofs.MemberLemmas.{all_altered}
-use Rattle.ame_protocol.proofs.Event.RollbackLemmas.{good-noted}
-use Rattle.ame_protocol.proofs.Event.LoneLemmas.{lone-left}
-use Rattle.ame_protocol.specs.Event.Bounds.{KeepsBounds}
-use Rattle.ame_protocol.proofs.Event.BoundLemmas.{noted-bounded}
-use Rattle.ame_engine.proofs.CommitLemmas.{commit-low, commit-rolls}
+use Rattle.ame_engine.proofs.CommitLemmas.{commit-low}
 use Rattle.ame_machine.specs.Meaning.{Meaning}
+use Rattle.ame_engine.proofs.SoundLemmas.{sound-next}
 
 -- a note has no answer
 pub none-held : (kind : EntryKind) → MayHold kind None
@@ -130,25 +115,6 @@ module _ {C V M : Type 0} (meaning : Meaning C V M)
         ap (λ (x : LocalState). is_false_condition (focus x.term)) p-shown
         ∙ (comes_as s Need.Block ((sound' meaning core now view whole seat m on outside sound left attempt runs-now valid-now).told wants.Block wants')).1
 
-    noted-so : Simulates (has_noted seat attempt s.steps (place_shown s) parts)
-    noted-so =
-        subst (λ (q : LocalState). Simulates (has_noted seat attempt s.steps q parts)) p-shown
-        (noted_stands parts whole.stands seat attempt is turns-left s.steps p p-used reads-valid fails)
-
-    waits-so : AreWaiting (has_noted seat attempt s.steps (place_shown s) parts)
-    waits-so =
-        subst (λ (q : LocalState). AreWaiting (has_noted seat attempt s.steps q parts)) p-shown
-        (note-waiting parts whole.stands seat attempt is whole.waiting s.steps p p-used reads-valid fails)
-
-    bounded-so : KeepsBounds core.stop (one_counted Counted.Block core.counters) (has_noted seat attempt s.steps (place_shown s) parts)
-    bounded-so =
-        subst (λ (q : LocalState). KeepsBounds core.stop (one_counted Counted.Block core.counters) (has_noted seat attempt s.steps q parts)) p-shown
-        (noted-bounded parts whole.stands core.stop going' (ap (λ (o : Option Stop). is_some o) going') core.counters (one_counted Counted.Block core.counters)
-        whole.bounds refl seat attempt is
-        (commit-rolls meaning core now view whole seat m on outside sound left attempt runs-now valid-now)
-        s.steps p p-used
-        (commit-low meaning core now view whole seat m on outside sound left attempt runs-now valid-now))
-
     -- all that the engine has then
     module _ (entry : Entry) (entry_is : entry ≡ stuck_entry seat number s.steps (place_shown s)) (row reads : List ReadNote)
         (reads_are : reads ≡ row) (row_is : row ≡ (row_at core.memory.rows seat).reads) (locs : List Loc) (locs_are : map (λ l. l.0) locs ≡ read_places reads)
@@ -195,26 +161,6 @@ module _ {C V M : Type 0} (meaning : Meaning C V M)
           (all_altered number (noted_on watched) (IsAtRest meaning.is_machine meaning.stage core.code)
           (λ m rests. record { machine = rests.machine; rests = rests.rests }) core.pool.members whole.members)
 
-      pub whole-noted : IsSound meaning after
-      whole-noted = record {
-        stands = subst Simulates (sym parts-noted) noted-so;
-        limits = whole.limits;
-        memory = whole.memory;
-        members = rest-noted;
-        pool = subst IsGoodPool (sym pool-so) (good-noted number watched core.pool whole.pool);
-        alone = subst RunsExclusively (sym parts-noted) (noted-alone parts whole.stands whole.alone seat attempt is s.steps (place_shown s));
-        lone = lone-left parts (parts_of meaning after) whole.stands core.counters (one_counted Counted.Block core.counters)
-            whole.lone seat (seat_within core.tasks seat attempt (ap attempt_of is)) refl refl refl (Task.Undoing later Reason.Noted) refl
-            (λ t e. let clash : Task.Undoing later Reason.Noted ≡ Task.Running t = e in cc);
-        bounds = subst (KeepsBounds core.stop (one_counted Counted.Block core.counters)) (sym parts-noted) bounded-so;
-        waiting = subst AreWaiting (sym parts-noted) waits-so;
-        once = subst AreNotedOnce (sym parts-noted) (note-once parts whole.stands whole.once seat attempt s.steps (place_shown s) is);
-        caused = going-cause parts (parts_of meaning after) core.stop going' core.certificates whole.caused
-            (stuck_entry seat number s.steps (place_shown s)) entries-are refl;
-        counters = one-counts core.turns core.counters whole.counters Counted.Block;
-        text = whole.text;
-      }
-
       -- so this may be
       may-note : May (Event.Note seat attempt s.steps p) (state_of meaning core)
       may-note = (
@@ -242,6 +188,11 @@ module _ {C V M : Type 0} (meaning : Meaning C V M)
                   stop = refl;
                 });
           })
+
+      pub whole-noted : IsSound meaning after
+      whole-noted =
+          sound-next meaning core now after view whole (Event.Note seat attempt (meaning.stage now.code m).steps makes-noted.place) makes-noted.makes
+          whole.memory rest-noted whole.text
 
 -- the locations of reads, one after another
 pub locations-more : (reads : List ReadNote) (i : ℕ) (d : ReadNote) (locs new : List Loc) → i < length reads → new ≡ locs ++ (get_or reads i d).loc ∷ []

@@ -20,10 +20,7 @@ use Rattle.ame_protocol.proofs.Waits.WatchLemmas.{last-same, last-here}
 use Rattle.ame_protocol.specs.declared.certificate.Certificate.{Certificate}
 use Rattle.ame_protocol.specs.Engine.Parts.{Parts}
 use Rattle.ame_protocol.specs.Engine.Shown.{shown_member}
-use Rattle.ame_protocol.proofs.Engine.AloneEvents.{stop-alone}
-use Rattle.ame_protocol.proofs.Engine.ToldLemmas.{stopped_stands, next-free}
-use Rattle.ame_protocol.proofs.Waits.TaskLemmas.{stop-waiting}
-use Rattle.ame_protocol.proofs.Waits.OnceEvents.{stop-once}
+use Rattle.ame_protocol.proofs.Engine.ToldLemmas.{next-free}
 use Rattle.ame_protocol.specs.declared.stop.Stop.{Stop}
 use Rattle.ame_engine.specs.Core.{Core}
 use Rattle.ame_protocol.specs.Event.Causes.{certificate_of, certificates_of, certificates_in}
@@ -31,11 +28,11 @@ use Rattle.ame_engine.specs.Certifying.{certified_by}
 use Rattle.ame_engine.specs.Seen.{parts_of, term_shown}
 use Rattle.ame_engine.specs.Stops.{blocked_by}
 use Rattle.ame_engine.specs.Whole.{IsSound}
-use Rattle.ame_protocol.proofs.Event.CauseLemmas.{going-ordinary}
 use Rattle.ame_engine.proofs.CrewLemmas.{none-told}
-use Rattle.ame_engine.proofs.OldestLemmas.{oldest-shown}
-use Rattle.ame_protocol.proofs.Event.BoundLemmas.{stop-bounded}
 use Rattle.ame_machine.specs.Meaning.{Meaning}
+use Rattle.ame_engine.proofs.SoundLemmas.{sound-next, good-pool}
+use Rattle.ame_protocol.specs.Event.Event.{Event}
+use Rattle.ame_engine.proofs.HaltLemmas.{makes-blocked_halt}
 
 ne-eqb : (a b : ℕ) → (a ≡ b → ⊥) → (a == b) ≡ false
 ne-eqb a b apart = by (a == b) refl
@@ -285,7 +282,7 @@ module _ {C V M : Type 0} (meaning : Meaning C V M) (core now : Core C V M) (vie
   pub numbers-all : numbers-below core.next core.pool.members ≡ map (λ m. m.number) core.pool.members
   numbers-all =
       below-all core.next core.pool.members
-      (λ i above. none-told (term_shown meaning.stage core.code) i core.pool (next-free parts whole.stands i above))
+      (λ i above. none-told (term_shown meaning.stage core.code) i core.pool (next-free parts whole.state.stands i above))
 
   pub numbers-end : (k : ℕ) → core.next ≤ k → k ≤ core.next → (ns : List ℕ) → ns ≡ numbers-below k now.pool.members → ns ≡ map (λ m. m.number) now.pool.members
   numbers-end k most least ns so_far =
@@ -299,7 +296,7 @@ module _ {C V M : Type 0} (meaning : Meaning C V M) (core now : Core C V M) (vie
     numbers-joined is-there new pushes =
         subst (λ (x : Core C V M). ns ≡ numbers-below k x.pool.members → new ≡ numbers-below (k + 1) x.pool.members) view
         (λ so. pushes ∙ ap (λ (xs : List ℕ). xs ++ k ∷ []) so
-        ∙ sym (number-joins k core.pool.members whole.pool.rising (sym (b_is ∙ ap (λ (x : Option Bool). is_some x) told) ∙ is-there))) so_far
+        ∙ sym (number-joins k core.pool.members (good-pool meaning core whole).rising (sym (b_is ∙ ap (λ (x : Option Bool). is_some x) told) ∙ is-there))) so_far
 
     pub numbers-passed : b ≡ false → (new : List ℕ) → new ≡ ns → new ≡ numbers-below (k + 1) now.pool.members
     numbers-passed is-none new same =
@@ -323,30 +320,12 @@ module _ {C V M : Type 0} (meaning : Meaning C V M) (core now : Core C V M) (vie
     abbrev after : Core C V M
     after = record core { stop = Some Stop.Blocked; certificates = certificates }
 
-    pub whole-blocked : IsSound meaning after
-    whole-blocked = record {
-      stands = stopped_stands parts whole.stands;
-      limits = whole.limits;
-      memory = whole.memory;
-      members = whole.members;
-      pool = whole.pool;
-      alone = stop-alone parts whole.alone;
-      lone = record { counts = whole.lone.counts; valid = whole.lone.valid };
-      bounds =
-          let none : core.stop ≡ None = subst (λ (x : Core C V M). x.stop ≡ None) (sym view) going in
-          stop-bounded parts whole.stands core.stop none (ap (λ (o : Option Stop). is_some o) none) core.counters core.counters whole.bounds refl Stop.Blocked tt;
-      waiting = stop-waiting parts whole.waiting;
-      once = stop-once parts whole.once;
-      caused = record {
-        cause = oldest-shown (term_shown meaning.stage core.code) core.pool ∙ subst (λ (x : Core C V M). oldest x.pool ≡ Oldest.Parked) (sym view) parked;
-        told = certificates-in;
-        ends = going-ordinary parts parts core.stop (subst (λ (x : Core C V M). x.stop ≡ None) (sym view) going) core.certificates whole.caused;
-      };
-      counters = whole.counters;
-      text = whole.text;
-    }
-
     pub makes-blocked : after ≡ blocked_by (certificates_in (parts_of meaning now)) now
     makes-blocked =
         ap (λ (cs : List Certificate). blocked_by cs core) certificates-in
         ∙ ap (λ (x : Core C V M). blocked_by (certificates_in (parts_of meaning x)) x) view
+
+    pub whole-blocked : IsSound meaning after
+    whole-blocked =
+        sound-next meaning core now after view whole (Event.Halt Stop.Blocked)
+        (makes-blocked_halt meaning now after going (makes-blocked) parked) whole.memory whole.members whole.text

@@ -25,28 +25,18 @@ use Rattle.ame_protocol.specs.declared.types.Reason.{Reason}
 use Rattle.ame_protocol.specs.declared.types.Task.{Task}
 use Rattle.ame_protocol.specs.Engine.Parts.{Parts, heap_in, task_at, attempt_of, term_at, run_in, working}
 use Rattle.ame_protocol.specs.Engine.Tasks.{is_busy_as, RunsProtected, MeetsTask}
-use Rattle.ame_protocol.specs.Engine.Simulates.{Simulates}
-use Rattle.ame_protocol.specs.Engine.Alone.{is_of_protected, IsExhausted, RunsExclusively}
-use Rattle.ame_protocol.specs.Engine.Events.{has_checked, has_turned_back, checked_attempt}
-use Rattle.ame_protocol.proofs.Engine.StepLemmas.{seat_within}
+use Rattle.ame_protocol.specs.Engine.Alone.{is_of_protected, IsExhausted}
+use Rattle.ame_protocol.specs.Engine.Events.{has_checked}
 use Rattle.ame_protocol.proofs.Engine.PoolLemmas.{found-at}
 use Rattle.ame_protocol.proofs.Engine.AloneLemmas.{no-other-owner}
-use Rattle.ame_protocol.proofs.Engine.AloneEvents.{stop-alone, checked_alone}
 use Rattle.ame_protocol.proofs.Engine.ShownMemoryLemmas.{row-shown}
 use Rattle.ame_protocol.proofs.Engine.MemoryEvents.{memory-valid, valid-memory}
-use Rattle.ame_protocol.proofs.Engine.TurnLemmas.{checked_stands, turned_back}
-use Rattle.ame_protocol.proofs.Engine.ToldLemmas.{stopped_stands}
-use Rattle.ame_protocol.specs.Waits.Waiting.{AreWaiting}
-use Rattle.ame_protocol.specs.Waits.Once.{AreNotedOnce}
-use Rattle.ame_protocol.proofs.Waits.TaskLemmas.{stop-waiting, retask-waiting}
-use Rattle.ame_protocol.proofs.Waits.OnceLemmas.{once-on}
-use Rattle.ame_protocol.proofs.Waits.OnceEvents.{stop-once}
 use Rattle.ame_protocol.specs.declared.stop.Stop.{Stop}
 use Rattle.ame_protocol.specs.declared.counters.Counters.{Counters}
 use Rattle.ame_engine.specs.Core.{Core}
 use Rattle.ame_engine.specs.Stops.{stopped_by}
-use Rattle.ame_protocol.specs.Event.Causes.{HasCause}
-use Rattle.ame_protocol.specs.Event.Counting.{Counted, one_counted, one_invalid, CountsTurns}
+use Rattle.ame_protocol.specs.Event.Causes.{HasCause, AreOrdinary}
+use Rattle.ame_protocol.specs.Event.Counting.{Counted, one_counted, one_invalid}
 use Rattle.ame_protocol.specs.Event.Event.{Event, Find, Reverse}
 use Rattle.ame_protocol.specs.Event.After.{counted_find}
 use Rattle.ame_protocol.specs.Event.May.{May}
@@ -57,15 +47,12 @@ use Rattle.ame_engine.specs.Whole.{IsSound}
 use Rattle.ame_engine.specs.AtWork.{IsOnSeat, IsOn}
 use Rattle.ame_engine.proofs.MakesLemmas.{made-event}
 use Rattle.ame_engine.proofs.ReadLemmas.{place-by, runs-as}
-use Rattle.ame_protocol.proofs.Event.CountLemmas.{one-counts}
-use Rattle.ame_protocol.proofs.Event.CauseLemmas.{task-more, working-cause}
+use Rattle.ame_protocol.proofs.Event.CauseLemmas.{going-ordinary}
 use Rattle.ame_protocol.proofs.Event.RollbackLemmas.{may-roll}
-use Rattle.ame_protocol.proofs.Event.AloneLemmas.{turned_alone}
-use Rattle.ame_protocol.proofs.Event.LoneLemmas.{no-other, lone-never, lone-on}
-use Rattle.ame_protocol.proofs.Bounds.ShownLemmas.{turns-shown}
-use Rattle.ame_protocol.specs.Event.Bounds.{refusals, KeepsBounds, LeavesNoTry}
-use Rattle.ame_protocol.proofs.Event.BoundLemmas.{stop-bounded, back-bounded, check-bounded}
+use Rattle.ame_protocol.specs.Event.Bounds.{LeavesNoTry}
 use Rattle.ame_machine.specs.Meaning.{Meaning}
+use Rattle.ame_engine.proofs.SoundLemmas.{sound-next, good-pool}
+use Rattle.ame_engine.proofs.HaltLemmas.{makes-halted, noted-apart}
 
 -- Valid reads are so at the shown cells.
 
@@ -121,37 +108,20 @@ has-used parts seat s on outside =
     (place.0, record { ran = subst (λ (x : Side). local x start inputs s.steps ≡ Some place.0) (ap side_told outside) place.1; used = place.3 })
 
 module _ {C V M : Type 0} (meaning : Meaning C V M) where
-  -- a stop is kept
-  pub whole-stopped : (core : Core C V M) (why : Stop) → IsSound meaning core → core.stop ≡ None
-      → LeavesNoTry why (parts_of meaning core)
-      → HasCause (Some why) core.certificates (parts_of meaning (record core { stop = Some why }))
-      → IsSound meaning (record core { stop = Some why })
-  whole-stopped core why whole none leaves cause = record {
-    stands = stopped_stands (parts_of meaning core) whole.stands;
-    limits = whole.limits;
-    memory = whole.memory;
-    members = whole.members;
-    pool = whole.pool;
-    alone = stop-alone (parts_of meaning core) whole.alone;
-    lone = record { counts = whole.lone.counts; valid = whole.lone.valid };
-    bounds = stop-bounded (parts_of meaning core) whole.stands core.stop none (ap (λ (o : Option Stop). is_some o) none) core.counters
-        core.counters whole.bounds refl why leaves;
-    waiting = stop-waiting (parts_of meaning core) whole.waiting;
-    once = stop-once (parts_of meaning core) whole.once;
-    caused = cause;
-    counters = whole.counters;
-    text = whole.text;
-  }
-
-  -- where it is the first, and has its cause
+  -- a stop is kept, where it is the first, and has its cause
   pub whole-kept : (core now : Core C V M) → core ≡ now → (why : Stop) → IsSound meaning core → core.stop ≡ None
       → (now.stop ≡ None → HasCause (Some why) now.certificates (parts_of meaning (stopped_by why now)))
       → (now.stop ≡ None → LeavesNoTry why (parts_of meaning now))
       → IsSound meaning (record core { stop = Some why })
   whole-kept core now view why whole none cause leaves =
-      whole-stopped core why whole none
-      (subst (λ (x : Core C V M). x.stop ≡ None → LeavesNoTry why (parts_of meaning x)) (sym view) leaves none)
-      (subst (λ (x : Core C V M). x.stop ≡ None → HasCause (Some why) x.certificates (parts_of meaning (stopped_by why x))) (sym view) cause none)
+      let going : now.stop ≡ None = subst (λ (x : Core C V M). x.stop ≡ None) view none in
+      let ordinary : AreOrdinary now.entries = subst (λ (x : Core C V M). AreOrdinary x.entries) view
+      (going-ordinary (parts_of meaning core) (parts_of meaning core) core.stop none core.certificates whole.state.caused) in
+      let is : ◌≡◌ {A = Core C V M} (record core { stop = Some why }) (stopped_by why now) =
+      ap (λ (o : Option Stop). record core { stop = Some (unwrap_or o why) }) (sym none) ∙ ap (stopped_by why) view in
+      sound-next meaning core now (record core { stop = Some why }) view whole (Event.Halt why)
+      (makes-halted meaning now (record core { stop = Some why }) going why is (noted-apart why now.certificates (parts_of meaning (stopped_by why now)) (cause going) ordinary)
+      (cause going) (leaves going)) whole.memory whole.members whole.text
 
   module _ (core now : Core C V M) (view : core ≡ now) (whole : IsSound meaning core) (seat : ℕ) (m : M)
       (on : IsOn meaning now seat m) (outside : (meaning.stage now.code m).inside ≡ false)
@@ -177,46 +147,20 @@ module _ {C V M : Type 0} (meaning : Meaning C V M) where
 
     there : (x : Member Tree) × (find its-number parts.pool.members ≡ Some x) × IsTrue (is_busy_as false x)
     there =
-        let runs : RunsProtected parts whole.stands.types seat attempt = subst (MeetsTask parts whole.stands.types seat) is (whole.stands.seats seat) in
+        let runs : RunsProtected parts whole.state.stands.types seat attempt = subst (MeetsTask parts whole.state.stands.types seat) is (whole.state.stands.seats seat) in
         found-at parts.pool its-number (is_busy_as false) runs.work.busy
 
     pub still-rolls : (IsAt is_exhausted its-number parts.pool → ⊥) → MayBeRolledBack its-number now.pool
     still-rolls fresh =
         subst (λ (x : Core C V M). MayBeRolledBack its-number x.pool) view
-        (may-roll (term_shown meaning.stage core.code) its-number core.pool whole.pool there.0 there.1 fresh)
-
-    pub whole-back : (counters : Counters) → CountsTurns (core.turns + 1) counters → refusals counters ≡ refusals core.counters + 1 → now.stop ≡ None
-        → (is_some core.stop ≡ false → IsAt is_exhausted attempt.tried.number parts.pool → ⊥)
-        → (core.limits.seats ≡ 1 → ⊥) → IsSound meaning (after-bad counters)
-    whole-back counters counts refused going fresh crowded = record {
-      stands = turned_back parts whole.stands seat attempt is left';
-      limits = whole.limits;
-      memory = whole.memory;
-      members = whole.members;
-      pool = whole.pool;
-      alone = turned_alone parts whole.alone seat attempt is fresh;
-      lone = lone-never (parts_of meaning (after-bad counters)) counters crowded;
-      bounds =
-          let none : core.stop ≡ None = subst (λ (x : Core C V M). x.stop ≡ None) (sym view) going in
-          let still = ap (λ (o : Option Stop). is_some o) none in
-          back-bounded parts whole.stands core.stop none still core.counters counters whole.bounds refused seat attempt is
-          (turns-shown (term_shown meaning.stage core.code) its-number core.pool
-          (may-roll (term_shown meaning.stage core.code) its-number core.pool whole.pool there.0 there.1 (fresh still)))
-          crowded;
-      waiting = retask-waiting parts whole.stands seat attempt is whole.waiting (Task.Undoing attempt Reason.RolledBack);
-      once = once-on parts (has_turned_back seat attempt parts) refl (λ i some. some) whole.once;
-      caused = working-cause parts (has_turned_back seat attempt parts) (task-more parts whole.stands seat attempt (ap attempt_of is)) (record { program = refl; base = refl; entries = refl }) left'
-          core.stop core.certificates whole.caused;
-      counters = counts;
-      text = whole.text;
-    }
+        (may-roll (term_shown meaning.stage core.code) its-number core.pool (good-pool meaning core whole) there.0 there.1 fresh)
 
     exhausted-there : IsAt is_exhausted its-number parts.pool → IsExhausted parts seat attempt
     exhausted-there exhausted = record { task = ap is_of_protected is; has = ap attempt_of is; exhausted = exhausted }
 
     -- an exhausted one meets no cell of another seat
     pub unexhausted-apart : (l owner : ℕ) → IsOwnedBy owner (cell_at (heap_in parts) l) → (owner ≡ seat → ⊥) → IsAt is_exhausted its-number parts.pool → ⊥
-    unexhausted-apart l owner own apart exhausted = apart (no-other-owner parts whole.stands whole.alone seat attempt (exhausted-there exhausted) l owner own)
+    unexhausted-apart l owner own apart exhausted = apart (no-other-owner parts whole.state.stands whole.state.alone seat attempt (exhausted-there exhausted) l owner own)
 
     valid-by_parts : AreValid (heap_in parts) seat (row_at parts.memory.rows seat).reads → IsValid core.memory.cells seat (row_at core.memory.rows seat).reads
     valid-by_parts valid =
@@ -227,14 +171,7 @@ module _ {C V M : Type 0} (meaning : Meaning C V M) where
     -- and its reads are valid until a stop is kept
     pub unexhausted-invalid : (IsValid core.memory.cells seat (row_at core.memory.rows seat).reads → ⊥) → is_some core.stop ≡ false
         → IsAt is_exhausted its-number parts.pool → ⊥
-    unexhausted-invalid invalid going exhausted = invalid (valid-by_parts (whole.alone.valid going seat attempt (exhausted-there exhausted)))
-
-    -- the only seat meets no such cell either, and its reads are valid
-    pub crowded-apart : (l owner : ℕ) → IsOwnedBy owner (cell_at (heap_in parts) l) → (owner ≡ seat → ⊥) → core.limits.seats ≡ 1 → ⊥
-    crowded-apart l owner own apart one = apart (no-other parts whole.stands one seat attempt (ap attempt_of is) l owner own)
-
-    pub crowded-invalid : (IsValid core.memory.cells seat (row_at core.memory.rows seat).reads → ⊥) → core.limits.seats ≡ 1 → ⊥
-    crowded-invalid invalid one = invalid (valid-by_parts (whole.lone.valid one seat attempt is))
+    unexhausted-invalid invalid going exhausted = invalid (valid-by_parts (whole.state.alone.valid going seat attempt (exhausted-there exhausted)))
 
     pub rolls-invalid : (IsValid core.memory.cells seat (row_at core.memory.rows seat).reads → ⊥) → (a : Attempt) → now.stop ≡ None → task_at now.tasks seat ≡ Task.Running a
         → MayBeRolledBack a.tried.number now.pool
@@ -243,11 +180,10 @@ module _ {C V M : Type 0} (meaning : Meaning C V M) where
         (still-rolls (unexhausted-invalid invalid (ap (λ (o : Option Stop). is_some o) (subst (λ (x : Core C V M). x.stop ≡ None) (sym view) none))))
 
     -- where one of its reads isn't valid it may turn back, whatever it was asked
-    pub makes-stale : (find : Find) → (IsValid core.memory.cells seat (row_at core.memory.rows seat).reads → ⊥) → now.stop ≡ None
-        → (a : Attempt) → task_at now.tasks seat ≡ Task.Running a → Makes meaning (Event.TurnBack seat a (Reverse.Stale find)) now (after-bad (one_invalid (counted_find find) core.counters))
-    makes-stale find invalid going a e =
-        subst (λ (x : Attempt). Makes meaning (Event.TurnBack seat x (Reverse.Stale find)) now (after-bad (one_invalid (counted_find find) core.counters))) (its-attempt a e)
-        (subst (λ (x : Core C V M). Makes meaning (Event.TurnBack seat attempt (Reverse.Stale find)) x (after-bad (one_invalid (counted_find find) core.counters))) view
+    makes-back : (find : Find) → (IsValid core.memory.cells seat (row_at core.memory.rows seat).reads → ⊥) → now.stop ≡ None
+        → Makes meaning (Event.TurnBack seat attempt (Reverse.Stale find)) now (after-bad (one_invalid (counted_find find) core.counters))
+    makes-back find invalid going =
+        subst (λ (x : Core C V M). Makes meaning (Event.TurnBack seat attempt (Reverse.Stale find)) x (after-bad (one_invalid (counted_find find) core.counters))) view
         (record {
           code = refl;
           may = (
@@ -256,7 +192,19 @@ module _ {C V M : Type 0} (meaning : Meaning C V M) where
             (λ valid. invalid (valid-by_parts valid)),
           );
           state = refl;
-        }))
+        })
+
+    pub makes-stale : (find : Find) → (IsValid core.memory.cells seat (row_at core.memory.rows seat).reads → ⊥) → now.stop ≡ None
+        → (a : Attempt) → task_at now.tasks seat ≡ Task.Running a → Makes meaning (Event.TurnBack seat a (Reverse.Stale find)) now (after-bad (one_invalid (counted_find find) core.counters))
+    makes-stale find invalid going a e =
+        subst (λ (x : Attempt). Makes meaning (Event.TurnBack seat x (Reverse.Stale find)) now (after-bad (one_invalid (counted_find find) core.counters))) (its-attempt a e)
+        (makes-back find invalid going)
+
+    pub whole-stale : (find : Find) → (IsValid core.memory.cells seat (row_at core.memory.rows seat).reads → ⊥) → now.stop ≡ None
+        → IsSound meaning (after-bad (one_invalid (counted_find find) core.counters))
+    whole-stale find invalid going =
+        sound-next meaning core now (after-bad (one_invalid (counted_find find) core.counters)) view whole (Event.TurnBack seat attempt (Reverse.Stale find))
+        (makes-back find invalid going) whole.memory whole.members whole.text
 
     -- or its row is valid
     module _ (full : (meaning.stage now.code m).since ≡ now.limits.slice) (steps : ℕ) (steps_are : steps ≡ (meaning.stage now.code m).steps)
@@ -293,12 +241,6 @@ module _ {C V M : Type 0} (meaning : Meaning C V M) where
           (subst (IsValid parts.memory.cells seat) (sym (ap (λ (n : Log Val). n.reads) (row-shown (meaning.value_of core.code) core.memory.rows seat)))
           (valid-shown (meaning.value_of core.code) core.memory.cells seat (row_at core.memory.rows seat).reads valid))
 
-      checked-core : Simulates (has_checked seat s.steps attempt parts)
-      checked-core =
-          checked_stands parts whole.stands seat attempt is left' s.steps used.0 used.1
-          (let a = whole.limits.some_slice in let b = since in let d = full' in omega arith)
-          (let b = since in let d = full' in omega arith) are-valid
-
       later-with : List Entry → ℕ → Attempt
       later-with all n = record attempt { tried = record attempt.tried { at = length all; steps = n } }
 
@@ -320,31 +262,6 @@ module _ {C V M : Type 0} (meaning : Meaning C V M) where
       unfolding with-later later-with
       parts-valid = ap (λ (a : Attempt). parts_of meaning (with-later a)) later-so
 
-      pub whole-valid : now.stop ≡ None → IsSound meaning after-valid
-      whole-valid going = record {
-        stands = subst Simulates (sym parts-valid) checked-core;
-        limits = whole.limits;
-        memory = whole.memory;
-        members = whole.members;
-        pool = whole.pool;
-        alone = subst RunsExclusively (sym parts-valid) (checked_alone parts whole.alone seat s.steps attempt is are-valid);
-        lone = lone-on parts (parts_of meaning after-valid) whole.stands core.counters (one_counted Counted.Check core.counters)
-            whole.lone seat (seat_within core.tasks seat attempt (ap attempt_of is)) refl refl refl (Task.Running later) refl refl (λ t e. (attempt, is));
-        bounds =
-            let none : core.stop ≡ None = subst (λ (x : Core C V M). x.stop ≡ None) (sym view) going in
-            subst (KeepsBounds core.stop (one_counted Counted.Check core.counters)) (sym parts-valid)
-            (check-bounded parts whole.stands core.stop none (ap (λ (o : Option Stop). is_some o) none) core.counters (one_counted Counted.Check core.counters)
-            whole.bounds refl seat attempt is s.steps (let b = since in let d = full' in omega arith));
-        waiting = subst AreWaiting (sym parts-valid)
-            (retask-waiting parts whole.stands seat attempt is whole.waiting (Task.Running (checked_attempt s.steps attempt parts)));
-        once = subst AreNotedOnce (sym parts-valid) (once-on parts (has_checked seat s.steps attempt parts) refl (λ i some. some) whole.once);
-        caused = subst (HasCause core.stop core.certificates) (sym parts-valid)
-            (working-cause parts (has_checked seat s.steps attempt parts) (task-more parts whole.stands seat attempt (ap attempt_of is)) (record { program = refl; base = refl; entries = refl }) left'
-            core.stop core.certificates whole.caused);
-        counters = one-counts core.turns core.counters whole.counters Counted.Check;
-        text = whole.text;
-      }
-
       -- so this may be
       may-check : now.stop ≡ None → May (Event.Check seat attempt s.steps) (state_of meaning core)
       may-check going = (
@@ -354,10 +271,18 @@ module _ {C V M : Type 0} (meaning : Meaning C V M) where
         (let b = since in let d = full' in omega arith),
       )
 
+      makes-it : now.stop ≡ None → Makes meaning (Event.Check seat attempt s.steps) now after-valid
+      makes-it going =
+          subst (λ (x : Core C V M). Makes meaning (Event.Check seat attempt s.steps) x after-valid) view
+          (made-event meaning (one_counted Counted.Check) (has_checked seat s.steps attempt) (Event.Check seat attempt s.steps) core after-valid refl refl
+          (may-check going) (record { code = refl; parts = parts-valid; counted = refl; stop = refl }))
+
       pub makes-valid : now.stop ≡ None → (a : Attempt) → task_at now.tasks seat ≡ Task.Running a
           → Makes meaning (Event.Check seat a (meaning.stage now.code m).steps) now after-valid
       makes-valid going a e =
           subst (λ (x : Attempt). Makes meaning (Event.Check seat x (meaning.stage now.code m).steps) now after-valid) (its-attempt a e)
-          (subst (λ (x : Core C V M). Makes meaning (Event.Check seat attempt (meaning.stage x.code m).steps) x after-valid) view
-          (made-event meaning (one_counted Counted.Check) (has_checked seat s.steps attempt) (Event.Check seat attempt s.steps) core after-valid refl refl
-          (may-check going) (record { code = refl; parts = parts-valid; counted = refl; stop = refl })))
+          (subst (λ (x : Core C V M). Makes meaning (Event.Check seat attempt (meaning.stage x.code m).steps) now after-valid) view (makes-it going))
+
+      pub whole-valid : now.stop ≡ None → IsSound meaning after-valid
+      whole-valid going =
+          sound-next meaning core now after-valid view whole (Event.Check seat attempt s.steps) (makes-it going) whole.memory whole.members whole.text

@@ -1,5 +1,5 @@
 -- A seat commits.
-use Rattle.std.proofs.Common.{◌≡◌, ℕ, ◌+◌, ◌<◌, ◌≤◌, ◌⊎◌, inl, inr, Bool, true, false, cond, List, [], ◌∷◌, ◌++◌, map, length, All, Option, Some, None, option_map, refl, sym, ap, ◌∙◌, subst, arith, rules, is_some}
+use Rattle.std.proofs.Common.{◌≡◌, ℕ, ◌+◌, ◌<◌, ◌≤◌, ◌⊎◌, inl, inr, Bool, true, false, cond, List, [], ◌∷◌, ◌++◌, map, length, All, Option, Some, None, option_map, refl, sym, ap, ◌∙◌, subst, arith, rules}
 use Rattle.std.specs.Prelude.{ℤ, Contains, slice_set, unwrap_or, max}
 use Rattle.std.specs.List.Sorted.{IsPermutation, IsStrictlyIncreasing}
 use Rattle.std.specs.Option.{option_map_or}
@@ -22,7 +22,7 @@ use Rattle.ame_rows.specs.declared.notes.Undo.{Undo}
 use Rattle.ame_rows.specs.declared.notes.Undo.TheVariants.{Wrote, Made}
 use Rattle.ame_rows.specs.Valid.{IsValid}
 use Rattle.ame_machine.specs.Run.Local.{LocalState, local}
-use Rattle.ame_pool.specs.Members.{IsRising, find, is_busy}
+use Rattle.ame_pool.specs.Members.{find, is_busy}
 use Rattle.ame_pool.specs.Roster.{Roster}
 use Rattle.ame_pool.specs.Calls.{IsAt, exchanged, removed, with_room}
 use Rattle.ame_rows.specs.MemoryView.{Log, MemoryView, no_log, row_at}
@@ -42,48 +42,32 @@ use Rattle.ame_protocol.specs.declared.types.Task.{Task}
 use Rattle.ame_protocol.specs.Engine.Parts.{Parts, heap_in, task_at, term_at, attempt_of, member_of, run_in, working}
 use Rattle.ame_protocol.specs.Engine.Shown.{shown_memory, shown_notes, shown_pool}
 use Rattle.ame_protocol.specs.Engine.Tasks.{is_busy_as, RunsProtected}
-use Rattle.ame_protocol.specs.Engine.Simulates.{Simulates}
-use Rattle.ame_protocol.specs.Engine.Alone.{RunsExclusively}
 use Rattle.ame_protocol.specs.Engine.Events.{woken_for, with_newcomers, ran_entry, has_ended, has_left}
 use Rattle.ame_protocol.proofs.Engine.StepLemmas.{seat_within}
 use Rattle.ame_protocol.proofs.Engine.AccessLemmas.{runs}
-use Rattle.ame_protocol.proofs.Engine.AloneEvents.{ended-alone, left-alone}
-use Rattle.ame_protocol.proofs.Engine.CommitLemmas.{below-next, ended_stands, left_stands}
+use Rattle.ame_protocol.proofs.Engine.CommitLemmas.{below-next}
 use Rattle.ame_protocol.proofs.Engine.MemoryEvents.{memory-valid}
 use Rattle.ame_protocol.proofs.Engine.GrowthLemmas.{keeps-on, woken-keeps, woken-free, newcomers-keep}
 use Rattle.ame_protocol.proofs.Engine.ShownMemoryLemmas.{row-shown, release-shown}
 use Rattle.ame_protocol.proofs.Engine.ShownPoolLemmas.{removed-shown}
 use Rattle.ame_protocol.proofs.Engine.ToldLemmas.{cells-grow, next-free}
-use Rattle.ame_protocol.specs.Waits.Waiting.{AreWaiting}
-use Rattle.ame_protocol.specs.Waits.Once.{AreNotedOnce}
-use Rattle.ame_protocol.proofs.Waits.CommitLemmas.{owned-named, ended-waiting, left-waiting}
-use Rattle.ame_protocol.proofs.Waits.OnceEvents.{ended-once, left-once}
+use Rattle.ame_protocol.proofs.Waits.CommitLemmas.{owned-named}
 use Rattle.ame_engine.specs.Core.{Core}
-use Rattle.ame_protocol.specs.declared.stop.Stop.{Stop}
-use Rattle.ame_protocol.proofs.Event.CauseLemmas.{going-cause}
 use Rattle.ame_protocol.specs.Event.Counting.{Counted, one_counted}
-use Rattle.ame_protocol.specs.Event.Rollbacks.{IsGoodPool}
 use Rattle.ame_protocol.specs.Event.Event.{Event}
 use Rattle.ame_protocol.specs.Event.May.{May}
 use Rattle.ame_engine.specs.Seen.{parts_of, term_shown}
-use Rattle.ame_engine.specs.Makes.{state_of, MakesAt}
+use Rattle.ame_engine.specs.Makes.{state_of, MakesAt, Makes}
 use Rattle.ame_engine.proofs.MakesLemmas.{made-event}
 use Rattle.ame_engine.specs.Whole.{IsGoodUndo, IsGoodLog, IsGoodMemory, IsAtRest, IsSound}
 use Rattle.ame_engine.specs.AtWork.{IsOnSeat, IsOn}
 use Rattle.ame_engine.specs.Committing.{commits, owned_places, ended_at, left_at, ends_at, leaves_at}
 use Rattle.ame_engine.proofs.ReadLemmas.{runs-as}
 use Rattle.ame_engine.proofs.CheckLemmas.{valid-shown}
-use Rattle.ame_protocol.proofs.Event.CountLemmas.{one-counts}
-use Rattle.ame_protocol.proofs.Event.LoneLemmas.{lone-left}
-use Rattle.ame_protocol.proofs.Event.RollbackLemmas.{rising-shown, woken-good}
 use Rattle.ame_engine.proofs.OwnedLemmas.{owned-are}
 use Rattle.ame_engine.proofs.CrewLemmas.{woken-rest, all-woken-shown, busy-told, none-told, room-used, all-woken-room}
-use Rattle.ame_protocol.specs.Bounds.Rollbacks.{IsWithinRollbacks}
-use Rattle.ame_protocol.proofs.Bounds.ShownLemmas.{within-shown}
-use Rattle.ame_protocol.specs.Event.Bounds.{KeepsBounds}
-use Rattle.ame_protocol.proofs.Event.BoundLemmas.{ended-bounded, left-bounded}
-use Rattle.ame_protocol.specs.declared.counters.Counters.{Counters}
 use Rattle.ame_machine.specs.Meaning.{Meaning}
+use Rattle.ame_engine.proofs.SoundLemmas.{sound-next}
 
 -- what the machine wants
 pub which-want : (o : Option Wants) → commits o ≡ true → (o ≡ Some wants.Done) ⊎ (o ≡ Some wants.Leave)
@@ -190,9 +174,6 @@ module _ {C V M : Type 0} (meaning : Meaning C V M)
   commit-low =
       let since : s.steps ≡ s.since + attempt.tried.steps = subst (λ (a : Attempt). s.steps ≡ s.since + a.tried.steps) one-attempt on'.since in omega arith
 
-  pub commit-rolls : IsWithinRollbacks parts.pool
-  commit-rolls = within-shown (term_shown meaning.stage core.code) core.pool whole.pool.few
-
   pub place : (p : LocalState)
       × (local (running_side s) (term_at parts.pool on'.attempt.tried.number) (row_at parts.memory.rows seat).inputs s.steps ≡ Some p)
       × (without_footprint p ≡ with_answer None (place_shown s))
@@ -214,8 +195,8 @@ module _ {C V M : Type 0} (meaning : Meaning C V M)
       (subst (IsValid parts.memory.cells seat) (sym (ap (λ (n : Log Val). n.reads) (row-shown (meaning.value_of core.code) core.memory.rows seat)))
       (valid-shown (meaning.value_of core.code) core.memory.cells seat (row_at core.memory.rows seat).reads valid))
 
-  pub its-runs : RunsProtected parts whole.stands.types seat attempt
-  its-runs = runs parts whole.stands seat attempt is
+  pub its-runs : RunsProtected parts whole.state.stands.types seat attempt
+  its-runs = runs parts whole.state.stands seat attempt is
 
   pub commit-runs : task_at core.tasks seat ≡ Task.Running attempt
   commit-runs = is
@@ -226,22 +207,22 @@ module _ {C V M : Type 0} (meaning : Meaning C V M)
   pub commit-seat : seat < length core.memory.rows
   commit-seat =
       let within = commit-within in
-      let tasks : length core.tasks ≡ core.limits.seats = whole.stands.bounded.tasks in
-      let rows : length parts.memory.rows ≡ core.limits.seats = whole.stands.bounded.rows in
+      let tasks : length core.tasks ≡ core.limits.seats = whole.state.stands.bounded.tasks in
+      let rows : length parts.memory.rows ≡ core.limits.seats = whole.state.stands.bounded.rows in
       let plain : length parts.memory.rows ≡ length core.memory.rows = length-map core.memory.rows (shown_notes (meaning.value_of core.code)) in
       omega (arith, within, tasks, rows, plain)
 
   pub commit-few : seat < 32
   commit-few =
       let within = commit-within in
-      let tasks : length core.tasks ≡ core.limits.seats = whole.stands.bounded.tasks in
+      let tasks : length core.tasks ≡ core.limits.seats = whole.state.stands.bounded.tasks in
       let few = whole.limits.seats in omega (arith, within, tasks, few)
 
   pub commit-fit : (entry : Entry) → entry ≡ ran_entry seat number s.steps (place_shown s) → IsFit entry
   commit-fit entry e = subst IsFit (sym e) (record { seat = commit-few; answer = search rules })
 
   pub commit-grows : All CanGrow core.memory.cells
-  commit-grows = all-grow (meaning.value_of core.code) core.memory.cells (cells-grow parts whole.stands (let h = whole.limits.turns in omega arith))
+  commit-grows = all-grow (meaning.value_of core.code) core.memory.cells (cells-grow parts whole.state.stands (let h = whole.limits.turns in omega arith))
 
   -- the locations that it owns
   module _ (owned : List Loc) (same : IsPermutation (places (row_at core.memory.rows seat).undos) (map (λ l. l.0) owned))
@@ -256,13 +237,13 @@ module _ {C V M : Type 0} (meaning : Meaning C V M)
 
     ls-are : ls ≡ owned_places seat parts.memory.cells
     ls-are =
-        owned-are seat parts.memory.cells (row_at parts.memory.rows seat).undos (whole.stands.consistent.logs seat) ls
+        owned-are seat parts.memory.cells (row_at parts.memory.rows seat).undos (whole.state.stands.consistent.logs seat) ls
         (subst (λ (ns : List ℕ). IsPermutation ns ls) (sym places-same) same) rising
 
     woken-there : (l : ℕ) → IsOwnedBy seat (cell_at (heap_in parts) l) → Contains (owned_places seat parts.memory.cells) l
     woken-there l own =
         subst (λ (ns : List ℕ). Contains ns l) ls-are
-        (owned-named parts seat ls whole.stands (subst (λ (ns : List ℕ). IsPermutation ns ls) (sym places-same) same) l own)
+        (owned-named parts seat ls whole.state.stands (subst (λ (ns : List ℕ). IsPermutation ns ls) (sym places-same) same) l own)
 
     -- the pool, with room for the new members and with those that are woken
     module _ (count : ℕ) (count_is : count ≡ length s.spawns) (roomy waked : Roster M) (roomy_is : roomy ≡ with_room count core.pool)
@@ -277,7 +258,7 @@ module _ {C V M : Type 0} (meaning : Meaning C V M)
       waked-shown = ap shown waked_is ∙ all-woken-shown (term_shown meaning.stage core.code) ls roomy ∙ ap (λ (p : Roster M). woken_for ls (shown p)) roomy_is
 
       plain-free : (i : ℕ) → core.next ≤ i → find i (woken_for ls plain_roomy).members ≡ None
-      plain-free = woken-free core.next ls plain_roomy (λ i above. next-free parts whole.stands i above)
+      plain-free = woken-free core.next ls plain_roomy (λ i above. next-free parts whole.state.stands i above)
 
       pub commit-fresh : (i : ℕ) → core.next ≤ i → find i waked.members ≡ None
       commit-fresh i above =
@@ -297,7 +278,7 @@ module _ {C V M : Type 0} (meaning : Meaning C V M)
 
         pub commit-busy : IsAt is_busy number joined
         commit-busy =
-            let below = below-next parts whole.stands seat attempt is left' s.steps place.0 used are-valid ls seat number (ap member_of is) in
+            let below = below-next parts whole.state.stands seat attempt is left' s.steps place.0 used are-valid ls seat number (ap member_of is) in
             let keeps =
             keeps-on plain_roomy (woken_for ls plain_roomy) (with_newcomers core.next s.spawns (woken_for ls plain_roomy)) number
             (woken-keeps ls plain_roomy number) (newcomers-keep core.next s.spawns (woken_for ls plain_roomy) plain-free number below) in
@@ -313,7 +294,6 @@ module _ {C V M : Type 0} (meaning : Meaning C V M)
             (join-rests : meaning.is_machine core.code m → All (IsAtRest meaning.is_machine meaning.stage core.code) waked.members → All (IsAtRest meaning.is_machine meaning.stage core.code) joined.members)
             (send-rests : meaning.is_machine core.code next-machine → All (IsAtRest meaning.is_machine meaning.stage core.code) joined.members
             → All (IsAtRest meaning.is_machine meaning.stage core.code) final.members)
-            (join-good : IsGoodPool waked → IsGoodPool joined) (send-good : IsGoodPool joined → IsGoodPool final)
             (memory : MemoryView V) (memory_is : memory ≡ released_all seat core.memory)
             (printed output prints : List ℤ) (prints_are : prints ≡ s.prints) (printed_is : printed ≡ core.output) (appends : output ≡ printed ++ prints)
             (written text added bytes : List ℕ) (told : List ℤ) (told_are : told ≡ s.prints) (bytes_are : bytes ≡ lines told) (added_is : added ≡ bytes)
@@ -327,14 +307,6 @@ module _ {C V M : Type 0} (meaning : Meaning C V M)
               (subst (λ (p : Roster M). All (IsAtRest meaning.is_machine meaning.stage core.code) p.members) (sym waked_is)
               (woken-rest meaning.is_machine meaning.stage core.code ls roomy
               (subst (λ (p : Roster M). All (IsAtRest meaning.is_machine meaning.stage core.code) p.members) (sym roomy_is) whole.members))))
-
-          roomy-good : IsGoodPool (with_room count core.pool)
-          roomy-good = record { rising = whole.pool.rising; few = whole.pool.few }
-
-          good : IsGoodPool final
-          good =
-              send-good
-              (join-good (subst IsGoodPool (sym waked_is) (woken-good ls roomy (subst IsGoodPool (sym roomy_is) roomy-good))))
 
           abbrev after : Core C V M
           after = record core {
@@ -394,9 +366,6 @@ module _ {C V M : Type 0} (meaning : Meaning C V M)
           term-is : place.0.term ≡ s.term
           term-is = ap (λ (x : LocalState). x.term) place.2
 
-          rising' : IsRising parts.pool.members
-          rising' = rising-shown (term_shown meaning.stage core.code) core.pool whole.pool.rising
-
           -- its member has ended
           module _ (done : s.want ≡ Some wants.Done) where
             pub ended-parts : parts_of meaning after ≡ ended_at seat number s parts
@@ -408,21 +377,6 @@ module _ {C V M : Type 0} (meaning : Meaning C V M)
 
             at-value : at_value (focus place.0.term) ≡ true
             at-value = ap (λ (t : Tree). at_value (focus t)) term-is ∙ (comes_as s Need.Done (sound'.told wants.Done done)).1
-
-            ended-stands : Simulates (ended_at seat number s parts)
-            ended-stands =
-                subst (λ (q : LocalState). Simulates (has_ended seat number s.steps q (owned_places seat parts.memory.cells) parts)) place.2
-                (ended_stands parts whole.stands seat attempt is left' s.steps place.0 used are-valid (owned_places seat parts.memory.cells) rising' at-value)
-
-            its-ended-alone : RunsExclusively (ended_at seat number s parts)
-            its-ended-alone =
-                subst (λ (q : LocalState). RunsExclusively (has_ended seat number s.steps q (owned_places seat parts.memory.cells) parts)) place.2
-                (ended-alone parts whole.stands whole.alone seat attempt is left' s.steps place.0 used are-valid (owned_places seat parts.memory.cells) rising')
-
-            ended-waits : AreWaiting (ended_at seat number s parts)
-            ended-waits =
-                subst (λ (q : LocalState). AreWaiting (has_ended seat number s.steps q (owned_places seat parts.memory.cells) parts)) place.2
-                (ended-waiting parts whole.stands whole.waiting seat attempt is s.steps place.0 used are-valid (owned_places seat parts.memory.cells) woken-there rising')
 
           -- or has come to `unprotected`
           module _ (leaves : s.want ≡ Some wants.Leave) where
@@ -436,77 +390,6 @@ module _ {C V M : Type 0} (meaning : Meaning C V M)
 
             at-unprotected : at_unprotected (focus place.0.term) ≡ true
             at-unprotected = ap (λ (t : Tree). at_unprotected (focus t)) term-is ∙ (comes_as s Need.Leave (sound'.told wants.Leave leaves)).1
-
-            left-stands : Simulates (left_at seat number s parts)
-            left-stands =
-                subst (λ (q : LocalState). Simulates (has_left seat number s.steps q (owned_places seat parts.memory.cells) parts)) place.2
-                (left_stands parts whole.stands seat attempt is left' s.steps place.0 used are-valid (owned_places seat parts.memory.cells) at-unprotected)
-
-            its-left-alone : RunsExclusively (left_at seat number s parts)
-            its-left-alone =
-                subst (λ (q : LocalState). RunsExclusively (has_left seat number s.steps q (owned_places seat parts.memory.cells) parts)) place.2
-                (left-alone parts whole.stands whole.alone seat attempt is left' s.steps place.0 used are-valid (owned_places seat parts.memory.cells))
-
-            left-waits : AreWaiting (left_at seat number s parts)
-            left-waits =
-                subst (λ (q : LocalState). AreWaiting (has_left seat number s.steps q (owned_places seat parts.memory.cells) parts)) place.2
-                (left-waiting parts whole.stands whole.waiting seat attempt is s.steps place.0 used are-valid (owned_places seat parts.memory.cells) woken-there)
-
-          record KeepsAll (x : Parts) : Type 0 where
-            stands : Simulates x
-            alone : RunsExclusively x
-            waiting : AreWaiting x
-            once : AreNotedOnce x
-
-          all-by : (s.want ≡ Some wants.Done) ⊎ (s.want ≡ Some wants.Leave) → KeepsAll (parts_of meaning after)
-          all-by (inl done) = subst (λ (x : Parts). KeepsAll x) (sym (ended-parts done)) (record {
-            stands = ended-stands done;
-            alone = its-ended-alone done;
-            waiting = ended-waits done;
-            once = ended-once parts whole.once seat number s.steps (place_shown s) (owned_places seat parts.memory.cells);
-          })
-          all-by (inr leaves) = subst (λ (x : Parts). KeepsAll x) (sym (left-parts leaves)) (record {
-            stands = left-stands leaves;
-            alone = its-left-alone leaves;
-            waiting = left-waits leaves;
-            once = left-once parts whole.once seat number s.steps (place_shown s) (owned_places seat parts.memory.cells);
-          })
-
-          abbrev counted : Counters
-          counted = one_counted Counted.Commit core.counters
-
-          bounded-by : core.stop ≡ None → (s.want ≡ Some wants.Done) ⊎ (s.want ≡ Some wants.Leave)
-              → KeepsBounds core.stop counted (parts_of meaning after)
-          bounded-by none (inl done) =
-              subst (λ (x : Parts). KeepsBounds core.stop counted x) (sym (ended-parts done))
-              (subst (λ (q : LocalState). KeepsBounds core.stop counted (has_ended seat number s.steps q (owned_places seat parts.memory.cells) parts)) place.2
-              (ended-bounded parts whole.stands core.stop none (ap (λ (o : Option Stop). is_some o) none) core.counters counted whole.bounds refl seat attempt is
-              commit-rolls s.steps place.0 used commit-low rising' (owned_places seat parts.memory.cells)))
-          bounded-by none (inr leaves) =
-              subst (λ (x : Parts). KeepsBounds core.stop counted x) (sym (left-parts leaves))
-              (subst (λ (q : LocalState). KeepsBounds core.stop counted (has_left seat number s.steps q (owned_places seat parts.memory.cells) parts)) place.2
-              (left-bounded parts whole.stands core.stop none (ap (λ (o : Option Stop). is_some o) none) core.counters counted whole.bounds refl seat attempt is
-              commit-rolls s.steps place.0 used commit-low (owned_places seat parts.memory.cells)))
-
-          pub whole-committed : commits s.want ≡ true → now.stop ≡ None → IsSound meaning after
-          whole-committed committing going = record {
-            stands = (all-by (which-want s.want committing)).stands;
-            limits = whole.limits;
-            memory = subst (IsGoodMemory (meaning.is_value core.code)) (sym memory_is) (memory-released (meaning.is_value core.code) seat core.memory whole.memory);
-            members = rests;
-            pool = good;
-            alone = (all-by (which-want s.want committing)).alone;
-            lone = lone-left parts (parts_of meaning after) whole.stands core.counters (one_counted Counted.Commit core.counters)
-                whole.lone seat commit-within refl refl refl Task.Idle refl (λ t e. let clash : Task.Idle ≡ Task.Running t = e in cc);
-            bounds = bounded-by (subst (λ (x : Core C V M). x.stop ≡ None) (sym view) going) (which-want s.want committing);
-            waiting = (all-by (which-want s.want committing)).waiting;
-            once = (all-by (which-want s.want committing)).once;
-            caused = going-cause parts (parts_of meaning after) core.stop
-                (subst (λ (x : Core C V M). x.stop ≡ None) (sym view) going) core.certificates whole.caused
-                (ran_entry seat number s.steps (place_shown s)) entries-are refl;
-            counters = one-counts core.turns core.counters whole.counters Counted.Commit;
-            text = text-is;
-          }
 
           -- so these may be
           going' : now.stop ≡ None → core.stop ≡ None
@@ -570,3 +453,18 @@ module _ {C V M : Type 0} (meaning : Meaning C V M)
                       stop = refl;
                     });
               })
+
+          by-want : now.stop ≡ None → (s.want ≡ Some wants.Done) ⊎ (s.want ≡ Some wants.Leave) → (e : Event) × Makes meaning e now after
+          by-want going (inl done) =
+              let at = makes-ended going (subst (λ (x : Core C V M). (meaning.stage x.code m).want ≡ Some wants.Done) view done) in
+              (ends_at seat attempt (meaning.stage now.code m) (parts_of meaning now) at.place, at.makes)
+          by-want going (inr leaves) =
+              let at = makes-left going (subst (λ (x : Core C V M). (meaning.stage x.code m).want ≡ Some wants.Leave) view leaves) in
+              (leaves_at seat attempt (meaning.stage now.code m) (parts_of meaning now) at.place, at.makes)
+
+          pub whole-committed : commits s.want ≡ true → now.stop ≡ None → IsSound meaning after
+          whole-committed committing going =
+              let event = by-want going (which-want s.want committing) in
+              sound-next meaning core now after view whole event.0 event.1
+              (subst (IsGoodMemory (meaning.is_value core.code)) (sym memory_is) (memory-released (meaning.is_value core.code) seat core.memory whole.memory))
+              rests text-is

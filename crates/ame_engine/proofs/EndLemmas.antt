@@ -27,14 +27,12 @@ use Rattle.ame_protocol.specs.declared.stop.Stop.{Stop}
 use Rattle.ame_engine.specs.Core.{Core}
 use Rattle.ame_protocol.specs.Event.Faults.{LeadsToCall}
 use Rattle.ame_protocol.specs.Event.Causes.{certificate_of, certificates_of, certificates_in, HasCause}
-use Rattle.ame_engine.specs.Seen.{parts_of, term_shown}
+use Rattle.ame_engine.specs.Seen.{parts_of}
 use Rattle.ame_engine.specs.Whole.{IsSound}
 use Rattle.ame_engine.specs.Ending.{Rise, CertifyAll, HasStopped, IsEnd, end_of}
 use Rattle.ame_protocol.proofs.Event.CauseLemmas.{empty-oldest}
-use Rattle.ame_protocol.proofs.Event.RollbackLemmas.{rising-shown}
 use Rattle.ame_pool.specs.Standings.{max_rollbacks}
 use Rattle.ame_protocol.specs.Bounds.Rollbacks.{IsWithinRollbacks}
-use Rattle.ame_protocol.proofs.Bounds.ShownLemmas.{within-shown}
 use Rattle.ame_protocol.proofs.Bounds.FewBounds.{refusals-bounded, tries-bounded}
 use Rattle.ame_protocol.proofs.Bounds.PaidEntries.{turns-bounded}
 use Rattle.ame_protocol.specs.Event.Bounds.{refusals, KeepsBounds, HasBounds}
@@ -117,7 +115,7 @@ module _ {C V M : Type 0} (meaning : Meaning C V M) (core : Core C V M)
   parts = parts_of meaning core
 
   abbrev s : Simulates parts
-  s = whole.stands
+  s = whole.state.stands
 
   abbrev state : State
   state = s.r.state
@@ -148,10 +146,10 @@ module _ {C V M : Type 0} (meaning : Meaning C V M) (core : Core C V M)
   })
     where
       rising : IsRising parts.pool.members
-      rising = rising-shown (term_shown meaning.stage core.code) core.pool whole.pool.rising
+      rising = whole.state.pool.rising
 
       all : Certified (whole_journal parts) state parts.pool.members (certificates_in parts)
-      all = certified (whole_journal parts) state parts.pool.members (blocked-certificates parts s whole.waiting parked rising)
+      all = certified (whole_journal parts) state parts.pool.members (blocked-certificates parts s whole.state.waiting parked rising)
 
   has-stopped : (stop : Option Stop) → core.stop ≡ stop → HasCause stop core.certificates parts → HasStopped core.limits s.r (record (end_of core) { stop = stop })
   has-stopped stop is h = record {
@@ -182,7 +180,7 @@ module _ {C V M : Type 0} (meaning : Meaning C V M) (core : Core C V M)
   has-bounds stop b = record {
     rollbacks =
         subst (λ (n : ℕ). refusals core.counters ≤ max_rollbacks * (n + length core.entries)) (sym s.stands.next)
-        (refusals-bounded (refusals core.counters) parts s b.few (rising-shown (term_shown meaning.stage core.code) core.pool whole.pool.rising) within);
+        (refusals-bounded (refusals core.counters) parts s b.few (whole.state.pool.rising) within);
     tries = tries-bounded (refusals core.counters) parts b.few within;
     sound = s.sound;
     spent = λ e.
@@ -194,7 +192,7 @@ module _ {C V M : Type 0} (meaning : Meaning C V M) (core : Core C V M)
   }
     where
       within : IsWithinRollbacks parts.pool
-      within = within-shown (term_shown meaning.stage core.code) core.pool whole.pool.few
+      within = whole.state.pool.few
 
   pub is-end : All IsFree core.memory.cells → IsEnd (meaning.program core.code) core.limits (meaning.value_of core.code) (end_of core)
   is-end free = record {
@@ -203,10 +201,10 @@ module _ {C V M : Type 0} (meaning : Meaning C V M) (core : Core C V M)
     store = all-stored parts s idle;
     printed = s.stands.output;
     free = free;
-    once = whole.once.once;
-    stopped = has-stopped core.stop refl whole.caused;
-    lone = whole.lone.counts;
-    bounds = has-bounds core.stop whole.bounds;
+    once = whole.state.once.once;
+    stopped = has-stopped core.stop refl whole.state.caused;
+    lone = whole.state.lone.counts;
+    bounds = has-bounds core.stop whole.state.bounds;
   }
 
 module _ {C V M : Type 0} (meaning : Meaning C V M) (core now : Core C V M) (view : core ≡ now)

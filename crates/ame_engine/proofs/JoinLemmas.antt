@@ -14,9 +14,7 @@ use Rattle.ame_protocol.specs.Engine.Shown.{shown_pool}
 use Rattle.ame_protocol.specs.Engine.Events.{with_newcomers}
 use Rattle.ame_protocol.proofs.Engine.ShownPoolLemmas.{joined-shown}
 use Rattle.ame_engine.specs.Seen.{term_shown}
-use Rattle.ame_protocol.specs.Event.Rollbacks.{IsGoodPool}
 use Rattle.ame_engine.specs.Whole.{resting_at, IsAtRest}
-use Rattle.ame_protocol.proofs.Event.RollbackLemmas.{good-joined}
 
 -- what all members pass, all pass once one more is placed, if that one does
 pub all_placed : {M : Type 0} (P : Member M → Type 0) (new : Member M) (ms : List (Member M)) → P new → All P ms → All P (placed new ms)
@@ -46,7 +44,6 @@ module _ {C M : Type 0} (is_machine : C → M → Type 0) (stage : C → M → M
     pub room : end ≤ number + pool.room
     pub fresh : (k : ℕ) → number ≤ k → find k pool.members ≡ None
     pub rests : (code : C) → is_machine code began → All (IsAtRest is_machine stage code) start.members → All (IsAtRest is_machine stage code) pool.members
-    pub good : IsGoodPool start → IsGoodPool pool
     pub machine : (code : C) → is_machine code began → is_machine code at
     pub kept : (code : C) → ◌≡◌ {A = MachineView} (record (stage code at) { spawns = [] }) (record (stage code began) { spawns = [] })
 
@@ -58,7 +55,6 @@ module _ {C M : Type 0} (is_machine : C → M → Type 0) (stage : C → M → M
     room = room;
     fresh = fresh;
     rests = λ code machine all. all;
-    good = λ good. good;
     machine = λ code machine. machine;
     kept = λ code. refl;
   }
@@ -78,7 +74,6 @@ module _ {C M : Type 0} (is_machine : C → M → Type 0) (stage : C → M → M
       room = let h = j.room in omega arith;
       fresh = λ k above. j.fresh k (omega arith);
       rests = λ code. absurd (none-left told first-is none code);
-      good = j.good;
       machine = λ code machine. keeps code (j.machine code machine);
       kept = λ code. absurd (none-left told first-is none code);
     }
@@ -126,7 +121,6 @@ module _ {C M : Type 0} (is_machine : C → M → Type 0) (stage : C → M → M
             (found_placed (newcomer number member false) pool.members (j.fresh number (omega arith))).others k (λ same. absurd (omega arith)) ∙ j.fresh k (omega arith);
         rests = λ code machine all.
             all_placed (IsAtRest is_machine stage code) (newcomer number member false) pool.members (newcomer-rests code (j.machine code machine)) (j.rests code machine all);
-        good = λ start_good. good-joined number member false pool (j.fresh number (omega arith)) (j.good start_good);
         machine = λ code machine. keeps code (j.machine code machine);
         kept = λ code. ap (λ (s : MachineView). record s { spawns = [] }) (rest code) ∙ j.kept code;
       }

@@ -1,6 +1,6 @@
 -- A row is noted as the engine stops.
-use Rattle.std.proofs.Common.{◌≡◌, ℕ, ◌+◌, ◌<◌, inl, inr, true, false, List, [], ◌∷◌, ◌++◌, get_or, length, Option, Some, None, refl, sym, ap, ◌∙◌, subst, arith, ◌≤◌}
-use Rattle.std.specs.Prelude.{IsSome, is_some, option_map, slice_set}
+use Rattle.std.proofs.Common.{◌≡◌, ℕ, ◌+◌, ◌<◌, inl, true, false, List, [], ◌∷◌, ◌++◌, get_or, length, Option, Some, None, refl, sym, ap, ◌∙◌, subst, arith, ◌≤◌}
+use Rattle.std.specs.Prelude.{IsSome, is_some, slice_set}
 use Rattle.std.proofs.lemmas.List.Elements.{All-nil}
 use Rattle.ame_term.specs.Tree.{Val}
 use Rattle.ame_term.specs.Frame.{Side, side_told}
@@ -9,7 +9,6 @@ use Rattle.ame_journal.specs.declared.entry.EntryKind.{EntryKind}
 use Rattle.ame_journal.specs.JournalView.{IsFit}
 use Rattle.ame_rows.specs.Valid.{IsValidRead, IsValid}
 use Rattle.ame_machine.specs.Run.Local.{LocalState, local}
-use Rattle.ame_pool.specs.Calls.{IsAt}
 use Rattle.ame_rows.specs.MemoryView.{Log, row_at}
 use Rattle.ame_protocol.specs.Row.SeatRun.{HasUsed, AreValid}
 use Rattle.ame_machine.specs.declared.wants.Wants.TheVariants as wants
@@ -20,20 +19,14 @@ use Rattle.ame_machine.proofs.LowLemmas.{too-high}
 use Rattle.ame_protocol.specs.declared.types.Attempt.{Attempt}
 use Rattle.ame_protocol.specs.declared.types.Task.{Task}
 use Rattle.ame_protocol.specs.Engine.Parts.{Parts, heap_in, task_at, term_at, attempt_of, run_in, working}
-use Rattle.ame_protocol.specs.Engine.Tasks.{is_busy_as, Visits, RunsProtected, MeetsTask}
-use Rattle.ame_protocol.specs.Engine.Simulates.{Simulates}
-use Rattle.ame_protocol.specs.Engine.Alone.{RunsExclusively}
+use Rattle.ame_protocol.specs.Engine.Tasks.{Visits, MeetsTask}
 use Rattle.ame_protocol.proofs.Engine.StepLemmas.{seat_within, working-has}
 use Rattle.ame_protocol.proofs.Engine.MemoryEvents.{memory-valid, valid-memory}
 use Rattle.ame_protocol.proofs.Engine.ShownMemoryLemmas.{row-shown}
-use Rattle.ame_protocol.specs.Waits.Waiting.{AreWaiting}
-use Rattle.ame_protocol.specs.Waits.Once.{AreNotedOnce}
-use Rattle.ame_protocol.proofs.Waits.VisitLemmas.{told-waiting, told-once}
 use Rattle.ame_protocol.specs.Visits.Stops.{MayBeNoted, told_task, note_entry, has_been_cut, has_grown_tall}
-use Rattle.ame_protocol.proofs.Visits.NoteLemmas.{cut-stands, tall-stands, cut-alone, tall-alone}
 use Rattle.ame_protocol.specs.declared.stop.Stop.{Stop}
 use Rattle.ame_engine.specs.Core.{Core}
-use Rattle.ame_protocol.specs.Event.Causes.{EndsWith, HasCause}
+use Rattle.ame_protocol.specs.Event.Causes.{HasCause}
 use Rattle.ame_protocol.specs.Event.Counting.{Counted, one_counted}
 use Rattle.ame_protocol.specs.Event.Event.{Event}
 use Rattle.ame_protocol.specs.Event.May.{May}
@@ -47,11 +40,10 @@ use Rattle.ame_protocol.proofs.Event.CauseLemmas.{task-more, going-ordinary, goi
 use Rattle.ame_engine.proofs.BlockLemmas.{none-held}
 use Rattle.ame_engine.proofs.CheckLemmas.{shown-valid, task-read, valid-shown}
 use Rattle.ame_engine.proofs.CommitLemmas.{shown-place}
-use Rattle.ame_protocol.proofs.Event.CountLemmas.{one-counts}
-use Rattle.ame_protocol.proofs.Event.LoneLemmas.{lone-on, told-ran}
-use Rattle.ame_protocol.specs.Event.Bounds.{KeepsBounds, LeavesNoTry}
-use Rattle.ame_protocol.proofs.Event.BoundLemmas.{cut-bounded, tall-bounded, busy-leaves_no_try}
+use Rattle.ame_protocol.specs.Event.Bounds.{LeavesNoTry}
+use Rattle.ame_protocol.proofs.Event.BoundLemmas.{busy-leaves_no_try}
 use Rattle.ame_machine.specs.Meaning.{Meaning}
+use Rattle.ame_engine.proofs.SoundLemmas.{sound-next}
 
 -- which is told then
 told-has : (t : Task) (a : Attempt) → working t ≡ Some a → attempt_of (told_task t) ≡ Some (record a { logged = true })
@@ -113,21 +105,6 @@ module _ {C V M : Type 0} (meaning : Meaning C V M)
       × (without_footprint p ≡ with_answer None (place_shown s))
   place = shown-place (local (running_side s) (term_at parts.pool number) (row_at parts.memory.rows seat).inputs s.steps) s on'.run
 
-  busy : IsAt (is_busy_as false) number parts.pool
-  busy = by task refl on'.has
-    where
-      by : (t : Task) → task ≡ t → working t ≡ Some attempt → IsAt (is_busy_as false) number parts.pool
-      by Task.Idle e h = absurd (let clash : ◌≡◌ {A = Option Attempt} None (Some attempt) = h in cc)
-      by (Task.Running a) e h =
-          let same : a ≡ attempt = cc in
-          let runs : RunsProtected parts whole.stands.types seat a = subst (MeetsTask parts whole.stands.types seat) e (whole.stands.seats seat) in
-          subst (λ (x : Attempt). IsAt (is_busy_as false) x.tried.number parts.pool) same runs.work.busy
-      by (Task.Free a) e h =
-          let same : a ≡ attempt = cc in
-          let visits : Visits parts whole.stands.types seat a = subst (MeetsTask parts whole.stands.types seat) e (whole.stands.seats seat) in
-          subst (λ (x : Attempt). IsAt (is_busy_as false) x.tried.number parts.pool) same visits.work.busy
-      by (Task.Undoing a reason) e h = absurd (let clash : ◌≡◌ {A = Option Attempt} None (Some attempt) = h in cc)
-
   -- a seat whose reads aren't valid runs protected code
   pub invalid-runs : (IsValid core.memory.cells seat (row_at core.memory.rows seat).reads → ⊥) → task ≡ Task.Running attempt
   invalid-runs invalid = by task refl on'.has
@@ -139,7 +116,7 @@ module _ {C V M : Type 0} (meaning : Meaning C V M)
         where
           none : (row_at core.memory.rows seat).reads ≡ []
           none =
-              let visits : Visits parts whole.stands.types seat a = subst (MeetsTask parts whole.stands.types seat) e (whole.stands.seats seat) in
+              let visits : Visits parts whole.state.stands.types seat a = subst (MeetsTask parts whole.state.stands.types seat) e (whole.state.stands.seats seat) in
               sym (ap (λ (n : Log Val). n.reads) (row-shown (meaning.value_of core.code) core.memory.rows seat)) ∙ ap (λ (n : Log Val). n.reads) visits.clear
       by (Task.Undoing a reason) e h = absurd (let clash : ◌≡◌ {A = Option Attempt} None (Some attempt) = h in cc)
 
@@ -182,7 +159,7 @@ module _ {C V M : Type 0} (meaning : Meaning C V M)
         by (Task.Free a) e h =
             let same : a ≡ attempt = cc in
             let side : running_side s ≡ Side.Unprotected = ap side_told (on'.side ∙ ap is_free e) in
-            let visits : Visits parts whole.stands.types seat a = subst (MeetsTask parts whole.stands.types seat) e (whole.stands.seats seat) in
+            let visits : Visits parts whole.state.stands.types seat a = subst (MeetsTask parts whole.state.stands.types seat) e (whole.state.stands.seats seat) in
             let none : (row_at parts.memory.rows seat).inputs ≡ [] = ap (λ (n : Log Val). n.inputs) visits.clear in
             subst (λ (x : Side). MayBeNoted parts seat (Task.Free a) x number s.steps place.0) (sym side)
             (subst (λ (x : Attempt). MayBeNoted parts seat (Task.Free x) Side.Unprotected number s.steps place.0) (sym same)
@@ -194,7 +171,7 @@ module _ {C V M : Type 0} (meaning : Meaning C V M)
     last-few : seat < 32
     last-few =
         let within : seat < length core.tasks = seat_within core.tasks seat attempt last-has in
-        let tasks : length core.tasks ≡ core.limits.seats = whole.stands.bounded.tasks in
+        let tasks : length core.tasks ≡ core.limits.seats = whole.state.stands.bounded.tasks in
         let few = whole.limits.seats in omega (arith, within, tasks, few)
 
     pub last-fit : (kind : EntryKind) (entry : Entry)
@@ -210,18 +187,6 @@ module _ {C V M : Type 0} (meaning : Meaning C V M)
 
       pub last-places : attempt_of later ≡ Some (record attempt { logged = true })
       last-places = ap attempt_of later_is ∙ told-has task attempt on'.has
-
-      ends-so : EndsWith kind entries
-      ends-so = record {
-        earlier = core.entries;
-        note = note_entry kind seat number s.steps (place_shown s);
-        is = entries-are;
-        its = refl;
-        others = going-ordinary parts parts core.stop going' core.certificates whole.caused;
-      }
-
-      untold : core.certificates ≡ []
-      untold = going-untold parts parts core.stop going' core.certificates whole.caused
 
     -- the turns are used up
     module _ (used_up : now.turns ≡ now.limits.turns)
@@ -257,48 +222,6 @@ module _ {C V M : Type 0} (meaning : Meaning C V M)
         used-up' : core.turns ≡ core.limits.turns
         used-up' = subst (λ (x : Core C V M). x.turns ≡ x.limits.turns) (sym view) used_up
 
-        cut-so : Simulates (has_been_cut seat number s.steps (place_shown s) task parts)
-        cut-so =
-            subst (λ (q : LocalState). Simulates (has_been_cut seat number s.steps q task parts)) place.2
-            (cut-stands parts seat task (running_side s) number s.steps place.0 refl may whole.stands)
-
-        cut-alone-so : RunsExclusively (has_been_cut seat number s.steps (place_shown s) task parts)
-        cut-alone-so =
-            subst (λ (q : LocalState). RunsExclusively (has_been_cut seat number s.steps q task parts)) place.2
-            (cut-alone parts seat task (running_side s) number s.steps place.0 refl may whole.alone)
-
-        cut-bounded-so : KeepsBounds (Some Stop.Spent) core.counters (has_been_cut seat number s.steps (place_shown s) task parts)
-        cut-bounded-so =
-            subst (λ (q : LocalState). KeepsBounds (Some Stop.Spent) core.counters (has_been_cut seat number s.steps q task parts)) place.2
-            (cut-bounded parts whole.stands core.stop going' (ap (λ (o : Option Stop). is_some o) going') core.counters core.counters whole.bounds refl
-            seat task (running_side s) number s.steps place.0 refl may last-low)
-
-        pub whole-cut : IsSound meaning after-cut
-        whole-cut = record {
-          stands = subst Simulates (sym cut-parts) cut-so;
-          limits = whole.limits;
-          memory = whole.memory;
-          members = whole.members;
-          pool = whole.pool;
-          alone = subst RunsExclusively (sym cut-parts) cut-alone-so;
-          lone = lone-on parts (parts_of meaning after-cut) whole.stands core.counters core.counters whole.lone seat last-within
-              refl refl refl later refl refl (λ t e. told-ran task t (sym cut-later ∙ e));
-          bounds = subst (KeepsBounds (Some Stop.Spent) core.counters) (sym cut-parts) cut-bounded-so;
-          waiting = subst AreWaiting (sym cut-parts)
-              (told-waiting parts seat number (ap (λ (o : Option Attempt). option_map (λ (x : Attempt). x.tried.number) o) last-has) busy (note_entry EntryKind.Cut seat number s.steps (place_shown s)) refl
-              (told_task task) (core.turns) true whole.waiting);
-          once = subst AreNotedOnce (sym cut-parts)
-              (told-once parts seat number (ap (λ (o : Option Attempt). option_map (λ (x : Attempt). x.tried.number) o) last-has) busy (note_entry EntryKind.Cut seat number s.steps (place_shown s)) refl
-              (told_task task) (core.turns) true whole.once);
-          caused = record {
-            cause = record { turns = used-up'; left = (task-more parts whole.stands seat attempt last-has).empty };
-            told = untold EntryKind.Cut entry cut-entry before entries before_is pushes later cut-later;
-            ends = inr (ends-so EntryKind.Cut entry cut-entry before entries before_is pushes later cut-later);
-          };
-          counters = whole.counters;
-          text = whole.text;
-        }
-
         -- so this may be
         may-cut : May (Event.Cut seat attempt s.steps place.0) (state_of meaning core)
         may-cut = (going', used-up', (running_side s, record { works = on'.has; may = may; more = last-low attempt last-has }))
@@ -319,6 +242,12 @@ module _ {C V M : Type 0} (meaning : Meaning C V M)
                     stop = refl;
                   });
             }))
+
+        pub whole-cut : IsSound meaning after-cut
+        whole-cut =
+            let at = makes-cut attempt (subst (λ (x : Core C V M). working (task_at x.tasks seat) ≡ Some attempt) view on'.has) in
+            sound-next meaning core now after-cut view whole (Event.Cut seat attempt (meaning.stage now.code m).steps at.place) at.makes
+            whole.memory whole.members whole.text
 
         pub cut-told : attempt_of later ≡ Some (record attempt { logged = true })
         cut-told = last-places EntryKind.Cut entry cut-entry before entries before_is pushes later cut-later
@@ -364,52 +293,6 @@ module _ {C V M : Type 0} (meaning : Meaning C V M)
         low : IsSoundStage s
         low = subst (λ (x : Core C V M). IsSoundStage (meaning.stage x.code m)) (sym view) sound
 
-        tall-so : Simulates (has_grown_tall seat number s.steps (place_shown s) task parts)
-        tall-so =
-            subst (λ (q : LocalState). Simulates (has_grown_tall seat number s.steps q task parts)) place.2
-            (tall-stands parts seat task (running_side s) number s.steps place.0 refl may whole.stands left'
-            (too-high s place.0 low.low (sym high) (ap (λ (x : LocalState). x.term) place.2)))
-
-        tall-alone-so : RunsExclusively (has_grown_tall seat number s.steps (place_shown s) task parts)
-        tall-alone-so =
-            subst (λ (q : LocalState). RunsExclusively (has_grown_tall seat number s.steps q task parts)) place.2
-            (tall-alone parts seat task (running_side s) number s.steps place.0 refl may whole.alone)
-
-        tall-bounded-so : KeepsBounds (Some (Stop.Tall its.tried.number)) (one_counted Counted.Tall core.counters)
-            (has_grown_tall seat number s.steps (place_shown s) task parts)
-        tall-bounded-so =
-            subst (λ (q : LocalState). KeepsBounds (Some (Stop.Tall its.tried.number)) (one_counted Counted.Tall core.counters)
-            (has_grown_tall seat number s.steps q task parts)) place.2
-            (tall-bounded parts whole.stands core.stop going' (ap (λ (o : Option Stop). is_some o) going') core.counters (one_counted Counted.Tall core.counters)
-            whole.bounds refl seat task (running_side s) number s.steps place.0 refl may last-low its.tried.number)
-
-        pub whole-tall : IsSound meaning after-tall
-        unfolding ends-so on'
-        whole-tall = record {
-          stands = subst Simulates (sym tall-parts) tall-so;
-          limits = whole.limits;
-          memory = whole.memory;
-          members = whole.members;
-          pool = whole.pool;
-          alone = subst RunsExclusively (sym tall-parts) tall-alone-so;
-          lone = lone-on parts (parts_of meaning after-tall) whole.stands core.counters (one_counted Counted.Tall core.counters)
-              whole.lone seat last-within refl refl refl later refl refl (λ t e. told-ran task t (sym tall-later ∙ e));
-          bounds = subst (KeepsBounds (Some (Stop.Tall its.tried.number)) (one_counted Counted.Tall core.counters)) (sym tall-parts) tall-bounded-so;
-          waiting = subst AreWaiting (sym tall-parts)
-              (told-waiting parts seat number (ap (λ (o : Option Attempt). option_map (λ (x : Attempt). x.tried.number) o) last-has) busy (note_entry EntryKind.Tall seat number s.steps (place_shown s)) refl
-              (told_task task) (core.turns + 1) true whole.waiting);
-          once = subst AreNotedOnce (sym tall-parts)
-              (told-once parts seat number (ap (λ (o : Option Attempt). option_map (λ (x : Attempt). x.tried.number) o) last-has) busy (note_entry EntryKind.Tall seat number s.steps (place_shown s)) refl
-              (told_task task) (core.turns + 1) true whole.once);
-          caused = record {
-            cause = tt;
-            told = untold EntryKind.Tall entry tall-entry before entries before_is pushes later tall-later;
-            ends = record { ends = ends-so EntryKind.Tall entry tall-entry before entries before_is pushes later tall-later; its = sym (ap (λ (a : Attempt). a.tried.number) tall-attempt) };
-          };
-          counters = one-counts core.turns core.counters whole.counters Counted.Tall;
-          text = whole.text;
-        }
-
         -- so this may be
         may-tall : May (Event.Tall seat attempt s.steps place.0) (state_of meaning core)
         may-tall = (
@@ -439,6 +322,12 @@ module _ {C V M : Type 0} (meaning : Meaning C V M)
                   });
             }))
 
+        pub whole-tall : IsSound meaning after-tall
+        whole-tall =
+            let at = makes-tall attempt (subst (λ (x : Core C V M). working (task_at x.tasks seat) ≡ Some attempt) view on'.has) in
+            sound-next meaning core now after-tall view whole (Event.Tall seat attempt (meaning.stage now.code m).steps at.place) at.makes
+            whole.memory whole.members whole.text
+
         pub tall-told : attempt_of later ≡ Some (record attempt { logged = true })
         tall-told = last-places EntryKind.Tall entry tall-entry before entries before_is pushes later tall-later
 
@@ -458,10 +347,10 @@ module _ {C V M : Type 0} (meaning : Meaning C V M)
   spent-kept none = subst (λ (x : Core C V M). spent x) view (record {
     cause = record {
       turns = subst (λ (x : Core C V M). x.turns ≡ x.limits.turns) (sym view) used_up;
-      left = (task-more (parts_of meaning core) whole.stands seat its.0 its.1).empty;
+      left = (task-more (parts_of meaning core) whole.state.stands seat its.0 its.1).empty;
     };
-    told = going-untold (parts_of meaning core) (parts_of meaning core) core.stop none' core.certificates whole.caused;
-    ends = inl (going-ordinary (parts_of meaning core) (parts_of meaning core) core.stop none' core.certificates whole.caused);
+    told = going-untold (parts_of meaning core) (parts_of meaning core) core.stop none' core.certificates whole.state.caused;
+    ends = inl (going-ordinary (parts_of meaning core) (parts_of meaning core) core.stop none' core.certificates whole.state.caused);
   })
     where
       none' : core.stop ≡ None
@@ -481,7 +370,7 @@ module _ {C V M : Type 0} (meaning : Meaning C V M)
           → IsSome (attempt_of (task_at core.tasks seat)) → LeavesNoTry Stop.Spent (parts_of meaning core)
       from stuck none has =
           let its = there (attempt_of (task_at core.tasks seat)) has in
-          busy-leaves_no_try (parts_of meaning core) whole.stands core.stop none core.counters whole.bounds whole.lone seat its.0 its.1
+          busy-leaves_no_try (parts_of meaning core) whole.state.stands core.stop none core.counters whole.state.bounds whole.state.lone seat its.0 its.1
           (λ valid. stuck (shown-valid (meaning.value_of core.code) core.memory.cells seat (row_at core.memory.rows seat).reads
           (subst (IsValid (parts_of meaning core).memory.cells seat) (ap (λ (n : Log Val). n.reads) (row-shown (meaning.value_of core.code) core.memory.rows seat))
           (valid-memory (parts_of meaning core).memory seat (row_at (parts_of meaning core).memory.rows seat).reads valid))))

@@ -5,6 +5,7 @@ pub mod WorkLemmas
 pub mod StartLemmas
 pub mod ReadLemmas
 pub mod MakesLemmas
+pub mod SoundLemmas
 pub mod HaltLemmas
 pub mod RunLemmas
 pub mod BeginLemmas

@@ -1,6 +1,6 @@
 -- A seat reads.
 use Rattle.std.proofs.Common.{◌≡◌, ℕ, zero, suc, ◌+◌, ◌<◌, false, List, [], ◌∷◌, map, length, All, Option, Some, None, option_map, refl, sym, ap, ◌∙◌, subst, arith}
-use Rattle.std.specs.Prelude.{slice_get, is_some}
+use Rattle.std.specs.Prelude.{slice_get}
 use Rattle.std.specs.Option.{option_map_or}
 use Rattle.std.proofs.lemmas.List.{length-map}
 use Rattle.std.proofs.lemmas.Option.{slice_get-map, get_or_from_slice_get}
@@ -24,19 +24,10 @@ use Rattle.ame_machine.proofs.NeedLemmas.{comes_as}
 use Rattle.ame_protocol.specs.declared.types.Attempt.{Attempt}
 use Rattle.ame_protocol.specs.declared.types.Task.{Task}
 use Rattle.ame_protocol.specs.Engine.Parts.{Parts, heap_in, task_at, attempt_of, run_in, term_at, working}
-use Rattle.ame_protocol.specs.Engine.Simulates.{Simulates}
-use Rattle.ame_protocol.specs.Engine.Alone.{RunsExclusively}
 use Rattle.ame_protocol.specs.Engine.Events.{has_read}
 use Rattle.ame_protocol.proofs.Engine.StepLemmas.{seat_within}
-use Rattle.ame_protocol.proofs.Engine.AccessLemmas.{read-there, read-stands}
-use Rattle.ame_protocol.proofs.Engine.AloneLemmas.{read-alone}
-use Rattle.ame_protocol.specs.Waits.Waiting.{AreWaiting}
-use Rattle.ame_protocol.specs.Waits.Once.{AreNotedOnce}
-use Rattle.ame_protocol.proofs.Waits.TaskLemmas.{read-waiting}
-use Rattle.ame_protocol.proofs.Waits.OnceLemmas.{once-on}
+use Rattle.ame_protocol.proofs.Engine.AccessLemmas.{read-there}
 use Rattle.ame_engine.specs.Core.{Core}
-use Rattle.ame_protocol.specs.Event.Causes.{HasCause}
-use Rattle.ame_protocol.proofs.Event.CauseLemmas.{task-more, working-cause}
 use Rattle.ame_protocol.specs.Event.Counting.{Counted, one_counted}
 use Rattle.ame_protocol.specs.Row.Shown.{shown_cell}
 use Rattle.ame_protocol.specs.Engine.Shown.{shown_notes}
@@ -48,14 +39,8 @@ use Rattle.ame_protocol.specs.Event.Event.{Event}
 use Rattle.ame_protocol.specs.Event.May.{May, ComesToAct}
 use Rattle.ame_engine.specs.Seen.{parts_of}
 use Rattle.ame_engine.specs.Makes.{state_of}
-use Rattle.ame_engine.specs.Whole.{IsGoodUndo, IsGoodLog, IsSound}
+use Rattle.ame_engine.specs.Whole.{IsGoodUndo, IsGoodLog, IsSound, IsGoodMemory}
 use Rattle.ame_engine.specs.AtWork.{IsOnSeat, is_free}
-use Rattle.ame_protocol.proofs.Event.CountLemmas.{one-counts}
-use Rattle.ame_protocol.specs.Event.Lone.{IsLone}
-use Rattle.ame_protocol.proofs.Event.LoneLemmas.{read-lone}
-use Rattle.ame_protocol.specs.declared.stop.Stop.{Stop}
-use Rattle.ame_protocol.specs.Event.Bounds.{KeepsBounds}
-use Rattle.ame_protocol.proofs.Event.BoundLemmas.{read-bounded}
 use Rattle.ame_machine.specs.Meaning.{Meaning}
 
 -- Good values
@@ -135,8 +120,8 @@ module _ {C V M : Type 0} (meaning : Meaning C V M) where
       → task_at core.tasks seat ≡ Task.Running attempt → seat < length core.memory.rows
   seat-in_rows core whole seat attempt task =
       let within : seat < length core.tasks = seat_within core.tasks seat attempt (ap attempt_of task) in
-      let tasks : length core.tasks ≡ core.limits.seats = whole.stands.bounded.tasks in
-      let rows : length (map (shown_notes (meaning.value_of core.code)) core.memory.rows) ≡ core.limits.seats = whole.stands.bounded.rows in
+      let tasks : length core.tasks ≡ core.limits.seats = whole.state.stands.bounded.tasks in
+      let rows : length (map (shown_notes (meaning.value_of core.code)) core.memory.rows) ≡ core.limits.seats = whole.state.stands.bounded.rows in
       let plain = length-map core.memory.rows (shown_notes (meaning.value_of core.code)) in
       omega (arith, within, tasks, rows, plain)
 
@@ -155,7 +140,7 @@ module _ {C V M : Type 0} (meaning : Meaning C V M) where
     -- a cell is there
     pub read-within : l.0 < length core.memory.cells
     read-within =
-        let there : IsCell (heap_in parts) l.0 = (read-there parts whole.stands seat on.attempt task (meaning.stage core.code m).steps comes.0 l comes.1).0 in
+        let there : IsCell (heap_in parts) l.0 = (read-there parts whole.state.stands seat on.attempt task (meaning.stage core.code m).steps comes.0 l comes.1).0 in
         subst (λ (n : ℕ). l.0 < n) (length-map core.memory.cells (shown_cell (meaning.value_of core.code))) there
 
     -- what is in place there, as plain data
@@ -211,30 +196,9 @@ module _ {C V M : Type 0} (meaning : Meaning C V M) where
             its-parity parity,
           )
 
-      pub read-whole : core.stop ≡ None → (meaning.stage core.code m).since < core.limits.slice → All HasItsParity core.memory.cells
-          → IsSound meaning read_with
-      read-whole going early parity = record {
-        stands = subst Simulates (sym read-parts) (read-stands parts whole.stands seat on.attempt task (meaning.stage core.code m).steps comes.0 left l comes.1);
-        limits = whole.limits;
-        memory = record {
-          cells = whole.memory.cells;
-          rows = All-set (IsGoodLog (meaning.is_value core.code)) core.memory.rows seat notes good-row whole.memory.rows;
-        };
-        members = whole.members;
-        pool = whole.pool;
-        alone = subst RunsExclusively (sym read-parts)
-            (read-alone parts whole.stands whole.alone seat on.attempt task (meaning.stage core.code m).steps comes.0 l comes.1 (its-parity parity));
-        lone = subst (λ (x : Parts). IsLone x (one_counted Counted.Read core.counters)) (sym read-parts)
-            (read-lone parts whole.stands core.counters (one_counted Counted.Read core.counters) whole.lone refl refl seat on.attempt task
-            (meaning.stage core.code m).steps comes.0 l comes.1 (its-parity parity));
-        bounds = subst (KeepsBounds core.stop (one_counted Counted.Read core.counters)) (sym read-parts)
-            (read-bounded parts whole.stands core.stop going (ap (λ (o : Option Stop). is_some o) going) core.counters (one_counted Counted.Read core.counters)
-            whole.bounds refl seat on.attempt task (meaning.stage core.code m).steps comes.0 (let since = on.since in omega arith) l comes.1);
-        waiting = subst AreWaiting (sym read-parts) (read-waiting parts whole.stands seat on.attempt task whole.waiting l);
-        once = subst AreNotedOnce (sym read-parts) (once-on parts (has_read seat l parts) refl (λ i some. some) whole.once);
-        caused = subst (HasCause core.stop core.certificates) (sym read-parts)
-            (working-cause parts (has_read seat l parts) (task-more parts whole.stands seat on.attempt (ap attempt_of task)) (record { program = refl; base = refl; entries = refl }) left
-            core.stop core.certificates whole.caused);
-        counters = one-counts core.turns core.counters whole.counters Counted.Read;
-        text = whole.text;
+      -- and what the memory has then is good
+      pub read-memory : IsGoodMemory (meaning.is_value core.code) (by_seat seat core.memory.cells notes core.memory)
+      read-memory = record {
+        cells = whole.memory.cells;
+        rows = All-set (IsGoodLog (meaning.is_value core.code)) core.memory.rows seat notes good-row whole.memory.rows;
       }

@@ -21,12 +21,13 @@ use Rattle.ame_protocol.specs.Event.Counting.{Counted, one_counted}
 use Rattle.ame_protocol.specs.Event.Event.{Event}
 use Rattle.ame_engine.specs.Seen.{parts_of}
 use Rattle.ame_engine.specs.Makes.{Makes}
-use Rattle.ame_engine.specs.Whole.{IsSound}
+use Rattle.ame_engine.specs.Whole.{IsSound, IsGoodMemory}
 use Rattle.ame_engine.specs.AtWork.{IsOnSeat, IsOn}
 use Rattle.ame_engine.proofs.MakesLemmas.{made-event}
-use Rattle.ame_engine.proofs.ReadLemmas.{read-within, in-place, read-parts, read-whole, may-read}
+use Rattle.ame_engine.proofs.ReadLemmas.{read-within, in-place, read-parts, may-read, read-memory}
 use Rattle.ame_engine.proofs.RunLemmas.{can-run}
 use Rattle.ame_machine.specs.Meaning.{Meaning}
+use Rattle.ame_engine.proofs.SoundLemmas.{sound-next}
 
 -- the location that is wanted to be read
 read-at : Option Wants → Loc → Loc
@@ -75,18 +76,9 @@ module _ {C V M : Type 0} (meaning : Meaning C V M) (same : V → V → Type 0)
     shows' : (v w : V) → same v w → meaning.value_of core.code w ≡ meaning.value_of core.code v
     shows' v w h = sym (shows core.code v w h)
 
-    pub whole-read : now.stop ≡ None → (meaning.stage now.code m).since < now.limits.slice → All HasItsParity core.memory.cells
-        → IsSound meaning after
-    whole-read going early parity = subst (IsSound meaning) (sym after-is)
-        (read-whole meaning core whole seat m l on' outside' need' left' same shows' (keeps core.code) (row_at memory.rows seat) row
-        (subst (λ (x : Core C V M). x.stop ≡ None) (sym view) going)
-        (subst (λ (x : Core C V M). (meaning.stage x.code m).since < x.limits.slice) (sym view) early) parity)
-
-    pub makes-read : now.stop ≡ None → (meaning.stage now.code m).since < now.limits.slice → All HasItsParity core.memory.cells
-        → (k : Loc) → (meaning.stage now.code m).want ≡ Some (wants.Read k) → Makes meaning (Event.Read seat k) now after
-    makes-read going early parity k e =
-        subst (λ (x : Loc). Makes meaning (Event.Read seat x) now after) (read-same l k (meaning.stage now.code m).want told e)
-        (subst (λ (x : Core C V M). Makes meaning (Event.Read seat l) x after) view
+    makes-it : now.stop ≡ None → (meaning.stage now.code m).since < now.limits.slice → All HasItsParity core.memory.cells → Makes meaning (Event.Read seat l) now after
+    makes-it going early parity =
+        subst (λ (x : Core C V M). Makes meaning (Event.Read seat l) x after) view
         (subst (Makes meaning (Event.Read seat l) core) (sym after-is)
         (made-event meaning (one_counted Counted.Read) (has_read seat l) (Event.Read seat l) core _ refl refl
         (may-read meaning core whole seat m l on' outside' need' left' same shows' (keeps core.code) (row_at memory.rows seat) row
@@ -98,7 +90,20 @@ module _ {C V M : Type 0} (meaning : Meaning C V M) (same : V → V → Type 0)
               (row_at memory.rows seat) row;
           counted = refl;
           stop = refl;
-        }))))
+        })))
+
+    pub makes-read : now.stop ≡ None → (meaning.stage now.code m).since < now.limits.slice → All HasItsParity core.memory.cells
+        → (k : Loc) → (meaning.stage now.code m).want ≡ Some (wants.Read k) → Makes meaning (Event.Read seat k) now after
+    makes-read going early parity k e =
+        subst (λ (x : Loc). Makes meaning (Event.Read seat x) now after) (read-same l k (meaning.stage now.code m).want told e) (makes-it going early parity)
+
+    pub whole-read : now.stop ≡ None → (meaning.stage now.code m).since < now.limits.slice → All HasItsParity core.memory.cells
+        → IsSound meaning after
+    whole-read going early parity =
+        sound-next meaning core now after view whole (Event.Read seat l) (makes-it going early parity)
+        (subst (IsGoodMemory (meaning.is_value core.code)) (sym others)
+        (read-memory meaning core whole seat m l on' outside' need' left' same shows' (keeps core.code) (row_at memory.rows seat) row))
+        whole.members whole.text
 
     good-value : meaning.is_value core.code value
     good-value = keeps core.code there.0.value value (gives there.0 there.1)
@@ -120,4 +125,4 @@ module _ {C V M : Type 0} (meaning : Meaning C V M) (same : V → V → Type 0)
     good-read = subst (λ (x : Core C V M). meaning.is_value x.code value) view good-value
 
     pub runs-read : now.stop ≡ None → (meaning.stage now.code m).since < now.limits.slice → All HasItsParity core.memory.cells → (s : MachineView) → IsOnSeat (parts_of meaning after) seat s → s.inside ≡ false → CanRun s
-    runs-read going early parity s stands out = can-run (parts_of meaning after) (whole-read going early parity).stands seat s stands out
+    runs-read going early parity s stands out = can-run (parts_of meaning after) (whole-read going early parity).state.stands seat s stands out

@@ -1,12 +1,10 @@
 -- An engine that has just started.
-use Rattle.std.proofs.Common.{◌≡◌, ℕ, zero, suc, ◌<◌, ◌≤◌, List, [], ◌∷◌, map, replicate, None, refl, sym, ap, ◌∙◌, subst, arith}
+use Rattle.std.proofs.Common.{◌≡◌, ℕ, zero, suc, List, [], ◌∷◌, map, replicate, None, refl, sym, ap, ◌∙◌, subst}
 use Rattle.std.specs.Prelude.{ℤ, false}
 use Rattle.std.proofs.lemmas.List.Elements.{All-nil, All-cons, All-replicate}
 use Rattle.ame_term.specs.Tree.{Val, Tree}
 use Rattle.ame_store.specs.declared.cell.Cell.{Cell}
 use Rattle.ame_journal.specs.declared.entry.Entry.{Entry}
-use Rattle.ame_pool.specs.declared.member.Member.{Member}
-use Rattle.ame_pool.specs.Standings.{max_rollbacks}
 use Rattle.ame_pool.specs.Roster.{Roster, nobody}
 use Rattle.ame_pool.specs.Calls.{newcomer, joined, with_room}
 use Rattle.ame_rows.specs.MemoryView.{Log, MemoryView, no_log}
@@ -16,29 +14,19 @@ use Rattle.ame_protocol.specs.declared.types.Limits.{Limits}
 use Rattle.ame_protocol.specs.declared.types.Tried.{Tried}
 use Rattle.ame_protocol.specs.declared.types.Task.{Task}
 use Rattle.ame_protocol.specs.Engine.Parts.{Parts}
-use Rattle.ame_protocol.specs.Engine.Simulates.{Simulates}
-use Rattle.ame_protocol.specs.Engine.Alone.{RunsExclusively}
 use Rattle.ame_protocol.specs.Engine.Shown.{shown_notes}
 use Rattle.ame_protocol.specs.Engine.Events.{started}
-use Rattle.ame_protocol.proofs.Engine.StartLemmas.{task-idle, started_stands}
-use Rattle.ame_protocol.proofs.Engine.AloneEvents.{start-alone}
-use Rattle.ame_protocol.specs.Waits.Waiting.{AreWaiting}
-use Rattle.ame_protocol.specs.Waits.Once.{AreNotedOnce}
-use Rattle.ame_protocol.proofs.Waits.TaskLemmas.{start-waiting}
-use Rattle.ame_protocol.proofs.Waits.OnceEvents.{start-once}
 use Rattle.ame_engine.specs.Core.{Core}
 use Rattle.ame_protocol.specs.declared.certificate.Certificate.{Certificate}
 use Rattle.ame_protocol.specs.declared.counters.Counters.{Counters}
 use Rattle.ame_protocol.specs.Event.Counting.{nothing_counted}
 use Rattle.ame_engine.specs.Seen.{parts_of}
 use Rattle.ame_engine.specs.Whole.{AreLimits, IsGoodLog, IsGoodUndo, IsAtRest, IsSound}
-use Rattle.ame_protocol.proofs.Event.CountLemmas.{none-counted}
-use Rattle.ame_protocol.proofs.Event.CauseLemmas.{started-cause}
-use Rattle.ame_protocol.proofs.Event.LoneLemmas.{lone-idle}
-use Rattle.ame_protocol.proofs.Bounds.PaidEvents.{row-clear}
-use Rattle.ame_protocol.specs.Event.Bounds.{KeepsBounds}
-use Rattle.ame_protocol.proofs.Event.BoundLemmas.{idle-bounded}
 use Rattle.ame_machine.specs.Meaning.{Meaning}
+use Rattle.ame_protocol.specs.Event.Sound.{Sound}
+use Rattle.ame_protocol.specs.Event.State.{started_state}
+use Rattle.ame_protocol.proofs.Event.SoundLemmas.{sound-start}
+use Rattle.ame_engine.specs.Makes.{state_of}
 
 rows-shown : {V : Type 0} (view : V → Val) (n : ℕ) → map (shown_notes view) (replicate n no_log) ≡ replicate n no_log
 rows-shown view zero = refl
@@ -78,9 +66,13 @@ module _ {C V M : Type 0} (meaning : Meaning C V M) (code : C) (limits : Limits)
         ∙ ap (parts-with (meaning.program code)) (rows-shown (meaning.value_of code) limits.seats)
 
     module _ (in_range : AreLimits limits) (good : meaning.is_machine code machine) (accepted : IsAccepted (meaning.devices code) (meaning.program code)) where
+      started-as : state_of meaning started_with ≡ started_state (meaning.program code) (meaning.devices code) limits
+      started-as = λ i. record { parts = started-parts i; counters = nothing_counted; stop = None; certificates = [] }
+
       started-whole : IsSound meaning started_with
       started-whole = record {
-        stands = subst Simulates (sym started-parts) (started_stands (meaning.program code) (meaning.devices code) limits 0 accepted.places accepted.refs accepted.accepts accepted.source);
+        state = subst Sound (sym started-as)
+            (sound-start (meaning.program code) (meaning.devices code) limits accepted.places accepted.refs accepted.accepts accepted.source in_range.some_slice);
         limits = in_range;
         memory = record {
           cells = All-nil (λ cell. meaning.is_value code cell.value);
@@ -89,20 +81,6 @@ module _ {C V M : Type 0} (meaning : Meaning C V M) (code : C) (limits : Limits)
         };
         members = All-cons (IsAtRest meaning.is_machine meaning.stage code) (newcomer 0 machine false) []
             (record { machine = good; rests = rests ∙ sym (ap (λ (s : MachineView). starting_at s.term) rests) }) (All-nil (IsAtRest meaning.is_machine meaning.stage code));
-        pool = record {
-          rising = (All-nil (λ (m : Member M). 0 < m.number), tt);
-          few = All-cons (λ m. m.rollbacks ≤ max_rollbacks) (newcomer 0 machine false) [] (omega arith) (All-nil (λ (m : Member M). m.rollbacks ≤ max_rollbacks));
-        };
-        alone = subst RunsExclusively (sym started-parts) (start-alone (meaning.program code) (meaning.devices code) limits 0);
-        lone = lone-idle (parts_of meaning started_with) nothing_counted (task-idle limits.seats)
-            (record { conflicts = refl; invalids = refl });
-        bounds = subst (KeepsBounds None nothing_counted) (sym started-parts)
-            (idle-bounded (started (meaning.program code) (meaning.devices code) limits 0) nothing_counted refl refl in_range.some_slice refl (task-idle limits.seats)
-            (row-clear limits.seats));
-        waiting = subst AreWaiting (sym started-parts) (start-waiting (meaning.program code) (meaning.devices code) limits 0);
-        once = subst AreNotedOnce (sym started-parts) (start-once (meaning.program code) (meaning.devices code) limits 0);
-        caused = started-cause (parts_of meaning started_with) refl;
-        counters = none-counted;
         text = refl;
       }
 

@@ -31,11 +31,12 @@ use Rattle.ame_protocol.specs.Event.May.{MayUndo}
 use Rattle.ame_engine.specs.Seen.{parts_of, term_shown, MakesEvent}
 use Rattle.ame_engine.specs.Makes.{state_of, Makes}
 use Rattle.ame_engine.proofs.MakesLemmas.{made-event}
-use Rattle.ame_engine.specs.Whole.{IsSound}
+use Rattle.ame_engine.specs.Whole.{IsSound, IsGoodMemory, IsAtRest}
 use Rattle.ame_protocol.specs.Event.Undoing.{is_undoing, reason_to_undo, is_busy_for, home_for}
 use Rattle.ame_engine.proofs.CheckLemmas.{task-read}
-use Rattle.ame_engine.proofs.UndoLemmas.{grow-shown, undone-whole, undone-makes, gone-whole, gone-makes}
+use Rattle.ame_engine.proofs.UndoLemmas.{grow-shown, undone-makes, gone-makes, undo-memory, gone-rests}
 use Rattle.ame_machine.specs.Meaning.{Meaning}
+use Rattle.ame_engine.proofs.SoundLemmas.{sound-next}
 
 -- an attempt that is there
 pub attempt-in : (o : Option Attempt) → IsSome o → (a : Attempt) × (o ≡ Some a)
@@ -75,22 +76,22 @@ module _ {C V M : Type 0} (meaning : Meaning C V M)
   pub undo-rows : seat < length core.memory.rows
   undo-rows =
       let within = undo-within in
-      let tasks : length core.tasks ≡ core.limits.seats = whole.stands.bounded.tasks in
-      let rows : length (parts_of meaning core).memory.rows ≡ core.limits.seats = whole.stands.bounded.rows in
+      let tasks : length core.tasks ≡ core.limits.seats = whole.state.stands.bounded.tasks in
+      let rows : length (parts_of meaning core).memory.rows ≡ core.limits.seats = whole.state.stands.bounded.rows in
       let plain : length (parts_of meaning core).memory.rows ≡ length core.memory.rows = length-map core.memory.rows (shown_notes (meaning.value_of core.code)) in
       omega (arith, within, tasks, rows, plain)
 
   pub undo-grows : All CanGrow core.memory.cells
   undo-grows =
       grow-shown (meaning.value_of core.code) core.memory.cells
-      (cells-grow (parts_of meaning core) whole.stands (let h = whole.limits.turns in omega arith))
+      (cells-grow (parts_of meaning core) whole.state.stands (let h = whole.limits.turns in omega arith))
 
   pub undo-few : is_some core.stop ≡ false → core.turns < 4000000
   undo-few going = let h = left' going in let limit = whole.limits.turns in omega arith
 
   -- the count of undos is at most that of the turns
   pub undo-counted : core.counters.undos ≤ core.turns
-  undo-counted = let all = whole.counters.all in omega arith
+  undo-counted = let all = whole.state.counters.all in omega arith
 
   module _ (t : Task) (read : t ≡ get_or core.tasks seat t) (attempt : Attempt) (its : attempt_of t ≡ Some attempt) (reason : Reason) (why : reason ≡ reason_to_undo t) where
     is : task_at core.tasks seat ≡ t
@@ -105,9 +106,9 @@ module _ {C V M : Type 0} (meaning : Meaning C V M)
     pub home-busy : IsAt (is_busy_for reason) attempt.tried.number core.pool
     home-busy =
         subst (λ (r : Reason). IsAt (is_busy_for r) attempt.tried.number core.pool) (sym why-so)
-        (by (task_at core.tasks seat) (whole.stands.seats seat) has-it)
+        (by (task_at core.tasks seat) (whole.state.stands.seats seat) has-it)
       where
-        by : (task : Task) → MeetsTask (parts_of meaning core) whole.stands.types seat task → attempt_of task ≡ Some attempt
+        by : (task : Task) → MeetsTask (parts_of meaning core) whole.state.stands.types seat task → attempt_of task ≡ Some attempt
             → IsAt (is_busy_for (reason_to_undo task)) attempt.tried.number core.pool
         by Task.Idle h e = absurd (let clash : attempt_of Task.Idle ≡ Some attempt = e in cc)
         by (Task.Running a) h e =
@@ -155,15 +156,10 @@ module _ {C V M : Type 0} (meaning : Meaning C V M)
         counters = counters-so i;
       }
 
-      pub whole-undone : 1 < length (row_at core.memory.rows seat).undos → IsSound meaning after-more
-      whole-undone more =
-          subst (IsSound meaning) (sym after-undone)
-          (undone-whole meaning core whole seat attempt has-it undoes' left' (let e = many in omega arith))
-
       makes-core : MakesEvent meaning (one_undone (is_some core.stop)) (has_undone seat attempt (reason_to_undo (task_at core.tasks seat))) core after-more
       makes-core =
           subst (MakesEvent meaning (one_undone (is_some core.stop)) (has_undone seat attempt (reason_to_undo (task_at core.tasks seat))) core)
-          (sym after-undone) (undone-makes meaning core whole seat attempt has-it undoes' left')
+          (sym after-undone) (undone-makes meaning core whole seat attempt has-it)
 
       its-own : (a : Attempt) → attempt_of (task_at now.tasks seat) ≡ Some a → attempt ≡ a
       its-own a e =
@@ -172,13 +168,22 @@ module _ {C V M : Type 0} (meaning : Meaning C V M)
       may-undo : MayUndo (state_of meaning core) seat attempt
       may-undo = record { has = has-it; undoes = undoes'; left = left' }
 
+      makes-more : 1 < length (row_at core.memory.rows seat).undos → Makes meaning (Event.Undo seat attempt) now after-more
+      makes-more more =
+          subst (λ (x : Core C V M). Makes meaning (Event.Undo seat attempt) x after-more) view
+          (made-event meaning (one_undone (is_some core.stop)) (has_undone seat attempt (reason_to_undo (task_at core.tasks seat))) (Event.Undo seat attempt)
+          core after-more refl refl (may-undo, (let e = many in omega arith)) makes-core)
+
       pub makes-undone : 1 < length (row_at core.memory.rows seat).undos → (a : Attempt) → attempt_of (task_at now.tasks seat) ≡ Some a
           → Makes meaning (Event.Undo seat a) now after-more
-      makes-undone more a e =
-          subst (λ (x : Core C V M). Makes meaning (Event.Undo seat a) x after-more) view
-          (subst (λ (x : Attempt). Makes meaning (Event.Undo seat x) core after-more) (its-own a e)
-          (made-event meaning (one_undone (is_some core.stop)) (has_undone seat attempt (reason_to_undo (task_at core.tasks seat))) (Event.Undo seat attempt)
-          core after-more refl refl (may-undo, (let e = many in omega arith)) makes-core))
+      makes-undone more a e = subst (λ (x : Attempt). Makes meaning (Event.Undo seat x) now after-more) (its-own a e) (makes-more more)
+
+      memory-good : IsGoodMemory (meaning.is_value core.code) memory
+      memory-good = subst (IsGoodMemory (meaning.is_value core.code)) (sym memory-is) (undo-memory meaning core whole seat attempt has-it)
+
+      pub whole-undone : 1 < length (row_at core.memory.rows seat).undos → IsSound meaning after-more
+      whole-undone more =
+          sound-next meaning core now after-more view whole (Event.Undo seat attempt) (makes-more more) memory-good whole.members whole.text
 
       -- none is left
       module _ (pool : Roster M) (pool-is : pool ≡ home_for reason attempt.tried.number core.pool) (tried : List Tried) (tried-is : tried ≡ with_try attempt core.tried) where
@@ -205,18 +210,20 @@ module _ {C V M : Type 0} (meaning : Meaning C V M)
           tried = tried-is i;
         }
 
-        pub whole-gone : (1 < length (row_at core.memory.rows seat).undos → ⊥) → IsSound meaning after-gone
-        whole-gone few =
-            subst (IsSound meaning) (sym after-home)
-            (gone-whole meaning core whole seat attempt has-it undoes' left'
-            (let e = many in omega (arith, e, few)))
-
-        pub makes-gone : (1 < length (row_at core.memory.rows seat).undos → ⊥) → (a : Attempt) → attempt_of (task_at now.tasks seat) ≡ Some a
-            → Makes meaning (Event.Home seat a) now after-gone
-        makes-gone few a e =
-            subst (λ (x : Core C V M). Makes meaning (Event.Home seat a) x after-gone) view
-            (subst (λ (x : Attempt). Makes meaning (Event.Home seat x) core after-gone) (its-own a e)
+        makes-home : (1 < length (row_at core.memory.rows seat).undos → ⊥) → Makes meaning (Event.Home seat attempt) now after-gone
+        makes-home few =
+            subst (λ (x : Core C V M). Makes meaning (Event.Home seat attempt) x after-gone) view
             (made-event meaning (one_undone (is_some core.stop)) (has_gone_home seat attempt (reason_to_undo (task_at core.tasks seat))) (Event.Home seat attempt)
             core after-gone refl refl (may-undo, (let e = many in omega (arith, e, few)))
             (subst (MakesEvent meaning (one_undone (is_some core.stop)) (has_gone_home seat attempt (reason_to_undo (task_at core.tasks seat))) core)
-            (sym after-home) (gone-makes meaning core whole seat attempt has-it undoes' left'))))
+            (sym after-home) (gone-makes meaning core whole seat attempt has-it)))
+
+        pub makes-gone : (1 < length (row_at core.memory.rows seat).undos → ⊥) → (a : Attempt) → attempt_of (task_at now.tasks seat) ≡ Some a
+            → Makes meaning (Event.Home seat a) now after-gone
+        makes-gone few a e = subst (λ (x : Attempt). Makes meaning (Event.Home seat x) now after-gone) (its-own a e) (makes-home few)
+
+        pub whole-gone : (1 < length (row_at core.memory.rows seat).undos → ⊥) → IsSound meaning after-gone
+        whole-gone few =
+            sound-next meaning core now after-gone view whole (Event.Home seat attempt) (makes-home few) memory-good
+            (subst (λ (p : Roster M). All (IsAtRest meaning.is_machine meaning.stage core.code) p.members) (sym pool-so)
+            (gone-rests meaning core whole seat attempt has-it)) whole.text

@@ -1,5 +1,5 @@
 -- A visit that ends with a call of a device, or that a device refused.
-use Rattle.std.proofs.Common.{◌≡◌, ℕ, ◌+◌, ◌^◌, ◌<◌, ◌≤◌, true, false, List, [], ◌∷◌, ◌++◌, length, All, Option, Some, None, Ok, refl, sym, ap, ◌∙◌, subst, append-nil, arith, is_some}
+use Rattle.std.proofs.Common.{◌≡◌, ℕ, ◌+◌, ◌^◌, ◌<◌, ◌≤◌, true, false, List, [], ◌∷◌, ◌++◌, length, All, Option, Some, None, Ok, refl, sym, ap, ◌∙◌, subst, append-nil, arith}
 use Rattle.std.specs.Prelude.{ℤ, slice_set, unwrap_or}
 use Rattle.ame_term.specs.Tree.{Val, Tree}
 use Rattle.ame_term.specs.Frame.{Side, side_told}
@@ -27,27 +27,18 @@ use Rattle.ame_machine.proofs.FeedLemmas.{fed-answer}
 use Rattle.ame_protocol.specs.declared.types.Attempt.{Attempt}
 use Rattle.ame_protocol.specs.declared.types.Reason.{Reason}
 use Rattle.ame_protocol.specs.declared.types.Task.{Task}
-use Rattle.ame_protocol.specs.Engine.Parts.{Parts, task_at, attempt_of, member_of, term_at, working}
-use Rattle.ame_protocol.proofs.Engine.StepLemmas.{seat_within}
+use Rattle.ame_protocol.specs.Engine.Parts.{Parts, task_at, term_at, working}
 use Rattle.ame_protocol.specs.Engine.Shown.{shown_pool}
 use Rattle.ame_protocol.specs.Engine.Tasks.{Visits}
-use Rattle.ame_protocol.specs.Engine.Simulates.{Simulates}
-use Rattle.ame_protocol.specs.Engine.Alone.{RunsExclusively}
 use Rattle.ame_protocol.specs.Engine.Events.{with_newcomers}
 use Rattle.ame_protocol.proofs.Engine.ShownPoolLemmas.{home-shown}
 use Rattle.ame_protocol.specs.Visits.Visit.{StepsTo, free_entry, has_been_refused}
 use Rattle.ame_protocol.proofs.Visits.PlaceLemmas.{visits, alone, calm, term-there, is-inside, call-met}
-use Rattle.ame_protocol.proofs.Visits.RefuseLemmas.{refused-stands, refused-alone}
-use Rattle.ame_protocol.specs.Waits.Waiting.{AreWaiting}
-use Rattle.ame_protocol.specs.Waits.Once.{AreNotedOnce}
-use Rattle.ame_protocol.proofs.Waits.VisitLemmas.{refused-waiting, refused-once}
-use Rattle.ame_protocol.specs.Event.Causes.{HasCause}
 use Rattle.ame_protocol.specs.Event.Faults.{ComesToCall, LeadsToCall}
 use Rattle.ame_engine.specs.declared.engine.free.change.Change.TheVariants as changes
 use Rattle.ame_protocol.specs.declared.stop.Stop.{Stop}
 use Rattle.ame_engine.specs.Core.{Core}
 use Rattle.ame_protocol.specs.Event.Counting.{Counted, one_counted}
-use Rattle.ame_protocol.specs.Event.Rollbacks.{IsGoodPool}
 use Rattle.ame_protocol.specs.Event.Event.{Event}
 use Rattle.ame_engine.specs.Seen.{parts_of, term_shown}
 use Rattle.ame_engine.specs.Makes.{Makes, MakesAt}
@@ -55,20 +46,15 @@ use Rattle.ame_engine.proofs.MakesLemmas.{made-last, visited-made}
 use Rattle.ame_engine.specs.Whole.{IsAtRest, IsSound}
 use Rattle.ame_engine.specs.AtWork.{IsOnSeat, IsOn}
 use Rattle.ame_engine.specs.Visiting.{IsVisiting, VisitsTo, IsVisitTo, SettlesThere, HasComeHome, visits_at}
-use Rattle.ame_protocol.proofs.Event.CauseLemmas.{refused-cause}
-use Rattle.ame_protocol.proofs.Event.CountLemmas.{one-counts}
 use Rattle.ame_protocol.proofs.Event.FaultLemmas.{alone-run}
-use Rattle.ame_protocol.proofs.Event.LoneLemmas.{lone-left}
 use Rattle.ame_engine.proofs.MemberLemmas.{all_altered}
-use Rattle.ame_protocol.proofs.Event.RollbackLemmas.{good-home}
 use Rattle.ame_engine.proofs.CrewLemmas.{busy-told}
 use Rattle.ame_engine.proofs.UndoingLemmas.{busy-same}
 use Rattle.ame_engine.proofs.VisitPlaceLemmas.{visits-as, visit-steps, visit-is, visit-settles}
 use Rattle.ame_engine.proofs.VisitEndLemmas.{room-stays, whole-visited, makes-visited}
-use Rattle.ame_protocol.specs.Event.Bounds.{KeepsBounds}
-use Rattle.ame_protocol.proofs.Event.BoundLemmas.{refused-bounded}
 use Rattle.ame_engine.proofs.VisitPlaceLemmas.{visit-grows}
 use Rattle.ame_machine.specs.Meaning.{Meaning}
+use Rattle.ame_engine.proofs.SoundLemmas.{sound-next}
 
 module _ {C V M : Type 0} (meaning : Meaning C V M)
     (core now : Core C V M) (view : core ≡ now) (whole : IsSound meaning core) (seat : ℕ) (attempt : Attempt)
@@ -85,8 +71,8 @@ module _ {C V M : Type 0} (meaning : Meaning C V M)
   left' : core.turns < core.limits.turns
   left' = subst (λ (x : Core C V M). x.turns < x.limits.turns) (sym view) left
 
-  its-visit : Visits parts whole.stands.types seat attempt
-  its-visit = visits parts whole.stands seat attempt is
+  its-visit : Visits parts whole.state.stands.types seat attempt
+  its-visit = visits parts whole.state.stands seat attempt is
 
   -- A device refused
 
@@ -115,37 +101,6 @@ module _ {C V M : Type 0} (meaning : Meaning C V M)
     unfolding parts-with
     refused-parts = ap parts-with (ap (shown_pool (term_shown meaning.stage core.code)) pool_is ∙ home-shown (term_shown meaning.stage core.code) number false core.pool)
 
-    pub whole-refused : now.stop ≡ None → LeadsToCall (parts_of meaning now) device
-        → IsSound meaning after-refused
-    whole-refused going leads = record {
-      stands = subst Simulates (sym refused-parts) (refused-stands parts whole.stands seat attempt is left');
-      limits = whole.limits;
-      memory = whole.memory;
-      members =
-          subst (λ (p : Roster M). All (IsAtRest meaning.is_machine meaning.stage core.code) p.members) (sym pool_is)
-          (all_altered number (at_home false) (IsAtRest meaning.is_machine meaning.stage core.code) (λ m rests. record { machine = rests.machine; rests = rests.rests })
-          core.pool.members whole.members);
-      pool = subst IsGoodPool (sym pool_is) (good-home number false core.pool whole.pool);
-      alone = subst RunsExclusively (sym refused-parts) (refused-alone parts whole.stands seat attempt is whole.alone);
-      lone = lone-left parts (parts_of meaning after-refused) whole.stands core.counters (one_counted Counted.Free core.counters)
-          whole.lone seat (seat_within core.tasks seat attempt (ap attempt_of is)) refl refl refl Task.Idle refl
-          (λ t e. let clash : Task.Idle ≡ Task.Running t = e in cc);
-      bounds =
-          let none : core.stop ≡ None = subst (λ (x : Core C V M). x.stop ≡ None) (sym view) going in
-          subst (KeepsBounds (Some (Stop.DeviceFault device)) (one_counted Counted.Free core.counters)) (sym refused-parts)
-          (refused-bounded parts whole.stands core.stop none (ap (λ (o : Option Stop). is_some o) none) core.counters (one_counted Counted.Free core.counters)
-          whole.bounds refl seat attempt is device);
-      waiting = subst AreWaiting (sym refused-parts)
-          (refused-waiting parts seat number (ap member_of is) its-visit.work.busy (parts.turns + 1) true whole.waiting);
-      once = subst AreNotedOnce (sym refused-parts) (refused-once parts seat number (ap member_of is) its-visit.work.busy (parts.turns + 1) true whole.once);
-      caused = refused-cause device parts (parts_of meaning after-refused) core.certificates
-          (subst (λ (o : Option Stop). HasCause o core.certificates parts) (subst (λ (x : Core C V M). x.stop ≡ None) (sym view) going) whole.caused)
-          (record { program = refl; base = refl; entries = refl })
-          (subst (λ (x : Core C V M). LeadsToCall (parts_of meaning x) device) (sym view) leads);
-      counters = one-counts core.turns core.counters whole.counters Counted.Free;
-      text = whole.text;
-    }
-
     pub makes-refused : now.stop ≡ None → LeadsToCall (parts_of meaning now) device → Makes meaning (Event.Refuse seat attempt device) now after-refused
     makes-refused going leads =
         subst (λ (x : Core C V M). Makes meaning (Event.Refuse seat attempt device) x after-refused) view
@@ -154,6 +109,14 @@ module _ {C V M : Type 0} (meaning : Meaning C V M)
           is,
           subst (λ (x : Core C V M). LeadsToCall (parts_of meaning x) device) (sym view) leads,
         ) (record { code = refl; parts = refused-parts; counted = refl; stop = refl }))
+
+    pub whole-refused : now.stop ≡ None → LeadsToCall (parts_of meaning now) device
+        → IsSound meaning after-refused
+    whole-refused going leads =
+        sound-next meaning core now after-refused view whole (Event.Refuse seat attempt device) (makes-refused going leads) whole.memory
+        (subst (λ (p : Roster M). All (IsAtRest meaning.is_machine meaning.stage core.code) p.members) (sym pool_is)
+        (all_altered number (at_home false) (IsAtRest meaning.is_machine meaning.stage core.code) (λ m rests. record { machine = rests.machine; rests = rests.rests })
+        core.pool.members whole.members)) whole.text
 
   -- A device is called
 
@@ -181,7 +144,7 @@ module _ {C V M : Type 0} (meaning : Meaning C V M)
     one-number = ap (λ (a : Attempt). a.tried.number) one-attempt
 
     steps : StepsTo parts number s.steps (place_shown s)
-    steps = subst (λ (n : ℕ). StepsTo parts n s.steps (place_shown s)) one-number (visit-steps parts whole.stands seat s on visits-here.inside)
+    steps = subst (λ (n : ℕ). StepsTo parts n s.steps (place_shown s)) one-number (visit-steps parts whole.state.stands seat s on visits-here.inside)
 
     need-there : need_told (wants.Device device argument) ≡ need_of s
     need-there = sound'.told (wants.Device device argument) wants-it
@@ -197,7 +160,7 @@ module _ {C V M : Type 0} (meaning : Meaning C V M)
     }
 
     device-there : device < meaning.devices core.code
-    device-there = call-met parts whole.stands seat attempt is s.steps (place_shown s) steps device argument stands-at
+    device-there = call-met parts whole.state.stands seat attempt is s.steps (place_shown s) steps device argument stands-at
 
     pub call-within : (count : ℕ) → meaning.devices now.code ≤ count → device < count
     call-within count enough =
@@ -209,13 +172,13 @@ module _ {C V M : Type 0} (meaning : Meaning C V M)
         let here : s.steps + 1 < 2 ^ 64 = subst (λ (x : Core C V M). (meaning.stage x.code m).steps + 1 < 2 ^ 64) (sym view) few in omega (arith, same, here)
 
     -- the member comes to the call by the steps that it made
-    comes-here : ComesToCall whole.stands.r device
+    comes-here : ComesToCall whole.state.stands.r device
     comes-here =
-        let went = alone-run whole.stands.r.state number (term_at parts.pool number) (calm parts whole.stands seat attempt is).idle
-        (term-there parts whole.stands seat attempt is) s.steps (place_shown s) steps in
+        let went = alone-run whole.state.stands.r.state number (term_at parts.pool number) (calm parts whole.state.stands seat attempt is).idle
+        (term-there parts whole.state.stands seat attempt is) s.steps (place_shown s) steps in
         record {
           number = number;
-          inside = is-inside parts whole.stands seat attempt is;
+          inside = is-inside parts whole.state.stands seat attempt is;
           steps = s.steps;
           reached = went.reached;
           made = went.made;
@@ -231,7 +194,7 @@ module _ {C V M : Type 0} (meaning : Meaning C V M)
     call-led entries are =
         subst (λ (es : List Entry). LeadsToCall (parts_of meaning (record core { entries = es })) device) (sym are)
         (λ r there.
-        let same : whole.stands.r ≡ r = ap (λ (o : Option Replayed). unwrap_or o r) (sym whole.stands.stands.replayed ∙ there) in
+        let same : whole.state.stands.r ≡ r = ap (λ (o : Option Replayed). unwrap_or o r) (sym whole.state.stands.stands.replayed ∙ there) in
         subst (λ (x : Replayed). ComesToCall x device) same comes-here)
 
     bare : (place_shown s).prints ≡ []
@@ -255,11 +218,11 @@ module _ {C V M : Type 0} (meaning : Meaning C V M)
       visit-called : IsVisitTo parts number (Some answer) (meaning.stage core.code n) parts.memory
       visit-called =
           subst (λ (k : ℕ). IsVisitTo parts k (Some answer) (meaning.stage core.code n) parts.memory) one-number
-          (visit-is parts whole.stands seat s on visits-here.inside sound' visits-here before (Some answer) (meaning.stage core.code n) parts.memory after visits-called)
+          (visit-is parts whole.state.stands seat s on visits-here.inside sound' visits-here before (Some answer) (meaning.stage core.code n) parts.memory after visits-called)
 
       settles-called : SettlesThere (meaning.stage core.code n)
       settles-called =
-          visit-settles parts whole.stands seat s on visits-here.inside sound' visits-here before (Some answer) (meaning.stage core.code n) parts.memory after visits-called
+          visit-settles parts whole.state.stands seat s on visits-here.inside sound' visits-here before (Some answer) (meaning.stage core.code n) parts.memory after visits-called
 
       stage-is : meaning.stage core.code n ≡ replaced_by (Tree.Held (Val.Int answer)) s
       stage-is =
@@ -290,8 +253,7 @@ module _ {C V M : Type 0} (meaning : Meaning C V M)
           (sends : shown_pool (term_shown meaning.stage core.code) final
           ≡ exchanged number (meaning.stage core.code n).term (meaning.stage core.code n).inside (shown_pool (term_shown meaning.stage core.code) core.pool))
           (send-rests : meaning.is_machine core.code n → SettlesThere (meaning.stage core.code n) → All (IsAtRest meaning.is_machine meaning.stage core.code) core.pool.members
-          → All (IsAtRest meaning.is_machine meaning.stage core.code) final.members)
-          (send-good : IsGoodPool core.pool → IsGoodPool final) where
+          → All (IsAtRest meaning.is_machine meaning.stage core.code) final.members) where
         entry-so : entry ≡ free_entry seat number (meaning.stage core.code n).steps (with_answer (Some answer) (place_shown (meaning.stage core.code n)))
         entry-so =
             entry_is ∙ ap (λ (e : Entry). record e { steps = e.steps + 1; answer = Some answer }) begun_is
@@ -316,7 +278,7 @@ module _ {C V M : Type 0} (meaning : Meaning C V M)
         whole-called going =
             whole-visited meaning core core refl whole seat attempt is left' n (Some answer) changes.Stays visit-called
             0 (sym (ap (λ (xs : List Tree). length xs) none-made)) (with_room 0 core.pool) refl core.pool joined-same n final keeps-stage sends machine settles-called
-            (λ h. h) (λ h all. all) send-rests (λ h. record { rising = h.rising; few = h.few }) send-good core.memory refl tt
+            (λ h. h) (λ h all. all) send-rests core.memory refl tt
             core.output core.output [] (sym none-printed) refl (sym (append-nil core.output)) core.text core.text [] [] [] (sym none-printed) refl refl refl (sym (append-nil core.text))
             old-entries entries entry entry-so old_is pushes core.next (omega arith)
             (subst (λ (x : Core C V M). x.stop ≡ None) (sym view) going) low-called
@@ -326,7 +288,7 @@ module _ {C V M : Type 0} (meaning : Meaning C V M)
         makes-called going =
             makes-visited meaning core core refl whole seat attempt is left' n (Some answer) changes.Stays visit-called
             0 (sym (ap (λ (xs : List Tree). length xs) none-made)) (with_room 0 core.pool) refl core.pool joined-same n final keeps-stage sends machine settles-called
-            (λ h. h) (λ h all. all) send-rests (λ h. record { rising = h.rising; few = h.few }) send-good core.memory refl tt
+            (λ h. h) (λ h all. all) send-rests core.memory refl tt
             core.output core.output [] (sym none-printed) refl (sym (append-nil core.output)) core.text core.text [] [] [] (sym none-printed) refl refl refl (sym (append-nil core.text))
             old-entries entries entry entry-so old_is pushes core.next (omega arith)
             (subst (λ (x : Core C V M). x.stop ≡ None) (sym view) going) low-called

@@ -1,5 +1,5 @@
 -- A visit ends.
-use Rattle.std.proofs.Common.{◌≡◌, ℕ, ◌+◌, ◌<◌, ◌≤◌, Bool, false, List, [], ◌∷◌, ◌++◌, length, All, Option, Some, None, refl, sym, ap, ◌∙◌, subst, arith, is_some}
+use Rattle.std.proofs.Common.{◌≡◌, ℕ, ◌+◌, ◌<◌, ◌≤◌, Bool, false, List, [], ◌∷◌, ◌++◌, length, All, Option, Some, None, refl, sym, ap, ◌∙◌, subst, arith}
 use Rattle.std.specs.Prelude.{ℤ, slice_set, max}
 use Rattle.ame_io.specs.Lines.{lines}
 use Rattle.ame_io.proofs.LinesLemmas.{lines-append}
@@ -19,8 +19,6 @@ use Rattle.ame_protocol.specs.declared.types.Task.{Task}
 use Rattle.ame_protocol.specs.Engine.Parts.{Parts, task_at, attempt_of, member_of}
 use Rattle.ame_protocol.specs.Engine.Shown.{shown_memory, shown_pool}
 use Rattle.ame_protocol.specs.Engine.Tasks.{is_busy_as, Visits}
-use Rattle.ame_protocol.specs.Engine.Simulates.{Simulates}
-use Rattle.ame_protocol.specs.Engine.Alone.{RunsExclusively}
 use Rattle.ame_protocol.specs.Engine.Events.{with_newcomers}
 use Rattle.ame_protocol.proofs.Engine.StepLemmas.{seat_within}
 use Rattle.ame_protocol.proofs.Engine.GrowthLemmas.{newcomers-keep}
@@ -28,16 +26,10 @@ use Rattle.ame_protocol.proofs.Engine.ShownPoolLemmas.{exchanged-shown}
 use Rattle.ame_protocol.proofs.Engine.ToldLemmas.{next-free}
 use Rattle.ame_protocol.specs.Visits.Visit.{free_entry, has_visited}
 use Rattle.ame_protocol.proofs.Visits.PlaceLemmas.{visits}
-use Rattle.ame_protocol.proofs.Visits.VisitLemmas.{Visited, visited}
-use Rattle.ame_protocol.proofs.Visits.StandLemmas.{below-next, visit-stands}
-use Rattle.ame_protocol.proofs.Visits.AloneLemmas.{visit-alone}
-use Rattle.ame_protocol.specs.Waits.Waiting.{AreWaiting}
-use Rattle.ame_protocol.specs.Waits.Once.{AreNotedOnce}
-use Rattle.ame_protocol.proofs.Waits.VisitLemmas.{visit-waiting, visit-once}
+use Rattle.ame_protocol.proofs.Visits.StandLemmas.{below-next}
 use Rattle.ame_engine.specs.declared.engine.free.change.Change.{Change}
 use Rattle.ame_engine.specs.Core.{Core}
 use Rattle.ame_protocol.specs.Event.Counting.{Counted, one_counted}
-use Rattle.ame_protocol.specs.Event.Rollbacks.{IsGoodPool}
 use Rattle.ame_protocol.specs.Event.Event.{Event}
 use Rattle.ame_protocol.specs.Event.May.{May}
 use Rattle.ame_engine.specs.Seen.{parts_of, term_shown}
@@ -45,17 +37,11 @@ use Rattle.ame_engine.specs.Makes.{state_of, MakesAt}
 use Rattle.ame_engine.proofs.MakesLemmas.{made-event}
 use Rattle.ame_engine.specs.Whole.{resting_at, IsAtRest, IsGoodMemory, IsSound}
 use Rattle.ame_engine.specs.Visiting.{IsVisitTo, visited_at, SettlesThere, changed_by, IsGoodChange, visits_at}
-use Rattle.ame_protocol.proofs.Event.CauseLemmas.{going-cause}
-use Rattle.ame_protocol.proofs.Event.CountLemmas.{one-counts}
-use Rattle.ame_protocol.proofs.Event.LoneLemmas.{lone-left}
 use Rattle.ame_engine.proofs.MemberLemmas.{all_altered}
 use Rattle.ame_engine.proofs.CrewLemmas.{busy-told, none-told, room-used}
 use Rattle.ame_engine.proofs.VisitMemoryLemmas.{changed-good, changed-shown}
-use Rattle.ame_protocol.proofs.Bounds.ShownLemmas.{within-shown}
-use Rattle.ame_protocol.specs.Event.Bounds.{KeepsBounds}
-use Rattle.ame_protocol.proofs.Event.BoundLemmas.{visited-bounded}
-use Rattle.ame_protocol.specs.declared.stop.Stop.{Stop}
 use Rattle.ame_machine.specs.Meaning.{Meaning}
+use Rattle.ame_engine.proofs.SoundLemmas.{sound-next}
 
 -- A member goes home with no more than its term
 
@@ -106,8 +92,8 @@ module _ {C V M : Type 0} (meaning : Meaning C V M)
   left' : core.turns < core.limits.turns
   left' = subst (λ (x : Core C V M). x.turns < x.limits.turns) (sym view) left
 
-  its-visit : Visits parts whole.stands.types seat attempt
-  its-visit = visits parts whole.stands seat attempt is
+  its-visit : Visits parts whole.state.stands.types seat attempt
+  its-visit = visits parts whole.state.stands seat attempt is
 
   pub end-task : attempt_of (task_at core.tasks seat) ≡ Some attempt
   end-task = ap attempt_of is
@@ -118,7 +104,7 @@ module _ {C V M : Type 0} (meaning : Meaning C V M)
   pub end-few : seat < 32
   end-few =
       let within = end-within in
-      let tasks : length core.tasks ≡ core.limits.seats = whole.stands.bounded.tasks in
+      let tasks : length core.tasks ≡ core.limits.seats = whole.state.stands.bounded.tasks in
       let few = whole.limits.seats in omega (arith, within, tasks, few)
 
   pub end-fit : (entry : Entry) (m : M) → entry ≡ free_entry seat number (meaning.stage core.code m).steps (place_shown (meaning.stage core.code m)) → IsFit entry
@@ -144,22 +130,10 @@ module _ {C V M : Type 0} (meaning : Meaning C V M)
         subst (λ (x : Core C V M). IsVisitTo (parts_of meaning x) number answer (meaning.stage x.code m)
         (changed_by (meaning.value_of x.code) change (parts_of meaning x).memory)) (sym view) visit-now
 
-    stands-visited : Simulates (visited_at seat number answer s plain parts)
-    stands-visited =
-        subst (λ (q : LocalState). Simulates (has_visited seat number s.steps q s.inside plain parts)) visit.shows
-        (visit-stands parts whole.stands seat attempt is s.steps visit.place s.inside plain
-        (visited parts whole.stands seat attempt is s.steps visit.place s.inside plain visit.visit) left')
-
-    alone-visited : RunsExclusively (visited_at seat number answer s plain parts)
-    alone-visited =
-        subst (λ (q : LocalState). RunsExclusively (has_visited seat number s.steps q s.inside plain parts)) visit.shows
-        (visit-alone parts whole.stands whole.alone seat attempt is s.steps visit.place s.inside plain
-        (visited parts whole.stands seat attempt is s.steps visit.place s.inside plain visit.visit))
-
     -- the pool, with room for the new members
     module _ (count : ℕ) (count_is : count ≡ length s.spawns) (roomy : Roster M) (roomy_is : roomy ≡ with_room count core.pool) where
       plain-free : (i : ℕ) → core.next ≤ i → find i parts.pool.members ≡ None
-      plain-free = next-free parts whole.stands
+      plain-free = next-free parts whole.state.stands
 
       members-same : roomy.members ≡ core.pool.members
       members-same = ap (λ (p : Roster M). p.members) roomy_is
@@ -179,7 +153,7 @@ module _ {C V M : Type 0} (meaning : Meaning C V M)
 
         pub end-busy : IsAt is_busy number joined
         end-busy =
-            let below = below-next parts whole.stands seat number (ap member_of is) in
+            let below = below-next parts whole.state.stands seat number (ap member_of is) in
             busy-told (term_shown meaning.stage core.code) number joined
             (subst (IsAt (is_busy_as false) number) (sym joined-shown)
             ((newcomers-keep core.next s.spawns parts.pool plain-free number below).busy false its-visit.work.busy))
@@ -192,7 +166,6 @@ module _ {C V M : Type 0} (meaning : Meaning C V M)
             (join-rests : meaning.is_machine core.code m → All (IsAtRest meaning.is_machine meaning.stage core.code) roomy.members → All (IsAtRest meaning.is_machine meaning.stage core.code) joined.members)
             (send-rests : meaning.is_machine core.code sent → SettlesThere (meaning.stage core.code sent) → All (IsAtRest meaning.is_machine meaning.stage core.code) joined.members
             → All (IsAtRest meaning.is_machine meaning.stage core.code) final.members)
-            (join-good : IsGoodPool roomy → IsGoodPool joined) (send-good : IsGoodPool joined → IsGoodPool final)
             (memory : MemoryView V) (memory_is : memory ≡ changed_by (λ v. v) change core.memory) (good-now : IsGoodChange (meaning.is_value now.code) change)
             (printed output prints : List ℤ) (prints_are : prints ≡ s.prints) (printed_is : printed ≡ core.output) (appends : output ≡ printed ++ prints)
             (written text added bytes : List ℕ) (told : List ℤ) (told_are : told ≡ s.prints) (bytes_are : bytes ≡ lines told) (added_is : added ≡ bytes)
@@ -212,12 +185,6 @@ module _ {C V M : Type 0} (meaning : Meaning C V M)
           rests =
               send-rests (join-machine machine') (subst SettlesThere (sym kept) settles')
               (join-rests machine' (subst (λ (ms : List (Member M)). All (IsAtRest meaning.is_machine meaning.stage core.code) ms) (sym members-same) whole.members))
-
-          roomy-good : IsGoodPool (with_room count core.pool)
-          roomy-good = record { rising = whole.pool.rising; few = whole.pool.few }
-
-          good : IsGoodPool final
-          good = send-good (join-good (subst IsGoodPool (sym roomy_is) roomy-good))
 
           abbrev after : Core C V M
           after = record core {
@@ -270,50 +237,6 @@ module _ {C V M : Type 0} (meaning : Meaning C V M)
           unfolding parts-with
           visited-parts = λ i. parts-with (memory-shown i) (pool-shown i) (output-is i) (entries-are i) (next-is i)
 
-          is-visited : Visited parts whole.stands seat number s.steps visit.place s.inside plain
-          is-visited = visited parts whole.stands seat attempt is s.steps visit.place s.inside plain visit.visit
-
-          waits-visited : AreWaiting (visited_at seat number answer s plain parts)
-          waits-visited =
-              visit-waiting parts seat number (ap member_of is) its-visit.work.busy (free_entry seat number s.steps (with_answer answer (place_shown s))) refl
-              whole.stands plain s.term s.inside s.spawns (parts.output ++ s.prints) (parts.next + length s.spawns) (parts.turns + 1)
-              (λ other apart. is-visited.settles.framed other) is-visited.settles.keeps whole.waiting
-
-          once-visited : AreNotedOnce (visited_at seat number answer s plain parts)
-          once-visited =
-              visit-once parts seat number (ap member_of is) its-visit.work.busy (free_entry seat number s.steps (with_answer answer (place_shown s))) refl
-              whole.stands plain s.term s.inside s.spawns (parts.output ++ s.prints) (parts.next + length s.spawns) (parts.turns + 1) whole.once
-
-          bounded-visited : core.stop ≡ None → attempt.tried.steps ≤ s.steps
-              → KeepsBounds core.stop (one_counted Counted.Free core.counters) (visited_at seat number answer s plain parts)
-          bounded-visited none low =
-              subst (λ (q : LocalState). KeepsBounds core.stop (one_counted Counted.Free core.counters) (has_visited seat number s.steps q s.inside plain parts)) visit.shows
-              (visited-bounded parts whole.stands core.stop none (ap (λ (o : Option Stop). is_some o) none) core.counters (one_counted Counted.Free core.counters)
-              whole.bounds refl seat attempt is (within-shown (term_shown meaning.stage core.code) core.pool whole.pool.few) s.steps visit.place s.inside plain visit.visit low)
-
-          pub whole-visited : now.stop ≡ None → attempt.tried.steps ≤ (meaning.stage now.code m).steps
-              → IsSound meaning after
-          whole-visited going low = record {
-            stands = subst Simulates (sym visited-parts) stands-visited;
-            limits = whole.limits;
-            memory = subst (IsGoodMemory (meaning.is_value core.code)) (sym memory_is) (changed-good (meaning.is_value core.code) change core.memory good-change whole.memory);
-            members = rests;
-            pool = good;
-            alone = subst RunsExclusively (sym visited-parts) alone-visited;
-            lone = lone-left parts (parts_of meaning after) whole.stands core.counters (one_counted Counted.Free core.counters)
-                whole.lone seat end-within refl refl refl Task.Idle refl (λ t e. let clash : Task.Idle ≡ Task.Running t = e in cc);
-            bounds = subst (KeepsBounds core.stop (one_counted Counted.Free core.counters)) (sym visited-parts)
-                (bounded-visited (subst (λ (x : Core C V M). x.stop ≡ None) (sym view) going)
-                (subst (λ (x : Core C V M). attempt.tried.steps ≤ (meaning.stage x.code m).steps) (sym view) low));
-            waiting = subst AreWaiting (sym visited-parts) waits-visited;
-            once = subst AreNotedOnce (sym visited-parts) once-visited;
-            caused = going-cause parts (parts_of meaning after) core.stop
-                (subst (λ (x : Core C V M). x.stop ≡ None) (sym view) going) core.certificates whole.caused
-                (free_entry seat number s.steps (with_answer answer (place_shown s))) entries-are refl;
-            counters = one-counts core.turns core.counters whole.counters Counted.Free;
-            text = text-is;
-          }
-
           -- so this may be
           may-visit : now.stop ≡ None → attempt.tried.steps ≤ (meaning.stage now.code m).steps
               → May (Event.Visit seat attempt s.steps visit.place s.inside plain) (state_of meaning core)
@@ -343,3 +266,11 @@ module _ {C V M : Type 0} (meaning : Meaning C V M)
                       stop = refl;
                     });
               })
+
+          pub whole-visited : now.stop ≡ None → attempt.tried.steps ≤ (meaning.stage now.code m).steps → IsSound meaning after
+          whole-visited going low =
+              let at = makes-visited going low in
+              sound-next meaning core now after view whole
+              (visits_at seat attempt (meaning.stage now.code m) (changed_by (meaning.value_of now.code) change (parts_of meaning now).memory) at.place) at.makes
+              (subst (IsGoodMemory (meaning.is_value core.code)) (sym memory_is) (changed-good (meaning.is_value core.code) change core.memory good-change whole.memory))
+              rests text-is

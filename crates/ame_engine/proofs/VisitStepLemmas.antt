@@ -116,7 +116,7 @@ module _ {C V M : Type 0} (meaning : Meaning C V M) (same : V → V → Type 0)
   task = visits-as parts seat s on inside
 
   steps : StepsTo parts on.attempt.tried.number s.steps (place_shown s)
-  steps = visit-steps parts whole.stands seat s on inside
+  steps = visit-steps parts whole.state.stands seat s on inside
 
   stands-at : (act : Act) → HasNextAct s act → StandsAt Side.Unprotected act (place_shown s)
   stands-at act at = record { redex = at.0; stands = at.1 ∙ ap (λ (z : Side). Focus.AtRedex z at.0) (ap side_told inside); acts = at.2 }
@@ -140,11 +140,11 @@ module _ {C V M : Type 0} (meaning : Meaning C V M) (same : V → V → Type 0)
     some-shown : Reads s l → IsSome (committed parts.memory l.0)
     some-shown (inl e) =
         let c = comes_as s (Need.Read l.0) (need-there (wants.Read l) e) in
-        let met = read-met parts whole.stands seat on.attempt task s.steps (place_shown s) steps l.0 (stands-at (Act.Reads l.0) c) in
-        subst (λ (o : Option Val). IsSome o) (sym (in-place parts whole.stands l.0 met)) refl
+        let met = read-met parts whole.state.stands seat on.attempt task s.steps (place_shown s) steps l.0 (stands-at (Act.Reads l.0) c) in
+        subst (λ (o : Option Val). IsSome o) (sym (in-place parts whole.state.stands l.0 met)) refl
     some-shown (inr e) =
         let c = comes_as s (Need.Peek l.0) (need-there (wants.Peek l) e) in
-        some-there parts whole.stands l.0 (peek-met parts whole.stands seat on.attempt task s.steps (place_shown s) steps l.0 (stands-at (Act.Peeks l.0) c.1))
+        some-there parts whole.state.stands l.0 (peek-met parts whole.state.stands seat on.attempt task s.steps (place_shown s) steps l.0 (stands-at (Act.Peeks l.0) c.1))
 
     pub some-core : IsSome (committed core.memory l.0)
     some-core =
@@ -197,7 +197,7 @@ module _ {C V M : Type 0} (meaning : Meaning C V M) (same : V → V → Type 0)
 
     met : MeetsLive (heap_in parts) l.0 Sort.Unprotected
     met =
-        write-met parts whole.stands seat on.attempt task s.steps (place_shown s) steps l.0 write-need.0 (stands-at (Act.Writes l.0 write-need.0) write-need.1)
+        write-met parts whole.state.stands seat on.attempt task s.steps (place_shown s) steps l.0 write-need.0 (stands-at (Act.Writes l.0 write-need.0) write-need.1)
 
     there : IsCell (heap_in parts) l.0
     there = met.there
@@ -212,12 +212,12 @@ module _ {C V M : Type 0} (meaning : Meaning C V M) (same : V → V → Type 0)
     is-free = λ cell e.
         let is : cell_at (heap_in parts) l.0 ≡ shown_cell (meaning.value_of core.code) cell =
         get_or_from_slice_get parts.memory.cells l.0 (shown_cell (meaning.value_of core.code) cell) no_cell (shown-there cell e) in
-        sym (ap (λ (x : Cell Val). x.owner) is) ∙ free-there parts whole.stands l.0 met
+        sym (ap (λ (x : Cell Val). x.owner) is) ∙ free-there parts whole.state.stands l.0 met
 
     grows : ForSome (slice_get core.memory.cells l.0) CanGrow
     grows = λ cell e.
         all_at CanGrow parts.memory.cells l.0 (shown_cell (meaning.value_of core.code) cell) there (shown-there cell e)
-        (cells-grow parts whole.stands (let h = whole.limits.turns in omega arith))
+        (cells-grow parts whole.state.stands (let h = whole.limits.turns in omega arith))
 
     module _ (lent value : V) (lent-good : meaning.is_value core.code lent) (sets : value_to_set s ≡ Some (meaning.value_of core.code lent)) (copied : same lent value)
         (n : M) (machine : meaning.is_machine core.code n) (fed : after_input s.want Val.Unit s ≡ Some (meaning.stage core.code n)) where
@@ -272,7 +272,7 @@ module _ {C V M : Type 0} (meaning : Meaning C V M) (same : V → V → Type 0)
             visits =
                 λ told. VisitsTo.makes sort number (meaning.value_of core.code value) (meaning.stage core.code n) allocates (sets ∙ ap Some (shows core.code lent value copied)) fed-alloc;
             good = keeps core.code lent value copied lent-good;
-            fits = subst (λ (k : ℕ). k < 4294967295) cells-are (cells-few parts whole.stands whole.limits.turns);
+            fits = subst (λ (k : ℕ). k < 4294967295) cells-are (cells-few parts whole.state.stands whole.limits.turns);
             lone = λ _. none-made;
           })
 

@@ -1,5 +1,5 @@
 -- A seat writes.
-use Rattle.std.proofs.Common.{Result, Ok, ◌≡◌, ◌≢◌, ℕ, ◌+◌, ◌<◌, ◌==◌, ◌⊎◌, inl, inr, Bool, true, false, cond, [], ◌∷◌, ◌++◌, set, length, All, Option, Some, None, option_map, refl, sym, ap, ◌∙◌, subst, arith, is_some}
+use Rattle.std.proofs.Common.{Result, Ok, ◌≡◌, ◌≢◌, ℕ, ◌+◌, ◌<◌, ◌==◌, ◌⊎◌, inl, inr, Bool, true, false, cond, [], ◌∷◌, ◌++◌, set, length, All, Option, Some, None, option_map, refl, sym, ap, ◌∙◌, subst, arith}
 use Rattle.std.specs.Prelude.{slice_get, slice_set, unwrap_or}
 use Rattle.std.specs.Option.{ForSome, option_map_or}
 use Rattle.std.proofs.lemmas.List.{length-map}
@@ -38,23 +38,13 @@ use Rattle.ame_protocol.specs.declared.types.Reason.{Reason}
 use Rattle.ame_protocol.specs.declared.types.Task.{Task}
 use Rattle.ame_protocol.specs.Engine.Parts.{Parts, heap_in, task_at, attempt_of, run_in}
 use Rattle.ame_protocol.specs.Engine.Shown.{shown_memory}
-use Rattle.ame_protocol.specs.Engine.Simulates.{Simulates}
-use Rattle.ame_protocol.specs.Engine.Alone.{RunsExclusively}
 use Rattle.ame_protocol.specs.Engine.Events.{has_written}
-use Rattle.ame_protocol.proofs.Engine.AccessLemmas.{write-there, write-first_stands, write-later_stands}
+use Rattle.ame_protocol.proofs.Engine.AccessLemmas.{write-there}
 use Rattle.ame_protocol.proofs.Engine.ToldLemmas.{cells-grow}
-use Rattle.ame_protocol.proofs.Engine.AloneLemmas.{write-first_alone, write-later_alone}
 use Rattle.ame_protocol.proofs.Engine.ShownMemoryLemmas.{write-shown}
 use Rattle.ame_engine.specs.declared.answer.Wrote.{Wrote as Answer}
 use Rattle.ame_engine.specs.declared.answer.Wrote.TheVariants as answer
-use Rattle.ame_protocol.specs.Waits.Waiting.{AreWaiting}
-use Rattle.ame_protocol.specs.Waits.Once.{AreNotedOnce}
-use Rattle.ame_protocol.proofs.Waits.TaskLemmas.{first-waiting, later-waiting}
-use Rattle.ame_protocol.proofs.Waits.OnceLemmas.{once-on}
-use Rattle.ame_protocol.specs.declared.counters.Counters.{Counters}
 use Rattle.ame_engine.specs.Core.{Core}
-use Rattle.ame_protocol.specs.Event.Causes.{HasCause}
-use Rattle.ame_protocol.proofs.Event.CauseLemmas.{task-more, working-cause}
 use Rattle.ame_protocol.specs.Event.Counting.{Counted, one_counted}
 use Rattle.ame_protocol.specs.Event.Event.{Event, Reverse}
 use Rattle.ame_protocol.specs.Event.May.{May}
@@ -66,15 +56,10 @@ use Rattle.ame_engine.specs.Writing.{answer_to_write, refused_by}
 use Rattle.ame_protocol.specs.Event.Rollbacks.{MayBeRolledBack}
 use Rattle.ame_engine.proofs.MakesLemmas.{made-event}
 use Rattle.ame_engine.proofs.ReadLemmas.{row-good, runs-as, comes-to, has-come, seat-in_rows}
-use Rattle.ame_engine.proofs.CheckLemmas.{whole-back, unexhausted-apart, crowded-apart, still-rolls}
+use Rattle.ame_engine.proofs.CheckLemmas.{unexhausted-apart, still-rolls}
 use Rattle.ame_engine.proofs.RunLemmas.{can-run}
-use Rattle.ame_protocol.proofs.Event.CountLemmas.{one-counts, conflict-refused}
-use Rattle.ame_protocol.specs.Event.Lone.{IsLone}
-use Rattle.ame_protocol.proofs.Event.LoneLemmas.{write-first_lone, write-later_lone}
-use Rattle.ame_protocol.specs.Event.Bounds.{KeepsBounds}
-use Rattle.ame_protocol.proofs.Event.BoundLemmas.{first-bounded, later-bounded}
-use Rattle.ame_protocol.specs.declared.stop.Stop.{Stop}
 use Rattle.ame_machine.specs.Meaning.{Meaning}
+use Rattle.ame_engine.proofs.SoundLemmas.{sound-next}
 
 -- The location that is wanted
 
@@ -227,7 +212,7 @@ module _ {C V M : Type 0} (meaning : Meaning C V M) (same : V → V → Type 0)
   task = runs-as parts seat s on' outside'
 
   there : IsCell (heap_in parts) l.0
-  there = (write-there parts whole.stands seat on'.attempt task s.steps comes.0 l next-act.0 comes.1).0
+  there = (write-there parts whole.state.stands seat on'.attempt task s.steps comes.0 l next-act.0 comes.1).0
 
   pub write-location : l.0 < length core.memory.cells
   write-location = subst (λ (n : ℕ). l.0 < n) (length-map core.memory.cells (shown_cell (meaning.value_of core.code))) there
@@ -241,7 +226,7 @@ module _ {C V M : Type 0} (meaning : Meaning C V M) (same : V → V → Type 0)
   pub write-grows : ForSome (slice_get core.memory.cells l.0) CanGrow
   write-grows = λ cell e.
       all_at CanGrow parts.memory.cells l.0 (shown_cell (meaning.value_of core.code) cell) there (shown-there cell e)
-      (cells-grow parts whole.stands (let h = whole.limits.turns in omega arith))
+      (cells-grow parts whole.state.stands (let h = whole.limits.turns in omega arith))
 
   found : (cell : Cell V) × (slice_get core.memory.cells l.0 ≡ Some cell)
   found = get_there core.memory.cells l.0 write-location
@@ -290,61 +275,6 @@ module _ {C V M : Type 0} (meaning : Meaning C V M) (same : V → V → Type 0)
           by (inl free) = inl free
           by (inr own) = inr own
 
-      stands-by : IsFree (cell_at (heap_in parts) l.0) ⊎ IsOwnedBy seat (cell_at (heap_in parts) l.0) → Simulates (has_written seat l next-act.0 parts)
-      stands-by (inl free) = write-first_stands parts whole.stands seat on'.attempt task s.steps comes.0 left' l next-act.0 comes.1 free
-      stands-by (inr own) = write-later_stands parts whole.stands seat on'.attempt task s.steps comes.0 left' l next-act.0 comes.1 own
-
-      alone-by : IsFree (cell_at (heap_in parts) l.0) ⊎ IsOwnedBy seat (cell_at (heap_in parts) l.0) → RunsExclusively (has_written seat l next-act.0 parts)
-      alone-by (inl free) = write-first_alone parts whole.stands whole.alone seat on'.attempt task s.steps comes.0 l next-act.0 comes.1 free
-      alone-by (inr own) = write-later_alone parts whole.stands whole.alone seat on'.attempt task s.steps comes.0 l next-act.0 comes.1 own
-
-      abbrev counted : Counters
-      counted = one_counted Counted.Write core.counters
-
-      lone-by : IsFree (cell_at (heap_in parts) l.0) ⊎ IsOwnedBy seat (cell_at (heap_in parts) l.0) → IsLone (has_written seat l next-act.0 parts) counted
-      lone-by (inl free) =
-          write-first_lone parts whole.stands core.counters counted whole.lone refl refl seat on'.attempt task s.steps comes.0 l next-act.0 comes.1 free
-      lone-by (inr own) =
-          write-later_lone parts whole.stands core.counters counted whole.lone refl refl seat on'.attempt task s.steps comes.0 l next-act.0 comes.1 own
-
-      waiting-by : IsFree (cell_at (heap_in parts) l.0) ⊎ IsOwnedBy seat (cell_at (heap_in parts) l.0) → AreWaiting (has_written seat l next-act.0 parts)
-      waiting-by (inl free) = first-waiting parts whole.stands seat on'.attempt task whole.waiting s.steps comes.0 l next-act.0 comes.1 free
-      waiting-by (inr own) = later-waiting parts whole.stands seat on'.attempt task whole.waiting s.steps comes.0 l next-act.0 comes.1 own
-
-      bounded-by : core.stop ≡ None → s.since < core.limits.slice → IsFree (cell_at (heap_in parts) l.0) ⊎ IsOwnedBy seat (cell_at (heap_in parts) l.0)
-          → KeepsBounds core.stop counted (has_written seat l next-act.0 parts)
-      bounded-by none early (inl free) =
-          first-bounded parts whole.stands core.stop none (ap (λ (o : Option Stop). is_some o) none) core.counters counted whole.bounds refl seat on'.attempt task
-          s.steps comes.0 (let since = on'.since in omega arith) l next-act.0 comes.1 free
-      bounded-by none early (inr own) =
-          later-bounded parts whole.stands core.stop none (ap (λ (o : Option Stop). is_some o) none) core.counters counted whole.bounds refl seat on'.attempt task
-          s.steps comes.0 (let since = on'.since in omega arith) l next-act.0 comes.1 own
-
-      pub whole-written : now.stop ≡ None → (meaning.stage now.code m).since < now.limits.slice → IsSound meaning after
-      whole-written going early = record {
-        stands = subst Simulates (sym parts-written) (subst (λ (v : Val). Simulates (has_written seat l v parts)) value-is (stands-by owned));
-        limits = whole.limits;
-        memory = subst (IsGoodMemory (meaning.is_value core.code)) (sym is) (memory-good (meaning.is_value core.code) seat l value input value-good input-good core.memory write-location whole.memory);
-        members = whole.members;
-        pool = whole.pool;
-        alone = subst RunsExclusively (sym parts-written) (subst (λ (v : Val). RunsExclusively (has_written seat l v parts)) value-is (alone-by owned));
-        lone = subst (λ (x : Parts). IsLone x counted) (sym parts-written)
-            (subst (λ (v : Val). IsLone (has_written seat l v parts) counted) value-is (lone-by owned));
-        bounds =
-            let none : core.stop ≡ None = subst (λ (x : Core C V M). x.stop ≡ None) (sym view) going in
-            let soon : s.since < core.limits.slice = subst (λ (x : Core C V M). (meaning.stage x.code m).since < x.limits.slice) (sym view) early in
-            subst (λ (x : Parts). KeepsBounds core.stop counted x) (sym parts-written)
-            (subst (λ (v : Val). KeepsBounds core.stop counted (has_written seat l v parts)) value-is (bounded-by none soon owned));
-        waiting = subst AreWaiting (sym parts-written) (subst (λ (v : Val). AreWaiting (has_written seat l v parts)) value-is (waiting-by owned));
-        once = subst AreNotedOnce (sym parts-written)
-            (once-on parts (has_written seat l (meaning.value_of core.code value) parts) refl (λ i some. some) whole.once);
-        caused = subst (HasCause core.stop core.certificates) (sym parts-written)
-            (working-cause parts (has_written seat l (meaning.value_of core.code value) parts)
-            (task-more parts whole.stands seat on'.attempt (ap attempt_of task)) (record { program = refl; base = refl; entries = refl }) left' core.stop core.certificates whole.caused);
-        counters = one-counts core.turns core.counters whole.counters Counted.Write;
-        text = whole.text;
-      }
-
       -- so the seat may write
       may-write : now.stop ≡ None → (meaning.stage now.code m).since < now.limits.slice → May (Event.Write seat l (meaning.value_of core.code value)) (state_of meaning core)
       may-write going early = subst (λ (v : Val). May (Event.Write seat l v) (state_of meaning core)) value-is (
@@ -354,6 +284,12 @@ module _ {C V M : Type 0} (meaning : Meaning C V M) (same : V → V → Type 0)
         owned,
       )
 
+      makes-it : now.stop ≡ None → (meaning.stage now.code m).since < now.limits.slice → Makes meaning (Event.Write seat l (meaning.value_of core.code value)) now after
+      makes-it going early =
+          subst (λ (x : Core C V M). Makes meaning (Event.Write seat l (meaning.value_of core.code value)) x after) view
+          (made-event meaning (one_counted Counted.Write) (has_written seat l (meaning.value_of core.code value)) (Event.Write seat l (meaning.value_of core.code value))
+          core after refl refl (may-write going early) (record { code = refl; parts = parts-written; counted = refl; stop = refl }))
+
       pub makes-written : now.stop ≡ None → (meaning.stage now.code m).since < now.limits.slice
           → (k : Loc) (v : Val) → (meaning.stage now.code m).want ≡ Some (wants.Write k) → value_to_set (meaning.stage now.code m) ≡ Some v
           → Makes meaning (Event.Write seat k v) now after
@@ -362,13 +298,18 @@ module _ {C V M : Type 0} (meaning : Meaning C V M) (same : V → V → Type 0)
           subst (λ (x : Core C V M). value_to_set (meaning.stage x.code m) ≡ Some (meaning.value_of core.code value)) view (sets ∙ ap Some (shows core.code lent value copied)) in
           let one : meaning.value_of core.code value ≡ v = ap (λ (o : Option Val). unwrap_or o v) (sym sets-now ∙ set) in
           subst (λ (x : Val). Makes meaning (Event.Write seat k x) now after) one
-          (subst (λ (x : Loc). Makes meaning (Event.Write seat x (meaning.value_of core.code value)) now after) (write-same l k (meaning.stage now.code m).want wants-it e)
-          (subst (λ (x : Core C V M). Makes meaning (Event.Write seat l (meaning.value_of core.code value)) x after) view
-          (made-event meaning (one_counted Counted.Write) (has_written seat l (meaning.value_of core.code value)) (Event.Write seat l (meaning.value_of core.code value))
-          core after refl refl (may-write going early) (record { code = refl; parts = parts-written; counted = refl; stop = refl }))))
+          (subst (λ (x : Loc). Makes meaning (Event.Write seat x (meaning.value_of core.code value)) now after)
+          (write-same l k (meaning.stage now.code m).want wants-it e) (makes-it going early))
+
+      pub whole-written : now.stop ≡ None → (meaning.stage now.code m).since < now.limits.slice → IsSound meaning after
+      whole-written going early =
+          sound-next meaning core now after view whole (Event.Write seat l (meaning.value_of core.code value)) (makes-it going early)
+          (subst (IsGoodMemory (meaning.is_value core.code)) (sym is)
+          (memory-good (meaning.is_value core.code) seat l value input value-good input-good core.memory write-location whole.memory))
+          whole.members whole.text
 
       pub runs-written : now.stop ≡ None → (meaning.stage now.code m).since < now.limits.slice → (t : MachineView) → IsOnSeat (parts_of meaning after) seat t → t.inside ≡ false → CanRun t
-      runs-written going early t stands out = can-run (parts_of meaning after) (whole-written going early).stands seat t stands out
+      runs-written going early t stands out = can-run (parts_of meaning after) (whole-written going early).state.stands seat t stands out
 
       pub answer-written : (k : Loc) → (meaning.stage now.code m).want ≡ Some (wants.Write k)
           → answer.Wrote ≡ answer_to_write seat (cell_at (heap_in (parts_of meaning now)) k.0).owner
@@ -399,13 +340,6 @@ module _ {C V M : Type 0} (meaning : Meaning C V M) (same : V → V → Type 0)
           unexhausted-apart meaning core now view whole seat m on outside left attempt runs l.0 owner
           (ap (λ (c : Cell Val). c.owner) found-is ∙ other.0) other.1
 
-      -- and the seat isn't the only one
-      crowded : core.limits.seats ≡ 1 → ⊥
-      crowded =
-          let other = conflict-cell seat value found.0 owner refused in
-          crowded-apart meaning core now view whole seat m on outside left attempt runs l.0 owner
-          (ap (λ (c : Cell Val). c.owner) found-is ∙ other.0) other.1
-
       pub rolls-conflict : (a : Attempt) → task_at now.tasks seat ≡ Task.Running a → MayBeRolledBack a.tried.number now.pool
       rolls-conflict a e =
           subst (λ (x : Attempt). MayBeRolledBack x.tried.number now.pool) (its-attempt a e)
@@ -427,13 +361,6 @@ module _ {C V M : Type 0} (meaning : Meaning C V M) (same : V → V → Type 0)
         counters = one_counted Counted.Conflict core.counters;
       }
 
-      pub whole-conflict : now.stop ≡ None → IsSound meaning after-conflict
-      unfolding with-memory
-      whole-conflict going = subst (λ (d : MemoryView V). IsSound meaning (with-memory d)) (sym memory-stays)
-          (whole-back meaning core now view whole seat m on outside left attempt runs
-          (one_counted Counted.Conflict core.counters) (one-counts core.turns core.counters whole.counters Counted.Conflict)
-          (conflict-refused core.counters) going (λ still exhausted. unexhausted exhausted) crowded)
-
       -- so the seat may turn back
       may-turn : now.stop ≡ None → May (Event.TurnBack seat attempt (Reverse.Met l owner)) (state_of meaning core)
       may-turn going =
@@ -443,19 +370,27 @@ module _ {C V M : Type 0} (meaning : Meaning C V M) (same : V → V → Type 0)
             (ap (λ (c : Cell Val). c.owner) found-is ∙ other.0, other.1),
           )
 
+      makes-back : now.stop ≡ None → Makes meaning (Event.TurnBack seat attempt (Reverse.Met l owner)) now after-conflict
+      unfolding with-memory
+      makes-back going =
+          subst (λ (x : Core C V M). Makes meaning (Event.TurnBack seat attempt (Reverse.Met l owner)) x after-conflict) view
+          (subst (λ (d : MemoryView V). Makes meaning (Event.TurnBack seat attempt (Reverse.Met l owner)) core (with-memory d)) (sym memory-stays)
+          (record { code = refl; may = may-turn going; state = refl }))
+
       pub makes-conflict : now.stop ≡ None → (k : Loc) (a : Attempt) → (meaning.stage now.code m).want ≡ Some (wants.Write k) → task_at now.tasks seat ≡ Task.Running a
           → (other : ℕ) → owner ≡ other → Makes meaning (Event.TurnBack seat a (Reverse.Met k other)) now after-conflict
-      unfolding with-memory
       makes-conflict going k a e runs-it other one =
           subst (λ (n : ℕ). Makes meaning (Event.TurnBack seat a (Reverse.Met k n)) now after-conflict) one
           (subst (λ (x : Loc). Makes meaning (Event.TurnBack seat a (Reverse.Met x owner)) now after-conflict) (write-same l k (meaning.stage now.code m).want wants-it e)
-          (subst (λ (x : Attempt). Makes meaning (Event.TurnBack seat x (Reverse.Met l owner)) now after-conflict) (its-attempt a runs-it)
-          (subst (λ (x : Core C V M). Makes meaning (Event.TurnBack seat attempt (Reverse.Met l owner)) x after-conflict) view
-          (subst (λ (d : MemoryView V). Makes meaning (Event.TurnBack seat attempt (Reverse.Met l owner)) core (with-memory d)) (sym memory-stays)
-          (record { code = refl; may = may-turn going; state = refl })))))
+          (subst (λ (x : Attempt). Makes meaning (Event.TurnBack seat x (Reverse.Met l owner)) now after-conflict) (its-attempt a runs-it) (makes-back going)))
+
+      pub whole-conflict : now.stop ≡ None → IsSound meaning after-conflict
+      whole-conflict going =
+          sound-next meaning core now after-conflict view whole (Event.TurnBack seat attempt (Reverse.Met l owner)) (makes-back going)
+          (subst (IsGoodMemory (meaning.is_value core.code)) (sym memory-stays) whole.memory) whole.members whole.text
 
       pub runs-conflict : now.stop ≡ None → (t : MachineView) → IsOnSeat (parts_of meaning after-conflict) seat t → t.inside ≡ false → CanRun t
-      runs-conflict going t stands out = can-run (parts_of meaning after-conflict) (whole-conflict going).stands seat t stands out
+      runs-conflict going t stands out = can-run (parts_of meaning after-conflict) (whole-conflict going).state.stands seat t stands out
 
       pub answer-conflict : (k : Loc) → (meaning.stage now.code m).want ≡ Some (wants.Write k)
           → answer.Conflict owner ≡ answer_to_write seat (cell_at (heap_in (parts_of meaning now)) k.0).owner

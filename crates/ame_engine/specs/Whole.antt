@@ -8,19 +8,11 @@ use Rattle.ame_pool.specs.declared.member.Member.{Member}
 use Rattle.ame_rows.specs.MemoryView.{Log, MemoryView}
 use Rattle.ame_machine.specs.MachineView.{MachineView, starting_at}
 use Rattle.ame_protocol.specs.declared.types.Limits.{Limits}
-use Rattle.ame_protocol.specs.Engine.Simulates.{Simulates}
-use Rattle.ame_protocol.specs.Engine.Alone.{RunsExclusively}
-use Rattle.ame_protocol.specs.Waits.Waiting.{AreWaiting}
-use Rattle.ame_protocol.specs.Waits.Once.{AreNotedOnce}
-use Rattle.ame_protocol.specs.Event.Counting.{CountsTurns}
 use Rattle.ame_engine.specs.Core.{Core}
-use Rattle.ame_engine.specs.Seen.{parts_of}
-use Rattle.ame_protocol.specs.Event.Rollbacks.{IsGoodPool}
 use Rattle.ame_engine.specs.Places.{HasPlacesFor}
-use Rattle.ame_protocol.specs.Event.Causes.{HasCause}
-use Rattle.ame_protocol.specs.Event.Lone.{IsLone}
-use Rattle.ame_protocol.specs.Event.Bounds.{KeepsBounds}
 use Rattle.ame_machine.specs.Meaning.{Meaning}
+use Rattle.ame_protocol.specs.Event.Sound.{Sound}
+use Rattle.ame_engine.specs.Makes.{state_of}
 
 -- the limits of an engine
 pub record AreLimits (limits : Limits) : Type 0 where
@@ -58,24 +50,13 @@ module _ {C M : Type 0} (is_machine : C → M → Type 0) (stage : C → M → M
     pub rests : stage code m.machine ≡ resting_at (stage code m.machine).term m.inside
 
 module _ {C V M : Type 0} (meaning : Meaning C V M) where
-  -- The plain parts stand for the state to which the journal leads, the limits are in range, each value in the memory is one of
-  -- the code, and the members' machines are at rest. No member was rolled back more often than it may be, and one that was so
-  -- as often runs alone. With one seat nothing is met that another seat did. Rollbacks and tries are few, and the turns are
-  -- paid. Who waits has a note that tells so, and none is noted twice without a commit between. A kept stop has its cause. Each
-  -- turn is counted by its kind, and the text is the lines of the output.
+  -- The state is sound: what each event keeps. The limits are in range, each value in the memory is one of the code, the members'
+  -- machines are at rest, and the text is the lines of the output.
   pub record IsSound (core : Core C V M) : Type 0 where
-    pub stands : Simulates (parts_of meaning core)
+    pub state : Sound (state_of meaning core)
     pub limits : AreLimits core.limits
     pub memory : IsGoodMemory (meaning.is_value core.code) core.memory
     pub members : All (IsAtRest meaning.is_machine meaning.stage core.code) core.pool.members
-    pub pool : IsGoodPool core.pool
-    pub alone : RunsExclusively (parts_of meaning core)
-    pub lone : IsLone (parts_of meaning core) core.counters
-    pub bounds : KeepsBounds core.stop core.counters (parts_of meaning core)
-    pub waiting : AreWaiting (parts_of meaning core)
-    pub once : AreNotedOnce (parts_of meaning core)
-    pub caused : HasCause core.stop core.certificates (parts_of meaning core)
-    pub counters : CountsTurns core.turns core.counters
     pub text : core.text ≡ lines core.output
 
   -- What each engine keeps besides, which contracts don't see: the list of so many tries has free places for those that may follow.

@@ -4,7 +4,6 @@ pub mod FewLemmas
 pub mod FewEvents
 pub mod FewEntries
 pub mod FewBounds
-pub mod ShownLemmas
 pub mod InputLemmas
 pub mod PaidLemmas
 pub mod PaidEvents

@@ -8,6 +8,7 @@ ghost use Rattle.ame_pool.specs.Members.{IsRising, is_busy};
 ghost use Rattle.ame_pool.specs.Standings.{max_rollbacks};
 ghost use Rattle.ame_protocol.specs.Engine.Simulates.{Simulates};
 ghost use Rattle.ame_protocol.specs.Engine.Alone.{RunsExclusively};
+ghost use Rattle.ame_protocol.specs.Event.Seated.{AreSeated};
 ghost use Rattle.ame_engine.specs.Seen.{parts_of};
 
 use super::Engine;
@@ -30,6 +31,13 @@ where
         ensures few { All (λ m. m.rollbacks ≤ max_rollbacks) self.now.pool.members }
         ensures alone { RunsExclusively (parts_of M.meaning self.now) }
         ensures rising { IsRising self.now.pool.members }
+    {
+        let _ = &self.turns;
+    }
+
+    /// In each engine each busy member is one that a seat has at work.
+    pub fn busy_members_are_seated(&self)
+        ensures { AreSeated (parts_of M.meaning self.now) }
     {
         let _ = &self.turns;
     }

@@ -1,5 +1,5 @@
 -- An exhausted member runs alone: the events that change tasks.
-use Rattle.std.proofs.Common.{◌≡◌, ℕ, ◌+◌, ◌<◌, ◌==◌, ◌⊎◌, ◌||◌, inl, inr, Bool, true, false, List, set, length, replicate, Option, Some, None, IsTrue, refl, sym, ap, ◌∙◌, subst, arith}
+use Rattle.std.proofs.Common.{◌≡◌, ℕ, ◌+◌, ◌<◌, ◌==◌, ◌⊎◌, ◌||◌, inl, inr, Bool, true, false, List, set, length, Option, Some, None, IsTrue, refl, sym, ap, ◌∙◌, subst, arith}
 use Rattle.std.specs.Prelude.{option_map, unwrap_or, if◌then◌else◌}
 use Rattle.std.proofs.lemmas.List.Elements.{All-nil}
 use Rattle.ame_term.specs.Tree.{Val, Tree}
@@ -18,7 +18,6 @@ use Rattle.ame_machine.specs.Run.Local.{LocalState}
 use Rattle.ame_rows.specs.LettingGo.{undone_last}
 use Rattle.ame_protocol.specs.Row.SeatRun.{HasUsed, AreValid, IsValidNote}
 use Rattle.ame_protocol.proofs.Row.CellLemmas.{which}
-use Rattle.ame_protocol.specs.declared.types.Limits.{Limits}
 use Rattle.ame_protocol.specs.declared.types.Attempt.{Attempt}
 use Rattle.ame_protocol.specs.declared.types.Reason.{Reason}
 use Rattle.ame_protocol.specs.declared.types.Task.{Task}
@@ -26,11 +25,10 @@ use Rattle.ame_protocol.specs.Engine.Parts.{Parts, heap_in, task_at, attempt_of,
 use Rattle.ame_protocol.specs.Engine.Tasks.{is_busy_as, is_noted_for, MeetsTask}
 use Rattle.ame_protocol.specs.Engine.Simulates.{Simulates}
 use Rattle.ame_protocol.specs.Engine.Alone.{is_of_protected, IsExhausted, RunsExclusively}
-use Rattle.ame_protocol.specs.Engine.Events.{started, fresh_attempt, begun_task, checked_attempt, has_begun, has_checked, has_stopped, has_undone, has_gone_home, brought_home}
+use Rattle.ame_protocol.specs.Engine.Events.{fresh_attempt, begun_task, checked_attempt, has_begun, has_checked, has_stopped, has_undone, has_gone_home, brought_home}
 use Rattle.ame_protocol.specs.Engine.Events.{woken_for, with_newcomers, with_commit, has_ended, has_left}
 use Rattle.ame_protocol.proofs.Engine.PoolLemmas.{found-at, at-found, inside-told}
 use Rattle.ame_protocol.proofs.Engine.StepLemmas.{seat_within, task_here, task_else}
-use Rattle.ame_protocol.proofs.Engine.StartLemmas.{task-idle}
 use Rattle.ame_protocol.proofs.Engine.GrowthLemmas.{rollbacks_of, keeps-on, woken-keeps, IsFreeFrom, woken-free, newcomers-keep, woken-rising, newcomers-rising}
 use Rattle.ame_protocol.proofs.Engine.HomeLemmas.{gone_parts, home-found}
 use Rattle.ame_protocol.proofs.Engine.CommitLemmas.{free-next, below-next}
@@ -38,15 +36,16 @@ use Rattle.ame_protocol.proofs.Engine.BeginLemmas.{Begins, oldest-begins, begins
 
 -- Start and stop
 
-pub start-alone : (program : Tree) (devices : ℕ) (limits : Limits) (room : ℕ) → RunsExclusively (started program devices limits room)
-start-alone program devices limits room = record {
-  alone = λ k other t exhausted. absurd (nobody k exhausted.task);
+-- where each seat is idle
+pub rest-alone : (parts : Parts) → ((seat : ℕ) → task_at parts.tasks seat ≡ Task.Idle) → RunsExclusively parts
+rest-alone parts idle = record {
+  alone = λ k other t exhausted e. absurd (nobody k exhausted.task);
   running = λ going k t exhausted. absurd (nobody k exhausted.task);
   valid = λ going k t exhausted. absurd (nobody k exhausted.task);
 }
   where
-    nobody : (k : ℕ) → is_of_protected (task_at (replicate limits.seats Task.Idle) k) ≡ true → ⊥
-    nobody k e = let clash : false ≡ true = sym (ap is_of_protected (task-idle limits.seats k)) ∙ e in cc
+    nobody : (k : ℕ) → is_of_protected (task_at parts.tasks k) ≡ true → ⊥
+    nobody k e = let clash : false ≡ true = sym (ap is_of_protected (idle k)) ∙ e in cc
 
 pub stop-alone : (parts : Parts) → RunsExclusively parts → RunsExclusively (has_stopped parts)
 stop-alone parts a = record {

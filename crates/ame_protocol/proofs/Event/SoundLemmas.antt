@@ -1,5 +1,5 @@
 -- A state that has just started is sound, and stays so after each event.
-use Rattle.std.proofs.Common.{IsSomeAnd, IsTrue, List, None, Some, [], arith, false, refl, true, ℕ, ◌<◌, ◌≡◌, ◌≤◌, All, Option, sym, ap, ◌∙◌, subst, option_and_then}
+use Rattle.std.proofs.Common.{IsSomeAnd, IsTrue, List, None, Some, [], arith, false, refl, true, ℕ, ◌<◌, ◌≡◌, ◌≤◌, All, Option, sym, subst, option_and_then}
 use Rattle.std.proofs.lemmas.List.Elements.{All-cons, All-nil}
 use Rattle.ame_term.specs.SourceTerm.{IsSourceTerm}
 use Rattle.ame_term.specs.Tree.{Tree, Typ}
@@ -34,11 +34,12 @@ use Rattle.ame_rows.specs.MemoryView.{row_at, no_log}
 use Rattle.ame_protocol.specs.Engine.Parts.{Parts, task_at}
 use Rattle.ame_protocol.specs.declared.types.Task.{Task}
 use Rattle.ame_protocol.specs.Engine.Simulates.{Simulates}
-use Rattle.ame_protocol.specs.Engine.Alone.{is_of_protected}
 use Rattle.ame_protocol.specs.Waits.Once.{AreNotedOnce}
 use Rattle.ame_protocol.specs.Waits.Waiting.{watch_list, watched_by}
 use Rattle.ame_protocol.specs.Event.Rollbacks.{IsGoodPool}
 use Rattle.ame_protocol.proofs.Event.SeatedLemmas.{seated-none}
+use Rattle.ame_protocol.proofs.Engine.AloneEvents.{rest-alone}
+use Rattle.ame_protocol.proofs.Waits.TaskLemmas.{nobody-waiting}
 
 -- Where each seat is idle and each member ready, nothing was counted yet, and no entry was added
 
@@ -46,9 +47,6 @@ module _ (parts : Parts) (stands : Simulates parts) (pool : IsGoodPool parts.poo
     (idle : (seat : ℕ) → task_at parts.tasks seat ≡ Task.Idle) (clear : (seat : ℕ) → row_at parts.memory.rows seat ≡ no_log)
     (ready : All (λ m. IsTrue (is_ready m)) parts.pool.members) (unused : parts.turns ≡ 0) (untried : parts.tried ≡ []) (untold : parts.entries ≡ [])
     (going : parts.stopped ≡ false) where
-  nobody : (k : ℕ) → is_of_protected (task_at parts.tasks k) ≡ true → ⊥
-  nobody k e = let clash : false ≡ true = sym (ap is_of_protected (idle k)) ∙ e in cc
-
   ready-found : (i : ℕ) (m : Member Tree) → find i parts.pool.members ≡ Some m → IsTrue (is_ready m)
   ready-found i m e = find_passes (λ (x : Member Tree). IsTrue (is_ready x)) i parts.pool.members ready m e
 
@@ -81,14 +79,10 @@ module _ (parts : Parts) (stands : Simulates parts) (pool : IsGoodPool parts.poo
     stopped = going;
     stands = stands;
     pool = pool;
-    alone = record {
-      alone = λ k other t exhausted e. absurd (nobody k exhausted.task);
-      running = λ still k t exhausted. absurd (nobody k exhausted.task);
-      valid = λ still k t exhausted. absurd (nobody k exhausted.task);
-    };
+    alone = rest-alone parts idle;
     lone = lone-idle parts nothing_counted idle (record { conflicts = refl; invalids = refl });
     bounds = idle-bounded parts nothing_counted refl untried slice unused idle clear;
-    waiting = record { failed = λ i ws e. absurd (let clash : ◌≡◌ {A = Option (List ℕ)} None (Some ws) = sym (none-waits i) ∙ e in cc) };
+    waiting = nobody-waiting parts none-waits;
     once = once;
     caused = started-cause parts untold;
     counters = subst (λ (n : ℕ). CountsTurns n nothing_counted) (sym unused) none-counted;

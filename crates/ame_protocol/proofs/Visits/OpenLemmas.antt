@@ -32,10 +32,11 @@ use Rattle.ame_protocol.specs.Engine.Logged.{heap_of}
 use Rattle.ame_protocol.specs.Engine.Parts.{Parts, task_at, member_of}
 use Rattle.ame_protocol.specs.Engine.Tasks.{IsSoundIn, MeetsTask}
 use Rattle.ame_protocol.specs.Engine.Simulates.{HasFewChanges, Simulates}
-use Rattle.ame_protocol.specs.Engine.Alone.{is_of_protected, RunsExclusively}
+use Rattle.ame_protocol.specs.Engine.Alone.{RunsExclusively}
 use Rattle.ame_protocol.proofs.Engine.MemoryLemmas.{memory-committed}
 use Rattle.ame_protocol.proofs.Engine.StartLemmas.{task-idle}
 use Rattle.ame_protocol.specs.Visits.Opened.{opened, cell_of, stored_in, AreOpened, HasMembersOf}
+use Rattle.ame_protocol.proofs.Engine.AloneEvents.{rest-alone}
 
 row-clear : (n seat : ℕ) → ◌≡◌ {A = Log Val} (row_at (replicate n no_log) seat) no_log
 row-clear zero seat = refl
@@ -176,11 +177,5 @@ module _ (program : Tree) (devices : ℕ) (limits : Limits) (base : List Entry) 
 
 pub opened-alone : (program : Tree) (devices : ℕ) (limits : Limits) (base : List Entry) (cells : List (Cell Val)) (pool : Roster Tree)
     (output : List ℤ) (next : ℕ) → RunsExclusively (opened program devices limits base cells pool output next)
-opened-alone program devices limits base cells pool output next = record {
-  alone = λ k other t exhausted e. absurd (nobody k exhausted.task);
-  running = λ going k t exhausted. absurd (nobody k exhausted.task);
-  valid = λ going k t exhausted. absurd (nobody k exhausted.task);
-}
-  where
-    nobody : (k : ℕ) → is_of_protected (task_at (replicate limits.seats Task.Idle) k) ≡ true → ⊥
-    nobody k e = let clash : false ≡ true = sym (ap is_of_protected (task-idle limits.seats k)) ∙ e in cc
+opened-alone program devices limits base cells pool output next =
+    rest-alone (opened program devices limits base cells pool output next) (task-idle limits.seats)

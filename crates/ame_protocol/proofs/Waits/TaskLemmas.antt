@@ -1,5 +1,5 @@
 -- Members that wait: start, begin, reads, writes, allocations, checks, notes, and a stop.
-use Rattle.std.proofs.Common.{◌≡◌, ℕ, ◌+◌, ◌<◌, ◌==◌, ◌⊎◌, inl, inr, Bool, true, false, cond, List, [], ◌∷◌, ◌++◌, set, length, Option, Some, None, append_assoc, refl, sym, ap, ◌∙◌, subst, arith}
+use Rattle.std.proofs.Common.{◌≡◌, ℕ, ◌+◌, ◌<◌, ◌⊎◌, inl, inr, true, false, List, [], ◌∷◌, ◌++◌, set, length, Option, Some, None, append_assoc, refl, sym, ap, ◌∙◌, subst, arith}
 use Rattle.std.specs.Prelude.{option_map}
 use Rattle.std.proofs.lemmas.Bool.{eq-eqb, ne_eqb}
 use Rattle.ame_term.specs.Tree.{Val, Tree}
@@ -13,7 +13,7 @@ use Rattle.ame_pool.specs.declared.member.Member.{Member}
 use Rattle.ame_pool.specs.Members.{find}
 use Rattle.ame_pool.specs.Found.{IsFoundAfter}
 use Rattle.ame_pool.specs.Roster.{Roster}
-use Rattle.ame_pool.specs.Calls.{IsAt, newcomer, begun, held, noted_on, noted}
+use Rattle.ame_pool.specs.Calls.{IsAt, begun, held, noted_on, noted}
 use Rattle.ame_pool.specs.Keeps.{is_inside_at}
 use Rattle.ame_pool.proofs.MemberLemmas.{found_altered}
 use Rattle.ame_store.specs.declared.cell.Cell.{Cell}
@@ -30,7 +30,6 @@ use Rattle.ame_protocol.specs.Row.Waiting.{read_places, IsWaiting}
 use Rattle.ame_protocol.proofs.Row.CellLemmas.{which}
 use Rattle.ame_protocol.proofs.Row.EventLemmas.{taken-framed, again-framed, new-framed}
 use Rattle.ame_protocol.proofs.Row.WaitingLemmas.{waits}
-use Rattle.ame_protocol.specs.declared.types.Limits.{Limits}
 use Rattle.ame_protocol.specs.declared.types.Attempt.{Attempt}
 use Rattle.ame_protocol.specs.declared.types.Reason.{Reason}
 use Rattle.ame_protocol.specs.declared.types.Task.{Task}
@@ -38,7 +37,7 @@ use Rattle.ame_protocol.specs.Engine.Logged.{heap_of, read_by}
 use Rattle.ame_protocol.specs.Engine.Parts.{Parts, whole_journal, heap_in, task_at, attempt_of, member_of, run_in}
 use Rattle.ame_protocol.specs.Engine.Tasks.{is_busy_as, RunsProtected}
 use Rattle.ame_protocol.specs.Engine.Simulates.{Simulates}
-use Rattle.ame_protocol.specs.Engine.Events.{started, fresh_attempt, begun_task, has_begun, has_read, has_written, has_allocated, has_stopped}
+use Rattle.ame_protocol.specs.Engine.Events.{fresh_attempt, begun_task, has_begun, has_read, has_written, has_allocated, has_stopped}
 use Rattle.ame_protocol.proofs.Engine.MemoryEvents.{read-heap, write-first, write-later, write-committed, allocation-becomes, allocation-committed}
 use Rattle.ame_protocol.proofs.Engine.PoolLemmas.{found-machine, found-at, machines-stay}
 use Rattle.ame_protocol.proofs.Engine.StepLemmas.{seat_within, task_here, task_else}
@@ -56,13 +55,6 @@ pub nobody-waiting : (parts : Parts) → ((i : ℕ) → watched_by i parts.pool 
 nobody-waiting parts none = record {
   failed = λ i ws e. absurd (let clash : ◌≡◌ {A = Option (List ℕ)} None (Some ws) = sym (none i) ∙ e in cc);
 }
-
-pub start-waiting : (program : Tree) (devices : ℕ) (limits : Limits) (room : ℕ) → AreWaiting (started program devices limits room)
-start-waiting program devices limits room = record { failed = λ i ws e. absurd (by i ws (0 == i) e) }
-  where
-    by : (i : ℕ) (ws : List ℕ) (b : Bool) → watched-of (cond b (Some (newcomer 0 program false)) None) ≡ Some ws → ⊥
-    by i ws true e = let clash : ◌≡◌ {A = Option (List ℕ)} None (Some ws) = e in cc
-    by i ws false e = let clash : ◌≡◌ {A = Option (List ℕ)} None (Some ws) = e in cc
 
 pub stop-waiting : (parts : Parts) → AreWaiting parts → AreWaiting (has_stopped parts)
 stop-waiting parts a = record {

@@ -6,7 +6,6 @@ ghost use Rattle.ame_pool.specs.Calls.{IsAt, exchanged, removed};
 ghost use Rattle.ame_machine.specs.declared.wants.Wants.{Wants};
 ghost use Rattle.ame_protocol.specs.Engine.Shown.{shown_pool};
 ghost use Rattle.ame_protocol.specs.Engine.Events.{with_newcomers};
-ghost use Rattle.ame_protocol.specs.Event.Rollbacks.{IsGoodPool};
 ghost use Rattle.ame_engine.specs.Seen.{term_shown};
 ghost use Rattle.ame_engine.specs.Whole.{IsAtRest};
 ghost use Rattle.ame_protocol.specs.Engine.Events.{woken_for};
@@ -41,7 +40,6 @@ pub(crate) fn join_all<M: Runner>(
         ≡ with_newcomers first (M.meaning.stage code at.old).spawns (shown_pool (term_shown M.meaning.stage code) pool.old) }
     ensures rests { (code : M.Code) → M.meaning.is_machine code at.old → All (IsAtRest M.meaning.is_machine M.meaning.stage code) pool.old.members
         → All (IsAtRest M.meaning.is_machine M.meaning.stage code) pool.new.members }
-    ensures good { IsGoodPool pool.old → IsGoodPool pool.new }
     ensures machine { (code : M.Code) → M.meaning.is_machine code at.old → M.meaning.is_machine code at.new }
     ensures stage { (code : M.Code) → M.meaning.stage code at.new ≡ record (M.meaning.stage code at.old) { spawns = [] } }
 {
@@ -60,7 +58,6 @@ pub(crate) fn send_on<M: Runner>(pool: &mut Pool<M>, number: u64, mut at: M)
         ≡ exchanged number (M.meaning.stage code at).term true (shown_pool (term_shown M.meaning.stage code) pool.old) }
     ensures rests { (code : M.Code) → M.meaning.is_machine code at → All (IsAtRest M.meaning.is_machine M.meaning.stage code) pool.old.members
         → All (IsAtRest M.meaning.is_machine M.meaning.stage code) pool.new.members }
-    ensures good { IsGoodPool pool.old → IsGoodPool pool.new }
 {
     if let Some(Wants::Leave) = at.want() {
         at.settle();

@@ -6,7 +6,6 @@ ghost use Rattle.ame_pool.specs.Calls.{IsAt, exchanged};
 ghost use Rattle.ame_machine.specs.MachineView.{place_shown};
 ghost use Rattle.ame_protocol.specs.Engine.Shown.{shown_pool};
 ghost use Rattle.ame_protocol.specs.Visits.Visit.{free_entry as entry_of_visit};
-ghost use Rattle.ame_protocol.specs.Event.Rollbacks.{IsGoodPool};
 ghost use Rattle.ame_engine.specs.Seen.{term_shown};
 ghost use Rattle.ame_engine.specs.Whole.{IsAtRest};
 ghost use Rattle.ame_engine.specs.Visiting.{SettlesThere};
@@ -46,7 +45,6 @@ pub(super) fn send_home<M: Runner>(pool: &mut Pool<M>, number: u64, mut at: M)
         ≡ exchanged number (M.meaning.stage code at).term (M.meaning.stage code at).inside (shown_pool (term_shown M.meaning.stage code) pool.old) }
     ensures rests { (code : M.Code) → M.meaning.is_machine code at → SettlesThere (M.meaning.stage code at)
         → All (IsAtRest M.meaning.is_machine M.meaning.stage code) pool.old.members → All (IsAtRest M.meaning.is_machine M.meaning.stage code) pool.new.members }
-    ensures good { IsGoodPool pool.old → IsGoodPool pool.new }
 {
     let inside = at.inside();
     at.settle();

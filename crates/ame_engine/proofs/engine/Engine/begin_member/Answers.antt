@@ -13,7 +13,7 @@ invariant_of-self g c = record {
 pub invariant_of-self-2 : goal.invariant_of-self-2
 invariant_of-self-2 g c =
     let enough : vec_len c.reserve.new.self + length c.self.inside.tasks.items ≤ vec_capacity c.reserve.new.self =
-    (let seats : length c.self.inside.tasks.items ≡ c.self.inside.limits.seats = c.self.invariant.whole.stands.bounded.tasks in
+    (let seats : length c.self.inside.tasks.items ≡ c.self.inside.limits.seats = c.self.invariant.whole.state.stands.bounded.tasks in
     let ok = c.in_ok-reserve.ensures.ok in omega arith) in
     record {
       whole = whole-begun g.M.Runner.meaning

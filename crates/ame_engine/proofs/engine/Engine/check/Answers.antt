@@ -6,10 +6,8 @@ use Rattle.ame_protocol.specs.declared.types.Reason.{Reason}
 use Rattle.ame_protocol.specs.declared.types.Task.{Task}
 use Rattle.ame_protocol.specs.Engine.Parts.{task_at, attempt_of}
 use Rattle.ame_protocol.specs.Event.Event.{Find}
-use Rattle.ame_protocol.specs.Event.Counting.{Counted, one_invalid}
-use Rattle.ame_protocol.proofs.Event.CountLemmas.{invalid-refused, invalid-counts}
 use Rattle.ame_engine.proofs.PlaceLemmas.{places-kept}
-use Rattle.ame_engine.proofs.CheckLemmas.{its-task, whole-back, unexhausted-invalid, crowded-invalid, rolls-invalid, whole-valid, makes-valid, makes-stale}
+use Rattle.ame_engine.proofs.CheckLemmas.{its-task, whole-stale, rolls-invalid, whole-valid, makes-valid, makes-stale}
 use Rattle.ame_engine.proofs.engine.Engine.check.Goals as goal
 
 pub invariant_of-self : goal.invariant_of-self
@@ -32,14 +30,8 @@ invariant_of-self-in-Some g c =
     its-task _ c.args.self.now c.self.view_is c.args.seat c.requires.on.stands.attempt c.requires.on.stands.has _ c.in-Running.attempt c.index.ensures c.in-Running.is in
     let invalid : IsValid c.self.inside.memory.cells c.args.seat (row_at c.self.inside.memory.rows c.args.seat).reads → ⊥ = search rules in
     record {
-      whole = whole-back g.M.Runner.meaning
-          _ c.args.self.now c.self.view_is c.self.invariant.whole c.args.seat c.args.at.now c.requires.on c.requires.outside c.requires.left c.in-Running.attempt is
-          (one_invalid Counted.Check (c.self.inside.counters)) (invalid-counts c.self.inside.turns c.self.inside.counters c.self.invariant.whole.counters Counted.Check)
-          (invalid-refused Counted.Check c.self.inside.counters refl) c.requires.going
-          (unexhausted-invalid g.M.Runner.meaning
-          _ c.args.self.now c.self.view_is c.self.invariant.whole c.args.seat c.args.at.now c.requires.on c.requires.outside c.requires.left c.in-Running.attempt is invalid)
-          (crowded-invalid g.M.Runner.meaning
-          _ c.args.self.now c.self.view_is c.self.invariant.whole c.args.seat c.args.at.now c.requires.on c.requires.outside c.requires.left c.in-Running.attempt is invalid);
+      whole = whole-stale g.M.Runner.meaning
+          _ c.args.self.now c.self.view_is c.self.invariant.whole c.args.seat c.args.at.now c.requires.on c.requires.outside c.requires.left c.in-Running.attempt is Find.Check invalid c.requires.going;
       places = places-kept c.self.inside.tasks.items c.args.seat _ _ c.in-Running.attempt (ap attempt_of is) c.self.invariant.places
           (Task.Undoing c.in-Running.attempt Reason.RolledBack) c.in-Running.attempt refl refl;
     }

@@ -66,7 +66,7 @@ invariant_of-self-2 g c =
           c.join_all.new.at c.send_on.new.pool (c.join_all.ensures.stage (arc_value c.self.inside.code)) (c.send_on.ensures.ended (arc_value c.self.inside.code))
           (c.send_on.ensures.left (arc_value c.self.inside.code)) (c.join_all.ensures.machine (arc_value c.self.inside.code))
           (c.join_all.ensures.rests (arc_value c.self.inside.code)) (c.send_on.ensures.rests (arc_value c.self.inside.code))
-          c.join_all.ensures.good c.send_on.ensures.good c.release_all.new.self c.release_all.ensures
+          c.release_all.new.self c.release_all.ensures
           c.make_room.new.output.items c.append.new.list.items c.prints-3.result.now (c.prints-3.ensures (arc_value c.self.inside.code))
           c.make_room.ensures.output c.append.ensures
           c.make_room.new.text.items c.append-2.new.list.items c.as_slice-2.result.now c.in_ok-bytes.bytes.items c.prints.result.now
@@ -88,7 +88,7 @@ returns-clause-ended g c =
     c.join_all.new.at c.send_on.new.pool (c.join_all.ensures.stage (arc_value c.self.inside.code)) (c.send_on.ensures.ended (arc_value c.self.inside.code))
     (c.send_on.ensures.left (arc_value c.self.inside.code)) (c.join_all.ensures.machine (arc_value c.self.inside.code))
     (c.join_all.ensures.rests (arc_value c.self.inside.code)) (c.send_on.ensures.rests (arc_value c.self.inside.code))
-    c.join_all.ensures.good c.send_on.ensures.good c.release_all.new.self c.release_all.ensures
+    c.release_all.new.self c.release_all.ensures
     c.make_room.new.output.items c.append.new.list.items c.prints-3.result.now (c.prints-3.ensures (arc_value c.self.inside.code))
     c.make_room.ensures.output c.append.ensures
     c.make_room.new.text.items c.append-2.new.list.items c.as_slice-2.result.now c.in_ok-bytes.bytes.items c.prints.result.now
@@ -108,7 +108,7 @@ returns-clause-left g c =
     c.join_all.new.at c.send_on.new.pool (c.join_all.ensures.stage (arc_value c.self.inside.code)) (c.send_on.ensures.ended (arc_value c.self.inside.code))
     (c.send_on.ensures.left (arc_value c.self.inside.code)) (c.join_all.ensures.machine (arc_value c.self.inside.code))
     (c.join_all.ensures.rests (arc_value c.self.inside.code)) (c.send_on.ensures.rests (arc_value c.self.inside.code))
-    c.join_all.ensures.good c.send_on.ensures.good c.release_all.new.self c.release_all.ensures
+    c.release_all.new.self c.release_all.ensures
     c.make_room.new.output.items c.append.new.list.items c.prints-3.result.now (c.prints-3.ensures (arc_value c.self.inside.code))
     c.make_room.ensures.output c.append.ensures
     c.make_room.new.text.items c.append-2.new.list.items c.as_slice-2.result.now c.in_ok-bytes.bytes.items c.prints.result.now

@@ -43,7 +43,7 @@ invariant_of-self-2 g c =
           c.join_all.new.pool (c.join_all.ensures.pool (arc_value c.self.inside.code))
           c.join_all.new.at c.send_home.new.pool (c.join_all.ensures.stage (arc_value c.self.inside.code)) (c.send_home.ensures.shown (arc_value c.self.inside.code))
           c.requires.machine c.requires.settles (c.join_all.ensures.machine (arc_value c.self.inside.code)) (c.join_all.ensures.rests (arc_value c.self.inside.code))
-          (c.send_home.ensures.rests (arc_value c.self.inside.code)) c.join_all.ensures.good c.send_home.ensures.good
+          (c.send_home.ensures.rests (arc_value c.self.inside.code))
           c.change_memory.new.memory c.in_ok-change_memory.ensures.ok c.requires.good
           c.make_room.new.output.items c.append.new.list.items c.prints-3.result.now (c.prints-3.ensures (arc_value c.self.inside.code))
           c.make_room.ensures.output c.append.ensures
@@ -64,7 +64,7 @@ returns-clause-event g c =
     c.join_all.new.pool (c.join_all.ensures.pool (arc_value c.self.inside.code))
     c.join_all.new.at c.send_home.new.pool (c.join_all.ensures.stage (arc_value c.self.inside.code)) (c.send_home.ensures.shown (arc_value c.self.inside.code))
     c.requires.machine c.requires.settles (c.join_all.ensures.machine (arc_value c.self.inside.code)) (c.join_all.ensures.rests (arc_value c.self.inside.code))
-    (c.send_home.ensures.rests (arc_value c.self.inside.code)) c.join_all.ensures.good c.send_home.ensures.good
+    (c.send_home.ensures.rests (arc_value c.self.inside.code))
     c.change_memory.new.memory c.in_ok-change_memory.ensures.ok c.requires.good
     c.make_room.new.output.items c.append.new.list.items c.prints-3.result.now (c.prints-3.ensures (arc_value c.self.inside.code))
     c.make_room.ensures.output c.append.ensures

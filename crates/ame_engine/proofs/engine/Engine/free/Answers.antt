@@ -28,7 +28,7 @@ returns-in-Some-Device-clause-refused g c = λ attempt k is fault.
 
 pub end_visit-requires-clause-settles : goal.end_visit-requires-clause-settles
 end_visit-requires-clause-settles g c =
-    let stands = subst (λ x. Simulates (parts_of g.M.Runner.meaning x)) c.self.view_is c.self.invariant.whole.stands in
+    let stands = subst (λ x. Simulates (parts_of g.M.Runner.meaning x)) c.self.view_is c.self.invariant.whole.state.stands in
     let here : task_at c.args.self.now.tasks c.args.seat ≡ Task.Free c.in-Free.attempt =
     its-free _ c.args.self.now c.self.view_is c.args.seat c.requires.on.stands.attempt c.requires.on.stands.has _ c.in-Free.attempt c.index.ensures c.in-Free.is in
     served-settles g.M.Runner.meaning
@@ -37,7 +37,7 @@ end_visit-requires-clause-settles g c =
 
 pub end_visit-requires-clause-visit : goal.end_visit-requires-clause-visit
 end_visit-requires-clause-visit g c =
-    let stands = subst (λ x. Simulates (parts_of g.M.Runner.meaning x)) c.self.view_is c.self.invariant.whole.stands in
+    let stands = subst (λ x. Simulates (parts_of g.M.Runner.meaning x)) c.self.view_is c.self.invariant.whole.state.stands in
     let here : task_at c.args.self.now.tasks c.args.seat ≡ Task.Free c.in-Free.attempt =
     its-free _ c.args.self.now c.self.view_is c.args.seat c.requires.on.stands.attempt c.requires.on.stands.has _ c.in-Free.attempt c.index.ensures c.in-Free.is in
     served-visit g.M.Runner.meaning
@@ -46,7 +46,7 @@ end_visit-requires-clause-visit g c =
 
 pub returns-clause-home : goal.returns-clause-home
 returns-clause-home g c = λ attempt is _.
-    let stands = subst (λ x. Simulates (parts_of g.M.Runner.meaning x)) c.self.view_is c.self.invariant.whole.stands in
+    let stands = subst (λ x. Simulates (parts_of g.M.Runner.meaning x)) c.self.view_is c.self.invariant.whole.state.stands in
     let here : task_at c.args.self.now.tasks c.args.seat ≡ Task.Free c.in-Free.attempt =
     its-free _ c.args.self.now c.self.view_is c.args.seat c.requires.on.stands.attempt c.requires.on.stands.has _ c.in-Free.attempt c.index.ensures c.in-Free.is in
     subst (λ (n : ℕ). HasComeHome g.M.Runner.meaning c.args.seat n
@@ -60,7 +60,7 @@ returns-clause-home g c = λ attempt is _.
 
 pub end_visit-requires-clause-low : goal.end_visit-requires-clause-low
 end_visit-requires-clause-low g c =
-    let stands = subst (λ x. Simulates (parts_of g.M.Runner.meaning x)) c.self.view_is c.self.invariant.whole.stands in
+    let stands = subst (λ x. Simulates (parts_of g.M.Runner.meaning x)) c.self.view_is c.self.invariant.whole.state.stands in
     let here : task_at c.args.self.now.tasks c.args.seat ≡ Task.Free c.in-Free.attempt =
     its-free _ c.args.self.now c.self.view_is c.args.seat c.requires.on.stands.attempt c.requires.on.stands.has _ c.in-Free.attempt c.index.ensures c.in-Free.is in
     served-low g.M.Runner.meaning

@@ -5,10 +5,8 @@ use Rattle.ame_protocol.specs.declared.types.Reason.{Reason}
 use Rattle.ame_protocol.specs.declared.types.Task.{Task}
 use Rattle.ame_protocol.specs.Engine.Parts.{task_at, attempt_of}
 use Rattle.ame_protocol.specs.Event.Event.{Find}
-use Rattle.ame_protocol.specs.Event.Counting.{Counted, one_invalid}
-use Rattle.ame_protocol.proofs.Event.CountLemmas.{invalid-refused, invalid-counts}
 use Rattle.ame_engine.proofs.PlaceLemmas.{places-kept}
-use Rattle.ame_engine.proofs.CheckLemmas.{whole-back, unexhausted-invalid, crowded-invalid, rolls-invalid, makes-stale}
+use Rattle.ame_engine.proofs.CheckLemmas.{whole-stale, rolls-invalid, makes-stale}
 use Rattle.ame_engine.proofs.LastLemmas.{last-some, turned-runs, invalid-outside}
 use Rattle.ame_engine.proofs.engine.Engine.tall.Goals as goal
 
@@ -28,14 +26,8 @@ invariant_of-self g c =
     let outside = invalid-outside g.M.Runner.meaning
     _ c.args.self.now c.self.view_is c.self.invariant.whole c.args.seat c.args.at.now c.requires.on invalid in
     record {
-      whole = whole-back g.M.Runner.meaning
-          _ c.args.self.now c.self.view_is c.self.invariant.whole c.args.seat c.args.at.now c.requires.on outside c.requires.left c.attempt_at-attempt.result is
-          (one_invalid Counted.Tall (c.self.inside.counters)) (invalid-counts c.self.inside.turns c.self.inside.counters c.self.invariant.whole.counters Counted.Tall)
-          (invalid-refused Counted.Tall c.self.inside.counters refl) c.requires.going
-          (unexhausted-invalid g.M.Runner.meaning
-          _ c.args.self.now c.self.view_is c.self.invariant.whole c.args.seat c.args.at.now c.requires.on outside c.requires.left c.attempt_at-attempt.result is invalid)
-          (crowded-invalid g.M.Runner.meaning
-          _ c.args.self.now c.self.view_is c.self.invariant.whole c.args.seat c.args.at.now c.requires.on outside c.requires.left c.attempt_at-attempt.result is invalid);
+      whole = whole-stale g.M.Runner.meaning
+          _ c.args.self.now c.self.view_is c.self.invariant.whole c.args.seat c.args.at.now c.requires.on outside c.requires.left c.attempt_at-attempt.result is Find.Tall invalid c.requires.going;
       places = places-kept c.self.inside.tasks.items c.args.seat _ _ c.attempt_at-attempt.result (ap attempt_of is) c.self.invariant.places
           (Task.Undoing c.attempt_at-attempt.result Reason.RolledBack) c.attempt_at-attempt.result refl refl;
     }

@@ -59,7 +59,7 @@ invariant_of-self-in-Ok g c =
           c.in-Ok.answer c.feed.new.self machine fed _ _ called
           c.in_ok-entry.entry c.answered.result (c.in_ok-entry.ensures (arc_value c.self.inside.code)) entry
           c.push.new.self.entries c.room.new.self.entries c.room.ensures.entries c.push.ensures.entries
-          c.send_home.new.pool (c.send_home.ensures.shown (arc_value c.self.inside.code)) (c.send_home.ensures.rests (arc_value c.self.inside.code)) c.send_home.ensures.good c.requires.going;
+          c.send_home.new.pool (c.send_home.ensures.shown (arc_value c.self.inside.code)) (c.send_home.ensures.rests (arc_value c.self.inside.code)) c.requires.going;
       places = places-freed c.self.inside.tasks.items c.args.seat _ _ c.args.attempt (end-task g.M.Runner.meaning
           _ c.args.self.now c.self.view_is c.self.invariant.whole c.args.seat c.args.attempt c.requires.task c.requires.left) c.self.invariant.places;
     }
@@ -85,7 +85,7 @@ returns-in-Ok-clause-home g c =
     c.in-Ok.answer c.feed.new.self machine fed _ _ called
     c.in_ok-entry.entry c.answered.result (c.in_ok-entry.ensures (arc_value c.self.inside.code)) entry
     c.push.new.self.entries c.room.new.self.entries c.room.ensures.entries c.push.ensures.entries
-    c.send_home.new.pool (c.send_home.ensures.shown (arc_value c.self.inside.code)) (c.send_home.ensures.rests (arc_value c.self.inside.code)) c.send_home.ensures.good c.requires.going
+    c.send_home.new.pool (c.send_home.ensures.shown (arc_value c.self.inside.code)) (c.send_home.ensures.rests (arc_value c.self.inside.code)) c.requires.going
 
 pub returns-clause-quiet : goal.returns-clause-quiet
 returns-clause-quiet g c =

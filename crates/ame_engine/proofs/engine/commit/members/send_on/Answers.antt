@@ -1,7 +1,5 @@
-use Rattle.std.proofs.Common.{◌≡◌, Some, sym, subst}
+use Rattle.std.proofs.Common.{◌≡◌, Some}
 use Rattle.ame_machine.specs.declared.wants.Wants.TheVariants as wants
-use Rattle.ame_protocol.specs.Event.Rollbacks.{IsGoodPool}
-use Rattle.ame_protocol.proofs.Event.RollbackLemmas.{good-exchanged, good-removed}
 use Rattle.ame_engine.proofs.CrewLemmas.{left-shown, left-rests, gone-rests}
 use Rattle.ame_engine.proofs.engine.commit.members.send_on.Goals as goal
 
@@ -17,13 +15,6 @@ returns-in-Some-Leave-clause-rests g c = λ code machine all.
     left-rests g.M.Runner.meaning.is_machine g.M.Runner.meaning.stage code c.args.number c.args.pool.now c.replace.new.self c.args.at c.settle.new.self
     (c.settle.ensures.stage code) c.replace.ensures leaves (c.settle.ensures.machine code machine) all
 
-pub returns-in-Some-Leave-clause-good : goal.returns-in-Some-Leave-clause-good
-returns-in-Some-Leave-clause-good g c = λ good.
-    subst IsGoodPool (sym c.replace.ensures) (good-exchanged c.args.number c.settle.new.self _ c.args.pool.now good)
-
 pub returns-in_default-clause-rests : goal.returns-in_default-clause-rests
 returns-in_default-clause-rests g c = λ code machine all.
     gone-rests g.M.Runner.meaning.is_machine g.M.Runner.meaning.stage code c.args.number c.args.pool.now c.remove.new.self c.remove.ensures.pool all
-
-pub returns-in_default-clause-good : goal.returns-in_default-clause-good
-returns-in_default-clause-good g c = λ good. subst IsGoodPool (sym c.remove.ensures.pool) (good-removed c.args.number c.args.pool.now good)

@@ -1,6 +1,3 @@
-use Rattle.std.proofs.Common.{sym, subst}
-use Rattle.ame_protocol.specs.Event.Rollbacks.{IsGoodPool}
-use Rattle.ame_protocol.proofs.Event.RollbackLemmas.{good-exchanged}
 use Rattle.ame_engine.proofs.VisitEndLemmas.{sent-shown, sent-rests}
 use Rattle.ame_engine.proofs.engine.free.home.send_home.Goals as goal
 
@@ -13,7 +10,3 @@ pub returns-clause-rests : goal.returns-clause-rests
 returns-clause-rests g c = λ code machine there all.
     sent-rests g.M.Runner.meaning.is_machine g.M.Runner.meaning.stage code c.args.number c.args.pool.now c.replace.new.self c.args.at c.settle.new.self c.inside-inside.result
     (c.inside-inside.ensures code) (c.settle.ensures.stage code) c.replace.ensures there (c.settle.ensures.machine code machine) all
-
-pub returns-clause-good : goal.returns-clause-good
-returns-clause-good g c = λ good.
-    subst IsGoodPool (sym c.replace.ensures) (good-exchanged c.args.number c.settle.new.self _ c.args.pool.now good)

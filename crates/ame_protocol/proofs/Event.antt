@@ -13,4 +13,5 @@ pub mod VisitLemmas
 pub mod StopLemmas
 pub mod UndoLemmas
 pub mod SoundLemmas
+pub mod OpenedLemmas
 pub mod RunLemmas

@@ -300,6 +300,24 @@ where
         Ok(replay)
     }
 
+    /// Its cells, its members, what was printed, and the number of the next new member.
+    pub fn into_parts(self) -> (
+            BTreeMap<u32, Stored<M::Value>>,
+            BTreeMap<u64, M>,
+            Vec<i64>,
+            u64,
+        )
+        ensures { result ≡ (self.cells, self.members, self.output, self.next) }
+    {
+        let Replay {
+            cells,
+            members,
+            output,
+            next,
+        } = self;
+        (cells, members, output, next)
+    }
+
     /// What was printed.
     pub fn into_output(self) -> Vec<i64>
         ensures { result ≡ self.output }

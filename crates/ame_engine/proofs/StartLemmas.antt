@@ -40,7 +40,7 @@ use Rattle.ame_protocol.specs.Event.Bounds.{KeepsBounds}
 use Rattle.ame_protocol.proofs.Event.BoundLemmas.{idle-bounded}
 use Rattle.ame_machine.specs.Meaning.{Meaning}
 
-rows-shown : {V : Type 0} (view : V → Val) (n : ℕ) → map (shown_notes view) (replicate n no_log) ≡ replicate n no_log
+pub rows-shown : {V : Type 0} (view : V → Val) (n : ℕ) → map (shown_notes view) (replicate n no_log) ≡ replicate n no_log
 rows-shown view zero = refl
 rows-shown view (suc n) = ap (λ (rows : List (Log Val)). no_log ∷ rows) (rows-shown view n)
 

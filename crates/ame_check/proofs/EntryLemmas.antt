@@ -7,6 +7,7 @@ use Rattle.ame_term.specs.Context.{focus}
 use Rattle.ame_term.specs.Maps.{at, without}
 use Rattle.ame_term.specs.State.{State, after, activated, departed, ended, at_value, at_unprotected}
 use Rattle.ame_term.specs.declared.semantics.Label.{Label}
+use Rattle.ame_laws.specs.Typed.StoreTyping.{StoreTyping}
 use Rattle.ame_journal.specs.declared.entry.Entry.{Entry}
 use Rattle.ame_journal.specs.declared.entry.EntryKind.{EntryKind}
 use Rattle.ame_journal.specs.Replayed.{Replayed, is_inside, entering, staying, has_such, is_at_unprotected}
@@ -60,7 +61,7 @@ module _ (s : State) (i : ℕ) (idle : s.active ≡ None) where
         ap (λ (k : ℕ). steps_on Side.Protected i k fresh None (begun_on Side.Protected i s)) one
         ∙ halts-unprotected Side.Protected i (begun_on Side.Protected i s) term member refl fresh refl stands n None (λ e. refl)
 
-  can-leave : (t : State) (term : Tree) → t.active ≡ Some i → at t.members i ≡ Some term → at_unprotected (focus term) ≡ true → after t Label.Leave ≡ Some (record t { active = None })
+  pub can-leave : (t : State) (term : Tree) → t.active ≡ Some i → at t.members i ≡ Some term → at_unprotected (focus term) ≡ true → after t Label.Leave ≡ Some (record t { active = None })
   unfolding after
   can-leave t term is member stands =
       ap (λ (o : Option ℕ). option_and_then (λ (j : ℕ). departed j t) o) is
@@ -74,7 +75,7 @@ module _ (s : State) (i : ℕ) (idle : s.active ≡ None) where
       ∙ ap (option_and_then (λ (x : Tree). if at_unprotected (focus x) then Some (record t { active = None }) else None)) member
       ∙ ap (λ (b : Bool). if b then Some (record t { active = None }) else None) stands
 
-  can-end : (t : State) (term : Tree) → t.active ≡ Some i → at t.members i ≡ Some term → at_value (focus term) ≡ true
+  pub can-end : (t : State) (term : Tree) → t.active ≡ Some i → at t.members i ≡ Some term → at_value (focus term) ≡ true
       → after t Label.End ≡ Some (record t { members = without t.members i; active = None })
   unfolding after
   can-end t term is member value =
@@ -138,12 +139,12 @@ module _ (r : Replayed) (i : ℕ) (idle : r.state.active ≡ None) where
       ∙ ran-is term entry.steps entry.fresh member
 
 -- where nothing is left to use, the steps lead to where the walk stands; where something is, they can't be made
-pub whole-leads : (devices : ℕ) (s : State) (i : ℕ) (side : Side) (p : _) (n : ℕ) (g : IsStepping devices s i side p n) → steps_on side i n p.fresh None (begun_on side i s) ≡ Some g.now
+pub whole-leads : {types : StoreTyping} (devices : ℕ) (s : State) (i : ℕ) (side : Side) (p : _) (n : ℕ) (g : IsStepping devices types s i side p n) → steps_on side i n p.fresh None (begun_on side i s) ≡ Some g.now
 whole-leads devices s i side p n g =
     let none : n ≡ n + 0 = omega arith in
     ap (λ (k : ℕ). steps_on side i k p.fresh None (begun_on side i s)) none ∙ ap (λ (xs : List ℕ). steps_on side i (n + 0) xs None (begun_on side i s)) (sym (append-nil p.fresh)) ∙ g.goes 0 [] None
 
-pub left-over : (devices : ℕ) (s : State) (i : ℕ) (side : Side) (p : _) (n : ℕ) (g : IsStepping devices s i side p n) (l : ℕ) (rest : List ℕ) (answer : Option ℤ)
+pub left-over : {types : StoreTyping} (devices : ℕ) (s : State) (i : ℕ) (side : Side) (p : _) (n : ℕ) (g : IsStepping devices types s i side p n) (l : ℕ) (rest : List ℕ) (answer : Option ℤ)
     → steps_on side i n (p.fresh ++ l ∷ rest) answer (begun_on side i s) ≡ None
 left-over devices s i side p n g l rest answer =
     let none : n ≡ n + 0 = omega arith in

@@ -25,12 +25,14 @@ use Rattle.ame_check.specs.Entries.{MeetsTall}
 use Rattle.ame_check.specs.declared.visit.Visited.{Visited}
 use Rattle.ame_check.specs.declared.visit.Visited.TheVariants as visited
 use Rattle.ame_check.proofs.EntryLemmas.{behind-journal}
+use Rattle.ame_check.proofs.SortLemmas.{sorts-merged, below-merged}
 use Rattle.ame_check.proofs.FreeLemmas.{free-outside, free-empty, free-stays, free-closes, free-neither}
 use Rattle.ame_check.proofs.MadeLemmas.{rest_of, shows-rest, outside-next, shows-store, shows-output, shows-next, shows-back, leaving-other, leaving-own}
 use Rattle.ame_check.proofs.NoteLemmas.{side-tall}
 use Rattle.ame_check.proofs.RanLemmas.{AdoptsAll, undefined-there}
 use Rattle.ame_check.proofs.ReasonLemmas.{FailsBy, visit-met}
 use Rattle.ame_check.proofs.StartLemmas.{its-term, its-rest, its-machine, is-early, walk-begins}
+use Rattle.ame_check.specs.declared.stored.Stored.{Stored}
 
 module _ {C V M : Type 0} (meaning : Meaning C V M) (code : C) (accepted : IsAccepted (meaning.devices code) (meaning.program code)) (entry : Entry) (kind : entry.kind ≡ EntryKind.Free)
     (place : ReplayView V M) (entries : List Entry) (st : StandsForEntries meaning code entries place) where
@@ -60,10 +62,10 @@ module _ {C V M : Type 0} (meaning : Meaning C V M) (code : C) (accepted : IsAcc
 
   module _ (machine : M) (found : Some machine ≡ at place.members entry.number) where
     term : at st.led.state.members entry.number ≡ Some (meaning.stage code machine).term
-    term = its-term meaning code accepted entries place st.led st.replayed st.shows entry.number machine found
+    term = its-term meaning code entries place st.led st.replayed st.shows entry.number machine found
 
     rest : meaning.stage code machine ≡ record (starting_at (meaning.stage code machine).term) { inside = is_inside st.led entry.number }
-    rest = its-rest meaning code accepted entries place st.led st.replayed st.shows entry.number machine found
+    rest = its-rest meaning code entries place st.led st.replayed st.shows entry.number machine found
 
     pub visits-outside : (meaning.stage code machine).inside ≡ false → FailsBy (meaning.program code) entries entry reason.Outside
     visits-outside flag =
@@ -73,25 +75,25 @@ module _ {C V M : Type 0} (meaning : Meaning C V M) (code : C) (accepted : IsAcc
     pub rests-free : (meaning.stage code machine).steps ≡ 0
     rests-free = ap (λ (z : MachineView). z.steps) rest
 
-    module _ (flag : (meaning.stage code machine).inside ≡ true) (overlay : List (ℕ × V)) (empty : overlay ≡ []) where
+    module _ (flag : (meaning.stage code machine).inside ≡ true) (overlay : List (ℕ × Stored V)) (empty : overlay ≡ []) where
       inside : is_inside st.led entry.number ≡ true
       inside = sym (ap (λ (z : MachineView). z.inside) rest) ∙ flag
 
       pub begins-free : IsAtStep meaning code st.led.state entry.number entry.fresh place.cells overlay machine Side.Unprotected 0
       begins-free =
-          walk-begins meaning code accepted entries place st.led st.replayed st.shows entry.number machine found machine overlay entry.fresh true
-          (its-machine meaning code accepted entries place st.led st.replayed st.shows entry.number machine found) empty refl (ap (λ (z : MachineView). z.prints) rest) (ap (λ (z : MachineView). z.spawns) rest)
+          walk-begins meaning code entries place st.led st.replayed st.shows entry.number machine found st.types st.typed st.sorts machine overlay entry.fresh true
+          (its-machine meaning code entries place st.led st.replayed st.shows entry.number machine found) empty refl (ap (λ (z : MachineView). z.prints) rest) (ap (λ (z : MachineView). z.spawns) rest)
           (ap (λ (z : MachineView). z.fresh) rest) (ap (λ (z : MachineView). z.steps) rest) flag (λ e. calm.standing entry.number inside)
 
       early : entry.number < st.led.state.next
-      early = is-early meaning code accepted entries place st.led st.replayed st.shows entry.number machine found
+      early = is-early meaning code entries place st.led st.replayed st.shows entry.number machine found
 
-      module _ (n : ℕ) (count : n + 1 ≡ entry.steps) (later : List (ℕ × V)) (m : M) (found_as : Visited)
+      module _ (n : ℕ) (count : n + 1 ≡ entry.steps) (later : List (ℕ × Stored V)) (m : M) (found_as : Visited)
           (visits : (s : State) (i : ℕ) (n : ℕ) → n + 1 ≡ entry.steps → IsAtStep meaning code s i entry.fresh place.cells overlay machine Side.Unprotected 0
-          → ComesOfVisit meaning code s i entry.fresh entry.answer later m n found_as) where
-        to : (v : Visited) → found_as ≡ v → ComesOfVisit meaning code st.led.state entry.number entry.fresh entry.answer later m n v
+          → ComesOfVisit meaning code s i entry.fresh entry.answer place.cells later m n found_as) where
+        to : (v : Visited) → found_as ≡ v → ComesOfVisit meaning code st.led.state entry.number entry.fresh entry.answer place.cells later m n v
         to v is =
-            subst (ComesOfVisit meaning code st.led.state entry.number entry.fresh entry.answer later m n) is (visits st.led.state entry.number n count begins-free)
+            subst (ComesOfVisit meaning code st.led.state entry.number entry.fresh entry.answer place.cells later m n) is (visits st.led.state entry.number n count begins-free)
 
         pub visit-undefined : (why : Reason) → found_as ≡ visited.Undefined why → FailsBy (meaning.program code) entries entry why
         visit-undefined why is =
@@ -110,12 +112,12 @@ module _ {C V M : Type 0} (meaning : Meaning C V M) (code : C) (accepted : IsAcc
             )
 
         module _ (machines : List (ℕ × M)) (gone : at machines entry.number ≡ None) (others : (k : ℕ) → (k ≡ entry.number → ⊥) → at machines k ≡ at place.members k)
-            (cells : List (ℕ × V)) (merged : (l : ℕ) → at cells l ≡ or_else (at later l) (at place.cells l)) (output : List ℤ) (printed : output ≡ place.output ++ (meaning.stage code m).prints)
+            (cells : List (ℕ × Stored V)) (merged : (l : ℕ) → at cells l ≡ or_else (at later l) (at place.cells l)) (output : List ℤ) (printed : output ≡ place.output ++ (meaning.stage code m).prints)
             (kept : M) (number : ℕ) (last : List (ℕ × M)) (adopts : AdoptsAll meaning code machines place.next m last number kept)
             (back : M) (good : meaning.is_machine code kept → meaning.is_machine code back) (settled : meaning.stage code back ≡ settled_stage (meaning.stage code kept))
             (members : List (ℕ × M)) (put_back : members ≡ put last entry.number back) where
           -- the state after the entry, of which these are inside
-          after-visit : (b : Bool) (reached : Option State) (h : HasCome meaning code st.led.state entry.number later m b reached) (in_it : List ℕ)
+          after-visit : (b : Bool) (reached : Option State) (h : HasCome meaning code st.led.state entry.number entry.fresh place.cells later m b reached) (in_it : List ℕ)
               → is_inside (record { state = h.now; inside = in_it }) entry.number ≡ b
               → ((k : ℕ) → (k ≡ entry.number → ⊥) → is_inside (record { state = h.now; inside = in_it }) k ≡ is_inside st.led k)
               → replay_entry st.led entry ≡ Some (record { state = h.now; inside = in_it })
@@ -134,6 +136,10 @@ module _ {C V M : Type 0} (meaning : Meaning C V M) (code : C) (accepted : IsAcc
               record {
                 led = record { state = h.now; inside = in_it };
                 replayed = behind-journal (meaning.program code) entries entry st.led st.replayed ∙ leads;
+                types = h.types;
+                typed = h.typed;
+                sorts = sorts-merged h.types later place.cells cells h.sorts_set h.sorts merged;
+                below = below-merged entries entry later place.cells cells h.below st.below merged;
                 shows =
                     let view : ReplayView V M = record { cells = cells; members = members; output = output; next = number } in
                     record {

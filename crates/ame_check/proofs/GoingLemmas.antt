@@ -11,6 +11,8 @@ use Rattle.ame_term.specs.declared.semantics.Label.{Label}
 use Rattle.ame_laws.specs.Orderly.{IsOrderly}
 use Rattle.ame_laws.proofs.OrderlyLemmas.{after-goes}
 use Rattle.ame_laws.proofs.Typed.Preserved.{kept}
+use Rattle.ame_laws.specs.Typed.StoreTyping.{StoreTyping, Grows}
+use Rattle.ame_laws.specs.Typed.TypedState.{IsTyped}
 use Rattle.ame_journal.specs.Labels.{fresh_of}
 use Rattle.ame_journal.specs.Replayed.{is_at_unprotected}
 use Rattle.ame_journal.proofs.StepLemmas.{named}
@@ -19,7 +21,7 @@ use Rattle.ame_journal.proofs.ReplayLemmas.{steps-behind}
 use Rattle.ame_journal.proofs.LabelLemmas.{run-one}
 use Rattle.ame_journal.proofs.MovedLemmas.{free-moves}
 use Rattle.ame_machine.specs.Run.Local.{LocalState, one_step, goes, acted, with_inputs}
-use Rattle.ame_machine.specs.Run.AgreesWith.{AgreesWith}
+use Rattle.ame_machine.specs.Run.AgreesWith.{AgreesWith, IsAfterRun}
 use Rattle.ame_machine.specs.MachineView.{MachineView, running_side, place_shown}
 use Rattle.ame_machine.specs.Move.{Advances}
 use Rattle.ame_machine.proofs.Run.RunLemmas.{Acts, step-is, step-of}
@@ -28,6 +30,7 @@ use Rattle.ame_machine.proofs.Run.EffectLemmas.{step-made, unfed}
 use Rattle.ame_check.specs.Walk.{label_by, active_on, begun_on, steps_on, LeadsOnTo, IsStepping}
 use Rattle.ame_check.specs.Walked.{place_with}
 use Rattle.ame_check.proofs.HaltLemmas.{reduced-on}
+use Rattle.ame_check.proofs.SortLemmas.{grows-through}
 
 -- a place without inputs, answer and footprint, with these values set
 abbrev pub bare : List (ℕ × Val) → LocalState → LocalState
@@ -47,7 +50,14 @@ module _ (devices : ℕ) (s : State) (i : ℕ) where
   stands-on Side.Unprotected kind t u orderly legal before e =
       (free-moves i (kind ∷ []) t u orderly (run-one t u (Label.Free i kind) legal)).stands (before refl)
 
-  module _ (side : Side) (p : LocalState) (n : ℕ) (g : IsStepping devices s i side p n) where
+  -- it goes on so, by types of locations that have grown and of which this holds
+  pub record GoesOn (types : StoreTyping) (P : StoreTyping → Type 0) (side : Side) (p : LocalState) (n : ℕ) : Type 0 where
+    pub later : StoreTyping
+    pub grows : Grows types later
+    pub has : P later
+    pub going : IsStepping devices later s i side p n
+
+  module _ {types : StoreTyping} (side : Side) (p : LocalState) (n : ℕ) (g : IsStepping devices types s i side p n) where
     goes-more : (kind : StepKind) (behind : State) (q : LocalState) → after g.now (label_by side i kind) ≡ Some behind → device_answer kind ≡ None → q.fresh ≡ p.fresh ++ fresh_of kind
         → LeadsOnTo side i (n + 1) q.fresh (begun_on side i s) behind
     goes-more kind behind q legal quiet used left rest answer =
@@ -62,49 +72,61 @@ module _ (devices : ℕ) (s : State) (i : ℕ) where
         ∙ steps-behind (label_by side i) i left (record { fresh = fresh_of kind ++ rest; answer = answer }) g.now behind x.act (kind, record { fresh = rest; answer = answer }) x.is_act
         (takes-more kind x.act (named side kind x.act x.can) (left == 0) rest answer quiet) legal
 
+    -- how the types grow by a step to a place
+    abbrev pub Chosen : (StoreTyping → Type 0) → LocalState → Type 0
+    Chosen P q = (kind : StepKind) (t : State) → after g.now (label_by side i kind) ≡ Some t → IsAfterRun s i q t → q.fresh ≡ p.fresh ++ fresh_of kind
+        → (later : StoreTyping) × Grows types later × IsTyped devices later t × P later
+
+    pub any-types : (q : LocalState) → Chosen (λ later. Unit {0}) q
+    any-types q kind t legal run used = let later = kept devices types g.now (label_by side i kind) t g.typed legal in (later.0, later.1, later.2, tt)
+
     -- one step, for which there may be an input
-    pub going-on : (inputs : List Val) (q : LocalState) → one_step side (with_inputs inputs p) ≡ Some q → AgreesWith s.store q → q.answer ≡ None → IsStepping devices s i side q (n + 1)
-    going-on inputs q e agrees quiet =
+    pub going-on : (P : StoreTyping → Type 0) (inputs : List Val) (q : LocalState) → Chosen P q → one_step side (with_inputs inputs p) ≡ Some q → AgreesWith s.store q
+        → q.answer ≡ None → GoesOn types P side q (n + 1)
+    going-on P inputs q chosen e agrees quiet =
         let x = step-made s i side (with_inputs inputs p) q g.now (unfed s i p inputs g.now g.after_run) g.member e agrees in
         let legal : after g.now (label_by side i x.kind) ≡ Some x.behind = legal-on side i x.kind g.now g.active ∙ x.reduces in
-        let later = kept devices g.types g.now (label_by side i x.kind) x.behind g.typed legal in
+        let later = chosen x.kind x.behind legal x.after_run x.fresh in
         record {
-          now = x.behind;
-          after_run = x.after_run;
-          member = x.member;
-          active = x.active ∙ g.active;
-          orderly = (after-goes g.now (label_by side i x.kind) x.behind legal).orderly g.orderly;
-          types = later.0;
-          typed = later.2;
-          standing = stands-on side x.kind g.now x.behind g.orderly legal g.standing;
-          goes = goes-more x.kind x.behind q legal (sym x.answer ∙ quiet) x.fresh;
+          later = later.0;
+          grows = later.1;
+          has = later.3;
+          going = record {
+            now = x.behind;
+            after_run = x.after_run;
+            member = x.member;
+            active = x.active ∙ g.active;
+            orderly = (after-goes g.now (label_by side i x.kind) x.behind legal).orderly g.orderly;
+            typed = later.2;
+            standing = stands-on side x.kind g.now x.behind g.orderly legal g.standing;
+            goes = goes-more x.kind x.behind q legal (sym x.answer ∙ quiet) x.fresh;
+          };
         }
 
   -- what is going is so at each place with the same term, prints, new members, new locations and values set
-  pub going-as : (side : Side) (p q : LocalState) (m n : ℕ) → bare p.sets p ≡ bare q.sets q → m ≡ n → IsStepping devices s i side p m → IsStepping devices s i side q n
-  going-as side p q m n same count g = subst (IsStepping devices s i side q) count (back q (subst (λ (z : LocalState). IsStepping devices s i side z m) same (front p g)))
+  pub going-as : {types : StoreTyping} (side : Side) (p q : LocalState) (m n : ℕ) → bare p.sets p ≡ bare q.sets q → m ≡ n → IsStepping devices types s i side p m
+      → IsStepping devices types s i side q n
+  going-as {types} side p q m n same count g = subst (IsStepping devices types s i side q) count (back q (subst (λ (z : LocalState). IsStepping devices types s i side z m) same (front p g)))
     where
-      front : (z : LocalState) → IsStepping devices s i side z m → IsStepping devices s i side (bare z.sets z) m
+      front : (z : LocalState) → IsStepping devices types s i side z m → IsStepping devices types s i side (bare z.sets z) m
       front z h = record {
         now = h.now;
         after_run = record { stored = h.after_run.stored; output = h.after_run.output; others = h.after_run.others; next = h.after_run.next };
         member = h.member;
         active = h.active;
         orderly = h.orderly;
-        types = h.types;
         typed = h.typed;
         standing = h.standing;
         goes = h.goes;
       }
 
-      back : (z : LocalState) → IsStepping devices s i side (bare z.sets z) m → IsStepping devices s i side z m
+      back : (z : LocalState) → IsStepping devices types s i side (bare z.sets z) m → IsStepping devices types s i side z m
       back z h = record {
         now = h.now;
         after_run = record { stored = h.after_run.stored; output = h.after_run.output; others = h.after_run.others; next = h.after_run.next };
         member = h.member;
         active = h.active;
         orderly = h.orderly;
-        types = h.types;
         typed = h.typed;
         standing = h.standing;
         goes = h.goes;
@@ -126,23 +148,34 @@ module _ (devices : ℕ) (s : State) (i : ℕ) where
       ∙ ap (λ (z : LocalState). Some (bare sets z)) (sym x.is)
 
   -- steps alone
-  pub going-alone : (side : Side) (sets : List (ℕ × Val)) (p : LocalState) (k : ℕ) (q : LocalState) (n : ℕ) → goes side p k ≡ Some q → p.inputs ≡ []
-      → IsStepping devices s i side (bare sets p) n → IsStepping devices s i side (bare sets q) (n + k)
-  going-alone side sets p zero q n e empty g =
+  pub going-alone : {types : StoreTyping} (side : Side) (sets : List (ℕ × Val)) (p : LocalState) (k : ℕ) (q : LocalState) (n : ℕ) → goes side p k ≡ Some q → p.inputs ≡ []
+      → IsStepping devices types s i side (bare sets p) n → GoesOn types (λ later. Unit {0}) side (bare sets q) (n + k)
+  going-alone {types} side sets p zero q n e empty g =
       let same : p ≡ q = cc in
       let count : n ≡ n + zero = omega arith in
-      subst (λ (k : ℕ). IsStepping devices s i side (bare sets q) k) count (subst (λ (z : LocalState). IsStepping devices s i side (bare sets z) n) same g)
-  going-alone side sets p (suc k) q n e empty g =
+      record {
+        later = types;
+        grows = λ l cell is. is;
+        has = tt;
+        going = subst (λ (k : ℕ). IsStepping devices types s i side (bare sets q) k) count (subst (λ (z : LocalState). IsStepping devices types s i side (bare sets z) n) same g);
+      }
+  going-alone {types} side sets p (suc k) q n e empty g =
       option_and_then_some _ _ _ e (λ r first second.
       let before = going-alone side sets p k r n first empty g in
       let step = bare-step sets side r q second (goes-empty side p r k first empty) in
       let count : (n + k) + 1 ≡ n + suc k = omega arith in
-      subst (λ (z : ℕ). IsStepping devices s i side (bare sets q) z) count
-      (going-on side (bare sets r) (n + k) before [] (bare sets q) step (record { seen = tt; own = tt; made = tt }) refl))
+      let on = going-on side (bare sets r) (n + k) before.going (λ later. Unit {0}) [] (bare sets q) (any-types side (bare sets r) (n + k) before.going (bare sets q)) step
+      (record { seen = tt; own = tt; made = tt }) refl in
+      record {
+        later = on.later;
+        grows = grows-through before.grows on.grows;
+        has = tt;
+        going = subst (λ (z : ℕ). IsStepping devices on.later s i side (bare sets q) z) count on.going;
+      })
 
-  pub going-advanced : (sets : List (ℕ × Val)) (m o : MachineView) (k : ℕ) → Advances k m o → IsStepping devices s i (running_side m) (place_with sets m) m.steps
-      → IsStepping devices s i (running_side o) (place_with sets o) o.steps
-  going-advanced sets m o k a g =
+  pub going-advanced : {types : StoreTyping} (sets : List (ℕ × Val)) (m o : MachineView) (k : ℕ) → Advances k m o → IsStepping devices types s i (running_side m) (place_with sets m) m.steps
+      → GoesOn types (λ later. Unit {0}) (running_side o) (place_with sets o) o.steps
+  going-advanced {types} sets m o k a g =
       let h = going-alone (running_side m) sets (place_shown m) k (place_shown o) m.steps a.run refl g in
-      subst (λ (b : Bool). IsStepping devices s i (side_told b) (place_with sets o) o.steps) (sym a.inside)
-      (subst (λ (z : ℕ). IsStepping devices s i (running_side m) (place_with sets o) z) (sym a.steps) h)
+      subst (λ (b : Bool). GoesOn types (λ later. Unit {0}) (side_told b) (place_with sets o) o.steps) (sym a.inside)
+      (subst (λ (z : ℕ). GoesOn types (λ later. Unit {0}) (running_side m) (place_with sets o) z) (sym a.steps) h)

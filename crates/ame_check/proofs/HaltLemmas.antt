@@ -10,6 +10,7 @@ use Rattle.ame_term.specs.Maps.{at, put}
 use Rattle.ame_term.specs.State.{State, after, at_value, at_unprotected, closed_value, performed}
 use Rattle.ame_term.specs.declared.types.Unary.TheVariants as unary
 use Rattle.ame_term.specs.declared.semantics.StepKind.{StepKind}
+use Rattle.ame_laws.specs.Typed.StoreTyping.{StoreTyping}
 use Rattle.ame_journal.specs.Replayed.{is_false_condition}
 use Rattle.ame_journal.specs.Replay.{steps, Supply, member_act, redex_act, next_kind, step_by_name}
 use Rattle.ame_journal.proofs.StepLemmas.{IsReduced, step-reduced, free-reduced}
@@ -176,7 +177,7 @@ module _ (side : Side) (i : ℕ) (t : State) (term : Tree) (member : at t.member
       moved same (inr is) = inr (same ∙ is)
 
 -- Where a walk can't go on, there is none of more steps.
-pub halts-no_walk : (devices : ℕ) (s : State) (i : ℕ) (side : Side) (p : _) (n : ℕ) (g : IsStepping devices s i side p n) (fresh rest : List ℕ) → fresh ≡ p.fresh ++ rest
+pub halts-no_walk : {types : StoreTyping} (devices : ℕ) (s : State) (i : ℕ) (side : Side) (p : _) (n : ℕ) (g : IsStepping devices types s i side p n) (fresh rest : List ℕ) → fresh ≡ p.fresh ++ rest
     → Halts side i g.now rest → (total : ℕ) → n < total → IsNoWalk side i total fresh s
 halts-no_walk devices s i side p n g fresh rest front halts total below k answer far cond =
     let left = k - (n + 1) in

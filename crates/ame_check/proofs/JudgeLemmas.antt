@@ -13,7 +13,7 @@ use Rattle.ame_check.specs.Shows.{ReplayView, StandsForEntries}
 use Rattle.ame_check.specs.Entries.{MeetsTall}
 use Rattle.ame_check.specs.declared.reason.Reason.{Reason}
 use Rattle.ame_check.proofs.ReasonLemmas.{FailsBy}
-use Rattle.ame_check.specs.Judge.{most_steps, IsLong, LeadsTo, IsInvalid, IsTallAt}
+use Rattle.ame_check.specs.Judge.{most_steps, IsLong, LeadsTo, IsUndefinedAt, IsTooHighAt}
 
 -- what follows entries that can't be replayed doesn't change that
 pub undefined-all : (program : Tree) (entries : List Entry) (n : ℕ) → replay program (take n entries) ≡ None → replay program entries ≡ None
@@ -61,17 +61,17 @@ module _ (entries : List Entry) (index : ℕ) (below : index < length entries) (
               subst (λ (n : ℕ). most_steps < n) (ap (λ (n : ℕ). n + (entry.steps + 1)) counts.0 ∙ sym steps-more ∙ ap (λ (k : ℕ). total_steps (take k entries)) next) above;
         }
 
-module _ {C V M : Type 0} (meaning : Meaning C V M) (code : C) (entries : List Entry) (short : total_steps entries ≤ most_steps) (index place : ℕ) (counted : place ≡ index)
-    (view : ReplayView V M) (st : StandsForEntries meaning code (take index entries) view) where
-  pub valid-so : length entries ≤ index → (output : List ℤ) → output ≡ view.output → LeadsTo (meaning.program code) entries output
-  valid-so within output printed = record {
-    short = short;
-    led = st.led;
-    replayed = ap (replay (meaning.program code)) (sym (take_all index entries within)) ∙ st.replayed;
-    printed = printed ∙ st.shows.output;
-  }
+module _ {C V M : Type 0} (meaning : Meaning C V M) (code : C) (entries : List Entry) where
+  pub valid-so : total_steps entries ≤ most_steps → (view : ReplayView V M) → StandsForEntries meaning code entries view → (output : List ℤ) → output ≡ view.output
+      → LeadsTo (meaning.program code) entries output
+  valid-so short view st output printed = record { short = short; led = st.led; replayed = st.replayed; printed = printed ∙ st.shows.output }
 
-  module _ (below : index < length entries) (entry : Entry) (is : entry ≡ get_or entries index entry) where
+  module _ (index : ℕ) (view : ReplayView V M) (st : StandsForEntries meaning code (take index entries) view) where
+    pub whole-so : length entries ≤ index → StandsForEntries meaning code entries view
+    whole-so within = subst (λ (es : List Entry). StandsForEntries meaning code es view) (take_all index entries within) st
+
+  module _ (index place : ℕ) (counted : place ≡ index) (view : ReplayView V M) (st : StandsForEntries meaning code (take index entries) view)
+      (below : index < length entries) (entry : Entry) (is : entry ≡ get_or entries index entry) where
     next : place + 1 ≡ index + 1
     next = ap (λ (n : ℕ). n + 1) counted
 
@@ -94,9 +94,8 @@ module _ {C V M : Type 0} (meaning : Meaning C V M) (code : C) (entries : List E
         ap (λ (k : ℕ). replay (meaning.program code) (take k entries)) next
         ∙ ap (replay (meaning.program code)) (one-more_entry entries index below entry is) ∙ fails.0
 
-    pub invalid-so : (why : Reason) → FailsBy (meaning.program code) (take index entries) entry why → IsInvalid (meaning.program code) entries (place + 1) why
-    invalid-so why fails = record {
-      short = short;
+    pub undefined-so : (why : Reason) → FailsBy (meaning.program code) (take index entries) entry why → IsUndefinedAt (meaning.program code) entries (place + 1) why
+    undefined-so why fails = record {
       place = in-place;
       led = fails.1.0;
       replayed = ap (λ (k : ℕ). replay (meaning.program code) (take k entries)) before ∙ fails.1.1;
@@ -107,9 +106,8 @@ module _ {C V M : Type 0} (meaning : Meaning C V M) (code : C) (entries : List E
       met = fails.1.2;
     }
 
-    pub tall-so : (r : Replayed) × (replay (meaning.program code) (take index entries) ≡ Some r) × MeetsTall r entry → IsTallAt (meaning.program code) entries (place + 1)
-    tall-so tall = record {
-      short = short;
+    pub too_high-so : (r : Replayed) × (replay (meaning.program code) (take index entries) ≡ Some r) × MeetsTall r entry → IsTooHighAt (meaning.program code) entries (place + 1)
+    too_high-so tall = record {
       place = in-place;
       led = tall.0;
       replayed = ap (λ (k : ℕ). replay (meaning.program code) (take k entries)) before ∙ tall.1;

@@ -1,4 +1,5 @@
 pub mod ListLemmas
+pub mod SortLemmas
 pub mod HaltLemmas
 pub mod GoingLemmas
 pub mod FedLemmas

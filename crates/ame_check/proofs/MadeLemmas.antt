@@ -16,6 +16,7 @@ use Rattle.ame_machine.specs.MachineView.{MachineView}
 use Rattle.ame_check.specs.Shows.{ReplayView, ShowsValue, ShowsCells, ShowsMember, ShowsMembers, Shows, Adopts, IsResting}
 use Rattle.ame_check.specs.Walked.{place_with}
 use Rattle.ame_check.proofs.WalkLemmas.{with-below}
+use Rattle.ame_check.specs.declared.stored.Stored.{Stored}
 
 -- Members
 
@@ -83,7 +84,7 @@ pub leaving-own : (r : Replayed) (i : ℕ) (s : State) → is_inside (leaving r 
 leaving-own r i s = leaving-none r.inside i
 
 module _ {C V M : Type 0} (meaning : Meaning C V M) (code : C) where
-  shown-both : (a b : Option V) (x y : Option Val) → ShowsValue meaning code a x → ShowsValue meaning code b y → ShowsValue meaning code (or_else a b) (or_else x y)
+  shown-both : (a b : Option (Stored V)) (x y : Option Val) → ShowsValue meaning code a x → ShowsValue meaning code b y → ShowsValue meaning code (or_else a b) (or_else x y)
   shown-both None b x y h k = subst (λ (o : Option Val). ShowsValue meaning code b (or_else o y)) (sym h) k
   shown-both (Some v) b x y h k = (h.0, ap (λ (o : Option Val). or_else o y) h.1)
 
@@ -114,11 +115,11 @@ module _ {C V M : Type 0} (meaning : Meaning C V M) (code : C) where
 
     module _ (sets : List (ℕ × Val)) (m : MachineView) (now u : State) (after_run : IsAfterRun r.state i (place_with sets m) now)
         (store : u.store ≡ now.store) (output : u.output ≡ now.output) (next : u.next ≡ now.next) (members : (k : ℕ) → (k ≡ i → ⊥) → at u.members k ≡ at now.members k)
-        (overlay : List (ℕ × V)) (laid : ShowsCells meaning code overlay sets) (later : ReplayView V M) (cells : (l : ℕ) → at later.cells l ≡ or_else (at overlay l) (at place.cells l))
+        (overlay : List (ℕ × Stored V)) (laid : ShowsCells meaning code overlay sets) (later : ReplayView V M) (cells : (l : ℕ) → at later.cells l ≡ or_else (at overlay l) (at place.cells l))
         (printed : later.output ≡ place.output ++ m.prints) (machine : M) (number : ℕ) (last : List (ℕ × M)) (adopts : Adopts meaning code inside rest_of place.next m last number machine) where
       pub shows-store : ShowsCells meaning code later.cells u.store
       shows-store l =
-          subst (λ (o : Option V). ShowsValue meaning code o (at u.store l)) (sym (cells l))
+          subst (λ (o : Option (Stored V)). ShowsValue meaning code o (at u.store l)) (sym (cells l))
           (subst (λ (o : Option Val). ShowsValue meaning code (or_else (at overlay l) (at place.cells l)) o) (sym (ap (λ (st : List (ℕ × Val)). at st l) store ∙ after_run.stored l))
           (shown-both (at overlay l) (at place.cells l) (at sets l) (at r.state.store l) (laid l) (shows.store l)))
 

@@ -1,5 +1,5 @@
 -- A note, by what its call finds.
-use Rattle.std.proofs.Common.{◌≡◌, ℕ, ◌≤◌, ◌++◌, ◌∷◌, [], ℤ, Bool, true, false, List, Option, Some, None, refl, sym, ap, ◌∙◌, subst, is_some, arith}
+use Rattle.std.proofs.Common.{All, ◌<◌, ◌≡◌, ℕ, ◌≤◌, ◌++◌, ◌∷◌, [], ℤ, Bool, true, false, List, Option, Some, None, refl, sym, ap, ◌∙◌, subst, is_some, arith}
 use Rattle.ame_term.specs.Frame.{Side}
 use Rattle.ame_term.specs.Maps.{at}
 use Rattle.ame_term.specs.State.{State}
@@ -25,9 +25,11 @@ use Rattle.ame_check.specs.declared.walk.Walked.TheVariants as walked
 use Rattle.ame_check.proofs.EntryLemmas.{behind-journal, whole-leads}
 use Rattle.ame_check.proofs.StartLemmas.{its-term, its-rest, its-machine, walk-begins}
 use Rattle.ame_check.proofs.ReasonLemmas.{FailsBy, met-on, note-side, stops-met}
+use Rattle.ame_check.proofs.SortLemmas.{all-front}
 use Rattle.ame_check.proofs.WalkLemmas.{can-run}
 use Rattle.ame_check.proofs.RanLemmas.{undefined-there}
 use Rattle.ame_check.proofs.NoteLemmas.{note-undefined, note-is, note-absent, note-answered, side-tall, none-made, settled-flag}
+use Rattle.ame_check.specs.declared.stored.Stored.{Stored}
 
 module _ {C V M : Type 0} (meaning : Meaning C V M) (code : C) (accepted : IsAccepted (meaning.devices code) (meaning.program code))
     (sound : (m : M) → meaning.is_machine code m → IsSoundStage (meaning.stage code m)) (entry : Entry) (note : is_note entry.kind ≡ true)
@@ -70,13 +72,13 @@ module _ {C V M : Type 0} (meaning : Meaning C V M) (code : C) (accepted : IsAcc
     module _ (machine : M) (found : Some machine ≡ at place.members entry.number) (copy : M) (good : meaning.is_machine code machine → meaning.is_machine code copy)
         (same : meaning.stage code machine ≡ meaning.stage code copy) where
       term : at st.led.state.members entry.number ≡ Some (meaning.stage code machine).term
-      term = its-term meaning code accepted entries place st.led st.replayed st.shows entry.number machine found
+      term = its-term meaning code entries place st.led st.replayed st.shows entry.number machine found
 
       rest : meaning.stage code copy ≡ record (starting_at (meaning.stage code machine).term) { inside = is_inside st.led entry.number }
-      rest = sym same ∙ its-rest meaning code accepted entries place st.led st.replayed st.shows entry.number machine found
+      rest = sym same ∙ its-rest meaning code entries place st.led st.replayed st.shows entry.number machine found
 
       pub copy-good : meaning.is_machine code copy
-      copy-good = good (its-machine meaning code accepted entries place st.led st.replayed st.shows entry.number machine found)
+      copy-good = good (its-machine meaning code entries place st.led st.replayed st.shows entry.number machine found)
 
       pub copy-steps : (meaning.stage code copy).steps ≡ 0
       copy-steps = ap (λ (z : MachineView). z.steps) rest
@@ -84,13 +86,13 @@ module _ {C V M : Type 0} (meaning : Meaning C V M) (code : C) (accepted : IsAcc
       pub copy-runs : CanRun (meaning.stage code copy)
       copy-runs =
           can-run meaning code st.led.state entry.number entry.fresh place.cells [] copy
-          (walk-begins meaning code accepted entries place st.led st.replayed st.shows entry.number machine found copy [] entry.fresh (is_inside st.led entry.number) copy-good refl
+          (walk-begins meaning code entries place st.led st.replayed st.shows entry.number machine found st.types st.typed st.sorts copy [] entry.fresh (is_inside st.led entry.number) copy-good refl
           (ap (λ (z : MachineView). z.term) rest) (ap (λ (z : MachineView). z.prints) rest) (ap (λ (z : MachineView). z.spawns) rest) (ap (λ (z : MachineView). z.fresh) rest) copy-steps (ap (λ (z : MachineView). z.inside) rest)
           (calm.standing entry.number)).walking
 
       module _ (ready : M) (good_ready : meaning.is_machine code ready) (within : AdvancesWithin 0 (meaning.stage code copy) (meaning.stage code ready)) (want : Wants)
           (told : (meaning.stage code ready).want ≡ Some want) (settled : M) (good_settled : meaning.is_machine code settled) (settles : meaning.stage code settled ≡ settled_stage (meaning.stage code ready))
-          (overlay : List (ℕ × V)) (empty : overlay ≡ []) where
+          (overlay : List (ℕ × Stored V)) (empty : overlay ≡ []) where
         stays : ((meaning.stage code ready).term ≡ (meaning.stage code copy).term) × ((meaning.stage code ready).inside ≡ (meaning.stage code copy).inside)
         stays = none-made (meaning.stage code copy) (meaning.stage code ready) within
 
@@ -104,11 +106,11 @@ module _ {C V M : Type 0} (meaning : Meaning C V M) (code : C) (accepted : IsAcc
 
         pub begins-note : IsAtStep meaning code st.led.state entry.number entry.fresh place.cells overlay settled (side_at entry.number st.led.state) 0
         begins-note =
-            walk-begins meaning code accepted entries place st.led st.replayed st.shows entry.number machine found settled overlay entry.fresh (is_at_unprotected entry.number st.led.state) good_settled empty
+            walk-begins meaning code entries place st.led st.replayed st.shows entry.number machine found st.types st.typed st.sorts settled overlay entry.fresh (is_at_unprotected entry.number st.led.state) good_settled empty
             (ap (λ (z : MachineView). z.term) settles ∙ ready-term) (ap (λ (z : MachineView). z.prints) settles) (ap (λ (z : MachineView). z.spawns) settles) (ap (λ (z : MachineView). z.fresh) settles)
             (ap (λ (z : MachineView). z.steps) settles) flag (λ e. e)
 
-        module _ (later : List (ℕ × V)) (m : M) (found_as : Walked)
+        module _ (later : List (ℕ × Stored V)) (m : M) (found_as : Walked)
             (runs : (s : State) (i : ℕ) (side : Side) (n : ℕ) → IsAtStep meaning code s i entry.fresh place.cells overlay settled side n
             → RunsAlong meaning code s i entry.fresh place.cells later m side entry.steps found_as) where
           to : (w : Walked) → found_as ≡ w → RunsAlong meaning code st.led.state entry.number entry.fresh place.cells later m (side_at entry.number st.led.state) entry.steps w
@@ -148,6 +150,10 @@ module _ {C V M : Type 0} (meaning : Meaning C V M) (code : C) (accepted : IsAcc
               led = st.led;
               replayed = behind-journal (meaning.program code) entries entry st.led st.replayed ∙ tells ∙ ap (λ (b : Bool). note_where b st.led) so;
               shows = st.shows;
+              types = st.types;
+              typed = st.typed;
+              sorts = st.sorts;
+              below = λ most told. st.below most (all-front (λ (e : Entry). All (λ l. l < most) e.fresh) entries (entry ∷ []) told);
             }
 
             pub noted-not : is_confirmed entry.kind next ≡ false → FailsBy (meaning.program code) entries entry (reason.Stops entry.steps next)

@@ -25,6 +25,7 @@ use Rattle.ame_check.specs.declared.walk.Walked.TheVariants as walked
 use Rattle.ame_check.proofs.ReasonLemmas.{FailsBy, met-on, stops-met}
 use Rattle.ame_check.proofs.StartLemmas.{its-term, its-rest, its-machine, is-early, walk-begins}
 use Rattle.ame_check.proofs.RanLemmas.{AdoptsAll, undefined-there, ran-undefined, ran-neither, ran-ended, ran-left, ran-answered, ran-inside, ran-absent, protected-tall}
+use Rattle.ame_check.specs.declared.stored.Stored.{Stored}
 
 module _ {C V M : Type 0} (meaning : Meaning C V M) (code : C) (accepted : IsAccepted (meaning.devices code) (meaning.program code))
     (sound : (m : M) → meaning.is_machine code m → IsSoundStage (meaning.stage code m)) (entry : Entry) (kind : entry.kind ≡ EntryKind.Ran)
@@ -54,27 +55,27 @@ module _ {C V M : Type 0} (meaning : Meaning C V M) (code : C) (accepted : IsAcc
 
   module _ (machine : M) (found : Some machine ≡ at place.members entry.number) where
     term : at st.led.state.members entry.number ≡ Some (meaning.stage code machine).term
-    term = its-term meaning code accepted entries place st.led st.replayed st.shows entry.number machine found
+    term = its-term meaning code entries place st.led st.replayed st.shows entry.number machine found
 
     rest : meaning.stage code machine ≡ record (starting_at (meaning.stage code machine).term) { inside = is_inside st.led entry.number }
-    rest = its-rest meaning code accepted entries place st.led st.replayed st.shows entry.number machine found
+    rest = its-rest meaning code entries place st.led st.replayed st.shows entry.number machine found
 
     pub goes-on_inside : (meaning.stage code machine).inside ≡ true → FailsBy (meaning.program code) entries entry reason.Inside
     goes-on_inside flag =
         let inside = sym (ap (λ (z : MachineView). z.inside) rest) ∙ flag in
         fails reason.Inside (undefined-there meaning code entries entry place st.led st.replayed st.shows calm (ran-inside st.led entry kind inside)) (kind, inside)
 
-    module _ (flag : (meaning.stage code machine).inside ≡ false) (overlay : List (ℕ × V)) (empty : overlay ≡ []) where
+    module _ (flag : (meaning.stage code machine).inside ≡ false) (overlay : List (ℕ × Stored V)) (empty : overlay ≡ []) where
       pub begins-ran : IsAtStep meaning code st.led.state entry.number entry.fresh place.cells overlay machine Side.Protected 0
       begins-ran =
-          walk-begins meaning code accepted entries place st.led st.replayed st.shows entry.number machine found machine overlay entry.fresh false
-          (its-machine meaning code accepted entries place st.led st.replayed st.shows entry.number machine found) empty refl (ap (λ (z : MachineView). z.prints) rest) (ap (λ (z : MachineView). z.spawns) rest)
+          walk-begins meaning code entries place st.led st.replayed st.shows entry.number machine found st.types st.typed st.sorts machine overlay entry.fresh false
+          (its-machine meaning code entries place st.led st.replayed st.shows entry.number machine found) empty refl (ap (λ (z : MachineView). z.prints) rest) (ap (λ (z : MachineView). z.spawns) rest)
           (ap (λ (z : MachineView). z.fresh) rest) (ap (λ (z : MachineView). z.steps) rest) flag (λ e. absurd (cc))
 
       outside : is_inside st.led entry.number ≡ false
       outside = sym (ap (λ (z : MachineView). z.inside) rest) ∙ flag
 
-      module _ (quiet : entry.answer ≡ None) (later : List (ℕ × V)) (m : M) (found_as : Walked)
+      module _ (quiet : entry.answer ≡ None) (later : List (ℕ × Stored V)) (m : M) (found_as : Walked)
           (runs : (s : State) (i : ℕ) (side : Side) (n : ℕ) → IsAtStep meaning code s i entry.fresh place.cells overlay machine side n
           → RunsAlong meaning code s i entry.fresh place.cells later m side entry.steps found_as) where
         to : (w : Walked) → found_as ≡ w → RunsAlong meaning code st.led.state entry.number entry.fresh place.cells later m Side.Protected entry.steps w
@@ -83,12 +84,12 @@ module _ {C V M : Type 0} (meaning : Meaning C V M) (code : C) (accepted : IsAcc
             (runs st.led.state entry.number Side.Protected 0 begins-ran)
 
         early : entry.number < st.led.state.next
-        early = is-early meaning code accepted entries place st.led st.replayed st.shows entry.number machine found
+        early = is-early meaning code entries place st.led st.replayed st.shows entry.number machine found
 
         pub has-no-run : (why : Reason) → found_as ≡ walked.Undefined why → FailsBy (meaning.program code) entries entry why
         has-no-run why is =
             let none = to (walked.Undefined why) is in
-            fails why (ran-undefined meaning code entries entry place st.led st.replayed st.shows calm machine found term early kind quiet outside none.0) (on-side why none.1)
+            fails why (ran-undefined meaning code entries entry place st.led st.replayed st.shows calm machine found term early st.below kind quiet outside none.0) (on-side why none.1)
 
         pub has-tall : found_as ≡ walked.Tall → (r : Replayed) × (replay (meaning.program code) entries ≡ Some r) × MeetsTall r entry
         has-tall is = (st.led, st.replayed, protected-tall st.led entry (meaning.stage code machine).term calm.idle term (to walked.Tall is))
@@ -101,23 +102,23 @@ module _ {C V M : Type 0} (meaning : Meaning C V M) (code : C) (accepted : IsAcc
           has-other-want done left =
               let least : entry.steps ≤ entry.steps = omega arith in
               fails (reason.Stops entry.steps want)
-              (ran-neither meaning code entries entry place st.led st.replayed st.shows calm machine found term early kind quiet outside later m whole.0 whole.1 (sound m whole.0.walking.machine) want whole.2 done left)
+              (ran-neither meaning code entries entry place st.led st.replayed st.shows calm machine found term early st.below kind quiet outside later m whole.0 whole.1 (sound m whole.0.walking.machine) want whole.2 done left)
               (on-side (reason.Stops entry.steps want)
               (stops-met meaning code sound st.led.state entry.number entry.fresh place.cells later m Side.Protected entry.steps whole.0 entry.steps least entry.steps (sym whole.0.counted) want whole.2))
 
           module _ (machines : List (ℕ × M)) (gone : at machines entry.number ≡ None) (others : (k : ℕ) → (k ≡ entry.number → ⊥) → at machines k ≡ at place.members k)
-              (cells : List (ℕ × V)) (merged : (l : ℕ) → at cells l ≡ or_else (at later l) (at place.cells l)) (output : List ℤ) (printed : output ≡ place.output ++ (meaning.stage code m).prints)
+              (cells : List (ℕ × Stored V)) (merged : (l : ℕ) → at cells l ≡ or_else (at later l) (at place.cells l)) (output : List ℤ) (printed : output ≡ place.output ++ (meaning.stage code m).prints)
               (kept : M) (number : ℕ) (last : List (ℕ × M)) (adopts : AdoptsAll meaning code machines place.next m last number kept) where
             pub ended-so : want ≡ wants.Done → StandsForEntries meaning code (entries ++ entry ∷ []) (record { cells = cells; members = last; output = output; next = number })
             ended-so done =
-                ran-ended meaning code entries entry place st.led st.replayed st.shows calm machine found term early kind quiet outside later m whole.0 whole.1 (sound m whole.0.walking.machine)
+                ran-ended meaning code entries entry place st.led st.replayed st.shows calm machine found term early st.below kind quiet outside later m whole.0 whole.1 (sound m whole.0.walking.machine)
                 machines gone others cells merged output printed kept number last adopts (whole.2 ∙ ap (λ (w : Wants). Some w) done)
 
             pub left-so : want ≡ wants.Leave → (back : M) → (meaning.is_machine code kept → meaning.is_machine code back) → meaning.stage code back ≡ settled_stage (meaning.stage code kept)
                 → (members : List (ℕ × M)) → members ≡ put last entry.number back
                 → StandsForEntries meaning code (entries ++ entry ∷ []) (record { cells = cells; members = members; output = output; next = number })
             left-so left back good settled members put_back =
-                ran-left meaning code entries entry place st.led st.replayed st.shows calm machine found term early kind quiet outside later m whole.0 whole.1 (sound m whole.0.walking.machine)
+                ran-left meaning code entries entry place st.led st.replayed st.shows calm machine found term early st.below kind quiet outside later m whole.0 whole.1 (sound m whole.0.walking.machine)
                 machines gone others cells merged output printed kept number last adopts (whole.2 ∙ ap (λ (w : Wants). Some w) left) back good settled members put_back
 
 -- no answer

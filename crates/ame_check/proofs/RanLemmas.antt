@@ -23,12 +23,16 @@ use Rattle.ame_machine.specs.Move.{settled_stage, tells_leave}
 use Rattle.ame_machine.specs.declared.wants.Wants.{Wants}
 use Rattle.ame_machine.specs.declared.wants.Wants.TheVariants as wants
 use Rattle.ame_machine.proofs.NeedLemmas.{comes_as}
-use Rattle.ame_check.specs.Shows.{ReplayView, Shows, ShowsMembers, StandsForEntries, Adopts}
+use Rattle.ame_laws.specs.Typed.StoreTyping.{StoreTyping, Grows}
+use Rattle.ame_laws.proofs.Typed.Preserved.{kept as kept_typed}
+use Rattle.ame_check.proofs.SortLemmas.{sorts-grow, sorts-merged, below-merged}
+use Rattle.ame_check.specs.Shows.{HaveSorts, AreBelow, TellBelow, ReplayView, Shows, ShowsMembers, StandsForEntries, Adopts}
 use Rattle.ame_check.specs.Walk.{active_on, begun_on, steps_on, IsStepping, ComesToTall}
 use Rattle.ame_check.specs.Walked.{place_with, IsAtStep}
 use Rattle.ame_check.specs.Entries.{MeetsTall}
-use Rattle.ame_check.proofs.EntryLemmas.{behind-journal, stands-as, fragment-calm, no-steps, left-is, ended-is, neither-is, ran-entry, whole-leads}
+use Rattle.ame_check.proofs.EntryLemmas.{behind-journal, stands-as, fragment-calm, no-steps, can-leave, can-end, left-is, ended-is, neither-is, ran-entry, whole-leads}
 use Rattle.ame_check.proofs.MadeLemmas.{rest_of, shows-rest, outside-next, shows-store, shows-output, shows-next, shows-ended, shows-back, entering-other, entering-own}
+use Rattle.ame_check.specs.declared.stored.Stored.{Stored}
 
 -- the adopting of new members by the machines that are left
 abbrev pub AdoptsAll : {C V M : Type 0} → Meaning C V M → C → List (ℕ × M) → ℕ → M → List (ℕ × M) → ℕ → M → Type 0
@@ -98,7 +102,7 @@ module _ {C V M : Type 0} (meaning : Meaning C V M) (code : C) (entries : List E
   undefined-there e = behind-journal (meaning.program code) entries entry r replayed ∙ e
 
   module _ (machine : M) (found : Some machine ≡ at place.members entry.number) (term : at r.state.members entry.number ≡ Some (meaning.stage code machine).term) (early : entry.number < r.state.next)
-      (kind : entry.kind ≡ EntryKind.Ran) (quiet : entry.answer ≡ None) (outside : is_inside r entry.number ≡ false) where
+      (below : (most : ℕ) → TellBelow most entries → AreBelow most place.cells) (kind : entry.kind ≡ EntryKind.Ran) (quiet : entry.answer ≡ None) (outside : is_inside r entry.number ≡ false) where
     leads_to : replay_entry r entry ≡ option_and_then (left_or_ended r entry.number) (steps_on Side.Protected entry.number entry.steps entry.fresh None (begun_on Side.Protected entry.number r.state))
     leads_to = ran-entry r entry.number calm.idle entry kind refl quiet outside (meaning.stage code machine).term term
 
@@ -106,9 +110,9 @@ module _ {C V M : Type 0} (meaning : Meaning C V M) (code : C) (entries : List E
         → replay (meaning.program code) (entries ++ entry ∷ []) ≡ None
     ran-undefined e = undefined-there (leads_to ∙ ap (option_and_then (left_or_ended r entry.number)) e)
 
-    module _ (overlay : List (ℕ × V)) (m : M) (a : IsAtStep meaning code r.state entry.number entry.fresh place.cells overlay m Side.Protected entry.steps) (used : (meaning.stage code m).fresh ≡ entry.fresh)
+    module _ (overlay : List (ℕ × Stored V)) (m : M) (a : IsAtStep meaning code r.state entry.number entry.fresh place.cells overlay m Side.Protected entry.steps) (used : (meaning.stage code m).fresh ≡ entry.fresh)
         (sound : IsSoundStage (meaning.stage code m)) where
-      g : IsStepping (meaning.devices code) r.state entry.number (running_side (meaning.stage code m)) (place_with a.walking.sets (meaning.stage code m)) (meaning.stage code m).steps
+      g : IsStepping (meaning.devices code) a.walking.types r.state entry.number (running_side (meaning.stage code m)) (place_with a.walking.sets (meaning.stage code m)) (meaning.stage code m).steps
       g = a.walking.going
 
       leads-now : replay_entry r entry ≡ left_or_ended r entry.number g.now
@@ -135,8 +139,12 @@ module _ {C V M : Type 0} (meaning : Meaning C V M) (code : C) (entries : List E
           undefined-there (leads-now ∙ neither-is r entry.number calm.idle g.now (meaning.stage code m).term now-active g.member stands.0 stands.1)
 
       module _ (machines : List (ℕ × M)) (gone : at machines entry.number ≡ None) (others : (k : ℕ) → (k ≡ entry.number → ⊥) → at machines k ≡ at place.members k)
-          (cells : List (ℕ × V)) (merged : (l : ℕ) → at cells l ≡ or_else (at overlay l) (at place.cells l)) (output : List ℤ) (printed : output ≡ place.output ++ (meaning.stage code m).prints)
+          (cells : List (ℕ × Stored V)) (merged : (l : ℕ) → at cells l ≡ or_else (at overlay l) (at place.cells l)) (output : List ℤ) (printed : output ≡ place.output ++ (meaning.stage code m).prints)
           (kept : M) (number : ℕ) (last : List (ℕ × M)) (adopts : AdoptsAll meaning code machines place.next m last number kept) where
+        later-sorts : (types : StoreTyping) → Grows a.walking.types types → HaveSorts types cells
+        later-sorts types grows =
+            sorts-merged types overlay place.cells cells (sorts-grow a.walking.types types overlay grows a.walking.sorts_set) (sorts-grow a.walking.types types place.cells grows a.walking.sorts) merged
+
         pub ran-ended : (meaning.stage code m).want ≡ Some wants.Done → StandsForEntries meaning code (entries ++ entry ∷ []) (record { cells = cells; members = last; output = output; next = number })
         ran-ended told =
             let i = entry.number in
@@ -146,8 +154,14 @@ module _ {C V M : Type 0} (meaning : Meaning C V M) (code : C) (entries : List E
             let adopted = adopts (rest_of meaning code r i place calm early shows machines gone others inside (λ k apart. refl)) inside a.walking.machine
             (shows-rest meaning code r i place calm early shows machines gone others inside (λ k apart. refl))
             (λ k far. outside-next meaning code r i place calm early shows machines gone others inside (λ k apart. refl) k (subst (λ (n : ℕ). n ≤ k) shows.next far)) in
+            let typed = kept_typed (meaning.devices code) a.walking.types g.now Label.End u g.typed
+            (can-end r.state i calm.idle g.now (meaning.stage code m).term now-active g.member comes.1) in
             record {
               led = staying r u;
+              types = typed.0;
+              typed = typed.2;
+              sorts = later-sorts typed.0 typed.1;
+              below = below-merged entries entry overlay place.cells cells a.walking.below below merged;
               replayed = behind-journal (meaning.program code) entries entry r replayed ∙ leads-now ∙ ended-is r i calm.idle g.now (meaning.stage code m).term now-active g.member comes.1;
               shows =
                   let later : ReplayView V M = record { cells = cells; members = last; output = output; next = number } in
@@ -184,8 +198,14 @@ module _ {C V M : Type 0} (meaning : Meaning C V M) (code : C) (entries : List E
             (shows-rest meaning code r i place calm early shows machines gone others inside flags)
             (λ k far. outside-next meaning code r i place calm early shows machines gone others inside flags k (subst (λ (n : ℕ). n ≤ k) shows.next far)) in
             let is : meaning.stage code back ≡ settled_stage (record (meaning.stage code m) { spawns = [] }) = settled ∙ ap settled_stage adopted.stays in
+            let typed = kept_typed (meaning.devices code) a.walking.types g.now Label.Leave u g.typed
+            (can-leave r.state i calm.idle g.now (meaning.stage code m).term now-active g.member comes.1) in
             record {
               led = entering r i u;
+              types = typed.0;
+              typed = typed.2;
+              sorts = later-sorts typed.0 typed.1;
+              below = below-merged entries entry overlay place.cells cells a.walking.below below merged;
               replayed = behind-journal (meaning.program code) entries entry r replayed ∙ leads-now ∙ left-is r i calm.idle g.now (meaning.stage code m).term now-active g.member comes.1;
               shows =
                   let later : ReplayView V M = record { cells = cells; members = members; output = output; next = number } in

@@ -25,13 +25,14 @@ use Rattle.ame_check.specs.declared.reason.Reason.TheVariants as reason
 use Rattle.ame_check.proofs.EntryLemmas.{whole-leads}
 use Rattle.ame_check.proofs.FedLemmas.{shown-some}
 use Rattle.ame_check.proofs.ListLemmas.{rest-some}
+use Rattle.ame_check.specs.declared.stored.Stored.{Stored}
 
 under-is : (b : Bool) → b ≡ is_unprotected_side (side_told b)
 under-is true = refl
 under-is false = refl
 
 module _ {C V M : Type 0} (meaning : Meaning C V M) (code : C) (sound : (m : M) → meaning.is_machine code m → IsSoundStage (meaning.stage code m))
-    (s : State) (i : ℕ) (fresh : List ℕ) (cells overlay : List (ℕ × V)) (m : M) (side : Side) (n : ℕ) (a : IsAtStep meaning code s i fresh cells overlay m side n) where
+    (s : State) (i : ℕ) (fresh : List ℕ) (cells overlay : List (ℕ × Stored V)) (m : M) (side : Side) (n : ℕ) (a : IsAtStep meaning code s i fresh cells overlay m side n) where
   abbrev view : MachineView
   view = meaning.stage code m
 
@@ -64,7 +65,7 @@ module _ {C V M : Type 0} (meaning : Meaning C V M) (code : C) (sound : (m : M) 
     pub missing-met : Allocates view.want → a.walking.rest ≡ [] → MeetsReason side s i fresh total (reason.Missing k)
     missing-met (sort, number, told) none = (sort, number, a.walking.going.now, at_rest (wants.Alloc sort number) told [] none)
 
-    pub taken-met : Allocates view.want → (l : Loc) (more : List ℕ) → a.walking.rest ≡ l.0 ∷ more → (v : V) → Some v ≡ or_else (at overlay l.0) (at cells l.0)
+    pub taken-met : Allocates view.want → (l : Loc) (more : List ℕ) → a.walking.rest ≡ l.0 ∷ more → (v : Stored V) → Some v ≡ or_else (at overlay l.0) (at cells l.0)
         → MeetsReason side s i fresh total (reason.Taken k l)
     taken-met (sort, number, told) l more is v has =
         let shown = (shown-some meaning code (at overlay l.0) (at cells l.0) (at a.walking.sets l.0) (at s.store l.0) v (a.walking.laid l.0) (a.walking.store l.0) has).1 in

@@ -20,9 +20,11 @@ use Rattle.ame_machine.specs.Run.AgreesWith.{with_members}
 use Rattle.ame_machine.specs.Meaning.{Meaning}
 use Rattle.ame_machine.specs.Sound.{IsAccepted}
 use Rattle.ame_machine.specs.MachineView.{MachineView, starting_at, running_side}
-use Rattle.ame_check.specs.Shows.{ReplayView, ShowsValue, ShowsMember, Shows, StandsForEntries, IsResting}
+use Rattle.ame_check.proofs.SortLemmas.{sorts-none, below-none}
+use Rattle.ame_check.specs.Shows.{HaveSorts, ReplayView, ShowsValue, ShowsMember, Shows, StandsForEntries, IsResting}
 use Rattle.ame_check.specs.Walk.{begun_on, steps_on, IsStepping}
 use Rattle.ame_check.specs.Walked.{place_with, IsAtStep}
+use Rattle.ame_check.specs.declared.stored.Stored.{Stored}
 
 -- with another member active, or none
 active-typed : (devices : ℕ) (types : StoreTyping) (s : State) (side : Side) (i : ℕ) → is_some (at s.members i) ≡ true → IsTyped devices types s → IsTyped devices types (begun_on side i s)
@@ -56,7 +58,7 @@ active-orderly s Side.Unprotected i there o = record {
 -- where nothing was made yet
 going-begins : (devices : ℕ) (types : StoreTyping) (s : State) (i : ℕ) (side : Side) (term : Tree) → at s.members i ≡ Some term → IsTyped devices types s → IsOrderly s
     → (side ≡ Side.Unprotected → is_at_unprotected i s ≡ true) → (m : MachineView) → m.term ≡ term → m.prints ≡ [] → m.spawns ≡ [] → m.fresh ≡ []
-    → IsStepping devices s i side (place_with [] m) 0
+    → IsStepping devices types s i side (place_with [] m) 0
 going-begins devices types s i side term member typed orderly standing m at_term prints spawns fresh = record {
   now = begun_on side i s;
   after_run = record {
@@ -68,7 +70,6 @@ going-begins devices types s i side term member typed orderly standing m at_term
   member = member ∙ ap (λ (t : Tree). Some t) (sym at_term);
   active = refl;
   orderly = active-orderly s side i (ap is_some member) orderly;
-  types = types;
   typed = active-typed devices types s side i (ap is_some member) typed;
   standing = standing;
   goes = λ left rest answer.
@@ -78,13 +79,18 @@ going-begins devices types s i side term member typed orderly standing m at_term
 }
 
 module _ {C V M : Type 0} (meaning : Meaning C V M) (code : C) where
-  pub starts : (machine : M) (cells : List (ℕ × V)) (members none : List (ℕ × M)) (output : List ℤ) → meaning.is_machine code machine → meaning.stage code machine ≡ starting_at (meaning.program code)
+  pub starts : (accepted : IsAccepted (meaning.devices code) (meaning.program code)) (machine : M) (cells : List (ℕ × Stored V)) (members none : List (ℕ × M)) (output : List ℤ) → meaning.is_machine code machine → meaning.stage code machine ≡ starting_at (meaning.program code)
       → cells ≡ [] → none ≡ [] → members ≡ put none 0 machine → output ≡ [] → StandsForEntries meaning code [] (record { cells = cells; members = members; output = output; next = 1 })
-  starts machine cells members none output good is no_cells no_members put_one no_output = record {
+  starts accepted machine cells members none output good is no_cells no_members put_one no_output =
+      let typed = typed-replayed (meaning.devices code) accepted.places (meaning.program code) accepted.refs [] (begun_at (meaning.program code)) accepted.accepts accepted.source refl in record {
     led = begun_at (meaning.program code);
     replayed = refl;
+    types = typed.0;
+    typed = typed.1;
+    sorts = sorts-none typed.0 cells no_cells;
+    below = λ most told. below-none most cells no_cells;
     shows = record {
-      store = λ l. subst (λ (es : List (ℕ × V)). ShowsValue meaning code (at es l) None) (sym no_cells) refl;
+      store = λ l. subst (λ (es : List (ℕ × Stored V)). ShowsValue meaning code (at es l) None) (sym no_cells) refl;
       members = λ k. subst (λ (es : List (ℕ × M)). ShowsMember meaning code false (at es k) (at (start (meaning.program code)).members k)) (sym (put_one ∙ ap (λ (es : List (ℕ × M)). put es 0 machine) no_members))
           (one k (is_at (nat_cmp k) 0));
       output = no_output;
@@ -98,7 +104,7 @@ module _ {C V M : Type 0} (meaning : Meaning C V M) (code : C) where
 
   -- A member of a replayed state begins an entry's steps
 
-  module _ (accepted : IsAccepted (meaning.devices code) (meaning.program code)) (entries : List Entry) (place : ReplayView V M) (r : Replayed) (replayed : replay (meaning.program code) entries ≡ Some r)
+  module _ (entries : List Entry) (place : ReplayView V M) (r : Replayed) (replayed : replay (meaning.program code) entries ≡ Some r)
       (shows : Shows meaning code place r) (i : ℕ) (machine : M) (found : Some machine ≡ at place.members i) where
     shown : ShowsMember meaning code (is_inside r i) (Some machine) (at r.state.members i)
     shown = subst (λ (o : Option M). ShowsMember meaning code (is_inside r i) o (at r.state.members i)) (sym found) (shows.members i)
@@ -119,12 +125,11 @@ module _ {C V M : Type 0} (meaning : Meaning C V M) (code : C) where
     is-early = numbers-at (λ j. j < r.state.next) r.state.members i (ap is_some its-term) calm.orderly.members_below
 
     -- a machine at its term alone, on a side on which it may be
-    pub walk-begins : (m : M) (overlay : List (ℕ × V)) (fresh : List ℕ) (inside : Bool) → meaning.is_machine code m → overlay ≡ []
+    pub walk-begins : (types : StoreTyping) → IsTyped (meaning.devices code) types r.state → HaveSorts types place.cells → (m : M) (overlay : List (ℕ × Stored V)) (fresh : List ℕ) (inside : Bool) → meaning.is_machine code m → overlay ≡ []
         → (meaning.stage code m).term ≡ (meaning.stage code machine).term → (meaning.stage code m).prints ≡ [] → (meaning.stage code m).spawns ≡ [] → (meaning.stage code m).fresh ≡ []
         → (meaning.stage code m).steps ≡ 0 → (meaning.stage code m).inside ≡ inside
         → (inside ≡ true → is_at_unprotected i r.state ≡ true) → IsAtStep meaning code r.state i fresh place.cells overlay m (side_told inside) 0
-    walk-begins m overlay fresh inside good empty term prints spawns none zero flag standing =
-        let typed = typed-replayed (meaning.devices code) accepted.places (meaning.program code) accepted.refs entries r accepted.accepts accepted.source replayed in
+    walk-begins types typed sorts m overlay fresh inside good empty term prints spawns none zero flag standing =
         let on : running_side (meaning.stage code m) ≡ side_told inside = ap side_told flag in
         record {
           walking = record {
@@ -132,10 +137,14 @@ module _ {C V M : Type 0} (meaning : Meaning C V M) (code : C) where
             early = is-early;
             store = shows.store;
             sets = [];
-            laid = λ l. subst (λ (es : List (ℕ × V)). ShowsValue meaning code (at es l) None) (sym empty) refl;
+            laid = λ l. subst (λ (es : List (ℕ × Stored V)). ShowsValue meaning code (at es l) None) (sym empty) refl;
+            types = types;
+            sorts = sorts;
+            sorts_set = sorts-none types overlay empty;
+            below = λ most told under. below-none most overlay empty;
             going =
-                subst (λ (k : ℕ). IsStepping (meaning.devices code) r.state i (running_side (meaning.stage code m)) (place_with [] (meaning.stage code m)) k) (sym zero)
-                (going-begins (meaning.devices code) typed.0 r.state i (running_side (meaning.stage code m)) (meaning.stage code machine).term its-term typed.1 calm.orderly
+                subst (λ (k : ℕ). IsStepping (meaning.devices code) types r.state i (running_side (meaning.stage code m)) (place_with [] (meaning.stage code m)) k) (sym zero)
+                (going-begins (meaning.devices code) types r.state i (running_side (meaning.stage code m)) (meaning.stage code machine).term its-term typed calm.orderly
                 (λ un. standing (side-inside inside (sym on ∙ un))) (meaning.stage code m) term prints spawns none);
             rest = fresh;
             front = ap (λ (xs : List ℕ). xs ++ fresh) (sym none);

@@ -11,6 +11,8 @@ use Rattle.ame_term.specs.declared.types.Loc.{Loc}
 use Rattle.ame_term.specs.declared.semantics.StepKind.{StepKind}
 use Rattle.ame_term.specs.declared.semantics.Label.{Label}
 use Rattle.ame_laws.proofs.MapLemmas.{at-change_same, at-change_other}
+use Rattle.ame_laws.specs.Typed.TypedState.{IsTypedLater}
+use Rattle.ame_laws.proofs.Typed.Preserved.{kept}
 use Rattle.ame_journal.specs.Labels.{fresh_of}
 use Rattle.ame_journal.specs.Replay.{locations, redex_act, member_act, next_kind}
 use Rattle.ame_journal.proofs.StepLemmas.{named}
@@ -36,10 +38,12 @@ use Rattle.ame_check.specs.Walked.{place_with, WantsAnswer, is_plain, IsWalking,
 use Rattle.ame_check.specs.declared.walk.Walked.{Walked}
 use Rattle.ame_check.specs.declared.walk.Walked.TheVariants as walked
 use Rattle.ame_check.proofs.EntryLemmas.{whole-leads}
+use Rattle.ame_check.proofs.SortLemmas.{sorts-grow}
 use Rattle.ame_check.proofs.GoingLemmas.{legal-on}
 use Rattle.ame_check.proofs.HaltLemmas.{reduced-on, halts-closing, halts-device}
 use Rattle.ame_check.proofs.LastLemmas.{no-answer, no-location, calls-none, closes-none, told-inside}
 use Rattle.ame_check.proofs.ListLemmas.{rest-some, rest-none}
+use Rattle.ame_check.specs.declared.stored.Stored.{Stored}
 
 -- a call's step is that of its answer
 device-kind : (kind : StepKind) (a : ℤ) → Some a ≡ device_answer kind → kind ≡ StepKind.Device a
@@ -67,21 +71,21 @@ plain-other _ a b c = refl
 
 module _ {C V M : Type 0} (meaning : Meaning C V M) (code : C) where
   -- a walk under `unprotected`, by the steps that are counted
-  pub stepping : (s : State) (i : ℕ) (fresh : List ℕ) (cells overlay : List (ℕ × V)) (m : M) (n : ℕ) (a : IsAtStep meaning code s i fresh cells overlay m Side.Unprotected n)
-      → IsStepping (meaning.devices code) s i Side.Unprotected (place_with a.walking.sets (meaning.stage code m)) n
+  pub stepping : (s : State) (i : ℕ) (fresh : List ℕ) (cells overlay : List (ℕ × Stored V)) (m : M) (n : ℕ) (a : IsAtStep meaning code s i fresh cells overlay m Side.Unprotected n)
+      → IsStepping (meaning.devices code) a.walking.types s i Side.Unprotected (place_with a.walking.sets (meaning.stage code m)) n
   stepping s i fresh cells overlay m n a =
-      subst (λ (k : ℕ). IsStepping (meaning.devices code) s i Side.Unprotected (place_with a.walking.sets (meaning.stage code m)) k) a.counted
-      (subst (λ (z : Side). IsStepping (meaning.devices code) s i z (place_with a.walking.sets (meaning.stage code m)) (meaning.stage code m).steps) a.runs_on a.walking.going)
+      subst (λ (k : ℕ). IsStepping (meaning.devices code) a.walking.types s i Side.Unprotected (place_with a.walking.sets (meaning.stage code m)) k) a.counted
+      (subst (λ (z : Side). IsStepping (meaning.devices code) a.walking.types s i z (place_with a.walking.sets (meaning.stage code m)) (meaning.stage code m).steps) a.runs_on a.walking.going)
 
   module _ (sound : (m : M) → meaning.is_machine code m → IsSoundStage (meaning.stage code m))
-      (s : State) (i : ℕ) (fresh : List ℕ) (cells overlay : List (ℕ × V)) (m : M) (n : ℕ) (a : IsAtStep meaning code s i fresh cells overlay m Side.Unprotected n) where
+      (s : State) (i : ℕ) (fresh : List ℕ) (cells overlay : List (ℕ × Stored V)) (m : M) (n : ℕ) (a : IsAtStep meaning code s i fresh cells overlay m Side.Unprotected n) where
     abbrev sets : List (ℕ × Val)
     sets = a.walking.sets
 
     abbrev view : MachineView
     view = meaning.stage code m
 
-    here : IsStepping (meaning.devices code) s i Side.Unprotected (place_with sets view) n
+    here : IsStepping (meaning.devices code) a.walking.types s i Side.Unprotected (place_with sets view) n
     here = stepping s i fresh cells overlay m n a
 
     inside : view.inside ≡ true
@@ -224,8 +228,16 @@ module _ {C V M : Type 0} (meaning : Meaning C V M) (code : C) where
             let r = does.after_run in
             record { stored = r.stored; output = r.output; others = r.others; next = r.next }
 
-        pub heard : HasCome meaning code s i overlay o true (visiting i (n + 1) fresh answer s)
+        typed-behind : IsTypedLater (meaning.devices code) a.walking.types does.behind
+        typed-behind = kept (meaning.devices code) a.walking.types here.now (label_by Side.Unprotected i does.kind) does.behind here.typed legal
+
+        pub heard : HasCome meaning code s i fresh cells overlay o true (visiting i (n + 1) fresh answer s)
         heard = record {
+          types = typed-behind.0;
+          typed = typed-behind.2;
+          sorts = sorts-grow a.walking.types typed-behind.0 cells typed-behind.1 a.walking.sorts;
+          sorts_set = sorts-grow a.walking.types typed-behind.0 overlay typed-behind.1 a.walking.sorts_set;
+          below = a.walking.below;
           machine = good;
           sets = sets;
           laid = a.walking.laid;
@@ -275,8 +287,16 @@ module _ {C V M : Type 0} (meaning : Meaning C V M) (code : C) where
           next = here.after_run.next;
         }
 
-        has-closed : HasCome meaning code s i overlay o false (closing i n fresh answer s)
+        typed-closed : IsTypedLater (meaning.devices code) a.walking.types later
+        typed-closed = kept (meaning.devices code) a.walking.types here.now (Label.Close i) later here.typed (close-by (Some closes.0) closes.1)
+
+        has-closed : HasCome meaning code s i fresh cells overlay o false (closing i n fresh answer s)
         has-closed = record {
+          types = typed-closed.0;
+          typed = typed-closed.2;
+          sorts = sorts-grow a.walking.types typed-closed.0 cells typed-closed.1 a.walking.sorts;
+          sorts_set = sorts-grow a.walking.types typed-closed.0 overlay typed-closed.1 a.walking.sorts_set;
+          below = a.walking.below;
           machine = good;
           sets = sets;
           laid = a.walking.laid;
@@ -290,7 +310,7 @@ module _ {C V M : Type 0} (meaning : Meaning C V M) (code : C) where
           settles = ap (λ (z : MachineView). (settled_stage z).inside) (sym closed-so);
         }
 
-        pub has-closed_so : (visiting i (n + 1) fresh answer s ≡ None) × HasCome meaning code s i overlay o false (closing i n fresh answer s)
+        pub has-closed_so : (visiting i (n + 1) fresh answer s ≡ None) × HasCome meaning code s i fresh cells overlay o false (closing i n fresh answer s)
         has-closed_so = (no-further answer none, has-closed)
 
     -- What is left to use
@@ -307,18 +327,23 @@ module _ {C V M : Type 0} (meaning : Meaning C V M) (code : C) where
 
 -- A further walk of one step
 
-module _ {C V M : Type 0} (meaning : Meaning C V M) (code : C) (s : State) (i : ℕ) (fresh : List ℕ) (cells overlay : List (ℕ × V)) (m : M) (n total : ℕ) (count : n + 1 ≡ total) (answer : Option ℤ) (none : answer ≡ None) where
+module _ {C V M : Type 0} (meaning : Meaning C V M) (code : C) (s : State) (i : ℕ) (fresh : List ℕ) (cells overlay : List (ℕ × Stored V)) (m : M) (n total : ℕ) (count : n + 1 ≡ total) (answer : Option ℤ) (none : answer ≡ None) where
   as-visit : visiting i (n + 1) fresh answer s ≡ visiting i total fresh None s
   as-visit = ap (λ (o : Option ℤ). visiting i (n + 1) fresh o s) none ∙ ap (λ (k : ℕ). visiting i k fresh None s) count
 
   pub no-visit : visiting i total fresh None s ≡ None → visiting i (n + 1) fresh answer s ≡ None
   no-visit e = as-visit ∙ e
 
-  pub stays-on : (a : IsAtStep meaning code s i fresh cells overlay m Side.Unprotected total) → (meaning.stage code m).fresh ≡ fresh → HasCome meaning code s i overlay m true (visiting i (n + 1) fresh answer s)
+  pub stays-on : (a : IsAtStep meaning code s i fresh cells overlay m Side.Unprotected total) → (meaning.stage code m).fresh ≡ fresh → HasCome meaning code s i fresh cells overlay m true (visiting i (n + 1) fresh answer s)
   stays-on a used =
       let g = stepping meaning code s i fresh cells overlay m total a in
       record {
         machine = a.walking.machine;
+        types = a.walking.types;
+        typed = g.typed;
+        sorts = a.walking.sorts;
+        sorts_set = a.walking.sorts_set;
+        below = a.walking.below;
         sets = a.walking.sets;
         laid = a.walking.laid;
         now = g.now;
@@ -356,13 +381,13 @@ none-before s i fresh n answer never = (never (n + 1) answer (omega arith) (λ e
     by (Some x) = refl
 
 -- the steps of a walk are those that its machine counted
-pub as-counted : {C V M : Type 0} (meaning : Meaning C V M) (code : C) (s : State) (i : ℕ) (fresh : List ℕ) (cells overlay : List (ℕ × V)) (m : M) (n : ℕ) → IsAtStep meaning code s i fresh cells overlay m Side.Unprotected n
+pub as-counted : {C V M : Type 0} (meaning : Meaning C V M) (code : C) (s : State) (i : ℕ) (fresh : List ℕ) (cells overlay : List (ℕ × Stored V)) (m : M) (n : ℕ) → IsAtStep meaning code s i fresh cells overlay m Side.Unprotected n
     → (total : ℕ) → (meaning.stage code m).steps + 1 ≡ total → n + 1 ≡ total
 as-counted meaning code s i fresh cells overlay m n a total count = ap (λ (k : ℕ). k + 1) (sym a.counted) ∙ count
 
 -- The steps before the last
 
-module _ {C V M : Type 0} (meaning : Meaning C V M) (code : C) (fresh : List ℕ) (told : List Loc) (as_told : fresh ≡ map (λ z. z.0) told) (cells overlay later : List (ℕ × V)) (m o : M) (few : ℕ) (found : Walked)
+module _ {C V M : Type 0} (meaning : Meaning C V M) (code : C) (fresh : List ℕ) (told : List Loc) (as_told : fresh ≡ map (λ z. z.0) told) (cells overlay later : List (ℕ × Stored V)) (m o : M) (few : ℕ) (found : Walked)
     (runs : (s : State) (i : ℕ) (side : Side) (n : ℕ) → IsAtStep meaning code s i (map (λ z. z.0) told) cells overlay m side n
     → WalksAlong meaning code s i (map (λ z. z.0) told) cells later o side few found) where
   pub goes-as : (s : State) (i : ℕ) (side : Side) (n : ℕ) → IsAtStep meaning code s i fresh cells overlay m side n → (w : Walked) → found ≡ w

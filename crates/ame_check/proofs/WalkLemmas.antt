@@ -25,6 +25,8 @@ use Rattle.ame_check.proofs.ListLemmas.{rest-some, rest-none}
 use Rattle.ame_check.proofs.EntryLemmas.{left-over}
 use Rattle.ame_check.specs.Walked.{place_with, IsWalking, IsAtStep}
 use Rattle.ame_check.proofs.GoingLemmas.{going-advanced}
+use Rattle.ame_check.proofs.SortLemmas.{sorts-grow}
+use Rattle.ame_check.specs.declared.stored.Stored.{Stored}
 
 -- new members leave those before them
 pub with-below : (members : List (ℕ × Tree)) (next : ℕ) (bodies : List Tree) (k : ℕ) → k < next → at (with_members members next bodies) k ≡ at members k
@@ -55,17 +57,17 @@ fresh-kept side p (suc k) q e empty =
     let x = step-is side r q second in
     ap (λ (z : LocalState). z.fresh) x.is ∙ acts-fresh r side (act_of x.redex) x.part x.behind x.acts (goes-empty side p r k first empty) ∙ fresh-kept side p k r first empty)
 
-module _ {C V M : Type 0} (meaning : Meaning C V M) (code : C) (s : State) (i : ℕ) (fresh : List ℕ) (cells overlay : List (ℕ × V)) where
+module _ {C V M : Type 0} (meaning : Meaning C V M) (code : C) (s : State) (i : ℕ) (fresh : List ℕ) (cells overlay : List (ℕ × Stored V)) where
   pub can-run : (m : M) → IsWalking meaning code s i fresh cells overlay m → CanRun (meaning.stage code m)
   can-run m w =
       let g = w.going in
       let early : i < s.next = w.early in (
         meaning.devices code,
-        g.types,
+        w.types,
         record {
-          member = each-at (λ t. IsMember (meaning.devices code) g.types t) g.now.members i (meaning.stage code m).term g.member g.typed.typed.members;
+          member = each-at (λ t. IsMember (meaning.devices code) w.types t) g.now.members i (meaning.stage code m).term g.member g.typed.typed.members;
           members =
-              spawns-all (λ t. IsMember (meaning.devices code) g.types t) s.members g.now.members s.next (meaning.stage code m).spawns
+              spawns-all (λ t. IsMember (meaning.devices code) w.types t) s.members g.now.members s.next (meaning.stage code m).spawns
               (λ k above. g.after_run.others k (λ same. let far : s.next ≤ k = above in let one : k ≡ i = same in absurd (omega arith))) g.typed.typed.members;
           standing = λ in_it. sym (ap (has_such (λ (t : Tree). at_unprotected (focus t))) g.member) ∙ g.standing (ap side_told in_it);
         },
@@ -77,6 +79,7 @@ module _ {C V M : Type 0} (meaning : Meaning C V M) (code : C) (s : State) (i : 
       let w = a.walking in
       let v = within.advances in
       let on : running_side (meaning.stage code o) ≡ running_side (meaning.stage code m) = ap side_told v.inside in
+      let gone = going-advanced (meaning.devices code) s i w.sets (meaning.stage code m) (meaning.stage code o) within.made v w.going in
       record {
         walking = record {
           machine = good;
@@ -84,7 +87,11 @@ module _ {C V M : Type 0} (meaning : Meaning C V M) (code : C) (s : State) (i : 
           store = w.store;
           sets = w.sets;
           laid = w.laid;
-          going = going-advanced (meaning.devices code) s i w.sets (meaning.stage code m) (meaning.stage code o) within.made v w.going;
+          types = gone.later;
+          going = gone.going;
+          sorts = sorts-grow w.types gone.later cells gone.grows w.sorts;
+          sorts_set = sorts-grow w.types gone.later overlay gone.grows w.sorts_set;
+          below = w.below;
           rest = w.rest;
           front = w.front ∙ ap (λ (z : List ℕ). z ++ w.rest) (sym (fresh-kept (running_side (meaning.stage code m)) (place_shown (meaning.stage code m)) within.made (place_shown (meaning.stage code o)) v.run refl));
         };
@@ -93,11 +100,11 @@ module _ {C V M : Type 0} (meaning : Meaning C V M) (code : C) (s : State) (i : 
       }
 
 -- a machine has gone on, and has not made more than so many steps
-pub record HasGoneOn {C V M : Type 0} (meaning : Meaning C V M) (code : C) (fresh : List ℕ) (cells first now : List (ℕ × V)) (m o : M) (steps : ℕ) : Type 0 where
+pub record HasGoneOn {C V M : Type 0} (meaning : Meaning C V M) (code : C) (fresh : List ℕ) (cells first now : List (ℕ × Stored V)) (m o : M) (steps : ℕ) : Type 0 where
   pub goes_on : (s : State) (i : ℕ) (side : Side) (n : ℕ) → IsAtStep meaning code s i fresh cells first m side n → IsAtStep meaning code s i fresh cells now o side (meaning.stage code o).steps
   pub under : (meaning.stage code o).steps ≤ steps
 
-module _ {C V M : Type 0} (meaning : Meaning C V M) (code : C) (fresh : List ℕ) (cells first over : List (ℕ × V)) (m o : M) (steps : ℕ) where
+module _ {C V M : Type 0} (meaning : Meaning C V M) (code : C) (fresh : List ℕ) (cells first over : List (ℕ × Stored V)) (m o : M) (steps : ℕ) where
   pub begins : (s : State) (i : ℕ) → IsWalking meaning code s i fresh cells first m → IsAtStep meaning code s i fresh cells first m (running_side (meaning.stage code m)) (meaning.stage code m).steps
   begins s i w = record { walking = w; runs_on = refl; counted = refl }
 
@@ -121,7 +128,7 @@ module _ {C V M : Type 0} (meaning : Meaning C V M) (code : C) (fresh : List ℕ
         → IsAtStep meaning code s i fresh cells over o side steps
     whole-there s i side n count a = subst (IsAtStep meaning code s i fresh cells over o side) count (gone.goes_on s i side n a)
 
-    module _ (later : List (ℕ × V)) (t : M) (takes : (s : State) (i : ℕ) (side : Side) (n : ℕ) → IsAtStep meaning code s i fresh cells over o side n → IsAtStep meaning code s i fresh cells later t side (n + 1))
+    module _ (later : List (ℕ × Stored V)) (t : M) (takes : (s : State) (i : ℕ) (side : Side) (n : ℕ) → IsAtStep meaning code s i fresh cells over o side n → IsAtStep meaning code s i fresh cells later t side (n + 1))
         (some : (s : State) × (i : ℕ) × IsWalking meaning code s i fresh cells first m) (more : (meaning.stage code o).steps ≡ steps → ⊥) where
       pub one-more : (meaning.stage code t).steps ≡ (meaning.stage code o).steps + 1
       one-more = (takes some.0 some.1 (running_side (meaning.stage code m)) (meaning.stage code o).steps (there some.0 some.1 some.2)).counted
@@ -149,7 +156,7 @@ fewer-left before there after made steps a b below = omega arith
 
 -- Whether all locations are used
 
-module _ {C V M : Type 0} (meaning : Meaning C V M) (code : C) (s : State) (i : ℕ) (fresh used : List Loc) (cells overlay : List (ℕ × V)) (m : M) (side : Side) (n : ℕ)
+module _ {C V M : Type 0} (meaning : Meaning C V M) (code : C) (s : State) (i : ℕ) (fresh used : List Loc) (cells overlay : List (ℕ × Stored V)) (m : M) (side : Side) (n : ℕ)
     (told : List ℕ) (as_told : told ≡ map (λ z. z.0) fresh) (as_used : map (λ z. z.0) used ≡ (meaning.stage code m).fresh) (a : IsAtStep meaning code s i (map (λ z. z.0) fresh) cells overlay m side n) where
   front-used : map (λ z. z.0) fresh ≡ map (λ z. z.0) used ++ a.walking.rest
   front-used = a.walking.front ∙ ap (λ (xs : List ℕ). xs ++ a.walking.rest) (sym as_used)

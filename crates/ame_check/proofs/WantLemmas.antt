@@ -1,10 +1,15 @@
 -- A walk at what its machine wants.
-use Rattle.std.proofs.Common.{◌≡◌, ◌≢◌, ℕ, ◌+◌, ◌<◌, ◌⊎◌, inl, inr, ℤ, Bool, true, false, List, [], ◌∷◌, ◌++◌, Option, Some, None, refl, sym, ap, ◌∙◌, subst, arith, append_assoc, append-nil, ◌==◌}
+use Rattle.std.proofs.Common.{All, ◌≡◌, ◌≢◌, ℕ, ◌+◌, ◌<◌, ◌⊎◌, inl, inr, ℤ, Bool, true, false, List, [], ◌∷◌, ◌++◌, Option, Some, None, refl, sym, ap, ◌∙◌, subst, arith, append_assoc, append-nil, ◌==◌, is_some}
 use Rattle.std.specs.Option.{option_and_then}
 use Rattle.ame_term.specs.Tree.{Val, Tree}
 use Rattle.ame_term.specs.Frame.{Side, side_told}
 use Rattle.ame_term.specs.Context.{Focus, focus}
 use Rattle.ame_term.specs.Act.{Act}
+use Rattle.ame_term.specs.declared.types.Effect.{Effect}
+use Rattle.ame_laws.specs.Typed.Fragment.{effect_at}
+use Rattle.ame_laws.specs.Typed.TypedAct.{IsTypedAct}
+use Rattle.ame_laws.specs.Typed.TypedState.{IsMember}
+use Rattle.ame_laws.proofs.MapLemmas.{each-at}
 use Rattle.ame_term.specs.Height.{max_height}
 use Rattle.ame_journal.specs.Replayed.{has_such, coming_height}
 use Rattle.ame_machine.proofs.LowLemmas.{tall-is}
@@ -26,11 +31,14 @@ use Rattle.ame_machine.specs.Input.{value_to_set, value_set}
 use Rattle.ame_machine.specs.declared.wants.Wants.{Wants}
 use Rattle.ame_machine.specs.declared.wants.Wants.TheVariants as wants
 use Rattle.ame_machine.proofs.NeedLemmas.{comes_as}
-use Rattle.ame_check.specs.Shows.{ShowsCells}
+use Rattle.ame_laws.specs.Typed.StoreTyping.{StoreTyping}
+use Rattle.ame_check.specs.Shows.{ShowsCells, HaveSorts, AreBelow}
 use Rattle.ame_check.specs.Walk.{IsNoWalk, Halts, ComesToTall, steps_on, begun_on}
 use Rattle.ame_check.specs.Walked.{place_with, Looks, Allocates, IsWalking, IsAtStep}
 use Rattle.ame_check.proofs.FedLemmas.{IsFedOn, fed-read, fed-peek, fed-write, fed-alloc, fed-spawn, fed-print, shows-put, shown-some, shown-none}
+use Rattle.ame_check.proofs.SortLemmas.{HasSort, member-act, sort-found, sorts-grow, sorts-put, below-found, below-put, all-behind}
 use Rattle.ame_check.proofs.HaltLemmas.{halts-no_walk, halts-absent, halts-out, halts-taken, halts-value, halts-unprotected, halts-failing, halts-closing, halts-device}
+use Rattle.ame_check.specs.declared.stored.Stored.{Stored}
 
 -- wants at which no step is made with what a walk can give
 abbrev pub ends_walk : Wants → Bool
@@ -54,7 +62,7 @@ ends-other wants.Tall a b c d e f g = absurd (g refl)
 ends-other _ a b c d e f g = refl
 
 module _ {C V M : Type 0} (meaning : Meaning C V M) (code : C) (sound : (m : M) → meaning.is_machine code m → IsSoundStage (meaning.stage code m))
-    (s : State) (i : ℕ) (fresh : List ℕ) (cells overlay : List (ℕ × V)) (m : M) (side : Side) (n : ℕ) (a : IsAtStep meaning code s i fresh cells overlay m side n) where
+    (s : State) (i : ℕ) (fresh : List ℕ) (cells overlay : List (ℕ × Stored V)) (m : M) (side : Side) (n : ℕ) (a : IsAtStep meaning code s i fresh cells overlay m side n) where
   abbrev pub w : IsWalking meaning code s i fresh cells overlay m
   w = a.walking
 
@@ -71,16 +79,23 @@ module _ {C V M : Type 0} (meaning : Meaning C V M) (code : C) (sound : (m : M) 
       (halts-no_walk (meaning.devices code) s i (running_side (meaning.stage code m)) (place_with w.sets (meaning.stage code m)) (meaning.stage code m).steps w.going fresh w.rest w.front halts total under)
 
   -- the walk after a step
-  next : (later : List (ℕ × Val)) (laid_later : List (ℕ × V)) (o : M) (plain : Tree × LocalState) → IsFedOn (meaning.devices code) s i later (meaning.stage code m) (meaning.stage code o) plain
-      → meaning.is_machine code o → ShowsCells meaning code laid_later later → (rest : List ℕ) → fresh ≡ plain.1.fresh ++ rest → IsAtStep meaning code s i fresh cells laid_later o side (n + 1)
-  next later laid_later o plain f good laid rest front = record {
+  next : (P : StoreTyping → Type 0) (later : List (ℕ × Val)) (laid_later : List (ℕ × Stored V)) (o : M) (plain : Tree × LocalState)
+      → (f : IsFedOn (meaning.devices code) s i w.types P later (meaning.stage code m) (meaning.stage code o) plain)
+      → meaning.is_machine code o → ShowsCells meaning code laid_later later → HaveSorts f.later laid_later
+      → ((most : ℕ) → All (λ l. l < most) fresh → AreBelow most cells → AreBelow most laid_later)
+      → (rest : List ℕ) → fresh ≡ plain.1.fresh ++ rest → IsAtStep meaning code s i fresh cells laid_later o side (n + 1)
+  next P later laid_later o plain f good laid sorts below rest front = record {
     walking = record {
       machine = good;
       early = w.early;
       store = w.store;
       sets = later;
       laid = laid;
+      types = f.later;
       going = f.going;
+      sorts = sorts-grow w.types f.later cells f.grows w.sorts;
+      sorts_set = sorts;
+      below = below;
       rest = rest;
       front = front ∙ ap (λ (z : MachineView). z.fresh ++ rest) f.is;
     };
@@ -88,23 +103,28 @@ module _ {C V M : Type 0} (meaning : Meaning C V M) (code : C) (sound : (m : M) 
     counted = ap (λ (z : MachineView). z.steps) (sym f.is) ∙ ap (λ (k : ℕ). k + 1) a.counted;
   }
 
+  -- the same where nothing is set
+  unset : (P : StoreTyping → Type 0) (o : M) (plain : Tree × LocalState) → IsFedOn (meaning.devices code) s i w.types P w.sets (meaning.stage code m) (meaning.stage code o) plain
+      → meaning.is_machine code o → fresh ≡ plain.1.fresh ++ w.rest → IsAtStep meaning code s i fresh cells overlay o side (n + 1)
+  unset P o plain f good front = next P w.sets overlay o plain f good w.laid (sorts-grow w.types f.later overlay f.grows w.sorts_set) w.below w.rest front
+
   -- A value that is taken
 
   at_want : (o : M) (want : Wants) (v : Val) → (meaning.stage code m).want ≡ Some want → after_input (meaning.stage code m).want v (meaning.stage code m) ≡ Some (meaning.stage code o)
       → after_input (Some want) v (meaning.stage code m) ≡ Some (meaning.stage code o)
   at_want o want v told e = ap (λ (z : Option Wants). after_input z v (meaning.stage code m)) (sym told) ∙ e
 
-  pub look-taken : (l : Loc) (v : V) (shown : Val) (o : M) → Looks l (meaning.stage code m).want → Some v ≡ or_else (at overlay l.0) (at cells l.0) → meaning.value_of code v ≡ shown
+  pub look-taken : (l : Loc) (v : Stored V) (shown : Val) (o : M) → Looks l (meaning.stage code m).want → Some v ≡ or_else (at overlay l.0) (at cells l.0) → meaning.value_of code v.value ≡ shown
       → meaning.is_machine code o → after_input (meaning.stage code m).want shown (meaning.stage code m) ≡ Some (meaning.stage code o) → IsAtStep meaning code s i fresh cells overlay o side (n + 1)
   look-taken l v shown o (inl told) is same good e =
       let has = (shown-some meaning code (at overlay l.0) (at cells l.0) (at w.sets l.0) (at s.store l.0) v (w.laid l.0) (w.store l.0) is).1 ∙ ap (λ (z : Val). Some z) same in
-      next w.sets overlay o _ (fed-read (meaning.devices code) s i w.sets (meaning.stage code m) (meaning.stage code o) w.going l.0 shown (coming (wants.Read l) told) (at_want o (wants.Read l) shown told e) has)
-      good w.laid w.rest w.front
+      unset _ o _ (fed-read (meaning.devices code) s i w.sets (meaning.stage code m) (meaning.stage code o) w.going l.0 shown (coming (wants.Read l) told) (at_want o (wants.Read l) shown told e) has)
+      good w.front
   look-taken l v shown o (inr told) is same good e =
       let has = (shown-some meaning code (at overlay l.0) (at cells l.0) (at w.sets l.0) (at s.store l.0) v (w.laid l.0) (w.store l.0) is).1 ∙ ap (λ (z : Val). Some z) same in
       let comes = coming (wants.Peek l) told in
-      next w.sets overlay o _ (fed-peek (meaning.devices code) s i w.sets (meaning.stage code m) (meaning.stage code o) w.going l.0 shown comes.0 comes.1 (at_want o (wants.Peek l) shown told e) has)
-      good w.laid w.rest w.front
+      unset _ o _ (fed-peek (meaning.devices code) s i w.sets (meaning.stage code m) (meaning.stage code o) w.going l.0 shown comes.0 comes.1 (at_want o (wants.Peek l) shown told e) has)
+      good w.front
 
   -- what the state has at a location where nothing was set and nothing is
   pub nothing_there : (l : ℕ) → None ≡ or_else (at overlay l) (at cells l) → (at w.sets l ≡ None) × (at s.store l ≡ None) × (at w.going.now.store l ≡ None)
@@ -124,16 +144,36 @@ module _ {C V M : Type 0} (meaning : Meaning C V M) (code : C) (sound : (m : M) 
 
   -- A value that is set
 
-  pub write-taken : (l : Loc) (v c : V) (o : M) → (meaning.stage code m).want ≡ Some (wants.Write l) → value_to_set (meaning.stage code m) ≡ Some (meaning.value_of code v)
+  -- where nothing is there, nothing is written
+  pub write-absent : (l : Loc) → (meaning.stage code m).want ≡ Some (wants.Write l) → None ≡ or_else (at overlay l.0) (at cells l.0) → ⊥
+  write-absent l told none =
+      let comes = coming (wants.Write l) told in
+      let member = each-at (λ t. IsMember (meaning.devices code) w.types t) w.going.now.members i (meaning.stage code m).term w.going.member w.going.typed.typed.members in
+      let act = member-act (meaning.devices code) w.types (meaning.stage code m).term comes.1.0 (running_side (meaning.stage code m)) comes.1.1 member in
+      let its : IsTypedAct (meaning.devices code) w.types (effect_at (running_side (meaning.stage code m)) Effect.Protected) act.0 (Act.Writes l.0 comes.0) =
+      subst (IsTypedAct (meaning.devices code) w.types (effect_at (running_side (meaning.stage code m)) Effect.Protected) act.0) comes.1.2 act.1 in
+      let there : is_some (at w.going.now.store l.0) ≡ true = w.going.typed.located l.0 (its.0, its.1) its.2 in
+      let clash : false ≡ true = sym (ap is_some (nothing_there l.0 none).2) ∙ there in
+      cc
+
+  pub write-taken : (l : Loc) (at_place : Stored V) (v c : V) (o : M) → (meaning.stage code m).want ≡ Some (wants.Write l) → Some at_place ≡ or_else (at overlay l.0) (at cells l.0)
+      → value_to_set (meaning.stage code m) ≡ Some (meaning.value_of code v)
       → meaning.is_value code c → meaning.value_of code v ≡ meaning.value_of code c → meaning.is_machine code o
-      → after_input (meaning.stage code m).want Val.Unit (meaning.stage code m) ≡ Some (meaning.stage code o) → (laid_later : List (ℕ × V)) → laid_later ≡ put overlay l.0 c
+      → after_input (meaning.stage code m).want Val.Unit (meaning.stage code m) ≡ Some (meaning.stage code o) → (laid_later : List (ℕ × Stored V)) → laid_later ≡ put overlay l.0 (record at_place { value = c })
       → IsAtStep meaning code s i fresh cells laid_later o side (n + 1)
-  write-taken l v c o told lent good_value same good e laid_later is =
+  write-taken l at_place v c o told is_there lent good_value same good e laid_later is =
       let comes = coming (wants.Write l) told in
       let lends = set-of (Act.Writes l.0 comes.0) comes.1 ∙ refl in
       let one : comes.0 ≡ meaning.value_of code v = (let both : ◌≡◌ {A = Option Val} (Some comes.0) (Some (meaning.value_of code v)) = sym lends ∙ lent in cc) in
-      next (put w.sets l.0 comes.0) laid_later o _ (fed-write (meaning.devices code) s i w.sets (meaning.stage code m) (meaning.stage code o) w.going l.0 comes.0 comes.1 (at_want o (wants.Write l) Val.Unit told e))
-      good (subst (λ (z : List (ℕ × V)). ShowsCells meaning code z (put w.sets l.0 comes.0)) (sym is) (shows-put meaning code overlay w.sets l.0 c comes.0 w.laid good_value (sym same ∙ sym one))) w.rest w.front
+      let f = fed-write (meaning.devices code) s i w.sets (meaning.stage code m) (meaning.stage code o) w.going l.0 comes.0 comes.1 (at_want o (wants.Write l) Val.Unit told e) in
+      let cell = record at_place { value = c } in
+      let has = sort-found w.types overlay cells l.0 at_place w.sorts_set w.sorts is_there in
+      next _ (put w.sets l.0 comes.0) laid_later o _ f
+      good (subst (λ (z : List (ℕ × Stored V)). ShowsCells meaning code z (put w.sets l.0 comes.0)) (sym is) (shows-put meaning code overlay w.sets l.0 cell comes.0 w.laid good_value (sym same ∙ sym one)))
+      (subst (λ (z : List (ℕ × Stored V)). HaveSorts f.later z) (sym is)
+      (sorts-put f.later overlay l.0 cell (has.0, f.grows l.0 (at_place.sort, has.0) has.1) (sorts-grow w.types f.later overlay f.grows w.sorts_set)))
+      (λ most told under. subst (λ (z : List (ℕ × Stored V)). AreBelow most z) (sym is)
+      (below-put most overlay l.0 cell (below-found most overlay cells l.0 at_place (w.below most told under) under is_there) (w.below most told under))) w.rest w.front
     where
       set-of : (act : Act) → HasNextAct (meaning.stage code m) act → value_to_set (meaning.stage code m) ≡ value_set (Some act)
       set-of act there = ap (λ (f : Focus). value_set (redex_act f)) there.1 ∙ ap (λ (z : Act). value_set (Some z)) there.2
@@ -150,27 +190,33 @@ module _ {C V M : Type 0} (meaning : Meaning C V M) (code : C) (sound : (m : M) 
       stopped (subst (λ (z : List ℕ). Halts (running_side (meaning.stage code m)) i w.going.now z) (sym none)
       (halts-out (running_side (meaning.stage code m)) i w.going.now sort comes.0 (act-there (Act.Allocates sort comes.0) comes.1)))
 
-  pub allocate-taken_place : (l : ℕ) (more : List ℕ) (v : V) → Allocates (meaning.stage code m).want → w.rest ≡ l ∷ more → Some v ≡ or_else (at overlay l) (at cells l)
+  pub allocate-taken_place : (l : ℕ) (more : List ℕ) (v : Stored V) → Allocates (meaning.stage code m).want → w.rest ≡ l ∷ more → Some v ≡ or_else (at overlay l) (at cells l)
       → (total : ℕ) → n < total → IsNoWalk side i total fresh s
   allocate-taken_place l more v (sort, number, told) front is =
       let comes = coming (wants.Alloc sort number) told in
       let has = (shown-some meaning code (at overlay l) (at cells l) (at w.sets l) (at s.store l) v (w.laid l) (w.store l) is).1 in
       stopped (subst (λ (z : List ℕ). Halts (running_side (meaning.stage code m)) i w.going.now z) (sym front)
-      (halts-taken (running_side (meaning.stage code m)) i w.going.now sort comes.0 (meaning.value_of code v) l more w.going.active (act-there (Act.Allocates sort comes.0) comes.1)
+      (halts-taken (running_side (meaning.stage code m)) i w.going.now sort comes.0 (meaning.value_of code v.value) l more w.going.active (act-there (Act.Allocates sort comes.0) comes.1)
       (w.going.after_run.stored l ∙ has)))
 
-  pub allocate-made : (l : Loc) (more : List ℕ) (v c : V) (o : M) → Allocates (meaning.stage code m).want → w.rest ≡ l.0 ∷ more → None ≡ or_else (at overlay l.0) (at cells l.0)
+  pub allocate-made : (sort : Sort) (number : TyNo) (l : Loc) (more : List ℕ) (v c : V) (o : M) → (meaning.stage code m).want ≡ Some (wants.Alloc sort number) → w.rest ≡ l.0 ∷ more → None ≡ or_else (at overlay l.0) (at cells l.0)
       → value_to_set (meaning.stage code m) ≡ Some (meaning.value_of code v) → meaning.is_value code c → meaning.value_of code v ≡ meaning.value_of code c → meaning.is_machine code o
-      → after_input (meaning.stage code m).want (Val.Loc l.0) (meaning.stage code m) ≡ Some (meaning.stage code o) → (laid_later : List (ℕ × V)) → laid_later ≡ put overlay l.0 c
+      → after_input (meaning.stage code m).want (Val.Loc l.0) (meaning.stage code m) ≡ Some (meaning.stage code o) → (laid_later : List (ℕ × Stored V)) → laid_later ≡ put overlay l.0 (record { sort = sort; number = number; value = c })
       → IsAtStep meaning code s i fresh cells laid_later o side (n + 1)
-  allocate-made l more v c o (sort, number, told) front none lent good_value same good e laid_later is =
+  allocate-made sort number l more v c o told front none lent good_value same good e laid_later is =
       let comes = coming (wants.Alloc sort number) told in
       let lends = set-of (Act.Allocates sort comes.0) comes.1 ∙ refl in
       let one : comes.0 ≡ meaning.value_of code v = (let both : ◌≡◌ {A = Option Val} (Some comes.0) (Some (meaning.value_of code v)) = sym lends ∙ lent in cc) in
       let free = nothing_there l.0 none in
-      next (put w.sets l.0 comes.0) laid_later o _
-      (fed-alloc (meaning.devices code) s i w.sets (meaning.stage code m) (meaning.stage code o) w.going sort l.0 comes.0 comes.1 (at_want o (wants.Alloc sort number) (Val.Loc l.0) told e) free.0 free.1)
-      good (subst (λ (z : List (ℕ × V)). ShowsCells meaning code z (put w.sets l.0 comes.0)) (sym is) (shows-put meaning code overlay w.sets l.0 c comes.0 w.laid good_value (sym same ∙ sym one))) more
+      let f = fed-alloc (meaning.devices code) s i w.sets (meaning.stage code m) (meaning.stage code o) w.going sort l.0 comes.0 comes.1 (at_want o (wants.Alloc sort number) (Val.Loc l.0) told e) free.0 free.1 in
+      let cell : Stored V = record { sort = sort; number = number; value = c } in
+      next _ (put w.sets l.0 comes.0) laid_later o _ f
+      good (subst (λ (z : List (ℕ × Stored V)). ShowsCells meaning code z (put w.sets l.0 comes.0)) (sym is) (shows-put meaning code overlay w.sets l.0 cell comes.0 w.laid good_value (sym same ∙ sym one)))
+      (subst (λ (z : List (ℕ × Stored V)). HaveSorts f.later z) (sym is)
+      (sorts-put f.later overlay l.0 cell f.has (sorts-grow w.types f.later overlay f.grows w.sorts_set)))
+      (λ most told under. subst (λ (z : List (ℕ × Stored V)). AreBelow most z) (sym is)
+      (below-put most overlay l.0 cell (all-behind (λ (k : ℕ). k < most) (meaning.stage code m).fresh l.0 more (subst (λ (xs : List ℕ). All (λ k. k < most) xs)
+      (w.front ∙ ap (λ (z : List ℕ). (meaning.stage code m).fresh ++ z) front) told)) (w.below most told under))) more
       (w.front ∙ ap (λ (z : List ℕ). (meaning.stage code m).fresh ++ z) front ∙ sym (append_assoc (meaning.stage code m).fresh (l.0 ∷ []) more))
     where
       set-of : (act : Act) → HasNextAct (meaning.stage code m) act → value_to_set (meaning.stage code m) ≡ value_set (Some act)
@@ -182,13 +228,13 @@ module _ {C V M : Type 0} (meaning : Meaning C V M) (code : C) (sound : (m : M) 
       → after_input (meaning.stage code m).want Val.Unit (meaning.stage code m) ≡ Some (meaning.stage code o) → IsAtStep meaning code s i fresh cells overlay o side (n + 1)
   accepted-spawn o told good e =
       let comes = coming wants.Spawn told in
-      next w.sets overlay o _ (fed-spawn (meaning.devices code) s i w.sets (meaning.stage code m) (meaning.stage code o) w.going comes.1.0 comes.0 comes.1.1 (at_want o wants.Spawn Val.Unit told e)) good w.laid w.rest w.front
+      unset _ o _ (fed-spawn (meaning.devices code) s i w.sets (meaning.stage code m) (meaning.stage code o) w.going comes.1.0 comes.0 comes.1.1 (at_want o wants.Spawn Val.Unit told e)) good w.front
 
   pub accepted-print : (number : ℤ) (o : M) → (meaning.stage code m).want ≡ Some (wants.Print number) → meaning.is_machine code o
       → after_input (meaning.stage code m).want Val.Unit (meaning.stage code m) ≡ Some (meaning.stage code o) → IsAtStep meaning code s i fresh cells overlay o side (n + 1)
   accepted-print number o told good e =
       let comes = coming (wants.Print number) told in
-      next w.sets overlay o _ (fed-print (meaning.devices code) s i w.sets (meaning.stage code m) (meaning.stage code o) w.going number comes.0 comes.1 (at_want o (wants.Print number) Val.Unit told e)) good w.laid w.rest w.front
+      unset _ o _ (fed-print (meaning.devices code) s i w.sets (meaning.stage code m) (meaning.stage code o) w.going number comes.0 comes.1 (at_want o (wants.Print number) Val.Unit told e)) good w.front
 
   -- What ends a walk
 

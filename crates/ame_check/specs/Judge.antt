@@ -8,6 +8,8 @@ use Rattle.ame_journal.specs.declared.entry.Entry.{Entry}
 use Rattle.ame_check.specs.Entries.{MeetsTall}
 use Rattle.ame_check.specs.Reasons.{IsMet}
 use Rattle.ame_check.specs.declared.reason.Reason.{Reason}
+use Rattle.ame_check.specs.declared.halt.Halt.{Halt}
+use Rattle.ame_check.specs.declared.halt.Halt.TheVariants as halt
 use Rattle.ame_check.specs.declared.judging.Judged.{Judged}
 use Rattle.ame_check.specs.declared.judging.Judged.TheVariants as judged
 
@@ -34,8 +36,7 @@ module _ (program : Tree) (entries : List Entry) where
     pub printed : output ≡ led.state.output
 
   -- those before the n-th can be made, and with it they can't be, nor can all of them, for this reason
-  pub record IsInvalid (n : ℕ) (why : Reason) : Type 0 where
-    pub short : total_steps entries ≤ most_steps
+  pub record IsUndefinedAt (n : ℕ) (why : Reason) : Type 0 where
     pub place : IsPlace entries n
     pub led : Replayed
     pub replayed : replay program (take (n - 1) entries) ≡ Some led
@@ -46,14 +47,29 @@ module _ (program : Tree) (entries : List Entry) where
     pub met : IsMet led entry why
 
   -- those before the n-th can be made, and it passes a form that would become a value that is too high
-  pub record IsTallAt (n : ℕ) : Type 0 where
-    pub short : total_steps entries ≤ most_steps
+  pub record IsTooHighAt (n : ℕ) : Type 0 where
     pub place : IsPlace entries n
     pub led : Replayed
     pub replayed : replay program (take (n - 1) entries) ≡ Some led
     pub entry : Entry
     pub is_entry : take n entries ≡ take (n - 1) entries ++ entry ∷ []
     pub meets : MeetsTall led entry
+
+  -- why a replay of them comes to no end
+  abbrev pub IsHalted : Halt → Type 0
+  IsHalted (halt.Undefined n why) = IsUndefinedAt n why
+  IsHalted (halt.Tall n) = IsTooHighAt n
+  IsHalted halt.NoMemory = Unit {0}
+
+  -- there are few steps, and so it is
+  pub record IsInvalid (n : ℕ) (why : Reason) : Type 0 where
+    pub short : total_steps entries ≤ most_steps
+    pub there : IsUndefinedAt n why
+
+  -- there are few steps, and so it is
+  pub record IsTallAt (n : ℕ) : Type 0 where
+    pub short : total_steps entries ≤ most_steps
+    pub there : IsTooHighAt n
 
   abbrev pub Judges : Judged → Type 0
   Judges (judged.Valid output) = LeadsTo output.items

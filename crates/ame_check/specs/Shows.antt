@@ -1,38 +1,53 @@
 -- What the cells and members of a replay on machines show of a replayed state.
-use Rattle.std.specs.Prelude.{◌≡◌, ◌+◌, [], length, ℕ, ℤ, Bool, List, Option, Some, None}
-use Rattle.ame_term.specs.Tree.{Val, Tree}
+use Rattle.std.specs.Prelude.{◌≡◌, ◌<◌, ◌+◌, [], All, length, ℕ, ℤ, Bool, List, Option, Some, None}
+use Rattle.ame_term.specs.Tree.{Typ, Val, Tree}
 use Rattle.ame_term.specs.Maps.{at}
+use Rattle.ame_laws.specs.Typed.StoreTyping.{StoreTyping}
+use Rattle.ame_laws.specs.Typed.TypedState.{IsTyped}
 use Rattle.ame_journal.specs.Replayed.{Replayed, is_inside}
 use Rattle.ame_journal.specs.Replay.{replay}
 use Rattle.ame_journal.specs.declared.entry.Entry.{Entry}
 use Rattle.ame_machine.specs.Run.AgreesWith.{with_members}
 use Rattle.ame_machine.specs.Meaning.{Meaning}
 use Rattle.ame_machine.specs.MachineView.{MachineView, starting_at}
+use Rattle.ame_check.specs.declared.stored.Stored.{Stored}
 
--- The cells with their values, the members with their machines, what was printed, and the number of the next new member.
+-- The cells, the members with their machines, what was printed, and the number of the next new member.
 pub record ReplayView (V M : Type 0) : Type 0 where
-  pub cells : List (ℕ × V)
+  pub cells : List (ℕ × Stored V)
   pub members : List (ℕ × M)
   pub output : List ℤ
   pub next : ℕ
+
+-- the type of each location that has a cell is of the cell's sort
+abbrev pub HaveSorts : {V : Type 0} → StoreTyping → List (ℕ × Stored V) → Type 0
+HaveSorts {V} types cells = (l : ℕ) (cell : Stored V) → at cells l ≡ Some cell → (content : Typ) × (types l ≡ Some (cell.sort, content))
+
+-- each location that has a cell is below a bound
+abbrev pub AreBelow : {V : Type 0} → ℕ → List (ℕ × Stored V) → Type 0
+AreBelow {V} most cells = (l : ℕ) (cell : Stored V) → at cells l ≡ Some cell → l < most
+
+-- so is each new location that an entry tells
+abbrev pub TellBelow : ℕ → List Entry → Type 0
+TellBelow most entries = All (λ entry. All (λ l. l < most) entry.fresh) entries
 
 -- a machine that is at its term alone, and goes on under `unprotected` or doesn't
 abbrev pub IsResting : Bool → MachineView → Type 0
 IsResting inside m = m ≡ record (starting_at m.term) { inside = inside }
 
 module _ {C V M : Type 0} (meaning : Meaning C V M) (code : C) where
-  -- a value stands for the plain data
-  abbrev pub ShowsValue : Option V → Option Val → Type 0
+  -- what a cell has stands for the plain data
+  abbrev pub ShowsValue : Option (Stored V) → Option Val → Type 0
   ShowsValue None o = o ≡ None
-  ShowsValue (Some v) o = meaning.is_value code v × (o ≡ Some (meaning.value_of code v))
+  ShowsValue (Some cell) o = meaning.is_value code cell.value × (o ≡ Some (meaning.value_of code cell.value))
 
   -- so does a machine at rest for a term
   abbrev pub ShowsMember : Bool → Option M → Option Tree → Type 0
   ShowsMember inside None o = o ≡ None
   ShowsMember inside (Some m) o = meaning.is_machine code m × (o ≡ Some (meaning.stage code m).term) × IsResting inside (meaning.stage code m)
 
-  -- values by location show a store
-  abbrev pub ShowsCells : List (ℕ × V) → List (ℕ × Val) → Type 0
+  -- cells by location show a store
+  abbrev pub ShowsCells : List (ℕ × Stored V) → List (ℕ × Val) → Type 0
   ShowsCells cells store = (l : ℕ) → ShowsValue (at cells l) (at store l)
 
   -- machines by number show members, of which these are inside
@@ -46,11 +61,16 @@ module _ {C V M : Type 0} (meaning : Meaning C V M) (code : C) where
     pub output : place.output ≡ r.state.output
     pub next : place.next ≡ r.state.next
 
-  -- the entries can be replayed, and the state to which they lead is shown
+  -- The entries can be replayed, and the state to which they lead is shown. Some types of locations type it, by which each
+  -- cell has its sort; and each cell is at a new location of an entry.
   pub record StandsForEntries (entries : List Entry) (place : ReplayView V M) : Type 0 where
     pub led : Replayed
     pub replayed : replay (meaning.program code) entries ≡ Some led
     pub shows : Shows place led
+    pub types : StoreTyping
+    pub typed : IsTyped (meaning.devices code) types led.state
+    pub sorts : HaveSorts types place.cells
+    pub below : (most : ℕ) → TellBelow most entries → AreBelow most place.cells
 
   -- after the new members of a machine took the next numbers: it has none, and is otherwise as it was
   pub record Adopts (inside : ℕ → Bool) (before : List (ℕ × Tree)) (next : ℕ) (m : MachineView) (machines : List (ℕ × M)) (later : ℕ) (machine : M) : Type 0 where

@@ -1,14 +1,16 @@
 -- What the steps of a `Free` entry come to.
-use Rattle.std.specs.Prelude.{◌≡◌, ℕ, ◌+◌, ℤ, Bool, true, false, List, Option, Some, None, is_some, option_and_then}
+use Rattle.std.specs.Prelude.{◌≡◌, All, ℕ, ◌+◌, ◌<◌, ℤ, Bool, true, false, List, Option, Some, None, is_some, option_and_then}
 use Rattle.ame_term.specs.Tree.{Val}
 use Rattle.ame_term.specs.Frame.{Side}
 use Rattle.ame_term.specs.Maps.{at}
 use Rattle.ame_term.specs.State.{State, after}
 use Rattle.ame_term.specs.declared.semantics.Label.{Label}
+use Rattle.ame_laws.specs.Typed.StoreTyping.{StoreTyping}
+use Rattle.ame_laws.specs.Typed.TypedState.{IsTyped}
 use Rattle.ame_machine.specs.Meaning.{Meaning}
 use Rattle.ame_machine.specs.Move.{settled_stage}
 use Rattle.ame_machine.specs.Run.AgreesWith.{IsAfterRun}
-use Rattle.ame_check.specs.Shows.{ShowsCells}
+use Rattle.ame_check.specs.Shows.{ShowsCells, HaveSorts, AreBelow}
 use Rattle.ame_check.specs.Walk.{begun_on, steps_on, ComesToTall}
 use Rattle.ame_check.specs.Walked.{place_with}
 use Rattle.ame_check.specs.Reasons.{MeetsReason}
@@ -16,6 +18,7 @@ use Rattle.ame_check.specs.declared.reason.Reason.{Reason}
 use Rattle.ame_check.specs.declared.reason.Reason.TheVariants as reason
 use Rattle.ame_check.specs.declared.visit.Visited.{Visited}
 use Rattle.ame_check.specs.declared.visit.Visited.TheVariants as visited
+use Rattle.ame_check.specs.declared.stored.Stored.{Stored}
 
 -- where n steps of a member under `unprotected` lead
 abbrev pub visiting : ℕ → ℕ → List ℕ → Option ℤ → State → Option State
@@ -33,7 +36,7 @@ VisitMeets s i fresh answer total why = MeetsReason Side.Unprotected s i fresh t
 
 module _ {C V M : Type 0} (meaning : Meaning C V M) (code : C) where
   -- A machine of member i stands where its steps from a state led; once it settles, it is under `unprotected` or isn't.
-  pub record HasCome (s : State) (i : ℕ) (overlay : List (ℕ × V)) (m : M) (inside : Bool) (reached : Option State) : Type 0 where
+  pub record HasCome (s : State) (i : ℕ) (fresh : List ℕ) (cells overlay : List (ℕ × Stored V)) (m : M) (inside : Bool) (reached : Option State) : Type 0 where
     pub machine : meaning.is_machine code m
     pub sets : List (ℕ × Val)
     pub laid : ShowsCells meaning code overlay sets
@@ -41,12 +44,17 @@ module _ {C V M : Type 0} (meaning : Meaning C V M) (code : C) where
     pub led : reached ≡ Some now
     pub after_run : IsAfterRun s i (place_with sets (meaning.stage code m)) now
     pub member : at now.members i ≡ Some (meaning.stage code m).term
+    pub types : StoreTyping
+    pub typed : IsTyped (meaning.devices code) types now
+    pub sorts : HaveSorts types cells
+    pub sorts_set : HaveSorts types overlay
+    pub below : (most : ℕ) → All (λ l. l < most) fresh → AreBelow most cells → AreBelow most overlay
     pub settles : (settled_stage (meaning.stage code m)).inside ≡ inside
 
-  module _ (s : State) (i : ℕ) (fresh : List ℕ) (answer : Option ℤ) (overlay : List (ℕ × V)) (m : M) (n : ℕ) where
+  module _ (s : State) (i : ℕ) (fresh : List ℕ) (answer : Option ℤ) (cells overlay : List (ℕ × Stored V)) (m : M) (n : ℕ) where
     -- what n steps and a last one come to
     abbrev pub ComesOfVisit : Visited → Type 0
-    ComesOfVisit visited.Stays = HasCome s i overlay m true (visiting i (n + 1) fresh answer s)
-    ComesOfVisit visited.Closes = (visiting i (n + 1) fresh answer s ≡ None) × HasCome s i overlay m false (closing i n fresh answer s)
+    ComesOfVisit visited.Stays = HasCome s i fresh cells overlay m true (visiting i (n + 1) fresh answer s)
+    ComesOfVisit visited.Closes = (visiting i (n + 1) fresh answer s ≡ None) × HasCome s i fresh cells overlay m false (closing i n fresh answer s)
     ComesOfVisit (visited.Undefined why) = (visiting i (n + 1) fresh answer s ≡ None) × (closing i n fresh answer s ≡ None) × VisitMeets s i fresh answer (n + 1) why
     ComesOfVisit visited.Tall = ComesToTall Side.Unprotected i (n + 1) fresh s

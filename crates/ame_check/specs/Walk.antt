@@ -41,14 +41,13 @@ LeadsOnTo side i n used s t =
 abbrev pub Halts : Side → ℕ → State → List ℕ → Type 0
 Halts side i s rest = (left : ℕ) (answer : Option ℤ) → (left ≡ 0 → answer ≡ None) → steps_on side i (left + 1) rest answer s ≡ None
 
--- From a state n steps of a member, and a place p of its run: the state that is reached is the one after that run.
-pub record IsStepping (devices : ℕ) (s : State) (i : ℕ) (side : Side) (p : LocalState) (n : ℕ) : Type 0 where
+-- From a state n steps of a member, and a place p of its run: the state that is reached is the one after that run, typed by these types.
+pub record IsStepping (devices : ℕ) (types : StoreTyping) (s : State) (i : ℕ) (side : Side) (p : LocalState) (n : ℕ) : Type 0 where
   pub now : State
   pub after_run : IsAfterRun s i p now
   pub member : at now.members i ≡ Some p.term
   pub active : now.active ≡ active_on side i
   pub orderly : IsOrderly now
-  pub types : StoreTyping
   pub typed : IsTyped devices types now
   pub standing : side ≡ Side.Unprotected → is_at_unprotected i now ≡ true
   pub goes : LeadsOnTo side i n p.fresh (begun_on side i s) now

@@ -1,23 +1,25 @@
 -- A machine on the way through an entry's steps, with what it set laid over the cells.
-use Rattle.std.specs.Prelude.{◌≡◌, ℕ, ◌+◌, ◌<◌, ◌++◌, ℤ, Bool, true, false, List, Option, None, Some, ◌⊎◌}
+use Rattle.std.specs.Prelude.{◌≡◌, All, ℕ, ◌+◌, ◌<◌, ◌++◌, ℤ, Bool, true, false, List, Option, None, Some, ◌⊎◌}
 use Rattle.ame_term.specs.Tree.{Val}
 use Rattle.ame_term.specs.Frame.{Side}
 use Rattle.ame_term.specs.State.{State}
 use Rattle.ame_term.specs.declared.types.Loc.{Loc}
 use Rattle.ame_term.specs.declared.types.Sort.{Sort}
 use Rattle.ame_term.specs.declared.types.TyNo.{TyNo}
+use Rattle.ame_laws.specs.Typed.StoreTyping.{StoreTyping}
 use Rattle.ame_machine.specs.declared.wants.Wants.{Wants}
 use Rattle.ame_machine.specs.declared.wants.Wants.TheVariants as wants
 use Rattle.ame_machine.specs.Meaning.{Meaning}
 use Rattle.ame_machine.specs.Run.Local.{LocalState}
 use Rattle.ame_machine.specs.MachineView.{MachineView, running_side, place_shown}
-use Rattle.ame_check.specs.Shows.{ShowsCells}
+use Rattle.ame_check.specs.Shows.{ShowsCells, HaveSorts, AreBelow}
 use Rattle.ame_check.specs.Walk.{begun_on, steps_on, IsStepping, IsNoWalk, ComesToTall}
 use Rattle.ame_check.specs.Reasons.{MeetsReason}
 use Rattle.ame_check.specs.declared.walk.Walked.{Walked}
 use Rattle.ame_check.specs.declared.walk.Walked.TheVariants as walked
 use Rattle.ame_check.specs.declared.step.Took.{Took}
 use Rattle.ame_check.specs.declared.step.Took.TheVariants as took
+use Rattle.ame_check.specs.declared.stored.Stored.{Stored}
 
 -- the place that a machine shows, with these values set
 abbrev pub place_with : List (ℕ × Val) → MachineView → LocalState
@@ -47,24 +49,29 @@ is_plain wants.Tall = false
 is_plain _ = true
 
 module _ {C V M : Type 0} (meaning : Meaning C V M) (code : C) where
-  -- A machine of member i has come so far from a state whose store the cells show, with these locations to use in all.
-  pub record IsWalking (s : State) (i : ℕ) (fresh : List ℕ) (cells overlay : List (ℕ × V)) (m : M) : Type 0 where
+  -- A machine of member i has come so far from a state whose store the cells show, with these locations to use in all. By the types of
+  -- the state that is reached each cell has its sort; and what is set is at new locations, or at those of cells.
+  pub record IsWalking (s : State) (i : ℕ) (fresh : List ℕ) (cells overlay : List (ℕ × Stored V)) (m : M) : Type 0 where
     pub machine : meaning.is_machine code m
     pub early : i < s.next
     pub store : ShowsCells meaning code cells s.store
     pub sets : List (ℕ × Val)
     pub laid : ShowsCells meaning code overlay sets
-    pub going : IsStepping (meaning.devices code) s i (running_side (meaning.stage code m)) (place_with sets (meaning.stage code m)) (meaning.stage code m).steps
+    pub types : StoreTyping
+    pub going : IsStepping (meaning.devices code) types s i (running_side (meaning.stage code m)) (place_with sets (meaning.stage code m)) (meaning.stage code m).steps
+    pub sorts : HaveSorts types cells
+    pub sorts_set : HaveSorts types overlay
+    pub below : (most : ℕ) → All (λ l. l < most) fresh → AreBelow most cells → AreBelow most overlay
     pub rest : List ℕ
     pub front : fresh ≡ (meaning.stage code m).fresh ++ rest
 
   -- it has made so many steps on a side
-  pub record IsAtStep (s : State) (i : ℕ) (fresh : List ℕ) (cells overlay : List (ℕ × V)) (m : M) (side : Side) (n : ℕ) : Type 0 where
+  pub record IsAtStep (s : State) (i : ℕ) (fresh : List ℕ) (cells overlay : List (ℕ × Stored V)) (m : M) (side : Side) (n : ℕ) : Type 0 where
     pub walking : IsWalking s i fresh cells overlay m
     pub runs_on : running_side (meaning.stage code m) ≡ side
     pub counted : (meaning.stage code m).steps ≡ n
 
-  module _ (s : State) (i : ℕ) (fresh : List ℕ) (cells overlay : List (ℕ × V)) (m : M) (side : Side) (n : ℕ) where
+  module _ (s : State) (i : ℕ) (fresh : List ℕ) (cells overlay : List (ℕ × Stored V)) (m : M) (side : Side) (n : ℕ) where
     -- what a walk of n steps comes to
     abbrev pub WalksAlong : Walked → Type 0
     WalksAlong (walked.Whole want) = IsAtStep s i fresh cells overlay m side n × ((meaning.stage code m).want ≡ Some want)

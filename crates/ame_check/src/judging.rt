@@ -4,8 +4,9 @@ ghost use Rattle.std.specs.Prelude.{◌≡◌, ◌≤◌, IfOk, MatchOption};
 ghost use Rattle.ame_journal.specs.Totals.{total_steps};
 ghost use Rattle.ame_check.specs.Judge.{most_steps, IsLong, Judges};
 
+use crate::halt::Halt;
 use crate::reason::Reason;
-use crate::replay::{Made, Replay};
+use crate::replay::Replay;
 use ame_journal::Entry;
 use ame_machine::Runner;
 use ame_term::NoMemory;
@@ -56,15 +57,10 @@ where
     if let Some(place) = too_long(entries) {
         return Ok(Judged::Long(place));
     }
-    let mut replay: Replay<M> = Replay::start(alloc, code)?;
-    let mut place: u64 = 0;
-    for entry in entries {
-        place += 1;
-        match replay.make(alloc, code, entry)? {
-            Made::Made => {}
-            Made::Undefined(why) => return Ok(Judged::Invalid(place, why)),
-            Made::Tall => return Ok(Judged::Tall(place)),
-        }
+    match Replay::<M>::along(alloc, code, entries) {
+        Ok(replay) => Ok(Judged::Valid(replay.into_output())),
+        Err(Halt::Undefined(place, why)) => Ok(Judged::Invalid(place, why)),
+        Err(Halt::Tall(place)) => Ok(Judged::Tall(place)),
+        Err(Halt::NoMemory) => Err(NoMemory),
     }
-    Ok(Judged::Valid(replay.into_output()))
 }

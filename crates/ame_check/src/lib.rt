@@ -1,15 +1,19 @@
 //! A replay of journals by the strong rules, on machines, at the speed of a run.
 #![tactic(auto)]
 
+mod halt;
 mod input;
 mod judging;
 mod reason;
 mod replay;
 mod step;
+mod stored;
 mod visit;
 mod walk;
 
+pub use halt::Halt;
 pub use input::split_input;
 pub use judging::{Judged, MOST_STEPS, judge};
 pub use reason::Reason;
 pub use replay::{Made, Replay};
+pub use stored::Stored;

@@ -1,6 +1,6 @@
 //! A replay on machines.
 
-ghost use Rattle.std.specs.Prelude.{◌≡◌, ℕ, ◌+◌, ◌<◌, ◌≤◌, ◌^◌, ◌++◌, [], List, Bool, true, false, map, length, IfOk, OnOk, Some};
+ghost use Rattle.std.specs.Prelude.{◌≡◌, ℕ, ◌+◌, ◌<◌, ◌≤◌, ◌^◌, ◌++◌, [], List, Bool, true, false, map, length, IfErr, IfOk, OnOk, Some};
 ghost use Rattle.ame_term.specs.Frame.{Side};
 ghost use Rattle.ame_term.specs.Tree.{Tree};
 ghost use Rattle.ame_term.specs.Maps.{at};
@@ -13,7 +13,9 @@ ghost use Rattle.ame_journal.specs.Totals.{is_note};
 ghost use Rattle.ame_check.specs.Entries.{is_confirmed};
 ghost use Rattle.ame_check.specs.Shows.{ShowsMembers, Adopts};
 
+use crate::halt::Halt;
 use crate::reason::Reason;
+use crate::stored::Stored;
 use crate::visit::{Visited, visit};
 use crate::walk::{Walked, run};
 use ame_journal::{Entry, EntryKind};
@@ -92,7 +94,7 @@ pub struct Replay<M: Runner>
 where
     M::Code: Drop,
 {
-    pub cells: BTreeMap<u32, M::Value>,
+    pub cells: BTreeMap<u32, Stored<M::Value>>,
     pub members: BTreeMap<u64, M>,
     pub output: Vec<i64>,
     pub next: u64,
@@ -118,6 +120,7 @@ where
 {
     ghost use Rattle.ame_check.specs.Shows.{StandsForEntries};
     ghost use Rattle.ame_check.specs.Entries.{CameOf};
+    ghost use Rattle.ame_check.specs.Judge.{IsHalted};
 
     /// Before any entry.
     pub fn start(alloc: Global, code: &M::Code) -> Result<Replay<M>, NoMemory>
@@ -139,7 +142,7 @@ where
         &mut self,
         alloc: Global,
         code: &M::Code,
-        overlay: &mut BTreeMap<u32, M::Value>,
+        overlay: &mut BTreeMap<u32, Stored<M::Value>>,
         machine: &mut M,
     ) -> Result<(), NoMemory>
         ensures cells { OnOk result ((l : ℕ) → at self.new.cells.entries l ≡ or_else (at overlay.old.entries l) (at self.old.cells.entries l)) }
@@ -276,6 +279,43 @@ where
             EntryKind::Free => self.free(alloc, code, entry),
             EntryKind::Stuck | EntryKind::Cut | EntryKind::Tall => self.note(alloc, code, entry),
         }
+    }
+
+    /// The end of all entries. Costs what their run did, with the logarithm of cells and members for each access.
+    pub fn along(alloc: Global, code: &M::Code, entries: &[Entry]) -> Result<Replay<M>, Halt>
+        ensures led { IfOk result (λ replay. StandsForEntries M.meaning code.now entries.now
+            (record { cells = replay.cells.entries; members = replay.members.entries; output = replay.output.items; next = replay.next })) }
+        ensures halted { IfErr result (IsHalted (M.meaning.program code.now) entries.now) }
+    {
+        let mut replay: Replay<M> = Replay::start(alloc, code)?;
+        let mut place: u64 = 0;
+        for entry in entries {
+            place += 1;
+            match replay.make(alloc, code, entry)? {
+                Made::Made => {}
+                Made::Undefined(why) => return Err(Halt::Undefined(place, why)),
+                Made::Tall => return Err(Halt::Tall(place)),
+            }
+        }
+        Ok(replay)
+    }
+
+    /// Its cells, its members, what was printed, and the number of the next new member.
+    pub fn into_parts(self) -> (
+            BTreeMap<u32, Stored<M::Value>>,
+            BTreeMap<u64, M>,
+            Vec<i64>,
+            u64,
+        )
+        ensures { result ≡ (self.cells, self.members, self.output, self.next) }
+    {
+        let Replay {
+            cells,
+            members,
+            output,
+            next,
+        } = self;
+        (cells, members, output, next)
     }
 
     /// What was printed.

@@ -6,8 +6,10 @@ ghost use Rattle.ame_term.specs.State.{State};
 ghost use Rattle.ame_machine.specs.declared.wants.Wants.{Wants};
 ghost use Rattle.ame_check.specs.Walked.{IsWalking, IsAtStep, WantsAnswer, is_plain};
 ghost use Rattle.ame_check.specs.Visit.{ComesOfVisit};
+ghost use Rattle.ame_check.specs.declared.stored.Stored.{Stored};
 
 use crate::reason::Reason;
+use crate::stored::Stored;
 use crate::walk::{Walked, run, walk};
 use ame_journal::Entry;
 use ame_machine::{Input, Runner, Wants};
@@ -33,9 +35,9 @@ fn hear<M: Runner>(code: &M::Code, entry: &Entry, machine: &mut M) -> Visited
     requires machine { M.meaning.is_machine code.now machine.old }
     requires wants { WantsAnswer (M.meaning.stage code.now machine.old).want }
     requires steps { (M.meaning.stage code.now machine.old).steps + 1 < 2 ^ 64 }
-    ensures { (s : State) (i : ℕ) (cells overlay : List (ℕ × M.Value)) (n : ℕ)
+    ensures { (s : State) (i : ℕ) (cells overlay : List (ℕ × Stored M.Value)) (n : ℕ)
         → IsAtStep M.meaning code.now s i entry.now.fresh cells overlay machine.old Side.Unprotected n
-        → ComesOfVisit M.meaning code.now s i entry.now.fresh entry.now.answer overlay machine.new n result }
+        → ComesOfVisit M.meaning code.now s i entry.now.fresh entry.now.answer cells overlay machine.new n result }
 {
     let fresh = entry.fresh.as_slice();
     let used = machine.fresh().len();
@@ -54,9 +56,9 @@ fn close<M: Runner>(code: &M::Code, entry: &Entry, machine: &mut M) -> Visited
     requires machine { M.meaning.is_machine code.now machine.old }
     requires wants { (M.meaning.stage code.now machine.old).want ≡ Some Wants.Close }
     requires steps { (M.meaning.stage code.now machine.old).steps + 1 < 2 ^ 64 }
-    ensures { (s : State) (i : ℕ) (cells overlay : List (ℕ × M.Value)) (n : ℕ)
+    ensures { (s : State) (i : ℕ) (cells overlay : List (ℕ × Stored M.Value)) (n : ℕ)
         → IsAtStep M.meaning code.now s i entry.now.fresh cells overlay machine.old Side.Unprotected n
-        → ComesOfVisit M.meaning code.now s i entry.now.fresh entry.now.answer overlay machine.new n result }
+        → ComesOfVisit M.meaning code.now s i entry.now.fresh entry.now.answer cells overlay machine.new n result }
 {
     let fresh = entry.fresh.as_slice();
     let used = machine.fresh().len();
@@ -74,9 +76,9 @@ fn close<M: Runner>(code: &M::Code, entry: &Entry, machine: &mut M) -> Visited
 fn go_on<M: Runner>(
     alloc: Global,
     code: &M::Code,
-    cells: &BTreeMap<u32, M::Value>,
+    cells: &BTreeMap<u32, Stored<M::Value>>,
     entry: &Entry,
-    overlay: &mut BTreeMap<u32, M::Value>,
+    overlay: &mut BTreeMap<u32, Stored<M::Value>>,
     machine: &mut M,
     want: Wants,
 ) -> Result<Visited, NoMemory>
@@ -86,7 +88,7 @@ fn go_on<M: Runner>(
     requires count { (M.meaning.stage code.now machine.old).steps + 1 ≡ entry.now.steps }
     ensures { IfOk result (λ visited. (s : State) (i : ℕ) (n : ℕ)
         → IsAtStep M.meaning code.now s i entry.now.fresh cells.now.entries overlay.old.entries machine.old Side.Unprotected n
-        → ComesOfVisit M.meaning code.now s i entry.now.fresh entry.now.answer overlay.new.entries machine.new n visited) }
+        → ComesOfVisit M.meaning code.now s i entry.now.fresh entry.now.answer cells.now.entries overlay.new.entries machine.new n visited) }
 {
     if entry.answer.is_some() {
         return Ok(Visited::Undefined(Reason::Answered));
@@ -102,9 +104,9 @@ fn go_on<M: Runner>(
 fn last<M: Runner>(
     alloc: Global,
     code: &M::Code,
-    cells: &BTreeMap<u32, M::Value>,
+    cells: &BTreeMap<u32, Stored<M::Value>>,
     entry: &Entry,
-    overlay: &mut BTreeMap<u32, M::Value>,
+    overlay: &mut BTreeMap<u32, Stored<M::Value>>,
     machine: &mut M,
     want: Wants,
 ) -> Result<Visited, NoMemory>
@@ -114,7 +116,7 @@ fn last<M: Runner>(
     requires fits { entry.now.steps < 2 ^ 64 }
     ensures { IfOk result (λ visited. (s : State) (i : ℕ) (n : ℕ)
         → IsAtStep M.meaning code.now s i entry.now.fresh cells.now.entries overlay.old.entries machine.old Side.Unprotected n
-        → ComesOfVisit M.meaning code.now s i entry.now.fresh entry.now.answer overlay.new.entries machine.new n visited) }
+        → ComesOfVisit M.meaning code.now s i entry.now.fresh entry.now.answer cells.now.entries overlay.new.entries machine.new n visited) }
 {
     match want {
         Wants::Device(_, _) => Ok(hear(code, entry, machine)),
@@ -128,9 +130,9 @@ fn last<M: Runner>(
 pub fn visit<M: Runner>(
     alloc: Global,
     code: &M::Code,
-    cells: &BTreeMap<u32, M::Value>,
+    cells: &BTreeMap<u32, Stored<M::Value>>,
     entry: &Entry,
-    overlay: &mut BTreeMap<u32, M::Value>,
+    overlay: &mut BTreeMap<u32, Stored<M::Value>>,
     machine: &mut M,
 ) -> Result<Visited, NoMemory>
     requires walking { (s : State) × (i : ℕ) × IsWalking M.meaning code.now s i entry.now.fresh cells.now.entries overlay.old.entries machine.old }
@@ -138,7 +140,7 @@ pub fn visit<M: Runner>(
     requires some { 0 < entry.now.steps }
     ensures { IfOk result (λ visited. (s : State) (i : ℕ) (n : ℕ) → n + 1 ≡ entry.now.steps
         → IsAtStep M.meaning code.now s i entry.now.fresh cells.now.entries overlay.old.entries machine.old Side.Unprotected 0
-        → ComesOfVisit M.meaning code.now s i entry.now.fresh entry.now.answer overlay.new.entries machine.new n visited) }
+        → ComesOfVisit M.meaning code.now s i entry.now.fresh entry.now.answer cells.now.entries overlay.new.entries machine.new n visited) }
 {
     match walk(
         alloc,

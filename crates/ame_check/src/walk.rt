@@ -7,6 +7,7 @@ ghost use Rattle.ame_check.specs.Walked.{IsWalking, IsAtStep, WalksAlong, RunsAl
 
 use crate::reason::Reason;
 use crate::step::{Took, take};
+use crate::stored::Stored;
 use ame_journal::Entry;
 use ame_machine::{Runner, Wants};
 use ame_term::{Loc, NoMemory};
@@ -28,9 +29,9 @@ pub enum Walked {
 pub fn walk<M: Runner>(
     alloc: Global,
     code: &M::Code,
-    cells: &BTreeMap<u32, M::Value>,
+    cells: &BTreeMap<u32, Stored<M::Value>>,
     fresh: &[Loc],
-    overlay: &mut BTreeMap<u32, M::Value>,
+    overlay: &mut BTreeMap<u32, Stored<M::Value>>,
     machine: &mut M,
     steps: u64,
 ) -> Result<Walked, NoMemory>
@@ -58,9 +59,9 @@ pub fn walk<M: Runner>(
 pub fn run<M: Runner>(
     alloc: Global,
     code: &M::Code,
-    cells: &BTreeMap<u32, M::Value>,
+    cells: &BTreeMap<u32, Stored<M::Value>>,
     entry: &Entry,
-    overlay: &mut BTreeMap<u32, M::Value>,
+    overlay: &mut BTreeMap<u32, Stored<M::Value>>,
     machine: &mut M,
 ) -> Result<Walked, NoMemory>
     requires walking { (s : State) × (i : ℕ)

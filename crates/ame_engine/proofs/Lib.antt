@@ -30,3 +30,7 @@ pub mod VisitEndLemmas
 pub mod VisitCallLemmas
 pub mod VisitFreeLemmas
 pub mod EndLemmas
+pub mod ResumedMembers
+pub mod ResumedCells
+pub mod ResumedLemmas
+pub mod FarLemmas

@@ -28,7 +28,7 @@ use Rattle.ame_protocol.specs.Event.State.{started_state}
 use Rattle.ame_protocol.proofs.Event.SoundLemmas.{sound-start}
 use Rattle.ame_engine.specs.Makes.{state_of}
 
-rows-shown : {V : Type 0} (view : V → Val) (n : ℕ) → map (shown_notes view) (replicate n no_log) ≡ replicate n no_log
+pub rows-shown : {V : Type 0} (view : V → Val) (n : ℕ) → map (shown_notes view) (replicate n no_log) ≡ replicate n no_log
 rows-shown view zero = refl
 rows-shown view (suc n) = ap (λ (rows : List (Log Val)). no_log ∷ rows) (rows-shown view n)
 

@@ -11,3 +11,4 @@ pub mod Writing
 pub mod Committing
 pub mod Visiting
 pub mod Ending
+pub mod Resuming

@@ -27,6 +27,7 @@ mod free;
 mod laws;
 mod notes;
 mod read;
+mod resume;
 mod spend;
 mod start;
 mod stop;

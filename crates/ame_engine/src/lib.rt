@@ -5,8 +5,10 @@ mod answer;
 mod ended;
 mod engine;
 mod pick;
+mod resume_fail;
 
 pub use ame_protocol::{Certificate, Counters, Stop};
 pub use answer::{Begin, Checked, Freed, Noted, Undone, Wrote};
 pub use ended::Ended;
 pub use engine::Engine;
+pub use resume_fail::ResumeFail;

@@ -13,6 +13,7 @@ pub mod VisitLemmas
 pub mod StopLemmas
 pub mod UndoLemmas
 pub mod SoundLemmas
+pub mod OpenedLemmas
 pub mod RunLemmas
 pub mod RefusalLemmas
 pub mod FreshLemmas

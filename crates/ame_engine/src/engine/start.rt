@@ -19,7 +19,7 @@ use std::alloc::Global;
 use std::sync::Arc;
 
 /// So many seats that are idle.
-fn idle_tasks(alloc: Global, seats: u32) -> Result<Vec<Task>, NoMemory>
+pub(crate) fn idle_tasks(alloc: Global, seats: u32) -> Result<Vec<Task>, NoMemory>
     ensures { IfOk result (λ tasks. tasks.items ≡ replicate seats Task.Idle) }
 {
     let mut tasks = Vec::new(alloc);

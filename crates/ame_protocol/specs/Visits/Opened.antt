@@ -1,5 +1,5 @@
 -- An engine that is opened from a base: entries that were made before.
-use Rattle.std.specs.Prelude.{◌≡◌, ◌<◌, ◌≤◌, ℕ, ℤ, List, [], Option, Some, None, length, replicate, slice_index_or, false, if◌then◌else◌}
+use Rattle.std.specs.Prelude.{◌≡◌, ◌<◌, ◌≤◌, ℕ, ℤ, All, List, [], Option, Some, None, length, map, replicate, slice_index_or, false, if◌then◌else◌}
 use Rattle.ame_term.specs.Tree.{Typ, Val, Tree}
 use Rattle.ame_term.specs.Maps.{at}
 use Rattle.ame_term.specs.State.{State}
@@ -11,6 +11,8 @@ use Rattle.ame_journal.specs.Replayed.{Replayed, is_inside}
 use Rattle.ame_pool.specs.Roster.{Roster}
 use Rattle.ame_pool.specs.Calls.{machine_of}
 use Rattle.ame_pool.specs.Keeps.{is_inside_at}
+use Rattle.ame_pool.specs.Members.{IsRising}
+use Rattle.ame_pool.specs.declared.member.Standing.{Standing}
 use Rattle.ame_rows.specs.MemoryView.{no_log}
 use Rattle.ame_protocol.specs.Row.Heap.{no_cell, IsLive}
 use Rattle.ame_protocol.specs.declared.types.Limits.{Limits}
@@ -61,3 +63,9 @@ pub record AreOpened (types : StoreTyping) (cells : List (Cell Val)) (s : State)
 pub record HasMembersOf (r : Replayed) (pool : Roster Tree) : Type 0 where
   pub members : (i : ℕ) → at r.state.members i ≡ machine_of i pool
   pub inside : (i : ℕ) → is_inside r i ≡ is_inside_at pool.members i
+
+-- all members are ready in order of their numbers, and none was rolled back
+pub record AreReady {M : Type 0} (pool : Roster M) : Type 0 where
+  pub rising : IsRising pool.members
+  pub ready : All (λ m. (m.standing ≡ Standing.Ready) × (m.rollbacks ≡ 0)) pool.members
+  pub order : pool.order ≡ map (λ m. m.number) pool.members

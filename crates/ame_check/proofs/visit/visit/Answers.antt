@@ -37,7 +37,7 @@ returns-in-Whole g c =
     IfOk-weaker c.last.result
     (λ (visited : Visited). (s : State) (i : ℕ) (n : ℕ)
     → IsAtStep g.M.Runner.meaning c.args.code.now s i c.args.entry.now.fresh c.args.cells.now.entries c.walk.new.overlay.entries c.walk.new.machine Side.Unprotected n
-    → ComesOfVisit g.M.Runner.meaning c.args.code.now s i c.args.entry.now.fresh c.args.entry.now.answer c.last.new.overlay.entries c.last.new.machine n visited)
+    → ComesOfVisit g.M.Runner.meaning c.args.code.now s i c.args.entry.now.fresh c.args.entry.now.answer c.args.cells.now.entries c.last.new.overlay.entries c.last.new.machine n visited)
     _ (λ visited h s i n count a.
     let few : c.args.entry.now.steps - 1 ≡ n = omega arith in
     h s i n (subst (IsAtStep g.M.Runner.meaning c.args.code.now s i c.args.entry.now.fresh c.args.cells.now.entries c.walk.new.overlay.entries c.walk.new.machine Side.Unprotected) few

@@ -1,6 +1,6 @@
 use Rattle.std.proofs.Common.{◌≡◌, take}
 use Rattle.ame_check.specs.Shows.{StandsForEntries}
-use Rattle.ame_check.proofs.judging.judge.Given as goal
+use Rattle.ame_check.proofs.replay.Replay.along.Given as goal
 
 abbrev pub invariant-loop-entry : goal.invariant-loop-entry
 invariant-loop-entry g l = (l.place ≡ l.entry-index)

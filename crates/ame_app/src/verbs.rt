@@ -119,9 +119,9 @@ pub(crate) fn write_behind<K: Sink>(
     own: &Own,
     told: &Status,
 ) -> Result<(), WriteFault>
-    ensures whole { OnOk result (Appends (K.written sink.old) (K.written sink.new) (spec.behind command.now own.now told.now)) }
+    ensures whole { OnOk result (Appends (K.written sink.old) (K.written sink.new) (spec.written_behind command.now own.now told.now)) }
     ensures stayed { OnOk result (K.faults sink.new ≡ K.faults sink.old) }
-    ensures front { OnErr result (AppendsFront (K.written sink.old) (K.written sink.new) (spec.behind command.now own.now told.now)) }
+    ensures front { OnErr result (AppendsFront (K.written sink.old) (K.written sink.new) (spec.written_behind command.now own.now told.now)) }
     ensures risen { OnErr result (HasRisen (K.faults sink.old) (K.faults sink.new)) }
 {
     match command {

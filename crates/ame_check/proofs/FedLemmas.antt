@@ -11,7 +11,7 @@ use Rattle.ame_laws.proofs.MapLemmas.{at-put, at-put_same}
 use Rattle.ame_laws.specs.Typed.StoreTyping.{StoreTyping, Grows}
 use Rattle.ame_journal.specs.Replay.{or_else}
 use Rattle.ame_machine.specs.Run.Local.{LocalState, fed, took, taken_where, set_at, made_at, refilled_in, given_more, one_step}
-use Rattle.ame_machine.specs.Run.AgreesWith.{AgreesWith, IsAfterRun}
+use Rattle.ame_machine.specs.Run.AgreesWith.{AgreesWith}
 use Rattle.ame_machine.specs.MachineView.{MachineView, running_side, place_shown}
 use Rattle.ame_machine.specs.Meaning.{Meaning}
 use Rattle.ame_machine.specs.Comes.{HasNextAct}

@@ -13,7 +13,7 @@ use Rattle.ame_check.specs.Shows.{ReplayView, StandsForEntries}
 use Rattle.ame_check.specs.Entries.{MeetsTall}
 use Rattle.ame_check.specs.declared.reason.Reason.{Reason}
 use Rattle.ame_check.proofs.ReasonLemmas.{FailsBy}
-use Rattle.ame_check.specs.Judge.{most_steps, IsLong, LeadsTo, IsUndefinedAt, IsTooHighAt}
+use Rattle.ame_check.specs.Judge.{most_steps, IsLong, IsUndefinedAt, IsTooHighAt}
 
 -- what follows entries that can't be replayed doesn't change that
 pub undefined-all : (program : Tree) (entries : List Entry) (n : ℕ) → replay program (take n entries) ≡ None → replay program entries ≡ None
@@ -62,10 +62,6 @@ module _ (entries : List Entry) (index : ℕ) (below : index < length entries) (
         }
 
 module _ {C V M : Type 0} (meaning : Meaning C V M) (code : C) (entries : List Entry) where
-  pub valid-so : total_steps entries ≤ most_steps → (view : ReplayView V M) → StandsForEntries meaning code entries view → (output : List ℤ) → output ≡ view.output
-      → LeadsTo (meaning.program code) entries output
-  valid-so short view st output printed = record { short = short; led = st.led; replayed = st.replayed; printed = printed ∙ st.shows.output }
-
   module _ (index : ℕ) (view : ReplayView V M) (st : StandsForEntries meaning code (take index entries) view) where
     pub whole-so : length entries ≤ index → StandsForEntries meaning code entries view
     whole-so within = subst (λ (es : List Entry). StandsForEntries meaning code es view) (take_all index entries within) st

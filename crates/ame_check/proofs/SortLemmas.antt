@@ -1,10 +1,10 @@
 -- Cells have the sorts of the types of locations.
-use Rattle.std.proofs.Common.{All, ◌≡◌, ◌<◌, ℕ, ◌⊎◌, inl, inr, Bool, true, false, List, [], ◌∷◌, ◌++◌, Option, Some, None, is_some, if◌then◌else◌, ◌==◌, refl, sym, ap, ◌∙◌, subst, arith}
+use Rattle.std.proofs.Common.{All, ◌≡◌, ◌<◌, ℕ, ◌⊎◌, inl, inr, Bool, true, false, List, [], ◌∷◌, ◌++◌, Option, Some, None, is_some, if◌then◌else◌, ◌==◌, refl, sym, ap, ◌∙◌, subst}
 use Rattle.std.proofs.lemmas.Bool.{eq-eqb, ne_eqb, eqb-true}
 use Rattle.std.proofs.lemmas.List.{same_from_push}
 use Rattle.std.proofs.lemmas.List.Elements.{All-nil, All-cons, All-head, All-tail}
 use Rattle.ame_term.specs.Tree.{Typ, Val, Tree}
-use Rattle.ame_term.specs.Frame.{Frame, Side, plug_all, side_of}
+use Rattle.ame_term.specs.Frame.{Side, plug_all, side_of}
 use Rattle.ame_term.specs.Context.{Focus, focus}
 use Rattle.ame_term.specs.Act.{Act, act_of}
 use Rattle.ame_term.specs.HasType.{HasValue}

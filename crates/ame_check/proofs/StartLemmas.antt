@@ -83,20 +83,20 @@ module _ {C V M : Type 0} (meaning : Meaning C V M) (code : C) where
       → cells ≡ [] → none ≡ [] → members ≡ put none 0 machine → output ≡ [] → StandsForEntries meaning code [] (record { cells = cells; members = members; output = output; next = 1 })
   starts accepted machine cells members none output good is no_cells no_members put_one no_output =
       let typed = typed-replayed (meaning.devices code) accepted.places (meaning.program code) accepted.refs [] (begun_at (meaning.program code)) accepted.accepts accepted.source refl in record {
-    led = begun_at (meaning.program code);
-    replayed = refl;
-    types = typed.0;
-    typed = typed.1;
-    sorts = sorts-none typed.0 cells no_cells;
-    below = λ most told. below-none most cells no_cells;
-    shows = record {
-      store = λ l. subst (λ (es : List (ℕ × Stored V)). ShowsValue meaning code (at es l) None) (sym no_cells) refl;
-      members = λ k. subst (λ (es : List (ℕ × M)). ShowsMember meaning code false (at es k) (at (start (meaning.program code)).members k)) (sym (put_one ∙ ap (λ (es : List (ℕ × M)). put es 0 machine) no_members))
-          (one k (is_at (nat_cmp k) 0));
-      output = no_output;
-      next = refl;
-    };
-  }
+        led = begun_at (meaning.program code);
+        replayed = refl;
+        types = typed.0;
+        typed = typed.1;
+        sorts = sorts-none typed.0 cells no_cells;
+        below = λ most told. below-none most cells no_cells;
+        shows = record {
+          store = λ l. subst (λ (es : List (ℕ × Stored V)). ShowsValue meaning code (at es l) None) (sym no_cells) refl;
+          members = λ k. subst (λ (es : List (ℕ × M)). ShowsMember meaning code false (at es k) (at (start (meaning.program code)).members k)) (sym (put_one ∙ ap (λ (es : List (ℕ × M)). put es 0 machine) no_members))
+              (one k (is_at (nat_cmp k) 0));
+          output = no_output;
+          next = refl;
+        };
+      }
     where
       one : (k : ℕ) (b : Bool) → ShowsMember meaning code false (if b then Some machine else None) (if b then Some (meaning.program code) else None)
       one k true = (good, ap (λ (m : MachineView). Some m.term) (sym is), is ∙ ap (λ (m : MachineView). starting_at m.term) (sym is))

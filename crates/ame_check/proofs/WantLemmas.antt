@@ -36,7 +36,7 @@ use Rattle.ame_check.specs.Shows.{ShowsCells, HaveSorts, AreBelow}
 use Rattle.ame_check.specs.Walk.{IsNoWalk, Halts, ComesToTall, steps_on, begun_on}
 use Rattle.ame_check.specs.Walked.{place_with, Looks, Allocates, IsWalking, IsAtStep}
 use Rattle.ame_check.proofs.FedLemmas.{IsFedOn, fed-read, fed-peek, fed-write, fed-alloc, fed-spawn, fed-print, shows-put, shown-some, shown-none}
-use Rattle.ame_check.proofs.SortLemmas.{HasSort, member-act, sort-found, sorts-grow, sorts-put, below-found, below-put, all-behind}
+use Rattle.ame_check.proofs.SortLemmas.{member-act, sort-found, sorts-grow, sorts-put, below-found, below-put, all-behind}
 use Rattle.ame_check.proofs.HaltLemmas.{halts-no_walk, halts-absent, halts-out, halts-taken, halts-value, halts-unprotected, halts-failing, halts-closing, halts-device}
 use Rattle.ame_check.specs.declared.stored.Stored.{Stored}
 

@@ -301,12 +301,14 @@ where
     }
 
     /// Its cells, its members, what was printed, and the number of the next new member.
-    pub fn into_parts(self) -> (
-            BTreeMap<u32, Stored<M::Value>>,
-            BTreeMap<u64, M>,
-            Vec<i64>,
-            u64,
-        )
+    pub fn into_parts(
+        self,
+    ) -> (
+        BTreeMap<u32, Stored<M::Value>>,
+        BTreeMap<u64, M>,
+        Vec<i64>,
+        u64,
+    )
         ensures { result ≡ (self.cells, self.members, self.output, self.next) }
     {
         let Replay {

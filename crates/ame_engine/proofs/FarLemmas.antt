@@ -1,10 +1,9 @@
 -- Entries whose new locations are too far.
-use Rattle.std.proofs.Common.{◌⊎◌, inl, inr, ◌≡◌, ℕ, ◌+◌, ◌-◌, ◌<◌, ◌≤◌, List, [], ◌∷◌, ◌++◌, length, map, take, get_or, All, Option, Some, None, refl, sym, ap, ◌∙◌, subst, arith, append-nil}
+use Rattle.std.proofs.Common.{◌⊎◌, inl, inr, ◌≡◌, ℕ, ◌+◌, ◌-◌, ◌<◌, ◌≤◌, List, [], ◌∷◌, ◌++◌, length, map, take, get_or, All, sym, ap, ◌∙◌, subst, arith}
 use Rattle.std.proofs.lemmas.List.{take_all, take_more, take-take, length-take-le, get_or-map, length-map}
 use Rattle.std.proofs.lemmas.List.Elements.{All-get_or, All-head, All-map, All-tail, All-take}
 use Rattle.ame_term.specs.declared.types.Loc.{Loc}
 use Rattle.ame_journal.specs.declared.entry.Entry.{Entry}
-use Rattle.ame_check.specs.Judge.{IsPlace}
 use Rattle.ame_protocol.specs.Engine.Simulates.{most_opened}
 use Rattle.ame_engine.specs.Resuming.{IsNear, IsFar}
 

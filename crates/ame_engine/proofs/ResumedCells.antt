@@ -1,5 +1,5 @@
 -- The cells of a replay by location.
-use Rattle.std.proofs.Common.{◌≡◌, ℕ, ◌%◌, ◌+◌, ◌<◌, ◌≤◌, ◌⊎◌, inl, inr, Bool, true, false, if◌then◌else◌, List, [], ◌∷◌, ◌++◌, length, map, get_or, Option, Some, None, refl, sym, ap, ◌∙◌, subst, arith, All, is_some}
+use Rattle.std.proofs.Common.{◌≡◌, ℕ, ◌%◌, ◌+◌, ◌<◌, ◌≤◌, ◌⊎◌, inl, inr, true, false, List, [], ◌∷◌, ◌++◌, length, map, get_or, Option, Some, None, refl, sym, ap, ◌∙◌, subst, arith, All}
 use Rattle.std.proofs.lemmas.List.{get_or_push, get_or_past, length_push, length-map, get_or-map, get_or_append_left}
 use Rattle.std.proofs.lemmas.List.Elements.{All-from_get_or, All-nil}
 use Rattle.std.specs.Ordering.{is_lt, nat_cmp}
@@ -114,18 +114,6 @@ module _ {V : Type 0} (same : V → V → Type 0) where
     within = λ l cell is. let up : l ≤ last = bound l cell is in let count : length cells ≡ index = f.count in omega arith;
     few = let count : length cells ≡ index = f.count in let under : last < 4000000 = near in let few : length cells ≤ 4000000 = omega arith in few;
   }
-
-  pub no-cells : (stored : List (ℕ × Stored V)) (cells : List (Cell V)) → (0 < length stored → ⊥) → cells ≡ [] → AreCellsOf same stored cells
-  no-cells stored cells empty none = record {
-    least = 0;
-    each = λ l d under. absurd (let count : length cells ≡ 0 = ap length none in omega arith);
-    within = λ l cell is. absurd (by stored l cell empty is);
-    few = let count : length cells ≡ 0 = ap length none in let few : length cells ≤ 4000000 = omega arith in few;
-  }
-    where
-      by : (es : List (ℕ × Stored V)) (l : ℕ) (cell : Stored V) → (0 < length es → ⊥) → at es l ≡ Some cell → ⊥
-      by [] l cell empty is = let clash : ◌≡◌ {A = Option (Stored V)} None (Some cell) = is in cc
-      by (e ∷ es) l cell empty is = empty (let some : 0 < length (e ∷ es) = omega arith in some)
 
 -- What they show
 

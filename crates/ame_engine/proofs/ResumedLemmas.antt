@@ -8,7 +8,7 @@ use Rattle.ame_term.specs.Context.{focus}
 use Rattle.ame_term.specs.Maps.{at}
 use Rattle.ame_term.specs.State.{at_unprotected}
 use Rattle.ame_journal.specs.declared.entry.Entry.{Entry}
-use Rattle.ame_journal.specs.Replayed.{Replayed, is_inside, has_such}
+use Rattle.ame_journal.specs.Replayed.{is_inside, has_such}
 use Rattle.ame_journal.proofs.ReachedLemmas.{IsCalm, calm-replayed}
 use Rattle.ame_machine.specs.MachineView.{MachineView, starting_at}
 use Rattle.ame_machine.specs.Meaning.{Meaning}
@@ -31,19 +31,12 @@ use Rattle.ame_protocol.specs.declared.certificate.Certificate.{Certificate}
 use Rattle.ame_protocol.specs.declared.counters.Counters.{Counters}
 use Rattle.ame_protocol.specs.Engine.Parts.{Parts}
 use Rattle.ame_protocol.specs.Engine.Shown.{shown_member, shown_pool}
-use Rattle.ame_protocol.specs.Engine.Simulates.{Simulates}
-use Rattle.ame_protocol.specs.Engine.Alone.{RunsExclusively}
 use Rattle.ame_protocol.proofs.Engine.ShownPoolLemmas.{found-shown}
 use Rattle.ame_protocol.specs.Visits.Opened.{AreOpened, AreReady, HasMembersOf}
-use Rattle.ame_protocol.specs.Waits.Waiting.{AreWaiting}
-use Rattle.ame_protocol.specs.Waits.Once.{AreNotedOnce}
-use Rattle.ame_protocol.specs.Event.Bounds.{KeepsBounds}
-use Rattle.ame_protocol.specs.Event.Causes.{HasCause}
 use Rattle.ame_protocol.specs.Event.Counting.{nothing_counted}
-use Rattle.ame_protocol.specs.Event.Lone.{IsLone}
 use Rattle.ame_protocol.specs.Event.Sound.{Sound}
 use Rattle.ame_protocol.specs.Event.State.{State, opened_state}
-use Rattle.ame_protocol.proofs.Event.OpenedLemmas.{ready-good, sound-opened}
+use Rattle.ame_protocol.proofs.Event.OpenedLemmas.{sound-opened}
 use Rattle.ame_engine.specs.Core.{Core}
 use Rattle.ame_engine.specs.Seen.{parts_of, term_shown}
 use Rattle.ame_engine.specs.Makes.{state_of}
@@ -191,7 +184,7 @@ module _ {C V M : Type 0} (meaning : Meaning C V M) (code : C) (limits : Limits)
 
       pub resumed-sound : IsSound meaning resumed_with
       resumed-sound = record {
-        stands = subst Simulates (sym parts-resumed) sound.stands;
+        state = subst Sound (sym state-resumed) sound;
         limits = in_range;
         memory = record {
           cells = cells-good meaning code same good_same shown_same place.cells cells are st.led.state st.types st.shows.store st.sorts;
@@ -199,14 +192,6 @@ module _ {C V M : Type 0} (meaning : Meaning C V M) (code : C) (limits : Limits)
               (record { inputs = All-nil (meaning.is_value code); undos = All-nil (IsGoodUndo (meaning.is_value code)) });
         };
         members = at-rest;
-        pool = ready-good pool mem.ready;
-        alone = subst RunsExclusively (sym parts-resumed) sound.alone;
-        lone = subst (λ (p : Parts). IsLone p nothing_counted) (sym parts-resumed) sound.lone;
-        bounds = subst (KeepsBounds None nothing_counted) (sym parts-resumed) sound.bounds;
-        waiting = subst AreWaiting (sym parts-resumed) sound.waiting;
-        once = subst AreNotedOnce (sym parts-resumed) sound.once;
-        caused = subst (HasCause None []) (sym parts-resumed) sound.caused;
-        counters = sound.counters;
         text = refl;
       }
 

@@ -1,6 +1,5 @@
 -- The members of a replay as a pool.
-use Rattle.std.proofs.Common.{Less, ◌≡◌, ℕ, ◌+◌, ◌<◌, ◌≤◌, ◌==◌, suc, Bool, true, false, cond, if◌then◌else◌, List, [], ◌∷◌, ◌++◌, length, map, All, Option, Some, None, option_map, refl, sym, ap, ◌∙◌, subst, arith, append_assoc, append-nil}
-use Rattle.std.specs.Prelude.{nat_lt}
+use Rattle.std.proofs.Common.{Less, ◌≡◌, ℕ, ◌<◌, ◌≤◌, ◌==◌, suc, Bool, true, false, cond, if◌then◌else◌, List, [], ◌∷◌, ◌++◌, length, map, All, Some, None, option_map, refl, sym, ap, ◌∙◌, subst, arith, append_assoc, append-nil}
 use Rattle.std.specs.List.{AllByRecursion}
 use Rattle.std.specs.List.Sorted.{IsStrictlySortedBy}
 use Rattle.std.specs.Map.{keys_of}
@@ -9,7 +8,6 @@ use Rattle.std.specs.Ordering.{nat_cmp}
 use Rattle.std.proofs.lemmas.Bool.{eqb-true, eq-eqb, le-ltb, ne_eqb}
 use Rattle.std.proofs.lemmas.List.{map-append}
 use Rattle.std.proofs.lemmas.List.Elements.{All-nil, All-cons, All-head, All-tail}
-use Rattle.ame_term.specs.Tree.{Tree}
 use Rattle.ame_term.specs.Maps.{at}
 use Rattle.ame_laws.specs.Orderly.{NumbersRise}
 use Rattle.ame_laws.proofs.MapLemmas.{is_at-eq, lt-from_less}
@@ -19,7 +17,6 @@ use Rattle.ame_pool.specs.Members.{find, placed, IsRising}
 use Rattle.ame_pool.specs.Roster.{Roster, nobody}
 use Rattle.ame_pool.specs.Calls.{newcomer, joined, with_room}
 use Rattle.ame_machine.specs.MachineView.{MachineView}
-use Rattle.ame_protocol.specs.Visits.Opened.{AreReady}
 use Rattle.ame_engine.specs.Resuming.{AreMembersOf}
 
 -- Lists of members by rising numbers

@@ -37,7 +37,7 @@ pub(crate) fn member_told(before: Option<u64>, after: Option<u64>) -> Option<u64
 
 /// The location that a machine wants, where there are so many cells.
 fn place_of(cells: u32, want: Option<Wants>) -> Option<u32>
-    ensures { result ≡ spec.place_of cells want }
+    ensures { result ≡ spec.location_wanted cells want }
 {
     match want {
         Some(Wants::Read(l) | Wants::Write(l) | Wants::Peek(l)) => Some(l.0),

@@ -1,5 +1,5 @@
 -- A state that is opened from a base is sound.
-use Rattle.std.proofs.Common.{All, Bool, IsSomeAnd, IsTrue, List, None, Option, Some, [], ◌∷◌, ◌++◌, append-nil, arith, false, refl, subst, suc, sym, ap, true, zero, ℕ, ℤ, ◌<◌, ◌∙◌, ◌≡◌, ◌≤◌}
+use Rattle.std.proofs.Common.{All, IsSomeAnd, IsTrue, List, None, Option, Some, [], ◌∷◌, ◌++◌, append-nil, arith, false, refl, subst, suc, sym, ap, true, zero, ℕ, ◌∙◌, ◌≡◌, ◌≤◌}
 use Rattle.std.specs.Prelude.{slice_get}
 use Rattle.std.proofs.lemmas.List.Elements.{All-head, All-tail, All-weaker}
 use Rattle.ame_term.specs.Tree.{Tree, Val}
@@ -21,7 +21,7 @@ use Rattle.ame_pool.specs.declared.member.Standing.{Standing}
 use Rattle.ame_protocol.specs.declared.types.Limits.{Limits}
 use Rattle.ame_protocol.specs.Engine.Parts.{Parts}
 use Rattle.ame_protocol.specs.Visits.Opened.{opened, AreOpened, AreReady, HasMembersOf}
-use Rattle.ame_protocol.specs.Waits.Waiting.{AreWaiting, watch_list, watched_by}
+use Rattle.ame_protocol.specs.Waits.Waiting.{AreWaiting, watch_list}
 use Rattle.ame_protocol.specs.Waits.Once.{AreNotedOnce, HasEntryAt}
 use Rattle.ame_protocol.specs.Event.Counting.{nothing_counted}
 use Rattle.ame_protocol.specs.Event.Rollbacks.{IsGoodPool}

@@ -1,4 +1,4 @@
-use Rattle.std.proofs.Common.{rules, ◌≡◌, ℕ, List, [], arith, refl, subst, sym, vec_len, vec_capacity, ◌∙◌}
+use Rattle.std.proofs.Common.{rules, ◌≡◌, List, [], arith, subst, sym, vec_len, vec_capacity}
 use Rattle.std.specs.Arc.{arc_value}
 use Rattle.ame_io.specs.Lines.{lines}
 use Rattle.ame_protocol.specs.declared.types.Task.{Task}
@@ -37,10 +37,10 @@ invariant_of-result g c =
     let none : vec_len c.new-4.result ≡ 0 = search rules in
     record {
       whole = found-sound g.M.Runner.meaning (arc_value c.args.code) c.args.limits c.args.base.entries
-    (record { cells = c.into_parts-cells.result.0.entries; members = c.into_parts-cells.result.1.entries; output = c.into_parts-cells.result.2.items; next = c.into_parts-cells.result.3 })
-    c.requires.limits c.requires.base st c.in_ok-pool.pool mem g.M.Value.Copied.same (λ x y same good. g.met.M.Runner.same_values (arc_value c.args.code) x y same good)
-    (λ x y same. g.met.M.Runner.value_shown (arc_value c.args.code) x y same) c.in_ok-cells_of.field-0.items c.in_ok-cells_of.ensures
-    _ _ _ _ _ _ _ _ c.new-2.ensures c.from_cells-store.ensures c.in_ok-memory.ensures c.in_ok-tasks.ensures printed c.new-3.ensures tried certificates;
+          (record { cells = c.into_parts-cells.result.0.entries; members = c.into_parts-cells.result.1.entries; output = c.into_parts-cells.result.2.items; next = c.into_parts-cells.result.3 })
+          c.requires.limits c.requires.base st c.in_ok-pool.pool mem g.M.Value.Copied.same (λ x y same good. g.met.M.Runner.same_values (arc_value c.args.code) x y same good)
+          (λ x y same. g.met.M.Runner.value_shown (arc_value c.args.code) x y same) c.in_ok-cells_of.field-0.items c.in_ok-cells_of.ensures
+          _ _ _ _ _ _ _ _ c.new-2.ensures c.from_cells-store.ensures c.in_ok-memory.ensures c.in_ok-tasks.ensures printed c.new-3.ensures tried certificates;
       places = subst (λ (tasks : List Task). HasPlacesFor tasks (vec_len c.new-4.result) (vec_capacity c.new-4.result)) (sym c.in_ok-tasks.ensures)
           (places-idle c.args.limits.seats (vec_len c.new-4.result) (vec_capacity c.new-4.result) (omega (arith, none)));
     }

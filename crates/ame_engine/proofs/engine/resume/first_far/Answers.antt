@@ -1,4 +1,4 @@
-use Rattle.std.proofs.Common.{◌≡◌, ◌+◌, ℕ, All, ap, get_or, subst, take}
+use Rattle.std.proofs.Common.{◌+◌, ℕ, All, ap, subst}
 use Rattle.std.proofs.lemmas.List.{take_all}
 use Rattle.std.proofs.lemmas.List.Elements.{All-more}
 use Rattle.ame_engine.specs.Resuming.{IsNear}

@@ -1,4 +1,4 @@
-use Rattle.std.proofs.Common.{◌<◌, ◌≤◌, arith}
+use Rattle.std.proofs.Common.{◌<◌}
 use Rattle.std.proofs.lemmas.List.Elements.{All-more}
 use Rattle.ame_term.specs.declared.types.Loc.{Loc}
 use Rattle.ame_protocol.specs.Engine.Simulates.{most_opened}

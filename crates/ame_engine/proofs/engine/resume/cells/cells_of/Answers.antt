@@ -1,4 +1,4 @@
-use Rattle.std.proofs.Common.{Some, arith, ap, is_some, refl, sym, ◌∙◌}
+use Rattle.std.proofs.Common.{arith, ap, is_some, refl, sym}
 use Rattle.ame_laws.proofs.MapLemmas.{is_at-apart}
 use Rattle.ame_engine.proofs.ResumedCells.{at-most, fills-more, cells-filled}
 use Rattle.ame_engine.proofs.engine.resume.cells.cells_of.Goals as goal

@@ -1,5 +1,5 @@
-use Rattle.std.proofs.Common.{◌≡◌, ◌<◌, false, length, true}
-use Rattle.ame_engine.proofs.ResumedMembers.{gathers-more, gathered, has-room, is-absent}
+use Rattle.std.proofs.Common.{◌≡◌, false, true}
+use Rattle.ame_engine.proofs.ResumedMembers.{gathers-more, gathered, is-absent}
 use Rattle.ame_engine.proofs.engine.resume.members.pool_of.Goals as goal
 
 pub add-requires-clause-fresh : goal.add-requires-clause-fresh

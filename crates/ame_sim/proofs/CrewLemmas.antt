@@ -34,7 +34,6 @@ use Rattle.ame_turn.specs.Work.{Fits, stage_at}
 use Rattle.ame_turn.proofs.OthersLemmas.{stays-on}
 use Rattle.ame_sim.specs.Crew.{IsCrew, SomeSeatIsAtWork}
 use Rattle.ame_sim.proofs.BusyLemmas.{busy-there, busy-shown, busy-seat}
-use Rattle.ame_sim.proofs.SeatLemmas.{start-seated}
 
 pub same-all : {X : Type 0} (n k : ℕ) (x : X) → slice_index_or (replicate n x) k x ≡ x
 same-all zero k x = refl
@@ -55,7 +54,6 @@ module _ {C V M : Type 0} (meaning : Meaning C V M) where
         let nothing : slice_index_or hands seat work.Idle ≡ work.Idle = ap (λ (s : List (Work M)). slice_index_or s seat work.Idle) all ∙ same-all limits.seats seat work.Idle in
         subst (λ (w : Work M). Fits meaning core seat w) (sym nothing) idle;
     limits = subst AreLimits (ap (λ (p : Parts). p.limits) (sym starts)) right;
-    seated = subst AreSeated (sym starts) (start-seated (meaning.program code) (meaning.devices code) limits);
     enough = enough;
     within = omega arith;
   }
@@ -65,14 +63,13 @@ module _ {C V M : Type 0} (meaning : Meaning C V M) where
       → IsCrew meaning old sent code hands before
       → seat < length hands → new.code ≡ old.code → new.limits ≡ old.limits → Fits meaning new seat last
       → ((other : ℕ) (rest : Work M) → other ≢ seat → Fits meaning old other rest → Fits meaning new other rest)
-      → after ≡ before → later ≤ length (lines new.output) → AreSeated (parts_of meaning new)
+      → after ≡ before → later ≤ length (lines new.output)
       → IsCrew meaning new later code (set (set hands seat mid) seat last) after
-  crew-turned old new code hands seat mid last before after sent later crew within same limits fits others tools more seated = record {
+  crew-turned old new code hands seat mid last before after sent later crew within same limits fits others tools more = record {
     same = crew.same ∙ sym same;
     count = length-set (set hands seat mid) seat last ∙ length-set hands seat mid ∙ crew.count ∙ ap (λ (l : Limits). l.seats) (sym limits);
     fit = λ other. by other (which other seat);
     limits = subst AreLimits (sym limits) crew.limits;
-    seated = seated;
     enough = subst (λ (n : ℕ). meaning.devices new.code ≤ n) (sym tools) (subst (λ (c : C). meaning.devices c ≤ before) (sym same) crew.enough);
     within = more;
   }
@@ -113,7 +110,6 @@ module _ {C V M : Type 0} (meaning : Meaning C V M) where
     limits = crew.limits;
     count = crew.count;
     fit = λ seat. fits-stopped why core seat (slice_index_or hands seat work.Idle) (crew.fit seat);
-    seated = crew.seated;
     enough = crew.enough;
     within = crew.within;
   }

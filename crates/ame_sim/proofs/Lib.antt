@@ -2,7 +2,6 @@ pub mod OrderLemmas
 pub mod PickLemmas
 pub mod BusyLemmas
 pub mod TurnLemmas
-pub mod SeatLemmas
 pub mod UnwindLemmas
 pub mod CrewLemmas
 pub mod PlayLemmas

@@ -5,10 +5,8 @@ use Rattle.ame_engine.specs.declared.pick.Pick.{Pick}
 use Rattle.ame_protocol.specs.declared.stop.Stop.{Stop}
 use Rattle.ame_engine.specs.Begins.{pick_of}
 use Rattle.ame_engine.specs.Core.{Core}
-use Rattle.ame_engine.specs.Seen.{parts_of}
 use Rattle.ame_engine.specs.Stops.{stopped_by}
 use Rattle.ame_engine.specs.Whole.{AreLimits}
-use Rattle.ame_protocol.specs.Event.Seated.{AreSeated}
 use Rattle.ame_io.specs.Lines.{lines}
 use Rattle.ame_pool.specs.Begin.{oldest}
 use Rattle.ame_pool.specs.declared.oldest.Oldest.{Oldest}
@@ -32,14 +30,13 @@ picks_left None turns waits = turns * (length waits + 1) + (length waits - count
 picks_left (Some why) turns waits = 0
 
 module _ {C V M : Type 0} (meaning : Meaning C V M) where
-  -- The code is the engine's, and its limits are in range. What each seat has at hand fits, and each busy member is one that a seat
-  -- has at work. There are devices enough, and no more was sent than there is.
+  -- The code is the engine's, and its limits are in range. What each seat has at hand fits. There are devices enough, and no more was
+  -- sent than there is.
   pub record IsCrew (core : Core C V M) (sent : ℕ) (code : C) (hands : List (Work M)) (tools : ℕ) : Type 0 where
     pub same : code ≡ core.code
     pub limits : AreLimits core.limits
     pub count : length hands ≡ core.limits.seats
     pub fit : (seat : ℕ) → Fits meaning core seat (slice_index_or hands seat work.Idle)
-    pub seated : AreSeated (parts_of meaning core)
     pub enough : meaning.devices core.code ≤ tools
     pub within : sent ≤ length (lines core.output)
 

@@ -133,7 +133,6 @@ where
         let wanted = place_wanted(self.shell.engine.cells(), &work);
         let before = member_at(&self.shell.engine, seat);
         self.shell.engine.stands();
-        self.shell.engine.members_are_rolled_back_seldom();
         let Turned { deed, work } = self.shell.turn(&self.code, seat, work, lacks);
         self.shell.engine.stands();
         self.hands[seat as usize] = work;
@@ -151,6 +150,7 @@ where
     {
         self.shell.engine.stands();
         self.shell.engine.members_are_rolled_back_seldom();
+        self.shell.engine.busy_members_are_seated();
         self.shell.engine.who_waits_waits_for_somebody();
     }
 
@@ -183,7 +183,6 @@ where
     {
         let work = mem::replace(&mut self.hands[seat as usize], Work::Idle);
         self.shell.engine.stands();
-        self.shell.engine.members_are_rolled_back_seldom();
         let Turned { deed: _, work } = self.shell.turn(&self.code, seat, work, true);
         self.hands[seat as usize] = work;
     }

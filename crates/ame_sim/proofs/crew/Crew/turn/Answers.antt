@@ -2,7 +2,6 @@ use Rattle.std.proofs.Common.{◌<◌, sym, subst, arith}
 use Rattle.ame_turn.specs.Work.{stage_at}
 use Rattle.ame_shell.specs.Shell.{IsShell}
 use Rattle.ame_sim.proofs.CrewLemmas.{crew-turned, hand-on, turn-played}
-use Rattle.ame_sim.proofs.SeatLemmas.{turn-seated}
 use Rattle.ame_sim.proofs.crew.Crew.turn.Goals as goal
 
 pub invariant_of-self : goal.invariant_of-self
@@ -14,8 +13,6 @@ invariant_of-self g c =
     let count = c.self.invariant.count in
     crew-turned g.M.Runner.meaning shell.engine c.turn-deed.new.self.engine _ c.self.inside.hands.items seat c.replace-work.new.dest c.turn-deed.result.work
     _ _ _ _ c.self.invariant (omega (arith, within, count)) turned.code turned.limits turned.fits turned.others turned.count turned.sent
-    (turn-seated g.M.Runner.meaning seat _ _ _ c.turn-deed.result.deed c.stands.ensures c.members_are_rolled_back_seldom.ensures.few
-    c.members_are_rolled_back_seldom.ensures.rising within c.self.invariant.seated turned.turned)
 
 pub returns-clause-played : goal.returns-clause-played
 returns-clause-played g c =

@@ -4,7 +4,6 @@ use Rattle.ame_protocol.specs.Engine.Parts.{task_at}
 use Rattle.ame_shell.specs.Shell.{IsShell}
 use Rattle.ame_sim.specs.Crew.{IsUnwound, left_to_undo}
 use Rattle.ame_sim.proofs.CrewLemmas.{crew-turned}
-use Rattle.ame_sim.proofs.SeatLemmas.{turn-seated}
 use Rattle.ame_sim.proofs.UnwindLemmas.{turn-unwinds}
 use Rattle.ame_sim.proofs.crew.Crew.undo.Goals as goal
 
@@ -17,8 +16,6 @@ invariant_of-self g c =
     let count = c.self.invariant.count in
     crew-turned g.M.Runner.meaning shell.engine c.turn-work.new.self.engine _ c.self.inside.hands.items seat c.replace-work.new.dest c.turn-work.result.work
     _ _ _ _ c.self.invariant (omega (arith, within, count)) turned.code turned.limits turned.fits turned.others turned.count turned.sent
-    (turn-seated g.M.Runner.meaning seat _ _ _ c.turn-work.result.deed c.stands.ensures c.members_are_rolled_back_seldom.ensures.few
-    c.members_are_rolled_back_seldom.ensures.rising within c.self.invariant.seated turned.turned)
 
 pub returns-clause-unwound : goal.returns-clause-unwound
 returns-clause-unwound g c =

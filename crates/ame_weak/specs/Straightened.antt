@@ -83,8 +83,10 @@ pub record AddsEntries (entries : List Entry) (old new : Transcript) : Type 0 wh
 
 -- a label's entries are added, and it stands for the place behind the label
 abbrev pub Writes : Label → Transcript → Transcript → Type 0
-Writes label old new = (p : Place) → KeepsPlace p old → KeepsPlace (past p label) new × (new.journal.entries ≡ old.journal.entries ++ entries_of_label p label)
+Writes label old new = (p : Place) → KeepsPlace p old →
+    KeepsPlace (past p label) new × (new.journal.entries ≡ old.journal.entries ++ entries_of_label p label)
 
 -- a member comes in, if it isn't inside
 abbrev pub Arrives : ℕ → Transcript → Transcript → Type 0
-Arrives i old new = (p : Place) → KeepsPlace p old → KeepsPlace (record p { inside = came p.inside i }) new × (new.journal.entries ≡ old.journal.entries ++ arrival p.inside i)
+Arrives i old new = (p : Place) → KeepsPlace p old →
+    KeepsPlace (record p { inside = came p.inside i }) new × (new.journal.entries ≡ old.journal.entries ++ arrival p.inside i)

@@ -54,7 +54,8 @@ tries_behind n (t ∷ tries) = if t.after == n then tries_behind n tries else t 
 -- the entries of labels from here, which is after n labels, with the notes of the tries in order
 abbrev pub straight_with : ℕ → List Try → Place → List Label → List Entry
 straight_with n tries p [] = noted_tries n tries
-straight_with n tries p (label ∷ labels) = noted_tries n tries ++ (entries_of_label p label ++ straight_with (n + 1) (tries_behind n tries) (past p label) labels)
+straight_with n tries p (label ∷ labels) =
+    noted_tries n tries ++ (entries_of_label p label ++ straight_with (n + 1) (tries_behind n tries) (past p label) labels)
 
 -- tries in order: each after n labels at least and m at most, and none before one that it follows
 abbrev pub AreTriesInOrder : ℕ → ℕ → List Try → Type 0

@@ -1,7 +1,8 @@
 -- The weak semantics: unprotected code steps between the steps of the active fragment, whose prints and
 -- new members are held back until it leaves or ends. The interleaving is after Abadi, Birrell, Harris and
 -- Isard (POPL 2008); what is held back, and that `peek` waits until nothing is active, are ours.
-use Rattle.std.specs.Prelude.{◌≡◌, ℕ, ◌+◌, ◌==◌, ℤ, Bool, true, false, not, ◌&&◌, List, [], ◌∷◌, ◌++◌, length, Option, Some, None, option_map, option_and_then, if◌then◌else◌}
+use Rattle.std.specs.Prelude.{◌≡◌, ℕ, ◌+◌, ◌==◌, ℤ, Bool, true, false, not, ◌&&◌, List, [], ◌∷◌, ◌++◌, length}
+use Rattle.std.specs.Prelude.{Option, Some, None, option_map, option_and_then, if◌then◌else◌}
 use Rattle.ame_term.specs.Tree.{Tree, unit_tree}
 use Rattle.ame_term.specs.Frame.{Side, same_side}
 use Rattle.ame_term.specs.Context.{Focus, focus, fill}

@@ -1,1 +1,1 @@
-autocmd BufRead,BufNewFile *.ame setfiletype ame | setlocal commentstring=;\ %s
+autocmd BufRead,BufNewFile *.ame setfiletype ame

@@ -1,0 +1,9 @@
+" Vim settings for ame.
+if exists('b:did_ftplugin')
+  finish
+endif
+let b:did_ftplugin = 1
+
+setlocal commentstring=;\ %s comments=:; lisp
+setlocal lispwords=fn,rec,let,do,if,async,unprotected
+let b:undo_ftplugin = 'setlocal commentstring< comments< lisp< lispwords<'

@@ -1,24 +1,12 @@
 //! Ends that come early, by a table: turns that are used up, values that are too high, and want of memory.
 
-use crate::table::{Event, ONE_SEAT, Row, TWO_SEATS, play_all};
+use crate::table::{Event, FIRST_TRIED, ONE_SEAT, Row, SECOND_TRIED, TWO_SEATS, play_all};
 use ame_engine::Stop;
-use ame_protocol::{Limits, Tried};
+use ame_protocol::Limits;
 use ame_turn::Deed::*;
 use std::test::Fail;
 
 const WRITES: &str = "(let r (ref p 0) (do (async (do (set r 1) (set r 2))) (async (set r 3))))";
-
-const FIRST_TRIED: Tried = Tried {
-    number: 1,
-    at: 1,
-    steps: 0,
-};
-
-const SECOND_TRIED: Tried = Tried {
-    number: 2,
-    at: 1,
-    steps: 0,
-};
 
 const ROWS: &[Row] = &[
     // a loop is cut off, and a note tells how far it had come

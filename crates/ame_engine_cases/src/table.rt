@@ -76,6 +76,19 @@ pub const TWO_SEATS: Row = Row {
     ..ONE_SEAT
 };
 
+/// A try of member 1, without a check, behind the first entry.
+pub const FIRST_TRIED: Tried = Tried {
+    number: 1,
+    at: 1,
+    steps: 0,
+};
+
+/// The same of member 2.
+pub const SECOND_TRIED: Tried = Tried {
+    number: 2,
+    ..FIRST_TRIED
+};
+
 /// A seat has its turn. Where memory is lacking, the engine is as it was but for the stop.
 fn turn<D: Device>(rt: &impl Abort, team: &mut Team<D>, seat: u32) -> Result<Deed, Fail> {
     assert!(rt; seat < team.engine().limits().seats);

@@ -1,8 +1,8 @@
 //! Two seats, by a table: reads that became invalid, conflicts, members that wait, and one that begins alone.
 
-use crate::table::{Event, Row, TWO_SEATS, play_all};
+use crate::table::{Event, FIRST_TRIED, Row, SECOND_TRIED, TWO_SEATS, play_all};
 use ame_engine::Stop;
-use ame_protocol::{Limits, Tried};
+use ame_protocol::Limits;
 use ame_rows::Bad;
 use ame_term::Loc;
 use ame_turn::Deed::*;
@@ -18,18 +18,6 @@ const R_CHANGED_BACK: Bad = Bad {
     loc: Loc(0),
     read: 3,
     now: 4,
-};
-
-const FIRST_TRIED: Tried = Tried {
-    number: 1,
-    at: 1,
-    steps: 0,
-};
-
-const SECOND_TRIED: Tried = Tried {
-    number: 2,
-    at: 1,
-    steps: 0,
 };
 
 const ROWS: &[Row] = &[

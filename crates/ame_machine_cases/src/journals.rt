@@ -1,6 +1,6 @@
 //! Journals of texts, judged on machines.
 
-use crate::strong::first_undefined;
+use crate::replay::first_undefined;
 use crate::texts::code_of;
 use ame_check::{Judged, Reason, judge, split_input};
 use ame_eval::Fragment;

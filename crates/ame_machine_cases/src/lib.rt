@@ -1,4 +1,5 @@
-//! Machines that run alone, and tests of them on texts.
+//! Machines that run alone, and tests of all that steps without an engine: terms, the strong and the weak semantics as programs,
+//! machines, journals.
 #![tactic(auto)]
 
 mod cells;
@@ -13,16 +14,30 @@ mod against;
 #[cfg(test)]
 mod calls;
 #[cfg(test)]
+mod journal_texts;
+#[cfg(test)]
 mod journals;
 #[cfg(test)]
+mod lines;
+#[cfg(test)]
 mod made_up;
+#[cfg(test)]
+mod replay;
 #[cfg(test)]
 mod rows;
 #[cfg(test)]
 mod strong;
+#[cfg(test)]
+mod terms;
 #[cfg(test)]
 mod texts;
 #[cfg(test)]
 mod values;
 #[cfg(test)]
 mod wants;
+#[cfg(test)]
+mod weak;
+#[cfg(test)]
+mod weak_programs;
+#[cfg(test)]
+mod weak_runs;

@@ -1,13 +1,15 @@
 //! The program of a text, and machines that run it.
 
+ghost use Rattle.std.specs.Prelude.{◌≤◌};
 ghost use Rattle.ame_machine_cases.specs.Alone.{IsAlone};
+ghost use Rattle.ame_types.specs.Limits.{max_devices};
 
 use crate::lone::Lone;
 use ame_code::{Code, compile};
 use ame_lex::lex;
 use ame_machine::Wants;
 use ame_parse::parse;
-use ame_term::{NoMemory, Program};
+use ame_term::{Accepted, NoMemory, Program};
 use ame_types::check;
 use std::alloc::Global;
 use std::process::Abort;
@@ -22,13 +24,20 @@ pub(crate) fn read(alloc: Global, text: &[u8]) -> Result<Program, Fail> {
     Ok(parse(alloc, text, &tokens)?)
 }
 
-/// The code of a text, which may call two devices.
-pub(crate) fn code_of(alloc: Global, text: &[u8]) -> Result<Code, Fail> {
+/// The program of a text that the types accept, which may call so many devices.
+pub(crate) fn accept(alloc: Global, text: &[u8], devices: u32) -> Result<Accepted, Fail>
+    requires { devices ≤ max_devices }
+{
     let program = read(alloc, text)?;
-    match check(alloc, program, 2) {
-        Ok(accepted) => Ok(compile(alloc, accepted)?),
+    match check(alloc, program, devices) {
+        Ok(accepted) => Ok(accepted),
         Err(_) => Err("not typed".into()),
     }
+}
+
+/// The code of a text, which may call two devices.
+pub(crate) fn code_of(alloc: Global, text: &[u8]) -> Result<Code, Fail> {
+    Ok(compile(alloc, accept(alloc, text, 2)?)?)
 }
 
 /// Runs a machine to what it wants next. Where memory is refused once, it goes on from there.

@@ -87,7 +87,7 @@ fn shown(alloc: Global, answer: &Straight) -> Result<Vec<u8>, Fail> {
 }
 
 fn straightened(alloc: Global, labels: &[Label]) -> Result<Vec<u8>, Fail> {
-    let accepted = accept(alloc, INTERLEAVED)?;
+    let accepted = accept(alloc, INTERLEAVED, 0)?;
     let answer = straighten(alloc, &accepted, labels, &[])?;
     shown(alloc, &answer)
 }

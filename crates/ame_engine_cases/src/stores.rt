@@ -36,7 +36,7 @@ enum Told {
 }
 
 /// A cell's value, number and owner, and whether it is live.
-type State = (i64, u64, Option<u32>, bool);
+pub(crate) type State = (i64, u64, Option<u32>, bool);
 
 /// Calls in a row, each with a location, what it tells, and the cell there afterwards.
 const STEPS: &[(u32, Step, Told, State)] = &[
@@ -172,7 +172,7 @@ fn perform<V: Sample>(
 }
 
 /// The cell at a location, where there is one.
-fn state<V: Sample>(store: &Store<V>, l: Loc) -> Option<State> {
+pub(crate) fn state<V: Sample>(store: &Store<V>, l: Loc) -> Option<State> {
     if l.0 >= store.len() {
         return None;
     }

@@ -236,7 +236,7 @@ fn random_weak_runs_are_straightened(rt: HostRuntime) -> Result<(), Fail> {
     let mut between = 0u32;
     for seed in 0..50u64 {
         let text = made_up(alloc, seed)?;
-        let accepted = accept(alloc, &text)?;
+        let accepted = accept(alloc, &text, 0)?;
         match between_of(alloc, &accepted, seed)? {
             Some(more) => between = between.saturating_add(more),
             None => return Err("a run isn't straightened".into()),

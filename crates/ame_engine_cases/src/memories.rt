@@ -5,6 +5,7 @@ ghost use Rattle.std.specs.Option.{ForSome};
 ghost use Rattle.ame_store.specs.Cells.{CanGrow};
 
 use crate::sample::{Kept, Sample};
+use crate::stores::{State, state};
 use ame_rows::{Memory, WriteAnswer};
 use ame_store::Store;
 use ame_term::{Loc, NoMemory, Sort, TyNo};
@@ -41,9 +42,6 @@ enum Told {
     Count(usize),
     More(bool),
 }
-
-/// A cell's value, number and owner, and whether it is live.
-type State = (i64, u64, Option<u32>, bool);
 
 /// Calls in a row, each with a seat and a location, what it tells, and the cell there afterwards.
 const STEPS: &[(u32, u32, Step, Told, Option<State>)] = &[
@@ -344,15 +342,6 @@ fn perform<V: Sample>(
         Step::Peek => peek(memory, l),
         _ => perform_by(global, memory, seat, l, step),
     }
-}
-
-/// The cell at a location, where there is one.
-fn state<V: Sample>(cells: &Store<V>, l: Loc) -> Option<State> {
-    if l.0 >= cells.len() {
-        return None;
-    }
-    let cell = cells.cell(l);
-    Some((cell.value.number(), cell.number, cell.owner, cell.live))
 }
 
 /// Makes the calls, and answers how many of them told and left what the table says.

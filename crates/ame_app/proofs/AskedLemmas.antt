@@ -7,6 +7,7 @@ use Rattle.ame_lex.specs.Bytes.{Text}
 use Rattle.ame_cli.specs.declared.command.CliFail.{CliFail}
 use Rattle.ame_cli.specs.declared.command.Command.{Command}
 use Rattle.ame_cli.specs.Grammar.{SpellsCommand, SpellsNothing}
+use Rattle.ame_app.specs.declared.parts.Own.{Own}
 use Rattle.ame_app.specs.declared.status.Status.{Status}
 use Rattle.ame_app.specs.Verbs.{reads_source}
 use Rattle.ame_app.specs.Calls.{Given, Call, call_of, IsInput}
@@ -22,11 +23,11 @@ err-weaker (Err e) P Q go h = go e h
 
 -- by the words
 pub words-refused : (words : List (List ℕ)) (source : Given) (devices : ℕ) (text : Text) (fail : CliFail) (status : Status) → status ≡ words_told fail
-    → (fail ≡ CliFail.Usage → SpellsNothing words) → RefusalCause (call_of words source source devices) text [] status
+    → (fail ≡ CliFail.Usage → SpellsNothing words) → RefusalCause (call_of words source source devices) text [] Own.Nothing status
 words-refused words source devices text CliFail.Usage status e nothing =
-    subst (RefusalCause (call_of words source source devices) text []) (sym e) (by_words (record { words = nothing refl; source = refl }))
+    subst (RefusalCause (call_of words source source devices) text [] Own.Nothing) (sym e) (by_words (record { words = nothing refl; source = refl }))
 words-refused words source devices text CliFail.NoMemory status e nothing =
-    subst (RefusalCause (call_of words source source devices) text []) (sym e) (by_memory (record { faults = refl; untouched = λ command spells still. refl }))
+    subst (RefusalCause (call_of words source source devices) text [] Own.Nothing) (sym e) (by_memory (record { faults = refl; untouched = λ command spells still. refl }))
 
 -- by the source
 module _ (words : List (List ℕ)) (source after : Given) (devices : ℕ) (text : Text) (command : Command)
@@ -35,13 +36,13 @@ module _ (words : List (List ℕ)) (source after : Given) (devices : ℕ) (text 
   reader = record { command = command; spelled = spelled; reads = reads }
 
   pub source-refused : (one : SpellOne) (fail : ReadAllFail) (status : Status) → status ≡ source_told fail
-      → LeftAfter fail source.left after.left → FaultsAfter fail source.faults after.faults → RefusalCause (call_of words source after devices) text [] status
+      → LeftAfter fail source.left after.left → FaultsAfter fail source.faults after.faults → RefusalCause (call_of words source after devices) text [] Own.Nothing status
   source-refused one ReadAllFail.ReadFault status e left faults =
-      subst (RefusalCause (call_of words source after devices) text []) (sym e) (by_source (record { reader = reader; faults = faults }))
+      subst (RefusalCause (call_of words source after devices) text [] Own.Nothing) (sym e) (by_source (record { reader = reader; faults = faults }))
   source-refused one ReadAllFail.TooLong status e left faults =
-      subst (RefusalCause (call_of words source after devices) text []) (sym e) (by_length (record { reader = reader; given = left; faults = faults }))
+      subst (RefusalCause (call_of words source after devices) text [] Own.Nothing) (sym e) (by_length (record { reader = reader; given = left; faults = faults }))
   source-refused one ReadAllFail.NoMemory status e left faults =
-      subst (RefusalCause (call_of words source after devices) text []) (sym e) (by_memory (record {
+      subst (RefusalCause (call_of words source after devices) text [] Own.Nothing) (sym e) (by_memory (record {
         faults = faults;
         untouched = λ other spells still. absurd (let same = ap reads_source (one words command other spelled spells) in cc);
       }))
@@ -49,8 +50,8 @@ module _ (words : List (List ℕ)) (source after : Given) (devices : ℕ) (text 
 -- by what the source has
 pub untaken-refused : (one : SpellOne) (call : Call) (text : Text) (command : Command) (bytes : List ℕ) (status : Status) → SpellsCommand call.words command
     → IsInput (reads_source command) call.source call.source_after bytes → length bytes ≤ whole_limit → IsUntaken command bytes status
-    → RefusalCause call text [] status
+    → RefusalCause call text [] Own.Nothing status
 untaken-refused one call text command bytes status spelled input most (inl declines) =
     by_input status (record { command = command; spelled = spelled; bytes = bytes; input = input; most = most; declines = declines })
 untaken-refused one call text command bytes status spelled input most (inr e) =
-    subst (RefusalCause call text []) (sym e) (by_memory (input-left one call command spelled bytes input))
+    subst (RefusalCause call text [] Own.Nothing) (sym e) (by_memory (input-left one call command spelled bytes input))

@@ -1,4 +1,6 @@
 pub mod CrossingLemmas
+pub mod JudgedLemmas
+pub mod CheckLemmas
 pub mod VerbLemmas
 pub mod CountLemmas
 pub mod WrittenLemmas

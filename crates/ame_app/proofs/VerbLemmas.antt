@@ -1,12 +1,16 @@
 -- What the tables of the verbs keep: laws with a case a verb.
-use Rattle.std.proofs.Common.{◌≡◌, ◌≢◌, ℕ, List, [], refl, sym, ap, ◌∙◌}
+use Rattle.std.proofs.Common.{◌≡◌, ◌≢◌, ℕ, List, [], refl, sym, ap, ◌∙◌, subst}
 use Rattle.ame_chooser.proofs.TextLemmas.{scheduled-same}
 use Rattle.ame_lex.specs.Bytes.{Text}
+use Rattle.ame_term.specs.Tree.{Tree}
+use Rattle.ame_journal.specs.declared.entry.Entry.{Entry}
 use Rattle.ame_cli.specs.declared.command.Command.{Command}
 use Rattle.ame_app.specs.declared.parts.Front.{Front}
 use Rattle.ame_app.specs.declared.parts.Own.{Own}
 use Rattle.ame_app.specs.declared.status.Status.{Status}
-use Rattle.ame_app.specs.Verbs.{TakesInput, Declines, written_behind}
+use Rattle.ame_app.specs.Verbs.{TakesInput, Declines, Settles, BeginsFrom, written_behind}
+use Rattle.ame_app.specs.Verbs.Check.{entries_before, TellsOfJournal}
+use Rattle.ame_app.proofs.CheckLemmas.{certificate-one, certificate-none, bad-one, journal-one, journal-other}
 
 -- a command takes one text of its bytes
 pub takes-one : (command : Command) (bytes : List ℕ) (front other : Front) (text also : Text)
@@ -16,6 +20,7 @@ takes-one (Command.Bench seed size options) bytes front other text also one two 
 takes-one (Command.Sim seed options) bytes front other text also one two = one.1 ∙ sym two.1
 takes-one (Command.Replay options) bytes front other text also one two =
     (scheduled-same bytes one.picks two.picks text also one.scheduled two.scheduled).1
+takes-one Command.Check bytes front other text also one two = (certificate-one bytes front other text also one two).0
 
 -- bytes that it takes aren't declined
 pub takes-none : (command : Command) (bytes : List ℕ) (front : Front) (text : Text) (told : Status)
@@ -24,6 +29,7 @@ takes-none (Command.Run options) bytes front text told takes declines = declines
 takes-none (Command.Bench seed size options) bytes front text told takes declines = declines
 takes-none (Command.Sim seed options) bytes front text told takes declines = declines
 takes-none (Command.Replay options) bytes front text told takes declines = declines.none takes.picks text takes.scheduled
+takes-none Command.Check bytes front text told takes declines = certificate-none bytes front text told takes declines
 
 -- bytes are declined in one way
 pub declines-one : (command : Command) (bytes : List ℕ) (told other : Status) → Declines command bytes told → Declines command bytes other → told ≡ other
@@ -31,6 +37,7 @@ declines-one (Command.Run options) bytes told other one two = absurd one
 declines-one (Command.Bench seed size options) bytes told other one two = absurd one
 declines-one (Command.Sim seed options) bytes told other one two = absurd one
 declines-one (Command.Replay options) bytes told other one two = one.told_is ∙ sym two.told_is
+declines-one Command.Check bytes told other one two = bad-one bytes told other one two
 
 -- and not as a fault of the sink
 pub declines-other : (command : Command) (bytes : List ℕ) (told : Status) → Declines command bytes told → told ≢ Status.WriteFault
@@ -38,6 +45,46 @@ declines-other (Command.Run options) bytes told declines = absurd declines
 declines-other (Command.Bench seed size options) bytes told declines = absurd declines
 declines-other (Command.Sim seed options) bytes told declines = absurd declines
 declines-other (Command.Replay options) bytes told declines = λ e. absurd (let clash : Status.BadSchedule ≡ Status.WriteFault = sym declines.told_is ∙ e in cc)
+declines-other Command.Check bytes told declines = λ e. absurd (let clash : Status.BadJournal declines.line ≡ Status.WriteFault = sym declines.told_is ∙ e in cc)
+
+-- of a program one status is told without a run
+pub settles-one : (command : Command) (front : Front) (program : Tree) (ahead more : List ℕ) (own also : Own) (told other : Status)
+    → Settles command front program ahead own told → Settles command front program more also other → told ≡ other
+settles-one (Command.Run options) front program ahead more own also told other one two = absurd one
+settles-one (Command.Bench seed size options) front program ahead more own also told other one two = absurd one
+settles-one (Command.Sim seed options) front program ahead more own also told other one two = absurd one
+settles-one (Command.Replay options) front program ahead more own also told other one two = absurd one
+settles-one Command.Check front program ahead more own also told other one two =
+    journal-one program (entries_before front) ahead more own also told other one two
+
+-- not as a fault of the sink
+pub settles-other : (command : Command) (front : Front) (program : Tree) (ahead : List ℕ) (own : Own) (told : Status)
+    → Settles command front program ahead own told → told ≢ Status.WriteFault
+settles-other (Command.Run options) front program ahead own told settles = absurd settles
+settles-other (Command.Bench seed size options) front program ahead own told settles = absurd settles
+settles-other (Command.Sim seed options) front program ahead own told settles = absurd settles
+settles-other (Command.Replay options) front program ahead own told settles = absurd settles
+settles-other Command.Check front program ahead own told settles = journal-other program (entries_before front) ahead own told settles
+
+-- whichever front is taken of the same bytes
+pub settles-same : (command : Command) (bytes : List ℕ) (front other : Front) (text also : Text)
+    → TakesInput command bytes front text → TakesInput command bytes other also
+    → (program : Tree) (ahead : List ℕ) (own : Own) (told : Status) → Settles command front program ahead own told → Settles command other program ahead own told
+settles-same (Command.Run options) bytes front other text also one two program ahead own told settles = settles
+settles-same (Command.Bench seed size options) bytes front other text also one two program ahead own told settles = settles
+settles-same (Command.Sim seed options) bytes front other text also one two program ahead own told settles = settles
+settles-same (Command.Replay options) bytes front other text also one two program ahead own told settles = settles
+settles-same Command.Check bytes front other text also one two program ahead own told settles =
+    subst (λ (es : List Entry). TellsOfJournal program es ahead own told) (certificate-one bytes front other text also one two).1 settles
+
+-- and not where a run is begun
+pub begins-unsettled : (command : Command) (front : Front) (base : List Entry) → BeginsFrom command front base
+    → (program : Tree) (ahead : List ℕ) (own : Own) (told : Status) → Settles command front program ahead own told → ⊥
+begins-unsettled (Command.Run options) front base begins program ahead own told settles = settles
+begins-unsettled (Command.Bench seed size options) front base begins program ahead own told settles = settles
+begins-unsettled (Command.Sim seed options) front base begins program ahead own told settles = settles
+begins-unsettled (Command.Replay options) front base begins program ahead own told settles = settles
+begins-unsettled Command.Check front base begins program ahead own told settles = begins
 
 -- nothing is written behind a fault of the sink
 pub nothing-behind : (command : Command) (own : Own) → written_behind command own Status.WriteFault ≡ []
@@ -45,3 +92,4 @@ nothing-behind (Command.Run options) own = refl
 nothing-behind (Command.Bench seed size options) own = refl
 nothing-behind (Command.Sim seed options) own = refl
 nothing-behind (Command.Replay options) own = refl
+nothing-behind Command.Check own = refl

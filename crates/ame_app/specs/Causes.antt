@@ -18,10 +18,11 @@ use Rattle.ame_engine.specs.Ending.{End, CertifyAll}
 use Rattle.ame_shell.specs.Ends.{Ends, told_at}
 use Rattle.ame_app.specs.declared.fault.TextFault.{TextFault}
 use Rattle.ame_app.specs.declared.parts.Front.{Front}
+use Rattle.ame_app.specs.declared.parts.Own.{Own}
 use Rattle.ame_app.specs.declared.status.Status.{Status}
-use Rattle.ame_app.specs.Verbs.{reads_source, Declines}
+use Rattle.ame_app.specs.Verbs.{reads_source, Declines, Settles}
 use Rattle.ame_app.specs.Calls.{Call, IsInput, Asks}
-use Rattle.ame_app.specs.Texts.{IsNoProgram, IsIllTyped}
+use Rattle.ame_app.specs.Texts.{IsNoProgram, IsIllTyped, IsAcceptedText}
 
 -- Where no run was begun
 
@@ -70,20 +71,30 @@ pub record IsRefusedByTypes (call : Call) (text : Text) (fault : TypeFault) : Ty
   pub asked : Asks call command front text
   pub cause : IsIllTyped text call.devices fault
 
+-- it is a program of which the command tells something without a run
+pub record IsSettled (call : Call) (text : Text) (ahead : List ℕ) (own : Own) (told : Status) : Type 0 where
+  pub command : Command
+  pub front : Front
+  pub asked : Asks call command front text
+  pub accepted : IsAcceptedText text call.devices
+  pub settles : Settles command front accepted.source.tree ahead own told
+
 -- memory was wanted, and the source didn't fail; one that isn't read wasn't touched
 pub record IsWithoutMemory (call : Call) : Type 0 where
   pub faults : call.source_after.faults ≡ call.source.faults
   pub untouched : (command : Command) → SpellsCommand call.words command → reads_source command ≡ false → call.source_after ≡ call.source
 
--- Why no run was begun, a case a cause: by the text that the report has, with the bytes that are written ahead of the verdict line.
-pub data RefusalCause (call : Call) (text : Text) : List ℕ → Status → Type 0 where
-  by_words : IsUsage call → RefusalCause call text [] Status.Usage
-  by_source : IsReadFault call → RefusalCause call text [] Status.ReadFault
-  by_length : IsTooLong call → RefusalCause call text [] Status.TooLong
-  by_input : (told : Status) → IsDeclined call told → RefusalCause call text [] told
-  by_text : (fault : TextFault) → IsUnreadable call text fault → RefusalCause call text [] (Status.Text fault)
-  by_types : (fault : TypeFault) → IsRefusedByTypes call text fault → RefusalCause call text [] (Status.Types fault)
-  by_memory : IsWithoutMemory call → RefusalCause call text [] Status.NoMemory
+-- Why no run was begun, a case a cause: by the text that the report has, with the bytes that are written ahead of the verdict line, and
+-- what the report has of the command's own.
+pub data RefusalCause (call : Call) (text : Text) : List ℕ → Own → Status → Type 0 where
+  by_words : IsUsage call → RefusalCause call text [] Own.Nothing Status.Usage
+  by_source : IsReadFault call → RefusalCause call text [] Own.Nothing Status.ReadFault
+  by_length : IsTooLong call → RefusalCause call text [] Own.Nothing Status.TooLong
+  by_input : (told : Status) → IsDeclined call told → RefusalCause call text [] Own.Nothing told
+  by_text : (fault : TextFault) → IsUnreadable call text fault → RefusalCause call text [] Own.Nothing (Status.Text fault)
+  by_types : (fault : TypeFault) → IsRefusedByTypes call text fault → RefusalCause call text [] Own.Nothing (Status.Types fault)
+  by_program : (ahead : List ℕ) (own : Own) (told : Status) → IsSettled call text ahead own told → RefusalCause call text ahead own told
+  by_memory : IsWithoutMemory call → RefusalCause call text [] Own.Nothing Status.NoMemory
 
 -- Where a run was begun
 

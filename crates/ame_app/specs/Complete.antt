@@ -1,20 +1,22 @@
 -- What the status of a call must be.
-use Rattle.std.specs.Prelude.{◌≡◌, ◌⊎◌, ℕ, ◌<◌, ◌≤◌, Bool, true, false, List, [], Some, Ok, Err, length, ⊤}
+use Rattle.std.specs.Prelude.{◌≡◌, ◌⊎◌, ℕ, ◌<◌, ◌≤◌, Bool, true, false, List, [], Option, Some, None, Ok, Err, length, ⊤}
 use Rattle.ame_io.specs.Counts.{HasNotRisen}
 use Rattle.ame_io.specs.Reads.{whole_limit}
 use Rattle.ame_lex.specs.Bytes.{Text}
 use Rattle.ame_parse.specs.Text.{Source, ReadingFault, reading}
-use Rattle.ame_term.specs.Tree.{Typ}
+use Rattle.ame_term.specs.Tree.{Tree}
 use Rattle.ame_term.specs.Shown.{TypeFault}
 use Rattle.ame_term.specs.Typing.{typing}
+use Rattle.ame_cli.specs.declared.command.Options.{Options}
 use Rattle.ame_cli.specs.declared.command.Command.{Command}
 use Rattle.ame_cli.specs.Grammar.{SpellsCommand, SpellsNothing}
 use Rattle.ame_shell.specs.Ends.{Ends, told_at}
 use Rattle.ame_app.specs.declared.parts.Front.{Front}
+use Rattle.ame_app.specs.declared.parts.Own.{Own}
 use Rattle.ame_app.specs.declared.status.Status.{Status}
-use Rattle.ame_app.specs.Verbs.{reads_source, TakesInput, Declines}
+use Rattle.ame_app.specs.Verbs.{reads_source, TakesInput, Declines, Settles, options_of}
 use Rattle.ame_app.specs.Calls.{Given, Call}
-use Rattle.ame_app.specs.Texts.{IsNoProgram, IsIllTyped}
+use Rattle.ame_app.specs.Texts.{IsNoProgram, IsIllTyped, IsAcceptedText}
 
 -- What is given
 
@@ -56,12 +58,6 @@ pub record IsRefused (text : Text) (devices : ℕ) : Type 0 where
   pub reads : reading text ≡ Ok source
   pub breaks : typing devices source.places source.tree ≡ Err fault
 
--- it is a program that the types accept with so many devices
-pub record IsAcceptedText (text : Text) (devices : ℕ) : Type 0 where
-  pub source : Source
-  pub reads : reading text ≡ Ok source
-  pub typed : typing devices source.places source.tree ≡ Ok Typ.Unit
-
 -- no count of faults of source, sink or a device rose, nor stands at its last value
 pub record NothingFailed (call : Call) (before after : Ends) : Type 0 where
   pub source : HasNotRisen call.source.faults call.source_after.faults
@@ -95,16 +91,28 @@ TellsEnd (Status.Tall number) = ⊤
 TellsEnd Status.NoMemory = ⊤
 TellsEnd _ = ⊥
 
--- it tells what is so of a text, or how a run ended, or memory was wanted
+-- so it does where a run is to be made with some options; where none is, memory was wanted
+abbrev pub TellsEndWith : Option Options → Status → Type 0
+TellsEndWith (Some options) status = TellsEnd status
+TellsEndWith None status = status ≡ Status.NoMemory
+
+-- the command tells it of the program without a run; or a run is made, of which it tells the end
+abbrev pub TellsOutcome : Command → Front → Tree → Status → Type 0
+TellsOutcome command front program status =
+    ((ahead : List ℕ) × (own : Own) × Settles command front program ahead own status) ⊎ TellsEndWith (options_of command) status
+
+-- it tells that the text is too long, or what is wrong with it, or memory was wanted
 abbrev pub TellsText : Status → Type 0
 TellsText Status.TooLong = ⊤
 TellsText (Status.Text fault) = ⊤
 TellsText (Status.Types fault) = ⊤
-TellsText status = TellsEnd status
+TellsText Status.NoMemory = ⊤
+TellsText _ = ⊥
 
--- so it does, or it tells that some bytes are none that the command takes
+-- it tells something of a text, or that some bytes are none that the command takes, or of a program what the command tells of it
 abbrev pub TellsInput : Command → Status → Type 0
-TellsInput command status = TellsText status ⊎ ((bytes : List ℕ) × Declines command bytes status)
+TellsInput command status =
+    TellsText status ⊎ (((bytes : List ℕ) × Declines command bytes status) ⊎ ((front : Front) × (program : Tree) × TellsOutcome command front program status))
 
 -- Where nothing failed, the words, what they are given and its text decide the status, but for how a run ends and for want of
 -- memory. Where something failed the status tells it: the sink first, then a device, then the source.
@@ -117,7 +125,10 @@ pub record IsComplete (call : Call) (status : Status) (before after : Ends) : Ty
   pub unread : NothingFailed call before after → (text : Text) → IsGivenText call text → IsUnread text → TellsFault text status
   pub refused : NothingFailed call before after → (text : Text) → IsGivenText call text → IsRefused text call.devices
       → TellsRule text call.devices status
-  pub accepted : NothingFailed call before after → (text : Text) → IsGivenText call text → IsAcceptedText text call.devices → TellsEnd status
+  pub accepted : NothingFailed call before after → (text : Text) (given : IsGivenText call text) (good : IsAcceptedText text call.devices)
+      → TellsOutcome given.given.command given.front good.source.tree status
+  pub settled : NothingFailed call before after → (text : Text) (given : IsGivenText call text) (good : IsAcceptedText text call.devices)
+      → (ahead : List ℕ) (own : Own) (told : Status) → Settles given.given.command given.front good.source.tree ahead own told → IsUnlessMemory told status
   pub sink_failed : before.write_faults < after.write_faults → status ≡ Status.WriteFault
   pub device_failed : HasNotRisen before.write_faults after.write_faults → (k : ℕ) → (told_at before.told k).faults < (told_at after.told k).faults
       → status ≡ Status.DeviceFault k

@@ -121,16 +121,17 @@ pub record Headline (call : Call) (report : Reported) (end : End Val) (before af
   pub bounds : HasBounds (program_of compiled) (limits_of options) final end.base end.entries end.turns end.counters end.tried end.stop
 
 -- Just the verdict line of a refusal was written, behind what stands ahead of it. There is no code, and no device was called.
-pub record IsToldAlone (ahead : List ℕ) (told : Status) (report : Reported) (before after : Ends) : Type 0 where
+pub record IsToldAlone (ahead : List ℕ) (own : Own) (told : Status) (report : Reported) (before after : Ends) : Type 0 where
   pub spoken : report.status ≢ Status.WriteFault → report.status ≡ told
   pub output : IsWritten report.status (ahead ++ verdict told) before after
   pub devices : after.told ≡ before.told
   pub nothing : report.code ≡ None
-  pub own : report.own ≡ Own.Nothing
+  pub own_is : report.own ≡ own
 
 -- What is promised of a call in which no run was begun: what is told of it has its cause.
 pub record IsTurnedAway (call : Call) (report : Reported) (before after : Ends) : Type 0 where
   pub ahead : List ℕ
+  pub own : Own
   pub told : Status
-  pub cause : RefusalCause call report.text ahead told
-  pub alone : IsToldAlone ahead told report before after
+  pub cause : RefusalCause call report.text ahead own told
+  pub alone : IsToldAlone ahead own told report before after

@@ -1,5 +1,5 @@
 -- What comes before a run, the run, and what is written after it, for the private functions.
-use Rattle.std.specs.Prelude.{◌≡◌, ℕ, ◌⊎◌, List, Option, Some, ⊤}
+use Rattle.std.specs.Prelude.{◌≡◌, ℕ, ◌⊎◌, List, [], Option, Some, ⊤}
 use Rattle.std.specs.Io.KnownBytes.{Appends}
 use Rattle.ame_io.specs.Counts.{HasRisen}
 use Rattle.ame_io.specs.Writes.{AppendsFront}
@@ -22,10 +22,10 @@ use Rattle.ame_app.specs.declared.fault.TextFault.{TextFault}
 use Rattle.ame_app.specs.declared.parts.Front.{Front}
 use Rattle.ame_app.specs.declared.parts.Own.{Own}
 use Rattle.ame_app.specs.declared.status.Status.{Status}
-use Rattle.ame_app.specs.Verbs.{Declines, options_of, BeginsFrom, Promises}
+use Rattle.ame_app.specs.Verbs.{Declines, Settles, options_of, BeginsFrom, Promises}
 use Rattle.ame_app.specs.Calls.{Call, Asks}
 use Rattle.ame_app.specs.Texts.{IsNoProgram, IsIllTyped, IsProgramOf}
-use Rattle.ame_app.specs.Headline.{limits_of}
+use Rattle.ame_app.specs.Headline.{limits_of, Reported, IsToldAlone}
 
 -- How failures of what comes before a run are told
 
@@ -77,6 +77,14 @@ pub record IsRunMade (command : Command) (front : Front) (code : FlatCode) (befo
   pub over : IsOver (program_of code) (limits_of options) (value_meant code) before end after
   pub begun : BeginsFrom command front end.base
   pub own_is : Promises command front options own end
+
+-- no run was begun of a job: what is told is what its command tells of the program, or memory was wanted
+pub record IsLeft (command : Command) (front : Front) (code : FlatCode) (report : Reported) (before after : Ends) : Type 0 where
+  pub ahead : List ℕ
+  pub own : Own
+  pub told : Status
+  pub cause : Settles command front (program_of code) ahead own told ⊎ ((ahead ≡ []) × (own ≡ Own.Nothing) × (told ≡ Status.NoMemory))
+  pub alone : IsToldAlone ahead own told report before after
 
 -- What is written
 

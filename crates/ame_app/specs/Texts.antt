@@ -29,6 +29,12 @@ pub record IsIllTyped (text : Text) (devices : ℕ) (fault : TypeFault) : Type 0
   pub reads : reading text ≡ Ok source
   pub is : typing devices source.places source.tree ≡ Err (fault_of fault)
 
+-- the text is a program that the types accept with so many devices
+pub record IsAcceptedText (text : Text) (devices : ℕ) : Type 0 where
+  pub source : Source
+  pub reads : reading text ≡ Ok source
+  pub typed : typing devices source.places source.tree ≡ Ok Typ.Unit
+
 -- the accepted program is that of the text, and is Unit under protected with so many devices
 pub record IsProgramOf (text : Text) (count : ℕ) (accepted : Accepted) : Type 0 where
   pub reads : reading text ≡ Ok (source_of accepted.program)

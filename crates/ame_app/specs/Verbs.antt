@@ -3,8 +3,10 @@ pub mod Run
 pub mod Bench
 pub mod Sim
 pub mod Replay
-use Rattle.std.specs.Prelude.{ℕ, Bool, true, false, List, [], Option, Some}
+pub mod Check
+use Rattle.std.specs.Prelude.{ℕ, Bool, true, false, List, [], Option, Some, None}
 use Rattle.ame_lex.specs.Bytes.{Text}
+use Rattle.ame_term.specs.Tree.{Tree}
 use Rattle.ame_journal.specs.declared.entry.Entry.{Entry}
 use Rattle.ame_value.specs.declared.val.Val.{Val}
 use Rattle.ame_cli.specs.declared.command.Options.{Options}
@@ -17,6 +19,7 @@ use Rattle.ame_app.specs.Verbs.Run.{TakesAll, BeginsWithNothing, HasNothing}
 use Rattle.ame_app.specs.Verbs.Bench.{TakesGenerated}
 use Rattle.ame_app.specs.Verbs.Sim.{IsPicked, schedule_behind}
 use Rattle.ame_app.specs.Verbs.Replay.{TakesScheduled, HasNoSchedule, IsPickedAsListed}
+use Rattle.ame_app.specs.Verbs.Check.{TakesCertificate, HasNoCertificate, entries_before, TellsOfJournal}
 use Rattle.ame_chooser.specs.Drawn.{drawn}
 
 -- What is given
@@ -27,6 +30,7 @@ reads_source (Command.Run options) = true
 reads_source (Command.Bench seed size options) = false
 reads_source (Command.Sim seed options) = true
 reads_source (Command.Replay options) = true
+reads_source Command.Check = true
 
 -- the bytes that were read are this front and this text of a program
 abbrev pub TakesInput : Command → List ℕ → Front → Text → Type 0
@@ -34,6 +38,7 @@ TakesInput (Command.Run options) bytes front text = TakesAll bytes front text
 TakesInput (Command.Bench seed size options) bytes front text = TakesGenerated seed size front text
 TakesInput (Command.Sim seed options) bytes front text = TakesAll bytes front text
 TakesInput (Command.Replay options) bytes front text = TakesScheduled bytes front text
+TakesInput Command.Check bytes front text = TakesCertificate bytes front text
 
 -- they are no front and text, which is told so
 abbrev pub Declines : Command → List ℕ → Status → Type 0
@@ -41,6 +46,17 @@ Declines (Command.Run options) bytes told = ⊥
 Declines (Command.Bench seed size options) bytes told = ⊥
 Declines (Command.Sim seed options) bytes told = ⊥
 Declines (Command.Replay options) bytes told = HasNoSchedule bytes told
+Declines Command.Check bytes told = HasNoCertificate bytes told
+
+-- What is told without a run
+
+-- what is told of a program, with the bytes ahead of the verdict line and what the report has of the command's own
+abbrev pub Settles : Command → Front → Tree → List ℕ → Own → Status → Type 0
+Settles (Command.Run options) front program ahead own told = ⊥
+Settles (Command.Bench seed size options) front program ahead own told = ⊥
+Settles (Command.Sim seed options) front program ahead own told = ⊥
+Settles (Command.Replay options) front program ahead own told = ⊥
+Settles Command.Check front program ahead own told = TellsOfJournal program (entries_before front) ahead own told
 
 -- What is run
 
@@ -50,6 +66,7 @@ options_of (Command.Run options) = Some options
 options_of (Command.Bench seed size options) = Some options
 options_of (Command.Sim seed options) = Some options
 options_of (Command.Replay options) = Some options
+options_of Command.Check = None
 
 -- the entries with which the run begins
 abbrev pub BeginsFrom : Command → Front → List Entry → Type 0
@@ -57,6 +74,7 @@ BeginsFrom (Command.Run options) front base = BeginsWithNothing base
 BeginsFrom (Command.Bench seed size options) front base = BeginsWithNothing base
 BeginsFrom (Command.Sim seed options) front base = BeginsWithNothing base
 BeginsFrom (Command.Replay options) front base = BeginsWithNothing base
+BeginsFrom Command.Check front base = ⊥
 
 -- What is told
 
@@ -66,6 +84,7 @@ Promises (Command.Run options) front with own end = HasNothing own
 Promises (Command.Bench seed size options) front with own end = HasNothing own
 Promises (Command.Sim seed options) front with own end = IsPicked (drawn seed) with.workers own end
 Promises (Command.Replay options) front with own end = IsPickedAsListed front with.workers own end
+Promises Command.Check front with own end = ⊥
 
 -- what is written behind the verdict line of a run
 abbrev pub written_behind : Command → Own → Status → List ℕ
@@ -73,3 +92,4 @@ written_behind (Command.Run options) own told = []
 written_behind (Command.Bench seed size options) own told = []
 written_behind (Command.Sim seed options) own told = schedule_behind own told
 written_behind (Command.Replay options) own told = schedule_behind own told
+written_behind Command.Check own told = []

@@ -21,6 +21,10 @@ number_of Status.WriteFault = 7
 number_of (Status.DeviceFault device) = 8
 number_of Status.NoMemory = 9
 number_of (Status.Tall number) = 10
+number_of (Status.Valid entries) = 11
+number_of (Status.Invalid entry) = 12
+number_of (Status.BadJournal line) = 13
+number_of (Status.LongJournal entry) = 14
 number_of Status.BadSchedule = 17
 
 -- the status of a process whose words can't be read
@@ -76,3 +80,7 @@ verdict (Status.DeviceFault device) = codes "device " ++ (decimal device ++ (cod
 verdict Status.NoMemory = codes "no memory" ++ codes "\n"
 verdict (Status.Tall number) = line_at (codes "tall ") number
 verdict Status.BadSchedule = codes "bad schedule" ++ codes "\n"
+verdict (Status.Valid entries) = line_at (codes "valid ") entries
+verdict (Status.Invalid entry) = line_at (codes "invalid at ") entry
+verdict (Status.BadJournal line) = line_at (codes "bad journal at ") line
+verdict (Status.LongJournal entry) = line_at (codes "long journal at ") entry

@@ -7,6 +7,7 @@ ghost use Rattle.ame_cli.specs.Ranges.{IsInRange};
 ghost use Rattle.ame_app.specs.Calls.{what_is_given, call_of, IsInput, Asks};
 ghost use Rattle.ame_app.specs.Causes.{RefusalCause};
 ghost use Rattle.ame_app.specs.Verbs.{reads_source};
+ghost use Rattle.ame_app.specs.declared.parts.Own.{Own};
 
 use crate::parts::Front;
 use crate::status::Status;
@@ -34,7 +35,7 @@ pub(crate) fn asked_of<S: Source>(
     ensures ranges { IfOk result (λ asked. IsInRange asked.command) }
     ensures small { IfOk result (λ asked. vec_len asked.text ≤ READ_LIMIT) }
     ensures refused { IfErr result (λ status. (devices : ℕ) (text : List ℕ) → RefusalCause (call_of (map string_bytes words.now)
-        (what_is_given S.left S.faults source.old) (what_is_given S.left S.faults source.new) devices) text [] status) }
+        (what_is_given S.left S.faults source.old) (what_is_given S.left S.faults source.new) devices) text [] Own.Nothing status) }
 {
     spells_one_command();
     let command = read_words(alloc, words)?;
@@ -53,7 +54,7 @@ fn bytes_of<S: Source>(alloc: Global, command: &Command, source: &mut S) -> Resu
         (what_is_given S.left S.faults source.new) bytes.items) }
     ensures most { IfOk result (λ bytes. vec_len bytes ≤ READ_LIMIT) }
     ensures refused { IfErr result (λ status. (words : List Word) (devices : ℕ) (text : List ℕ) → SpellsCommand words command.now
-        → RefusalCause (call_of words (what_is_given S.left S.faults source.old) (what_is_given S.left S.faults source.new) devices) text [] status) }
+        → RefusalCause (call_of words (what_is_given S.left S.faults source.old) (what_is_given S.left S.faults source.new) devices) text [] Own.Nothing status) }
 {
     spells_one_command();
     if reads_source(command) {

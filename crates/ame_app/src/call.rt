@@ -8,18 +8,19 @@ ghost use Rattle.ame_shell.specs.Ends.{Ends, ends_of};
 ghost use Rattle.ame_app.specs.Answered.{IsAnswered};
 ghost use Rattle.ame_app.specs.Calls.{Call, what_is_given, call_of};
 ghost use Rattle.ame_app.specs.Headline.{reported, Headline, IsToldAlone, IsTurnedAway};
-ghost use Rattle.ame_app.specs.Jobs.{IsJobOf, IsRunMade};
+ghost use Rattle.ame_app.specs.Jobs.{IsJobOf, IsRunMade, IsLeft};
 
 use crate::asked::{Asked, asked_of};
 use crate::code::code_of;
 use crate::parts::Own;
 use crate::report::Report;
-use crate::speak::{speak, speak_of};
+use crate::speak::{speak_behind, speak_of};
 use crate::status::Status;
-use crate::verbs::{Job, Made, make};
+use crate::verbs::{Job, Made, Settled, make, settle};
 use ame_cli::spells_one_command;
 use ame_device::Device;
 use ame_io::{Sink, Source};
+use ame_term::NoMemory;
 use ame_worker::Gate;
 use std::alloc::Global;
 use std::sync::Wait;
@@ -66,7 +67,7 @@ where
                 command,
                 front,
             };
-            run(rt, alloc, job, text, sink, devices, gate)
+            answer(rt, alloc, job, text, sink, devices, gate)
         }
         Err(told) => turn_away(told, text, sink, devices),
     }
@@ -97,6 +98,41 @@ where
     run_words_over(rt, alloc, words, source, sink, devices, gate)
 }
 
+/// Tells what is told of a program without a run, or makes a run.
+fn answer<R, K, D, G>(
+    rt: &R,
+    alloc: Global,
+    job: Job,
+    text: Vec<u8>,
+    sink: K,
+    devices: Vec<D>,
+    gate: &G,
+) -> Report<K, D>
+where
+    R: Threads + Wait + Sync,
+    K: Sink + Send + Drop,
+    D: Device + Send,
+    G: Gate + Sync,
+    requires ranges { IsInRange job.command }
+    requires devices { (arc_value job.code).accepted.devices ≡ vec_len devices }
+    ensures text { result.text ≡ text }
+    ensures ran { IfSome result.ended (λ end. (call : Call) → call.devices ≡ vec_len devices
+        → IsJobOf call text.items (arc_value job.code) job.command job.front
+        → Headline call (reported result.status result.text.items (option_map arc_value result.code) result.own) end
+        (ends_of K.written K.faults D.device_heard D.device_faults sink devices.items)
+        (ends_of K.written K.faults D.device_heard D.device_faults result.sink result.devices.items)) }
+    ensures turned_away { result.ended ≡ None → IsLeft job.command job.front (arc_value job.code)
+        (reported result.status result.text.items (option_map arc_value result.code) result.own)
+        (ends_of K.written K.faults D.device_heard D.device_faults sink devices.items)
+        (ends_of K.written K.faults D.device_heard D.device_faults result.sink result.devices.items) }
+{
+    match settle(alloc, &job) {
+        Ok(Some(Settled { told, ahead, own })) => tell(&ahead, own, told, text, sink, devices),
+        Ok(None) => run(rt, alloc, job, text, sink, devices, gate),
+        Err(NoMemory) => turn_away(Status::NoMemory, text, sink, devices),
+    }
+}
+
 /// Makes a run, and tells how it ended.
 fn run<R, K, D, G>(
     rt: &R,
@@ -120,7 +156,7 @@ where
         → Headline call (reported result.status result.text.items (option_map arc_value result.code) result.own) end
         (ends_of K.written K.faults D.device_heard D.device_faults sink devices.items)
         (ends_of K.written K.faults D.device_heard D.device_faults result.sink result.devices.items)) }
-    ensures turned_away { result.ended ≡ None → IsToldAlone [] Status.NoMemory
+    ensures turned_away { result.ended ≡ None → IsToldAlone [] Own.Nothing Status.NoMemory
         (reported result.status result.text.items (option_map arc_value result.code) result.own)
         (ends_of K.written K.faults D.device_heard D.device_faults sink devices.items)
         (ends_of K.written K.faults D.device_heard D.device_faults result.sink result.devices.items) }
@@ -167,18 +203,38 @@ pub(crate) fn turn_away<K: Sink + Drop, D: Device>(
     ensures ended { result.ended ≡ None }
     ensures text { result.text ≡ text }
     ensures devices { result.devices ≡ devices }
-    ensures alone { IsToldAlone [] told (reported result.status result.text.items (option_map arc_value result.code) result.own)
+    ensures alone { IsToldAlone [] Own.Nothing told (reported result.status result.text.items (option_map arc_value result.code) result.own)
+        (ends_of K.written K.faults D.device_heard D.device_faults sink devices.items)
+        (ends_of K.written K.faults D.device_heard D.device_faults result.sink result.devices.items) }
+{
+    tell(&[], Own::Nothing, told, text, sink, devices)
+}
+
+/// Tells how a call ended in which no run was begun, behind the bytes that stand ahead.
+fn tell<K: Sink + Drop, D: Device>(
+    ahead: &[u8],
+    own: Own,
+    told: Status,
+    text: Vec<u8>,
+    sink: K,
+    devices: Vec<D>,
+) -> Report<K, D>
+    requires other { told ≢ Status.WriteFault }
+    ensures ended { result.ended ≡ None }
+    ensures text { result.text ≡ text }
+    ensures devices { result.devices ≡ devices }
+    ensures alone { IsToldAlone ahead.now own told (reported result.status result.text.items (option_map arc_value result.code) result.own)
         (ends_of K.written K.faults D.device_heard D.device_faults sink devices.items)
         (ends_of K.written K.faults D.device_heard D.device_faults result.sink result.devices.items) }
 {
     let mut sink = sink;
-    let status = speak(&mut sink, told);
+    let status = speak_behind(&mut sink, ahead, told);
     Report {
         status,
         text,
         code: None,
         ended: None,
-        own: Own::Nothing,
+        own,
         sink,
         devices,
     }

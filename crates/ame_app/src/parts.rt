@@ -1,6 +1,8 @@
 //! What a command has beside a program: in what it is given, and in what it reports.
 
 use crate::lists::{Mades, Picks};
+use ame_check::Reason;
+use ame_journal::Journal;
 
 /// What stands before the text of a program in the bytes that a command is given.
 #[derive(Drop)]
@@ -8,6 +10,8 @@ pub enum Front {
     Nothing,
     /// The picks of a schedule.
     Schedule(Picks),
+    /// The journal of a certificate.
+    Journal(Journal),
 }
 
 /// What a report has of the command's own.
@@ -16,4 +20,6 @@ pub enum Own {
     Nothing,
     /// What each pick did, of a run on one thread.
     Picked(Mades),
+    /// Why an entry of a certificate can't be made.
+    Unmade(Reason),
 }

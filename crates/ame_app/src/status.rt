@@ -36,6 +36,14 @@ pub enum Status {
     Tall(u64),
     /// The source doesn't begin with a schedule and the line `program`.
     BadSchedule,
+    /// The certificate is that of a run, by so many entries.
+    Valid(u64),
+    /// This entry of the certificate, from 1, is the first that can't be made.
+    Invalid(u64),
+    /// This line of the journal, from 1, is the first that tells no entry; or there is no line `program`, and all lines stand before it.
+    BadJournal(u32),
+    /// With this entry of the journal, from 1, its steps and entries are more than are judged.
+    LongJournal(u64),
 }
 
 impl Status {
@@ -55,6 +63,10 @@ impl Status {
             Status::DeviceFault(_) => 8,
             Status::NoMemory => 9,
             Status::Tall(_) => 10,
+            Status::Valid(_) => 11,
+            Status::Invalid(_) => 12,
+            Status::BadJournal(_) => 13,
+            Status::LongJournal(_) => 14,
             Status::BadSchedule => 17,
         }
     }
@@ -77,6 +89,10 @@ impl Status {
             Status::NoMemory => plain("no memory"),
             Status::Tall(member) => numbered("tall ", *member),
             Status::BadSchedule => plain("bad schedule"),
+            Status::Valid(entries) => numbered("valid ", *entries),
+            Status::Invalid(entry) => numbered("invalid at ", *entry),
+            Status::BadJournal(line) => numbered("bad journal at ", u64::from(*line)),
+            Status::LongJournal(entry) => numbered("long journal at ", *entry),
         }
     }
 

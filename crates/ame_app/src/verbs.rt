@@ -1,14 +1,16 @@
 //! What each command does: functions with an arm a verb.
 
 mod bench;
+mod check;
 mod replay;
 mod run;
 mod sim;
 
-ghost use Rattle.std.specs.Prelude.{◌≡◌, ◌≤◌, IfOk, IfErr, OnOk, OnErr, vec_len};
+ghost use Rattle.std.specs.Prelude.{◌≡◌, ◌≤◌, IfOk, IfErr, IfSome, OnOk, OnErr, vec_len};
 ghost use Rattle.std.specs.Arc.{arc_value};
 ghost use Rattle.std.specs.Io.KnownBytes.{Appends};
 ghost use Rattle.ame_cli.specs.Ranges.{IsInRange};
+ghost use Rattle.ame_code.specs.Code.{program_of};
 ghost use Rattle.ame_io.specs.Counts.{HasRisen};
 ghost use Rattle.ame_io.specs.Writes.{AppendsFront};
 ghost use Rattle.ame_shell.specs.Ends.{ends_of};
@@ -23,6 +25,7 @@ use ame_code::Code;
 use ame_device::Device;
 use ame_io::{READ_LIMIT, Sink, WriteFault};
 use ame_shell::Remains;
+use ame_term::NoMemory;
 use ame_value::Val;
 use ame_worker::Gate;
 use std::alloc::Global;
@@ -44,6 +47,14 @@ pub(crate) struct Taken {
     pub(crate) text: Vec<u8>,
 }
 
+/// What is told of a program without a run: the bytes ahead of the verdict line, and what the command has of its own.
+#[derive(Drop)]
+pub(crate) struct Settled {
+    pub(crate) told: Status,
+    pub(crate) ahead: Vec<u8>,
+    pub(crate) own: Own,
+}
+
 /// What a run left, and what the command has of its own.
 pub(crate) struct Made<K, D> {
     pub(crate) left: Remains<Val, K, D>,
@@ -57,7 +68,7 @@ pub(crate) fn reads_source(command: &Command) -> bool
     match command {
         Command::Run(_) => true,
         Command::Bench(_, _, _) => false,
-        Command::Sim(_, _) | Command::Replay(_) => true,
+        Command::Sim(_, _) | Command::Replay(_) | Command::Check => true,
     }
 }
 
@@ -65,7 +76,7 @@ pub(crate) fn reads_source(command: &Command) -> bool
 pub(crate) fn take(alloc: Global, command: &Command, bytes: Vec<u8>) -> Result<Taken, Status>
     requires ranges { IsInRange command.now }
     requires most { vec_len bytes ≤ READ_LIMIT }
-    ensures takes { IfOk result (λ taken. spec.Takes command.now bytes.items taken.front taken.text.items) }
+    ensures takes { IfOk result (λ taken. spec.TakesInput command.now bytes.items taken.front taken.text.items) }
     ensures small { IfOk result (λ taken. vec_len taken.text ≤ READ_LIMIT) }
     ensures declines { IfErr result (λ told. IsUntaken command.now bytes.items told) }
 {
@@ -73,6 +84,19 @@ pub(crate) fn take(alloc: Global, command: &Command, bytes: Vec<u8>) -> Result<T
         Command::Run(_) | Command::Sim(_, _) => Ok(run::take(bytes)),
         Command::Bench(seed, size, _) => bench::take(alloc, *seed, *size),
         Command::Replay(_) => replay::take(alloc, &bytes),
+        Command::Check => check::take(alloc, &bytes),
+    }
+}
+
+/// What a command tells of a program without a run, if it tells something.
+pub(crate) fn settle(alloc: Global, job: &Job) -> Result<Option<Settled>, NoMemory>
+    ensures { IfOk result (λ told. IfSome told (λ s. spec.Settles job.now.command job.now.front (program_of (arc_value job.now.code)) s.ahead.items s.own s.told)) }
+{
+    match job.command {
+        Command::Check => Ok(Some(check::settle(alloc, &job.code, &job.front)?)),
+        Command::Run(_) | Command::Bench(_, _, _) | Command::Sim(_, _) | Command::Replay(_) => {
+            Ok(None)
+        }
     }
 }
 
@@ -109,6 +133,7 @@ where
         Command::Replay(options) => {
             replay::run(alloc, &job.code, options, &job.front, sink, devices)
         }
+        Command::Check => Err((sink, devices)),
     }
 }
 
@@ -125,7 +150,7 @@ pub(crate) fn write_behind<K: Sink>(
     ensures risen { OnErr result (HasRisen (K.faults sink.old) (K.faults sink.new)) }
 {
     match command {
-        Command::Run(_) | Command::Bench(_, _, _) => Ok(()),
+        Command::Run(_) | Command::Bench(_, _, _) | Command::Check => Ok(()),
         Command::Sim(_, _) | Command::Replay(_) => sim::write_behind(sink, own, told),
     }
 }

@@ -1,10 +1,10 @@
 -- The ranges of a command's numbers.
-use Rattle.std.specs.Prelude.{ℕ, ◌≤◌}
+use Rattle.std.specs.Prelude.{ℕ, ◌≤◌, ⊤}
 use Rattle.ame_cli.specs.declared.bounds.Bounds.{Bounds}
 use Rattle.ame_cli.specs.declared.item.Item.TheVariants.{Workers, Turns, Slice}
 use Rattle.ame_cli.specs.declared.command.Options.{Options}
 use Rattle.ame_cli.specs.declared.command.Command.{Command}
-use Rattle.ame_cli.specs.declared.command.Command.TheVariants.{Run, Bench, Sim, Replay}
+use Rattle.ame_cli.specs.declared.command.Command.TheVariants.{Run, Bench, Sim, Replay, Check}
 use Rattle.ame_cli.specs.Items.{bounds_of}
 use Rattle.ame_cli.specs.Verbs.{seeds, sizes}
 
@@ -24,3 +24,4 @@ IsInRange (Run options) = AreInRange options
 IsInRange (Bench seed size options) = IsInBounds seeds seed × IsInBounds sizes size × AreInRange options
 IsInRange (Sim seed options) = IsInBounds seeds seed × AreInRange options
 IsInRange (Replay options) = AreInRange options
+IsInRange Check = ⊤

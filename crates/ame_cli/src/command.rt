@@ -38,6 +38,8 @@ pub enum Command {
     Sim(u32, Options),
     /// Runs the program on the standard input on one thread, under the choices of the schedule before it.
     Replay(Options),
+    /// Judges the journal on the standard input by the program behind it.
+    Check,
 }
 
 /// Why words gave no command.

@@ -13,6 +13,7 @@ pub enum Verb {
     Bench,
     Sim,
     Replay,
+    Check,
 }
 
 /// A verb's word, the bounds of its number words in their order, and the options that it may be given.
@@ -42,7 +43,13 @@ impl Verb {
     pub fn all() -> &'static [Verb]
         ensures { result.now ≡ verbs }
     {
-        &[Verb::Run, Verb::Bench, Verb::Sim, Verb::Replay]
+        &[
+            Verb::Run,
+            Verb::Bench,
+            Verb::Sim,
+            Verb::Replay,
+            Verb::Check,
+        ]
     }
 
     /// What may stand behind a verb.
@@ -72,6 +79,11 @@ impl Verb {
                 numbers: &[],
                 items: ALL_ITEMS,
             },
+            Verb::Check => Form {
+                word: "check",
+                numbers: &[],
+                items: &[],
+            },
         }
     }
 
@@ -85,6 +97,7 @@ impl Verb {
             Verb::Bench => Command::Bench(numbers[0], numbers[1], options),
             Verb::Sim => Command::Sim(numbers[0], options),
             Verb::Replay => Command::Replay(options),
+            Verb::Check => Command::Check,
         }
     }
 

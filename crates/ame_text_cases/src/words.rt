@@ -182,3 +182,20 @@ fn replay_with_its_options(rt: HostRuntime) -> Result<(), Fail> {
     }
     Ok(())
 }
+
+#[test]
+fn check_stands_alone(rt: HostRuntime) -> Result<(), Fail> {
+    assert!(rt; is_read_as(rt.alloc(), &["check"], Ok(Command::Check))?);
+    let more: &[&[&str]] = &[
+        &["check", "1"],
+        &["check", "--workers", "2"],
+        &["check", "--turns=2"],
+        &["check", "check"],
+        &["Check"],
+        &["checks"],
+    ];
+    for &words in more {
+        assert!(rt; is_read_as(rt.alloc(), words, Err(CliFail::Usage))?, "{words:?}");
+    }
+    Ok(())
+}

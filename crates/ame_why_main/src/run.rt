@@ -103,7 +103,7 @@ fn page_of<K>(
 fn schedule_text(alloc: Global, own: &Own, text: &[u8]) -> Result<Vec<u8>, NoMemory> {
     match own {
         Own::Picked(mades) => mades.schedule_text(alloc, text),
-        Own::Nothing => Ok(Vec::from_slice(alloc, NO_SCHEDULE)?),
+        Own::Nothing | Own::Unmade(_) => Ok(Vec::from_slice(alloc, NO_SCHEDULE)?),
     }
 }
 

@@ -23,7 +23,7 @@ pub record IsPicked (strategy : List (List ℕ) → List ℕ) (seats : ℕ) (own
 -- what picks did, where the report has it
 abbrev pub mades_in : Own → List Made
 mades_in (Own.Picked mades) = mades
-mades_in Own.Nothing = []
+mades_in _ = []
 
 -- the seats that were picked
 abbrev pub seats_picked : Own → List ℕ

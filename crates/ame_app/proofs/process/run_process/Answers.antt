@@ -3,6 +3,7 @@ use Rattle.std.specs.Prelude.{option_map, string_bytes}
 use Rattle.std.specs.Arc.{arc_value}
 use Rattle.ame_shell.specs.Ends.{Ends, ends_of}
 use Rattle.ame_app.specs.declared.standard.StandardDevice.{StandardDevice}
+use Rattle.ame_app.specs.declared.parts.Own.{Own}
 use Rattle.ame_app.specs.declared.status.Status.{Status}
 use Rattle.ame_app.specs.Calls.{what_is_given, call_of}
 use Rattle.ame_app.specs.Causes.RefusalCause.{by_memory}
@@ -29,7 +30,8 @@ returns-clause-answered g c =
     ok-any c.args.words _ (λ ws. answered-turned c.spells_one_command.ensures (call_of (map string_bytes ws.items) source source 2) report before after r.ended
     told.ended (omega (arith, none)) (record {
       ahead = [];
+      own = Own.Nothing;
       told = Status.NoMemory;
       cause = by_memory (record { faults = refl; untouched = λ command spelled unread. refl });
-      alone = subst (λ (e : Ends). IsToldAlone [] Status.NoMemory report e after) (sym same) told.alone;
+      alone = subst (λ (e : Ends). IsToldAlone [] Own.Nothing Status.NoMemory report e after) (sym same) told.alone;
     }))

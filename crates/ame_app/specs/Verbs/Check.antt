@@ -1,0 +1,79 @@
+-- `check`: a source that is a certificate, a journal and the text of the program of which it tells a run. What is told of it is told without a run.
+use Rattle.std.specs.Prelude.{◌≡◌, ℕ, ◌+◌, ◌==◌, ℤ, ◌⊎◌, List, [], length, take, drop, count_by}
+use Rattle.ame_io.specs.Lines.{lines}
+use Rattle.ame_lex.specs.Bytes.{Text}
+use Rattle.ame_term.specs.Tree.{Tree}
+use Rattle.ame_journal.specs.declared.entry.Entry.{Entry}
+use Rattle.ame_journal.specs.JournalView.{JournalView}
+use Rattle.ame_journal.specs.Text.{IsText, IsFirstBadLine}
+use Rattle.ame_check.specs.declared.reason.Reason.{Reason}
+use Rattle.ame_check.specs.Input.{HasProgramLine, IsSplit}
+use Rattle.ame_check.specs.Judge.{IsLong, LeadsTo, IsInvalid}
+use Rattle.ame_app.specs.declared.parts.Front.{Front}
+use Rattle.ame_app.specs.declared.parts.Own.{Own}
+use Rattle.ame_app.specs.declared.status.Status.{Status}
+
+-- What is given
+
+-- before the first line `program` stand the lines of a journal, and behind it the text
+pub record TakesCertificate (bytes : List ℕ) (front : Front) (text : Text) : Type 0 where
+  pub journal : JournalView
+  pub front_is : front ≡ Front.Journal journal
+  pub before : ℕ
+  pub start : ℕ
+  pub split : IsSplit bytes before start
+  pub lines_are : IsText (take before bytes) journal.entries
+  pub text_is : text ≡ drop start bytes
+
+-- no line is `program`, and n is one more than the number of line feeds
+pub record HasNoProgram (bytes : List ℕ) (n : ℕ) : Type 0 where
+  pub none : (k : ℕ) → HasProgramLine bytes k → ⊥
+  pub count : n ≡ count_by (λ b. b == 10) bytes + 1
+
+-- of the lines before the first line `program`, the n-th is the first that spells no entry
+pub record HasBadEntry (bytes : List ℕ) (n : ℕ) : Type 0 where
+  pub before : ℕ
+  pub start : ℕ
+  pub split : IsSplit bytes before start
+  pub bad : IsFirstBadLine (take before bytes) n
+
+-- the bytes are no certificate, and this line is told
+pub record HasNoCertificate (bytes : List ℕ) (told : Status) : Type 0 where
+  pub line : ℕ
+  pub told_is : told ≡ Status.BadJournal line
+  pub why : HasNoProgram bytes line ⊎ HasBadEntry bytes line
+
+-- What is told
+
+-- the entries of the journal before the text, where there is one
+abbrev pub entries_before : Front → List Entry
+entries_before (Front.Journal journal) = journal.entries
+entries_before _ = []
+
+-- n is the number of entries, which lead to a state, and the lines of its output stand ahead
+pub record IsValid (program : Tree) (entries : List Entry) (ahead : List ℕ) (own : Own) (n : ℕ) : Type 0 where
+  pub output : List ℤ
+  pub leads : LeadsTo program entries output
+  pub count : n ≡ length entries
+  pub ahead_is : ahead ≡ lines output
+  pub own_is : own ≡ Own.Nothing
+
+-- the n-th entry is the first that can't be made, for the reason that is reported
+pub record IsUnmade (program : Tree) (entries : List Entry) (ahead : List ℕ) (own : Own) (n : ℕ) : Type 0 where
+  pub why : Reason
+  pub invalid : IsInvalid program entries n why
+  pub ahead_is : ahead ≡ []
+  pub own_is : own ≡ Own.Unmade why
+
+-- with the n-th entry the steps and entries are too many to be judged
+pub record IsTooMuch (entries : List Entry) (ahead : List ℕ) (own : Own) (n : ℕ) : Type 0 where
+  pub long : IsLong entries n
+  pub ahead_is : ahead ≡ []
+  pub own_is : own ≡ Own.Nothing
+
+-- what is told of a journal of a program, a row a status
+abbrev pub TellsOfJournal : Tree → List Entry → List ℕ → Own → Status → Type 0
+TellsOfJournal program entries ahead own (Status.Valid n) = IsValid program entries ahead own n
+TellsOfJournal program entries ahead own (Status.Invalid n) = IsUnmade program entries ahead own n
+TellsOfJournal program entries ahead own (Status.LongJournal n) = IsTooMuch entries ahead own n
+TellsOfJournal program entries ahead own _ = ⊥

@@ -1,0 +1,101 @@
+//! `check`: a source that is a certificate, and what is told of it without a run.
+
+ghost use Rattle.std.specs.Prelude.{◌≡◌, ◌==◌, ◌≤◌, ◌⊎◌, IfOk, IfErr, count_by, length, vec_len};
+ghost use Rattle.std.specs.Arc.{arc_value};
+ghost use Rattle.ame_io.specs.Lines.{lines};
+ghost use Rattle.ame_code.specs.Code.{program_of};
+ghost use Rattle.ame_app.specs.Verbs.Check.{TakesCertificate, HasNoCertificate, entries_before, TellsOfJournal};
+ghost use Rattle.ame_app.specs.declared.status.Status.{Status as Told};
+
+use crate::parts::{Front, Own};
+use crate::status::Status;
+use crate::verbs::{Settled, Taken};
+use ame_check::{Judged, judge, split_input};
+use ame_code::Code;
+use ame_eval::Fragment;
+use ame_io::{READ_LIMIT, integer_line};
+use ame_journal::{Entry, Journal, JournalFault};
+use ame_term::NoMemory;
+use std::alloc::Global;
+use std::sync::Arc;
+
+/// The journal before the first line `program`, and the text behind it.
+pub(crate) fn take(alloc: Global, bytes: &[u8]) -> Result<Taken, Status>
+    requires most { length bytes.now ≤ READ_LIMIT }
+    ensures takes { IfOk result (λ taken. TakesCertificate bytes.now taken.front taken.text.items) }
+    ensures small { IfOk result (λ taken. vec_len taken.text ≤ length bytes.now) }
+    ensures declines { IfErr result (λ told. HasNoCertificate bytes.now told ⊎ (told ≡ Told.NoMemory)) }
+{
+    let Some((end, start)) = split_input(bytes) else {
+        return Err(Status::BadJournal(feeds(bytes) as u32 + 1));
+    };
+    match Journal::from_text(alloc, &bytes[..end]) {
+        Ok(journal) => match Vec::from_slice(alloc, &bytes[start..]) {
+            Ok(text) => Ok(Taken {
+                front: Front::Journal(journal),
+                text,
+            }),
+            Err(_) => Err(Status::NoMemory),
+        },
+        Err(JournalFault::BadLine(line)) => Err(Status::BadJournal(line)),
+        Err(JournalFault::NoMemory) => Err(Status::NoMemory),
+    }
+}
+
+/// How many line feeds there are.
+fn feeds(bytes: &[u8]) -> usize
+    ensures value { result ≡ count_by (λ b. b == 10) bytes.now }
+    ensures within { result ≤ length bytes.now }
+{
+    bytes.iter().filter(|b| **b == b'\n').count()
+}
+
+/// The entries of the journal before a text.
+fn entries_before(front: &Front) -> &[Entry]
+    ensures { result.now ≡ entries_before front.now }
+{
+    match front {
+        Front::Journal(journal) => journal.entries(),
+        Front::Nothing | Front::Schedule(_) => &[],
+    }
+}
+
+/// What is told of a journal of a program: the lines that it prints, and that it is valid; or why not.
+pub(crate) fn settle(
+    alloc: Global,
+    code: &Arc<Code>,
+    front: &Front,
+) -> Result<Settled, NoMemory>
+    ensures { IfOk result (λ s. TellsOfJournal (program_of (arc_value code.now)) (entries_before front.now) s.ahead.items s.own s.told) }
+{
+    let entries = entries_before(front);
+    match judge::<Fragment>(alloc, code, entries)? {
+        Judged::Valid(output) => Ok(Settled {
+            told: Status::Valid(entries.len() as u64),
+            ahead: lines_of(alloc, &output)?,
+            own: Own::Nothing,
+        }),
+        Judged::Invalid(place, why) => Ok(Settled {
+            told: Status::Invalid(place),
+            ahead: Vec::new(alloc),
+            own: Own::Unmade(why),
+        }),
+        Judged::Long(place) => Ok(Settled {
+            told: Status::LongJournal(place),
+            ahead: Vec::new(alloc),
+            own: Own::Nothing,
+        }),
+        Judged::Tall(_) => Err(NoMemory),
+    }
+}
+
+/// The lines of an output.
+fn lines_of(alloc: Global, output: &[i64]) -> Result<Vec<u8>, NoMemory>
+    ensures { IfOk result (λ text. text.items ≡ lines output.now) }
+{
+    let mut text = Vec::new(alloc);
+    for n in output {
+        text.extend_from_slice(integer_line(n).as_str().as_bytes())?;
+    }
+    Ok(text)
+}

@@ -1,7 +1,9 @@
-//! Tests of texts: tokens, programs, types, flat code, canonical forms, pages on faults, tables of runs, words and generated programs;
+//! Tests of texts: tokens, programs, types, flat code, canonical forms, pages on faults and on certificates, tables of runs, words and generated programs;
 //! and of labels that the strong semantics refuses.
 #![tactic(auto)]
 
+#[cfg(test)]
+mod certificates;
 #[cfg(test)]
 mod code;
 #[cfg(test)]

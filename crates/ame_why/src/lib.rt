@@ -3,8 +3,10 @@
 
 mod bytes;
 mod caret;
+mod entry;
 mod forms;
 mod input;
+mod journal_line;
 mod kinds;
 mod lines;
 mod nexts;
@@ -18,11 +20,14 @@ mod spans;
 mod table;
 mod tokens;
 mod walk;
+mod words;
 
 pub use bytes::explain_bytes;
 pub use caret::excerpt;
+pub use entry::explain_entry;
 pub use forms::{Made, forms_of};
 pub use input::{input_is_of_one_run, input_of, journal_of};
+pub use journal_line::explain_line;
 pub use lines::lines_of;
 pub use position::{Position, position_of};
 pub use rules::explain_types;

@@ -44,7 +44,19 @@ pub(crate) fn explained(
 ) -> Result<Vec<u8>, NoMemory>
     ensures { IfOk result (λ page. page.items ≡ spec.placed_within text.now place ++ message.now) }
 {
-    let mut page = place_of(alloc, text, text.len().min(place as usize))?;
+    explained_at(alloc, text, place as usize, message)
+}
+
+/// The same of a place as an index.
+pub(crate) fn explained_at(
+    alloc: Global,
+    text: &[u8],
+    place: usize,
+    message: &[u8],
+) -> Result<Vec<u8>, NoMemory>
+    ensures { IfOk result (λ page. page.items ≡ spec.placed_within text.now place ++ message.now) }
+{
+    let mut page = place_of(alloc, text, text.len().min(place))?;
     append(&mut page, message)?;
     Ok(page)
 }

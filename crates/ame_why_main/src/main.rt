@@ -5,10 +5,12 @@
 mod asked;
 mod explain;
 mod given;
+mod kept;
 mod run;
 
 use crate::asked::{file_of, view_of};
 use crate::given::Unopened;
+use crate::kept::Kept;
 use crate::run::show;
 use ame_app::process_words;
 use ame_io::StdSource;
@@ -23,10 +25,10 @@ fn main(rt: HostRuntime) -> ExitCode {
     let file = file_of(&mut words);
     let writer = io::writer(&rt);
     let number = match file {
-        None => show(&rt, words, &mut StdSource::new(rt.reader()), view, writer),
+        None => show(&rt, words, Kept::new(rt.alloc(), StdSource::new(rt.reader())), view, writer),
         Some(name) => match fs::open(&rt, name.as_str()) {
-            Ok(file) => show(&rt, words, &mut StdSource::new(file), view, writer),
-            Err(_) => show(&rt, words, &mut Unopened::new(), view, writer),
+            Ok(file) => show(&rt, words, Kept::new(rt.alloc(), StdSource::new(file)), view, writer),
+            Err(_) => show(&rt, words, Kept::new(rt.alloc(), Unopened::new()), view, writer),
         },
     };
     ExitCode::from(number)

@@ -1,11 +1,12 @@
 //! A run, and what is shown of it.
 
-ghost use Rattle.std.specs.Prelude.{◌≤◌, length, vec_len};
+ghost use Rattle.std.specs.Prelude.{◌≤◌, vec_len};
 ghost use Rattle.ame_lex.specs.Bytes.{max_text};
 
 use crate::asked::View;
 use crate::explain::explain;
-use ame_app::{Own, Report, StandardDevice, Status, run_process};
+use crate::kept::Kept;
+use ame_app::{Own, Report, StandardDevice, run_process};
 use ame_code::Code;
 use ame_engine::Ended;
 use ame_io::{Source, StdSink, write_all};
@@ -27,10 +28,10 @@ const REPLAYED_STEPS: u64 = 10_000;
 const NO_SCHEDULE: &[u8] = b"this run has no schedule; those of `sim` and `replay` have one\n";
 
 /// Runs what the words ask for, and writes what is asked for of it. The answer is the status of the process.
-pub fn show<R, S, W>(rt: &R, words: Vec<String>, source: &mut S, view: View, writer: W) -> u8
+pub fn show<R, S, W>(rt: &R, words: Vec<String>, source: Kept<S>, view: View, writer: W) -> u8
 where
     R: AllocGlobal + Threads + Wait + Sync,
-    S: Source,
+    S: Source + Drop,
     W: io::Write + Send + Drop,
 {
     match view {
@@ -42,31 +43,33 @@ where
 }
 
 /// Writes what `ame` writes, and then why.
-fn show_run<R, S, W>(rt: &R, words: Vec<String>, source: &mut S, writer: W) -> u8
+fn show_run<R, S, W>(rt: &R, words: Vec<String>, source: Kept<S>, writer: W) -> u8
 where
     R: AllocGlobal + Threads + Wait + Sync,
-    S: Source,
+    S: Source + Drop,
     W: io::Write + Send + Drop,
 {
-    let mut report = run_process(rt, rt.alloc(), Ok(words), source, StdSink::new(writer));
-    if let Ok(page) = explain(rt.alloc(), &report.text, &report.status) {
+    let mut source = source;
+    let mut report = run_process(rt, rt.alloc(), Ok(words), &mut source, StdSink::new(writer));
+    if let Ok(page) = explain(rt.alloc(), &report, source.bytes()) {
         let _ = write_all(&mut report.sink, &page);
     }
     report.status.number()
 }
 
 /// Writes what is asked for of the journal of the run; where none was begun, the verdict line, and then why.
-fn show_ended<R, S, W>(rt: &R, words: Vec<String>, source: &mut S, view: View, writer: W) -> u8
+fn show_ended<R, S, W>(rt: &R, words: Vec<String>, source: Kept<S>, view: View, writer: W) -> u8
 where
     R: AllocGlobal + Threads + Wait + Sync,
-    S: Source,
+    S: Source + Drop,
     W: io::Write + Send + Drop,
 {
     let alloc = rt.alloc();
-    let report = run_process(rt, alloc, Ok(words), source, StdSink::new(io::sink()));
+    let mut source = source;
+    let report = run_process(rt, alloc, Ok(words), &mut source, StdSink::new(io::sink()));
     let page = match &report.ended {
         Some(ended) => page_of(alloc, view, &report, ended),
-        None => refusal_of(alloc, &report.text, &report.status),
+        None => refusal_of(alloc, &report, source.bytes()),
     };
     match page {
         Ok(page) => write(writer, &page, report.status.number()),
@@ -75,11 +78,15 @@ where
 }
 
 /// The verdict line of a call, and why it ended so.
-fn refusal_of(alloc: Global, text: &[u8], status: &Status) -> Result<Vec<u8>, NoMemory>
-    requires small { length text.now ≤ max_text }
+fn refusal_of<K>(
+    alloc: Global,
+    report: &Report<K, StandardDevice>,
+    input: &[u8],
+) -> Result<Vec<u8>, NoMemory>
+    requires small { vec_len report.now.text ≤ max_text }
 {
-    let mut page = Vec::from_slice(alloc, status.line().as_str().as_bytes())?;
-    page.extend_from_slice(&explain(alloc, text, status)?)?;
+    let mut page = Vec::from_slice(alloc, report.status.line().as_str().as_bytes())?;
+    page.extend_from_slice(&explain(alloc, report, input)?)?;
     Ok(page)
 }
 

@@ -1,0 +1,39 @@
+//! A source of which is kept what it gave.
+
+ghost use Rattle.std.specs.Prelude.{◌≡◌};
+
+use ame_io::{Failed, Source};
+use std::alloc::Global;
+
+/// Reads from another source, and keeps the bytes that it gave, as far as there is memory for them.
+#[derive(Drop)]
+pub struct Kept<S> {
+    source: S,
+    bytes: Vec<u8>,
+}
+
+impl<S: Source> Kept<S> {
+    pub fn new(alloc: Global, source: S) -> Kept<S> {
+        Kept {
+            source,
+            bytes: Vec::new(alloc),
+        }
+    }
+
+    /// The bytes that were given.
+    pub fn bytes(&self) -> &[u8] {
+        &self.bytes
+    }
+}
+
+impl<S: Source> Source for Kept<S> {
+    ghost left = { λ s. S.left s.source };
+
+    ghost faults = { λ s. S.faults s.source };
+
+    fn read(&mut self, buf: &mut [u8]) -> Result<usize, Failed> {
+        let count = self.source.read(buf)?;
+        let _ = self.bytes.extend_from_slice(&buf[..count]);
+        Ok(count)
+    }
+}

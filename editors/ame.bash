@@ -75,13 +75,13 @@ _ame() {
       views= words=("${words[@]:1}")
     fi
     case ${words[0]-} in
-    '') _ame_offer_files run bench sim replay $views; return ;;
-    run | bench | sim | replay) ;;
+    '') _ame_offer_files run bench sim replay check $views; return ;;
+    run | bench | sim | replay | check) ;;
     *) words=("${words[@]:1}") ;;
     esac
   fi
   case ${words[0]-} in
-  '') _ame_offer run bench sim replay ;;
+  '') _ame_offer run bench sim replay check ;;
   run | bench | sim | replay) _ame_offer_parts ;;
   esac
 }

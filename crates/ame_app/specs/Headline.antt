@@ -116,8 +116,8 @@ pub record Headline (call : Call) (report : Reported) (end : End Val) (before af
   pub once : IsNotedOnce (journal_of end)
   -- One worker by itself has nobody in its way.
   pub lone : options.workers ≡ 1 → NoneWereInTheWay end.counters
-  -- Few answers turned a fragment back, and few tries left no entry: a fragment is rolled back at most eight times between two of its
-  -- entries. Turns that are used up were spent on entries and on tries; with one worker by itself there is no try then.
+  -- Few answers turned a fragment back, at most eight for each fragment that there ever was and for each entry, and few tries left no
+  -- entry. Turns that are used up were spent on entries and on tries; with one worker by itself there is no try then.
   pub bounds : HasBounds (program_of compiled) (limits_of options) final end.base end.entries end.turns end.counters end.tried end.stop
 
 -- Just the verdict line of a refusal was written, behind what stands ahead of it. There is no code, and no device was called.

@@ -43,13 +43,7 @@ impl Verb {
     pub fn all() -> &'static [Verb]
         ensures { result.now ≡ verbs }
     {
-        &[
-            Verb::Run,
-            Verb::Bench,
-            Verb::Sim,
-            Verb::Replay,
-            Verb::Check,
-        ]
+        &[Verb::Run, Verb::Bench, Verb::Sim, Verb::Replay, Verb::Check]
     }
 
     /// What may stand behind a verb.

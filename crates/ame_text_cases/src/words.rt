@@ -195,7 +195,10 @@ fn check_stands_alone(rt: HostRuntime) -> Result<(), Fail> {
         &["checks"],
     ];
     for &words in more {
-        assert!(rt; is_read_as(rt.alloc(), words, Err(CliFail::Usage))?, "{words:?}");
+        assert!(rt;
+            is_read_as(rt.alloc(), words, Err(CliFail::Usage))?,
+            "{words:?}"
+        );
     }
     Ok(())
 }

@@ -43,7 +43,9 @@ fn place_in(row: &[u8], why: &Reason) -> usize {
         Reason::NoSteps | Reason::Stops(_, _) => word_start(row, STEPS),
         Reason::Answered => start_of(row, b"="),
         Reason::Unanswered(_) | Reason::Missing(_) => row.len(),
-        Reason::Taken(_, location) | Reason::Unused(_, location) => place_of_location(row, *location),
+        Reason::Taken(_, location) | Reason::Unused(_, location) => place_of_location(
+            row, *location,
+        ),
     }
 }
 
@@ -56,7 +58,10 @@ fn place_of_location(row: &[u8], location: Loc) -> usize {
 /// Adds why the entry of a line can't be made.
 fn append_reason(message: &mut Vec<u8>, row: &[u8], why: &Reason) -> Result<(), NoMemory> {
     match why {
-        Reason::NoMember => append(message, b"there is no member of this number here: it has ended, or isn't started yet"),
+        Reason::NoMember => append(
+            message,
+            b"there is no member of this number here: it has ended, or isn't started yet",
+        ),
         Reason::Inside => append(
             message,
             b"the member is under `unprotected`, where it goes on by `free` lines, and ends by a `ran` line only behind it",
@@ -66,22 +71,37 @@ fn append_reason(message: &mut Vec<u8>, row: &[u8], why: &Reason) -> Result<(), 
             b"the member isn't under `unprotected`, where alone it goes on by `free` lines: a `ran` line brings it there",
         ),
         Reason::NoSteps => append(message, b"a `free` line makes at least one step"),
-        Reason::Answered => append(message, b"the last step calls no device, so there is no answer"),
+        Reason::Answered => append(
+            message,
+            b"the last step calls no device, so there is no answer",
+        ),
         Reason::Unanswered(steps) => {
             append_after(message, row, *steps)?;
-            append(message, b"the member calls a device, and the line tells no answer")
+            append(
+                message,
+                b"the member calls a device, and the line tells no answer",
+            )
         }
         Reason::Missing(steps) => {
             append_after(message, row, *steps)?;
-            append(message, b"the member makes a location, and the line tells no further one")
+            append(
+                message,
+                b"the member makes a location, and the line tells no further one",
+            )
         }
         Reason::Taken(steps, _) => {
             append_after(message, row, *steps)?;
-            append(message, b"the member makes a location, and this one has a value already")
+            append(
+                message,
+                b"the member makes a location, and this one has a value already",
+            )
         }
         Reason::Unused(steps, _) => {
             append_after(message, row, *steps)?;
-            append(message, b"the member makes no further location, and this one is left")
+            append(
+                message,
+                b"the member makes no further location, and this one is left",
+            )
         }
         Reason::Stops(steps, want) => {
             append_after(message, row, *steps)?;
@@ -102,19 +122,37 @@ fn append_after(message: &mut Vec<u8>, row: &[u8], steps: u64) -> Result<(), NoM
 /// Adds what a member wants, by which it doesn't do what its line tells.
 fn append_want(message: &mut Vec<u8>, want: Wants) -> Result<(), NoMemory> {
     match want {
-        Wants::Read(location) | Wants::Peek(location) => append_at(message, b"the member reads location ", location, b", which has no value"),
-        Wants::Write(location) => append_at(message, b"the member writes location ", location, b", which has no value"),
+        Wants::Read(location) | Wants::Peek(location) => append_at(
+            message,
+            b"the member reads location ",
+            location,
+            b", which has no value",
+        ),
+        Wants::Write(location) => append_at(
+            message,
+            b"the member writes location ",
+            location,
+            b", which has no value",
+        ),
         Wants::Device(device, _) => {
             append(message, b"the member calls device ")?;
             append_number(message, device as usize)?;
-            append(message, b", which only a `free` line does, in its last step")
+            append(
+                message,
+                b", which only a `free` line does, in its last step",
+            )
         }
         _ => append(message, want_words(want)),
     }
 }
 
 /// Adds a location between words.
-fn append_at(message: &mut Vec<u8>, before: &[u8], location: Loc, behind: &[u8]) -> Result<(), NoMemory> {
+fn append_at(
+    message: &mut Vec<u8>,
+    before: &[u8],
+    location: Loc,
+    behind: &[u8],
+) -> Result<(), NoMemory> {
     append(message, before)?;
     append_decimal(message, u64::from(location.0))?;
     append(message, behind)
@@ -129,10 +167,13 @@ fn append_decimal(message: &mut Vec<u8>, number: u64) -> Result<(), NoMemory> {
 /// What a member wants, in words.
 fn want_words(want: Wants) -> &'static [u8] {
     match want {
-        Wants::Block => b"the member has come to a condition that is false: only a `stuck` line ends there",
+        Wants::Block =>
+            b"the member has come to a condition that is false: only a `stuck` line ends there",
         Wants::Done => b"the member is a value and makes no further step",
-        Wants::Leave => b"the member has come to `unprotected`, and makes its next step by a `free` line",
-        Wants::Close => b"the member is at the end of its `unprotected`, which only the last step of a `free` line closes",
+        Wants::Leave =>
+            b"the member has come to `unprotected`, and makes its next step by a `free` line",
+        Wants::Close =>
+            b"the member is at the end of its `unprotected`, which only the last step of a `free` line closes",
         Wants::Tall => b"the member has come to a value that would be more than 1000 high",
         _ => b"the member has further steps to make before this line may end",
     }

@@ -55,7 +55,10 @@ fn fault_of(line: &[u8]) -> (usize, &'static [u8]) {
         part = next;
         start = start.saturating_add(word.len()).saturating_add(1);
     }
-    (line.len(), b"the line isn't whole: it has a kind, a seat, a member, its steps, and its new locations\n")
+    (
+        line.len(),
+        b"the line isn't whole: it has a kind, a seat, a member, its steps, and its new locations\n",
+    )
 }
 
 /// What may stand behind a word, if the word may stand there.
@@ -123,12 +126,15 @@ fn wanted(part: Part) -> &'static [u8] {
     match part {
         Part::Kind => b"a line begins with `ran`, `free`, `stuck`, `cut` or `tall`\n",
         Part::Seat => b"this is the seat, which is 0 to 31\n",
-        Part::Member => b"this is the number of the member, which is below 18446744073709551616, without leading zeros\n",
-        Part::Steps => b"this is the number of steps, which is below 18446744073709551616, without leading zeros\n",
+        Part::Member =>
+            b"this is the number of the member, which is below 18446744073709551616, without leading zeros\n",
+        Part::Steps =>
+            b"this is the number of steps, which is below 18446744073709551616, without leading zeros\n",
         Part::Location => {
             b"this is a new location, which is below 4294967296, without leading zeros; an answer stands behind `=` in `free` lines alone\n"
         }
-        Part::Answer => b"this is an answer, which has 64 bits with a sign, without leading zeros\n",
+        Part::Answer =>
+            b"this is an answer, which has 64 bits with a sign, without leading zeros\n",
         Part::End => b"nothing stands behind an answer\n",
     }
 }

@@ -25,10 +25,28 @@ fn main(rt: HostRuntime) -> ExitCode {
     let file = file_of(&mut words);
     let writer = io::writer(&rt);
     let number = match file {
-        None => show(&rt, words, Kept::new(rt.alloc(), StdSource::new(rt.reader())), view, writer),
+        None => show(
+            &rt,
+            words,
+            Kept::new(rt.alloc(), StdSource::new(rt.reader())),
+            view,
+            writer,
+        ),
         Some(name) => match fs::open(&rt, name.as_str()) {
-            Ok(file) => show(&rt, words, Kept::new(rt.alloc(), StdSource::new(file)), view, writer),
-            Err(_) => show(&rt, words, Kept::new(rt.alloc(), Unopened::new()), view, writer),
+            Ok(file) => show(
+                &rt,
+                words,
+                Kept::new(rt.alloc(), StdSource::new(file)),
+                view,
+                writer,
+            ),
+            Err(_) => show(
+                &rt,
+                words,
+                Kept::new(rt.alloc(), Unopened::new()),
+                view,
+                writer,
+            ),
         },
     };
     ExitCode::from(number)

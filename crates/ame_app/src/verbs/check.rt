@@ -61,11 +61,7 @@ fn entries_before(front: &Front) -> &[Entry]
 }
 
 /// What is told of a journal of a program: the lines that it prints, and that it is valid; or why not.
-pub(crate) fn settle(
-    alloc: Global,
-    code: &Arc<Code>,
-    front: &Front,
-) -> Result<Settled, NoMemory>
+pub(crate) fn settle(alloc: Global, code: &Arc<Code>, front: &Front) -> Result<Settled, NoMemory>
     ensures { IfOk result (λ s. TellsOfJournal (program_of (arc_value code.now)) (entries_before front.now) s.ahead.items s.own s.told) }
 {
     let entries = entries_before(front);

@@ -1,13 +1,9 @@
 -- A shell that was just opened.
-use Rattle.std.proofs.Common.{◌≡◌, ℕ, ◌<◌, true, false, List, [], refl, sym, ap, ◌∙◌, subst}
-use Rattle.std.specs.Prelude.{ℤ, None, Result, Ok, Err, IfOk, replicate}
+use Rattle.std.proofs.Common.{◌≡◌, ℕ, true, false, List, [], refl, sym, ap, ◌∙◌, subst}
+use Rattle.std.specs.Prelude.{None, Result, Ok, Err, IfOk, replicate}
 use Rattle.std.proofs.lemmas.List.{length-replicate}
-use Rattle.std.proofs.lemmas.Option.{unwrap_or-slice_get}
-use Rattle.ame_term.specs.Tree.{Val, Tree}
-use Rattle.ame_journal.specs.declared.entry.Entry.{Entry}
-use Rattle.ame_rows.specs.MemoryView.{Log, no_log, row_at}
-use Rattle.ame_store.specs.declared.cell.Cell.{Cell}
-use Rattle.ame_pool.specs.Roster.{Roster}
+use Rattle.ame_term.specs.Tree.{Val}
+use Rattle.ame_rows.specs.MemoryView.{Log, row_at}
 use Rattle.ame_protocol.specs.declared.types.Limits.{Limits}
 use Rattle.ame_protocol.specs.declared.types.Task.{Task}
 use Rattle.ame_protocol.specs.declared.stop.Stop.{Stop}
@@ -28,21 +24,15 @@ use Rattle.ame_worker.specs.declared.shared.Opened.{Opened}
 use Rattle.ame_worker.specs.Rows.{Kept, nothing_kept, empty_row, kept_at, row_of}
 use Rattle.ame_worker.specs.Shared.{opening_of, opened_with, opened_as, IsShared}
 use Rattle.ame_worker.proofs.Slots.{Slot, slot_at, empty_slot}
-use Rattle.ame_worker.proofs.IdleLemmas.{idle-slot, map-all-same, replicate-at}
+use Rattle.ame_worker.proofs.IdleLemmas.{AreUnused, unused-slot, map-all-same, replicate-at}
 use Rattle.ame_worker.proofs.HandLemmas.{row-same}
 use Rattle.ame_machine.specs.Meaning.{Meaning}
 
--- of an engine of which nothing was run
-pub record AreUnused (parts : Parts) : Type 0 where
-  pub tasks : parts.tasks ≡ replicate parts.limits.seats Task.Idle
-  pub rows : parts.memory.rows ≡ replicate parts.limits.seats no_log
-  pub entries : parts.entries ≡ []
-
-unused-slot : (parts : Parts) → AreUnused parts → (seat : ℕ) → slot_at parts seat ≡ empty_slot
-unused-slot parts u seat =
-    idle-slot parts seat (ap (λ (ts : List Task). task_at ts seat) u.tasks ∙ replicate-at parts.limits.seats seat Task.Idle)
-    (ap (λ (rs : List (Log Val)). row_at rs seat) u.rows
-    ∙ unwrap_or-slice_get (replicate parts.limits.seats no_log) seat no_log ∙ replicate-at parts.limits.seats seat no_log)
+-- what is so of a result by five facts of it
+pub if-ok-by : {T E : Type 0} (r : Result T E) (A B C D F G : T → Type 0) → ((x : T) → A x → B x → C x → D x → F x → G x)
+    → IfOk r A → IfOk r B → IfOk r C → IfOk r D → IfOk r F → IfOk r G
+if-ok-by (Ok x) A B C D F G by a b c d f = by x a b c d f
+if-ok-by (Err e) A B C D F G by a b c d f = tt
 
 module _ {C V M : Type 0} (meaning : Meaning C V M) where
   -- a shell is to be shared whose engine did nothing for a seat
@@ -107,15 +97,15 @@ module _ {C V M : Type 0} (meaning : Meaning C V M) where
     unused-resumed : AreUnused (parts_of meaning core)
     unused-resumed = subst AreUnused (sym (ap (λ (s : State). s.parts) resumed.state)) (record { tasks = refl; rows = refl; entries = refl })
 
-    abbrev first : ShellView C V M
-    first = record { core = core; sent = 0; ends = ends }
+    abbrev unsent : ShellView C V M
+    unsent = record { core = core; sent = 0; ends = ends }
 
     -- a stop alone may be new
     data IsAsBefore (new : Core C V M) : Type 0 where
       same : new ≡ core → IsAsBefore new
       stopped : (why : Stop) → new ≡ stopped_by why core → IsAsBefore new
 
-    flushed-as : (new : ShellView C V M) → HasFlushed first new → IsAsBefore new.core
+    flushed-as : (new : ShellView C V M) → HasFlushed unsent new → IsAsBefore new.core
     flushed-as new (HasFlushed.sends appended stays is sent) = IsAsBefore.same is
     flushed-as new (HasFlushed.fails gone first short risen is sent) = IsAsBefore.stopped Stop.WriteFault is
 
@@ -126,7 +116,7 @@ module _ {C V M : Type 0} (meaning : Meaning C V M) where
         subst (λ (c : Core C V M). AreUnused (parts_of meaning c) × (c.limits ≡ core.limits)) (sym is)
         (record { tasks = u.tasks; rows = u.rows; entries = u.entries }, refl)
 
-    pub shared-resumes : (new : ShellView C V M) → new.ends.told ≡ ends.told → HasFlushed first new
+    pub shared-resumes : (new : ShellView C V M) → new.ends.told ≡ ends.told → HasFlushed unsent new
         → IsShared meaning (opened_as core ends) new (replicate core.limits.seats nothing_kept) (replicate core.limits.seats empty_row) []
     shared-resumes new told flushed =
         let still = still-unused new.core (flushed-as new flushed) in

@@ -1,9 +1,10 @@
 -- A shell that was just opened.
 use Rattle.std.proofs.Common.{◌≡◌, ℕ, true, false, List, [], refl, sym, ap, ◌∙◌, subst}
-use Rattle.std.specs.Prelude.{None, Result, Ok, Err, IfOk, replicate}
+use Rattle.std.specs.Prelude.{None, Result, Ok, Err, IfOk, replicate, Option}
 use Rattle.std.proofs.lemmas.List.{length-replicate}
 use Rattle.ame_term.specs.Tree.{Val}
 use Rattle.ame_rows.specs.MemoryView.{Log, row_at}
+use Rattle.ame_device.specs.declared.told.Heard.{Heard}
 use Rattle.ame_protocol.specs.declared.types.Limits.{Limits}
 use Rattle.ame_protocol.specs.declared.types.Task.{Task}
 use Rattle.ame_protocol.specs.declared.stop.Stop.{Stop}
@@ -17,7 +18,7 @@ use Rattle.ame_engine.specs.Seen.{parts_of}
 use Rattle.ame_engine.specs.Stops.{stopped_by}
 use Rattle.ame_turn.specs.Work.{Fits}
 use Rattle.ame_shell.specs.Ends.{Ends}
-use Rattle.ame_shell.specs.Shell.{ShellView, IsShell}
+use Rattle.ame_shell.specs.Shell.{ShellView, shown, IsShell}
 use Rattle.ame_shell.specs.Turned.{HasFlushed}
 use Rattle.ame_shell.proofs.OverLemmas.{shell-starts, shell-resumes}
 use Rattle.ame_worker.specs.declared.shared.Opened.{Opened}
@@ -33,6 +34,17 @@ pub if-ok-by : {T E : Type 0} (r : Result T E) (A B C D F G : T → Type 0) → 
     → IfOk r A → IfOk r B → IfOk r C → IfOk r D → IfOk r F → IfOk r G
 if-ok-by (Ok x) A B C D F G by a b c d f = by x a b c d f
 if-ok-by (Err e) A B C D F G by a b c d f = tt
+
+-- what contracts see of a shell that has this engine, has sent so much, and has this sink and these devices
+pub shown-same : {C V M K D : Type 0} (written : K → Option (List ℕ)) (faults : K → ℕ) (heard : D → Option (List Heard)) (device_faults : D → ℕ)
+    (core was : Core C V M) (sent so_far : ℕ) (sink before : K) (devices all : List D)
+    → core ≡ was → sent ≡ so_far → sink ≡ before → devices ≡ all
+    → shown written faults heard device_faults core sent sink devices ≡ shown written faults heard device_faults was so_far before all
+shown-same written faults heard device_faults core was sent so_far sink before devices all engine bytes end tools =
+    ap (λ it. shown written faults heard device_faults it sent sink devices) engine
+    ∙ ap (λ it. shown written faults heard device_faults was it sink devices) bytes
+    ∙ ap (λ it. shown written faults heard device_faults was so_far it devices) end
+    ∙ ap (λ it. shown written faults heard device_faults was so_far before it) tools
 
 module _ {C V M : Type 0} (meaning : Meaning C V M) where
   -- a shell is to be shared whose engine did nothing for a seat
@@ -122,3 +134,7 @@ module _ {C V M : Type 0} (meaning : Meaning C V M) where
         let still = still-unused new.core (flushed-as new flushed) in
         subst (λ (l : Limits). IsShared meaning (opened_as core ends) new (replicate l.seats nothing_kept) (replicate l.seats empty_row) []) still.1
         (shared-opens (opened_as core ends) new (shell-resumes meaning core ends unused-resumed.entries going new told flushed) still.0)
+
+    pub resumed-idle : (new : ShellView C V M) → HasFlushed unsent new → (seat : ℕ) → task_at new.core.tasks seat ≡ Task.Idle
+    resumed-idle new flushed seat =
+        ap (λ (s : Slot). s.task) (unused-slot (parts_of meaning new.core) (still-unused new.core (flushed-as new flushed)).0 seat)

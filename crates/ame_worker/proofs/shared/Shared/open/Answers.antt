@@ -5,7 +5,7 @@ use Rattle.ame_shell.specs.Ends.{ends_of}
 use Rattle.ame_shell.specs.Shell.{shown}
 use Rattle.ame_worker.specs.Rows.{empty_row}
 use Rattle.ame_worker.specs.Shared.{opened_with, IsShared}
-use Rattle.ame_worker.proofs.OpenLemmas.{if-ok-by, shared-starts}
+use Rattle.ame_worker.proofs.OpenLemmas.{if-ok-by, shown-same, shared-starts}
 use Rattle.ame_worker.proofs.shared.Shared.open.Goals as goal
 
 pub returns-clause-stands : goal.returns-clause-stands
@@ -15,15 +15,13 @@ returns-clause-stands g c =
     let opened = opened_with (arc_value c.args.code) c.args.limits [] ends in
     let rows = replicate c.args.limits.seats empty_row in
     let core = c.in-Ok.engine in
+    let unsent = shown g.K.Sink.written g.K.Sink.faults g.D.Device.device_heard g.D.Device.device_faults core 0 c.args.sink c.args.devices.items in
     let starts = shared-starts r core (arc_value c.args.code) c.args.limits ends c.in-Ok.ensures.code c.in-Ok.ensures.parts in
-    let see = shown g.K.Sink.written g.K.Sink.faults g.D.Device.device_heard g.D.Device.device_faults in
     if-ok-by c.around.result _ _ _ _ _ _
     (λ shared engine sent sink devices places.
-    subst (λ it. IsShared r opened (see it shared.shell.value.sent shared.shell.value.sink shared.shell.value.devices.items) shared.places.items rows []) (sym engine)
-    (subst (λ it. IsShared r opened (see core it shared.shell.value.sink shared.shell.value.devices.items) shared.places.items rows []) (sym sent)
-    (subst (λ it. IsShared r opened (see core 0 it shared.shell.value.devices.items) shared.places.items rows []) (sym sink)
-    (subst (λ it. IsShared r opened (see core 0 c.args.sink it.items) shared.places.items rows []) (sym devices)
-    (subst (λ it. IsShared r opened (see core 0 c.args.sink c.args.devices.items) it rows []) (sym places) starts)))))
+    subst (λ shell. IsShared r opened shell shared.places.items rows [])
+    (sym (shown-same g.K.Sink.written g.K.Sink.faults g.D.Device.device_heard g.D.Device.device_faults _ _ _ _ _ _ _ _ engine sent sink (ap (λ ds. ds.items) devices)))
+    (subst (λ it. IsShared r opened unsent it rows []) (sym places) starts))
     c.around.ensures.engine c.around.ensures.none_sent c.around.ensures.kept_sink c.around.ensures.kept_devices c.around.ensures.places
 
 pub returns-clause-code : goal.returns-clause-code

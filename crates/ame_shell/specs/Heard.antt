@@ -1,5 +1,5 @@
 -- What devices heard in a run, and which of them failed.
-use Rattle.std.specs.Prelude.{◌≡◌, ℕ, ℤ, List, ◌++◌, map, length, Option, Some, option_map}
+use Rattle.std.specs.Prelude.{◌≡◌, ℕ, ℤ, List, [], ◌++◌, map, length, drop, Option, Some, option_map}
 use Rattle.ame_term.specs.Tree.{Tree}
 use Rattle.ame_journal.specs.declared.entry.Entry.{Entry}
 use Rattle.ame_journal.specs.Calls.{device_calls}
@@ -18,10 +18,18 @@ answered_all calls = map (λ call. answered call.0 call.1) calls
 abbrev pub and_more : Option (List Heard) → List Heard → Option (List Heard)
 and_more heard more = option_map (λ calls. calls ++ more) heard
 
--- Each device has heard the calls that a journal makes of it, behind what it had heard before, and no others.
-pub record HaveHeard (program : Tree) (entries : List Entry) (before after : List Told) : Type 0 where
+-- the calls of device k that entries make behind those of a base
+abbrev pub added_calls : ℕ → Tree → List Entry → List Entry → List (ℤ × ℤ)
+added_calls k program base entries = drop (length (device_calls k program base)) (device_calls k program (base ++ entries))
+
+-- Each device has heard the calls that entries behind a base make of it, behind what it had heard before, and no others.
+pub record HaveHeardSince (program : Tree) (base entries : List Entry) (before after : List Told) : Type 0 where
   pub count : length after ≡ length before
-  pub heard : (k : ℕ) → (told_at after k).heard ≡ and_more (told_at before k).heard (answered_all (device_calls k program entries))
+  pub heard : (k : ℕ) → (told_at after k).heard ≡ and_more (told_at before k).heard (answered_all (added_calls k program base entries))
+
+-- so it is of a whole journal
+abbrev pub HaveHeard : Tree → List Entry → List Told → List Told → Type 0
+HaveHeard program entries before after = HaveHeardSince program [] entries before after
 
 -- no device failed
 abbrev pub NoneFailed : List Told → List Told → Type 0

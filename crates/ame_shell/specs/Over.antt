@@ -9,7 +9,7 @@ use Rattle.ame_engine.specs.Ending.{End, IsEnd}
 use Rattle.ame_protocol.specs.Event.Lone.{IsUndisturbed}
 use Rattle.ame_shell.specs.Ends.{Ends}
 use Rattle.ame_shell.specs.Sent.{IsSent}
-use Rattle.ame_shell.specs.Heard.{HaveHeard, HaveFailed}
+use Rattle.ame_shell.specs.Heard.{HaveHeardSince, HaveFailed}
 
 -- each entry is of one of so many seats
 abbrev pub AreOfSeats : ℕ → List Entry → Type 0
@@ -19,14 +19,20 @@ AreOfSeats seats entries = All (λ entry. entry.seat < seats) entries
 abbrev pub NoneWereInTheWay : Counters → Type 0
 NoneWereInTheWay counters = IsUndisturbed counters
 
--- A run of a program, from its beginning, with what its ends told before and after. Its journal replays, and its stop has its
--- cause in the state that is left. The lines of what was printed were sent, all of them unless the sink failed; each device has
--- heard what the journal tells, and none failed unless that is the stop. One seat by itself has nobody in its way.
-pub record IsOver (program : Tree) (limits : Limits) {V : Type 0} (value : V → Val) (before : Ends) (end : End V) (after : Ends) : Type 0 where
+-- A run of a program that went on from a base, with what its ends told before and after. Base and journal replay, and its stop has
+-- its cause in the state that is left. The lines of what was printed were sent, those of the base among them, all of them unless the
+-- sink failed; each device has heard what the journal tells behind the base, and none failed unless that is the stop. One seat by
+-- itself has nobody in its way.
+pub record IsOverSince (since : List Entry) (program : Tree) (limits : Limits) {V : Type 0} (value : V → Val) (before : Ends) (end : End V)
+    (after : Ends) : Type 0 where
   pub ends : IsEnd program limits value end
-  pub base : end.base ≡ []
+  pub base : end.base ≡ since
   pub seats : AreOfSeats limits.seats end.entries
   pub sent : IsSent end.stop (lines ends.r.state.output) before after
-  pub heard : HaveHeard program end.entries before.told after.told
+  pub heard : HaveHeardSince program since end.entries before.told after.told
   pub failed : HaveFailed end.stop before.told after.told
   pub lone : limits.seats ≡ 1 → NoneWereInTheWay end.counters
+
+-- a run of a program from its beginning
+abbrev pub IsOver : Tree → Limits → {V : Type 0} → (V → Val) → Ends → End V → Ends → Type 0
+IsOver program limits value before end after = IsOverSince [] program limits value before end after

@@ -1,16 +1,17 @@
 -- What is so of an engine with its sink and its devices, from its opening on.
-use Rattle.std.specs.Prelude.{◌≡◌, ℕ, ◌<◌, ◌++◌, List, [], length, Option, Some}
+use Rattle.std.specs.Prelude.{◌≡◌, ℕ, ◌<◌, List, length, Option, Some}
 use Rattle.ame_io.specs.Counts.{HasRisen}
 use Rattle.ame_io.specs.Lines.{lines}
 use Rattle.ame_io.specs.Writes.{AppendsFirst}
 use Rattle.ame_term.specs.Tree.{Tree}
 use Rattle.ame_device.specs.declared.told.Heard.{Heard}
 use Rattle.ame_device.specs.declared.told.Told.{Told}
+use Rattle.ame_journal.specs.declared.entry.Entry.{Entry}
 use Rattle.ame_protocol.specs.declared.types.Limits.{Limits}
 use Rattle.ame_protocol.specs.declared.stop.Stop.{Stop}
 use Rattle.ame_engine.specs.Core.{Core}
 use Rattle.ame_shell.specs.Ends.{Ends, ends_of}
-use Rattle.ame_shell.specs.Heard.{HaveHeard, HaveFailed}
+use Rattle.ame_shell.specs.Heard.{HaveHeardSince, HaveFailed}
 use Rattle.ame_shell.specs.Over.{AreOfSeats}
 
 -- What contracts see of a shell: its engine, how many bytes of the text were sent, and what sink and devices tell.
@@ -23,10 +24,11 @@ abbrev pub shown : {C V M K D : Type 0} → (K → Option (List ℕ)) → (K →
 shown written faults heard device_faults core sent sink devices =
     record { core = core; sent = sent; ends = ends_of written faults heard device_faults sink devices }
 
--- how it was opened: the code, the limits, and what the ends told
+-- how it was opened: the code, the limits, the entries that were made before, and what the ends told
 pub record Opening (C : Type 0) : Type 0 where
   pub code : C
   pub limits : Limits
+  pub base : List Entry
   pub ends : Ends
 
 -- Unless the sink failed, a text is sent to its end. Where it failed some isn't.
@@ -40,14 +42,14 @@ pub record IsSentSince (opened now : Ends) (stop : Option Stop) (sent : ℕ) (te
   pub goes : GoesTo stop sent text opened.write_faults now.write_faults
 
 module _ {C V M : Type 0} (program : C → Tree) where
-  -- Code and limits are those of the opening. The engine was opened from no entries, and each entry is of one of its seats. Each
-  -- device has heard what the journal tells, and none failed unless that stop is kept.
+  -- Code, limits and base are those of the opening, and each entry is of one of its seats. Each device has heard what the journal
+  -- tells behind the base, and none failed unless that stop is kept.
   pub record IsOpenedSo (opening : Opening C) (core : Core C V M) (told : List Told) : Type 0 where
     pub code : core.code ≡ opening.code
     pub limits : core.limits ≡ opening.limits
-    pub base : core.base ≡ []
+    pub base : core.base ≡ opening.base
     pub seats : AreOfSeats core.limits.seats core.entries
-    pub heard : HaveHeard (program core.code) (core.base ++ core.entries) opening.ends.told told
+    pub heard : HaveHeardSince (program core.code) core.base core.entries opening.ends.told told
     pub failed : HaveFailed core.stop opening.ends.told told
 
   -- So it is of a shell, and the lines of what was printed are sent.

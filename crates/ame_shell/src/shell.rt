@@ -4,13 +4,15 @@ ghost use Rattle.std.specs.Prelude.{◌≡◌, ◌≢◌, ◌≤◌, ◌<◌, �
 ghost use Rattle.ame_io.specs.Lines.{lines};
 ghost use Rattle.ame_protocol.specs.declared.types.Task.{Task};
 ghost use Rattle.ame_protocol.specs.Engine.Parts.{task_at};
+ghost use Rattle.ame_protocol.specs.declared.stop.Stop.{Stop};
 ghost use Rattle.ame_engine.specs.Ending.{end_of};
+ghost use Rattle.ame_engine.specs.Stops.{stopped_by};
 ghost use Rattle.ame_turn.specs.declared.work.Deed.{Deed};
 ghost use Rattle.ame_turn.specs.declared.work.Work.{Work};
 ghost use Rattle.ame_turn.specs.Ready.{IsReadyWork, CanBePrepared};
 ghost use Rattle.ame_turn.specs.Work.{stage_at, Fits};
 ghost use Rattle.ame_shell.specs.Ends.{ends_of};
-ghost use Rattle.ame_shell.specs.Over.{IsOver};
+ghost use Rattle.ame_shell.specs.Over.{IsOverSince};
 ghost use Rattle.ame_shell.specs.Shell.{shown, Opening, IsShell};
 ghost use Rattle.ame_shell.specs.Turned.{HasFlushed, is_to_flush as flushes_after, HasTurned};
 
@@ -135,6 +137,20 @@ where
         (sink, devices)
     }
 
+    /// What is left where memory is lacking while all seats are idle: that stop is kept, if none is. Takes no memory.
+    pub fn give_up(self) -> Remains<M::Value, K, D>
+        requires idle { (seat : ℕ) → task_at self.engine.tasks seat ≡ Task.Idle }
+        ensures told { result.ended ≡ end_of (stopped_by Stop.NoMemory self.engine) }
+        ensures over { (opening : Opening M.Code)
+            → IsShell M.meaning.program opening (shown K.written K.faults D.device_heard D.device_faults self.engine self.sent self.sink self.devices.items)
+            → IsOverSince opening.base (M.meaning.program opening.code) opening.limits (M.meaning.value_of opening.code) opening.ends result.ended
+            (ends_of K.written K.faults D.device_heard D.device_faults result.sink result.devices.items) }
+    {
+        let mut shell = self;
+        shell.engine.stop(Stop::NoMemory);
+        shell.finish()
+    }
+
     /// What is left once a stop is kept and all seats are idle. Takes no memory.
     pub fn finish(self) -> Remains<M::Value, K, D>
         requires idle { (seat : ℕ) → task_at self.engine.tasks seat ≡ Task.Idle }
@@ -142,7 +158,7 @@ where
         ensures told { result.ended ≡ end_of self.engine }
         ensures over { (opening : Opening M.Code)
             → IsShell M.meaning.program opening (shown K.written K.faults D.device_heard D.device_faults self.engine self.sent self.sink self.devices.items)
-            → IsOver (M.meaning.program opening.code) opening.limits (M.meaning.value_of opening.code) opening.ends result.ended
+            → IsOverSince opening.base (M.meaning.program opening.code) opening.limits (M.meaning.value_of opening.code) opening.ends result.ended
             (ends_of K.written K.faults D.device_heard D.device_faults result.sink result.devices.items) }
     {
         let Shell {

@@ -1,6 +1,6 @@
 //! A shell whose seats have their turns on one thread.
 
-ghost use Rattle.std.specs.Prelude.{◌≡◌, ◌≢◌, ◌≤◌, ◌<◌, ℕ, None, IsSome, IfOk, IfErr, true, false, is_some, vec_len};
+ghost use Rattle.std.specs.Prelude.{◌≡◌, ◌≢◌, ◌≤◌, ◌<◌, ℕ, [], None, IsSome, IfOk, IfErr, true, false, is_some, vec_len};
 ghost use Rattle.std.specs.Arc.{arc_value};
 ghost use Rattle.ame_protocol.specs.declared.types.Task.{Task};
 ghost use Rattle.ame_protocol.specs.Engine.Events.{started};
@@ -9,7 +9,7 @@ ghost use Rattle.ame_engine.specs.Ending.{end_of};
 ghost use Rattle.ame_engine.specs.Seen.{parts_of};
 ghost use Rattle.ame_engine.specs.Whole.{AreLimits};
 ghost use Rattle.ame_shell.specs.Ends.{ends_of};
-ghost use Rattle.ame_shell.specs.Over.{IsOver};
+ghost use Rattle.ame_shell.specs.Over.{IsOverSince};
 ghost use Rattle.ame_shell.specs.Shell.{Opening, IsShell};
 ghost use Rattle.ame_turn.specs.declared.work.Work.TheVariants as work;
 ghost use Rattle.ame_sim.specs.Crew.{lacking, left_to_undo, IsUnwound, SomeSeatIsAtWork};
@@ -86,6 +86,7 @@ where
         ensures opens { IfOk result (IsShell M.meaning.program (record {
           code = arc_value code;
           limits = limits;
+          base = [];
           ends = ends_of K.written K.faults D.device_heard D.device_faults sink devices.items;
         })) }
         ensures starts { IfOk result (λ crew. parts_of M.meaning crew.core
@@ -229,7 +230,7 @@ where
         requires stopped { IsSome self.core.stop }
         ensures told { result.ended ≡ end_of self.core }
         ensures over { (opening : Opening M.Code) → IsShell M.meaning.program opening self
-            → IsOver (M.meaning.program opening.code) opening.limits (M.meaning.value_of opening.code) opening.ends result.ended
+            → IsOverSince opening.base (M.meaning.program opening.code) opening.limits (M.meaning.value_of opening.code) opening.ends result.ended
             (ends_of K.written K.faults D.device_heard D.device_faults result.sink result.devices.items) }
     {
         let Crew {

@@ -115,6 +115,7 @@ where
     ensures played { IfOk result (λ played. IsPlayed M.meaning (record {
       code = arc_value code;
       limits = limits;
+      base = [];
       ends = ends_of K.written K.faults D.device_heard D.device_faults sink devices.items;
     }) played.mades.items played.left.ended) }
     ensures answers { IfOk result (λ played. PicksSeats (H.strategy chooser.old) (questions limits.seats (picks_of played.mades.items))

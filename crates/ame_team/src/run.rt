@@ -2,13 +2,15 @@
 
 ghost use Rattle.std.specs.Prelude.{◌≡◌, ◌≤◌, IfOk, IfErr, vec_len};
 ghost use Rattle.std.specs.Arc.{arc_value};
+ghost use Rattle.ame_engine.specs.Resuming.{HasResumed};
 ghost use Rattle.ame_engine.specs.Whole.{AreLimits};
 ghost use Rattle.ame_shell.specs.Ends.{ends_of};
-ghost use Rattle.ame_shell.specs.Over.{IsOver};
+ghost use Rattle.ame_shell.specs.Over.{IsOver, IsOverSince};
 
-use crate::team::{seats_of, shares, team, work_all};
-use ame_baton::Baton;
+use crate::room::Room;
+use crate::shared::run_shared;
 use ame_device::Device;
+use ame_engine::Engine;
 use ame_io::Sink;
 use ame_machine::Runner;
 use ame_protocol::Limits;
@@ -45,31 +47,55 @@ where
     ensures sink { IfErr result (λ back. back.0 ≡ sink) }
     ensures devices { IfErr result (λ back. back.1 ≡ devices) }
 {
-    let count = limits.seats as usize;
-    let Ok(codes) = shares(alloc, &code, count - 1) else {
+    let Ok(room) = Room::take(alloc, &code, limits.seats) else {
         return Err((sink, devices));
     };
     let Ok(share) = Arc::try_clone(&code) else {
         return Err((sink, devices));
     };
-    let Ok(room) = Vec::with_capacity(alloc, count) else {
+    let shared = Shared::<M, K, D>::open(alloc, share, limits, sink, devices)?;
+    match run_shared(rt, alloc, code, room, shared, gate) {
+        Ok(left) => Ok(left),
+        Err(shared) => Err(shared.into_shell().into_ends()),
+    }
+}
+
+/// Runs a program to its end that goes on from a base, as `run_by_workers` does from its beginning. Before any worker runs it sends the
+/// lines of the base; no device is called for it. Where nothing was sent or begun, for want of memory, it hands sink and devices back as
+/// they were; where memory is lacking behind that, the run ends so.
+pub fn resume_by_workers<M, K, D, G, R>(
+    rt: &R,
+    alloc: Global,
+    code: Arc<M::Code>,
+    engine: Engine<M>,
+    sink: K,
+    devices: Vec<D>,
+    gate: &G,
+) -> Result<Remains<M::Value, K, D>, (K, Vec<D>)>
+where
+    M: Runner + Send,
+    M::Code: Drop + Send + Sync,
+    M::Value: Send,
+    K: Sink + Send + Drop,
+    D: Device + Send,
+    G: Gate + Sync,
+    R: Threads + Wait + Sync,
+    requires opened { HasResumed M.meaning engine.limits engine.base engine }
+    requires limits { AreLimits engine.limits }
+    requires code { arc_value code ≡ engine.code }
+    requires devices { M.meaning.devices engine.code ≤ vec_len devices }
+    ensures over { IfOk result (λ left. IsOverSince engine.base (M.meaning.program engine.code) engine.limits (M.meaning.value_of engine.code)
+        (ends_of K.written K.faults D.device_heard D.device_faults sink devices.items)
+        left.ended (ends_of K.written K.faults D.device_heard D.device_faults left.sink left.devices.items)) }
+    ensures sink { IfErr result (λ back. back.0 ≡ sink) }
+    ensures devices { IfErr result (λ back. back.1 ≡ devices) }
+{
+    let Ok(room) = Room::take(alloc, &code, engine.limits().seats) else {
         return Err((sink, devices));
     };
-    let Ok(seats) = Vec::with_capacity(alloc, count) else {
-        return Err((sink, devices));
-    };
-    let shared = match Shared::<M, K, D>::open(alloc, share, limits, sink, devices) {
-        Ok(shared) => shared,
-        Err(back) => return Err(back),
-    };
-    let (baton, first) = match Baton::new(rt, alloc, shared) {
-        Ok(made) => made,
-        Err(shared) => return Err(shared.into_shell().into_ends()),
-    };
-    let mut workers = team(&baton, first, code, codes, limits, room);
-    work_all(rt, alloc, &baton, gate, workers.as_mut_slice());
-    let (first, rest) = seats_of(workers, seats);
-    let shell = baton.end(rt, first, rest).into_shell();
-    shell.engine.stands();
-    Ok(shell.finish())
+    let shared = Shared::resume(alloc, engine, sink, devices)?;
+    match run_shared(rt, alloc, code, room, shared, gate) {
+        Ok(left) => Ok(left),
+        Err(shared) => Ok(shared.into_shell().give_up()),
+    }
 }

@@ -1,6 +1,6 @@
 //! A team of workers: one for each seat.
 
-ghost use Rattle.std.specs.Prelude.{◌≡◌, ◌≤◌, ◌<◌, ◌+◌, ℕ, [], All, IfOk, Some, ◌++◌, ◌∷◌, length, map, slice_get, vec_len, vec_capacity, slice_index_or};
+ghost use Rattle.std.specs.Prelude.{◌≡◌, ◌≤◌, ◌<◌, ◌+◌, ℕ, [], All, Some, ◌++◌, ◌∷◌, length, map, slice_get, vec_len, vec_capacity, slice_index_or};
 ghost use Rattle.std.specs.Arc.{arc_value};
 ghost use Rattle.ame_baton.specs.Batons.{knows, IsSeatOf, IsReadySeat, AreReady};
 ghost use Rattle.ame_baton.specs.Keeping.{KeepsSeat};
@@ -16,7 +16,7 @@ use ame_io::Sink;
 use ame_machine::Runner;
 use ame_protocol::Limits;
 use ame_worker::{Gate, Shared, Worker};
-use std::alloc::{AllocError, Global};
+use std::alloc::Global;
 use std::sync::{Arc, Wait};
 use std::thread;
 use std::thread::Threads;
@@ -54,25 +54,6 @@ where
         ensures through { IsThrough (knows w.exit.now.seat) }
     { w.work(rt, alloc, baton, gate) };
     thread::for_each_mut(rt, workers, count, &work);
-}
-
-/// So many shares of the code.
-pub(crate) fn shares<C: Drop>(
-    alloc: Global,
-    code: &Arc<C>,
-    count: usize,
-) -> Result<Vec<Arc<C>>, AllocError>
-    ensures same { IfOk result (λ codes. All (λ it. arc_value it ≡ arc_value code.now) codes.items) }
-    ensures count { IfOk result (λ codes. vec_len codes ≡ count) }
-{
-    let mut codes = Vec::with_capacity(alloc, count)?;
-    for _ in 0..count {
-        let Ok(share) = Arc::try_clone(code) else {
-            return Err(AllocError);
-        };
-        codes.push_reserved(share);
-    }
-    Ok(codes)
 }
 
 /// A worker for each seat: those of the seats that the first one makes, in order, and its own as the last.

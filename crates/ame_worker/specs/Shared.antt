@@ -16,14 +16,16 @@ abbrev pub opening_of : {C : Type 0} → Opened C → Opening C
 opening_of opened = record {
   code = opened.code;
   limits = opened.limits;
+  base = opened.base;
   ends = record { written = opened.written; write_faults = opened.write_faults; told = opened.told };
 }
 
--- what is fixed of a shell with this code, these limits, and what its ends told
-abbrev pub opened_with : {C : Type 0} → C → Limits → Ends → Opened C
-opened_with code limits ends = record {
+-- what is fixed of a shell with this code, these limits, this base, and what its ends told
+abbrev pub opened_with : {C : Type 0} → C → Limits → List Entry → Ends → Opened C
+opened_with code limits base ends = record {
   code = code;
   limits = limits;
+  base = base;
   written = ends.written;
   write_faults = ends.write_faults;
   told = ends.told;
@@ -31,7 +33,7 @@ opened_with code limits ends = record {
 
 -- so it is of one that is about to be shared
 abbrev pub opened_as : {C V M : Type 0} → Core C V M → Ends → Opened C
-opened_as core ends = opened_with core.code core.limits ends
+opened_as core ends = opened_with core.code core.limits core.base ends
 
 -- what is kept for a seat that gives the turn
 abbrev pub keeping : {C V M : Type 0} → Core C V M → Work M → Kept M

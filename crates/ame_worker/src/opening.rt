@@ -2,11 +2,12 @@
 
 ghost use Rattle.std.specs.Prelude.{◌≡◌, [], IfOk, IfErr, replicate};
 ghost use Rattle.std.specs.Arc.{arc_value};
+ghost use Rattle.ame_engine.specs.Resuming.{HasResumed};
 ghost use Rattle.ame_engine.specs.Whole.{AreLimits};
 ghost use Rattle.ame_shell.specs.Ends.{ends_of};
 ghost use Rattle.ame_shell.specs.Shell.{shown};
 ghost use Rattle.ame_worker.specs.Rows.{nothing_kept, empty_row};
-ghost use Rattle.ame_worker.specs.Shared.{opened_with, IsShared};
+ghost use Rattle.ame_worker.specs.Shared.{opened_with, opened_as, IsShared};
 
 use crate::shared::{Place, Shared};
 use ame_device::Device;
@@ -17,6 +18,7 @@ use ame_protocol::Limits;
 use ame_shell::Shell;
 use ame_turn::Work;
 use std::alloc::{AllocError, Global};
+use std::snapshot::Snapshot;
 use std::sync::Arc;
 
 /// So many places of seats that did nothing.
@@ -34,6 +36,42 @@ impl<M: Runner, K: Sink, D: Device> Shared<M, K, D>
 where
     M::Code: Drop,
 {
+    /// A shell with this engine, of which no line was sent, and a place for each seat. Where memory is lacking, sink and devices come back.
+    fn around(
+        alloc: Global,
+        engine: Engine<M>,
+        sink: K,
+        devices: Vec<D>,
+    ) -> Result<Shared<M, K, D>, (K, Vec<D>)>
+        ensures engine { IfOk result (λ shared. shared.shell.value.engine ≡ engine) }
+        ensures none_sent { IfOk result (λ shared. shared.shell.value.sent ≡ 0) }
+        ensures kept_sink { IfOk result (λ shared. shared.shell.value.sink ≡ sink) }
+        ensures kept_devices { IfOk result (λ shared. shared.shell.value.devices ≡ devices) }
+        ensures before { IfOk result (λ shared. shared.sink_before.value ≡ sink) }
+        ensures places { IfOk result (λ shared. shared.places.items ≡ replicate engine.limits.seats nothing_kept) }
+        ensures sink { IfErr result (λ back. back.0 ≡ sink) }
+        ensures devices { IfErr result (λ back. back.1 ≡ devices) }
+    {
+        let Ok(places) = empty_places(alloc, engine.limits().seats) else {
+            return Err((sink, devices));
+        };
+        let sink_before = Snapshot::of(&sink);
+        let shell = Shell {
+            engine,
+            sink,
+            sent: 0,
+            devices,
+        };
+        match Box::new(alloc, shell) {
+            Ok(shell) => Ok(Shared {
+                shell,
+                places,
+                sink_before,
+            }),
+            Err(refused) => Err(refused.value.into_ends()),
+        }
+    }
+
     /// A shell that workers are about to share, of which nothing was run. Where memory is lacking, sink and devices come back.
     pub fn open(
         alloc: Global,
@@ -44,31 +82,48 @@ where
     ) -> Result<Shared<M, K, D>, (K, Vec<D>)>
         requires limits { AreLimits limits }
         ensures stands { IfOk result (λ shared. IsShared M.meaning
-            (opened_with (arc_value code) limits (ends_of K.written K.faults D.device_heard D.device_faults sink devices.items))
+            (opened_with (arc_value code) limits [] (ends_of K.written K.faults D.device_heard D.device_faults sink devices.items))
             (shown K.written K.faults D.device_heard D.device_faults shared.shell.value.engine shared.shell.value.sent shared.shell.value.sink shared.shell.value.devices.items)
             shared.places.items (replicate limits.seats empty_row) []) }
         ensures code { IfOk result (λ shared. shared.shell.value.engine.code ≡ arc_value code) }
         ensures limits { IfOk result (λ shared. shared.shell.value.engine.limits ≡ limits) }
+        ensures base { IfOk result (λ shared. shared.shell.value.engine.base ≡ []) }
         ensures kept_sink { IfOk result (λ shared. shared.shell.value.sink ≡ sink) }
         ensures kept_devices { IfOk result (λ shared. shared.shell.value.devices ≡ devices) }
+        ensures before { IfOk result (λ shared. shared.sink_before.value ≡ sink) }
         ensures sink { IfErr result (λ back. back.0 ≡ sink) }
         ensures devices { IfErr result (λ back. back.1 ≡ devices) }
     {
-        let Ok(places) = empty_places(alloc, limits.seats) else {
-            return Err((sink, devices));
-        };
         let Ok(engine) = Engine::<M>::start(alloc, code, limits) else {
             return Err((sink, devices));
         };
-        let shell = Shell {
-            engine,
-            sink,
-            sent: 0,
-            devices,
-        };
-        match Box::new(alloc, shell) {
-            Ok(shell) => Ok(Shared { shell, places }),
-            Err(refused) => Err(refused.value.into_ends()),
-        }
+        Shared::around(alloc, engine, sink, devices)
+    }
+
+    /// A shell that workers are about to share, with an engine that goes on from a base. The lines of the base are sent; where the
+    /// sink fails, that stop is kept. Where memory is lacking, nothing was sent, and sink and devices come back.
+    pub fn resume(
+        alloc: Global,
+        engine: Engine<M>,
+        sink: K,
+        devices: Vec<D>,
+    ) -> Result<Shared<M, K, D>, (K, Vec<D>)>
+        requires resumed { HasResumed M.meaning engine.limits engine.base engine }
+        ensures stands { IfOk result (λ shared. IsShared M.meaning
+            (opened_as engine (ends_of K.written K.faults D.device_heard D.device_faults sink devices.items))
+            (shown K.written K.faults D.device_heard D.device_faults shared.shell.value.engine shared.shell.value.sent shared.shell.value.sink shared.shell.value.devices.items)
+            shared.places.items (replicate engine.limits.seats empty_row) []) }
+        ensures code { IfOk result (λ shared. shared.shell.value.engine.code ≡ engine.code) }
+        ensures limits { IfOk result (λ shared. shared.shell.value.engine.limits ≡ engine.limits) }
+        ensures base { IfOk result (λ shared. shared.shell.value.engine.base ≡ engine.base) }
+        ensures kept_devices { IfOk result (λ shared. shared.shell.value.devices ≡ devices) }
+        ensures before { IfOk result (λ shared. shared.sink_before.value ≡ sink) }
+        ensures sink { IfErr result (λ back. back.0 ≡ sink) }
+        ensures devices { IfErr result (λ back. back.1 ≡ devices) }
+    {
+        let mut shared = Shared::around(alloc, engine, sink, devices)?;
+        let shell = &mut *shared.shell;
+        shell.flush();
+        Ok(shared)
     }
 }

@@ -43,13 +43,15 @@ impl<M> Place<M> {
     }
 }
 
-/// A shell that workers share, with a place for each seat. It is small, so that it passes from seat to seat at little cost.
+/// A shell that workers share, with a place for each seat, and its sink as it was before any line was sent. It is small, so that it
+/// passes from seat to seat at little cost.
 pub struct Shared<M: Runner, K, D>
 where
     M::Code: Drop,
 {
     pub shell: Box<Shell<M, K, D>>,
     pub places: Vec<Place<M>>,
+    pub sink_before: Snapshot<K>,
 }
 
 impl<M: Runner, K: Drop, D: Drop> Drop for Shared<M, K, D>
@@ -60,6 +62,7 @@ where
         let Shared {
             shell: _,
             places: _,
+            sink_before: _,
         } = self;
     }
 }
@@ -72,7 +75,11 @@ where
     pub fn into_shell(self) -> Shell<M, K, D>
         ensures { result ≡ self.shell.value }
     {
-        let Shared { shell, places: _ } = self;
+        let Shared {
+            shell,
+            places: _,
+            sink_before: _,
+        } = self;
         Box::into_inner(shell)
     }
 
@@ -87,10 +94,11 @@ where
     }
 }
 
-/// How a shell was opened: its code, its limits, and what its ends told. No value of it is made.
+/// How a shell was opened: its code, its limits, the entries that were made before, and what its ends told. No value of it is made.
 pub struct Opened<C> {
     pub code: C,
     pub limits: Limits,
+    pub base: LinkedList<Entry>,
     pub written: Option<LinkedList<u8>>,
     pub write_faults: u64,
     pub told: LinkedList<Told>,
@@ -129,7 +137,7 @@ where
         (shown K.written K.faults D.device_heard D.device_faults s.shell.value.engine s.shell.value.sent s.shell.value.sink s.shell.value.devices.items)
         s.places.items rows entries };
 
-    ghost opening = { λ s. opened_as s.shell.value.engine (ends_of K.written K.faults D.device_heard D.device_faults s.shell.value.sink s.shell.value.devices.items) };
+    ghost opening = { λ s. opened_as s.shell.value.engine (ends_of K.written K.faults D.device_heard D.device_faults s.sink_before.value s.shell.value.devices.items) };
 
     ghost seats_in = { λ opened. opened.limits.seats };
 

@@ -1,6 +1,6 @@
 use Rattle.std.proofs.Common.{◌≡◌, ◌≤◌, All, vec_len, vec_capacity}
 use Rattle.std.specs.Arc.{arc_value}
-use Rattle.ame_team.proofs.team.shares.Given as goal
+use Rattle.ame_team.proofs.room.shares.Given as goal
 
 abbrev pub invariant-loop : goal.invariant-loop
 invariant-loop g l = record {

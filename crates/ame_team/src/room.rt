@@ -1,0 +1,101 @@
+//! Room for a run by workers.
+
+ghost use Rattle.std.specs.Prelude.{◌≡◌, ◌≤◌, ◌+◌, [], All, IfOk, vec_len, vec_capacity};
+ghost use Rattle.std.specs.Arc.{arc_value};
+
+use ame_baton::SeatAt;
+use ame_journal::Entry;
+use ame_machine::Runner;
+use ame_worker::{Opened, SeatRow, Shared, Worker};
+use std::alloc::{AllocError, Global};
+use std::sync::Arc;
+
+/// What a run by workers needs besides its shell, so that nothing is begun before it is there: a share of the code for each worker but
+/// the last, and room for the workers and for their seats.
+pub(crate) struct Room<M: Runner, K, D>
+where
+    M::Code: Drop,
+{
+    pub codes: Vec<Arc<M::Code>>,
+    pub workers: Vec<Worker<M, K, D>>,
+    pub seats: Vec<SeatAt<Shared<M, K, D>, Opened<M::Code>, SeatRow<M>, Entry>>,
+}
+
+impl<M: Runner, K, D> Drop for Room<M, K, D>
+where
+    M::Code: Drop,
+{
+    fn drop(self) {
+        let Room {
+            codes: _,
+            workers: _,
+            seats: _,
+        } = self;
+    }
+}
+
+/// So many shares of the code.
+fn shares<C: Drop>(
+    alloc: Global,
+    code: &Arc<C>,
+    count: usize,
+) -> Result<Vec<Arc<C>>, AllocError>
+    ensures same { IfOk result (λ codes. All (λ it. arc_value it ≡ arc_value code.now) codes.items) }
+    ensures count { IfOk result (λ codes. vec_len codes ≡ count) }
+{
+    let mut codes = Vec::with_capacity(alloc, count)?;
+    for _ in 0..count {
+        let Ok(share) = Arc::try_clone(code) else {
+            return Err(AllocError);
+        };
+        codes.push_reserved(share);
+    }
+    Ok(codes)
+}
+
+impl<M: Runner, K, D> Room<M, K, D>
+where
+    M::Code: Drop,
+{
+    /// Room for a run of so many seats.
+    pub fn take(
+        alloc: Global,
+        code: &Arc<M::Code>,
+        seats: u32,
+    ) -> Result<Room<M, K, D>, AllocError>
+        requires some { 1 ≤ seats }
+        ensures codes { IfOk result (λ room. All (λ it. arc_value it ≡ arc_value code.now) room.codes.items) }
+        ensures count { IfOk result (λ room. vec_len room.codes + 1 ≡ seats) }
+        ensures no_workers { IfOk result (λ room. room.workers.items ≡ []) }
+        ensures workers { IfOk result (λ room. seats ≤ vec_capacity room.workers) }
+        ensures no_seats { IfOk result (λ room. room.seats.items ≡ []) }
+        ensures seats { IfOk result (λ room. seats ≤ vec_capacity room.seats) }
+    {
+        let count = seats as usize;
+        Ok(Room {
+            codes: shares(alloc, code, count - 1)?,
+            workers: Vec::with_capacity(alloc, count)?,
+            seats: Vec::with_capacity(alloc, count)?,
+        })
+    }
+
+    /// The shares of the code, the room for the workers, and that for their seats.
+    pub fn into_parts(
+        self,
+    ) -> (
+        Vec<Arc<M::Code>>,
+        Vec<Worker<M, K, D>>,
+        Vec<SeatAt<Shared<M, K, D>, Opened<M::Code>, SeatRow<M>, Entry>>,
+    )
+        ensures codes { result.0 ≡ self.codes }
+        ensures workers { result.1 ≡ self.workers }
+        ensures seats { result.2 ≡ self.seats }
+    {
+        let Room {
+            codes,
+            workers,
+            seats,
+        } = self;
+        (codes, workers, seats)
+    }
+}

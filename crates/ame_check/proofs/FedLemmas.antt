@@ -10,6 +10,7 @@ use Rattle.ame_term.specs.declared.types.Sort.{Sort}
 use Rattle.ame_laws.proofs.MapLemmas.{at-put, at-put_same}
 use Rattle.ame_laws.specs.Typed.StoreTyping.{StoreTyping, Grows}
 use Rattle.ame_journal.specs.Replay.{or_else}
+use Rattle.ame_journal.specs.Replayed.{is_tall}
 use Rattle.ame_machine.specs.Run.Local.{LocalState, fed, took, taken_where, set_at, made_at, refilled_in, given_more, one_step}
 use Rattle.ame_machine.specs.Run.AgreesWith.{AgreesWith}
 use Rattle.ame_machine.specs.MachineView.{MachineView, running_side, place_shown}
@@ -39,14 +40,14 @@ module _ (devices : ℕ) (s : State) (i : ℕ) where
       → AgreesWith s.store made.1 → made.1.answer ≡ None
       → bare made.1.sets (refilled_in m.term made) ≡ place_with later (stepped_to m (refilled_in m.term plain))
       → (g : IsStepping devices types s i (running_side m) (place_with sets m) m.steps)
-      → Chosen devices s i (running_side m) (place_with sets m) m.steps g P (refilled_in m.term made) → IsFedOn types P later m o plain
-  fed-going P sets later m o act v made plain there gives gives_plain e agrees quiet same g chosen =
+      → Chosen devices s i (running_side m) (place_with sets m) m.steps g P (refilled_in m.term made) → (is_tall (running_side m) i g.now ≡ true → ⊥) → IsFedOn types P later m o plain
+  fed-going P sets later m o act v made plain there gives gives_plain e agrees quiet same g chosen calm =
       let side = running_side m in
       let p = place_with sets m in
       let x = stepped_to m (refilled_in m.term plain) in
       let step : one_step side (given_more (v ∷ []) p) ≡ Some (refilled_in m.term made) =
       step-of side (given_more (v ∷ []) p) there.0 made refl there.1 (acted-more side p (act_of there.0) v made refl (ap (λ (a : Act). fed a side v p) there.2 ∙ gives)) in
-      let h = going-on devices s i side p m.steps g P (v ∷ []) (refilled_in m.term made) chosen step (record { seen = agrees.seen; own = agrees.own; made = agrees.made }) quiet in
+      let h = going-on devices s i side p m.steps g P (v ∷ []) (refilled_in m.term made) chosen step (record { seen = agrees.seen; own = agrees.own; made = agrees.made }) quiet calm in
       let at_x : IsStepping devices h.later s i (running_side x) (place_with later x) x.steps = going-as devices s i side (refilled_in m.term made) (place_with later x) (m.steps + 1) x.steps same refl h.going in
       let both : ◌≡◌ {A = Option MachineView} (Some x) (Some o) = sym (fed-is v m act plain there gives_plain) ∙ e in
       let one : x ≡ o = cc in
@@ -78,7 +79,8 @@ module _ (devices : ℕ) (s : State) (i : ℕ) where
       → place_with sets (record m { term = t }) ≡ place_with sets (stepped_to m (record (took l v (place_shown m)) { term = t }))
   took-shown l v m sets t = refl
 
-  module _ {types : StoreTyping} (sets : List (ℕ × Val)) (m o : MachineView) (g : IsStepping devices types s i (running_side m) (place_with sets m) m.steps) where
+  module _ {types : StoreTyping} (sets : List (ℕ × Val)) (m o : MachineView) (g : IsStepping devices types s i (running_side m) (place_with sets m) m.steps)
+      (calm : is_tall (running_side m) i g.now ≡ true → ⊥) where
     abbrev pub Feeds : List (ℕ × Val) → Tree × LocalState → Type 0
     Feeds later plain = IsFedOn types (λ z. Unit {0}) later m o plain
 
@@ -91,7 +93,7 @@ module _ (devices : ℕ) (s : State) (i : ℕ) where
     taken act l v there gives gives_plain e is =
         fed-going (λ z. Unit {0}) sets sets m o act v (Tree.Held v, took l v (place_with sets m)) (Tree.Held v, took l v (place_shown m)) there gives gives_plain e
         (took-agrees s.store (at sets l) l v m sets is) (took-quiet (at sets l) l v m sets)
-        (took-same (at sets l) l v m sets (fill m.term (Tree.Held v)) ∙ took-shown l v m sets (fill m.term (Tree.Held v))) g (any (Tree.Held v, took l v (place_with sets m)))
+        (took-same (at sets l) l v m sets (fill m.term (Tree.Held v)) ∙ took-shown l v m sets (fill m.term (Tree.Held v))) g (any (Tree.Held v, took l v (place_with sets m))) calm
 
     pub fed-read : (l : ℕ) (v : Val) → HasNextAct m (Act.Reads l) → fed_stage v m ≡ Some o → or_else (at sets l) (at s.store l) ≡ Some v
         → Feeds sets (Tree.Held v, took l v (place_shown m))
@@ -105,7 +107,7 @@ module _ (devices : ℕ) (s : State) (i : ℕ) where
     pub fed-write : (l : ℕ) (v : Val) → HasNextAct m (Act.Writes l v) → fed_stage Val.Unit m ≡ Some o → Feeds (put sets l v) (unit_tree, set_at l v (place_shown m))
     fed-write l v there e =
         fed-going (λ z. Unit {0}) sets (put sets l v) m o (Act.Writes l v) Val.Unit (unit_tree, set_at l v (place_with sets m)) (unit_tree, set_at l v (place_shown m)) there refl refl e
-        (record { seen = tt; own = tt; made = tt }) refl refl g (any (unit_tree, set_at l v (place_with sets m)))
+        (record { seen = tt; own = tt; made = tt }) refl refl g (any (unit_tree, set_at l v (place_with sets m))) calm
 
     some-put : (l k : ℕ) (v : Val) (o : Option Val) → is_some (or_else (at sets k) o) ≡ true → is_some (or_else (at (put sets l v) k) o) ≡ true
     some-put l k v o some = by (at-put sets l k v)
@@ -129,21 +131,21 @@ module _ (devices : ℕ) (s : State) (i : ℕ) where
         → IsFedOn types (λ z. HasSort z l sort) (put sets l v) m o (Tree.Held (Val.Loc l), made_at l v (place_shown m))
     fed-alloc sort l v there e unset unstored =
         fed-going (λ z. HasSort z l sort) sets (put sets l v) m o (Act.Allocates sort v) (Val.Loc l) (Tree.Held (Val.Loc l), made_at l v (place_with sets m)) (Tree.Held (Val.Loc l), made_at l v (place_shown m)) there refl refl e
-        (record { seen = tt; own = tt; made = ((unstored, unset), tt) }) refl refl g (chosen-new sort l v there unset unstored)
+        (record { seen = tt; own = tt; made = ((unstored, unset), tt) }) refl refl g (chosen-new sort l v there unset unstored) calm
 
     pub fed-spawn : (body : Tree) → m.inside ≡ true → HasNextAct m (Act.Spawns body) → fed_stage Val.Unit m ≡ Some o
         → Feeds sets (unit_tree, record (place_shown m) { spawns = m.spawns ++ body ∷ [] })
     fed-spawn body in_it there e =
         fed-going (λ z. Unit {0}) sets sets m o (Act.Spawns body) Val.Unit (unit_tree, record (place_with sets m) { spawns = m.spawns ++ body ∷ [] }) (unit_tree, record (place_shown m) { spawns = m.spawns ++ body ∷ [] }) there
         (ap (λ (b : Bool). fed (Act.Spawns body) (side_told b) Val.Unit (place_with sets m)) in_it) (ap (λ (b : Bool). fed (Act.Spawns body) (side_told b) Val.Unit (place_shown m)) in_it) e
-        (record { seen = tt; own = tt; made = tt }) refl refl g (any (unit_tree, record (place_with sets m) { spawns = m.spawns ++ body ∷ [] }))
+        (record { seen = tt; own = tt; made = tt }) refl refl g (any (unit_tree, record (place_with sets m) { spawns = m.spawns ++ body ∷ [] })) calm
 
     pub fed-print : (n : ℤ) → m.inside ≡ true → HasNextAct m (Act.Prints n) → fed_stage Val.Unit m ≡ Some o
         → Feeds sets (unit_tree, record (place_shown m) { prints = m.prints ++ n ∷ [] })
     fed-print n in_it there e =
         fed-going (λ z. Unit {0}) sets sets m o (Act.Prints n) Val.Unit (unit_tree, record (place_with sets m) { prints = m.prints ++ n ∷ [] }) (unit_tree, record (place_shown m) { prints = m.prints ++ n ∷ [] }) there
         (ap (λ (b : Bool). fed (Act.Prints n) (side_told b) Val.Unit (place_with sets m)) in_it) (ap (λ (b : Bool). fed (Act.Prints n) (side_told b) Val.Unit (place_shown m)) in_it) e
-        (record { seen = tt; own = tt; made = tt }) refl refl g (any (unit_tree, record (place_with sets m) { prints = m.prints ++ n ∷ [] }))
+        (record { seen = tt; own = tt; made = tt }) refl refl g (any (unit_tree, record (place_with sets m) { prints = m.prints ++ n ∷ [] })) calm
 
 -- Values shown
 

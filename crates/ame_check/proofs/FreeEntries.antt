@@ -1,5 +1,5 @@
 -- A `Free` entry, by what its call finds.
-use Rattle.std.proofs.Common.{◌≡◌, ℕ, ◌+◌, ◌<◌, ◌≤◌, ◌++◌, ◌∷◌, [], ◌⊎◌, inl, inr, ℤ, Bool, true, false, List, Option, Some, None, refl, sym, ap, ◌∙◌, subst}
+use Rattle.std.proofs.Common.{◌≡◌, ℕ, ◌+◌, ◌<◌, ◌≤◌, ◌++◌, ◌∷◌, [], ◌⊎◌, inl, inr, ℤ, Bool, true, false, List, Option, Some, None, refl, sym, ap, ◌∙◌, subst, arith}
 use Rattle.ame_term.specs.Tree.{Tree}
 use Rattle.ame_term.specs.Frame.{Side, side_told}
 use Rattle.ame_term.specs.Context.{focus}
@@ -15,20 +15,20 @@ use Rattle.ame_machine.specs.MachineView.{MachineView, starting_at}
 use Rattle.ame_machine.specs.Sound.{IsAccepted}
 use Rattle.ame_machine.specs.Move.{settled_stage}
 use Rattle.ame_check.specs.Shows.{ReplayView, ShowsMember, ShowsMembers, StandsForEntries, IsResting}
-use Rattle.ame_check.specs.Walk.{ComesToTall}
+use Rattle.ame_check.specs.Walk.{ComesToTall, StaysLow}
 use Rattle.ame_check.specs.Walked.{IsAtStep}
 use Rattle.ame_check.specs.Visit.{HasCome, ComesOfVisit, VisitMeets}
-use Rattle.ame_check.specs.Reasons.{IsMet}
+use Rattle.ame_check.specs.Reasons.{IsMet, entry_side}
 use Rattle.ame_check.specs.declared.reason.Reason.{Reason}
 use Rattle.ame_check.specs.declared.reason.Reason.TheVariants as reason
-use Rattle.ame_check.specs.Entries.{MeetsTall}
+use Rattle.ame_check.specs.Entries.{BeginsSteps, MeetsTall, MeetsNoTall}
 use Rattle.ame_check.specs.declared.visit.Visited.{Visited}
 use Rattle.ame_check.specs.declared.visit.Visited.TheVariants as visited
 use Rattle.ame_check.proofs.EntryLemmas.{behind-journal}
 use Rattle.ame_check.proofs.SortLemmas.{sorts-merged, below-merged}
 use Rattle.ame_check.proofs.FreeLemmas.{free-outside, free-empty, free-stays, free-closes, free-neither}
 use Rattle.ame_check.proofs.MadeLemmas.{rest_of, shows-rest, outside-next, shows-store, shows-output, shows-next, shows-back, leaving-other, leaving-own}
-use Rattle.ame_check.proofs.NoteLemmas.{side-tall}
+use Rattle.ame_check.proofs.NoteLemmas.{side-tall, meets-unbegun, meets-nobody, meets-low}
 use Rattle.ame_check.proofs.RanLemmas.{AdoptsAll, undefined-there}
 use Rattle.ame_check.proofs.ReasonLemmas.{FailsBy, visit-met}
 use Rattle.ame_check.proofs.StartLemmas.{its-term, its-rest, its-machine, is-early, walk-begins}
@@ -42,11 +42,17 @@ module _ {C V M : Type 0} (meaning : Meaning C V M) (code : C) (accepted : IsAcc
   none-there : replay_entry st.led entry ≡ None → replay (meaning.program code) (entries ++ entry ∷ []) ≡ None
   none-there = undefined-there meaning code entries entry place st.led st.replayed st.shows calm
 
-  fails : (why : Reason) → replay (meaning.program code) (entries ++ entry ∷ []) ≡ None → IsMet st.led entry why → FailsBy (meaning.program code) entries entry why
-  fails why none met = (none, (st.led, st.replayed, met))
+  fails : (why : Reason) → MeetsNoTall (meaning.program code) entries entry → replay (meaning.program code) (entries ++ entry ∷ []) ≡ None → IsMet st.led entry why
+      → FailsBy (meaning.program code) entries entry why
+  fails why low none met = (low, none, (st.led, st.replayed, met))
+
+  -- its steps are begun inside alone
+  begun-so : BeginsSteps entry.kind (is_inside st.led entry.number) entry.answer → is_inside st.led entry.number ≡ true
+  begun-so = subst (λ (z : EntryKind). BeginsSteps z (is_inside st.led entry.number) entry.answer) kind
 
   pub visits-none : entry.steps ≡ 0 → FailsBy (meaning.program code) entries entry reason.NoSteps
-  visits-none none = fails reason.NoSteps (none-there (free-empty st.led entry kind none)) (kind, none)
+  visits-none none = fails reason.NoSteps
+      (λ r e tall. let under : tall.made < entry.steps = tall.below in absurd (omega (arith, under, none))) (none-there (free-empty st.led entry kind none)) (kind, none)
 
   absent-outside : at st.led.state.members entry.number ≡ None → (b : Bool) → is_inside st.led entry.number ≡ b → b ≡ false
   absent-outside none true inside =
@@ -58,7 +64,7 @@ module _ {C V M : Type 0} (meaning : Meaning C V M) (code : C) (accepted : IsAcc
   pub visits-nobody : None ≡ at place.members entry.number → FailsBy (meaning.program code) entries entry reason.NoMember
   visits-nobody none =
       let absent = subst (λ (o : Option M). ShowsMember meaning code (is_inside st.led entry.number) o (at st.led.state.members entry.number)) (sym none) (st.shows.members entry.number) in
-      fails reason.NoMember (none-there (free-outside st.led entry kind (absent-outside absent (is_inside st.led entry.number) refl))) absent
+      fails reason.NoMember (meets-nobody (meaning.program code) entries entry st.led st.replayed calm.idle absent) (none-there (free-outside st.led entry kind (absent-outside absent (is_inside st.led entry.number) refl))) absent
 
   module _ (machine : M) (found : Some machine ≡ at place.members entry.number) where
     term : at st.led.state.members entry.number ≡ Some (meaning.stage code machine).term
@@ -70,7 +76,8 @@ module _ {C V M : Type 0} (meaning : Meaning C V M) (code : C) (accepted : IsAcc
     pub visits-outside : (meaning.stage code machine).inside ≡ false → FailsBy (meaning.program code) entries entry reason.Outside
     visits-outside flag =
         let outside = sym (ap (λ (z : MachineView). z.inside) rest) ∙ flag in
-        fails reason.Outside (none-there (free-outside st.led entry kind outside)) (kind, outside)
+        fails reason.Outside
+        (meets-unbegun (meaning.program code) entries entry st.led st.replayed (λ begins. let clash : true ≡ false = sym (begun-so begins) ∙ outside in cc)) (none-there (free-outside st.led entry kind outside)) (kind, outside)
 
     pub rests-free : (meaning.stage code machine).steps ≡ 0
     rests-free = ap (λ (z : MachineView). z.steps) rest
@@ -95,11 +102,17 @@ module _ {C V M : Type 0} (meaning : Meaning C V M) (code : C) (accepted : IsAcc
         to v is =
             subst (ComesOfVisit meaning code st.led.state entry.number entry.fresh entry.answer place.cells later m n) is (visits st.led.state entry.number n count begins-free)
 
+        low-so : StaysLow Side.Unprotected entry.number (n + 1) entry.fresh st.led.state → MeetsNoTall (meaning.program code) entries entry
+        low-so low =
+            meets-low (meaning.program code) entries entry st.led st.replayed (meaning.stage code machine).term calm.idle term
+            (subst (λ (z : EntryKind). StaysLow (entry_side z entry.number st.led.state) entry.number entry.steps entry.fresh st.led.state) (sym kind)
+            (subst (λ (k : ℕ). StaysLow Side.Unprotected entry.number k entry.fresh st.led.state) count low))
+
         pub visit-undefined : (why : Reason) → found_as ≡ visited.Undefined why → FailsBy (meaning.program code) entries entry why
         visit-undefined why is =
             let none = to (visited.Undefined why) is in
-            fails why (none-there (free-neither st.led entry calm.idle kind inside n count none.0 none.1))
-            (visit-met st.led entry kind why (subst (λ (k : ℕ). VisitMeets st.led.state entry.number entry.fresh entry.answer k why) count none.2))
+            fails why (low-so none.0) (none-there (free-neither st.led entry calm.idle kind inside n count none.1 none.2))
+            (visit-met st.led entry kind why (subst (λ (k : ℕ). VisitMeets st.led.state entry.number entry.fresh entry.answer k why) count none.3))
 
         pub visit-tall : found_as ≡ visited.Tall → (r : Replayed) × (replay (meaning.program code) entries ≡ Some r) × MeetsTall r entry
         visit-tall is =
@@ -107,6 +120,8 @@ module _ {C V M : Type 0} (meaning : Meaning C V M) (code : C) (accepted : IsAcc
               st.led,
               st.replayed,
               side-tall st.led entry (meaning.stage code machine).term calm.idle term
+                  (subst (λ (z : EntryKind). BeginsSteps z (is_inside st.led entry.number) entry.answer) (sym kind) inside)
+                  (on ∙ sym (ap (λ (z : EntryKind). entry_side z entry.number st.led.state) kind))
                   (subst (λ (z : Side). ComesToTall z entry.number entry.steps entry.fresh st.led.state) (sym on)
                   (subst (λ (k : ℕ). ComesToTall Side.Unprotected entry.number k entry.fresh st.led.state) count (to visited.Tall is))),
             )
@@ -160,15 +175,15 @@ module _ {C V M : Type 0} (meaning : Meaning C V M) (code : C) (accepted : IsAcc
           visit-stays : found_as ≡ visited.Stays → StandsForEntries meaning code (entries ++ entry ∷ []) (record { cells = cells; members = members; output = output; next = number })
           visit-stays is =
               let h = to visited.Stays is in
-              after-visit true _ h st.led.inside inside (λ k apart. refl) (free-stays st.led entry calm.idle kind inside n count h.now h.led)
+              after-visit true _ h.1 st.led.inside inside (λ k apart. refl) (free-stays st.led entry calm.idle kind inside n count h.1.now h.1.led)
 
           visit-closes : found_as ≡ visited.Closes → StandsForEntries meaning code (entries ++ entry ∷ []) (record { cells = cells; members = members; output = output; next = number })
           visit-closes is =
               let h = to visited.Closes is in
-              after-visit false _ h.1 (leaving st.led entry.number h.1.now).inside (leaving-own st.led entry.number h.1.now) (λ k apart. leaving-other st.led entry.number k h.1.now apart)
-              (free-closes st.led entry calm.idle kind inside n count h.1.now h.0 h.1.led)
+              after-visit false _ h.2 (leaving st.led entry.number h.2.now).inside (leaving-own st.led entry.number h.2.now) (λ k apart. leaving-other st.led entry.number k h.2.now apart)
+              (free-closes st.led entry calm.idle kind inside n count h.2.now h.1 h.2.led)
 
           pub visit-made : (found_as ≡ visited.Stays) ⊎ (found_as ≡ visited.Closes)
-              → StandsForEntries meaning code (entries ++ entry ∷ []) (record { cells = cells; members = members; output = output; next = number })
-          visit-made (inl is) = visit-stays is
-          visit-made (inr is) = visit-closes is
+              → MeetsNoTall (meaning.program code) entries entry × StandsForEntries meaning code (entries ++ entry ∷ []) (record { cells = cells; members = members; output = output; next = number })
+          visit-made (inl is) = (low-so (to visited.Stays is).0, visit-stays is)
+          visit-made (inr is) = (low-so (to visited.Closes is).0, visit-closes is)

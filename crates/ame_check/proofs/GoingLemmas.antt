@@ -1,9 +1,11 @@
 -- How a walk begins, goes on by one step, and by steps alone.
-use Rattle.std.proofs.Common.{◌≡◌, ℕ, zero, suc, ◌+◌, ◌==◌, Bool, true, List, [], ◌∷◌, ◌++◌, Option, Some, None, is_none, if◌then◌else◌, refl, sym, ap, ◌∙◌, subst, arith, append_assoc}
+use Rattle.std.proofs.Common.{◌≡◌, ℕ, zero, suc, ◌+◌, ◌<◌, ◌==◌, Bool, true, List, [], ◌∷◌, ◌++◌, Option, Some, None, is_none, if◌then◌else◌, refl, sym, ap, ◌∙◌, subst, arith, append_assoc}
 use Rattle.std.specs.Option.{option_and_then}
 use Rattle.std.proofs.lemmas.Option.{option_and_then_some}
 use Rattle.ame_term.specs.Tree.{Val, Tree}
 use Rattle.ame_term.specs.Frame.{Side, side_told}
+use Rattle.ame_term.specs.Context.{focus}
+use Rattle.ame_term.specs.Height.{max_height}
 use Rattle.ame_term.specs.Act.{Act, act_of, device_answer}
 use Rattle.ame_term.specs.State.{State, after, reduce}
 use Rattle.ame_term.specs.declared.semantics.StepKind.{StepKind}
@@ -14,7 +16,7 @@ use Rattle.ame_laws.proofs.Typed.Preserved.{kept}
 use Rattle.ame_laws.specs.Typed.StoreTyping.{StoreTyping, Grows}
 use Rattle.ame_laws.specs.Typed.TypedState.{IsTyped}
 use Rattle.ame_journal.specs.Labels.{fresh_of}
-use Rattle.ame_journal.specs.Replayed.{is_at_unprotected}
+use Rattle.ame_journal.specs.Replayed.{is_at_unprotected, has_such, coming_height, is_tall}
 use Rattle.ame_journal.proofs.StepLemmas.{named}
 use Rattle.ame_journal.proofs.SupplyLemmas.{takes-more}
 use Rattle.ame_journal.proofs.ReplayLemmas.{steps-behind}
@@ -22,15 +24,17 @@ use Rattle.ame_journal.proofs.LabelLemmas.{run-one}
 use Rattle.ame_journal.proofs.MovedLemmas.{free-moves}
 use Rattle.ame_machine.specs.Run.Local.{LocalState, one_step, goes, acted, with_inputs}
 use Rattle.ame_machine.specs.Run.AgreesWith.{AgreesWith, IsAfterRun}
+use Rattle.ame_machine.specs.Run.Told.{IsTooHigh}
 use Rattle.ame_machine.specs.MachineView.{MachineView, running_side, place_shown}
 use Rattle.ame_machine.specs.Move.{Advances}
 use Rattle.ame_machine.proofs.Run.RunLemmas.{Acts, step-is, step-of}
 use Rattle.ame_machine.proofs.Run.TypedLemmas.{goes-empty}
 use Rattle.ame_machine.proofs.Run.EffectLemmas.{step-made, unfed}
-use Rattle.ame_check.specs.Walk.{label_by, active_on, begun_on, steps_on, LeadsOnTo, IsStepping}
+use Rattle.ame_check.specs.Walk.{label_by, active_on, begun_on, steps_on, LeadsOnTo, StaysLow, IsStepping}
 use Rattle.ame_check.specs.Walked.{place_with}
 use Rattle.ame_check.proofs.HaltLemmas.{reduced-on}
 use Rattle.ame_check.proofs.SortLemmas.{grows-through}
+use Rattle.ame_check.proofs.TallLemmas.{GoesLow, low-more}
 
 -- a place without inputs, answer and footprint, with these values set
 abbrev pub bare : List (ℕ × Val) → LocalState → LocalState
@@ -72,6 +76,16 @@ module _ (devices : ℕ) (s : State) (i : ℕ) where
         ∙ steps-behind (label_by side i) i left (record { fresh = fresh_of kind ++ rest; answer = answer }) g.now behind x.act (kind, record { fresh = rest; answer = answer }) x.is_act
         (takes-more kind x.act (named side kind x.act x.can) (left == 0) rest answer quiet) legal
 
+    low-next : (q : LocalState) (used : List ℕ) → q.fresh ≡ p.fresh ++ used → (is_tall side i g.now ≡ true → ⊥) → (more : List ℕ) → StaysLow side i (n + 1) (q.fresh ++ more) s
+    low-next q used is calm more =
+        subst (λ (xs : List ℕ). StaysLow side i (n + 1) xs s) (sym (ap (λ (xs : List ℕ). xs ++ more) is ∙ append_assoc p.fresh used more))
+        (low-more devices s i side p n g calm (used ++ more))
+
+    -- a form at which the place stands is one at which the member does
+    pub place-calm : (IsTooHigh side p → ⊥) → is_tall side i g.now ≡ true → ⊥
+    place-calm calm tall =
+        calm (sym (ap (has_such (λ (term : Tree). coming_height side (focus term) == max_height + 1)) g.member) ∙ tall)
+
     -- how the types grow by a step to a place
     abbrev pub Chosen : (StoreTyping → Type 0) → LocalState → Type 0
     Chosen P q = (kind : StepKind) (t : State) → after g.now (label_by side i kind) ≡ Some t → IsAfterRun s i q t → q.fresh ≡ p.fresh ++ fresh_of kind
@@ -82,8 +96,8 @@ module _ (devices : ℕ) (s : State) (i : ℕ) where
 
     -- one step, for which there may be an input
     pub going-on : (P : StoreTyping → Type 0) (inputs : List Val) (q : LocalState) → Chosen P q → one_step side (with_inputs inputs p) ≡ Some q → AgreesWith s.store q
-        → q.answer ≡ None → GoesOn types P side q (n + 1)
-    going-on P inputs q chosen e agrees quiet =
+        → q.answer ≡ None → (is_tall side i g.now ≡ true → ⊥) → GoesOn types P side q (n + 1)
+    going-on P inputs q chosen e agrees quiet calm =
         let x = step-made s i side (with_inputs inputs p) q g.now (unfed s i p inputs g.now g.after_run) g.member e agrees in
         let legal : after g.now (label_by side i x.kind) ≡ Some x.behind = legal-on side i x.kind g.now g.active ∙ x.reduces in
         let later = chosen x.kind x.behind legal x.after_run x.fresh in
@@ -100,6 +114,7 @@ module _ (devices : ℕ) (s : State) (i : ℕ) where
             typed = later.2;
             standing = stands-on side x.kind g.now x.behind g.orderly legal g.standing;
             goes = goes-more x.kind x.behind q legal (sym x.answer ∙ quiet) x.fresh;
+            low = low-next q (fresh_of x.kind) x.fresh calm;
           };
         }
 
@@ -118,6 +133,7 @@ module _ (devices : ℕ) (s : State) (i : ℕ) where
         typed = h.typed;
         standing = h.standing;
         goes = h.goes;
+        low = h.low;
       }
 
       back : (z : LocalState) → IsStepping devices types s i side (bare z.sets z) m → IsStepping devices types s i side z m
@@ -130,6 +146,7 @@ module _ (devices : ℕ) (s : State) (i : ℕ) where
         typed = h.typed;
         standing = h.standing;
         goes = h.goes;
+        low = h.low;
       }
 
   -- a step alone is one over any values set
@@ -149,8 +166,8 @@ module _ (devices : ℕ) (s : State) (i : ℕ) where
 
   -- steps alone
   pub going-alone : {types : StoreTyping} (side : Side) (sets : List (ℕ × Val)) (p : LocalState) (k : ℕ) (q : LocalState) (n : ℕ) → goes side p k ≡ Some q → p.inputs ≡ []
-      → IsStepping devices types s i side (bare sets p) n → GoesOn types (λ later. Unit {0}) side (bare sets q) (n + k)
-  going-alone {types} side sets p zero q n e empty g =
+      → GoesLow side p k → IsStepping devices types s i side (bare sets p) n → GoesOn types (λ later. Unit {0}) side (bare sets q) (n + k)
+  going-alone {types} side sets p zero q n e empty low g =
       let same : p ≡ q = cc in
       let count : n ≡ n + zero = omega arith in
       record {
@@ -159,13 +176,14 @@ module _ (devices : ℕ) (s : State) (i : ℕ) where
         has = tt;
         going = subst (λ (k : ℕ). IsStepping devices types s i side (bare sets q) k) count (subst (λ (z : LocalState). IsStepping devices types s i side (bare sets z) n) same g);
       }
-  going-alone {types} side sets p (suc k) q n e empty g =
+  going-alone {types} side sets p (suc k) q n e empty low g =
       option_and_then_some _ _ _ e (λ r first second.
-      let before = going-alone side sets p k r n first empty g in
+      let under : k < suc k = omega arith in
+      let before = going-alone side sets p k r n first empty (λ j at_place below. low j at_place (let far : j < suc k = omega arith in far)) g in
       let step = bare-step sets side r q second (goes-empty side p r k first empty) in
       let count : (n + k) + 1 ≡ n + suc k = omega arith in
       let on = going-on side (bare sets r) (n + k) before.going (λ later. Unit {0}) [] (bare sets q) (any-types side (bare sets r) (n + k) before.going (bare sets q)) step
-      (record { seen = tt; own = tt; made = tt }) refl in
+      (record { seen = tt; own = tt; made = tt }) refl (place-calm side (bare sets r) (n + k) before.going (low k r under first)) in
       record {
         later = on.later;
         grows = grows-through before.grows on.grows;
@@ -173,9 +191,9 @@ module _ (devices : ℕ) (s : State) (i : ℕ) where
         going = subst (λ (z : ℕ). IsStepping devices on.later s i side (bare sets q) z) count on.going;
       })
 
-  pub going-advanced : {types : StoreTyping} (sets : List (ℕ × Val)) (m o : MachineView) (k : ℕ) → Advances k m o → IsStepping devices types s i (running_side m) (place_with sets m) m.steps
-      → GoesOn types (λ later. Unit {0}) (running_side o) (place_with sets o) o.steps
-  going-advanced {types} sets m o k a g =
-      let h = going-alone (running_side m) sets (place_shown m) k (place_shown o) m.steps a.run refl g in
+  pub going-advanced : {types : StoreTyping} (sets : List (ℕ × Val)) (m o : MachineView) (k : ℕ) → Advances k m o → GoesLow (running_side m) (place_shown m) k
+      → IsStepping devices types s i (running_side m) (place_with sets m) m.steps → GoesOn types (λ later. Unit {0}) (running_side o) (place_with sets o) o.steps
+  going-advanced {types} sets m o k a low g =
+      let h = going-alone (running_side m) sets (place_shown m) k (place_shown o) m.steps a.run refl low g in
       subst (λ (b : Bool). GoesOn types (λ later. Unit {0}) (side_told b) (place_with sets o) o.steps) (sym a.inside)
       (subst (λ (z : ℕ). GoesOn types (λ later. Unit {0}) (running_side m) (place_with sets o) z) (sym a.steps) h)

@@ -1,7 +1,8 @@
 -- Where no further step can be made.
-use Rattle.std.proofs.Common.{◌≡◌, ℕ, suc, ◌+◌, ◌-◌, ◌<◌, ◌==◌, ◌⊎◌, inl, inr, ℤ, Bool, true, false, List, [], ◌∷◌, ◌++◌, Option, Some, None, is_some, refl, sym, ap, ◌∙◌, arith, if◌then◌else◌}
+use Rattle.std.proofs.Common.{◌≡◌, ℕ, suc, ◌+◌, ◌-◌, ◌<◌, ◌≤◌, ◌==◌, ◌⊎◌, inl, inr, ℤ, Bool, true, false, List, [], ◌∷◌, ◌++◌, Option, Some, None, is_some, refl, sym, ap, ◌∙◌, subst, arith, append-nil, append_assoc, if◌then◌else◌}
 use Rattle.std.specs.Option.{option_and_then, option_map}
-use Rattle.std.proofs.lemmas.Bool.{eqb-true}
+use Rattle.std.proofs.lemmas.Bool.{eqb-true, cases_lt}
+use Rattle.std.proofs.lemmas.List.{append_cancel_left}
 use Rattle.ame_term.specs.Tree.{Val, Tree}
 use Rattle.ame_term.specs.Frame.{Side}
 use Rattle.ame_term.specs.Context.{Focus, focus}
@@ -11,11 +12,13 @@ use Rattle.ame_term.specs.State.{State, after, at_value, at_unprotected, closed_
 use Rattle.ame_term.specs.declared.types.Unary.TheVariants as unary
 use Rattle.ame_term.specs.declared.semantics.StepKind.{StepKind}
 use Rattle.ame_laws.specs.Typed.StoreTyping.{StoreTyping}
-use Rattle.ame_journal.specs.Replayed.{is_false_condition}
+use Rattle.ame_journal.specs.Replayed.{is_false_condition, is_tall}
 use Rattle.ame_journal.specs.Replay.{steps, Supply, member_act, redex_act, next_kind, step_by_name}
 use Rattle.ame_journal.proofs.StepLemmas.{IsReduced, step-reduced, free-reduced}
 use Rattle.ame_machine.proofs.RunnableLemmas.{closing-form}
-use Rattle.ame_check.specs.Walk.{label_by, active_on, begun_on, steps_on, Halts, IsStepping, IsNoWalk}
+use Rattle.ame_machine.specs.Run.Local.{LocalState}
+use Rattle.ame_check.proofs.TallLemmas.{low-more, same-there, steps-split}
+use Rattle.ame_check.specs.Walk.{label_by, active_on, begun_on, steps_on, Halts, ComesToTall, IsStepping, IsNoWalk}
 
 -- a legal label of a member that is active on a side
 pub reduced-on : (side : Side) (kind : StepKind) (i : ℕ) (s u : State) → s.active ≡ active_on side i → after s (label_by side i kind) ≡ Some u → IsReduced side kind i s u
@@ -176,13 +179,54 @@ module _ (side : Side) (i : ℕ) (t : State) (term : Tree) (member : at t.member
       moved same (inl is) = inl (same ∙ is)
       moved same (inr is) = inr (same ∙ is)
 
--- Where a walk can't go on, there is none of more steps.
-pub halts-no_walk : {types : StoreTyping} (devices : ℕ) (s : State) (i : ℕ) (side : Side) (p : _) (n : ℕ) (g : IsStepping devices types s i side p n) (fresh rest : List ℕ) → fresh ≡ p.fresh ++ rest
-    → Halts side i g.now rest → (total : ℕ) → n < total → IsNoWalk side i total fresh s
-halts-no_walk devices s i side p n g fresh rest front halts total below k answer far cond =
-    let left = k - (n + 1) in
-    let count : k ≡ n + (left + 1) = omega arith in
-    let last : left ≡ 0 → answer ≡ None = λ zero. cond (omega arith) in
-    ap (λ (z : ℕ). steps_on side i z fresh answer (begun_on side i s)) count
-    ∙ ap (λ (z : List ℕ). steps_on side i (n + (left + 1)) z answer (begun_on side i s)) front
-    ∙ g.goes (left + 1) rest answer ∙ halts left answer last
+-- no further step can be made with what is left of the locations, nor with the front of it
+abbrev pub HaltsBy : Side → ℕ → State → List ℕ → Type 0
+HaltsBy side i t rest = (used more : List ℕ) → rest ≡ used ++ more → Halts side i t used
+
+-- nor is one made where none is left, or the first is in the store
+pub halts-by_taken : (side : Side) (i : ℕ) (t : State) (sort : _) (v w : Val) (l : ℕ) (rest : List ℕ) → t.active ≡ active_on side i → member_act i t ≡ Some (Act.Allocates sort v) → at t.store l ≡ Some w
+    → HaltsBy side i t (l ∷ rest)
+halts-by_taken side i t sort v w l rest active is there [] more e = halts-out side i t sort v is
+halts-by_taken side i t sort v w l rest active is there (k ∷ used) more e =
+    let same : l ≡ k = cc in
+    subst (λ (z : ℕ). Halts side i t (z ∷ used)) same (halts-taken side i t sort v w l used active is there)
+
+pub halts-by_out : (side : Side) (i : ℕ) (t : State) (sort : _) (v : Val) → member_act i t ≡ Some (Act.Allocates sort v) → HaltsBy side i t []
+halts-by_out side i t sort v is [] more e = halts-out side i t sort v is
+halts-by_out side i t sort v is (k ∷ used) more e = cc
+
+-- Where a walk can't go on, there is none of more steps, and no tall form is passed
+
+module _ {types : StoreTyping} (devices : ℕ) (s : State) (i : ℕ) (side : Side) (p : LocalState) (n : ℕ) (g : IsStepping devices types s i side p n) (fresh rest : List ℕ) (front : fresh ≡ p.fresh ++ rest)
+    (calm : is_tall side i g.now ≡ true → ⊥) (halts : HaltsBy side i g.now rest) (total : ℕ) (below : n < total) where
+  never-walks : (k : ℕ) (answer : Option ℤ) → total ≤ k → (k ≡ total → answer ≡ None) → steps_on side i k fresh answer (begun_on side i s) ≡ None
+  never-walks k answer far cond =
+      let left = k - (n + 1) in
+      let count : k ≡ n + (left + 1) = omega arith in
+      let last : left ≡ 0 → answer ≡ None = λ zero. cond (omega arith) in
+      ap (λ (z : ℕ). steps_on side i z fresh answer (begun_on side i s)) count
+      ∙ ap (λ (z : List ℕ). steps_on side i (n + (left + 1)) z answer (begun_on side i s)) front
+      ∙ g.goes (left + 1) rest answer ∙ halts rest [] (sym (append-nil rest)) left answer last
+
+  beyond : (k : ℕ) (c : ComesToTall side i k (p.fresh ++ rest) s) → n < c.made → ⊥
+  beyond k c far =
+      let left = c.made - (n + 1) in
+      let count : c.made ≡ n + (left + 1) = omega arith in
+      let h = steps-split (label_by side i) i n (left + 1) c.used (begun_on side i s) c.there (ap (λ (k : ℕ). steps_on side i k c.used None (begun_on side i s)) (sym count) ∙ c.leads) in
+      let front = c.front ∙ ap (λ (xs : List ℕ). xs ++ c.rest) h.are ∙ append_assoc h.first h.others c.rest in
+      let same = same-there devices s i side p n g rest h.first (h.others ++ c.rest) h.between front h.before in
+      let left_over = append_cancel_left p.fresh rest (h.others ++ c.rest) (front ∙ ap (λ (xs : List ℕ). xs ++ (h.others ++ c.rest)) (sym same.0)) in
+      let clash : None ≡ Some c.there = sym (halts h.others c.rest left_over left None (λ e. refl)) ∙ ap (steps_on side i (left + 1) h.others None) same.1 ∙ h.behind in
+      cc
+
+  pub halts-no_walk : IsNoWalk side i total fresh s
+  halts-no_walk = record {
+    never = never-walks;
+    low = λ k c. elim (cases_lt n c.made) [
+      | inl far ↦ beyond k (moved k c) far
+      | inr near ↦ low-more devices s i side p n g calm rest (record { made = c.made; below = omega (arith, near); used = c.used; rest = c.rest; front = sym front ∙ c.front; there = c.there; leads = c.leads; tall = c.tall })
+    ];
+  }
+    where
+      moved : (k : ℕ) → ComesToTall side i k fresh s → ComesToTall side i k (p.fresh ++ rest) s
+      moved k c = subst (λ (xs : List ℕ). ComesToTall side i k xs s) front c

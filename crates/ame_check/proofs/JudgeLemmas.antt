@@ -1,6 +1,7 @@
 -- How a journal is judged, entry by entry.
-use Rattle.std.proofs.Common.{◌≡◌, ℕ, ◌+◌, ◌-◌, ◌<◌, ◌≤◌, ℤ, List, [], ◌∷◌, ◌++◌, length, take, drop, get_or, option_and_then, Some, None, refl, sym, ap, ◌∙◌, subst, arith}
-use Rattle.std.proofs.lemmas.List.{take_more, take_all, take-append-drop}
+use Rattle.std.proofs.Common.{◌≡◌, inl, inr, ℕ, ◌+◌, ◌-◌, ◌<◌, ◌≤◌, List, [], ◌∷◌, ◌++◌, length, take, drop, get_or, option_and_then, Some, None, refl, sym, ap, ◌∙◌, subst, arith}
+use Rattle.std.proofs.lemmas.Bool.{cases_lt}
+use Rattle.std.proofs.lemmas.List.{take_more, take_all, take-append-drop, take-take, same_from_push}
 use Rattle.std.proofs.lemmas.List.Sums.{sum_by_more}
 use Rattle.ame_term.specs.Tree.{Tree}
 use Rattle.ame_journal.specs.Replayed.{Replayed, begun_at}
@@ -10,16 +11,20 @@ use Rattle.ame_journal.specs.Totals.{total_steps}
 use Rattle.ame_journal.specs.declared.entry.Entry.{Entry}
 use Rattle.ame_machine.specs.Meaning.{Meaning}
 use Rattle.ame_check.specs.Shows.{ReplayView, StandsForEntries}
-use Rattle.ame_check.specs.Entries.{MeetsTall}
+use Rattle.ame_check.specs.Entries.{MeetsTall, MeetsNoTall}
 use Rattle.ame_check.specs.declared.reason.Reason.{Reason}
 use Rattle.ame_check.proofs.ReasonLemmas.{FailsBy}
-use Rattle.ame_check.specs.Judge.{most_steps, IsLong, IsUndefinedAt, IsTooHighAt}
+use Rattle.ame_check.specs.Judge.{most_steps, IsLong, PassesTallAt, IsUndefinedAt, IsTooHighAt}
 
 -- what follows entries that can't be replayed doesn't change that
 pub undefined-all : (program : Tree) (entries : List Entry) (n : ℕ) → replay program (take n entries) ≡ None → replay program entries ≡ None
 undefined-all program entries n none =
     ap (replay program) (sym (take-append-drop n entries)) ∙ replay_from-append (begun_at program) (take n entries) (drop n entries)
     ∙ ap (option_and_then (λ (t : Replayed). replay_from t (drop n entries))) none
+
+-- nor do more of the entries
+pub none-longer : (program : Tree) (entries : List Entry) (m n : ℕ) → m ≤ n → replay program (take m entries) ≡ None → replay program (take n entries) ≡ None
+none-longer program entries m n within none = undefined-all program (take n entries) m (ap (replay program) (take-take m n entries within) ∙ none)
 
 -- the steps of the entries before an index, none of which is too many
 abbrev pub CountsSteps : List Entry → ℕ → ℕ → ℕ → Type 0
@@ -61,6 +66,16 @@ module _ (entries : List Entry) (index : ℕ) (below : index < length entries) (
               subst (λ (n : ℕ). most_steps < n) (ap (λ (n : ℕ). n + (entry.steps + 1)) counts.0 ∙ sym steps-more ∙ ap (λ (k : ℕ). total_steps (take k entries)) next) above;
         }
 
+-- none of the entries before an index passes a tall form
+abbrev pub NoneIsTall : Tree → List Entry → ℕ → Type 0
+NoneIsTall program entries index = (m : ℕ) → m ≤ index → PassesTallAt program entries m → ⊥
+
+pub none-is_tall : (program : Tree) (entries : List Entry) → NoneIsTall program entries 0
+none-is_tall program entries m within tall = let first : 1 ≤ m = tall.place.0 in omega arith
+
+pub all-low : (program : Tree) (entries : List Entry) (index : ℕ) → NoneIsTall program entries index → length entries ≤ index → (n : ℕ) → PassesTallAt program entries n → ⊥
+all-low program entries index none within n tall = none n (let last : n ≤ length entries = tall.place.1 in omega arith) tall
+
 module _ {C V M : Type 0} (meaning : Meaning C V M) (code : C) (entries : List Entry) where
   module _ (index : ℕ) (view : ReplayView V M) (st : StandsForEntries meaning code (take index entries) view) where
     pub whole-so : length entries ≤ index → StandsForEntries meaning code entries view
@@ -80,6 +95,20 @@ module _ {C V M : Type 0} (meaning : Meaning C V M) (code : C) (entries : List E
     pub made-so : (later : ReplayView V M) → StandsForEntries meaning code (take index entries ++ entry ∷ []) later → StandsForEntries meaning code (take (index + 1) entries) later
     made-so later s = subst (λ (es : List Entry). StandsForEntries meaning code es later) (sym (one-more_entry entries index below entry is)) s
 
+    -- nor does the next one, where it meets none behind those
+    pub low-so : NoneIsTall (meaning.program code) entries index → MeetsNoTall (meaning.program code) (take index entries) entry → NoneIsTall (meaning.program code) entries (index + 1)
+    low-so none meets m within tall = elim (cases_lt m (index + 1)) [
+      | inl under ↦ none m (omega (arith, under)) tall
+      | inr far ↦ here (omega (arith, far, within))
+    ]
+      where
+        here : m ≡ index + 1 → ⊥
+        here at_last =
+            let previous : m - 1 ≡ index = omega arith in
+            let both = sym (one-more_entry entries index below entry is) ∙ ap (λ (k : ℕ). take k entries) (sym at_last) ∙ tall.is_entry in
+            let same = same_from_push (take index entries) (take (m - 1) entries) entry tall.entry both in
+            meets tall.led (ap (λ (k : ℕ). replay (meaning.program code) (take k entries)) (sym previous) ∙ tall.replayed) (subst (MeetsTall tall.led) (sym same.1) tall.meets)
+
     is-next : take (place + 1) entries ≡ take (place + 1 - 1) entries ++ entry ∷ []
     is-next =
         ap (λ (k : ℕ). take k entries) next ∙ one-more_entry entries index below entry is
@@ -88,26 +117,44 @@ module _ {C V M : Type 0} (meaning : Meaning C V M) (code : C) (entries : List E
     none-with : (why : Reason) → FailsBy (meaning.program code) (take index entries) entry why → replay (meaning.program code) (take (place + 1) entries) ≡ None
     none-with why fails =
         ap (λ (k : ℕ). replay (meaning.program code) (take k entries)) next
-        ∙ ap (replay (meaning.program code)) (one-more_entry entries index below entry is) ∙ fails.0
+        ∙ ap (replay (meaning.program code)) (one-more_entry entries index below entry is) ∙ fails.1
 
-    pub undefined-so : (why : Reason) → FailsBy (meaning.program code) (take index entries) entry why → IsUndefinedAt (meaning.program code) entries (place + 1) why
-    undefined-so why fails = record {
+    none-after : (why : Reason) → FailsBy (meaning.program code) (take index entries) entry why → NoneIsTall (meaning.program code) entries index → (m : ℕ)
+        → PassesTallAt (meaning.program code) entries m → ⊥
+    none-after why fails none m tall = elim (cases_lt (index + 1) m) [
+      | inl far ↦ beyond (omega (arith, far))
+      | inr within ↦ low-so none fails.0 m within tall
+    ]
+      where
+        beyond : index + 1 ≤ m - 1 → ⊥
+        beyond far =
+            let never = none-longer (meaning.program code) entries (index + 1) (m - 1) far (ap (λ (k : ℕ). replay (meaning.program code) (take k entries)) (sym next) ∙ none-with why fails) in
+            let clash : None ≡ Some tall.led = sym never ∙ tall.replayed in
+            cc
+
+    pub undefined-so : NoneIsTall (meaning.program code) entries index → (why : Reason) → FailsBy (meaning.program code) (take index entries) entry why → IsUndefinedAt (meaning.program code) entries (place + 1) why
+    undefined-so none why fails = record {
       place = in-place;
-      led = fails.1.0;
-      replayed = ap (λ (k : ℕ). replay (meaning.program code) (take k entries)) before ∙ fails.1.1;
+      led = fails.2.0;
+      replayed = ap (λ (k : ℕ). replay (meaning.program code) (take k entries)) before ∙ fails.2.1;
       undefined = none-with why fails;
       never = undefined-all (meaning.program code) entries (place + 1) (none-with why fails);
       entry = entry;
       is_entry = is-next;
-      met = fails.1.2;
+      met = fails.2.2;
+      low = none-after why fails none;
     }
 
-    pub too_high-so : (r : Replayed) × (replay (meaning.program code) (take index entries) ≡ Some r) × MeetsTall r entry → IsTooHighAt (meaning.program code) entries (place + 1)
-    too_high-so tall = record {
-      place = in-place;
-      led = tall.0;
-      replayed = ap (λ (k : ℕ). replay (meaning.program code) (take k entries)) before ∙ tall.1;
-      entry = entry;
-      is_entry = is-next;
-      meets = tall.2;
+    pub too_high-so : NoneIsTall (meaning.program code) entries index → (r : Replayed) × (replay (meaning.program code) (take index entries) ≡ Some r) × MeetsTall r entry
+        → IsTooHighAt (meaning.program code) entries (place + 1)
+    too_high-so none tall = record {
+      passes = record {
+        place = in-place;
+        led = tall.0;
+        replayed = ap (λ (k : ℕ). replay (meaning.program code) (take k entries)) before ∙ tall.1;
+        entry = entry;
+        is_entry = is-next;
+        meets = tall.2;
+      };
+      first = λ m under earlier. none m (let same : place ≡ index = counted in omega arith) earlier;
     }

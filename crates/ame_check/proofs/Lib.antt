@@ -1,6 +1,7 @@
 pub mod ListLemmas
 pub mod SortLemmas
 pub mod HaltLemmas
+pub mod TallLemmas
 pub mod GoingLemmas
 pub mod FedLemmas
 pub mod WantLemmas
@@ -18,5 +19,6 @@ pub mod LastLemmas
 pub mod VisitLemmas
 pub mod FreeEntries
 pub mod JudgeLemmas
+pub mod OnceLemmas
 pub mod InputLemmas
 pub mod ReasonLemmas

@@ -7,6 +7,7 @@ use Rattle.ame_journal.specs.Replayed.{Replayed, is_inside, side_at, is_at_unpro
 use Rattle.ame_journal.specs.Replay.{replay, replay_kind, replay_entry, note_where}
 use Rattle.ame_journal.specs.Totals.{is_note}
 use Rattle.ame_journal.specs.declared.entry.Entry.{Entry}
+use Rattle.ame_journal.specs.declared.entry.EntryKind.{EntryKind}
 use Rattle.ame_journal.proofs.ReachedLemmas.{IsCalm, calm-replayed}
 use Rattle.ame_machine.specs.Meaning.{Meaning}
 use Rattle.ame_machine.specs.MachineView.{MachineView, starting_at, running_side}
@@ -14,9 +15,9 @@ use Rattle.ame_machine.specs.Sound.{IsAccepted, IsSoundStage, CanRun}
 use Rattle.ame_machine.specs.Move.{settled_stage, AdvancesWithin}
 use Rattle.ame_machine.specs.declared.wants.Wants.{Wants}
 use Rattle.ame_check.specs.Shows.{ReplayView, ShowsMember, StandsForEntries}
-use Rattle.ame_check.specs.Walk.{steps_on, begun_on}
+use Rattle.ame_check.specs.Walk.{steps_on, begun_on, StaysLow}
 use Rattle.ame_check.specs.Walked.{place_with, IsAtStep, RunsAlong}
-use Rattle.ame_check.specs.Entries.{MeetsTall, is_confirmed}
+use Rattle.ame_check.specs.Entries.{BeginsSteps, MeetsTall, MeetsNoTall, is_confirmed}
 use Rattle.ame_check.specs.Reasons.{MeetsReason, IsMet}
 use Rattle.ame_check.specs.declared.reason.Reason.{Reason}
 use Rattle.ame_check.specs.declared.reason.Reason.TheVariants as reason
@@ -28,8 +29,19 @@ use Rattle.ame_check.proofs.ReasonLemmas.{FailsBy, met-on, note-side, stops-met}
 use Rattle.ame_check.proofs.SortLemmas.{all-front}
 use Rattle.ame_check.proofs.WalkLemmas.{can-run}
 use Rattle.ame_check.proofs.RanLemmas.{undefined-there}
-use Rattle.ame_check.proofs.NoteLemmas.{note-undefined, note-is, note-absent, note-answered, side-tall, none-made, settled-flag}
+use Rattle.ame_check.proofs.NoteLemmas.{note-undefined, note-is, note-absent, note-answered, side-tall, none-made, settled-flag, meets-unbegun, meets-nobody, meets-low}
+use Rattle.ame_check.proofs.WantLemmas.{walked-low}
 use Rattle.ame_check.specs.declared.stored.Stored.{Stored}
+
+note-begins : (kind : EntryKind) → is_note kind ≡ true → (inside : Bool) (answer : Option ℤ) → BeginsSteps kind inside answer → answer ≡ None
+note-begins EntryKind.Ran note inside answer begins = cc
+note-begins EntryKind.Free note inside answer begins = cc
+note-begins _ note inside answer begins = begins
+
+begins-note_so : (kind : EntryKind) → is_note kind ≡ true → (inside : Bool) (answer : Option ℤ) → answer ≡ None → BeginsSteps kind inside answer
+begins-note_so EntryKind.Ran note inside answer quiet = cc
+begins-note_so EntryKind.Free note inside answer quiet = cc
+begins-note_so _ note inside answer quiet = quiet
 
 module _ {C V M : Type 0} (meaning : Meaning C V M) (code : C) (accepted : IsAccepted (meaning.devices code) (meaning.program code))
     (sound : (m : M) → meaning.is_machine code m → IsSoundStage (meaning.stage code m)) (entry : Entry) (note : is_note entry.kind ≡ true)
@@ -48,8 +60,9 @@ module _ {C V M : Type 0} (meaning : Meaning C V M) (code : C) (accepted : IsAcc
   none-there : replay_entry st.led entry ≡ None → replay (meaning.program code) (entries ++ entry ∷ []) ≡ None
   none-there e = undefined-there meaning code entries entry place st.led st.replayed st.shows calm e
 
-  fails : (why : Reason) → replay (meaning.program code) (entries ++ entry ∷ []) ≡ None → IsMet st.led entry why → FailsBy (meaning.program code) entries entry why
-  fails why none met = (none, (st.led, st.replayed, met))
+  fails : (why : Reason) → MeetsNoTall (meaning.program code) entries entry → replay (meaning.program code) (entries ++ entry ∷ []) ≡ None → IsMet st.led entry why
+      → FailsBy (meaning.program code) entries entry why
+  fails why low none met = (low, none, (st.led, st.replayed, met))
 
   on-side : (why : Reason) → MeetsReason (side_at entry.number st.led.state) st.led.state entry.number entry.fresh entry.steps why → IsMet st.led entry why
   on-side = met-on st.led entry (side_at entry.number st.led.state) (note-side entry.kind note entry.number st.led.state)
@@ -58,7 +71,8 @@ module _ {C V M : Type 0} (meaning : Meaning C V M) (code : C) (accepted : IsAcc
   noted-answer e =
       let a = answer-of entry.answer e in
       let none = none-there (as-kind ∙ ap (replay_kind entry.kind st.led entry.number entry.steps entry.fresh) a.1 ∙ note-answered st.led entry.number entry.steps entry.fresh a.0 entry.kind note) in
-      fails reason.Answered none e
+      fails reason.Answered
+      (meets-unbegun (meaning.program code) entries entry st.led st.replayed (λ begins. let clash : Some a.0 ≡ None = sym a.1 ∙ note-begins entry.kind note (is_inside st.led entry.number) entry.answer begins in cc)) none e
 
   module _ (quiet : entry.answer ≡ None) where
     as-quiet : replay_entry st.led entry ≡ replay_kind entry.kind st.led entry.number entry.steps entry.fresh None
@@ -67,7 +81,7 @@ module _ {C V M : Type 0} (meaning : Meaning C V M) (code : C) (accepted : IsAcc
     pub noted-none : None ≡ at place.members entry.number → FailsBy (meaning.program code) entries entry reason.NoMember
     noted-none none =
         let absent = subst (λ (o : Option M). ShowsMember meaning code (is_inside st.led entry.number) o (at st.led.state.members entry.number)) (sym none) (st.shows.members entry.number) in
-        fails reason.NoMember (none-there (as-quiet ∙ note-absent st.led entry.number entry.steps entry.fresh calm.idle absent entry.kind note)) absent
+        fails reason.NoMember (meets-nobody (meaning.program code) entries entry st.led st.replayed calm.idle absent) (none-there (as-quiet ∙ note-absent st.led entry.number entry.steps entry.fresh calm.idle absent entry.kind note)) absent
 
     module _ (machine : M) (found : Some machine ≡ at place.members entry.number) (copy : M) (good : meaning.is_machine code machine → meaning.is_machine code copy)
         (same : meaning.stage code machine ≡ meaning.stage code copy) where
@@ -118,14 +132,24 @@ module _ {C V M : Type 0} (meaning : Meaning C V M) (code : C) (accepted : IsAcc
               subst (RunsAlong meaning code st.led.state entry.number entry.fresh place.cells later m (side_at entry.number st.led.state) entry.steps) is
               (runs st.led.state entry.number (side_at entry.number st.led.state) 0 begins-note)
 
+          low-so : StaysLow (side_at entry.number st.led.state) entry.number entry.steps entry.fresh st.led.state → MeetsNoTall (meaning.program code) entries entry
+          low-so low =
+              meets-low (meaning.program code) entries entry st.led st.replayed (meaning.stage code machine).term calm.idle term
+              (subst (λ (z : Side). StaysLow z entry.number entry.steps entry.fresh st.led.state) (note-side entry.kind note entry.number st.led.state) low)
+
           pub noted-no-run : (why : Reason) → found_as ≡ walked.Undefined why → FailsBy (meaning.program code) entries entry why
           noted-no-run why is =
               let none = to (walked.Undefined why) is in
-              fails why
-              (none-there (as-quiet ∙ note-undefined st.led entry.number entry.steps entry.fresh (meaning.stage code machine).term calm.idle term entry.kind note none.0)) (on-side why none.1)
+              fails why (low-so none.0)
+              (none-there (as-quiet ∙ note-undefined st.led entry.number entry.steps entry.fresh (meaning.stage code machine).term calm.idle term entry.kind note none.1)) (on-side why none.2)
 
           pub noted-tall : found_as ≡ walked.Tall → (r : Replayed) × (replay (meaning.program code) entries ≡ Some r) × MeetsTall r entry
-          noted-tall is = (st.led, st.replayed, side-tall st.led entry (meaning.stage code machine).term calm.idle term (to walked.Tall is))
+          noted-tall is = (
+            st.led,
+            st.replayed,
+            side-tall st.led entry (meaning.stage code machine).term calm.idle term
+                (begins-note_so entry.kind note (is_inside st.led entry.number) entry.answer quiet) (note-side entry.kind note entry.number st.led.state) (to walked.Tall is),
+          )
 
           module _ (next : Wants) (is : found_as ≡ walked.Whole next) where
             whole : RunsAlong meaning code st.led.state entry.number entry.fresh place.cells later m (side_at entry.number st.led.state) entry.steps (walked.Whole next)
@@ -145,20 +169,26 @@ module _ {C V M : Type 0} (meaning : Meaning C V M) (code : C) (accepted : IsAcc
                 as-quiet ∙ note-is st.led entry.number entry.steps entry.fresh (meaning.stage code machine).term calm.idle term (meaning.stage code m) (sound m whole.0.walking.machine) next whole.2
                 whole.0.walking.going.now whole.0.walking.going.member whole.0.runs_on leads entry.kind note
 
-            pub noted-so : is_confirmed entry.kind next ≡ true → StandsForEntries meaning code (entries ++ entry ∷ []) place
-            noted-so so = record {
-              led = st.led;
-              replayed = behind-journal (meaning.program code) entries entry st.led st.replayed ∙ tells ∙ ap (λ (b : Bool). note_where b st.led) so;
-              shows = st.shows;
-              types = st.types;
-              typed = st.typed;
-              sorts = st.sorts;
-              below = λ most told. st.below most (all-front (λ (e : Entry). All (λ l. l < most) e.fresh) entries (entry ∷ []) told);
-            }
+            has-low : MeetsNoTall (meaning.program code) entries entry
+            has-low = low-so (walked-low meaning code sound st.led.state entry.number entry.fresh place.cells later m (side_at entry.number st.led.state) entry.steps whole.0)
+
+            pub noted-so : is_confirmed entry.kind next ≡ true → MeetsNoTall (meaning.program code) entries entry × StandsForEntries meaning code (entries ++ entry ∷ []) place
+            noted-so so = (
+              has-low,
+              record {
+                led = st.led;
+                replayed = behind-journal (meaning.program code) entries entry st.led st.replayed ∙ tells ∙ ap (λ (b : Bool). note_where b st.led) so;
+                shows = st.shows;
+                types = st.types;
+                typed = st.typed;
+                sorts = st.sorts;
+                below = λ most told. st.below most (all-front (λ (e : Entry). All (λ l. l < most) e.fresh) entries (entry ∷ []) told);
+              },
+            )
 
             pub noted-not : is_confirmed entry.kind next ≡ false → FailsBy (meaning.program code) entries entry (reason.Stops entry.steps next)
             noted-not wrong =
                 let least : entry.steps ≤ entry.steps = omega arith in
-                fails (reason.Stops entry.steps next) (none-there (tells ∙ ap (λ (b : Bool). note_where b st.led) wrong))
+                fails (reason.Stops entry.steps next) has-low (none-there (tells ∙ ap (λ (b : Bool). note_where b st.led) wrong))
                 (on-side (reason.Stops entry.steps next)
                 (stops-met meaning code sound st.led.state entry.number entry.fresh place.cells later m (side_at entry.number st.led.state) entry.steps whole.0 entry.steps least entry.steps (sym whole.0.counted) next whole.2))

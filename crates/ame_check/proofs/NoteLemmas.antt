@@ -13,7 +13,7 @@ use Rattle.ame_term.specs.State.{State, at_unprotected}
 use Rattle.ame_term.specs.declared.types.Unary.TheVariants as unary
 use Rattle.ame_term.specs.declared.semantics.Label.{Label}
 use Rattle.ame_journal.specs.Replayed.{Replayed, is_inside, has_such, is_at_unprotected, side_at, is_failing, is_tall, is_false_condition, coming_height, value_height}
-use Rattle.ame_journal.specs.Replay.{replay_kind, fragment, attempt, attempt_on, steps, locations, note_where}
+use Rattle.ame_journal.specs.Replay.{replay, replay_kind, fragment, attempt, attempt_on, steps, locations, note_where}
 use Rattle.ame_journal.specs.Totals.{is_note}
 use Rattle.ame_journal.specs.declared.entry.Entry.{Entry}
 use Rattle.ame_journal.specs.declared.entry.EntryKind.{EntryKind}
@@ -26,8 +26,9 @@ use Rattle.ame_machine.specs.declared.wants.Wants.{Wants}
 use Rattle.ame_machine.specs.declared.wants.Wants.TheVariants as wants
 use Rattle.ame_machine.proofs.NeedLemmas.{comes_as}
 use Rattle.ame_machine.proofs.LowLemmas.{tall-is}
-use Rattle.ame_check.specs.Walk.{begun_on, steps_on, ComesToTall}
-use Rattle.ame_check.specs.Entries.{MeetsTall, is_confirmed}
+use Rattle.ame_check.specs.Walk.{begun_on, steps_on, ComesToTall, StaysLow}
+use Rattle.ame_check.specs.Entries.{BeginsSteps, MeetsTall, MeetsNoTall, is_confirmed}
+use Rattle.ame_check.specs.Reasons.{entry_side}
 use Rattle.ame_check.proofs.EntryLemmas.{stands-as, fragment-calm, fragment-none}
 use Rattle.ame_check.proofs.RanLemmas.{no-fragment}
 
@@ -103,7 +104,7 @@ unblocked : (want : Wants) → (want ≡ wants.Block → ⊥) → is_confirmed E
 unblocked wants.Block a = absurd (a refl)
 unblocked _ a = refl
 
-untall : (want : Wants) → (want ≡ wants.Tall → ⊥) → is_confirmed EntryKind.Tall want ≡ false
+pub untall : (want : Wants) → (want ≡ wants.Tall → ⊥) → is_confirmed EntryKind.Tall want ≡ false
 untall wants.Tall a = absurd (a refl)
 untall _ a = refl
 
@@ -124,7 +125,7 @@ module _ (m : MachineView) (sound : IsSoundStage m) (want : Wants) (told : m.wan
   no-block : m.inside ≡ true → is_confirmed EntryKind.Stuck want ≡ false
   no-block in_it = unblocked want (λ is. let so = (comes_as m Need.Block (ap need_told (sym is) ∙ tells)).0 in let clash : true ≡ false = sym in_it ∙ so in cc)
 
-  height-is : (coming_height (running_side m) (focus m.term) == max_height + 1) ≡ is_confirmed EntryKind.Tall want
+  pub height-is : (coming_height (running_side m) (focus m.term) == max_height + 1) ≡ is_confirmed EntryKind.Tall want
   height-is = by (coming_height (running_side m) (focus m.term) == max_height + 1) refl
     where
       by : (b : Bool) → (coming_height (running_side m) (focus m.term) == max_height + 1) ≡ b → b ≡ is_confirmed EntryKind.Tall want
@@ -217,8 +218,11 @@ note-answered r i n fresh a EntryKind.Free note = cc
 note-answered r i n fresh a _ note = refl
 
 pub side-tall : (r : Replayed) (entry : Entry) (term : Tree) → r.state.active ≡ None → at r.state.members entry.number ≡ Some term
+    → BeginsSteps entry.kind (is_inside r entry.number) entry.answer → side_at entry.number r.state ≡ entry_side entry.kind entry.number r.state
     → ComesToTall (side_at entry.number r.state) entry.number entry.steps entry.fresh r.state → MeetsTall r entry
-side-tall r entry term idle member c = record {
+side-tall r entry term idle member begins side c = record {
+  begins = begins;
+  side = side;
   made = c.made;
   below = c.below;
   used = c.used;
@@ -228,6 +232,45 @@ side-tall r entry term idle member c = record {
   leads = attempt-is r.state entry.number c.made c.used term idle member ∙ c.leads;
   tall = c.tall;
 }
+
+-- Where an entry meets no tall form
+
+module _ (program : Tree) (entries : List Entry) (entry : Entry) (r : Replayed) (replayed : replay program entries ≡ Some r) where
+  -- where its steps aren't begun
+  pub meets-unbegun : (BeginsSteps entry.kind (is_inside r entry.number) entry.answer → ⊥) → MeetsNoTall program entries entry
+  meets-unbegun never t e tall =
+      let same : r ≡ t = (let both : Some r ≡ Some t = sym replayed ∙ e in cc) in
+      never (subst (λ (z : Replayed). BeginsSteps entry.kind (is_inside z entry.number) entry.answer) (sym same) tall.begins)
+
+  -- where there is no such member
+  pub meets-nobody : r.state.active ≡ None → at r.state.members entry.number ≡ None → MeetsNoTall program entries entry
+  meets-nobody idle none t e tall =
+      let same : r ≡ t = (let both : Some r ≡ Some t = sym replayed ∙ e in cc) in
+      let here = subst (λ (z : Replayed). attempt entry.number tall.made tall.used z.state ≡ Some tall.there) (sym same) tall.leads in
+      let side : side_at entry.number r.state ≡ Side.Protected = ap side_told (ap (has_such (λ (t : Tree). at_unprotected (focus t))) none) in
+      let nowhere : attempt entry.number tall.made tall.used r.state ≡ None =
+      ap (λ (z : Side). attempt_on z entry.number tall.made tall.used r.state) side ∙ no-fragment r.state entry.number tall.made tall.used idle none in
+      let clash : None ≡ Some tall.there = sym nowhere ∙ here in
+      cc
+
+  -- where its steps pass none
+  pub meets-low : (term : Tree) → r.state.active ≡ None → at r.state.members entry.number ≡ Some term
+      → StaysLow (entry_side entry.kind entry.number r.state) entry.number entry.steps entry.fresh r.state → MeetsNoTall program entries entry
+  meets-low term idle member low t e tall =
+      let same : r ≡ t = (let both : Some r ≡ Some t = sym replayed ∙ e in cc) in
+      here (subst (λ (z : Replayed). MeetsTall z entry) (sym same) tall)
+    where
+      here : MeetsTall r entry → ⊥
+      here tall = low (subst (λ (z : Side). ComesToTall z entry.number entry.steps entry.fresh r.state) tall.side (record {
+        made = tall.made;
+        below = tall.below;
+        used = tall.used;
+        rest = tall.rest;
+        front = tall.front;
+        there = tall.there;
+        leads = sym (attempt-is r.state entry.number tall.made tall.used term idle member) ∙ tall.leads;
+        tall = tall.tall;
+      }))
 
 -- How a note's machine begins
 

@@ -16,7 +16,10 @@ use Rattle.ame_machine.specs.declared.wants.Wants.{Wants}
 use Rattle.ame_machine.specs.declared.wants.Wants.TheVariants as wants
 use Rattle.ame_check.specs.Shows.{ReplayView, ShowsMember, StandsForEntries}
 use Rattle.ame_check.specs.Walked.{IsAtStep, RunsAlong}
-use Rattle.ame_check.specs.Entries.{MeetsTall}
+use Rattle.ame_check.specs.Entries.{BeginsSteps, MeetsTall, MeetsNoTall}
+use Rattle.ame_check.specs.Walk.{StaysLow}
+use Rattle.ame_check.proofs.NoteLemmas.{meets-unbegun, meets-nobody, meets-low}
+use Rattle.ame_check.proofs.WantLemmas.{walked-low}
 use Rattle.ame_check.specs.Reasons.{MeetsReason, IsMet, entry_side}
 use Rattle.ame_check.specs.declared.reason.Reason.{Reason}
 use Rattle.ame_check.specs.declared.reason.Reason.TheVariants as reason
@@ -37,8 +40,16 @@ module _ {C V M : Type 0} (meaning : Meaning C V M) (code : C) (accepted : IsAcc
   answer-of None e = cc
   answer-of (Some n) e = (n, refl)
 
-  fails : (why : Reason) → replay (meaning.program code) (entries ++ entry ∷ []) ≡ None → IsMet st.led entry why → FailsBy (meaning.program code) entries entry why
-  fails why none met = (none, (st.led, st.replayed, met))
+  fails : (why : Reason) → MeetsNoTall (meaning.program code) entries entry → replay (meaning.program code) (entries ++ entry ∷ []) ≡ None → IsMet st.led entry why
+      → FailsBy (meaning.program code) entries entry why
+  fails why low none met = (low, none, (st.led, st.replayed, met))
+
+  begins-as : (P : EntryKind → Type 0) → P entry.kind → P EntryKind.Ran
+  begins-as P is = subst P kind is
+
+  -- its steps are begun outside alone, without an answer
+  begun-so : BeginsSteps entry.kind (is_inside st.led entry.number) entry.answer → (is_inside st.led entry.number ≡ false) × (entry.answer ≡ None)
+  begun-so = begins-as (λ (z : EntryKind). BeginsSteps z (is_inside st.led entry.number) entry.answer)
 
   on-side : (why : Reason) → MeetsReason Side.Protected st.led.state entry.number entry.fresh entry.steps why → IsMet st.led entry why
   on-side = met-on st.led entry Side.Protected (ap (λ (z : EntryKind). entry_side z entry.number st.led.state) (sym kind))
@@ -46,12 +57,13 @@ module _ {C V M : Type 0} (meaning : Meaning C V M) (code : C) (accepted : IsAcc
   pub has-answer : is_some entry.answer ≡ true → FailsBy (meaning.program code) entries entry reason.Answered
   has-answer e =
       let a = answer-of entry.answer e in
-      fails reason.Answered (undefined-there meaning code entries entry place st.led st.replayed st.shows calm (ran-answered st.led entry a.0 kind a.1)) e
+      fails reason.Answered
+      (meets-unbegun (meaning.program code) entries entry st.led st.replayed (λ begins. let clash : Some a.0 ≡ None = sym a.1 ∙ (begun-so begins).1 in cc)) (undefined-there meaning code entries entry place st.led st.replayed st.shows calm (ran-answered st.led entry a.0 kind a.1)) e
 
   pub has-none : None ≡ at place.members entry.number → FailsBy (meaning.program code) entries entry reason.NoMember
   has-none none =
       let absent = subst (λ (o : Option M). ShowsMember meaning code (is_inside st.led entry.number) o (at st.led.state.members entry.number)) (sym none) (st.shows.members entry.number) in
-      fails reason.NoMember (undefined-there meaning code entries entry place st.led st.replayed st.shows calm (ran-absent st.led entry calm.idle kind absent)) absent
+      fails reason.NoMember (meets-nobody (meaning.program code) entries entry st.led st.replayed calm.idle absent) (undefined-there meaning code entries entry place st.led st.replayed st.shows calm (ran-absent st.led entry calm.idle kind absent)) absent
 
   module _ (machine : M) (found : Some machine ≡ at place.members entry.number) where
     term : at st.led.state.members entry.number ≡ Some (meaning.stage code machine).term
@@ -63,7 +75,8 @@ module _ {C V M : Type 0} (meaning : Meaning C V M) (code : C) (accepted : IsAcc
     pub goes-on_inside : (meaning.stage code machine).inside ≡ true → FailsBy (meaning.program code) entries entry reason.Inside
     goes-on_inside flag =
         let inside = sym (ap (λ (z : MachineView). z.inside) rest) ∙ flag in
-        fails reason.Inside (undefined-there meaning code entries entry place st.led st.replayed st.shows calm (ran-inside st.led entry kind inside)) (kind, inside)
+        fails reason.Inside
+        (meets-unbegun (meaning.program code) entries entry st.led st.replayed (λ begins. let clash : true ≡ false = sym inside ∙ (begun-so begins).0 in cc)) (undefined-there meaning code entries entry place st.led st.replayed st.shows calm (ran-inside st.led entry kind inside)) (kind, inside)
 
     module _ (flag : (meaning.stage code machine).inside ≡ false) (overlay : List (ℕ × Stored V)) (empty : overlay ≡ []) where
       pub begins-ran : IsAtStep meaning code st.led.state entry.number entry.fresh place.cells overlay machine Side.Protected 0
@@ -86,22 +99,37 @@ module _ {C V M : Type 0} (meaning : Meaning C V M) (code : C) (accepted : IsAcc
         early : entry.number < st.led.state.next
         early = is-early meaning code entries place st.led st.replayed st.shows entry.number machine found
 
+        low-so : StaysLow Side.Protected entry.number entry.steps entry.fresh st.led.state → MeetsNoTall (meaning.program code) entries entry
+        low-so low =
+            meets-low (meaning.program code) entries entry st.led st.replayed (meaning.stage code machine).term calm.idle term
+            (subst (λ (z : EntryKind). StaysLow (entry_side z entry.number st.led.state) entry.number entry.steps entry.fresh st.led.state) (sym kind) low)
+
         pub has-no-run : (why : Reason) → found_as ≡ walked.Undefined why → FailsBy (meaning.program code) entries entry why
         has-no-run why is =
             let none = to (walked.Undefined why) is in
-            fails why (ran-undefined meaning code entries entry place st.led st.replayed st.shows calm machine found term early st.below kind quiet outside none.0) (on-side why none.1)
+            fails why (low-so none.0)
+            (ran-undefined meaning code entries entry place st.led st.replayed st.shows calm machine found term early st.below kind quiet outside none.1) (on-side why none.2)
 
         pub has-tall : found_as ≡ walked.Tall → (r : Replayed) × (replay (meaning.program code) entries ≡ Some r) × MeetsTall r entry
-        has-tall is = (st.led, st.replayed, protected-tall st.led entry (meaning.stage code machine).term calm.idle term (to walked.Tall is))
+        has-tall is = (
+          st.led,
+          st.replayed,
+          protected-tall st.led entry (meaning.stage code machine).term calm.idle term
+              (subst (λ (z : EntryKind). BeginsSteps z (is_inside st.led entry.number) entry.answer) (sym kind) (outside, quiet))
+              (ap (λ (z : EntryKind). entry_side z entry.number st.led.state) kind) (to walked.Tall is),
+        )
 
         module _ (want : Wants) (is : found_as ≡ walked.Whole want) where
           whole : RunsAlong meaning code st.led.state entry.number entry.fresh place.cells later m Side.Protected entry.steps (walked.Whole want)
           whole = to (walked.Whole want) is
 
+          pub has-low : MeetsNoTall (meaning.program code) entries entry
+          has-low = low-so (walked-low meaning code sound st.led.state entry.number entry.fresh place.cells later m Side.Protected entry.steps whole.0)
+
           pub has-other-want : (want ≡ wants.Done → ⊥) → (want ≡ wants.Leave → ⊥) → FailsBy (meaning.program code) entries entry (reason.Stops entry.steps want)
           has-other-want done left =
               let least : entry.steps ≤ entry.steps = omega arith in
-              fails (reason.Stops entry.steps want)
+              fails (reason.Stops entry.steps want) has-low
               (ran-neither meaning code entries entry place st.led st.replayed st.shows calm machine found term early st.below kind quiet outside later m whole.0 whole.1 (sound m whole.0.walking.machine) want whole.2 done left)
               (on-side (reason.Stops entry.steps want)
               (stops-met meaning code sound st.led.state entry.number entry.fresh place.cells later m Side.Protected entry.steps whole.0 entry.steps least entry.steps (sym whole.0.counted) want whole.2))
@@ -109,17 +137,22 @@ module _ {C V M : Type 0} (meaning : Meaning C V M) (code : C) (accepted : IsAcc
           module _ (machines : List (ℕ × M)) (gone : at machines entry.number ≡ None) (others : (k : ℕ) → (k ≡ entry.number → ⊥) → at machines k ≡ at place.members k)
               (cells : List (ℕ × Stored V)) (merged : (l : ℕ) → at cells l ≡ or_else (at later l) (at place.cells l)) (output : List ℤ) (printed : output ≡ place.output ++ (meaning.stage code m).prints)
               (kept : M) (number : ℕ) (last : List (ℕ × M)) (adopts : AdoptsAll meaning code machines place.next m last number kept) where
-            pub ended-so : want ≡ wants.Done → StandsForEntries meaning code (entries ++ entry ∷ []) (record { cells = cells; members = last; output = output; next = number })
-            ended-so done =
-                ran-ended meaning code entries entry place st.led st.replayed st.shows calm machine found term early st.below kind quiet outside later m whole.0 whole.1 (sound m whole.0.walking.machine)
-                machines gone others cells merged output printed kept number last adopts (whole.2 ∙ ap (λ (w : Wants). Some w) done)
+            pub ended-so : want ≡ wants.Done
+                → MeetsNoTall (meaning.program code) entries entry × StandsForEntries meaning code (entries ++ entry ∷ []) (record { cells = cells; members = last; output = output; next = number })
+            ended-so done = (
+              has-low,
+              ran-ended meaning code entries entry place st.led st.replayed st.shows calm machine found term early st.below kind quiet outside later m whole.0 whole.1 (sound m whole.0.walking.machine)
+                  machines gone others cells merged output printed kept number last adopts (whole.2 ∙ ap (λ (w : Wants). Some w) done),
+            )
 
             pub left-so : want ≡ wants.Leave → (back : M) → (meaning.is_machine code kept → meaning.is_machine code back) → meaning.stage code back ≡ settled_stage (meaning.stage code kept)
                 → (members : List (ℕ × M)) → members ≡ put last entry.number back
-                → StandsForEntries meaning code (entries ++ entry ∷ []) (record { cells = cells; members = members; output = output; next = number })
-            left-so left back good settled members put_back =
-                ran-left meaning code entries entry place st.led st.replayed st.shows calm machine found term early st.below kind quiet outside later m whole.0 whole.1 (sound m whole.0.walking.machine)
-                machines gone others cells merged output printed kept number last adopts (whole.2 ∙ ap (λ (w : Wants). Some w) left) back good settled members put_back
+                → MeetsNoTall (meaning.program code) entries entry × StandsForEntries meaning code (entries ++ entry ∷ []) (record { cells = cells; members = members; output = output; next = number })
+            left-so left back good settled members put_back = (
+              has-low,
+              ran-left meaning code entries entry place st.led st.replayed st.shows calm machine found term early st.below kind quiet outside later m whole.0 whole.1 (sound m whole.0.walking.machine)
+                  machines gone others cells merged output printed kept number last adopts (whole.2 ∙ ap (λ (w : Wants). Some w) left) back good settled members put_back,
+            )
 
 -- no answer
 pub quiet-of : (o : Option ℤ) → is_some o ≡ false → o ≡ None

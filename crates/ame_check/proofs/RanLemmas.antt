@@ -29,7 +29,8 @@ use Rattle.ame_check.proofs.SortLemmas.{sorts-grow, sorts-merged, below-merged}
 use Rattle.ame_check.specs.Shows.{HaveSorts, AreBelow, TellBelow, ReplayView, Shows, ShowsMembers, StandsForEntries, Adopts}
 use Rattle.ame_check.specs.Walk.{active_on, begun_on, steps_on, IsStepping, ComesToTall}
 use Rattle.ame_check.specs.Walked.{place_with, IsAtStep}
-use Rattle.ame_check.specs.Entries.{MeetsTall}
+use Rattle.ame_check.specs.Entries.{BeginsSteps, MeetsTall}
+use Rattle.ame_check.specs.Reasons.{entry_side}
 use Rattle.ame_check.proofs.EntryLemmas.{behind-journal, stands-as, fragment-calm, no-steps, can-leave, can-end, left-is, ended-is, neither-is, ran-entry, whole-leads}
 use Rattle.ame_check.proofs.MadeLemmas.{rest_of, shows-rest, outside-next, shows-store, shows-output, shows-next, shows-ended, shows-back, entering-other, entering-own}
 use Rattle.ame_check.specs.declared.stored.Stored.{Stored}
@@ -60,8 +61,9 @@ low-there (Focus.AtRedex Side.Protected _) e = cc
 
 -- A protected walk that comes to a tall form is the entry's
 pub protected-tall : (r : Replayed) (entry : Entry) (term : Tree) → r.state.active ≡ None → at r.state.members entry.number ≡ Some term
+    → BeginsSteps entry.kind (is_inside r entry.number) entry.answer → entry_side entry.kind entry.number r.state ≡ Side.Protected
     → ComesToTall Side.Protected entry.number entry.steps entry.fresh r.state → MeetsTall r entry
-protected-tall r entry term idle member c = by (at_unprotected (focus term)) refl
+protected-tall r entry term idle member begins its_side c = by (at_unprotected (focus term)) refl
   where
     i : ℕ
     i = entry.number
@@ -84,6 +86,8 @@ protected-tall r entry term idle member c = by (at_unprotected (focus term)) ref
     by false calm =
         let on : side_at entry.number r.state ≡ Side.Protected = ap side_told (stands-as r.state entry.number idle term member ∙ calm) in
         record {
+          begins = begins;
+          side = on ∙ sym its_side;
           made = c.made;
           below = c.below;
           used = c.used;

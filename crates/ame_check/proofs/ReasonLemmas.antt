@@ -19,6 +19,7 @@ use Rattle.ame_machine.specs.declared.wants.Wants.{Wants}
 use Rattle.ame_machine.specs.declared.wants.Wants.TheVariants as wants
 use Rattle.ame_check.specs.Reasons.{is_unprotected_side, ComesAt, MeetsReason, IsMet, entry_side}
 use Rattle.ame_check.specs.Visit.{VisitMeets}
+use Rattle.ame_check.specs.Entries.{MeetsNoTall}
 use Rattle.ame_check.specs.Walked.{place_with, Allocates, WantsAnswer, IsAtStep}
 use Rattle.ame_check.specs.declared.reason.Reason.{Reason}
 use Rattle.ame_check.specs.declared.reason.Reason.TheVariants as reason
@@ -139,9 +140,10 @@ meets-later side s i fresh few many within reason.Outside met = absurd met
 meets-later side s i fresh few many within reason.NoSteps met = absurd met
 meets-later side s i fresh few many within reason.Answered met = absurd met
 
--- a journal ends at an entry that can't be made, for a reason that the entry meets
+-- a journal ends at an entry that can't be made, for a reason that the entry meets, and it meets no tall form
 abbrev pub FailsBy : Tree → List Entry → Entry → Reason → Type 0
-FailsBy program entries entry why = (replay program (entries ++ entry ∷ []) ≡ None) × ((r : Replayed) × (replay program entries ≡ Some r) × IsMet r entry why)
+FailsBy program entries entry why =
+    MeetsNoTall program entries entry × (replay program (entries ++ entry ∷ []) ≡ None) × ((r : Replayed) × (replay program entries ≡ Some r) × IsMet r entry why)
 
 pub note-side : (kind : EntryKind) → is_note kind ≡ true → (i : ℕ) (s : State) → side_at i s ≡ entry_side kind i s
 note-side EntryKind.Ran note i s = cc

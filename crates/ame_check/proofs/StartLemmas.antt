@@ -76,6 +76,7 @@ going-begins devices types s i side term member typed orderly standing m at_term
       let none : 0 + left ≡ left = omega arith in
       ap (λ (k : ℕ). steps_on side i k (m.fresh ++ rest) answer (begun_on side i s)) none
       ∙ ap (λ (xs : List ℕ). steps_on side i left (xs ++ rest) answer (begun_on side i s)) fresh;
+  low = λ more c. let none : c.made < 0 = c.below in omega arith;
 }
 
 module _ {C V M : Type 0} (meaning : Meaning C V M) (code : C) where

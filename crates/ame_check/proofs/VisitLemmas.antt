@@ -374,10 +374,10 @@ tall-last s i fresh few many within c = record {
 -- where the steps before the last can't be made
 pub none-before : (s : State) (i : ℕ) (fresh : List ℕ) (n : ℕ) (answer : Option ℤ) → IsNoWalk Side.Unprotected i n fresh s
     → (visiting i (n + 1) fresh answer s ≡ None) × (closing i n fresh answer s ≡ None)
-none-before s i fresh n answer never = (never (n + 1) answer (omega arith) (λ e. absurd (omega arith)), by answer)
+none-before s i fresh n answer never = (never.never (n + 1) answer (omega arith) (λ e. absurd (omega arith)), by answer)
   where
     by : (o : Option ℤ) → closing i n fresh o s ≡ None
-    by None = ap (option_and_then (λ t. after t (Label.Close i))) (never n None (omega arith) (λ e. refl))
+    by None = ap (option_and_then (λ t. after t (Label.Close i))) (never.never n None (omega arith) (λ e. refl))
     by (Some x) = refl
 
 -- the steps of a walk are those that its machine counted

@@ -11,7 +11,7 @@ use Rattle.ame_laws.specs.Typed.TypedAct.{IsTypedAct}
 use Rattle.ame_laws.specs.Typed.TypedState.{IsMember}
 use Rattle.ame_laws.proofs.MapLemmas.{each-at}
 use Rattle.ame_term.specs.Height.{max_height}
-use Rattle.ame_journal.specs.Replayed.{has_such, coming_height}
+use Rattle.ame_journal.specs.Replayed.{has_such, coming_height, is_tall}
 use Rattle.ame_machine.proofs.LowLemmas.{tall-is}
 use Rattle.std.proofs.lemmas.Bool.{eq-eqb}
 use Rattle.ame_term.specs.Maps.{at, put}
@@ -33,11 +33,13 @@ use Rattle.ame_machine.specs.declared.wants.Wants.TheVariants as wants
 use Rattle.ame_machine.proofs.NeedLemmas.{comes_as}
 use Rattle.ame_laws.specs.Typed.StoreTyping.{StoreTyping}
 use Rattle.ame_check.specs.Shows.{ShowsCells, HaveSorts, AreBelow}
-use Rattle.ame_check.specs.Walk.{IsNoWalk, Halts, ComesToTall, steps_on, begun_on}
+use Rattle.ame_check.specs.Walk.{IsNoWalk, ComesToTall, StaysLow, steps_on, begun_on}
 use Rattle.ame_check.specs.Walked.{place_with, Looks, Allocates, IsWalking, IsAtStep}
 use Rattle.ame_check.proofs.FedLemmas.{IsFedOn, fed-read, fed-peek, fed-write, fed-alloc, fed-spawn, fed-print, shows-put, shown-some, shown-none}
+use Rattle.ame_check.proofs.TallLemmas.{low-more}
+use Rattle.ame_check.proofs.NoteLemmas.{height-is, untall}
 use Rattle.ame_check.proofs.SortLemmas.{member-act, sort-found, sorts-grow, sorts-put, below-found, below-put, all-behind}
-use Rattle.ame_check.proofs.HaltLemmas.{halts-no_walk, halts-absent, halts-out, halts-taken, halts-value, halts-unprotected, halts-failing, halts-closing, halts-device}
+use Rattle.ame_check.proofs.HaltLemmas.{HaltsBy, halts-no_walk, halts-absent, halts-by_out, halts-by_taken, halts-value, halts-unprotected, halts-failing, halts-closing, halts-device}
 use Rattle.ame_check.specs.declared.stored.Stored.{Stored}
 
 -- wants at which no step is made with what a walk can give
@@ -70,13 +72,24 @@ module _ {C V M : Type 0} (meaning : Meaning C V M) (code : C) (sound : (m : M) 
   pub coming : (want : Wants) → (meaning.stage code m).want ≡ Some want → Comes (meaning.stage code m) (need_told want)
   coming want told = comes_as (meaning.stage code m) (need_told want) ((sound m w.machine).told want told)
 
+  -- where it wants anything else it isn't at a form that would become a value that is too high
+  pub low-at : (want : Wants) → (meaning.stage code m).want ≡ Some want → (want ≡ wants.Tall → ⊥) → is_tall (running_side (meaning.stage code m)) i w.going.now ≡ true → ⊥
+  low-at want told other tall =
+      let low : is_tall (running_side (meaning.stage code m)) i w.going.now ≡ false =
+      ap (has_such (λ (term : Tree). coming_height (running_side (meaning.stage code m)) (focus term) == max_height + 1)) w.going.member
+      ∙ height-is (meaning.stage code m) (sound m w.machine) want told ∙ untall want other in
+      let clash : true ≡ false = sym tall ∙ low in
+      cc
+
   -- a walk that can't go on here
-  pub stopped : Halts (running_side (meaning.stage code m)) i w.going.now w.rest → (total : ℕ) → n < total → IsNoWalk side i total fresh s
-  stopped halts total below =
+  stopped : (want : Wants) → (meaning.stage code m).want ≡ Some want → (want ≡ wants.Tall → ⊥) → HaltsBy (running_side (meaning.stage code m)) i w.going.now w.rest
+      → (total : ℕ) → n < total → IsNoWalk side i total fresh s
+  stopped want told other halts total below =
       let count : (meaning.stage code m).steps ≡ n = a.counted in
       let under : (meaning.stage code m).steps < total = omega arith in
       subst (λ (z : Side). IsNoWalk z i total fresh s) a.runs_on
-      (halts-no_walk (meaning.devices code) s i (running_side (meaning.stage code m)) (place_with w.sets (meaning.stage code m)) (meaning.stage code m).steps w.going fresh w.rest w.front halts total under)
+      (halts-no_walk (meaning.devices code) s i (running_side (meaning.stage code m)) (place_with w.sets (meaning.stage code m)) (meaning.stage code m).steps w.going fresh w.rest w.front
+      (low-at want told other) halts total under)
 
   -- the walk after a step
   next : (P : StoreTyping → Type 0) (later : List (ℕ × Val)) (laid_later : List (ℕ × Stored V)) (o : M) (plain : Tree × LocalState)
@@ -118,12 +131,12 @@ module _ {C V M : Type 0} (meaning : Meaning C V M) (code : C) (sound : (m : M) 
       → meaning.is_machine code o → after_input (meaning.stage code m).want shown (meaning.stage code m) ≡ Some (meaning.stage code o) → IsAtStep meaning code s i fresh cells overlay o side (n + 1)
   look-taken l v shown o (inl told) is same good e =
       let has = (shown-some meaning code (at overlay l.0) (at cells l.0) (at w.sets l.0) (at s.store l.0) v (w.laid l.0) (w.store l.0) is).1 ∙ ap (λ (z : Val). Some z) same in
-      unset _ o _ (fed-read (meaning.devices code) s i w.sets (meaning.stage code m) (meaning.stage code o) w.going l.0 shown (coming (wants.Read l) told) (at_want o (wants.Read l) shown told e) has)
+      unset _ o _ (fed-read (meaning.devices code) s i w.sets (meaning.stage code m) (meaning.stage code o) w.going (low-at (wants.Read l) told (λ e. cc)) l.0 shown (coming (wants.Read l) told) (at_want o (wants.Read l) shown told e) has)
       good w.front
   look-taken l v shown o (inr told) is same good e =
       let has = (shown-some meaning code (at overlay l.0) (at cells l.0) (at w.sets l.0) (at s.store l.0) v (w.laid l.0) (w.store l.0) is).1 ∙ ap (λ (z : Val). Some z) same in
       let comes = coming (wants.Peek l) told in
-      unset _ o _ (fed-peek (meaning.devices code) s i w.sets (meaning.stage code m) (meaning.stage code o) w.going l.0 shown comes.0 comes.1 (at_want o (wants.Peek l) shown told e) has)
+      unset _ o _ (fed-peek (meaning.devices code) s i w.sets (meaning.stage code m) (meaning.stage code o) w.going (low-at (wants.Peek l) told (λ e. cc)) l.0 shown comes.0 comes.1 (at_want o (wants.Peek l) shown told e) has)
       good w.front
 
   -- what the state has at a location where nothing was set and nothing is
@@ -133,14 +146,14 @@ module _ {C V M : Type 0} (meaning : Meaning C V M) (code : C) (sound : (m : M) 
       (none.0, none.1, w.going.after_run.stored l ∙ ap (λ (o : Option Val). or_else o (at s.store l)) none.0 ∙ none.1)
 
   absent : (l : ℕ) (act : Act) → HasNextAct (meaning.stage code m) act → (act ≡ Act.Reads l) ⊎ (act ≡ Act.Peeks l) → None ≡ or_else (at overlay l) (at cells l)
-      → Halts (running_side (meaning.stage code m)) i w.going.now w.rest
-  absent l act there reads is =
-      halts-absent (running_side (meaning.stage code m)) i w.going.now (meaning.stage code m).term w.going.member w.going.active w.rest l there.0 there.1
+      → HaltsBy (running_side (meaning.stage code m)) i w.going.now w.rest
+  absent l act there reads is used more e =
+      halts-absent (running_side (meaning.stage code m)) i w.going.now (meaning.stage code m).term w.going.member w.going.active used l there.0 there.1
       (subst (λ (z : Act). (z ≡ Act.Reads l) ⊎ (z ≡ Act.Peeks l)) (sym there.2) reads) (nothing_there l is).2
 
   pub look-stopped : (l : Loc) → Looks l (meaning.stage code m).want → None ≡ or_else (at overlay l.0) (at cells l.0) → (total : ℕ) → n < total → IsNoWalk side i total fresh s
-  look-stopped l (inl told) is = stopped (absent l.0 (Act.Reads l.0) (coming (wants.Read l) told) (inl refl) is)
-  look-stopped l (inr told) is = stopped (absent l.0 (Act.Peeks l.0) (coming (wants.Peek l) told).1 (inr refl) is)
+  look-stopped l (inl told) is = stopped (wants.Read l) told (λ e. cc) (absent l.0 (Act.Reads l.0) (coming (wants.Read l) told) (inl refl) is)
+  look-stopped l (inr told) is = stopped (wants.Peek l) told (λ e. cc) (absent l.0 (Act.Peeks l.0) (coming (wants.Peek l) told).1 (inr refl) is)
 
   -- A value that is set
 
@@ -165,7 +178,7 @@ module _ {C V M : Type 0} (meaning : Meaning C V M) (code : C) (sound : (m : M) 
       let comes = coming (wants.Write l) told in
       let lends = set-of (Act.Writes l.0 comes.0) comes.1 ∙ refl in
       let one : comes.0 ≡ meaning.value_of code v = (let both : ◌≡◌ {A = Option Val} (Some comes.0) (Some (meaning.value_of code v)) = sym lends ∙ lent in cc) in
-      let f = fed-write (meaning.devices code) s i w.sets (meaning.stage code m) (meaning.stage code o) w.going l.0 comes.0 comes.1 (at_want o (wants.Write l) Val.Unit told e) in
+      let f = fed-write (meaning.devices code) s i w.sets (meaning.stage code m) (meaning.stage code o) w.going (low-at (wants.Write l) told (λ e. cc)) l.0 comes.0 comes.1 (at_want o (wants.Write l) Val.Unit told e) in
       let cell = record at_place { value = c } in
       let has = sort-found w.types overlay cells l.0 at_place w.sorts_set w.sorts is_there in
       next _ (put w.sets l.0 comes.0) laid_later o _ f
@@ -187,16 +200,16 @@ module _ {C V M : Type 0} (meaning : Meaning C V M) (code : C) (sound : (m : M) 
   pub allocate-out : Allocates (meaning.stage code m).want → w.rest ≡ [] → (total : ℕ) → n < total → IsNoWalk side i total fresh s
   allocate-out (sort, number, told) none =
       let comes = coming (wants.Alloc sort number) told in
-      stopped (subst (λ (z : List ℕ). Halts (running_side (meaning.stage code m)) i w.going.now z) (sym none)
-      (halts-out (running_side (meaning.stage code m)) i w.going.now sort comes.0 (act-there (Act.Allocates sort comes.0) comes.1)))
+      stopped (wants.Alloc sort number) told (λ e. cc) (subst (λ (z : List ℕ). HaltsBy (running_side (meaning.stage code m)) i w.going.now z) (sym none)
+      (halts-by_out (running_side (meaning.stage code m)) i w.going.now sort comes.0 (act-there (Act.Allocates sort comes.0) comes.1)))
 
   pub allocate-taken_place : (l : ℕ) (more : List ℕ) (v : Stored V) → Allocates (meaning.stage code m).want → w.rest ≡ l ∷ more → Some v ≡ or_else (at overlay l) (at cells l)
       → (total : ℕ) → n < total → IsNoWalk side i total fresh s
   allocate-taken_place l more v (sort, number, told) front is =
       let comes = coming (wants.Alloc sort number) told in
       let has = (shown-some meaning code (at overlay l) (at cells l) (at w.sets l) (at s.store l) v (w.laid l) (w.store l) is).1 in
-      stopped (subst (λ (z : List ℕ). Halts (running_side (meaning.stage code m)) i w.going.now z) (sym front)
-      (halts-taken (running_side (meaning.stage code m)) i w.going.now sort comes.0 (meaning.value_of code v.value) l more w.going.active (act-there (Act.Allocates sort comes.0) comes.1)
+      stopped (wants.Alloc sort number) told (λ e. cc) (subst (λ (z : List ℕ). HaltsBy (running_side (meaning.stage code m)) i w.going.now z) (sym front)
+      (halts-by_taken (running_side (meaning.stage code m)) i w.going.now sort comes.0 (meaning.value_of code v.value) l more w.going.active (act-there (Act.Allocates sort comes.0) comes.1)
       (w.going.after_run.stored l ∙ has)))
 
   pub allocate-made : (sort : Sort) (number : TyNo) (l : Loc) (more : List ℕ) (v c : V) (o : M) → (meaning.stage code m).want ≡ Some (wants.Alloc sort number) → w.rest ≡ l.0 ∷ more → None ≡ or_else (at overlay l.0) (at cells l.0)
@@ -208,7 +221,7 @@ module _ {C V M : Type 0} (meaning : Meaning C V M) (code : C) (sound : (m : M) 
       let lends = set-of (Act.Allocates sort comes.0) comes.1 ∙ refl in
       let one : comes.0 ≡ meaning.value_of code v = (let both : ◌≡◌ {A = Option Val} (Some comes.0) (Some (meaning.value_of code v)) = sym lends ∙ lent in cc) in
       let free = nothing_there l.0 none in
-      let f = fed-alloc (meaning.devices code) s i w.sets (meaning.stage code m) (meaning.stage code o) w.going sort l.0 comes.0 comes.1 (at_want o (wants.Alloc sort number) (Val.Loc l.0) told e) free.0 free.1 in
+      let f = fed-alloc (meaning.devices code) s i w.sets (meaning.stage code m) (meaning.stage code o) w.going (low-at (wants.Alloc sort number) told (λ e. cc)) sort l.0 comes.0 comes.1 (at_want o (wants.Alloc sort number) (Val.Loc l.0) told e) free.0 free.1 in
       let cell : Stored V = record { sort = sort; number = number; value = c } in
       next _ (put w.sets l.0 comes.0) laid_later o _ f
       good (subst (λ (z : List (ℕ × Stored V)). ShowsCells meaning code z (put w.sets l.0 comes.0)) (sym is) (shows-put meaning code overlay w.sets l.0 cell comes.0 w.laid good_value (sym same ∙ sym one)))
@@ -228,35 +241,50 @@ module _ {C V M : Type 0} (meaning : Meaning C V M) (code : C) (sound : (m : M) 
       → after_input (meaning.stage code m).want Val.Unit (meaning.stage code m) ≡ Some (meaning.stage code o) → IsAtStep meaning code s i fresh cells overlay o side (n + 1)
   accepted-spawn o told good e =
       let comes = coming wants.Spawn told in
-      unset _ o _ (fed-spawn (meaning.devices code) s i w.sets (meaning.stage code m) (meaning.stage code o) w.going comes.1.0 comes.0 comes.1.1 (at_want o wants.Spawn Val.Unit told e)) good w.front
+      unset _ o _ (fed-spawn (meaning.devices code) s i w.sets (meaning.stage code m) (meaning.stage code o) w.going (low-at wants.Spawn told (λ e. cc)) comes.1.0 comes.0 comes.1.1 (at_want o wants.Spawn Val.Unit told e)) good w.front
 
   pub accepted-print : (number : ℤ) (o : M) → (meaning.stage code m).want ≡ Some (wants.Print number) → meaning.is_machine code o
       → after_input (meaning.stage code m).want Val.Unit (meaning.stage code m) ≡ Some (meaning.stage code o) → IsAtStep meaning code s i fresh cells overlay o side (n + 1)
   accepted-print number o told good e =
       let comes = coming (wants.Print number) told in
-      unset _ o _ (fed-print (meaning.devices code) s i w.sets (meaning.stage code m) (meaning.stage code o) w.going number comes.0 comes.1 (at_want o (wants.Print number) Val.Unit told e)) good w.front
+      unset _ o _ (fed-print (meaning.devices code) s i w.sets (meaning.stage code m) (meaning.stage code o) w.going (low-at (wants.Print number) told (λ e. cc)) number comes.0 comes.1 (at_want o (wants.Print number) Val.Unit told e)) good w.front
 
   -- What ends a walk
 
   pub stopped-done : (meaning.stage code m).want ≡ Some wants.Done → (total : ℕ) → n < total → IsNoWalk side i total fresh s
-  stopped-done told = stopped (halts-value (running_side (meaning.stage code m)) i w.going.now (meaning.stage code m).term w.going.member w.going.active w.rest (coming wants.Done told).1)
+  stopped-done told = stopped wants.Done told (λ e. cc) (λ used more e. halts-value (running_side (meaning.stage code m)) i w.going.now (meaning.stage code m).term w.going.member w.going.active used (coming wants.Done told).1)
 
   pub stopped-leave : (meaning.stage code m).want ≡ Some wants.Leave → (total : ℕ) → n < total → IsNoWalk side i total fresh s
   stopped-leave told =
       let comes = coming wants.Leave told in
-      stopped (halts-unprotected (running_side (meaning.stage code m)) i w.going.now (meaning.stage code m).term w.going.member w.going.active w.rest (ap side_told comes.0) comes.1)
+      stopped wants.Leave told (λ e. cc) (λ used more e. halts-unprotected (running_side (meaning.stage code m)) i w.going.now (meaning.stage code m).term w.going.member w.going.active used (ap side_told comes.0) comes.1)
 
   pub stopped-block : (meaning.stage code m).want ≡ Some wants.Block → (total : ℕ) → n < total → IsNoWalk side i total fresh s
-  stopped-block told = stopped (halts-failing (running_side (meaning.stage code m)) i w.going.now (meaning.stage code m).term w.going.member w.going.active w.rest (coming wants.Block told).1)
+  stopped-block told = stopped wants.Block told (λ e. cc) (λ used more e. halts-failing (running_side (meaning.stage code m)) i w.going.now (meaning.stage code m).term w.going.member w.going.active used (coming wants.Block told).1)
 
   pub stopped-close : (meaning.stage code m).want ≡ Some wants.Close → (total : ℕ) → n < total → IsNoWalk side i total fresh s
   stopped-close told =
       let comes = coming wants.Close told in
-      stopped (halts-closing (running_side (meaning.stage code m)) i w.going.now (meaning.stage code m).term w.going.member w.going.active w.rest comes.1.0 comes.1.1)
+      stopped wants.Close told (λ e. cc) (λ used more e. halts-closing (running_side (meaning.stage code m)) i w.going.now (meaning.stage code m).term w.going.member w.going.active used comes.1.0 comes.1.1)
 
   pub stopped-device : (device : ℕ) (argument : ℤ) → (meaning.stage code m).want ≡ Some (wants.Device device argument) → (total : ℕ) → n < total → IsNoWalk side i total fresh s
   stopped-device device argument told =
-      stopped (halts-device (running_side (meaning.stage code m)) i w.going.now w.rest device argument (act-there (Act.Calls device argument) (coming (wants.Device device argument) told).1))
+      stopped (wants.Device device argument) told (λ e. cc) (λ used more e. halts-device (running_side (meaning.stage code m)) i w.going.now used device argument (act-there (Act.Calls device argument) (coming (wants.Device device argument) told).1))
+
+  -- the steps that were made pass no tall form
+  pub walked-low : StaysLow side i n fresh s
+  walked-low =
+      subst (λ (z : Side). StaysLow z i n fresh s) a.runs_on
+      (subst (λ (k : ℕ). StaysLow (running_side (meaning.stage code m)) i k fresh s) a.counted
+      (subst (λ (xs : List ℕ). StaysLow (running_side (meaning.stage code m)) i (meaning.stage code m).steps xs s) (sym w.front) (w.going.low w.rest)))
+
+  -- nor does a further one, where it wants anything else
+  pub last-low : (want : Wants) → (meaning.stage code m).want ≡ Some want → (want ≡ wants.Tall → ⊥) → StaysLow side i (n + 1) fresh s
+  last-low want told other =
+      subst (λ (z : Side). StaysLow z i (n + 1) fresh s) a.runs_on
+      (subst (λ (k : ℕ). StaysLow (running_side (meaning.stage code m)) i (k + 1) fresh s) a.counted
+      (subst (λ (xs : List ℕ). StaysLow (running_side (meaning.stage code m)) i ((meaning.stage code m).steps + 1) xs s) (sym w.front)
+      (low-more (meaning.devices code) s i (running_side (meaning.stage code m)) (place_with w.sets (meaning.stage code m)) (meaning.stage code m).steps w.going (low-at want told other) w.rest)))
 
   pub tall-there : (meaning.stage code m).want ≡ Some wants.Tall → (total : ℕ) → n < total → ComesToTall side i total fresh s
   tall-there told total below =

@@ -28,14 +28,24 @@ pub record IsLong (entries : List Entry) (n : ℕ) : Type 0 where
   pub above : most_steps < total_steps (take n entries)
 
 module _ (program : Tree) (entries : List Entry) where
-  -- the entries lead to a state, and this was printed
+  -- those before the n-th can be made, and it passes a form that would become a value that is too high
+  pub record PassesTallAt (n : ℕ) : Type 0 where
+    pub place : IsPlace entries n
+    pub led : Replayed
+    pub replayed : replay program (take (n - 1) entries) ≡ Some led
+    pub entry : Entry
+    pub is_entry : take n entries ≡ take (n - 1) entries ++ entry ∷ []
+    pub meets : MeetsTall led entry
+
+  -- the entries lead to a state, this was printed, and no entry passes such a form
   pub record LeadsTo (output : List ℤ) : Type 0 where
     pub short : total_steps entries ≤ most_steps
     pub led : Replayed
     pub replayed : replay program entries ≡ Some led
     pub printed : output ≡ led.state.output
+    pub low : (n : ℕ) → PassesTallAt n → ⊥
 
-  -- those before the n-th can be made, and with it they can't be, nor can all of them, for this reason
+  -- those before the n-th can be made, and with it they can't be, nor can all of them, for this reason; and no entry passes such a form
   pub record IsUndefinedAt (n : ℕ) (why : Reason) : Type 0 where
     pub place : IsPlace entries n
     pub led : Replayed
@@ -45,15 +55,12 @@ module _ (program : Tree) (entries : List Entry) where
     pub entry : Entry
     pub is_entry : take n entries ≡ take (n - 1) entries ++ entry ∷ []
     pub met : IsMet led entry why
+    pub low : (m : ℕ) → PassesTallAt m → ⊥
 
-  -- those before the n-th can be made, and it passes a form that would become a value that is too high
+  -- the n-th is the first that passes one
   pub record IsTooHighAt (n : ℕ) : Type 0 where
-    pub place : IsPlace entries n
-    pub led : Replayed
-    pub replayed : replay program (take (n - 1) entries) ≡ Some led
-    pub entry : Entry
-    pub is_entry : take n entries ≡ take (n - 1) entries ++ entry ∷ []
-    pub meets : MeetsTall led entry
+    pub passes : PassesTallAt n
+    pub first : (m : ℕ) → m < n → PassesTallAt m → ⊥
 
   -- why a replay of them comes to no end
   abbrev pub IsHalted : Halt → Type 0
@@ -76,3 +83,11 @@ module _ (program : Tree) (entries : List Entry) where
   Judges (judged.Invalid n why) = IsInvalid n why
   Judges (judged.Long n) = IsLong entries n
   Judges (judged.Tall n) = IsTallAt n
+
+-- two answers that say the same, but for the reason for which an entry can't be made
+abbrev pub AreAlike : Judged → Judged → Type 0
+AreAlike (judged.Valid output) (judged.Valid other) = output.items ≡ other.items
+AreAlike (judged.Invalid n why) (judged.Invalid m other) = n ≡ m
+AreAlike (judged.Long n) (judged.Long m) = n ≡ m
+AreAlike (judged.Tall n) (judged.Tall m) = n ≡ m
+AreAlike _ _ = ⊥

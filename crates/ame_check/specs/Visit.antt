@@ -11,7 +11,7 @@ use Rattle.ame_machine.specs.Meaning.{Meaning}
 use Rattle.ame_machine.specs.Move.{settled_stage}
 use Rattle.ame_machine.specs.Run.AgreesWith.{IsAfterRun}
 use Rattle.ame_check.specs.Shows.{ShowsCells, HaveSorts, AreBelow}
-use Rattle.ame_check.specs.Walk.{begun_on, steps_on, ComesToTall}
+use Rattle.ame_check.specs.Walk.{begun_on, steps_on, ComesToTall, StaysLow}
 use Rattle.ame_check.specs.Walked.{place_with}
 use Rattle.ame_check.specs.Reasons.{MeetsReason}
 use Rattle.ame_check.specs.declared.reason.Reason.{Reason}
@@ -54,7 +54,11 @@ module _ {C V M : Type 0} (meaning : Meaning C V M) (code : C) where
   module _ (s : State) (i : ℕ) (fresh : List ℕ) (answer : Option ℤ) (cells overlay : List (ℕ × Stored V)) (m : M) (n : ℕ) where
     -- what n steps and a last one come to
     abbrev pub ComesOfVisit : Visited → Type 0
-    ComesOfVisit visited.Stays = HasCome s i fresh cells overlay m true (visiting i (n + 1) fresh answer s)
-    ComesOfVisit visited.Closes = (visiting i (n + 1) fresh answer s ≡ None) × HasCome s i fresh cells overlay m false (closing i n fresh answer s)
-    ComesOfVisit (visited.Undefined why) = (visiting i (n + 1) fresh answer s ≡ None) × (closing i n fresh answer s ≡ None) × VisitMeets s i fresh answer (n + 1) why
+    ComesOfVisit visited.Stays = StaysLow Side.Unprotected i (n + 1) fresh s × HasCome s i fresh cells overlay m true (visiting i (n + 1) fresh answer s)
+    ComesOfVisit visited.Closes =
+        StaysLow Side.Unprotected i (n + 1) fresh s × (visiting i (n + 1) fresh answer s ≡ None)
+        × HasCome s i fresh cells overlay m false (closing i n fresh answer s)
+    ComesOfVisit (visited.Undefined why) =
+        StaysLow Side.Unprotected i (n + 1) fresh s × (visiting i (n + 1) fresh answer s ≡ None)
+        × (closing i n fresh answer s ≡ None) × VisitMeets s i fresh answer (n + 1) why
     ComesOfVisit visited.Tall = ComesToTall Side.Unprotected i (n + 1) fresh s

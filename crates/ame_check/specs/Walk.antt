@@ -41,21 +41,6 @@ LeadsOnTo side i n used s t =
 abbrev pub Halts : Side → ℕ → State → List ℕ → Type 0
 Halts side i s rest = (left : ℕ) (answer : Option ℤ) → (left ≡ 0 → answer ≡ None) → steps_on side i (left + 1) rest answer s ≡ None
 
--- From a state n steps of a member, and a place p of its run: the state that is reached is the one after that run, typed by these types.
-pub record IsStepping (devices : ℕ) (types : StoreTyping) (s : State) (i : ℕ) (side : Side) (p : LocalState) (n : ℕ) : Type 0 where
-  pub now : State
-  pub after_run : IsAfterRun s i p now
-  pub member : at now.members i ≡ Some p.term
-  pub active : now.active ≡ active_on side i
-  pub orderly : IsOrderly now
-  pub typed : IsTyped devices types now
-  pub standing : side ≡ Side.Unprotected → is_at_unprotected i now ≡ true
-  pub goes : LeadsOnTo side i n p.fresh (begun_on side i s) now
-
--- n steps with these locations can't be made from a state, nor more of them, where at most the last has an answer and is behind these
-abbrev pub IsNoWalk : Side → ℕ → ℕ → List ℕ → State → Type 0
-IsNoWalk side i n fresh s = (k : ℕ) (answer : Option ℤ) → n ≤ k → (k ≡ n → answer ≡ None) → steps_on side i k fresh answer (begun_on side i s) ≡ None
-
 -- fewer than n steps lead to a form that would become a value that is too high
 pub record ComesToTall (side : Side) (i n : ℕ) (fresh : List ℕ) (s : State) : Type 0 where
   pub made : ℕ
@@ -66,3 +51,26 @@ pub record ComesToTall (side : Side) (i n : ℕ) (fresh : List ℕ) (s : State) 
   pub there : State
   pub leads : steps_on side i made used None (begun_on side i s) ≡ Some there
   pub tall : is_tall side i there ≡ true
+
+-- no such form is passed by n steps
+abbrev pub StaysLow : Side → ℕ → ℕ → List ℕ → State → Type 0
+StaysLow side i n fresh s = ComesToTall side i n fresh s → ⊥
+
+-- From a state n steps of a member, and a place p of its run: the state that is reached is the one after that run, typed by these types. None of the
+-- steps is at a form that would become a value that is too high, whatever locations are behind those of the run.
+pub record IsStepping (devices : ℕ) (types : StoreTyping) (s : State) (i : ℕ) (side : Side) (p : LocalState) (n : ℕ) : Type 0 where
+  pub now : State
+  pub after_run : IsAfterRun s i p now
+  pub member : at now.members i ≡ Some p.term
+  pub active : now.active ≡ active_on side i
+  pub orderly : IsOrderly now
+  pub typed : IsTyped devices types now
+  pub standing : side ≡ Side.Unprotected → is_at_unprotected i now ≡ true
+  pub goes : LeadsOnTo side i n p.fresh (begun_on side i s) now
+  pub low : (more : List ℕ) → StaysLow side i n (p.fresh ++ more) s
+
+-- n steps with these locations can't be made from a state, nor more of them, where at most the last has an answer and is behind these;
+-- and however many can be made, they pass no form that would become a value that is too high
+pub record IsNoWalk (side : Side) (i n : ℕ) (fresh : List ℕ) (s : State) : Type 0 where
+  pub never : (k : ℕ) (answer : Option ℤ) → n ≤ k → (k ≡ n → answer ≡ None) → steps_on side i k fresh answer (begun_on side i s) ≡ None
+  pub low : (k : ℕ) → StaysLow side i k fresh s

@@ -13,7 +13,7 @@ use Rattle.ame_machine.specs.Meaning.{Meaning}
 use Rattle.ame_machine.specs.Run.Local.{LocalState}
 use Rattle.ame_machine.specs.MachineView.{MachineView, running_side, place_shown}
 use Rattle.ame_check.specs.Shows.{ShowsCells, HaveSorts, AreBelow}
-use Rattle.ame_check.specs.Walk.{begun_on, steps_on, IsStepping, IsNoWalk, ComesToTall}
+use Rattle.ame_check.specs.Walk.{begun_on, steps_on, IsStepping, IsNoWalk, ComesToTall, StaysLow}
 use Rattle.ame_check.specs.Reasons.{MeetsReason}
 use Rattle.ame_check.specs.declared.walk.Walked.{Walked}
 use Rattle.ame_check.specs.declared.walk.Walked.TheVariants as walked
@@ -88,5 +88,5 @@ module _ {C V M : Type 0} (meaning : Meaning C V M) (code : C) where
     abbrev pub RunsAlong : Walked → Type 0
     RunsAlong (walked.Whole want) =
         IsAtStep s i fresh cells overlay m side n × ((meaning.stage code m).fresh ≡ fresh) × ((meaning.stage code m).want ≡ Some want)
-    RunsAlong (walked.Undefined why) = (steps_on side i n fresh None (begun_on side i s) ≡ None) × MeetsReason side s i fresh n why
+    RunsAlong (walked.Undefined why) = StaysLow side i n fresh s × (steps_on side i n fresh None (begun_on side i s) ≡ None) × MeetsReason side s i fresh n why
     RunsAlong walked.Tall = ComesToTall side i n fresh s

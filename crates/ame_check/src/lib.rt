@@ -8,6 +8,7 @@ mod reason;
 mod replay;
 mod step;
 mod stored;
+mod theorems;
 mod visit;
 mod walk;
 
@@ -17,3 +18,4 @@ pub use judging::{Judged, MOST_STEPS, judge};
 pub use reason::Reason;
 pub use replay::{Made, Replay};
 pub use stored::Stored;
+pub use theorems::journals_are_judged_in_one_way;

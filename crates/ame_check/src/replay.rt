@@ -120,7 +120,7 @@ where
 {
     ghost use Rattle.ame_check.specs.Shows.{StandsForEntries};
     ghost use Rattle.ame_check.specs.Entries.{CameOf};
-    ghost use Rattle.ame_check.specs.Judge.{IsHalted};
+    ghost use Rattle.ame_check.specs.Judge.{IsHalted, PassesTallAt};
 
     /// Before any entry.
     pub fn start(alloc: Global, code: &M::Code) -> Result<Replay<M>, NoMemory>
@@ -285,6 +285,7 @@ where
     pub fn along(alloc: Global, code: &M::Code, entries: &[Entry]) -> Result<Replay<M>, Halt>
         ensures led { IfOk result (λ replay. StandsForEntries M.meaning code.now entries.now
             (record { cells = replay.cells.entries; members = replay.members.entries; output = replay.output.items; next = replay.next })) }
+        ensures low { IfOk result (λ replay. (n : ℕ) → PassesTallAt (M.meaning.program code.now) entries.now n → ⊥) }
         ensures halted { IfErr result (IsHalted (M.meaning.program code.now) entries.now) }
     {
         let mut replay: Replay<M> = Replay::start(alloc, code)?;

@@ -2,6 +2,7 @@ use Rattle.std.proofs.Common.{◌+◌, sym, ◌∙◌, arith}
 use Rattle.ame_term.specs.Frame.{Side}
 use Rattle.ame_machine.specs.declared.wants.Wants.TheVariants as wants
 use Rattle.ame_check.proofs.RanEntries.{quiet-of, told-of}
+use Rattle.ame_check.proofs.WantLemmas.{last-low}
 use Rattle.ame_check.proofs.ReasonLemmas.{unused-first}
 use Rattle.ame_check.proofs.VisitLemmas.{close-answered, close-left, has-closed_so, some-left, none-left}
 use Rattle.ame_check.proofs.visit.close.Goals as goal
@@ -10,8 +11,13 @@ pub returns-then-is_some : goal.returns-then-is_some
 returns-then-is_some g c = λ s i cells overlay n a.
     let answered = sym c.is_some.ensures ∙ c.if-is_some.true in
     let x = told-of c.args.entry.now.answer answered in
-    let none = close-answered g.M.Runner.meaning c.args.code.now (g.met.M.Runner.sound c.args.code.now) s i c.args.entry.now.fresh cells overlay c.args.machine.now n a c.requires.wants c.args.entry.now.answer x.0 x.1 in
-    (none.0, none.1, answered)
+    let none = close-answered g.M.Runner.meaning c.args.code.now (g.met.M.Runner.sound c.args.code.now) s i c.args.entry.now.fresh cells overlay c.args.machine.now n a c.requires.wants c.args.entry.now.answer x.0 x.1 in (
+      last-low g.M.Runner.meaning c.args.code.now (g.met.M.Runner.sound c.args.code.now) s i c.args.entry.now.fresh cells overlay c.args.machine.now Side.Unprotected n a
+          wants.Close c.requires.wants (λ e. cc),
+      none.0,
+      none.1,
+      answered,
+    )
 
 pub returns-then-used-fresh : goal.returns-then-used-fresh
 returns-then-used-fresh g c = λ s i cells overlay n a.
@@ -19,6 +25,8 @@ returns-then-used-fresh g c = λ s i cells overlay n a.
     c.as_slice-fresh.result.now c.fresh-used.result.now c.as_slice-fresh.ensures (c.fresh-used.ensures c.args.code.now) c.if-used-fresh.true in
     let none = close-left g.M.Runner.meaning c.args.code.now (g.met.M.Runner.sound c.args.code.now) s i c.args.entry.now.fresh cells overlay c.args.machine.now n a c.requires.wants
     c.args.entry.now.answer (quiet-of c.args.entry.now.answer (sym c.is_some.ensures ∙ c.if-is_some.false)) left.0 left.1 left.2 in (
+      last-low g.M.Runner.meaning c.args.code.now (g.met.M.Runner.sound c.args.code.now) s i c.args.entry.now.fresh cells overlay c.args.machine.now Side.Unprotected n a
+          wants.Close c.requires.wants (λ e. cc),
       none.0,
       none.1,
       unused-first g.M.Runner.meaning c.args.code.now (g.met.M.Runner.sound c.args.code.now) s i c.args.entry.now.fresh cells overlay c.args.machine.now Side.Unprotected n a
@@ -28,8 +36,14 @@ returns-then-used-fresh g c = λ s i cells overlay n a.
 
 pub returns : goal.returns
 returns g c = λ s i cells overlay n a.
+    let h =
     has-closed_so g.M.Runner.meaning c.args.code.now (g.met.M.Runner.sound c.args.code.now) s i c.args.entry.now.fresh cells overlay c.args.machine.now n a c.requires.wants
     c.args.entry.now.answer (quiet-of c.args.entry.now.answer (sym c.is_some.ensures ∙ c.if-is_some.false))
     (none-left g.M.Runner.meaning c.args.code.now (g.met.M.Runner.sound c.args.code.now) s i c.args.entry.now.fresh cells overlay c.args.machine.now n a
     c.as_slice-fresh.result.now c.fresh-used.result.now c.as_slice-fresh.ensures (c.fresh-used.ensures c.args.code.now) c.if-used-fresh.false)
-    c.feed.new.self c.feed.ensures.machine c.feed.ensures.stage
+    c.feed.new.self c.feed.ensures.machine c.feed.ensures.stage in (
+      last-low g.M.Runner.meaning c.args.code.now (g.met.M.Runner.sound c.args.code.now) s i c.args.entry.now.fresh cells overlay c.args.machine.now Side.Unprotected n a
+          wants.Close c.requires.wants (λ e. cc),
+      h.0,
+      h.1,
+    )

@@ -51,6 +51,7 @@ returns-in-Undefined g c = λ s i n count a.
     c.walk.new.overlay.entries c.args.machine.now c.walk.new.machine (c.args.entry.now.steps - 1) c.in_ok-want.field-0 c.in_ok-want.ensures s i Side.Unprotected 0 a (walked.Undefined c.in-Undefined.why) c.in-Undefined.is in
     let none = none-before s i c.args.entry.now.fresh n c.args.entry.now.answer
     (subst (λ (k : ℕ). IsNoWalk Side.Unprotected i k c.args.entry.now.fresh s) few never.0) in (
+      never.0.low (n + 1),
       none.0,
       none.1,
       met-visit s i c.args.entry.now.fresh c.args.entry.now.answer (n + 1) c.in-Undefined.why

@@ -5,6 +5,7 @@ use Rattle.ame_check.proofs.WalkLemmas.{all-used, some-left}
 use Rattle.ame_check.specs.Reasons.{MeetsReason}
 use Rattle.ame_check.specs.declared.reason.Reason.TheVariants as reason
 use Rattle.ame_check.proofs.ReasonLemmas.{unused-first}
+use Rattle.ame_check.proofs.WantLemmas.{walked-low}
 use Rattle.ame_check.proofs.walk.run.Goals as goal
 
 pub walk-requires-clause-walking : goal.walk-requires-clause-walking
@@ -20,6 +21,8 @@ returns-then-used-fresh g c = λ s i side n a.
     let from = subst (λ (xs : List ℕ). IsAtStep g.M.Runner.meaning c.args.code.now s i xs c.args.cells.now.entries c.args.overlay.now.entries c.args.machine.now side n) c.as_slice-fresh.ensures a in
     let there = subst (WalksAlong g.M.Runner.meaning c.args.code.now s i _ c.args.cells.now.entries c.walk.new.overlay.entries c.walk.new.machine side c.args.entry.now.steps) c.in-Whole.is
     (c.in_ok-want.ensures s i side n from) in (
+      λ tall. walked-low g.M.Runner.meaning c.args.code.now (g.met.M.Runner.sound c.args.code.now) s i _ c.args.cells.now.entries c.walk.new.overlay.entries c.walk.new.machine side c.args.entry.now.steps there.0
+          (subst (λ (xs : List ℕ). ComesToTall side i c.args.entry.now.steps xs s) c.as_slice-fresh.ensures tall),
       some-left g.M.Runner.meaning c.args.code.now s i c.as_slice-fresh.result.now c.fresh-used.result.now c.args.cells.now.entries c.walk.new.overlay.entries c.walk.new.machine side c.args.entry.now.steps
           c.args.entry.now.fresh c.as_slice-fresh.ensures (c.fresh-used.ensures c.args.code.now) there.0 c.if-used-fresh.true,
       subst (λ (xs : List ℕ). MeetsReason side s i xs c.args.entry.now.steps
@@ -45,7 +48,8 @@ returns-in-Undefined g c = λ s i side n a.
     let there = subst (WalksAlong g.M.Runner.meaning c.args.code.now s i _ c.args.cells.now.entries c.walk.new.overlay.entries c.walk.new.machine side c.args.entry.now.steps) c.in-Undefined.is
     (c.in_ok-want.ensures s i side n from) in
     let least : c.args.entry.now.steps ≤ c.args.entry.now.steps = omega arith in (
-      ap (λ (xs : List ℕ). steps_on side i c.args.entry.now.steps xs None (begun_on side i s)) c.as_slice-fresh.ensures ∙ there.0 c.args.entry.now.steps None least (λ e. refl),
+      λ tall. there.0.low c.args.entry.now.steps (subst (λ (xs : List ℕ). ComesToTall side i c.args.entry.now.steps xs s) c.as_slice-fresh.ensures tall),
+      ap (λ (xs : List ℕ). steps_on side i c.args.entry.now.steps xs None (begun_on side i s)) c.as_slice-fresh.ensures ∙ there.0.never c.args.entry.now.steps None least (λ e. refl),
       subst (λ (xs : List ℕ). MeetsReason side s i xs c.args.entry.now.steps c.in-Undefined.why) (sym c.as_slice-fresh.ensures) there.1,
     )
 

@@ -75,14 +75,14 @@ _ame() {
       views= words=("${words[@]:1}")
     fi
     case ${words[0]-} in
-    '') _ame_offer_files run bench sim replay check $views; return ;;
-    run | bench | sim | replay | check) ;;
+    '') _ame_offer_files run bench sim replay check resume $views; return ;;
+    run | bench | sim | replay | check | resume) ;;
     *) words=("${words[@]:1}") ;;
     esac
   fi
   case ${words[0]-} in
-  '') _ame_offer run bench sim replay check ;;
-  run | bench | sim | replay) _ame_offer_parts ;;
+  '') _ame_offer run bench sim replay check resume ;;
+  run | bench | sim | replay | resume) _ame_offer_parts ;;
   esac
 }
 

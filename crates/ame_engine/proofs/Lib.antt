@@ -15,7 +15,6 @@ pub mod WriteLemmas
 pub mod AllocLemmas
 pub mod UndoLemmas
 pub mod UndoingLemmas
-pub mod LineLemmas
 pub mod OwnedLemmas
 pub mod CrewLemmas
 pub mod JoinLemmas

@@ -15,7 +15,7 @@ mod whole_read;
 mod whole_write;
 
 pub use ends::{Failed, Sink, Source};
-pub use line::{Line, integer_line, write_line};
+pub use line::{Line, integer_line, lines_of, write_line};
 pub use mem_sink::MemSink;
 pub use mem_source::MemSource;
 pub use no_memory::NoMemory;

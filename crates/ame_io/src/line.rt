@@ -1,14 +1,15 @@
-//! One line of output, made on the stack.
-ghost use Rattle.std.specs.Prelude.{◌≡◌, ◌++◌, OnOk, OnErr};
+//! Lines of output: one, made on the stack, and all of them.
+ghost use Rattle.std.specs.Prelude.{◌≡◌, ◌++◌, IfOk, OnOk, OnErr};
 ghost use Rattle.std.specs.Io.KnownBytes.{Appends};
 ghost use Rattle.ame_io.specs.Counts.{HasRisen};
-ghost use Rattle.ame_io.specs.Lines.{line_of};
+ghost use Rattle.ame_io.specs.Lines.{line_of, lines};
 ghost use Rattle.ame_io.specs.Writes.{AppendsFront};
 
 use crate::ends::Sink;
 use crate::whole_write::{WriteFault, write_all};
 use arrayvec::ArrayString;
 use itoa::Buffer;
+use std::alloc::{AllocError, Global};
 
 /// A line with its line feed. The longest is shorter than this.
 pub type Line = ArrayString<64>;
@@ -22,6 +23,17 @@ pub fn integer_line(n: &i64) -> Line
     line.push_str(buffer.format(*n));
     line.push_str("\n");
     line
+}
+
+/// The lines of an output.
+pub fn lines_of(alloc: Global, output: &[i64]) -> Result<Vec<u8>, AllocError>
+    ensures { IfOk result (λ text. text.items ≡ lines output.now) }
+{
+    let mut text = Vec::new(alloc);
+    for n in output {
+        text.extend_from_slice(integer_line(n).as_str().as_bytes())?;
+    }
+    Ok(text)
 }
 
 /// Writes a line whole, or tells that the sink failed. It takes no memory.

@@ -15,7 +15,7 @@ use Rattle.ame_machine.specs.Sound.{IsSoundStage}
 use Rattle.ame_protocol.specs.declared.types.Attempt.{Attempt}
 use Rattle.ame_protocol.specs.declared.types.Limits.{Limits}
 use Rattle.ame_protocol.specs.declared.types.Task.{Task}
-use Rattle.ame_protocol.specs.Engine.Parts.{Parts, whole_journal, task_at, working}
+use Rattle.ame_protocol.specs.Engine.Parts.{Parts, task_at, working}
 use Rattle.ame_protocol.specs.Engine.Simulates.{Simulates}
 use Rattle.ame_protocol.specs.Engine.Events.{one_turn, undo_turn, with_task, with_memory, with_try, brought_home, ran_entry, has_begun, has_read, has_written, has_allocated, has_checked, has_turned_back, has_undone, has_gone_home}
 use Rattle.ame_protocol.specs.Waits.Noted.{stuck_entry, has_noted}
@@ -40,7 +40,7 @@ use Rattle.ame_engine.proofs.VisitPlaceLemmas.{visits-as}
 use Rattle.ame_turn.specs.declared.work.Deed.{Deed}
 use Rattle.ame_turn.specs.Deeds.{StopsBy, Spends, is_visit, IsMade, IsDone}
 use Rattle.ame_shell.specs.Ends.{told_at}
-use Rattle.ame_shell.specs.Heard.{HaveHeard, NoneFailed, OneFailed, HaveFailed}
+use Rattle.ame_shell.specs.Heard.{HaveHeardSince, NoneFailed, OneFailed, HaveFailed}
 use Rattle.ame_shell.specs.Over.{AreOfSeats}
 use Rattle.ame_shell.specs.Shell.{Opening, IsOpenedSo}
 use Rattle.ame_shell.specs.Turned.{is_to_flush}
@@ -244,15 +244,15 @@ module _ {C V M : Type 0} (meaning : Meaning C V M) where
 
   module _ (seat : ℕ) (old new : Core C V M) (stands : Simulates (parts old)) (within : seat < old.limits.seats) (opening : Opening C) where
     heard-adds : (told : List Told) → new.code ≡ old.code → new.base ≡ old.base → Adds seat old.entries new.entries
-        → HaveHeard (meaning.program old.code) (old.base ++ old.entries) opening.ends.told told → HaveHeard (meaning.program new.code) (new.base ++ new.entries) opening.ends.told told
+        → HaveHeardSince (meaning.program old.code) old.base old.entries opening.ends.told told → HaveHeardSince (meaning.program new.code) new.base new.entries opening.ends.told told
     heard-adds told code base adds h =
-        subst (λ (c : C). HaveHeard (meaning.program c) (new.base ++ new.entries) opening.ends.told told) (sym code)
-        (subst (λ (b : List Entry). HaveHeard (meaning.program old.code) (b ++ new.entries) opening.ends.told told) (sym base) (by adds))
+        subst (λ (c : C). HaveHeardSince (meaning.program c) new.base new.entries opening.ends.told told) (sym code)
+        (subst (λ (b : List Entry). HaveHeardSince (meaning.program old.code) b new.entries opening.ends.told told) (sym base) (by adds))
       where
-        by : Adds seat old.entries new.entries → HaveHeard (meaning.program old.code) (old.base ++ new.entries) opening.ends.told told
-        by (Adds.nothing same) = subst (λ (es : List Entry). HaveHeard (meaning.program old.code) (old.base ++ es) opening.ends.told told) (sym same) h
+        by : Adds seat old.entries new.entries → HaveHeardSince (meaning.program old.code) old.base new.entries opening.ends.told told
+        by (Adds.nothing same) = subst (λ (es : List Entry). HaveHeardSince (meaning.program old.code) old.base es opening.ends.told told) (sym same) h
         by (Adds.one entry is its none) =
-            heard-silent (meaning.program old.code) opening.ends.told (old.base ++ old.entries) (old.base ++ new.entries) told
+            heard-silent (meaning.program old.code) old.base opening.ends.told old.entries new.entries told
             (λ k. ap (device_calls k (meaning.program old.code)) (behind old.base old.entries new.entries entry is) ∙ silent-entry (parts old) stands k entry none) h
 
     pub recorded-opened : (told : List Told) → IsRecorded seat old new → IsOpenedSo meaning.program opening old told → IsOpenedSo meaning.program opening new told
@@ -312,18 +312,18 @@ module _ {C V M : Type 0} (meaning : Meaning C V M) where
           let entry = free_entry seat a.tried.number h.comes.steps (with_answer h.answer (place_shown h.comes)) in
           let limits : new.limits ≡ old.limits = ap (λ (p : Parts). p.limits) m.parts in
           let entries : new.entries ≡ old.entries ++ entry ∷ [] = ap (λ (p : Parts). p.entries) m.parts in
-          let heard : HaveHeard (meaning.program old.code) (whole_journal (visited_at seat on.attempt.tried.number h.answer h.comes h.memory (parts old))) opening.ends.told after =
+          let heard : HaveHeardSince (meaning.program old.code) old.base (visited_at seat on.attempt.tried.number h.answer h.comes h.memory (parts old)).entries opening.ends.told after =
           visit-heard (parts old) stands seat s on inside sound opening.ends.told before o.heard h.answer h.comes h.memory after h.visits in
-          let numbered : HaveHeard (meaning.program old.code) (whole_journal (visited_at seat a.tried.number h.answer h.comes h.memory (parts old))) opening.ends.told after =
-          subst (λ (i : ℕ). HaveHeard (meaning.program old.code) (whole_journal (visited_at seat i h.answer h.comes h.memory (parts old))) opening.ends.told after) one-number heard in
+          let numbered : HaveHeardSince (meaning.program old.code) old.base (visited_at seat a.tried.number h.answer h.comes h.memory (parts old)).entries opening.ends.told after =
+          subst (λ (i : ℕ). HaveHeardSince (meaning.program old.code) old.base (visited_at seat i h.answer h.comes h.memory (parts old)).entries opening.ends.told after) one-number heard in
           record {
             code = m.code ∙ o.code;
             limits = limits ∙ o.limits;
             base = ap (λ (p : Parts). p.base) m.parts ∙ o.base;
             seats = subst (λ (l : Limits). AreOfSeats l.seats new.entries) (sym limits) (seats-last old.limits.seats old.entries new.entries entry entries within o.seats);
             heard =
-                subst (λ (c : C). HaveHeard (meaning.program c) (new.base ++ new.entries) opening.ends.told after) (sym m.code)
-                (subst (λ (p : Parts). HaveHeard (meaning.program old.code) (whole_journal p) opening.ends.told after) (sym m.parts) numbered);
+                subst (λ (c : C). HaveHeardSince (meaning.program c) new.base new.entries opening.ends.told after) (sym m.code)
+                (subst (λ (p : Parts). HaveHeardSince (meaning.program old.code) p.base p.entries opening.ends.told after) (sym m.parts) numbered);
             failed =
                 subst (λ (x : Option Stop). HaveFailed x opening.ends.told after) (sym (m.stop ∙ going))
                 (none-then opening.ends.told before after (subst (λ (x : Option Stop). HaveFailed x opening.ends.told before) going o.failed)
@@ -344,7 +344,7 @@ module _ {C V M : Type 0} (meaning : Meaning C V M) where
             seats = subst (λ (l : Limits). AreOfSeats l.seats new.entries) (sym limits) (subst (AreOfSeats old.limits.seats) (sym entries) o.seats);
             heard =
                 heard-adds after m.code base (Adds.nothing entries)
-                (heard-failed (meaning.program old.code) opening.ends.told (old.base ++ old.entries) before after (fail-count before after device h.argument h.fails)
+                (heard-failed (meaning.program old.code) old.base opening.ends.told old.entries before after (fail-count before after device h.argument h.fails)
                 (failed-heard before after device h.argument h.fails) o.heard);
             failed =
                 subst (λ (x : Option Stop). HaveFailed x opening.ends.told after) (sym m.stop)

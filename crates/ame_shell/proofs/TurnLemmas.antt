@@ -64,7 +64,7 @@ module _ {C V M : Type 0} (meaning : Meaning C V M) where
       by (inr d) = failed d.0 (subst (λ (x : Deed). IsDone meaning seat hand old new before after x) d.1 h)
 
   -- what was opened so stays so once lines are sent
-  flush-opened : (opening : Opening C) (old new : ShellView C V M) (told : List Told) → HasFlushed old new → old.core.stop ≡ None
+  pub flush-opened : (opening : Opening C) (old new : ShellView C V M) (told : List Told) → HasFlushed old new → old.core.stop ≡ None
       → IsOpenedSo meaning.program opening old.core told → IsOpenedSo meaning.program opening new.core told
   flush-opened opening old new told (HasFlushed.sends appended stays same sent) going o =
       subst (λ (c : Core C V M). IsOpenedSo meaning.program opening c told) (sym same) o

@@ -24,20 +24,20 @@ use Rattle.ame_protocol.proofs.Visits.CallLemmas.{silent-visit, told-call}
 use Rattle.ame_engine.specs.AtWork.{IsOnSeat}
 use Rattle.ame_engine.specs.Visiting.{VisitsTo, visited_at}
 use Rattle.ame_engine.proofs.VisitPlaceLemmas.{visits-as, visit-steps}
-use Rattle.ame_shell.specs.Heard.{HaveHeard}
+use Rattle.ame_shell.specs.Heard.{HaveHeardSince}
 use Rattle.ame_shell.proofs.HeardLemmas.{heard-silent, heard-call}
 
 module _ (parts : Parts) (stands : Simulates parts) (seat : ℕ) (s : MachineView) (on : IsOnSeat parts seat s) (inside : s.inside ≡ true) (sound : IsSoundStage s)
-    (opened before : List Told) (h : HaveHeard parts.program (whole_journal parts) opened before) where
+    (opened before : List Told) (h : HaveHeardSince parts.program parts.base parts.entries opened before) where
   abbrev number : ℕ
   number = on.attempt.tried.number
 
   abbrev Hears : Option ℤ → MachineView → MemoryView Val → List Told → Type 0
-  Hears answer n memory after = HaveHeard parts.program (whole_journal (visited_at seat number answer n memory parts)) opened after
+  Hears answer n memory after = HaveHeardSince parts.program parts.base (visited_at seat number answer n memory parts).entries opened after
 
   without-call : (n : MachineView) (memory : MemoryView Val) → Hears None n memory before
   without-call n memory =
-      heard-silent parts.program opened (whole_journal parts) (whole_journal (visited_at seat number None n memory parts)) before
+      heard-silent parts.program parts.base opened parts.entries (visited_at seat number None n memory parts).entries before
       (λ k. silent-visit parts stands k seat number n.steps (with_answer None (place_shown n)) n.inside memory refl) h
 
   module _ (device : ℕ) (argument answer : ℤ) (n : MachineView) (wanted : s.want ≡ Some (wants.Device device argument))
@@ -75,5 +75,5 @@ module _ (parts : Parts) (stands : Simulates parts) (seat : ℕ) (s : MachineVie
   visit-heard _ n _ _ (VisitsTo.prints i _ its fed) = without-call n parts.memory
   visit-heard _ n _ _ (VisitsTo.closes _ its closes) = without-call n parts.memory
   visit-heard _ n _ after (VisitsTo.calls device argument answer _ _ its called fed) =
-      heard-call parts.program opened (whole_journal parts) (whole_journal (visited_at seat number (Some answer) n parts.memory parts)) before after device argument answer called
+      heard-call parts.program parts.base opened parts.entries (visited_at seat number (Some answer) n parts.memory parts).entries before after device argument answer called
       (λ k. calls-told device argument answer n its fed parts.memory k) h

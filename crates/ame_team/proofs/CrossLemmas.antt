@@ -6,6 +6,7 @@ use denote.Struct.Tuple.{type_at, TupleAt}
 use mir.Syntax.{Sym}
 use mathlib.Core.List.{◌∷◌, []}
 use denote.Param.Send.{IsSend, IsSync, AllSend, AllSync, recorded_send, recorded_sync, struct_send, struct_sync, sendable}
+use Rattle.std.specs.contracts.snapshot.Snapshot as Snapshot
 use Rattle.std.proofs.Crossing.{crosses, Box-send, Vec-send, Arc-send}
 use Rattle.ame_term.specs.declared.copied.Copied as copied
 use Rattle.ame_machine.specs.declared.runner.Runner as runner
@@ -24,6 +25,9 @@ use Rattle.ame_worker.specs.contracts.worker.Worker as Worker
 pub place-send : (M : RattleType) → IsSend (Place.the_row M)
 place-send M = search (sendable, crosses) depth 20
 
+snapshot-send : (K : RattleType) → IsSend (Snapshot.the_field K).row
+snapshot-send K = search (sendable, crosses) depth 20
+
 module _ (M K D C V : RattleType) (r : runner.Ghosts M.Denot C.Denot V.Denot) (m : copied.Ghosts M.Denot) (v : copied.Ghosts V.Denot)
     (sm : IsSend M) (sk : IsSend K) (sd : IsSend D) (sc : IsSend C) (yc : IsSync C) (sv : IsSend V) where
   shell-send : IsSend (Shell.the_row M K D C V r m v)
@@ -34,7 +38,7 @@ module _ (M K D C V : RattleType) (r : runner.Ghosts M.Denot C.Denot V.Denot) (m
   pub shared-send : IsSend (Shared.the_row M K D C V r m v)
   shared-send =
       let T = Shared.the_type M K D C V r m v in
-      let all : AllSend (fields T) = (Box-send (Shell.the_row M K D C V r m v) shell-send, (Vec-send (Place.the_row M) (place-send M), tt)) in
+      let all : AllSend (fields T) = (Box-send (Shell.the_row M K D C V r m v) shell-send, (Vec-send (Place.the_row M) (place-send M), (snapshot-send K, tt))) in
       recorded_send (Struct (shape T)) T.D T.to T.to_one (struct_send (shape T) all)
 
   pub worker-send : IsSend (Worker.the_row M K D C V r m v)

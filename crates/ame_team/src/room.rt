@@ -35,11 +35,7 @@ where
 }
 
 /// So many shares of the code.
-fn shares<C: Drop>(
-    alloc: Global,
-    code: &Arc<C>,
-    count: usize,
-) -> Result<Vec<Arc<C>>, AllocError>
+fn shares<C: Drop>(alloc: Global, code: &Arc<C>, count: usize) -> Result<Vec<Arc<C>>, AllocError>
     ensures same { IfOk result (λ codes. All (λ it. arc_value it ≡ arc_value code.now) codes.items) }
     ensures count { IfOk result (λ codes. vec_len codes ≡ count) }
 {
@@ -58,11 +54,7 @@ where
     M::Code: Drop,
 {
     /// Room for a run of so many seats.
-    pub fn take(
-        alloc: Global,
-        code: &Arc<M::Code>,
-        seats: u32,
-    ) -> Result<Room<M, K, D>, AllocError>
+    pub fn take(alloc: Global, code: &Arc<M::Code>, seats: u32) -> Result<Room<M, K, D>, AllocError>
         requires some { 1 ≤ seats }
         ensures codes { IfOk result (λ room. All (λ it. arc_value it ≡ arc_value code.now) room.codes.items) }
         ensures count { IfOk result (λ room. vec_len room.codes + 1 ≡ seats) }

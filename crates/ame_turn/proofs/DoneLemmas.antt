@@ -1,6 +1,6 @@
 -- What a seat did, from what its event was asked with.
 use Rattle.std.proofs.Common.{◌≡◌, ℕ, ◌<◌, ◌≤◌, ◌⊎◌, inl, inr, Bool, true, false, List, [], Option, Some, None, Result, Ok, Err, refl, sym, ap, ◌∙◌, subst, arith, length-set}
-use Rattle.std.specs.Prelude.{IfOk, OnOk, ℤ, length}
+use Rattle.std.specs.Prelude.{IfOk, OnOk, ℤ, length, is_some}
 use Rattle.ame_term.specs.Tree.{Val}
 use Rattle.ame_term.specs.declared.types.Loc.{Loc}
 use Rattle.ame_rows.specs.declared.notes.Bad.{Bad}
@@ -212,3 +212,8 @@ module _ {C V M : Type 0} (meaning : Meaning C V M) (seat : ℕ) (hand : Option 
   told-counts Deed.Undid d = ap length (d.quiet refl)
   told-counts Deed.WentHome d = ap length (d.quiet refl)
   told-counts Deed.Lacked d = ap length (d.quiet refl)
+
+-- no stop is kept
+pub none-kept : {A : Type 0} (kept : Option A) → false ≡ is_some kept → kept ≡ None
+none-kept None going = refl
+none-kept (Some stop) going = absurd (let is : false ≡ true = going in cc)

@@ -56,70 +56,6 @@ fn waits_for_check(want: Wants) -> bool
     )
 }
 
-/// A seat does what its machine of protected code wants, where nothing is checked before.
-fn serve<M: Runner>(
-    engine: &mut Engine<M>,
-    code: &M::Code,
-    seat: u32,
-    machine: M,
-    want: Wants,
-) -> Turned<M>
-where
-    M::Code: Drop,
-    requires same { code.now ≡ engine.old.code }
-    requires turn { HasTurn M.meaning engine.old seat machine }
-    requires ready { IsReady engine.old.limits.slice (M.meaning.stage engine.old.code machine) }
-    requires outside { (M.meaning.stage engine.old.code machine).inside ≡ false }
-    requires told { (M.meaning.stage engine.old.code machine).want ≡ Some want }
-    requires early { waits_for_check (Some want) ≡ true → (M.meaning.stage engine.old.code machine).since < engine.old.limits.slice }
-    requires steps { (M.meaning.stage engine.old.code machine).steps + 1 < 2 ^ 64 }
-    ensures fits { Fits M.meaning engine.new seat result.work }
-    ensures done { (told : List Told) → IsDone M.meaning seat (Some (M.meaning.stage engine.old.code machine)) engine.old engine.new told told result.deed }
-{
-    match want {
-        Wants::Read(_) => read_on(engine, code, seat, machine),
-        Wants::Write(_) => write_on(engine, code, seat, machine),
-        Wants::Alloc(_, _) => alloc_on(engine, code, seat, machine),
-        Wants::Done => end_on(engine, seat, machine),
-        Wants::Leave => leave_on(engine, seat, machine),
-        Wants::Block => block_on(engine, seat, machine),
-        Wants::Tall => tall_on(engine, seat, machine),
-        Wants::OutOfFuel
-        | Wants::Peek(_)
-        | Wants::Close
-        | Wants::Device(_, _)
-        | Wants::Spawn
-        | Wants::Print(_) => unreachable!(),
-    }
-}
-
-/// A seat goes on from where its machine of protected code stands.
-fn go<M: Runner>(
-    engine: &mut Engine<M>,
-    code: &M::Code,
-    seat: u32,
-    machine: M,
-    want: Wants,
-) -> Turned<M>
-where
-    M::Code: Drop,
-    requires same { code.now ≡ engine.old.code }
-    requires turn { HasTurn M.meaning engine.old seat machine }
-    requires ready { IsReady engine.old.limits.slice (M.meaning.stage engine.old.code machine) }
-    requires outside { (M.meaning.stage engine.old.code machine).inside ≡ false }
-    requires told { (M.meaning.stage engine.old.code machine).want ≡ Some want }
-    ensures fits { Fits M.meaning engine.new seat result.work }
-    ensures done { (told : List Told) → IsDone M.meaning seat (Some (M.meaning.stage engine.old.code machine)) engine.old engine.new told told result.deed }
-{
-    engine.stands();
-    limits_are_small(engine);
-    let slice = engine.limits().slice;
-    if waits_for_check(want) && machine.since() >= u64::from(slice) {
-        return check_on(engine, seat, machine);
-    }
-    serve(engine, code, seat, machine, want)
-}
-
 /// A seat goes on from where its machine of unprotected code stands.
 fn visit<M: Runner, D: Device>(
     engine: &mut Engine<M>,
@@ -147,7 +83,8 @@ where
     }
 }
 
-/// A seat that has a machine at hand: once a stop is kept it undoes, and without turns that stop is kept.
+/// A seat that has a machine at hand: once a stop is kept it undoes, and without turns that stop is kept. At a full slice its reads
+/// are checked before an access; else what the machine wants is done.
 fn run<M: Runner, D: Device>(
     engine: &mut Engine<M>,
     code: &M::Code,
@@ -171,10 +108,31 @@ where
     if engine.turns() >= engine.limits().turns {
         return spend_running(engine, seat, machine);
     }
-    match machine.want() {
-        Some(want) if machine.inside() => visit(engine, seat, machine, want, devices),
-        Some(want) => go(engine, code, seat, machine, want),
-        None => unreachable!(),
+    engine.stands();
+    limits_are_small(engine);
+    let Some(want) = machine.want() else {
+        unreachable!();
+    };
+    if machine.inside() {
+        return visit(engine, seat, machine, want, devices);
+    }
+    if waits_for_check(want) && machine.since() >= u64::from(engine.limits().slice) {
+        return check_on(engine, seat, machine);
+    }
+    match want {
+        Wants::Read(_) => read_on(engine, code, seat, machine),
+        Wants::Write(_) => write_on(engine, code, seat, machine),
+        Wants::Alloc(_, _) => alloc_on(engine, code, seat, machine),
+        Wants::Done => end_on(engine, seat, machine),
+        Wants::Leave => leave_on(engine, seat, machine),
+        Wants::Block => block_on(engine, seat, machine),
+        Wants::Tall => tall_on(engine, seat, machine),
+        Wants::OutOfFuel
+        | Wants::Peek(_)
+        | Wants::Close
+        | Wants::Device(_, _)
+        | Wants::Spawn
+        | Wants::Print(_) => unreachable!(),
     }
 }
 

@@ -1,5 +1,5 @@
 -- Slots of seats that have nothing at work.
-use Rattle.std.proofs.Common.{◌≡◌, ℕ, zero, suc, ◌+◌, ◌<◌, ◌≤◌, ◌⊎◌, inl, inr, ◌∷◌, map, get_or, refl, sym, ap, ◌∙◌, subst}
+use Rattle.std.proofs.Common.{◌≡◌, ℕ, zero, suc, ◌+◌, ◌<◌, ◌≤◌, ◌⊎◌, inl, inr, List, [], ◌∷◌, map, get_or, refl, sym, ap, ◌∙◌, subst}
 use Rattle.std.specs.Prelude.{replicate}
 use Rattle.std.specs.List.{range_with_len}
 use Rattle.std.proofs.lemmas.Bool.{cases_lt}
@@ -7,10 +7,8 @@ use Rattle.std.proofs.lemmas.List.{get_or_past, get_or-replicate, length-replica
 use Rattle.std.proofs.lemmas.Option.{unwrap_or-slice_get}
 use Rattle.ame_term.specs.Tree.{Val, Tree}
 use Rattle.ame_rows.specs.MemoryView.{Log, no_log, row_at}
-use Rattle.ame_protocol.specs.declared.types.Limits.{Limits}
 use Rattle.ame_protocol.specs.declared.types.Task.{Task}
 use Rattle.ame_protocol.specs.Engine.Parts.{Parts, task_at}
-use Rattle.ame_protocol.specs.Engine.Events.{started}
 use Rattle.ame_worker.proofs.Slots.{Slot, empty_slot, start_of, slot_at}
 
 -- slots with the same task, logs and term are the same
@@ -37,7 +35,14 @@ replicate-at n i x = by (cases_lt i n)
     by (inl within) = get_or-replicate n i x x within
     by (inr beyond) = get_or_past (replicate n x) i x (subst (λ (m : ℕ). m ≤ i) (sym (length-replicate n x)) beyond)
 
-pub started-slot : (program : Tree) (devices : ℕ) (limits : Limits) (room seat : ℕ) → slot_at (started program devices limits room) seat ≡ empty_slot
-started-slot program devices limits room seat =
-    idle-slot (started program devices limits room) seat (replicate-at limits.seats seat Task.Idle)
-    (unwrap_or-slice_get (replicate limits.seats no_log) seat no_log ∙ replicate-at limits.seats seat no_log)
+-- of an engine of which nothing was run
+pub record AreUnused (parts : Parts) : Type 0 where
+  pub tasks : parts.tasks ≡ replicate parts.limits.seats Task.Idle
+  pub rows : parts.memory.rows ≡ replicate parts.limits.seats no_log
+  pub entries : parts.entries ≡ []
+
+pub unused-slot : (parts : Parts) → AreUnused parts → (seat : ℕ) → slot_at parts seat ≡ empty_slot
+unused-slot parts u seat =
+    idle-slot parts seat (ap (λ (ts : List Task). task_at ts seat) u.tasks ∙ replicate-at parts.limits.seats seat Task.Idle)
+    (ap (λ (rs : List (Log Val)). row_at rs seat) u.rows
+    ∙ unwrap_or-slice_get (replicate parts.limits.seats no_log) seat no_log ∙ replicate-at parts.limits.seats seat no_log)

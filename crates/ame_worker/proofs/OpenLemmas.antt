@@ -1,63 +1,140 @@
 -- A shell that was just opened.
-use Rattle.std.proofs.Common.{◌≡◌, ℕ, true, false, List, [], sym, ap, ◌∙◌, subst}
-use Rattle.std.specs.Prelude.{replicate}
+use Rattle.std.proofs.Common.{◌≡◌, ℕ, true, false, List, [], refl, sym, ap, ◌∙◌, subst}
+use Rattle.std.specs.Prelude.{None, Result, Ok, Err, IfOk, replicate, Option}
 use Rattle.std.proofs.lemmas.List.{length-replicate}
 use Rattle.ame_term.specs.Tree.{Val}
 use Rattle.ame_rows.specs.MemoryView.{Log, row_at}
+use Rattle.ame_device.specs.declared.told.Heard.{Heard}
 use Rattle.ame_protocol.specs.declared.types.Limits.{Limits}
 use Rattle.ame_protocol.specs.declared.types.Task.{Task}
+use Rattle.ame_protocol.specs.declared.stop.Stop.{Stop}
 use Rattle.ame_protocol.specs.Engine.Parts.{Parts, task_at}
 use Rattle.ame_protocol.specs.Engine.Events.{started}
+use Rattle.ame_protocol.specs.Event.State.{State}
 use Rattle.ame_protocol.proofs.Engine.ShownMemoryLemmas.{row-shown}
 use Rattle.ame_engine.specs.Core.{Core}
+use Rattle.ame_engine.specs.Resuming.{HasResumed}
 use Rattle.ame_engine.specs.Seen.{parts_of}
+use Rattle.ame_engine.specs.Stops.{stopped_by}
 use Rattle.ame_turn.specs.Work.{Fits}
 use Rattle.ame_shell.specs.Ends.{Ends}
-use Rattle.ame_shell.proofs.OverLemmas.{shell-starts}
+use Rattle.ame_shell.specs.Shell.{ShellView, shown, IsShell}
+use Rattle.ame_shell.specs.Turned.{HasFlushed}
+use Rattle.ame_shell.proofs.OverLemmas.{shell-starts, shell-resumes}
+use Rattle.ame_worker.specs.declared.shared.Opened.{Opened}
 use Rattle.ame_worker.specs.Rows.{Kept, nothing_kept, empty_row, kept_at, row_of}
-use Rattle.ame_worker.specs.Shared.{opened_with, IsShared}
+use Rattle.ame_worker.specs.Shared.{opening_of, opened_with, opened_as, IsShared}
 use Rattle.ame_worker.proofs.Slots.{Slot, slot_at, empty_slot}
-use Rattle.ame_worker.proofs.IdleLemmas.{started-slot, map-all-same, replicate-at}
+use Rattle.ame_worker.proofs.IdleLemmas.{AreUnused, unused-slot, map-all-same, replicate-at}
 use Rattle.ame_worker.proofs.HandLemmas.{row-same}
 use Rattle.ame_machine.specs.Meaning.{Meaning}
 
-module _ {C V M : Type 0} (meaning : Meaning C V M)
-    (core : Core C V M) (code : C) (limits : Limits) (ends : Ends) (same : core.code ≡ code)
-    (starts : parts_of meaning core ≡ started (meaning.program code) (meaning.devices code) limits 0) where
-  slot-here : (seat : ℕ) → slot_at (parts_of meaning core) seat ≡ empty_slot
-  slot-here seat = ap (λ (p : Parts). slot_at p seat) starts ∙ started-slot (meaning.program code) (meaning.devices code) limits 0 seat
+-- what is so of a result by five facts of it
+pub if-ok-by : {T E : Type 0} (r : Result T E) (A B C D F G : T → Type 0) → ((x : T) → A x → B x → C x → D x → F x → G x)
+    → IfOk r A → IfOk r B → IfOk r C → IfOk r D → IfOk r F → IfOk r G
+if-ok-by (Ok x) A B C D F G by a b c d f = by x a b c d f
+if-ok-by (Err e) A B C D F G by a b c d f = tt
 
-  task-here : (seat : ℕ) → task_at core.tasks seat ≡ Task.Idle
-  task-here seat = ap (λ (s : Slot). s.task) (slot-here seat)
+-- what contracts see of a shell that has this engine, has sent so much, and has this sink and these devices
+pub shown-same : {C V M K D : Type 0} (written : K → Option (List ℕ)) (faults : K → ℕ) (heard : D → Option (List Heard)) (device_faults : D → ℕ)
+    (core was : Core C V M) (sent so_far : ℕ) (sink before : K) (devices all : List D)
+    → core ≡ was → sent ≡ so_far → sink ≡ before → devices ≡ all
+    → shown written faults heard device_faults core sent sink devices ≡ shown written faults heard device_faults was so_far before all
+shown-same written faults heard device_faults core was sent so_far sink before devices all engine bytes end tools =
+    ap (λ it. shown written faults heard device_faults it sent sink devices) engine
+    ∙ ap (λ it. shown written faults heard device_faults was it sink devices) bytes
+    ∙ ap (λ it. shown written faults heard device_faults was so_far it devices) end
+    ∙ ap (λ it. shown written faults heard device_faults was so_far before it) tools
 
-  reads-here : (seat : ℕ) → (row_at core.memory.rows seat).reads ≡ []
-  reads-here seat =
-      ap (λ (n : Log Val). n.reads) (sym (row-shown (meaning.value_of core.code) core.memory.rows seat))
-      ∙ ap (λ (s : Slot). s.notes.reads) (slot-here seat)
+module _ {C V M : Type 0} (meaning : Meaning C V M) where
+  -- a shell is to be shared whose engine did nothing for a seat
+  module _ (opened : Opened C) (shell : ShellView C V M) (is : IsShell meaning.program (opening_of opened) shell) (unused : AreUnused (parts_of meaning shell.core)) where
+    abbrev core : Core C V M
+    core = shell.core
 
-  abbrev places : List (Kept M)
-  places = replicate limits.seats nothing_kept
+    abbrev places : List (Kept M)
+    places = replicate core.limits.seats nothing_kept
 
-  kept-here : (seat : ℕ) → kept_at places seat ≡ nothing_kept
-  kept-here seat = replicate-at limits.seats seat nothing_kept
+    slot-here : (seat : ℕ) → slot_at (parts_of meaning core) seat ≡ empty_slot
+    slot-here = unused-slot (parts_of meaning core) unused
 
-  seats : core.limits.seats ≡ limits.seats
-  seats = ap (λ (p : Parts). p.limits.seats) starts
+    task-here : (seat : ℕ) → task_at core.tasks seat ≡ Task.Idle
+    task-here seat = ap (λ (s : Slot). s.task) (slot-here seat)
 
-  row-here : (seat : ℕ) → row_of core seat (kept_at places seat) ≡ empty_row
-  row-here seat =
-      row-same (row_of core seat (kept_at places seat)) empty_row (task-here seat) (reads-here seat) (ap (λ (k : Kept M). k.hand) (kept-here seat))
-      (ap (λ (k : Kept M). k.marked) (kept-here seat))
+    reads-here : (seat : ℕ) → (row_at core.memory.rows seat).reads ≡ []
+    reads-here seat =
+        ap (λ (n : Log Val). n.reads) (sym (row-shown (meaning.value_of core.code) core.memory.rows seat))
+        ∙ ap (λ (s : Slot). s.notes.reads) (slot-here seat)
 
-  pub shared-starts : IsShared meaning (opened_with code limits ends) (record { core = core; sent = 0; ends = ends }) places
-      (replicate limits.seats empty_row) []
-  shared-starts = record {
-    shell = shell-starts meaning core code limits ends same starts;
-    count = length-replicate limits.seats nothing_kept ∙ sym seats;
-    fits = λ seat within. subst (λ (k : Kept M). Fits meaning core seat k.hand) (sym (kept-here seat)) (task-here seat);
-    marks = λ seat marked. absurd (let clash : false ≡ true = sym (ap (λ (k : Kept M). k.marked) (kept-here seat)) ∙ marked in cc);
-    rows =
-        map-all-same (λ (seat : ℕ). row_of core seat (kept_at places seat)) empty_row row-here 0 core.limits.seats
-        ∙ ap (λ (n : ℕ). replicate n empty_row) seats;
-    entries = ap (λ (p : Parts). p.entries) starts;
-  }
+    kept-here : (seat : ℕ) → kept_at places seat ≡ nothing_kept
+    kept-here seat = replicate-at core.limits.seats seat nothing_kept
+
+    row-here : (seat : ℕ) → row_of core seat (kept_at places seat) ≡ empty_row
+    row-here seat =
+        row-same (row_of core seat (kept_at places seat)) empty_row (task-here seat) (reads-here seat) (ap (λ (k : Kept M). k.hand) (kept-here seat))
+        (ap (λ (k : Kept M). k.marked) (kept-here seat))
+
+    shared-opens : IsShared meaning opened shell places (replicate core.limits.seats empty_row) []
+    shared-opens = record {
+      shell = is;
+      count = length-replicate core.limits.seats nothing_kept;
+      fits = λ seat within. subst (λ (k : Kept M). Fits meaning core seat k.hand) (sym (kept-here seat)) (task-here seat);
+      marks = λ seat marked. absurd (let clash : false ≡ true = sym (ap (λ (k : Kept M). k.marked) (kept-here seat)) ∙ marked in cc);
+      rows = map-all-same (λ (seat : ℕ). row_of core seat (kept_at places seat)) empty_row row-here 0 core.limits.seats;
+      entries = unused.entries;
+    }
+
+  -- where an engine has just started
+  module _ (core : Core C V M) (code : C) (limits : Limits) (ends : Ends) (same : core.code ≡ code)
+      (starts : parts_of meaning core ≡ started (meaning.program code) (meaning.devices code) limits 0) where
+    seats : core.limits.seats ≡ limits.seats
+    seats = ap (λ (p : Parts). p.limits.seats) starts
+
+    abbrev shell : ShellView C V M
+    shell = record { core = core; sent = 0; ends = ends }
+
+    unused-started : AreUnused (parts_of meaning core)
+    unused-started = subst AreUnused (sym starts) (record { tasks = refl; rows = refl; entries = refl })
+
+    pub shared-starts : IsShared meaning (opened_with code limits [] ends) shell (replicate core.limits.seats nothing_kept) (replicate limits.seats empty_row) []
+    shared-starts =
+        subst (λ (n : ℕ). IsShared meaning (opened_with code limits [] ends) shell (replicate core.limits.seats nothing_kept) (replicate n empty_row) []) seats
+        (shared-opens (opened_with code limits [] ends) shell (shell-starts meaning core code limits ends same starts) unused-started)
+
+  -- where an engine was opened from a base, whose lines were sent then
+  module _ (core : Core C V M) (ends : Ends) (resumed : HasResumed meaning core.limits core.base core) where
+    going : core.stop ≡ None
+    going = ap (λ (s : State). s.stop) resumed.state
+
+    unused-resumed : AreUnused (parts_of meaning core)
+    unused-resumed = subst AreUnused (sym (ap (λ (s : State). s.parts) resumed.state)) (record { tasks = refl; rows = refl; entries = refl })
+
+    abbrev unsent : ShellView C V M
+    unsent = record { core = core; sent = 0; ends = ends }
+
+    -- a stop alone may be new
+    data IsAsBefore (new : Core C V M) : Type 0 where
+      same : new ≡ core → IsAsBefore new
+      stopped : (why : Stop) → new ≡ stopped_by why core → IsAsBefore new
+
+    flushed-as : (new : ShellView C V M) → HasFlushed unsent new → IsAsBefore new.core
+    flushed-as new (HasFlushed.sends appended stays is sent) = IsAsBefore.same is
+    flushed-as new (HasFlushed.fails gone first short risen is sent) = IsAsBefore.stopped Stop.WriteFault is
+
+    still-unused : (new : Core C V M) → IsAsBefore new → AreUnused (parts_of meaning new) × (new.limits ≡ core.limits)
+    still-unused new (IsAsBefore.same is) = subst (λ (c : Core C V M). AreUnused (parts_of meaning c) × (c.limits ≡ core.limits)) (sym is) (unused-resumed, refl)
+    still-unused new (IsAsBefore.stopped why is) =
+        let u = unused-resumed in
+        subst (λ (c : Core C V M). AreUnused (parts_of meaning c) × (c.limits ≡ core.limits)) (sym is)
+        (record { tasks = u.tasks; rows = u.rows; entries = u.entries }, refl)
+
+    pub shared-resumes : (new : ShellView C V M) → new.ends.told ≡ ends.told → HasFlushed unsent new
+        → IsShared meaning (opened_as core ends) new (replicate core.limits.seats nothing_kept) (replicate core.limits.seats empty_row) []
+    shared-resumes new told flushed =
+        let still = still-unused new.core (flushed-as new flushed) in
+        subst (λ (l : Limits). IsShared meaning (opened_as core ends) new (replicate l.seats nothing_kept) (replicate l.seats empty_row) []) still.1
+        (shared-opens (opened_as core ends) new (shell-resumes meaning core ends unused-resumed.entries going new told flushed) still.0)
+
+    pub resumed-idle : (new : ShellView C V M) → HasFlushed unsent new → (seat : ℕ) → task_at new.core.tasks seat ≡ Task.Idle
+    resumed-idle new flushed seat =
+        ap (λ (s : Slot). s.task) (unused-slot (parts_of meaning new.core) (still-unused new.core (flushed-as new flushed)).0 seat)

@@ -1,7 +1,9 @@
 //! How a shell is opened that workers share.
 
-ghost use Rattle.std.specs.Prelude.{◌≡◌, [], IfOk, IfErr, replicate};
+ghost use Rattle.std.specs.Prelude.{◌≡◌, ℕ, [], IfOk, IfErr, replicate};
 ghost use Rattle.std.specs.Arc.{arc_value};
+ghost use Rattle.ame_protocol.specs.declared.types.Task.{Task};
+ghost use Rattle.ame_protocol.specs.Engine.Parts.{task_at};
 ghost use Rattle.ame_engine.specs.Resuming.{HasResumed};
 ghost use Rattle.ame_engine.specs.Whole.{AreLimits};
 ghost use Rattle.ame_shell.specs.Ends.{ends_of};
@@ -113,6 +115,7 @@ where
             (opened_as engine (ends_of K.written K.faults D.device_heard D.device_faults sink devices.items))
             (shown K.written K.faults D.device_heard D.device_faults shared.shell.value.engine shared.shell.value.sent shared.shell.value.sink shared.shell.value.devices.items)
             shared.places.items (replicate engine.limits.seats empty_row) []) }
+        ensures idle { IfOk result (λ shared. (seat : ℕ) → task_at shared.shell.value.engine.tasks seat ≡ Task.Idle) }
         ensures code { IfOk result (λ shared. shared.shell.value.engine.code ≡ engine.code) }
         ensures limits { IfOk result (λ shared. shared.shell.value.engine.limits ≡ engine.limits) }
         ensures base { IfOk result (λ shared. shared.shell.value.engine.base ≡ engine.base) }

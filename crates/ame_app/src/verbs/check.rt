@@ -2,7 +2,6 @@
 
 ghost use Rattle.std.specs.Prelude.{◌≡◌, ◌==◌, ◌≤◌, ◌⊎◌, IfOk, IfErr, count_by, length, vec_len};
 ghost use Rattle.std.specs.Arc.{arc_value};
-ghost use Rattle.ame_io.specs.Lines.{lines};
 ghost use Rattle.ame_code.specs.Code.{program_of};
 ghost use Rattle.ame_app.specs.Verbs.Check.{TakesCertificate, HasNoCertificate, entries_before, TellsOfJournal};
 ghost use Rattle.ame_app.specs.declared.status.Status.{Status as Told};
@@ -13,7 +12,7 @@ use crate::verbs::{Settled, Taken};
 use ame_check::{Judged, judge, split_input};
 use ame_code::Code;
 use ame_eval::Fragment;
-use ame_io::{READ_LIMIT, integer_line};
+use ame_io::{READ_LIMIT, lines_of};
 use ame_journal::{Entry, Journal, JournalFault};
 use ame_term::NoMemory;
 use std::alloc::Global;
@@ -83,15 +82,4 @@ pub(crate) fn settle(alloc: Global, code: &Arc<Code>, front: &Front) -> Result<S
         }),
         Judged::Tall(_) => Err(NoMemory),
     }
-}
-
-/// The lines of an output.
-fn lines_of(alloc: Global, output: &[i64]) -> Result<Vec<u8>, NoMemory>
-    ensures { IfOk result (λ text. text.items ≡ lines output.now) }
-{
-    let mut text = Vec::new(alloc);
-    for n in output {
-        text.extend_from_slice(integer_line(n).as_str().as_bytes())?;
-    }
-    Ok(text)
 }

@@ -16,11 +16,12 @@ ghost use Rattle.ame_engine.specs.Committing.{IsCommitting, ends_at, leaves_at};
 
 use super::Engine;
 use crate::answer::Noted;
+use ame_io::lines_of;
 use ame_machine::Runner;
 use ame_protocol::{Attempt, Reason, Task};
 use ame_term::NoMemory;
 use members::{join_all, send_on, wake_all};
-use taken::{append, entry_of, lines_of, make_room, number_after};
+use taken::{append, entry_of, make_room, number_after};
 
 pub(super) mod members;
 pub(super) mod taken;

@@ -12,10 +12,10 @@ ghost use Rattle.ame_engine.specs.Whole.{AreLimits};
 ghost use Rattle.ame_engine.specs.Resuming.{AreActs, IsNear, IsFar, FailsToResume, HasResumed};
 
 use super::Engine;
-use super::commit::taken::lines_of;
 use super::start::idle_tasks;
 use crate::resume_fail::ResumeFail;
 use ame_check::{Halt, Replay};
+use ame_io::lines_of;
 use ame_journal::{Entry, Journal};
 use ame_machine::Runner;
 use ame_protocol::{Counters, Limits};

@@ -1,11 +1,9 @@
 //! What a commit takes of memory, before it changes anything.
 
 ghost use Rattle.std.specs.Prelude.{◌≡◌, ◌+◌, ◌≤◌, ◌<◌, ◌++◌, IfOk, OnOk, length, vec_len, vec_capacity};
-ghost use Rattle.ame_io.specs.Lines.{lines};
 ghost use Rattle.ame_machine.specs.MachineView.{place_shown};
 ghost use Rattle.ame_protocol.specs.Engine.Events.{ran_entry};
 
-use ame_io::integer_line;
 use ame_journal::{Entry, EntryKind, Journal};
 use ame_machine::Runner;
 use ame_term::{Locs, NoMemory};
@@ -31,17 +29,6 @@ pub(crate) fn entry_of<M: Runner>(
         fresh: Locs::from_vec(fresh),
         answer: None,
     })
-}
-
-/// The lines of what was printed.
-pub(crate) fn lines_of(alloc: Global, prints: &[i64]) -> Result<Vec<u8>, NoMemory>
-    ensures { IfOk result (λ text. text.items ≡ lines prints.now) }
-{
-    let mut text = Vec::new(alloc);
-    for n in prints {
-        text.extend_from_slice(integer_line(n).as_str().as_bytes())?;
-    }
-    Ok(text)
 }
 
 /// The number behind those of so many new members. Lacks memory where it would be too great.

@@ -1,4 +1,4 @@
-use Rattle.std.proofs.Common.{◌≡◌, refl, sym, ap, ◌∙◌, subst}
+use Rattle.std.proofs.Common.{◌≡◌, [], refl, sym, ap, ◌∙◌, subst}
 use Rattle.std.specs.Arc.{arc_value}
 use Rattle.ame_chooser.specs.Questions.{questions, seats_of}
 use Rattle.ame_chooser.specs.Strategy.{PicksSeats}
@@ -16,6 +16,7 @@ returns-clause-over g c =
     let opening : Opening _ = record {
       code = arc_value c.args.code;
       limits = c.args.limits;
+      base = [];
       ends = ends_of g.K.Sink.written g.K.Sink.faults g.D.Device.device_heard g.D.Device.device_faults c.args.sink c.args.devices.items;
     } in
     c.finish.ensures.over opening (c.unwind_all.ensures.keeps opening (c.play.ensures.keeps opening c.in-Ok-open.ensures.opens))

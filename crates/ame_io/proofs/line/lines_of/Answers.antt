@@ -1,6 +1,6 @@
 use Rattle.std.proofs.Common.{◌∙◌}
-use Rattle.ame_engine.proofs.LineLemmas.{lines-more}
-use Rattle.ame_app.proofs.verbs.check.lines_of.Goals as goal
+use Rattle.ame_io.proofs.LinesLemmas.{lines-more}
+use Rattle.ame_io.proofs.line.lines_of.Goals as goal
 
 pub loop-n-preserved : goal.loop-n-preserved
 loop-n-preserved c =

@@ -1,7 +1,7 @@
 -- The lines so far.
 use Rattle.std.proofs.Common.{◌≡◌, take}
 use Rattle.ame_io.specs.Lines.{lines}
-use Rattle.ame_engine.proofs.engine.commit.taken.lines_of.Given as goal
+use Rattle.ame_io.proofs.line.lines_of.Given as goal
 
 abbrev pub invariant-loop-n : goal.invariant-loop-n
-invariant-loop-n l = l.text.items ≡ lines (take l.n-index l.prints)
+invariant-loop-n l = l.text.items ≡ lines (take l.n-index l.output)

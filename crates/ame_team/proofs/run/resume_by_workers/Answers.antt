@@ -1,0 +1,23 @@
+use Rattle.std.proofs.Common.{◌≡◌, ℕ, sym, ap, ◌∙◌, subst}
+use Rattle.ame_protocol.specs.declared.types.Task.{Task}
+use Rattle.ame_protocol.specs.Engine.Parts.{task_at}
+use Rattle.ame_shell.specs.Ends.{ends_of}
+use Rattle.ame_shell.specs.Shell.{shown, IsShell}
+use Rattle.ame_worker.specs.Shared.{opened_as, opening_of}
+use Rattle.ame_team.proofs.run.resume_by_workers.Goals as goal
+
+pub give_up-requires : goal.give_up-requires
+give_up-requires g c = record {
+  idle =
+      subst (λ shell. (seat : ℕ) → task_at shell.engine.tasks seat ≡ Task.Idle)
+      (sym (c.into_shell.ensures ∙ ap (λ shared. shared.shell.value) c.in-Err.ensures.back)) c.in_ok-shared.ensures.idle;
+}
+
+pub returns-in-Err-clause-over : goal.returns-in-Err-clause-over
+returns-in-Err-clause-over g c =
+    let r = g.M.Runner.meaning in
+    let ends = ends_of g.K.Sink.written g.K.Sink.faults g.D.Device.device_heard g.D.Device.device_faults c.args.sink c.args.devices.items in
+    let opening = opening_of (opened_as c.args.engine ends) in
+    c.give_up.ensures.over opening
+    (subst (λ sh. IsShell r.program opening (shown g.K.Sink.written g.K.Sink.faults g.D.Device.device_heard g.D.Device.device_faults sh.engine sh.sent sh.sink sh.devices.items))
+    (sym (c.into_shell.ensures ∙ ap (λ shared. shared.shell.value) c.in-Err.ensures.back)) c.in_ok-shared.ensures.stands.shell)

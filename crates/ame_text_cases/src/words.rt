@@ -183,6 +183,23 @@ fn replay_with_its_options(rt: HostRuntime) -> Result<(), Fail> {
     Ok(())
 }
 
+/// Words, with the options that they spell.
+const RESUMES: &[(&[&str], Options)] = &[
+    (&["resume"], DEFAULTS),
+    (&["resume", "--workers=4"], FOUR_WORKERS),
+    (&["resume", "--turns", "2", "--slice", "3"], SHORT),
+];
+
+#[test]
+fn resume_with_its_options(rt: HostRuntime) -> Result<(), Fail> {
+    for &(words, options) in RESUMES {
+        let command = Command::Resume(options);
+        assert!(rt; is_read_as(rt.alloc(), words, Ok(command))?, "{words:?}");
+    }
+    assert!(rt; is_read_as(rt.alloc(), &["resume", "1"], Err(CliFail::Usage))?);
+    Ok(())
+}
+
 #[test]
 fn check_stands_alone(rt: HostRuntime) -> Result<(), Fail> {
     assert!(rt; is_read_as(rt.alloc(), &["check"], Ok(Command::Check))?);

@@ -5,3 +5,6 @@ pub mod CaseLemmas
 pub mod EntryLemmas
 pub mod LineLemmas
 pub mod WalkLemmas
+pub mod CountLemmas
+pub mod StoredLemmas
+pub mod FragmentLemmas

@@ -10,3 +10,7 @@ pub mod Forms
 pub mod Lines
 pub mod Replay
 pub mod Walk
+pub mod Counts
+pub mod Stored
+pub mod Fragments
+pub mod Heading

@@ -2,3 +2,6 @@ pub mod InputLemmas
 pub mod NextLemmas
 pub mod RowLemmas
 pub mod LineLemmas
+pub mod CountLemmas
+pub mod StoredLemmas
+pub mod FragmentLemmas

@@ -8,3 +8,7 @@ pub mod Nexts
 pub mod Table
 pub mod Forms
 pub mod Lines
+pub mod Counts
+pub mod Stored
+pub mod Fragments
+pub mod Heading

@@ -37,7 +37,7 @@ pub fn forms_of(alloc: Global, text: &[u8], made: &[Made]) -> Result<Vec<u8>, No
 }
 
 /// The tokens of a text; none where it has a fault.
-fn tokens_in(alloc: Global, text: &[u8]) -> Result<Vec<Token>, NoMemory>
+pub(crate) fn tokens_in(alloc: Global, text: &[u8]) -> Result<Vec<Token>, NoMemory>
     requires { length text.now ≤ max_text }
     ensures tokens { IfOk result (λ tokens. tokens.items ≡ spec.tokens_or_none (tokens_of text.now)) }
     ensures within { IfOk result (λ tokens. All (IsWithin text.now) tokens.items) }
@@ -50,7 +50,11 @@ fn tokens_in(alloc: Global, text: &[u8]) -> Result<Vec<Token>, NoMemory>
 }
 
 /// Where the `ref` forms are.
-fn positions(alloc: Global, text: &[u8], tokens: &[Token]) -> Result<Vec<Position>, NoMemory>
+pub(crate) fn positions(
+    alloc: Global,
+    text: &[u8],
+    tokens: &[Token],
+) -> Result<Vec<Position>, NoMemory>
     requires { All (IsWithin text.now) tokens.now }
     ensures { IfOk result (λ places. places.items ≡ spec.positions text.now tokens.now) }
 {
@@ -103,7 +107,7 @@ fn append_form(page: &mut Vec<u8>, places: &[Position], made: Made) -> Result<()
 }
 
 /// The position of the form with this number.
-fn position_at(places: &[Position], form: TyNo) -> Option<Position>
+pub(crate) fn position_at(places: &[Position], form: TyNo) -> Option<Position>
     ensures { result ≡ slice_get places.now form.0 }
 {
     if (form.0 as usize) < places.len() {
@@ -114,7 +118,7 @@ fn position_at(places: &[Position], form: TyNo) -> Option<Position>
 }
 
 /// Adds a line and a column.
-fn append_position(page: &mut Vec<u8>, at: Option<Position>) -> Result<(), NoMemory>
+pub(crate) fn append_position(page: &mut Vec<u8>, at: Option<Position>) -> Result<(), NoMemory>
     ensures { OnOk result (page.new.items ≡ page.old.items ++ spec.position_words at) }
 {
     let Some(at) = at else {

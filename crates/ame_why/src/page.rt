@@ -27,7 +27,7 @@ pub(crate) fn append_column(page: &mut Vec<u8>, width: usize, number: u64) -> Re
 }
 
 /// Adds spaces.
-fn append_spaces(page: &mut Vec<u8>, count: usize) -> Result<(), NoMemory>
+pub(crate) fn append_spaces(page: &mut Vec<u8>, count: usize) -> Result<(), NoMemory>
     ensures { OnOk result (page.new.items ≡ page.old.items ++ replicate count 32) }
 {
     for _ in 0..count {

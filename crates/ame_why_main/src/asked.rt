@@ -1,6 +1,8 @@
-//! What the words ask for, before those that `ame` has.
+//! What the words ask for, beside those that `ame` has.
 
-use ame_cli::Verb;
+use ame_cli::{Command, Verb, read_words};
+use ame_protocol::Limits;
+use std::alloc::Global;
 
 /// What is shown.
 #[derive(Clone, Copy, PartialEq, Eq, Debug)]
@@ -13,30 +15,49 @@ pub enum View {
     Trace,
     /// The schedule of a run on one thread, and the program.
     Schedule,
+    /// What was counted.
+    Counts,
+    /// What the locations hold that are left.
+    Store,
 }
 
-/// Takes the word for a view, where it comes first.
-pub fn view_of(words: &mut Vec<String>) -> View {
-    match words.first() {
-        Some(word) if word.as_str() == "--journal" => {
-            let _ = words.remove(0);
-            View::Journal
+impl View {
+    /// The view for which a word asks.
+    fn named(word: &str) -> Option<View> {
+        match word {
+            "--journal" => Some(View::Journal),
+            "--trace" => Some(View::Trace),
+            "--schedule" => Some(View::Schedule),
+            "--counts" => Some(View::Counts),
+            "--store" => Some(View::Store),
+            _ => None,
         }
-        Some(word) if word.as_str() == "--trace" => {
-            let _ = words.remove(0);
-            View::Trace
-        }
-        Some(word) if word.as_str() == "--schedule" => {
-            let _ = words.remove(0);
-            View::Schedule
-        }
-        _ => View::Why,
+    }
+
+    /// Whether what is shown is an input of another call, so that nothing may stand behind it.
+    pub fn is_input(self) -> bool {
+        matches!(self, View::Journal | View::Schedule)
     }
 }
 
-/// Takes the name of a file, where it comes first.
+/// Takes the first word out that asks for a view, wherever it stands.
+pub fn view_of(words: &mut Vec<String>) -> View {
+    for at in 0..words.len() {
+        if let Some(view) = View::named(words[at].as_str()) {
+            let _ = words.remove(at);
+            return view;
+        }
+    }
+    View::Why
+}
+
+/// Takes the name of a file, where it comes first. `-` is the standard input.
 pub fn file_of(words: &mut Vec<String>) -> Option<String> {
     match words.first() {
+        Some(word) if word.as_str() == "-" => {
+            let _ = words.remove(0);
+            None
+        }
         Some(word) if is_file(word.as_str()) => Some(words.remove(0)),
         _ => None,
     }
@@ -45,4 +66,18 @@ pub fn file_of(words: &mut Vec<String>) -> Option<String> {
 /// Whether a word is none that `ame` has.
 fn is_file(word: &str) -> bool {
     Verb::named(word).is_none() && !word.starts_with('-')
+}
+
+/// The limits for which words ask, where they begin a run.
+pub fn limits_of(alloc: Global, words: &[String]) -> Option<Limits> {
+    let options = match read_words(alloc, words) {
+        Ok(Command::Run(options) | Command::Bench(_, _, options)) => options,
+        Ok(Command::Sim(_, options) | Command::Replay(options) | Command::Resume(options)) => options,
+        Ok(Command::Check) | Err(_) => return None,
+    };
+    Some(Limits {
+        turns: options.turns,
+        slice: options.slice,
+        seats: options.workers,
+    })
 }

@@ -3,16 +3,66 @@
 ghost use Rattle.std.specs.Prelude.{◌≤◌, vec_len};
 ghost use Rattle.ame_lex.specs.Bytes.{max_text};
 
+use crate::origin::Origin;
 use ame_app::{Own, Report, StandardDevice, Status, TextFault};
+use ame_lex::LexFault;
+use ame_parse::ParseFault;
 use ame_term::NoMemory;
-use ame_why::{explain_bytes, explain_entry, explain_line, explain_tokens, explain_types};
+use ame_why::{
+    explain_bytes, explain_entry, explain_line, explain_tokens, explain_types, heading_of,
+};
 use std::alloc::Global;
 
-/// Why a call ended as it did, with the place in its text, or in the bytes that it was given where they are a certificate.
+/// Why a call ended as it did: of a text that is refused its name with the line, the column and the verdict; and then the place in the text,
+/// or in the bytes that it was given where they are a certificate.
 pub fn explain<K>(
     alloc: Global,
     report: &Report<K, StandardDevice>,
     input: &[u8],
+    origin: Origin<'_>,
+) -> Result<Vec<u8>, NoMemory>
+    requires small { vec_len report.now.text ≤ max_text }
+{
+    let mut page = match place_of(&report.status) {
+        Some(place) => {
+            let told = report.status.line();
+            heading_of(
+                alloc,
+                origin.name.as_bytes(),
+                &report.text,
+                place,
+                told.as_str().as_bytes(),
+            )?
+        }
+        None => Vec::new(alloc),
+    };
+    page.extend_from_slice(&reason(alloc, report, input, origin)?)?;
+    Ok(page)
+}
+
+/// The place in a text at which it is refused.
+fn place_of(status: &Status) -> Option<u32> {
+    match status {
+        Status::Text(TextFault::Lexical(LexFault::BadByte(place) | LexFault::LongNumber(place))) =>
+            Some(*place),
+        Status::Text(TextFault::Syntactic(fault)) => match fault {
+            ParseFault::Expected(place, _)
+            | ParseFault::UnknownName(place)
+            | ParseFault::TooNested(place)
+            | ParseFault::Trailing(place) => Some(*place),
+            ParseFault::NoMemory => None,
+        },
+        Status::Types(fault) => Some(fault.place),
+        _ => None,
+    }
+}
+
+/// Why a call ended as it did.
+fn reason<K>(
+    alloc: Global,
+    report: &Report<K, StandardDevice>,
+    input: &[u8],
+    origin: Origin<'_>,
 ) -> Result<Vec<u8>, NoMemory>
     requires small { vec_len report.now.text ≤ max_text }
 {
@@ -24,8 +74,21 @@ pub fn explain<K>(
         (Status::Types(fault), _) => explain_types(alloc, &report.text, fault),
         (Status::BadJournal(line), _) => explain_line(alloc, input, u64::from(*line)),
         (Status::Invalid(entry), Own::Unmade(why)) => explain_entry(alloc, input, *entry, why),
+        (Status::ReadFault, _) => unread(alloc, origin),
         (status, _) => Ok(Vec::from_slice(alloc, remark(status))?),
     }
+}
+
+/// Which file can't be read, and why.
+fn unread(alloc: Global, origin: Origin<'_>) -> Result<Vec<u8>, NoMemory> {
+    let mut page = Vec::from_slice(alloc, origin.name.as_bytes())?;
+    page.extend_from_slice(b": ")?;
+    match origin.fault {
+        Some(fault) => page.extend_from_slice(fault.as_bytes())?,
+        None => page.extend_from_slice(b"the text can't be read")?,
+    }
+    page.push(b'\n')?;
+    Ok(page)
 }
 
 /// What is to be said of a call without a place in its text.
@@ -35,8 +98,7 @@ fn remark(status: &Status) -> &'static [u8] {
             b"each fragment that is left waits for a condition that nobody will make true\n",
         Status::Spent => b"all turns were made, and fragments are left; `--turns` allows more\n",
         Status::Usage =>
-            b"the words are those of `ame`: `run`, `bench SEED SIZE`, `sim SEED` or `replay`, and options, or `check`; see docs/ame.1\n",
-        Status::ReadFault => b"the text can't be read\n",
+            b"the words are those of `ame`, and one view; `./why --help` tells them, docs/ame.1 and docs/why.1 say more\n",
         Status::TooLong => b"a text has at most 1048576 bytes\n",
         Status::BadSchedule =>
             b"the input begins with `schedule `, a sign for each pick, 0 to 9 and a to v, and the line `program`\n",

@@ -1,0 +1,92 @@
+-- What a run counted, beside what bounds it.
+use Rattle.std.specs.Prelude.{◌≡◌, ℕ, ◌+◌, ◌*◌, ◌≤◌, List, [], ◌++◌, length, Option, Some, None, codes, decimal}
+use Rattle.ame_pool.specs.Standings.{max_rollbacks}
+use Rattle.ame_protocol.specs.declared.counters.Counters.{Counters}
+use Rattle.ame_protocol.specs.declared.stop.Stop.{Stop}
+use Rattle.ame_protocol.specs.declared.types.Limits.{Limits}
+use Rattle.ame_protocol.specs.Bounds.Spent.{paid, paid_by_entries, paid_by_tries}
+use Rattle.ame_protocol.specs.Event.Bounds.{refusals}
+use Rattle.ame_engine.specs.Ending.{End}
+use Rattle.ame_why.specs.Table.{column}
+
+-- a count, and what was counted
+unfoldable pub count_row : ℕ → List ℕ → List ℕ
+count_row n what = column 9 n ++ what ++ codes "\n"
+
+-- a bound, which comes from other counts as the words tell
+unfoldable pub bound_words : List ℕ → ℕ → List ℕ
+bound_words words most = codes ", at most " ++ words ++ codes " = " ++ decimal most ++ codes "\n"
+
+-- a count beside its bound
+unfoldable pub bounded_row : ℕ → List ℕ → List ℕ → ℕ → List ℕ
+bounded_row n what words most = column 9 n ++ what ++ bound_words words most
+
+-- the turns by their kinds
+unfoldable pub access_rows : Counters → List ℕ
+access_rows counters =
+    count_row counters.begins (codes "  begins") ++ count_row counters.reads (codes "  reads") ++ count_row counters.writes (codes "  writes")
+    ++ count_row counters.conflicts (codes "  conflicts") ++ count_row counters.allocs (codes "  new locations")
+
+unfoldable pub end_rows : Counters → List ℕ
+end_rows counters =
+    count_row counters.checks (codes "  checks") ++ count_row counters.commits (codes "  commits") ++ count_row counters.blocks (codes "  false conditions")
+
+unfoldable pub late_rows : Counters → List ℕ
+late_rows counters =
+    count_row counters.talls (codes "  too high") ++ count_row counters.undos (codes "  undos")
+    ++ count_row counters.frees (codes "  unprotected")
+
+unfoldable pub turn_rows : Counters → List ℕ
+turn_rows counters = access_rows counters ++ end_rows counters ++ late_rows counters
+
+-- what may turn back, for so many fragments and entries
+abbrev pub most_refusals : ℕ → ℕ → ℕ
+most_refusals fragments entries = max_rollbacks * (fragments + entries)
+
+abbrev pub refusal_words : ℕ → ℕ → List ℕ
+refusal_words fragments entries = codes "8 * (" ++ decimal fragments ++ codes " + " ++ decimal entries ++ codes ")"
+
+-- the answers that turned a fragment back
+unfoldable pub refusal_row : Counters → ℕ → ℕ → List ℕ
+refusal_row counters fragments entries =
+    bounded_row (refusals counters) (codes "conflicts and invalid reads") (refusal_words fragments entries) (most_refusals fragments entries)
+
+-- the tries that left no entry
+unfoldable pub try_row : ℕ → ℕ → ℕ → ℕ → List ℕ
+try_row tries fragments entries seats =
+    bounded_row tries (codes "tries that left no entry") (refusal_words fragments entries ++ codes " + " ++ decimal seats)
+    (most_refusals fragments entries + seats)
+
+-- the turns of a run that used them up, and what pays for them
+unfoldable pub paid_row : ℕ → ℕ → ℕ → List ℕ
+paid_row turns by_entries by_tries =
+    bounded_row turns (codes "turns that are paid") (codes "3 * (" ++ decimal by_entries ++ codes " + " ++ decimal by_tries ++ codes ")")
+    (3 * (by_entries + by_tries))
+
+-- the last row, where the stop is that the turns are used up
+abbrev pub spent_row : {V : Type 0} → End V → ℕ → Option Stop → List ℕ
+spent_row end slice (Some Stop.Spent) = paid_row end.turns (paid_by_entries end.entries) (paid_by_tries slice end.tried)
+spent_row end slice _ = []
+
+-- entries, fragments and turns
+unfoldable pub first_rows : ℕ → ℕ → ℕ → List ℕ
+first_rows entries fragments turns =
+    count_row entries (codes "entries") ++ count_row fragments (codes "fragments") ++ count_row turns (codes "turns, of these")
+
+-- what is bounded
+unfoldable pub bounded_rows : {V : Type 0} → End V → ℕ → Limits → List ℕ
+bounded_rows end fragments limits =
+    refusal_row end.counters fragments (length end.entries) ++ try_row (length end.tried) fragments (length end.entries) limits.seats
+    ++ spent_row end limits.slice end.stop
+
+-- the whole page
+abbrev pub counts : {V : Type 0} → End V → ℕ → Limits → List ℕ
+counts end fragments limits =
+    first_rows (length end.entries) fragments end.turns ++ turn_rows end.counters ++ count_row end.counters.invalids (codes "invalid reads")
+    ++ bounded_rows end fragments limits
+
+-- Each count that is shown beside a bound is at most that.
+pub record KeepsShownBounds {V : Type 0} (end : End V) (fragments : ℕ) (limits : Limits) : Type 0 where
+  pub refusals : refusals end.counters ≤ most_refusals fragments (length end.entries)
+  pub tries : length end.tried ≤ most_refusals fragments (length end.entries) + limits.seats
+  pub paid : end.stop ≡ Some Stop.Spent → end.turns ≤ 3 * (paid_by_entries end.entries + paid_by_tries limits.slice end.tried)

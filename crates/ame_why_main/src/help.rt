@@ -1,0 +1,32 @@
+//! What is told without a run.
+
+use ame_why::explain_rule;
+
+/// The synopsis.
+const SYNOPSIS: &[u8] =
+    b"./why [VIEW] [FILE] [WORD ..]   runs the program that FILE has, and says why it ends as it does
+./why --explain RULE            a rule of the types, 1 to 9 and 11, with a right and a wrong text
+./why --version                 the commit and the kit
+
+FILE is `-` or none for the standard input. The words are those of `ame`: `run`, `bench SEED SIZE`, `sim SEED`, `replay` or
+`check`, and `--workers N`, `--turns N`, `--slice N`.
+
+Views, one of which may stand anywhere:
+  --journal    the journal of the run, and the program
+  --trace      the journal as a table
+  --schedule   the schedule of a run of `sim` or `replay`, and the program
+  --counts     what was counted, beside its bounds
+  --store      what the locations hold that are left
+";
+
+/// What is told of words that ask for no run: the synopsis, or a rule of the types.
+pub fn told_alone(words: &[String]) -> Option<&'static [u8]> {
+    match words {
+        [word] if word.as_str() == "--help" => Some(SYNOPSIS),
+        [word, rule] if word.as_str() == "--explain" => match rule.as_str().parse::<u8>() {
+            Ok(number) => explain_rule(number),
+            Err(_) => None,
+        },
+        _ => None,
+    }
+}

@@ -1,0 +1,4 @@
+pub mod LaneLemmas
+pub mod StampLemmas
+pub mod EscapeLemmas
+pub mod CountLemmas

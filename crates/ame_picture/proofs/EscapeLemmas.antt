@@ -31,10 +31,10 @@ byte_has_no_mark b true m =
     let P : List ℕ → Type 0 = HasNoMark in
     subst P (sym (spelled b m))
     (All-cons IsNoMark 38 ((35 ∷ (48 + b / 10) ∷ (48 + b % 10) ∷ 59 ∷ [])) (λ e. omega (arith, e), λ e. omega (arith, e), λ e. omega (arith, e))
-     (All-cons IsNoMark 35 ((48 + b / 10) ∷ (48 + b % 10) ∷ 59 ∷ []) (λ e. omega (arith, e), λ e. omega (arith, e), λ e. omega (arith, e))
-      (All-cons IsNoMark (48 + b / 10) ((48 + b % 10) ∷ 59 ∷ []) tens
-       (All-cons IsNoMark (48 + b % 10) (59 ∷ []) ones
-        (All-cons IsNoMark 59 [] (λ e. omega (arith, e), λ e. omega (arith, e), λ e. omega (arith, e)) (All-nil IsNoMark))))))
+    (All-cons IsNoMark 35 ((48 + b / 10) ∷ (48 + b % 10) ∷ 59 ∷ []) (λ e. omega (arith, e), λ e. omega (arith, e), λ e. omega (arith, e))
+    (All-cons IsNoMark (48 + b / 10) ((48 + b % 10) ∷ 59 ∷ []) tens
+    (All-cons IsNoMark (48 + b % 10) (59 ∷ []) ones
+    (All-cons IsNoMark 59 [] (λ e. omega (arith, e), λ e. omega (arith, e), λ e. omega (arith, e)) (All-nil IsNoMark))))))
 byte_has_no_mark b false m =
     All-cons IsNoMark b [] (λ e. absurd (grind (arith, m, e)), λ e. absurd (grind (arith, m, e)), λ e. absurd (grind (arith, m, e))) (All-nil IsNoMark)
 

@@ -38,7 +38,7 @@ lies_first box rest j during apart = record {
   among = (0, omega arith, refl);
   lies = during;
   alone = All-cons (λ other. IsDuring j other → other ≡ box) box rest (λ _. refl)
-  (All-weaker (λ later. box.to < later.from) (λ other. IsDuring j other → other ≡ box) (λ other behind its. absurd (omega (arith, behind, its, during))) rest apart);
+      (All-weaker (λ later. box.to < later.from) (λ other. IsDuring j other → other ≡ box) (λ other behind its. absurd (omega (arith, behind, its, during))) rest apart);
 }
 
 lies_behind : (box : Attempt) (rest : List Attempt) (j : ℕ) → box.to < j → LiesInOne rest j → LiesInOne (box ∷ rest) j
@@ -62,6 +62,7 @@ skip seat k count begun pick picks rest idle is laid = record {
     earlier : (o : Option Attempt) (attempt : Attempt) → start (k + 1) o ≤ attempt.from → start k o ≤ attempt.from
     earlier None attempt h = omega (arith, h)
     earlier (Some a) attempt h = h
+
     covers : (j : ℕ) (d : Pick) → j < length (pick ∷ picks) → is_work_of seat (get_or (pick ∷ picks) j d) ≡ true → LiesInOne rest (k + j)
     covers zero d below works = absurd (cc)
     covers (suc j) d below works =
@@ -98,7 +99,7 @@ close : (seat k count : ℕ) (begun : Option Attempt) (box : Attempt) (pick : Pi
 close seat k count begun box pick picks rest room is laid = record {
   within = All-cons (IsAttemptOn seat count) box rest (record { here = is.is.here; order = is.is.order; end = omega (arith, is.to, room) }) laid.within;
   later = All-cons (λ attempt. start k begun ≤ attempt.from) box rest (omega (arith, is.from))
-  (All-weaker (λ attempt. k + 1 ≤ attempt.from) (λ attempt. start k begun ≤ attempt.from) (λ attempt h. omega (arith, h, is.from, is.to, is.is.order)) rest laid.later);
+      (All-weaker (λ attempt. k + 1 ≤ attempt.from) (λ attempt. start k begun ≤ attempt.from) (λ attempt h. omega (arith, h, is.from, is.to, is.is.order)) rest laid.later);
   apart = (apart, laid.apart);
   covered = covers;
   kept = λ j during. lies_first box rest j (is.holds j during) apart;
@@ -106,6 +107,7 @@ close seat k count begun box pick picks rest room is laid = record {
   where
     apart : All (λ later. box.to < later.from) rest
     apart = All-weaker (λ attempt. k + 1 ≤ attempt.from) (λ later. box.to < later.from) (λ attempt h. omega (arith, h, is.to)) rest laid.later
+
     covers : (j : ℕ) (d : Pick) → j < length (pick ∷ picks) → is_work_of seat (get_or (pick ∷ picks) j d) ≡ true → LiesInOne (box ∷ rest) (k + j)
     covers zero d below works =
         let starts : box.from ≤ k + 0 = omega (arith, is.is.order, is.to) in

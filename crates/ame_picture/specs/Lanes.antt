@@ -30,7 +30,7 @@ abbrev pub lane_from : ℕ → ℕ → Option Attempt → List Pick → List Att
 lane_from seat k begun [] = option_to_list begun
 lane_from seat k begun (pick ∷ picks) =
     if is_work_of seat pick then
-      (if is_last pick.did then grown k pick begun ∷ lane_from seat (k + 1) None picks else lane_from seat (k + 1) (Some (grown k pick begun)) picks)
+    (if is_last pick.did then grown k pick begun ∷ lane_from seat (k + 1) None picks else lane_from seat (k + 1) (Some (grown k pick begun)) picks)
     else lane_from seat (k + 1) begun picks
 
 abbrev pub lane : ℕ → List Pick → List Attempt

@@ -5,3 +5,7 @@ pub mod Spans
 pub mod Arrows
 pub mod Drawings
 pub mod Escapes
+pub mod Layout
+pub mod Shapes
+pub mod Marks
+pub mod Picture

@@ -62,9 +62,7 @@ fn arrow_of(earlier: &[Pick], index: u32, pick: &Pick) -> Option<Arrow>
     ensures { result ≡ spec.arrow_by index pick.now earlier.now pick.now.did }
 {
     match pick.did {
-        Did::Began => {
-            continuation(index, pick, last_spot(earlier, Sought::Member(pick.member)))
-        }
+        Did::Began => { continuation(index, pick, last_spot(earlier, Sought::Member(pick.member))) }
         Did::Met(owner) => match pick.place {
             None => None,
             Some(place) => obstacle(index, pick, last_spot(earlier, Sought::Write(owner, place))),

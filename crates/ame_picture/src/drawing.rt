@@ -26,6 +26,16 @@ pub struct Drawing {
     pub stamps: Vec<Stamp>,
 }
 
+/// What is written above a picture, and what is hidden in it.
+#[derive(Drop)]
+pub struct Captions {
+    pub title: Vec<u8>,
+    pub verdict: Vec<u8>,
+    /// The input of `replay`: the schedule, the line `program`, and the program's text.
+    pub replay: Vec<u8>,
+    /// The journal's text.
+    pub journal: Vec<u8>,
+}
 
 /// The drawing of a run; none where the picks didn't make these entries.
 pub fn drawing_of(

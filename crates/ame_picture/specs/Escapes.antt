@@ -1,5 +1,5 @@
 -- Text inside of a picture.
-use Rattle.std.specs.Prelude.{◌≡◌, ◌≢◌, ◌==◌, ◌||◌, ◌++◌, ℕ, Bool, List, ◌∷◌, [], All, if◌then◌else◌, codes, decimal}
+use Rattle.std.specs.Prelude.{◌≢◌, ◌==◌, ◌||◌, ◌++◌, ℕ, Bool, List, ◌∷◌, [], All, if◌then◌else◌, codes, decimal}
 use Rattle.std.specs.List.{flat_map}
 
 -- whether a byte is one of `&`, `<`, `>` and `"`

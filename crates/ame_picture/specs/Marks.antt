@@ -1,5 +1,5 @@
 -- The marks of a picture: what picks did, attempts and entries.
-use Rattle.std.specs.Prelude.{ℕ, ◌+◌, ◌-◌, ◌*◌, ◌%◌, Bool, true, false, if◌then◌else◌, List, [], ◌++◌, Option, Some, None, codes, decimal}
+use Rattle.std.specs.Prelude.{ℕ, ◌+◌, ◌-◌, ◌*◌, ◌%◌, List, [], ◌++◌, Option, Some, None, codes, decimal}
 use Rattle.ame_journal.specs.Kinds.{kind_word}
 use Rattle.ame_journal.specs.declared.entry.EntryKind.{EntryKind}
 use Rattle.ame_picture.specs.declared.pick.Did.{Did}

@@ -1,10 +1,8 @@
 -- The picture of a run as text.
-use Rattle.std.specs.Prelude.{◌≡◌, ℕ, zero, suc, ◌+◌, ◌*◌, ◌/◌, List, [], ◌∷◌, ◌++◌, length, codes, decimal}
+use Rattle.std.specs.Prelude.{ℕ, zero, suc, ◌+◌, ◌*◌, ◌/◌, List, [], ◌∷◌, ◌++◌, length, codes, decimal}
 use Rattle.std.specs.List.{flat_map}
 use Rattle.ame_picture.specs.declared.drawing.Drawing.{Drawing}
 use Rattle.ame_picture.specs.declared.drawing.Captions.{Captions}
-use Rattle.ame_picture.specs.declared.pick.Pick.{Pick}
-use Rattle.ame_picture.specs.declared.stamp.Stamp.{Stamp}
 use Rattle.ame_picture.specs.Escapes.{escaped}
 use Rattle.ame_picture.specs.Layout.{journal_top, width_of, height_of}
 use Rattle.ame_picture.specs.Shapes.{attribute, words_text}

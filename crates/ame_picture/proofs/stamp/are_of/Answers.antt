@@ -1,5 +1,5 @@
-use Rattle.std.proofs.Common.{◌≡◌, sym, ap, ◌∙◌, arith}
-use Rattle.ame_picture.specs.Stamps.{made_by_stamp, made_by_entry}
+use Rattle.std.proofs.Common.{sym, ap, ◌∙◌, arith}
+use Rattle.ame_picture.specs.Stamps.{made_by_entry}
 use Rattle.ame_picture.proofs.StampLemmas.{differ}
 use Rattle.ame_picture.proofs.stamp.are_of.Goals as goal
 

@@ -1,4 +1,4 @@
-use Rattle.std.proofs.Common.{◌≡◌, length, map, take}
+use Rattle.std.proofs.Common.{◌≡◌, map, take}
 use Rattle.ame_picture.specs.Stamps.{made_by_stamp, made_by_entry}
 use Rattle.ame_picture.proofs.stamp.are_of.Given as goal
 

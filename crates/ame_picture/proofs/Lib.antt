@@ -2,3 +2,4 @@ pub mod LaneLemmas
 pub mod StampLemmas
 pub mod EscapeLemmas
 pub mod CountLemmas
+pub mod HiddenLemmas

@@ -1,5 +1,5 @@
 -- The picture of a run as text.
-use Rattle.std.specs.Prelude.{ℕ, zero, suc, ◌+◌, ◌*◌, ◌/◌, List, [], ◌∷◌, ◌++◌, length, codes, decimal}
+use Rattle.std.specs.Prelude.{◌≡◌, ℕ, zero, suc, ◌+◌, ◌*◌, ◌/◌, List, [], ◌∷◌, ◌++◌, length, codes, decimal}
 use Rattle.std.specs.List.{flat_map}
 use Rattle.ame_picture.specs.declared.drawing.Drawing.{Drawing}
 use Rattle.ame_picture.specs.declared.drawing.Captions.{Captions}
@@ -70,4 +70,10 @@ unfoldable pub svg_of : Drawing → Captions → List ℕ
 svg_of drawing captions =
     let top = journal_top drawing.seats drawing.places in
     let picks = length drawing.picks.items in
-    picture_head top picks captions ++ frame top picks drawing ++ body drawing ++ marks_from (stamp_mark top) 1 drawing.stamps.items ++ foot top captions
+    picture_head top picks captions ++ frame top picks drawing ++ marks_from (stamp_mark top) 1 drawing.stamps.items ++ body drawing ++ foot top captions
+
+-- A page holds a hidden text of this name: what stands behind its beginning, up to its end, is the text, escaped.
+pub record Holds (page name text : List ℕ) : Type 0 where
+  pub front : List ℕ
+  pub behind : List ℕ
+  pub split : page ≡ front ++ (hidden_begin name ++ (escaped text ++ (HIDDEN_END.now ++ behind)))

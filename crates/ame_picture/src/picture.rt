@@ -1,10 +1,10 @@
 //! The picture of a run as text.
 
-ghost use Rattle.std.specs.Prelude.{◌≡◌, ◌+◌, ◌*◌, ◌/◌, ◌<◌, ◌^◌, ◌++◌, IfOk, OnOk, length};
+ghost use Rattle.std.specs.Prelude.{◌≡◌, ◌+◌, ◌*◌, ◌/◌, ◌<◌, ◌^◌, ◌++◌, IfOk, OnOk, codes, length};
 ghost use Rattle.std.specs.List.{flat_map};
 ghost use Rattle.ame_picture.specs.Marks as marks;
 ghost use Rattle.ame_picture.specs.Picture as spec;
-ghost use Rattle.ame_picture.specs.Picture.{marks_from};
+ghost use Rattle.ame_picture.specs.Picture.{marks_from, Holds};
 
 use crate::arrow::Arrow;
 use crate::constants::{HATCHINGS, HIDDEN, HIDDEN_END, KEYS, LEGEND, OPENING, STYLES, VIEW_BOX};
@@ -24,13 +24,24 @@ use crate::stamp::Stamp;
 use ame_term::NoMemory;
 use std::alloc::Global;
 
-/// The picture of a run, as one SVG file without script.
-#[tactic(auto, unfolding(crate::specs::Picture::svg_of))]
+/// The picture of a run, as one SVG file without script. It holds the input of `replay`, and the journal.
 pub fn picture_of(
     alloc: Global,
     drawing: &Drawing,
     captions: &Captions,
 ) -> Result<Vec<u8>, NoMemory>
+    requires { length drawing.now.picks.items < 2 ^ 32 }
+    ensures told { IfOk result (λ page. page.items ≡ spec.svg_of drawing.now captions.now) }
+    ensures replay { IfOk result (λ page. Holds page.items (codes "replay") captions.now.replay.items) }
+    ensures journal { IfOk result (λ page. Holds page.items (codes "journal") captions.now.journal.items) }
+{
+    let page = collect(alloc, drawing, captions)?;
+    Ok(page)
+}
+
+/// Collects the picture.
+#[tactic(auto, unfolding(crate::specs::Picture::svg_of))]
+fn collect(alloc: Global, drawing: &Drawing, captions: &Captions) -> Result<Vec<u8>, NoMemory>
     requires { length drawing.now.picks.items < 2 ^ 32 }
     ensures { IfOk result (λ page. page.items ≡ spec.svg_of drawing.now captions.now) }
 {
@@ -39,8 +50,8 @@ pub fn picture_of(
     let top = journal_top(drawing.seats, drawing.places);
     append_head(&mut page, top, picks, captions)?;
     append_frame(&mut page, top, picks, drawing)?;
-    append_body(&mut page, drawing)?;
     append_stamps(&mut page, top, drawing.stamps.as_slice())?;
+    append_body(&mut page, drawing)?;
     append_foot(&mut page, top, captions)?;
     Ok(page)
 }

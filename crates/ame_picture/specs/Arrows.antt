@@ -1,5 +1,5 @@
 -- Which pick an arrow leads from, and to which.
-use Rattle.std.specs.Prelude.{ℕ, ◌+◌, ◌==◌, ◌&&◌, if◌then◌else◌, Bool, List, [], ◌∷◌, ◌++◌, take, Option, Some, None, option_to_list}
+use Rattle.std.specs.Prelude.{◌≡◌, ◌<◌, length, slice_index_or, ℕ, ◌+◌, ◌==◌, ◌&&◌, if◌then◌else◌, Bool, List, [], ◌∷◌, ◌++◌, take, Option, Some, None, option_to_list}
 use Rattle.ame_picture.specs.declared.pick.Did.{Did}
 use Rattle.ame_picture.specs.declared.pick.Pick.{Pick}
 use Rattle.ame_picture.specs.declared.arrow.Arrow.{Arrow}
@@ -46,3 +46,13 @@ arrow_by k pick earlier _ = None
 abbrev pub arrows_from : List Pick → ℕ → List Pick → List Arrow
 arrows_from all k [] = []
 arrows_from all k (pick ∷ picks) = option_to_list (arrow_by k pick (take k all) pick.did) ++ arrows_from all (k + 1) picks
+
+-- pick k is one of these, and on this seat
+pub record IsPickOn (picks : List Pick) (k seat : ℕ) : Type 0 where
+  pub within : k < length picks
+  pub on : (d : Pick) → (slice_index_or picks k d).seat ≡ seat
+
+-- an arrow leads from one of these picks to one of them, each on the seat that the arrow tells
+pub record LeadsAmong (picks : List Pick) (arrow : Arrow) : Type 0 where
+  pub begins : IsPickOn picks arrow.from arrow.from_seat
+  pub ends : IsPickOn picks arrow.to arrow.to_seat

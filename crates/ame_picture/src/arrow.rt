@@ -1,7 +1,8 @@
 //! What leads from one pick to another.
 
-ghost use Rattle.std.specs.Prelude.{◌≡◌, ◌<◌, ◌≤◌, ◌^◌, None, IfOk, length};
+ghost use Rattle.std.specs.Prelude.{◌≡◌, ◌<◌, ◌≤◌, ◌^◌, None, All, IfOk, length};
 ghost use Rattle.ame_picture.specs.Arrows as spec;
+ghost use Rattle.ame_picture.specs.Arrows.{LeadsAmong};
 
 use crate::pick::{Did, Pick};
 use ame_term::NoMemory;
@@ -44,6 +45,16 @@ struct Spot {
 
 /// The arrows of a run, in the order of the picks that they belong to.
 pub(crate) fn arrows_of(alloc: Global, picks: &[Pick]) -> Result<Vec<Arrow>, NoMemory>
+    requires { length picks.now < 2 ^ 32 }
+    ensures told { IfOk result (λ arrows. arrows.items ≡ spec.arrows_from picks.now 0 picks.now) }
+    ensures among { IfOk result (λ arrows. All (LeadsAmong picks.now) arrows.items) }
+{
+    let arrows = collect(alloc, picks)?;
+    Ok(arrows)
+}
+
+/// Collects the arrows of a run.
+fn collect(alloc: Global, picks: &[Pick]) -> Result<Vec<Arrow>, NoMemory>
     requires { length picks.now < 2 ^ 32 }
     ensures { IfOk result (λ arrows. arrows.items ≡ spec.arrows_from picks.now 0 picks.now) }
 {

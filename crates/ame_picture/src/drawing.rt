@@ -1,6 +1,7 @@
 //! What a picture shows of a run.
 
-ghost use Rattle.std.specs.Prelude.{◌≡◌, ◌<◌, ◌^◌, IfOk, MatchOption, length};
+ghost use Rattle.std.specs.Prelude.{◌≡◌, ◌<◌, ◌^◌, All, IfOk, IfSome, MatchOption, length};
+ghost use Rattle.ame_picture.specs.Arrows.{LeadsAmong};
 ghost use Rattle.ame_picture.specs.Drawings as spec;
 ghost use Rattle.ame_picture.specs.Drawings.{AreMadeBy, IsDrawingOf};
 
@@ -45,7 +46,8 @@ pub fn drawing_of(
     entries: &[Entry],
 ) -> Result<Option<Drawing>, NoMemory>
     requires { length picks.now < 2 ^ 32 }
-    ensures { IfOk result (λ made. MatchOption made (¬ AreMadeBy entries.now picks.now) (IsDrawingOf seats picks.now entries.now)) }
+    ensures told { IfOk result (λ made. MatchOption made (¬ AreMadeBy entries.now picks.now) (IsDrawingOf seats picks.now entries.now)) }
+    ensures arrows { IfOk result (λ made. IfSome made (λ drawing. All (LeadsAmong picks.now) drawing.arrows.items)) }
 {
     let stamps = stamps_of(alloc, picks)?;
     if !are_of(&stamps, entries) {

@@ -25,4 +25,4 @@ abbrev pub width_of : ℕ → ℕ
 width_of picks = max (120 + 22 * picks) 720
 
 abbrev pub height_of : ℕ → ℕ
-height_of top = top + 110
+height_of top = top + 124

@@ -1,5 +1,7 @@
 -- The marks of a picture: what picks did, attempts and entries.
-use Rattle.std.specs.Prelude.{ℕ, ◌+◌, ◌-◌, ◌*◌, ◌%◌, List, [], ◌++◌, Option, Some, None, codes, decimal}
+use Rattle.std.specs.Prelude.{ℕ, ◌+◌, ◌-◌, ◌*◌, ◌%◌, List, [], ◌++◌, Option, Some, None, codes, decimal, ℤ, ◌∷◌}
+use Rattle.std.specs.Fmt.{signed_decimal}
+use Rattle.std.specs.List.{flat_map}
 use Rattle.ame_journal.specs.Kinds.{kind_word}
 use Rattle.ame_journal.specs.declared.entry.EntryKind.{EntryKind}
 use Rattle.ame_picture.specs.declared.pick.Did.{Did}
@@ -12,7 +14,7 @@ use Rattle.ame_picture.specs.declared.arrow.ArrowKind.{ArrowKind}
 use Rattle.ame_picture.specs.declared.span.Outcome.{Outcome}
 use Rattle.ame_picture.specs.declared.span.Span.{Span}
 use Rattle.ame_picture.specs.Layout.{left_of, middle_of, top_of, place_top}
-use Rattle.ame_picture.specs.Shapes.{box_text, line_text, words_text, label_text}
+use Rattle.ame_picture.specs.Shapes.{box_text, line_text, words_begin, words_text, label_text}
 
 -- the beginning of a mark of a member, which has one of eight colours
 unfoldable pub member_begin : ℕ → List ℕ
@@ -195,3 +197,13 @@ on_mark arrow = on_marks arrow arrow.kind
 
 unfoldable pub way_mark : Arrow → List ℕ
 way_mark arrow = way_marks arrow arrow.kind
+
+-- an integer behind a space
+abbrev pub integer_text : ℤ → List ℕ
+integer_text x = codes " " ++ signed_decimal x
+
+-- what an entry printed, below its box, if it printed anything
+unfoldable pub print_mark : ℕ → Stamp → List ℤ → List ℕ
+print_mark top stamp [] = []
+print_mark top stamp (x ∷ printed) =
+    words_begin (codes "print") (middle_of stamp.pick) (top + 46) ++ flat_map integer_text (x ∷ printed) ++ codes "</text>\n"

@@ -1,13 +1,14 @@
 -- The picture of a run as text.
-use Rattle.std.specs.Prelude.{◌≡◌, ℕ, zero, suc, ◌+◌, ◌*◌, ◌/◌, List, [], ◌∷◌, ◌++◌, length, codes, decimal}
+use Rattle.std.specs.Prelude.{◌≡◌, ℕ, ℤ, slice_index_or, zero, suc, ◌+◌, ◌*◌, ◌/◌, List, [], ◌∷◌, ◌++◌, length, codes, decimal}
 use Rattle.std.specs.List.{flat_map}
 use Rattle.ame_picture.specs.declared.drawing.Drawing.{Drawing}
 use Rattle.ame_picture.specs.declared.drawing.Captions.{Captions}
+use Rattle.ame_picture.specs.declared.stamp.Stamp.{Stamp}
 use Rattle.ame_picture.specs.Escapes.{escaped}
 use Rattle.ame_picture.specs.Layout.{journal_top, width_of, height_of}
 use Rattle.ame_picture.specs.Shapes.{attribute, words_text}
 use Rattle.ame_picture.specs.declared.constants.TheConstants.{OPENING, VIEW_BOX, STYLES, HATCHINGS, LEGEND, KEYS, HIDDEN, HIDDEN_END}
-use Rattle.ame_picture.specs.Marks.{attempt_mark, sign_mark, stamp_mark, lane_mark, tick_mark, place_mark, span_mark, on_mark, way_mark}
+use Rattle.ame_picture.specs.Marks.{attempt_mark, sign_mark, stamp_mark, lane_mark, tick_mark, place_mark, print_mark, span_mark, on_mark, way_mark}
 
 -- marks of the items of a list, of which the first is number k
 abbrev pub marks_from : {X : Type 0} → (ℕ → X → List ℕ) → ℕ → List X → List ℕ
@@ -55,7 +56,7 @@ legend y = LEGEND.now ++ decimal y ++ codes ")\">\n" ++ KEYS.now
 -- what stands below the lanes beside the entries
 unfoldable pub foot : ℕ → Captions → List ℕ
 foot top captions =
-    words_text (codes "lane") 10 (top + 14) (codes "journal") ++ legend (top + 48) ++ hidden (codes "replay") captions.replay.items
+    words_text (codes "lane") 10 (top + 14) (codes "journal") ++ legend (top + 62) ++ hidden (codes "replay") captions.replay.items
     ++ hidden (codes "journal") captions.journal.items ++ codes "</svg>\n"
 
 -- the marks of what happened, above the journal
@@ -65,12 +66,17 @@ body drawing =
     ++ marks_from sign_mark 0 drawing.picks.items ++ flat_map way_mark drawing.arrows.items
     ++ flat_map (span_mark drawing.seats) drawing.spans.items
 
+-- what the entries printed, where it is told what each of them did
+abbrev pub print_marks : ℕ → List (List ℤ) → List Stamp → List ℕ
+print_marks top lines stamps = marks_from (λ n stamp. print_mark top stamp (slice_index_or lines n [])) 0 stamps
+
 -- the whole picture
-unfoldable pub svg_of : Drawing → Captions → List ℕ
-svg_of drawing captions =
+unfoldable pub svg_of : Drawing → List (List ℤ) → Captions → List ℕ
+svg_of drawing lines captions =
     let top = journal_top drawing.seats drawing.places in
     let picks = length drawing.picks.items in
-    picture_head top picks captions ++ frame top picks drawing ++ marks_from (stamp_mark top) 1 drawing.stamps.items ++ body drawing ++ foot top captions
+    picture_head top picks captions ++ frame top picks drawing ++ marks_from (stamp_mark top) 1 drawing.stamps.items ++ body drawing
+    ++ print_marks top lines drawing.stamps.items ++ foot top captions
 
 -- A page holds a hidden text of this name: what stands behind its beginning, up to its end, is the text, escaped.
 pub record Holds (page name text : List ℕ) : Type 0 where

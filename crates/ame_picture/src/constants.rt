@@ -18,7 +18,7 @@ rect{stroke:currentColor;stroke-width:1.6}.floor{fill:#ddd;stroke:none}.grid{str
 .rolled{fill:url(#rolled)}.stuck{fill:url(#stuck)}.crossed{fill:url(#crossed)}
 .place{fill:#555}.on{stroke:currentColor;stroke-dasharray:2 3}.way{stroke:#c00;marker-end:url(#point)}
 .field{fill:#fff;stroke:none}.number{font-weight:700}.tie{stroke:currentColor;stroke-dasharray:1 3}
-.sign,.back,.entry,.below{text-anchor:middle}.below{font-size:8px;fill:#999}
+.sign,.back,.entry,.below{text-anchor:middle}.below{font-size:8px;fill:#999}.print{text-anchor:middle;font-weight:700}
 .sign,.back{font-size:10px}.sign,.back,.entry{font-weight:700;paint-order:stroke;stroke:#fff;stroke-width:2px}.back{fill:#c00}.idle{fill:#bbb}
 svg:has(.m0:hover) g[class^=m]:not(.m0),svg:has(.m1:hover) g[class^=m]:not(.m1),svg:has(.m2:hover) g[class^=m]:not(.m2),
 svg:has(.m3:hover) g[class^=m]:not(.m3),svg:has(.m4:hover) g[class^=m]:not(.m4),svg:has(.m5:hover) g[class^=m]:not(.m5),

@@ -51,5 +51,5 @@ pub(crate) fn height_of(top: u64) -> u64
     requires { top < 2 ^ 40 }
     ensures { result ≡ spec.height_of top }
 {
-    top + 110
+    top + 124
 }

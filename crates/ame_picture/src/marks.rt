@@ -1,6 +1,7 @@
 //! The marks of a picture: what picks did, attempts and entries.
 
 ghost use Rattle.std.specs.Prelude.{◌≡◌, ◌++◌, ◌+◌, ◌<◌, ◌^◌, OnOk, option_map};
+ghost use Rattle.std.specs.List.{flat_map};
 ghost use Rattle.ame_picture.specs.Marks as spec;
 
 use crate::arrow::{Arrow, ArrowKind};
@@ -8,11 +9,12 @@ use crate::lane::{Attempt, Fate};
 use crate::layout::{left_of, middle_of, place_top, top_of};
 use crate::page::{append, append_decimal};
 use crate::pick::{Did, Pick};
-use crate::shapes::{Place, append_box, append_label, append_line, append_words};
+use crate::shapes::{Place, append_begin, append_box, append_label, append_line, append_words};
 use crate::span::{Outcome, Span};
 use crate::stamp::Stamp;
 use ame_journal::EntryKind;
 use ame_term::NoMemory;
+use itoa::Buffer;
 
 /// Adds the beginning of a mark of a member, which has one of eight colours.
 #[tactic(auto, unfolding(crate::specs::Marks::member_begin))]
@@ -439,4 +441,46 @@ fn append_way_line(page: &mut Vec<u8>, arrow: &Arrow) -> Result<(), NoMemory>
     append_member(page, arrow.member)?;
     append_line(page, b"way", at, to)?;
     append(page, b"</g>\n")
+}
+
+/// Adds what an entry printed, below its box, if it printed anything.
+#[tactic(auto, unfolding(crate::specs::Marks::print_mark))]
+pub(crate) fn append_print(
+    page: &mut Vec<u8>,
+    top: u64,
+    stamp: &Stamp,
+    printed: &[i64],
+) -> Result<(), NoMemory>
+    requires { top < 2 ^ 40 }
+    ensures { OnOk result (page.new.items ≡ page.old.items ++ spec.print_mark top stamp.now printed.now) }
+{
+    if printed.is_empty() {
+        return Ok(());
+    }
+    let at = Place {
+        x: middle_of(stamp.pick),
+        y: top + 46,
+    };
+    append_begin(page, b"print", at)?;
+    append_integers(page, printed)?;
+    append(page, b"</text>\n")
+}
+
+/// Adds integers, each behind a space.
+fn append_integers(page: &mut Vec<u8>, integers: &[i64]) -> Result<(), NoMemory>
+    ensures { OnOk result (page.new.items ≡ page.old.items ++ flat_map spec.integer_text integers.now) }
+{
+    for integer in integers {
+        append_integer(page, *integer)?;
+    }
+    Ok(())
+}
+
+/// Adds an integer behind a space.
+fn append_integer(page: &mut Vec<u8>, integer: i64) -> Result<(), NoMemory>
+    ensures { OnOk result (page.new.items ≡ page.old.items ++ spec.integer_text integer) }
+{
+    let mut buffer = Buffer::new();
+    append(page, b" ")?;
+    append(page, buffer.format(integer).as_bytes())
 }

@@ -1,6 +1,6 @@
 //! The picture of a run as text.
 
-ghost use Rattle.std.specs.Prelude.{◌≡◌, ◌+◌, ◌*◌, ◌/◌, ◌<◌, ◌^◌, ◌++◌, IfOk, OnOk, codes, length};
+ghost use Rattle.std.specs.Prelude.{◌≡◌, ◌+◌, ◌*◌, ◌/◌, ◌<◌, ◌^◌, ◌++◌, IfOk, OnOk, [], codes, length, map, slice_index_or};
 ghost use Rattle.std.specs.List.{flat_map};
 ghost use Rattle.ame_picture.specs.Marks as marks;
 ghost use Rattle.ame_picture.specs.Picture as spec;
@@ -13,8 +13,8 @@ use crate::escape::append_escaped;
 use crate::lane::Attempt;
 use crate::layout::{height_of, journal_top, width_of};
 use crate::marks::{
-    append_attempt, append_lane, append_on, append_place, append_sign, append_span, append_stamp,
-    append_tick, append_way,
+    append_attempt, append_lane, append_on, append_place, append_print, append_sign, append_span,
+    append_stamp, append_tick, append_way,
 };
 use crate::page::{append, append_decimal};
 use crate::pick::Pick;
@@ -24,26 +24,33 @@ use crate::stamp::Stamp;
 use ame_term::NoMemory;
 use std::alloc::Global;
 
-/// The picture of a run, as one SVG file without script. It holds the input of `replay`, and the journal.
+/// The picture of a run, as one SVG file without script, with the lines that each entry printed, as far as they are told. It holds the
+/// input of `replay`, and the journal.
 pub fn picture_of(
     alloc: Global,
     drawing: &Drawing,
+    lines: &[Vec<i64>],
     captions: &Captions,
 ) -> Result<Vec<u8>, NoMemory>
     requires { length drawing.now.picks.items < 2 ^ 32 }
-    ensures told { IfOk result (λ page. page.items ≡ spec.svg_of drawing.now captions.now) }
+    ensures told { IfOk result (λ page. page.items ≡ spec.svg_of drawing.now (map (λ v. v.items) lines.now) captions.now) }
     ensures replay { IfOk result (λ page. Holds page.items (codes "replay") captions.now.replay.items) }
     ensures journal { IfOk result (λ page. Holds page.items (codes "journal") captions.now.journal.items) }
 {
-    let page = collect(alloc, drawing, captions)?;
+    let page = collect(alloc, drawing, lines, captions)?;
     Ok(page)
 }
 
 /// Collects the picture.
 #[tactic(auto, unfolding(crate::specs::Picture::svg_of))]
-fn collect(alloc: Global, drawing: &Drawing, captions: &Captions) -> Result<Vec<u8>, NoMemory>
+fn collect(
+    alloc: Global,
+    drawing: &Drawing,
+    lines: &[Vec<i64>],
+    captions: &Captions,
+) -> Result<Vec<u8>, NoMemory>
     requires { length drawing.now.picks.items < 2 ^ 32 }
-    ensures { IfOk result (λ page. page.items ≡ spec.svg_of drawing.now captions.now) }
+    ensures { IfOk result (λ page. page.items ≡ spec.svg_of drawing.now (map (λ v. v.items) lines.now) captions.now) }
 {
     let mut page = Vec::new(alloc);
     let picks = drawing.picks.as_slice().len() as u32;
@@ -52,6 +59,7 @@ fn collect(alloc: Global, drawing: &Drawing, captions: &Captions) -> Result<Vec<
     append_frame(&mut page, top, picks, drawing)?;
     append_stamps(&mut page, top, drawing.stamps.as_slice())?;
     append_body(&mut page, drawing)?;
+    append_prints(&mut page, top, lines, drawing.stamps.as_slice())?;
     append_foot(&mut page, top, captions)?;
     Ok(page)
 }
@@ -223,6 +231,32 @@ fn append_stamps(page: &mut Vec<u8>, top: u64, stamps: &[Stamp]) -> Result<(), N
     Ok(())
 }
 
+/// Adds what the entries printed, as far as it is told.
+fn append_prints(
+    page: &mut Vec<u8>,
+    top: u64,
+    lines: &[Vec<i64>],
+    stamps: &[Stamp],
+) -> Result<(), NoMemory>
+    requires { top < 2 ^ 40 }
+    ensures { OnOk result (page.new.items ≡ page.old.items ++ spec.print_marks top (map (λ v. v.items) lines.now) stamps.now) }
+{
+    for (index, stamp) in stamps.iter().enumerate() {
+        append_print(page, top, stamp, printed_at(lines, index))?;
+    }
+    Ok(())
+}
+
+/// The lines with this index; none where there are fewer.
+fn printed_at(lines: &[Vec<i64>], index: usize) -> &[i64]
+    ensures { result.now ≡ slice_index_or (map (λ v. v.items) lines.now) index [] }
+{
+    match lines.get(index) {
+        Some(line) => line.as_slice(),
+        None => &[],
+    }
+}
+
 /// Adds what stands below the lanes beside the entries.
 #[tactic(auto, unfolding(crate::specs::Picture::foot))]
 fn append_foot(page: &mut Vec<u8>, top: u64, captions: &Captions) -> Result<(), NoMemory>
@@ -230,7 +264,7 @@ fn append_foot(page: &mut Vec<u8>, top: u64, captions: &Captions) -> Result<(), 
     ensures { OnOk result (page.new.items ≡ page.old.items ++ spec.foot top captions.now) }
 {
     append_words(page, b"lane", Place { x: 10, y: top + 14 }, b"journal")?;
-    append_legend(page, top + 48)?;
+    append_legend(page, top + 62)?;
     append_hidden(page, b"replay", captions.replay.as_slice())?;
     append_hidden(page, b"journal", captions.journal.as_slice())?;
     append(page, b"</svg>\n")

@@ -106,7 +106,7 @@ fn append_class(page: &mut Vec<u8>, class: &[u8]) -> Result<(), NoMemory>
 
 /// Adds the beginning of words at a place.
 #[tactic(auto, unfolding(crate::specs::Shapes::words_begin))]
-fn append_begin(page: &mut Vec<u8>, class: &[u8], at: Place) -> Result<(), NoMemory>
+pub(crate) fn append_begin(page: &mut Vec<u8>, class: &[u8], at: Place) -> Result<(), NoMemory>
     ensures { OnOk result (page.new.items ≡ page.old.items ++ spec.words_begin class.now at.x at.y) }
 {
     append(page, b"<text")?;

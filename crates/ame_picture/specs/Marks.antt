@@ -1,5 +1,5 @@
 -- The marks of a picture: what picks did, attempts and entries.
-use Rattle.std.specs.Prelude.{ℕ, ◌+◌, ◌-◌, ◌*◌, ◌%◌, List, [], ◌++◌, Option, Some, None, codes, decimal, ℤ, ◌∷◌}
+use Rattle.std.specs.Prelude.{ℕ, ◌+◌, ◌-◌, ◌*◌, ◌%◌, List, [], ◌++◌, Option, Some, None, codes, decimal, ℤ, ◌∷◌, if◌then◌else◌, nat_lt}
 use Rattle.std.specs.Fmt.{signed_decimal}
 use Rattle.std.specs.List.{flat_map}
 use Rattle.ame_journal.specs.Kinds.{kind_word}
@@ -207,3 +207,21 @@ unfoldable pub print_mark : ℕ → Stamp → List ℤ → List ℕ
 print_mark top stamp [] = []
 print_mark top stamp (x ∷ printed) =
     words_begin (codes "print") (middle_of stamp.pick) (top + 46) ++ flat_map integer_text (x ∷ printed) ++ codes "</text>\n"
+
+-- a line from an invalid read down to the location's lane
+unfoldable pub stale_line : ℕ → ℕ → Pick → ℕ → List ℕ
+stale_line seats k pick place =
+    member_begin pick.member ++ line_text (codes "stale") (middle_of k) (top_of pick.seat + 31) (middle_of k) (place_top seats place) ++ codes "</g>\n"
+
+-- the line of a location, if it is one of so many that have a lane
+abbrev pub stale_at : ℕ → ℕ → ℕ → Pick → Option ℕ → List ℕ
+stale_at seats places k pick None = []
+stale_at seats places k pick (Some place) = if nat_lt place places then stale_line seats k pick place else []
+
+abbrev pub stale_by : ℕ → ℕ → ℕ → Pick → Did → List ℕ
+stale_by seats places k pick Did.FoundInvalid = stale_at seats places k pick pick.place
+stale_by seats places k pick _ = []
+
+-- the line of pick k, if it found an invalid read
+unfoldable pub stale_mark : ℕ → ℕ → ℕ → Pick → List ℕ
+stale_mark seats places k pick = stale_by seats places k pick pick.did

@@ -484,3 +484,66 @@ fn append_integer(page: &mut Vec<u8>, integer: i64) -> Result<(), NoMemory>
     append(page, b" ")?;
     append(page, buffer.format(integer).as_bytes())
 }
+
+/// Adds a line from an invalid read down to the location's lane, where that is one of so many below so many seats.
+#[tactic(auto, unfolding(crate::specs::Marks::stale_mark))]
+pub(crate) fn append_stale(
+    page: &mut Vec<u8>,
+    seats: u32,
+    places: u32,
+    index: u32,
+    pick: &Pick,
+) -> Result<(), NoMemory>
+    ensures { OnOk result (page.new.items ≡ page.old.items ++ spec.stale_mark seats places index pick.now) }
+{
+    match pick.did {
+        Did::FoundInvalid => match pick.place {
+            None => Ok(()),
+            Some(place) => append_stale_at(page, seats, places, index, pick, place),
+        },
+        _ => Ok(()),
+    }
+}
+
+/// Adds such a line, where the location has a lane.
+fn append_stale_at(
+    page: &mut Vec<u8>,
+    seats: u32,
+    places: u32,
+    index: u32,
+    pick: &Pick,
+    place: u32,
+) -> Result<(), NoMemory>
+    ensures { OnOk result (page.new.items ≡ page.old.items ++ spec.stale_at seats places index pick.now (Some place)) }
+{
+    if place < places {
+        append_stale_line(page, seats, index, pick, place)
+    } else {
+        Ok(())
+    }
+}
+
+/// Adds such a line.
+#[tactic(auto, unfolding(crate::specs::Marks::stale_line))]
+fn append_stale_line(
+    page: &mut Vec<u8>,
+    seats: u32,
+    index: u32,
+    pick: &Pick,
+    place: u32,
+) -> Result<(), NoMemory>
+    ensures { OnOk result (page.new.items ≡ page.old.items ++ spec.stale_line seats index pick.now place) }
+{
+    let x = middle_of(index);
+    let at = Place {
+        x,
+        y: top_of(pick.seat) + 31,
+    };
+    let to = Place {
+        x,
+        y: place_top(seats, place),
+    };
+    append_member(page, pick.member)?;
+    append_line(page, b"stale", at, to)?;
+    append(page, b"</g>\n")
+}

@@ -14,7 +14,7 @@ use crate::lane::Attempt;
 use crate::layout::{height_of, journal_top, width_of};
 use crate::marks::{
     append_attempt, append_lane, append_on, append_place, append_print, append_sign, append_span,
-    append_stamp, append_tick, append_way,
+    append_stale, append_stamp, append_tick, append_way,
 };
 use crate::page::{append, append_decimal};
 use crate::pick::Pick;
@@ -156,6 +156,12 @@ fn append_body(page: &mut Vec<u8>, drawing: &Drawing) -> Result<(), NoMemory>
     append_attempts(page, drawing.attempts.as_slice())?;
     append_signs(page, drawing.picks.as_slice())?;
     append_ways(page, drawing.arrows.as_slice())?;
+    append_stales(
+        page,
+        drawing.seats,
+        drawing.places,
+        drawing.picks.as_slice(),
+    )?;
     append_spans(page, drawing.seats, drawing.spans.as_slice())
 }
 
@@ -175,6 +181,22 @@ fn append_ways(page: &mut Vec<u8>, arrows: &[Arrow]) -> Result<(), NoMemory>
 {
     for arrow in arrows {
         append_way(page, arrow)?;
+    }
+    Ok(())
+}
+
+/// Adds a line from each invalid read down to its location's lane.
+fn append_stales(
+    page: &mut Vec<u8>,
+    seats: u32,
+    places: u32,
+    picks: &[Pick],
+) -> Result<(), NoMemory>
+    requires { length picks.now < 2 ^ 32 }
+    ensures { OnOk result (page.new.items ≡ page.old.items ++ marks_from (marks.stale_mark seats places) 0 picks.now) }
+{
+    for (index, pick) in picks.iter().enumerate() {
+        append_stale(page, seats, places, index as u32, pick)?;
     }
     Ok(())
 }

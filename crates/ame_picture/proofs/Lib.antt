@@ -1,0 +1,6 @@
+pub mod LaneLemmas
+pub mod StampLemmas
+pub mod EscapeLemmas
+pub mod ArrowLemmas
+pub mod CountLemmas
+pub mod HiddenLemmas

@@ -1,0 +1,20 @@
+use Rattle.std.proofs.Common.{List, All, length, sym, subst}
+use Rattle.ame_picture.specs.declared.lane.Attempt.{Attempt}
+use Rattle.ame_picture.specs.Lanes.{IsAttemptOn, AreOneAfterOther, LiesInOne}
+use Rattle.ame_picture.proofs.LaneLemmas.{laid, covers}
+use Rattle.ame_picture.proofs.lane.lane_of.Goals as goal
+
+pub returns-clause-within : goal.returns-clause-within
+returns-clause-within c =
+    let P : List Attempt → Type 0 = All (IsAttemptOn c.args.seat (length c.args.picks.now)) in
+    subst P (sym c.in_ok-lane.ensures) (laid c.args.seat c.args.picks.now).within
+
+pub returns-clause-apart : goal.returns-clause-apart
+returns-clause-apart c =
+    let P : List Attempt → Type 0 = AreOneAfterOther in
+    subst P (sym c.in_ok-lane.ensures) (laid c.args.seat c.args.picks.now).apart
+
+pub returns-clause-covered : goal.returns-clause-covered
+returns-clause-covered c = λ k d below works.
+    let P : List Attempt → Type 0 = λ lane. LiesInOne lane k in
+    subst P (sym c.in_ok-lane.ensures) (covers c.args.seat c.args.picks.now k d below works)

@@ -1,0 +1,58 @@
+-- Which pick an arrow leads from, and to which.
+use Rattle.std.specs.Prelude.{◌≡◌, ◌<◌, length, slice_index_or, ℕ, ◌+◌, ◌==◌, ◌&&◌, if◌then◌else◌, Bool, List, [], ◌∷◌, ◌++◌, take, Option, Some, None, option_to_list}
+use Rattle.ame_picture.specs.declared.pick.Did.{Did}
+use Rattle.ame_picture.specs.declared.pick.Pick.{Pick}
+use Rattle.ame_picture.specs.declared.arrow.Arrow.{Arrow}
+use Rattle.ame_picture.specs.declared.arrow.ArrowKind.{ArrowKind}
+use Rattle.ame_picture.specs.declared.arrow.Sought.{Sought}
+use Rattle.ame_picture.specs.declared.arrow.Spot.{Spot}
+use Rattle.ame_picture.specs.Picks.{is_work, is_write_to}
+
+-- whether a pick is one that is sought
+abbrev pub is_sought : Sought → Pick → Bool
+is_sought (Sought.Member member) pick = pick.member == member && is_work pick.did
+is_sought (Sought.Write seat place) pick = pick.seat == seat && is_write_to place pick
+
+-- the last one that is sought, where this was the last before pick k
+abbrev pub last_spot : Sought → ℕ → Option Spot → List Pick → Option Spot
+last_spot sought k last [] = last
+last_spot sought k last (pick ∷ picks) =
+    last_spot sought (k + 1) (if is_sought sought pick then Some (record { pick = k; seat = pick.seat }) else last) picks
+
+-- a member goes on where it was last at work
+abbrev pub continuation : ℕ → Pick → Option Spot → Option Arrow
+continuation k pick None = None
+continuation k pick (Some spot) =
+    Some (record { kind = ArrowKind.GoesOn; member = pick.member; from = spot.pick; from_seat = spot.seat; to = k; to_seat = pick.seat })
+
+-- the owner's last write was in the way
+abbrev pub obstacle : ℕ → Pick → Option Spot → Option Arrow
+obstacle k pick None = None
+obstacle k pick (Some spot) =
+    Some (record { kind = ArrowKind.InTheWay; member = pick.member; from = k; from_seat = pick.seat; to = spot.pick; to_seat = spot.seat })
+
+-- what a refused write met
+abbrev pub obstacle_at : ℕ → Pick → ℕ → List Pick → Option ℕ → Option Arrow
+obstacle_at k pick owner earlier None = None
+obstacle_at k pick owner earlier (Some place) = obstacle k pick (last_spot (Sought.Write owner place) 0 None earlier)
+
+-- the arrow of pick k, where these picks were made before it
+abbrev pub arrow_by : ℕ → Pick → List Pick → Did → Option Arrow
+arrow_by k pick earlier Did.Began = continuation k pick (last_spot (Sought.Member pick.member) 0 None earlier)
+arrow_by k pick earlier (Did.Met owner) = obstacle_at k pick owner earlier pick.place
+arrow_by k pick earlier _ = None
+
+-- the arrows of these picks out of all picks, the first of which is pick k
+abbrev pub arrows_from : List Pick → ℕ → List Pick → List Arrow
+arrows_from all k [] = []
+arrows_from all k (pick ∷ picks) = option_to_list (arrow_by k pick (take k all) pick.did) ++ arrows_from all (k + 1) picks
+
+-- pick k is one of these, and on this seat
+pub record IsPickOn (picks : List Pick) (k seat : ℕ) : Type 0 where
+  pub within : k < length picks
+  pub on : (d : Pick) → (slice_index_or picks k d).seat ≡ seat
+
+-- an arrow leads from one of these picks to one of them, each on the seat that the arrow tells
+pub record LeadsAmong (picks : List Pick) (arrow : Arrow) : Type 0 where
+  pub begins : IsPickOn picks arrow.from arrow.from_seat
+  pub ends : IsPickOn picks arrow.to arrow.to_seat

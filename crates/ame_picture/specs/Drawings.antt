@@ -1,0 +1,31 @@
+-- What a picture shows of a run.
+use Rattle.std.specs.Prelude.{◌≡◌, ℕ, zero, suc, min, List, [], ◌++◌, map}
+use Rattle.ame_journal.specs.declared.entry.Entry.{Entry}
+use Rattle.ame_picture.specs.declared.drawing.Drawing.{Drawing}
+use Rattle.ame_picture.specs.declared.pick.Pick.{Pick}
+use Rattle.ame_picture.specs.declared.lane.Attempt.{Attempt}
+use Rattle.ame_picture.specs.declared.span.TheConstants.{LANES}
+use Rattle.ame_picture.specs.Arrows.{arrows_from}
+use Rattle.ame_picture.specs.Lanes.{lane}
+use Rattle.ame_picture.specs.Spans.{count_from, spans}
+use Rattle.ame_picture.specs.Stamps.{stamps, made_by_stamp, made_by_entry}
+
+-- the attempts on so many seats, lane by lane
+abbrev pub attempts : ℕ → List Pick → List Attempt
+attempts zero picks = []
+attempts (suc seats) picks = attempts seats picks ++ lane seats picks
+
+-- the picks made these entries, one for one
+abbrev pub AreMadeBy : List Entry → List Pick → Type 0
+AreMadeBy entries picks = map made_by_stamp (stamps 0 picks) ≡ map made_by_entry entries
+
+-- A drawing shows these picks on so many seats, each attempt on them, and each of these entries at the pick that made it.
+pub record IsDrawingOf (seats : ℕ) (picks : List Pick) (entries : List Entry) (drawing : Drawing) : Type 0 where
+  pub on : drawing.seats ≡ seats
+  pub signs : drawing.picks.items ≡ picks
+  pub boxes : drawing.attempts.items ≡ attempts seats picks
+  pub leads : drawing.arrows.items ≡ arrows_from picks 0 picks
+  pub lanes : drawing.places ≡ min (count_from 0 picks) LANES
+  pub owned : drawing.spans.items ≡ spans drawing.places picks
+  pub marks : drawing.stamps.items ≡ stamps 0 picks
+  pub entries_shown : map made_by_stamp drawing.stamps.items ≡ map made_by_entry entries

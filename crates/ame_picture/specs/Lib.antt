@@ -1,0 +1,11 @@
+pub mod Picks
+pub mod Lanes
+pub mod Stamps
+pub mod Spans
+pub mod Arrows
+pub mod Drawings
+pub mod Escapes
+pub mod Layout
+pub mod Shapes
+pub mod Marks
+pub mod Picture

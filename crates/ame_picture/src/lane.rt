@@ -1,0 +1,120 @@
+//! The lane of a seat: a box for each attempt.
+
+ghost use Rattle.std.specs.Prelude.{◌≡◌, ◌<◌, ◌^◌, ℕ, IfOk, All, length, slice_index_or, true};
+ghost use Rattle.ame_picture.specs.Lanes as spec;
+ghost use Rattle.ame_picture.specs.Picks as spec_picks;
+ghost use Rattle.ame_picture.specs.Lanes.{IsAttemptOn, AreOneAfterOther, LiesInOne};
+
+use crate::pick::{Did, Pick};
+use ame_term::NoMemory;
+use std::alloc::Global;
+
+/// What became of an attempt.
+#[derive(Clone, Copy, PartialEq, Eq, Debug)]
+pub enum Fate {
+    /// The run was over before it was.
+    UnderWay,
+    /// It was committed, and its member ended.
+    Ended,
+    /// It was committed, and its member came to `unprotected`.
+    Left,
+    /// Unprotected code was run.
+    Visited,
+    /// A device failed.
+    Failed,
+    RolledBack,
+    /// It came to a false condition.
+    Stuck,
+    /// It came to a value that is too high.
+    Tall,
+    /// The turns were used up.
+    Cut,
+}
+
+impl Fate {
+    ghost use Rattle.ame_picture.specs.Lanes as spec;
+
+    /// What becomes of an attempt in which this is done next.
+    fn after(self, did: Did) -> Fate
+        ensures { result ≡ spec.fate_after self did }
+    {
+        match did {
+            Did::Ended => Fate::Ended,
+            Did::Left => Fate::Left,
+            Did::CameHome => Fate::Visited,
+            Did::DeviceFailed(_) => Fate::Failed,
+            Did::Met(_) | Did::FoundInvalid => Fate::RolledBack,
+            Did::Noted => Fate::Stuck,
+            Did::GrewTall => Fate::Tall,
+            Did::Cut | Did::Spent => Fate::Cut,
+            _ => self,
+        }
+    }
+}
+
+/// An attempt of a member on a seat: the numbers of its first pick and of its last, counted from 0.
+#[derive(Clone, Copy, PartialEq, Eq, Debug)]
+pub struct Attempt {
+    pub seat: u32,
+    pub member: u64,
+    pub from: u32,
+    pub to: u32,
+    pub fate: Fate,
+}
+
+/// The attempts on a seat, in order. They don't overlap, and each pick in which the seat has a member at work lies in one.
+pub fn lane_of(alloc: Global, picks: &[Pick], seat: u32) -> Result<Vec<Attempt>, NoMemory>
+    requires { length picks.now < 2 ^ 32 }
+    ensures told { IfOk result (λ lane. lane.items ≡ spec.lane seat picks.now) }
+    ensures within { IfOk result (λ lane. All (IsAttemptOn seat (length picks.now)) lane.items) }
+    ensures apart { IfOk result (λ lane. AreOneAfterOther lane.items) }
+    ensures covered { IfOk result (λ lane. (k : ℕ) (d : Pick) → k < length picks.now → spec_picks.is_work_of seat (slice_index_or picks.now k d) ≡ true
+        → LiesInOne lane.items k) }
+{
+    let lane = collect(alloc, picks, seat)?;
+    Ok(lane)
+}
+
+/// Collects the attempts on a seat.
+fn collect(alloc: Global, picks: &[Pick], seat: u32) -> Result<Vec<Attempt>, NoMemory>
+    requires { length picks.now < 2 ^ 32 }
+    ensures { IfOk result (λ lane. lane.items ≡ spec.lane seat picks.now) }
+{
+    let mut lane = Vec::new(alloc);
+    let mut begun = None;
+    for (index, pick) in picks.iter().enumerate() {
+        if pick.is_work_of(seat) {
+            let attempt = grown(index as u32, pick, begun);
+            if pick.did.is_last() {
+                lane.push(attempt)?;
+                begun = None;
+            } else {
+                begun = Some(attempt);
+            }
+        }
+    }
+    if let Some(attempt) = begun {
+        lane.push(attempt)?;
+    }
+    Ok(lane)
+}
+
+/// The attempt that has begun, if there is one, with one more pick; else one that begins with this pick.
+fn grown(index: u32, pick: &Pick, begun: Option<Attempt>) -> Attempt
+    ensures { result ≡ spec.grown index pick.now begun }
+{
+    match begun {
+        None => Attempt {
+            seat: pick.seat,
+            member: pick.member,
+            from: index,
+            to: index,
+            fate: Fate::UnderWay.after(pick.did),
+        },
+        Some(attempt) => Attempt {
+            to: index,
+            fate: attempt.fate.after(pick.did),
+            ..attempt
+        },
+    }
+}

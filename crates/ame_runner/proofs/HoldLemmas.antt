@@ -1,0 +1,109 @@
+-- What was tried on a copy could happen here.
+use Rattle.std.proofs.Common.{◌≡◌, ℕ, suc, ◌+◌, ◌++◌, Bool, true, false, List, [], ◌∷◌, length, map, Option, Some, None, is_some, if◌then◌else◌, refl, sym, ap, ◌∙◌, subst, arith, append-nil, append_assoc}
+use Rattle.std.proofs.lemmas.Option.{option_and_then_some}
+use Rattle.ame_term.specs.Tree.{Typ, Tree}
+use Rattle.ame_term.specs.Context.{focus}
+use Rattle.ame_term.specs.Maps.{at}
+use Rattle.ame_term.specs.SourceTerm.{IsSourceTerm}
+use Rattle.ame_term.specs.State.{State, after}
+use Rattle.ame_term.specs.Typing.{Accepts}
+use Rattle.ame_term.specs.declared.semantics.StepKind.{StepKind}
+use Rattle.ame_term.specs.declared.semantics.Label.{Label}
+use Rattle.ame_journal.specs.Labels.{fresh_of, made_by}
+use Rattle.ame_journal.specs.Replayed.{Replayed, begun_at, has_such, is_false_condition, is_failing}
+use Rattle.ame_journal.specs.Replay.{fragment, fails_after}
+use Rattle.ame_journal.proofs.UnderWayLemmas.{UnderWay-runs}
+use Rattle.ame_journal.proofs.UnfoldLemmas.{fragment-back}
+use Rattle.ame_machine.proofs.Run.ReplayLemmas.{active_run}
+use Rattle.ame_strong.specs.Next.{next_of}
+use Rattle.ame_strong.specs.declared.next_label.Next.TheVariants as next
+use Rattle.ame_strong.proofs.ToldLemmas.{tells}
+use Rattle.ame_weak.specs.Weak.{Weak, holding_none, moved, weak_start, weak_after, weak_run}
+use Rattle.ame_weak.specs.Straight.{Place, outset}
+use Rattle.ame_weak.specs.Tries.{HoldsIn}
+use Rattle.ame_weak.specs.declared.tries.Try.{Try}
+use Rattle.ame_weak.proofs.HeldSteps.{map-gave}
+use Rattle.ame_weak.proofs.LabelLemmas.{step-active}
+use Rattle.ame_weak.proofs.WayLemmas.{IsUnderWay, way-begun, way-step}
+use Rattle.ame_weak.proofs.TypedRuns.{way-typed}
+use Rattle.ame_weak.proofs.Follow.{IsFollowed}
+use Rattle.ame_weak.proofs.StraightLemmas.{past_all, follow-labels, ends-strong, begun-followed}
+use Rattle.ame_runner.specs.Trial.{IsTrial, StandsAs, IsTriedOut, is_failure, IsTryOf}
+use Rattle.ame_runner.specs.declared.trial.Outcome.{Outcome}
+use Rattle.ame_runner.specs.declared.trial.TriedOut.{TriedOut}
+
+module _ (devices : ℕ) where
+  -- the steps of a fragment, one after the other
+  way-on : (s : State) (i n : ℕ) (fresh : List ℕ) (v u : Weak) (kinds : List StepKind) → IsUnderWay devices s i n fresh v → weak_run v (map Label.Step kinds) ≡ Some u
+      → IsUnderWay devices s i (n + length kinds) (fresh ++ made_by kinds) u
+  way-on s i n fresh v u [] way e =
+      let same : v ≡ u = cc in
+      let count : n ≡ n + 0 = omega arith in
+      subst (λ (m : ℕ). IsUnderWay devices s i m (fresh ++ []) u) count
+      (subst (λ (ls : List ℕ). IsUnderWay devices s i n ls u) (sym (append-nil fresh)) (subst (IsUnderWay devices s i n fresh) same way))
+  way-on s i n fresh v u (kind ∷ kinds) way e =
+      option_and_then_some _ _ _ e (λ x first rest.
+      let one = way-step devices s i n fresh v way kind x (sym (step-active v kind i way.laid.active) ∙ first) in
+      let all = way-on s i (n + 1) (fresh ++ fresh_of kind) x u kinds one rest in
+      let count : n + 1 + length kinds ≡ n + suc (length kinds) = omega arith in
+      subst (λ (m : ℕ). IsUnderWay devices s i m (fresh ++ made_by (kind ∷ kinds)) u) count
+      (subst (λ (ls : List ℕ). IsUnderWay devices s i (n + 1 + length kinds) ls u) (append_assoc fresh (fresh_of kind) (made_by kinds)) all))
+
+  module _ (r : Replayed) (p : Place) (w : Weak) (f : IsFollowed devices r p w) (idle : w.state.active ≡ None) where
+    activated : (i : ℕ) (v : Weak) → weak_after w (Label.Activate i) ≡ Some v → IsUnderWay devices w.state i 0 [] v
+    unfolding weak_after
+    activated i v e =
+        let is = ends-strong devices r p w f idle in
+        let here : weak_after (holding_none r.state) (Label.Activate i) ≡ Some v = subst (λ (z : Weak). weak_after z (Label.Activate i) ≡ Some v) is e in
+        let m = map-gave (moved (holding_none r.state)) (after r.state (Label.Activate i)) v here in
+        subst (λ (s : State). IsUnderWay devices s i 0 [] v) (sym (ap (λ (z : Weak). z.state) is))
+        (subst (IsUnderWay devices r.state i 0 []) m.2 (way-begun devices f.cells r.state i m.0 f.typed f.calm.idle f.calm.orderly m.1))
+
+    way-of : (i first : ℕ) (v : Weak) (kinds : List StepKind) (above : ℕ) → IsTrial w i first v kinds above → IsUnderWay devices w.state i (length kinds) (made_by kinds) v
+    way-of i first v kinds above t =
+        option_and_then_some _ _ _ t.leads (λ x begins rest.
+        let count : 0 + length kinds ≡ length kinds = omega arith in
+        subst (λ (m : ℕ). IsUnderWay devices w.state i m (made_by kinds) v) count (way-on w.state i 0 [] x v kinds (activated i x begins) rest))
+
+  module _ (s : State) (i n : ℕ) (fresh : List ℕ) (w : Weak) (u : IsUnderWay devices s i n fresh w) where
+    way-fragment : (t : State) × (fragment i n fresh s ≡ Some t) × (at t.members i ≡ at w.state.members i)
+    way-fragment =
+        let a = active_run s i u.term u.inputs u.member u.idle u.calm n u.place u.ran u.agrees in (
+          a.behind,
+          subst (λ (ls : List ℕ). fragment i n ls s ≡ Some a.behind) u.made
+              (fragment-back i a.way.kinds n u.place.fresh s a.behind a.way.are (UnderWay-runs s i n u.place.fresh a.behind a.way)).0,
+          a.member ∙ sym u.stands,
+        )
+
+    way-fails : next_of w.state None ≡ next.Stuck → fails_after s i n fresh ≡ true
+    way-fails stuck =
+        let f = way-fragment in
+        let typed = way-typed devices s i n fresh w u in
+        let told = tells w.state devices typed.0 typed.1 None (next_of w.state None) refl in
+        let stands = (told.present i u.place.term u.laid.active u.stands).waits.0 stuck in
+        ap (has_such (is_failing i)) f.1 ∙ ap (has_such (λ (term : Tree). is_false_condition (focus term))) (f.2 ∙ u.stands) ∙ ap is_false_condition stands
+
+    way-holds : (b : Bool) → (b ≡ true → next_of w.state None ≡ next.Stuck) → (if b then fails_after s i n fresh else is_some (fragment i n fresh s)) ≡ true
+    way-holds true stuck = way-fails (stuck refl)
+    way-holds false stuck = ap is_some way-fragment.1
+
+stuck-where : (o : Outcome) (v : Weak) → StandsAs o v → is_failure o ≡ true → next_of v.state None ≡ next.Stuck
+stuck-where Outcome.Fails v stands e = stands
+stuck-where Outcome.Leaves v stands e = absurd (cc)
+stuck-where Outcome.Ends v stands e = absurd (cc)
+stuck-where Outcome.Cut v stands e = absurd (cc)
+
+module _ (devices : ℕ) (places : List ℕ) (program : Tree) (refs : List Typ) (accepts : Accepts devices places program refs) (source : IsSourceTerm program) where
+  pub tried_fragments_hold : (labels : List Label) (w : Weak) (i first turns : ℕ) (a : TriedOut) (t : Try) → weak_run (weak_start program) labels ≡ Some w → w.state.active ≡ None
+      → IsTriedOut w i first turns a → IsTryOf i a t → HoldsIn w t
+  tried_fragments_hold labels w i first turns a t e idle tried is =
+      let g = follow-labels devices (begun_at program) outset (weak_start program) w labels (begun-followed devices places program refs accepts source) e in
+      let way = way-of devices g.behind (past_all outset labels) w g.follows idle i first tried.behind a.kinds.items a.above tried.is in
+      let holds = way-holds devices w.state i (length a.kinds.items) (made_by a.kinds.items) tried.behind way t.failing
+      (λ failing. stuck-where a.outcome tried.behind tried.comes (sym is.failing ∙ failing)) in (
+        idle,
+        ap (λ (k : ℕ). if t.failing then fails_after w.state k t.certificate.steps t.certificate.fresh else is_some (fragment k t.certificate.steps t.certificate.fresh w.state)) is.number
+            ∙ ap (λ (k : ℕ). if t.failing then fails_after w.state i k t.certificate.fresh else is_some (fragment i k t.certificate.fresh w.state)) is.steps
+            ∙ ap (λ (ls : List ℕ). if t.failing then fails_after w.state i (length a.kinds.items) ls else is_some (fragment i (length a.kinds.items) ls w.state)) is.fresh
+            ∙ holds,
+      )

@@ -1,0 +1,9 @@
+pub mod PlayLemmas
+pub mod ChoiceLemmas
+pub mod TrialLemmas
+pub mod HoldLemmas
+pub mod NoteLemmas
+pub mod RunLemmas
+pub mod CountLemmas
+pub mod DeviceLemmas
+pub mod HearLemmas

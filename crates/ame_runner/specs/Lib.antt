@@ -1,0 +1,9 @@
+pub mod Labels
+pub mod Play
+pub mod View
+pub mod Choices
+pub mod Trial
+pub mod Notes
+pub mod Run
+pub mod Freeing
+pub mod Stop

@@ -1,0 +1,63 @@
+-- Why a run stops.
+use Rattle.std.specs.Prelude.{◌≡◌, ◌≢◌, ℕ, ◌==◌, ℤ, true, List, [], Option, Some, None, is_some, ⊤}
+use Rattle.std.specs.List.{AllByRecursion, list_any}
+use Rattle.ame_term.specs.Maps.{at}
+use Rattle.ame_device.specs.declared.told.Told.{Told}
+use Rattle.ame_journal.specs.Replay.{fails_after}
+use Rattle.ame_strong.specs.Pool.{pool}
+use Rattle.ame_strong.specs.Next.{next_of}
+use Rattle.ame_strong.specs.declared.next_label.Next.TheVariants as next
+use Rattle.ame_shell.specs.Heard.{HaveHeard, NoneFailed, OneFailed}
+use Rattle.ame_weak.specs.Weak.{Weak}
+use Rattle.ame_weak.specs.Straight.{straight}
+use Rattle.ame_weak.specs.declared.tries.Certificate.{Certificate}
+use Rattle.ame_runner.specs.Run.{RunView, IsRunning}
+use Rattle.ame_runner.specs.declared.stop.WeakStop.{WeakStop}
+
+-- Devices
+
+-- which device failed, if the run stops by that
+abbrev pub FailsBy : Option WeakStop → List Told → List Told → Type 0
+FailsBy (Some (WeakStop.DeviceFault device)) before after = OneFailed device before after
+FailsBy _ before after = NoneFailed before after
+
+-- devices have heard the calls of the journal of the labels so far
+abbrev pub HeardSoFar : RunView → List Told → List Told → Type 0
+HeardSoFar r opened now = HaveHeard r.play.program (straight r.play.labels) opened now
+
+-- so it is still, and a device failed only where the run stops by that
+abbrev pub HearsOn : Option WeakStop → RunView → RunView → List Told → List Told → Type 0
+HearsOn stop old new before after =
+    (opened : List Told) → IsRunning old → HeardSoFar old opened before → HeardSoFar new opened after × FailsBy stop before after
+
+-- Causes
+
+-- each member of the pool fails, and there is one
+pub record IsBlockedBy (w : Weak) (certificates : List Certificate) : Type 0 where
+  pub some : pool w.state ≢ []
+  pub fail : AllByRecursion (λ c. fails_after w.state c.number c.steps c.fresh ≡ true) certificates
+  pub all : (i : ℕ) → is_some (at (pool w.state) i) ≡ true → list_any (λ c. c.number == i) certificates ≡ true
+
+-- a member stands at a call of a device
+pub record StandsAtCall (w : Weak) (device : ℕ) : Type 0 where
+  pub number : ℕ
+  pub argument : ℤ
+  pub stands : next_of w.state (Some number) ≡ next.Device device argument
+
+-- the cause of a stop, in the weak state at the end
+abbrev pub HasCause : WeakStop → Weak → ℕ → ℕ → Type 0
+HasCause WeakStop.Finished w turns limit = pool w.state ≡ []
+HasCause (WeakStop.Blocked certificates) w turns limit = IsBlockedBy w certificates.items
+HasCause WeakStop.Spent w turns limit = (turns ≡ limit) × (pool w.state ≢ [])
+HasCause (WeakStop.DeviceFault device) w turns limit = StandsAtCall w device
+HasCause WeakStop.NoMemory w turns limit = ⊤
+
+-- the run has stopped: nothing is active, no label is left to be made, and the stop has its cause
+pub record HasStopped (stop : WeakStop) (r : RunView) : Type 0 where
+  pub none : r.left ≡ []
+  pub idle : r.play.weak.state.active ≡ None
+  pub cause : HasCause stop r.play.weak r.turns r.limit
+
+abbrev pub StopsIfTold : Option WeakStop → RunView → Type 0
+StopsIfTold None r = ⊤
+StopsIfTold (Some stop) r = HasStopped stop r

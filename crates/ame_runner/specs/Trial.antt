@@ -1,0 +1,77 @@
+-- Members that are tried on a copy.
+use Rattle.std.specs.Prelude.{◌≡◌, ℕ, ◌+◌, ◌≤◌, Bool, true, false, List, [], ◌∷◌, ◌++◌, length, Some, None, is_some, ⊤}
+use Rattle.ame_term.specs.Act.{fresh_location}
+use Rattle.ame_term.specs.State.{after}
+use Rattle.ame_term.specs.declared.semantics.StepKind.{StepKind}
+use Rattle.ame_term.specs.declared.semantics.Label.{Label}
+use Rattle.ame_journal.specs.Labels.{fresh_of, made_by, fragment_labels}
+use Rattle.ame_strong.specs.Next.{next_of}
+use Rattle.ame_strong.specs.declared.next_label.Next.TheVariants as next
+use Rattle.ame_weak.specs.Weak.{Weak, weak_after, weak_run}
+use Rattle.ame_weak.specs.declared.tries.Try.{Try}
+use Rattle.ame_runner.specs.declared.trial.TriedOut.{TriedOut}
+use Rattle.ame_runner.specs.declared.trial.Outcome.{Outcome}
+
+-- the locations from one on, one after the other, up to the one before the last
+abbrev pub AreNext : ℕ → List ℕ → ℕ → Type 0
+AreNext l [] end = l ≡ end
+AreNext l (m ∷ locations) end = (m ≡ l) × AreNext (l + 1) locations end
+
+-- Member i is active in v after steps of these kinds from w. Their locations begin at the first that is given,
+-- and the next one would be `above`.
+pub record IsTrial (w : Weak) (i first : ℕ) (v : Weak) (kinds : List StepKind) (above : ℕ) : Type 0 where
+  pub leads : weak_run w (fragment_labels i kinds) ≡ Some v
+  pub made : AreNext first (made_by kinds) above
+
+-- a kind of step makes no location but this one
+abbrev pub MakesNext : ℕ → StepKind → Type 0
+MakesNext l kind = (m : ℕ) → fresh_location kind ≡ Some m → m ≡ l
+
+-- one step more, which makes the next location if it makes one
+pub record HasGoneOn (v : Weak) (kinds : List StepKind) (above : ℕ) (later : Weak) (more : List StepKind) (next_above : ℕ) : Type 0 where
+  pub kind : StepKind
+  pub legal : weak_after v (Label.Step kind) ≡ Some later
+  pub added : more ≡ kinds ++ kind ∷ []
+  pub made : AreNext above (fresh_of kind) next_above
+
+-- what stands at the end of a fragment that was tried
+abbrev pub StandsAs : Outcome → Weak → Type 0
+StandsAs Outcome.Leaves v = is_some (after v.state Label.Leave) ≡ true
+StandsAs Outcome.Ends v = is_some (after v.state Label.End) ≡ true
+StandsAs Outcome.Fails v = next_of v.state None ≡ next.Stuck
+StandsAs Outcome.Cut v = ⊤
+
+-- the fragment has come to its end, or can't go on
+abbrev pub IsDecided : Outcome → Type 0
+IsDecided Outcome.Cut = ⊥
+IsDecided _ = ⊤
+
+-- the turn that its last label takes, if it has one
+abbrev pub last_turn : Outcome → ℕ
+last_turn Outcome.Leaves = 1
+last_turn Outcome.Ends = 1
+last_turn Outcome.Fails = 0
+last_turn Outcome.Cut = 0
+
+-- Member i was tried from w, with new locations from the first on and so many turns left. Its activation, its steps and
+-- its last label took one each. It is cut off only where it has used them up.
+pub record IsTriedOut (w : Weak) (i first turns : ℕ) (a : TriedOut) : Type 0 where
+  pub behind : Weak
+  pub is : IsTrial w i first behind a.kinds.items a.above
+  pub comes : StandsAs a.outcome behind
+  pub counted : a.turns ≡ length a.kinds.items + 1 + last_turn a.outcome
+  pub within : a.turns ≤ turns
+  pub used : a.outcome ≡ Outcome.Cut → a.turns ≡ turns
+
+-- Tries
+
+abbrev pub is_failure : Outcome → Bool
+is_failure Outcome.Fails = true
+is_failure _ = false
+
+-- the try that tells of a fragment of member i that was tried out
+pub record IsTryOf (i : ℕ) (a : TriedOut) (t : Try) : Type 0 where
+  pub number : t.certificate.number ≡ i
+  pub steps : t.certificate.steps ≡ length a.kinds.items
+  pub fresh : t.certificate.fresh ≡ made_by a.kinds.items
+  pub failing : t.failing ≡ is_failure a.outcome

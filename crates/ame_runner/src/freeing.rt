@@ -1,0 +1,65 @@
+//! A member goes on under `unprotected`.
+
+ghost use Rattle.std.specs.Prelude.{◌≡◌, ℕ, Some, IfOk};
+ghost use Rattle.ame_device.specs.Calls.{all_told};
+ghost use Rattle.ame_strong.specs.Next.{next_of};
+ghost use Rattle.ame_weak.specs.Weak.{Weak};
+ghost use Rattle.ame_weak.specs.View.{weak_of};
+ghost use Rattle.ame_runner.specs.Freeing.{HasFreed};
+
+use crate::trial::kind_of;
+use ame_device::{Device, DeviceFail, call_device};
+use ame_strong::Next;
+use ame_term::{Label, Loc, NoMemory, StepKind};
+use ame_weak::WeakState;
+
+/// What comes of a member that goes on under `unprotected`.
+#[derive(Clone, Copy, PartialEq, Eq, Debug)]
+pub enum Freed {
+    /// It makes this label.
+    Label(Label),
+    /// It calls this device, which fails.
+    Fault(u8),
+}
+
+/// The label that a member makes next under `unprotected`, where a new location is this one; if it calls a device, the
+/// device is called. One that makes none, or calls a device that isn't there, is answered as want of memory.
+pub fn next_free<D: Device>(
+    state: &WeakState,
+    above: Loc,
+    number: u64,
+    devices: &mut Vec<D>,
+) -> Result<Freed, NoMemory>
+    ensures { IfOk result (HasFreed (weak_of state.now) number above.0 (all_told D.device_heard D.device_faults devices.old.items)
+        (all_told D.device_heard D.device_faults devices.new.items)) }
+{
+    match state.next_of(Some(number)) {
+        Next::Close => Ok(Freed::Label(Label::Close(number))),
+        Next::Device(device, argument) => call_for(devices, number, device, argument),
+        next => match kind_of(next, above) {
+            Some(kind) => Ok(Freed::Label(Label::Free(number, kind))),
+            None => Err(NoMemory),
+        },
+    }
+}
+
+/// A member calls a device.
+fn call_for<D: Device>(
+    devices: &mut Vec<D>,
+    number: u64,
+    device: u8,
+    argument: i64,
+) -> Result<Freed, NoMemory>
+    ensures { IfOk result (λ freed. (w : Weak) (above : ℕ) → next_of w.state (Some number) ≡ Next.Device device argument
+        → HasFreed w number above (all_told D.device_heard D.device_faults devices.old.items) (all_told D.device_heard D.device_faults devices.new.items) freed) }
+{
+    let place = usize::from(device);
+    if place >= devices.len() {
+        return Err(NoMemory);
+    }
+    match call_device(devices, place, argument) {
+        Ok(answer) => Ok(Freed::Label(Label::Free(number, StepKind::Device(answer)))),
+        Err(DeviceFail::Failed) => Ok(Freed::Fault(device)),
+        Err(DeviceFail::NoMemory) => Err(NoMemory),
+    }
+}

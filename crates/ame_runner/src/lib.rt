@@ -1,0 +1,19 @@
+//! Runs of the weak semantics: the labels so far, who may go on, members that are tried on a copy, and the notes of tries.
+#![tactic(auto)]
+
+mod choices;
+mod freeing;
+mod labels;
+mod notes;
+mod play;
+mod run;
+mod stop;
+mod theorems;
+mod trial;
+
+pub use choices::{candidates, drawn};
+pub use freeing::{Freed, next_free};
+pub use notes::Notes;
+pub use play::Play;
+pub use theorems::tried_fragments_hold;
+pub use trial::{Outcome, TriedOut, note_of, try_member};

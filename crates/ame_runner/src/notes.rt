@@ -1,0 +1,111 @@
+//! The tries of a run, and who is put aside.
+
+ghost use Rattle.std.specs.Prelude.{◌≡◌, ◌∷◌, ◌++◌, [], ℕ, ◌==◌, ◌&&◌, ◌||◌, false, if◌then◌else◌, OnOk, OnErr, ◌<◌, vec_len, vec_capacity};
+ghost use Rattle.std.specs.BTreeSet.{contains};
+ghost use Rattle.std.specs.Ordering.{nat_cmp};
+ghost use Rattle.ame_runner.specs.Notes.{lets_try_again};
+
+use crate::labels::label_location;
+use ame_term::{Label, NoMemory};
+use ame_weak::Try;
+use std::alloc::Global;
+use std::collections::BTreeSet;
+
+/// The tries of a run so far, and the members that are put aside.
+#[derive(Drop)]
+pub struct Notes {
+    tries: Vec<Try>,
+    aside: BTreeSet<u64>,
+}
+
+impl Notes {
+    ghost use Rattle.ame_runner.specs.View.{tries_of, aside_of};
+
+    /// No tries yet, and nobody put aside.
+    pub fn new(alloc: Global) -> Notes
+        ensures tries { tries_of result ≡ [] }
+        ensures aside { (i : ℕ) → aside_of result i ≡ false }
+    {
+        Notes {
+            tries: Vec::new(alloc),
+            aside: BTreeSet::new(alloc),
+        }
+    }
+
+    /// The tries, in order.
+    pub fn tries(&self) -> &[Try]
+        ensures { result.now ≡ tries_of self.now }
+    {
+        self.tries.as_slice()
+    }
+
+    /// The members that are put aside.
+    pub fn aside(&self) -> &BTreeSet<u64>
+        ensures { (i : ℕ) → contains nat_cmp result.now i ≡ aside_of self.now i }
+    {
+        &self.aside
+    }
+
+    /// The tries in order, over their memory.
+    pub fn into_tries(self) -> Vec<Try>
+        ensures { result.items ≡ tries_of self }
+    {
+        let Notes { tries, aside: _ } = self;
+        tries
+    }
+
+    /// A label was made. Where a fragment has left or ended or a location is new, nobody is put aside any more.
+    pub fn pass(&mut self, label: Label)
+        ensures tries { tries_of self.new ≡ tries_of self.old }
+        ensures aside { (i : ℕ) → aside_of self.new i ≡ (if lets_try_again label then false else aside_of self.old i) }
+    {
+        if lets_try_again(label) {
+            self.aside.clear();
+        }
+    }
+
+    /// A fragment was tried. Where it failed, its member is put aside.
+    pub fn add(&mut self, t: Try) -> Result<(), NoMemory>
+        ensures tries { OnOk result (tries_of self.new ≡ tries_of self.old ++ t ∷ []) }
+        ensures aside { OnOk result ((i : ℕ) → aside_of self.new i ≡ (t.failing && (t.certificate.number == i) || aside_of self.old i)) }
+        ensures err { OnErr result (tries_of self.new ≡ tries_of self.old) }
+    {
+        self.room()?;
+        if t.failing {
+            self.put_aside(t.certificate.number)?;
+        }
+        self.tries.push_reserved(t);
+        Ok(())
+    }
+
+    /// Makes a place for one more try.
+    fn room(&mut self) -> Result<(), NoMemory>
+        ensures tries { tries_of self.new ≡ tries_of self.old }
+        ensures aside { (i : ℕ) → aside_of self.new i ≡ aside_of self.old i }
+        ensures place { OnOk result (vec_len self.new.tries < vec_capacity self.new.tries) }
+    {
+        match self.tries.reserve(1) {
+            Ok(()) => Ok(()),
+            Err(_) => Err(NoMemory),
+        }
+    }
+
+    /// A member is put aside.
+    fn put_aside(&mut self, number: u64) -> Result<(), NoMemory>
+        ensures tries { self.new.tries ≡ self.old.tries }
+        ensures aside { OnOk result ((i : ℕ) → aside_of self.new i ≡ ((number == i) || aside_of self.old i)) }
+    {
+        self.aside.insert(number)?;
+        Ok(())
+    }
+}
+
+/// Whether those put aside may be tried again after a label.
+fn lets_try_again(label: Label) -> bool
+    ensures { result ≡ lets_try_again label }
+{
+    match label {
+        Label::Leave | Label::End => true,
+        _ => label_location(label).is_some(),
+    }
+}

@@ -1,0 +1,168 @@
+//! A run that makes its choices.
+
+ghost use Rattle.std.specs.Prelude.{◌≡◌, ◌+◌, ◌-◌, ◌<◌, ◌≤◌, [], ◌∷◌, ◌++◌, false, length, List, None, IfOk, OnOk, OnErr};
+ghost use Rattle.ame_device.specs.declared.told.Told.{Told};
+ghost use Rattle.ame_journal.specs.Labels.{fragment_labels};
+
+use crate::notes::Notes;
+use crate::play::Play;
+use crate::trial::{Outcome, TriedOut, note_of, try_member};
+use ame_term::{Accepted, Label, Loc, NoMemory, StepKind};
+use std::alloc::Global;
+use std::collections::VecDeque;
+
+/// A weak run, the tries in it, and the labels that its active fragment is still to make.
+#[derive(Drop)]
+pub struct Run<'a> {
+    pub(crate) play: Play<'a>,
+    pub(crate) notes: Notes,
+    /// The labels of the active fragment that are still to be made, in order.
+    pub(crate) left: VecDeque<Label>,
+    /// The least location above all that were made and are to be made.
+    pub(crate) above: u32,
+    pub(crate) turns: u32,
+    pub(crate) limit: u32,
+}
+
+impl<'a> Run<'a> {
+    ghost use Rattle.ame_runner.specs.Labels.{label_location, behind_location};
+    ghost use Rattle.ame_runner.specs.Play.{HasMade};
+    ghost use Rattle.ame_runner.specs.Trial.{last_turn, IsTriedOut};
+    ghost use Rattle.ame_runner.specs.Run.{IsOwn, HasRun, IsRunning, RunsOrEnds};
+    ghost use Rattle.ame_runner.specs.Stop.{HearsOn};
+    ghost use Rattle.ame_runner.specs.View.{run_of};
+
+    /// Before the first label, with this limit of turns.
+    pub fn start(alloc: Global, accepted: &'a Accepted, limit: u32) -> Result<Run<'a>, NoMemory>
+        ensures { IfOk result (λ run. IsRunning (run_of run)) }
+    {
+        Ok(Run {
+            play: Play::start(alloc, accepted)?,
+            notes: Notes::new(alloc),
+            left: VecDeque::new(alloc),
+            above: 0,
+            turns: 0,
+            limit,
+        })
+    }
+
+    /// Makes one label.
+    fn make(&mut self, alloc: Global, label: Label) -> Result<(), NoMemory>
+        ensures made { OnOk result (HasRun label (run_of self.old) (run_of self.new)) }
+        ensures err { OnErr result (run_of self.new ≡ run_of self.old) }
+    {
+        match self.play.make(alloc, label) {
+            Ok(()) => {
+                self.notes.pass(label);
+                Ok(())
+            }
+            Err(_) => Err(NoMemory),
+        }
+    }
+
+    /// Makes the next label of the active fragment. It isn't counted.
+    pub(crate) fn go_on(&mut self, alloc: Global) -> Result<(), NoMemory>
+        ensures runs { IsRunning (run_of self.old) → RunsOrEnds result (run_of self.new) }
+        ensures hears { OnOk result ((told : List Told) → HearsOn None (run_of self.old) (run_of self.new) told told) }
+        ensures left { OnOk result (length (run_of self.new).left + 1 ≡ length (run_of self.old).left) }
+    {
+        match self.left.pop_front() {
+            Some(label) => self.make(alloc, label),
+            None => Err(NoMemory),
+        }
+    }
+
+    /// Makes all labels that the active fragment is still to make.
+    pub(crate) fn run_out(&mut self, alloc: Global) -> Result<(), NoMemory>
+        ensures runs { IsRunning (run_of self.old) → RunsOrEnds result (run_of self.new) }
+        ensures hears { OnOk result ((told : List Told) → HearsOn None (run_of self.old) (run_of self.new) told told) }
+        ensures none { OnOk result ((run_of self.new).left ≡ []) }
+    {
+        while !self.left.is_empty() {
+            self.go_on(alloc)?;
+        }
+        Ok(())
+    }
+
+    /// Makes a label of a resting member, which takes a turn.
+    pub(crate) fn count(&mut self, alloc: Global, label: Label) -> Result<(), NoMemory>
+        requires low { behind_location (label_location label) ≤ (run_of self.old).above + 1 }
+        requires turns { (run_of self.old).turns < (run_of self.old).limit }
+        ensures runs { IsRunning (run_of self.old) → RunsOrEnds result (run_of self.new) }
+        ensures made { OnOk result (HasMade label (run_of self.old).play (run_of self.new).play) }
+    {
+        self.make(alloc, label)?;
+        self.above = self.above.max(self.play.fresh().0);
+        self.turns += 1;
+        Ok(())
+    }
+
+    /// Tries a member that may become active. Where it leaves or ends, its labels are to be made; else it is noted.
+    pub(crate) fn attempt(&mut self, alloc: Global, number: u64) -> Result<(), NoMemory>
+        requires idle { (run_of self.old).play.weak.state.active ≡ None }
+        requires turns { (run_of self.old).turns < (run_of self.old).limit }
+        requires free { (run_of self.old).aside number ≡ false }
+        requires left { (run_of self.old).left ≡ [] }
+        ensures runs { IsRunning (run_of self.old) → RunsOrEnds result (run_of self.new) }
+        ensures play { (run_of self.new).play ≡ (run_of self.old).play }
+    {
+        let turns = self.limit - self.turns;
+        let tried = try_member(alloc, self.play.state(), Loc(self.above), number, turns)?;
+        match tried.outcome {
+            Outcome::Leaves => self.begin(number, &tried, Label::Leave),
+            Outcome::Ends => self.begin(number, &tried, Label::End),
+            Outcome::Fails | Outcome::Cut => self.note(alloc, number, &tried),
+        }
+    }
+
+    /// The labels of a fragment that was tried are to be made.
+    fn begin(&mut self, number: u64, tried: &TriedOut, last: Label) -> Result<(), NoMemory>
+        requires tried { IsTriedOut (run_of self.old).play.weak number (run_of self.old).above ((run_of self.old).limit - (run_of self.old).turns) tried.now }
+        requires turn { last_turn tried.now.outcome ≡ 1 }
+        requires none { behind_location (label_location last) ≡ 0 }
+        requires own { IsOwn last }
+        requires turns { (run_of self.old).turns < (run_of self.old).limit }
+        ensures runs { IsRunning (run_of self.old) → RunsOrEnds result (run_of self.new) }
+        ensures play { (run_of self.new).play ≡ (run_of self.old).play }
+    {
+        add_labels(&mut self.left, number, &tried.kinds, last)?;
+        self.above = tried.above;
+        self.turns += tried.turns;
+        Ok(())
+    }
+
+    /// A fragment that was tried is noted, as one that came to nothing.
+    fn note(&mut self, alloc: Global, number: u64, tried: &TriedOut) -> Result<(), NoMemory>
+        requires idle { (run_of self.old).play.weak.state.active ≡ None }
+        requires free { (run_of self.old).aside number ≡ false }
+        requires tried { IsTriedOut (run_of self.old).play.weak number (run_of self.old).above ((run_of self.old).limit - (run_of self.old).turns) tried.now }
+        requires turn { last_turn tried.now.outcome ≡ 0 }
+        requires turns { (run_of self.old).turns < (run_of self.old).limit }
+        requires left { (run_of self.old).left ≡ [] }
+        ensures runs { IsRunning (run_of self.old) → RunsOrEnds result (run_of self.new) }
+        ensures play { (run_of self.new).play ≡ (run_of self.old).play }
+    {
+        let after = self.play.labels().len() as u64;
+        let t = note_of(alloc, after, number, tried)?;
+        self.notes.add(t)?;
+        self.turns += tried.turns;
+        Ok(())
+    }
+}
+
+/// The labels of a fragment join others.
+fn add_labels(
+    left: &mut VecDeque<Label>,
+    number: u64,
+    kinds: &[StepKind],
+    last: Label,
+) -> Result<(), NoMemory>
+    ensures { OnOk result (left.new.items ≡ left.old.items ++ (fragment_labels number kinds.now ++ last ∷ [])) }
+{
+    left.push_back(Label::Activate(number))?;
+    for kind in kinds {
+        left.push_back(Label::Step(*kind))?;
+    }
+    left.push_back(last)?;
+    Ok(())
+}

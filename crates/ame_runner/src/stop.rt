@@ -1,0 +1,30 @@
+//! Why a run stops, and what is told of it.
+
+use ame_term::Label;
+use ame_weak::{Certificate, Try};
+
+/// Why a run stops.
+#[derive(Drop)]
+pub enum WeakStop {
+    /// No member is left.
+    Finished,
+    /// Each member fails, as these certificates tell.
+    Blocked(Vec<Certificate>),
+    /// The turns are used up.
+    Spent,
+    /// This device failed.
+    DeviceFault(u8),
+    NoMemory,
+}
+
+/// A run that has stopped.
+#[derive(Drop)]
+pub struct WeakRun {
+    /// Its labels, in order.
+    pub labels: Vec<Label>,
+    /// The fragments that were tried and came to nothing.
+    pub tries: Vec<Try>,
+    /// The turns that it took.
+    pub turns: u32,
+    pub stop: WeakStop,
+}

@@ -1,0 +1,19 @@
+//! Theorems: promises of this crate about what its calls answer, each the statement of a lemma.
+
+ghost use Rattle.std.specs.Prelude.{◌≡◌, ℕ, List, None};
+ghost use Rattle.ame_term.specs.View.{tree_of};
+ghost use Rattle.ame_term.specs.declared.semantics.Label.{Label};
+ghost use Rattle.ame_weak.specs.Weak.{Weak, IsWeakRun};
+ghost use Rattle.ame_weak.specs.Tries.{HoldsIn};
+ghost use Rattle.ame_weak.specs.declared.tries.Try.{Try};
+ghost use Rattle.ame_runner.specs.Trial.{IsTriedOut, IsTryOf};
+ghost use Rattle.ame_runner.specs.declared.trial.TriedOut.{TriedOut};
+
+use ame_term::Accepted;
+
+/// What was tried out on a copy of a weak state of an accepted program, where nothing was active, holds there: its
+/// steps can be made, and where it failed, they come to a condition that is false.
+pub fn tried_fragments_hold(accepted: &Accepted)
+    ensures { (labels : List Label) (w : Weak) (i first turns : ℕ) (tried : TriedOut) (t : Try) → IsWeakRun (tree_of accepted.now.program.term) labels w
+        → w.state.active ≡ None → IsTriedOut w i first turns tried → IsTryOf i tried t → HoldsIn w t }
+{}

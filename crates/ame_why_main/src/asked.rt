@@ -19,6 +19,8 @@ pub enum View {
     Counts,
     /// What the locations hold that are left.
     Store,
+    /// The picture of the run.
+    Picture,
 }
 
 impl View {
@@ -30,13 +32,14 @@ impl View {
             "--schedule" => Some(View::Schedule),
             "--counts" => Some(View::Counts),
             "--store" => Some(View::Store),
+            "--picture" => Some(View::Picture),
             _ => None,
         }
     }
 
-    /// Whether what is shown is an input of another call, so that nothing may stand behind it.
+    /// Whether what is shown is a file for another program, so that nothing may stand behind it.
     pub fn is_input(self) -> bool {
-        matches!(self, View::Journal | View::Schedule)
+        matches!(self, View::Journal | View::Schedule | View::Picture)
     }
 }
 
@@ -72,7 +75,8 @@ fn is_file(word: &str) -> bool {
 pub fn limits_of(alloc: Global, words: &[String]) -> Option<Limits> {
     let options = match read_words(alloc, words) {
         Ok(Command::Run(options) | Command::Bench(_, _, options)) => options,
-        Ok(Command::Sim(_, options) | Command::Replay(options) | Command::Resume(options)) => options,
+        Ok(Command::Sim(_, options) | Command::Replay(options) | Command::Resume(options)) =>
+            options,
         Ok(Command::Check) | Err(_) => return None,
     };
     Some(Limits {

@@ -8,8 +8,8 @@ const SYNOPSIS: &[u8] =
 ./why --explain RULE            a rule of the types, 1 to 9 and 11, with a right and a wrong text
 ./why --version                 the commit and the kit
 
-FILE is `-` or none for the standard input. The words are those of `ame`: `run`, `bench SEED SIZE`, `sim SEED`, `replay` or
-`check`, and `--workers N`, `--turns N`, `--slice N`.
+FILE is `-` or none for the standard input. The words are those of `ame`: `run`, `bench SEED SIZE`, `sim SEED`, `replay`,
+`check` or `resume`, and `--workers N`, `--turns N`, `--slice N`.
 
 Views, one of which may stand anywhere:
   --journal    the journal of the run, and the program
@@ -17,6 +17,7 @@ Views, one of which may stand anywhere:
   --schedule   the schedule of a run of `sim` or `replay`, and the program
   --counts     what was counted, beside its bounds
   --store      what the locations hold that are left
+  --picture    the picture of a run of `sim` or `replay`, as SVG
 ";
 
 /// What is told of words that ask for no run: the synopsis, or a rule of the types.

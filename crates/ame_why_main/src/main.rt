@@ -7,6 +7,7 @@ mod given;
 mod help;
 mod kept;
 mod origin;
+mod picture;
 mod run;
 mod views;
 

@@ -107,7 +107,7 @@ fn told<K>(
         page.extend_from_slice(&explain(alloc, report, input, origin)?)?;
         return Ok(page);
     };
-    let mut page = page_of(alloc, view, report, ended, limits)?;
+    let mut page = page_of(alloc, view, report, ended, limits, origin.name)?;
     if !view.is_input() {
         page.extend_from_slice(verdict.as_str().as_bytes())?;
     }

@@ -4,6 +4,7 @@ ghost use Rattle.std.specs.Prelude.{◌≤◌, vec_len};
 ghost use Rattle.ame_lex.specs.Bytes.{max_text};
 
 use crate::asked::View;
+use crate::picture::picture_text;
 use ame_app::{Own, Report, StandardDevice};
 use ame_code::Code;
 use ame_engine::Ended;
@@ -11,7 +12,7 @@ use ame_eval::Fragment;
 use ame_journal::Entry;
 use ame_protocol::Limits;
 use ame_store::Store;
-use ame_term::{Loc, NoMemory, copy_term, push};
+use ame_term::{Copied, Loc, NoMemory, copy_term, push};
 use ame_value::Val;
 use ame_why::{
     Made, counts_of, forms_of, fragments_of, input_of, journal_of, lines_of, store_of, table_of,
@@ -33,16 +34,34 @@ pub fn page_of<K>(
     report: &Report<K, StandardDevice>,
     ended: &Ended<Val>,
     limits: Option<Limits>,
+    title: &str,
 ) -> Result<Vec<u8>, NoMemory>
     requires small { vec_len report.now.text ≤ max_text }
 {
+    let entries = entries_of(alloc, ended)?;
     match view {
-        View::Trace => trace_text(alloc, report, ended),
+        View::Trace => trace_text(alloc, report, ended, &entries),
         View::Schedule => schedule_text(alloc, &report.own, &report.text),
-        View::Counts => counts_text(alloc, &report.code, ended, limits),
+        View::Counts => counts_text(alloc, &report.code, ended, &entries, limits),
         View::Store => store_of(alloc, &report.text, ended.store()),
-        View::Why | View::Journal => journal_text(alloc, ended.journal(), &report.text),
+        View::Picture => {
+            let lines = lines_told(alloc, &report.code, &entries)?;
+            picture_text(alloc, report, &entries, &lines, title)
+        }
+        View::Why | View::Journal => journal_text(alloc, &entries, &report.text),
     }
+}
+
+/// The entries of a whole run: those from which it went on, and those that it added.
+fn entries_of(alloc: Global, ended: &Ended<Val>) -> Result<Vec<Entry>, NoMemory> {
+    let mut entries = Vec::new(alloc);
+    for entry in ended.base() {
+        push(&mut entries, entry.copy(alloc)?)?;
+    }
+    for entry in ended.journal() {
+        push(&mut entries, entry.copy(alloc)?)?;
+    }
+    Ok(entries)
 }
 
 /// What a run counted, beside its bounds.
@@ -50,12 +69,13 @@ fn counts_text(
     alloc: Global,
     code: &Option<Arc<Code>>,
     ended: &Ended<Val>,
+    entries: &[Entry],
     limits: Option<Limits>,
 ) -> Result<Vec<u8>, NoMemory> {
     let (Some(code), Some(limits)) = (code, limits) else {
         return Ok(Vec::new(alloc));
     };
-    match fragments_of::<Fragment>(alloc, code, ended.journal())? {
+    match fragments_of::<Fragment>(alloc, code, entries)? {
         Some(fragments) => counts_of(alloc, ended, fragments, limits),
         None => Ok(Vec::new(alloc)),
     }
@@ -74,11 +94,12 @@ fn trace_text<K>(
     alloc: Global,
     report: &Report<K, StandardDevice>,
     ended: &Ended<Val>,
+    entries: &[Entry],
 ) -> Result<Vec<u8>, NoMemory>
     requires small { vec_len report.now.text ≤ max_text }
 {
-    let lines = lines_told(alloc, &report.code, ended)?;
-    let mut page = table_of(alloc, ended.journal(), &lines)?;
+    let lines = lines_told(alloc, &report.code, entries)?;
+    let mut page = table_of(alloc, entries, &lines)?;
     if lines.is_empty() {
         page.extend_from_slice(b"\nwhat entries printed isn't told\n")?;
     }
@@ -122,16 +143,16 @@ fn steps_of(entries: &[Entry]) -> u64 {
 fn lines_told(
     alloc: Global,
     code: &Option<Arc<Code>>,
-    ended: &Ended<Val>,
+    entries: &[Entry],
 ) -> Result<Vec<Vec<i64>>, NoMemory> {
     let Some(code) = code else {
         return Ok(Vec::new(alloc));
     };
-    if steps_of(ended.journal()) > REPLAYED_STEPS {
+    if steps_of(entries) > REPLAYED_STEPS {
         return Ok(Vec::new(alloc));
     }
     let program = copy_term(alloc, &code.accepted().program.term)?;
-    match lines_of(alloc, program, ended.journal())? {
+    match lines_of(alloc, program, entries)? {
         Some(lines) => Ok(lines),
         None => Ok(Vec::new(alloc)),
     }

@@ -1,0 +1,109 @@
+//! The picture of a run of which it is known what each pick did.
+
+use ame_app::{Mades, Own, Report, StandardDevice};
+use ame_journal::{Entry, EntryKind};
+use ame_picture::{Captions, Did, Pick, drawing_of, picture_of};
+use ame_term::{NoMemory, push};
+use ame_turn::Deed;
+use ame_why::journal_of;
+use std::alloc::Global;
+
+/// The most picks that are drawn.
+const MOST_PICKS: usize = 10_000;
+
+/// What is said of a run that has no picture, and of one whose picture would be too wide.
+const NO_PICTURE: &[u8] = b"this run has no picture; those of `sim` and `replay` have one\n";
+
+const TOO_WIDE: &[u8] = b"this run has no picture, as it has more than 10,000 turns\n";
+
+/// The picture of a run with the lines that its entries printed, or why it has none.
+pub fn picture_text<K>(
+    alloc: Global,
+    report: &Report<K, StandardDevice>,
+    entries: &[Entry],
+    lines: &[Vec<i64>],
+    title: &str,
+) -> Result<Vec<u8>, NoMemory> {
+    let Own::Picked(mades) = &report.own else {
+        return Ok(Vec::from_slice(alloc, NO_PICTURE)?);
+    };
+    let picks = picks_of(alloc, mades, is_cut(entries))?;
+    if picks.len() > MOST_PICKS {
+        return Ok(Vec::from_slice(alloc, TOO_WIDE)?);
+    }
+    let (Some(drawing), Some(journal)) = (
+        drawing_of(alloc, seats_of(mades), &picks, entries)?,
+        journal_of(alloc, entries)?,
+    ) else {
+        return Ok(Vec::from_slice(alloc, NO_PICTURE)?);
+    };
+    let captions = Captions {
+        title: Vec::from_slice(alloc, title.as_bytes())?,
+        verdict: Vec::from_slice(alloc, report.status.line().as_str().as_bytes())?,
+        replay: mades.schedule_text(alloc, &report.text)?,
+        journal: journal.to_text(alloc)?,
+    };
+    picture_of(alloc, &drawing, lines, &captions)
+}
+
+/// Whether the journal tells where a member was cut off.
+fn is_cut(entries: &[Entry]) -> bool {
+    match entries.last() {
+        Some(entry) => entry.kind == EntryKind::Cut,
+        None => false,
+    }
+}
+
+/// One more than the greatest number of a seat.
+fn seats_of(mades: &Mades) -> u32 {
+    let mut seats = 1;
+    for made in mades.as_slice() {
+        if made.seat >= seats && made.seat < 32 {
+            seats = made.seat + 1;
+        }
+    }
+    seats
+}
+
+/// The picks of a run, as a picture shows them.
+fn picks_of(alloc: Global, mades: &Mades, is_cut: bool) -> Result<Vec<Pick>, NoMemory> {
+    let mut picks = Vec::new(alloc);
+    for made in mades.as_slice() {
+        push(
+            &mut picks,
+            Pick {
+                seat: made.seat,
+                member: made.member.unwrap_or(0),
+                did: did_of(made.deed, is_cut),
+                place: made.place,
+            },
+        )?;
+    }
+    Ok(picks)
+}
+
+/// What a seat did, as a picture shows it.
+fn did_of(deed: Deed, is_cut: bool) -> Did {
+    match deed {
+        Deed::Began => Did::Began,
+        Deed::Waited | Deed::Stopped | Deed::Lacked => Did::Idled,
+        Deed::Read => Did::Read,
+        Deed::Wrote => Did::Wrote,
+        Deed::Met(owner) => Did::Met(owner),
+        Deed::Allocated => Did::Allocated,
+        Deed::Checked => Did::Checked,
+        Deed::FoundInvalid(_) | Deed::Refused(_) | Deed::NotNoted(_) | Deed::NotTall(_) => {
+            Did::FoundInvalid
+        }
+        Deed::Ended => Did::Ended,
+        Deed::Left => Did::Left,
+        Deed::Noted => Did::Noted,
+        Deed::GrewTall => Did::GrewTall,
+        Deed::CameHome => Did::CameHome,
+        Deed::DeviceFailed(device) => Did::DeviceFailed(device),
+        Deed::Spent if is_cut => Did::Cut,
+        Deed::Spent => Did::Spent,
+        Deed::Undid => Did::Undid,
+        Deed::WentHome => Did::WentHome,
+    }
+}

@@ -84,7 +84,7 @@ module _ (devices : ℕ) (places : List ℕ) (program : Tree) (refs : List Typ) 
       -- a label that calls none
       pub heard-still : IsSilent label → HaveHeard program (straight (labels ++ label ∷ [])) opened now
       heard-still silent =
-          heard-silent program opened (straight labels) (straight (labels ++ label ∷ [])) now
+          heard-silent program [] opened (straight labels) (straight (labels ++ label ∷ [])) now
           (λ k. device-more k ∙ ap (λ cs. device_calls k program (straight labels) ++ cs) (silent k w.state) ∙ append-nil (device_calls k program (straight labels))) h
 
       -- a label by which a member goes on under `unprotected`
@@ -95,7 +95,7 @@ module _ (devices : ℕ) (places : List ℕ) (program : Tree) (refs : List Typ) 
           let typed = weak_runs_are_typed devices places program refs accepts source labels w leads in
           let told = tells w.state devices typed.0 typed.1 (Some i) (next_of w.state (Some i)) refl in
           let act = call-act w.state i is.0 c.argument told c.stands in
-          heard-call program opened (straight labels) (straight (labels ++ label ∷ [])) now after is.0 c.argument c.answer c.called
+          heard-call program [] opened (straight labels) (straight (labels ++ label ∷ [])) now after is.0 c.argument c.answer c.called
           (λ k. device-more k ∙ ap (λ cs. device_calls k program (straight labels) ++ cs)
           (ap (label_call k w.state) c.is ∙ ap (call_at k (Some c.answer)) act)) h
 
@@ -111,4 +111,4 @@ module _ (w : Weak) (i device : ℕ) (before after : List Told) (f : FailsFor w 
 
   pub heard-fault : (program : Tree) (opened : List Told) (labels : List Label) → HaveHeard program (straight labels) opened before → HaveHeard program (straight labels) opened after
   heard-fault program opened labels h =
-      heard-failed program opened (straight labels) before after (fail-count before after device f.argument f.called) (failed-heard before after device f.argument f.called) h
+      heard-failed program [] opened (straight labels) before after (fail-count before after device f.argument f.called) (failed-heard before after device f.argument f.called) h

@@ -8,3 +8,4 @@ pub mod WalkLemmas
 pub mod CountLemmas
 pub mod StoredLemmas
 pub mod FragmentLemmas
+pub mod PrintedLemmas

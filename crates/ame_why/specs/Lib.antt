@@ -14,3 +14,4 @@ pub mod Counts
 pub mod Stored
 pub mod Fragments
 pub mod Heading
+pub mod Waits

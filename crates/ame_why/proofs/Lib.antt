@@ -5,3 +5,4 @@ pub mod LineLemmas
 pub mod CountLemmas
 pub mod StoredLemmas
 pub mod FragmentLemmas
+pub mod PrintedLemmas

@@ -12,3 +12,4 @@ pub mod Counts
 pub mod Stored
 pub mod Fragments
 pub mod Heading
+pub mod Waits

@@ -5,6 +5,7 @@ ghost use Rattle.std.specs.List.{flat_map};
 ghost use Rattle.ame_why.specs.Excerpt as spec;
 ghost use Rattle.ame_why.specs.Excerpt.{shown_byte, below_byte};
 
+use crate::page::append;
 use crate::position::{line_before, line_behind};
 use ame_term::NoMemory;
 use std::alloc::Global;
@@ -71,14 +72,6 @@ fn shown_behind(alloc: Global, line: &[u8]) -> Result<Vec<u8>, NoMemory>
         append(&mut shown, REST)?;
     }
     Ok(shown)
-}
-
-/// Adds bytes at the end of a page.
-pub(crate) fn append(page: &mut Vec<u8>, bytes: &[u8]) -> Result<(), NoMemory>
-    ensures { OnOk result (page.new.items ≡ page.old.items ++ bytes.now) }
-{
-    page.extend_from_slice(bytes)?;
-    Ok(())
 }
 
 /// Adds bytes as they are shown.

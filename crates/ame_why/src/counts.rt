@@ -9,12 +9,11 @@ ghost use Rattle.ame_protocol.specs.Event.Bounds.{HasBounds};
 ghost use Rattle.ame_why.specs.Counts as spec;
 ghost use Rattle.ame_why.specs.Counts.{count_row, bounded_row, bound_words, most_refusals, refusal_words, KeepsShownBounds};
 
-use crate::page::{append, append_column};
+use crate::page::{append, append_column, append_decimal};
 use ame_engine::{Counters, Ended, Stop};
 use ame_journal::Entry;
 use ame_protocol::{Limits, Tried};
 use ame_term::NoMemory;
-use itoa::Buffer;
 use std::alloc::Global;
 
 /// What a run counted: its entries, the fragments that there ever were, its turns by their kinds, and beside their bounds the answers that
@@ -118,14 +117,6 @@ fn append_late(page: &mut Vec<u8>, counters: &Counters) -> Result<(), NoMemory>
     append_turn(page, counters.talls, b"  too high")?;
     append_turn(page, counters.undos, b"  undos")?;
     append_turn(page, counters.frees, b"  unprotected")
-}
-
-/// Adds a number.
-fn append_decimal(page: &mut Vec<u8>, number: u64) -> Result<(), NoMemory>
-    ensures { OnOk result (page.new.items ≡ page.old.items ++ decimal number) }
-{
-    let mut buffer = Buffer::new();
-    append(page, buffer.format(number).as_bytes())
 }
 
 /// Adds a count beside its bound, which comes from other counts as the words tell.

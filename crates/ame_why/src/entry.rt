@@ -3,8 +3,8 @@
 ghost use Rattle.std.specs.Prelude.{ℕ, IfOk};
 ghost use Rattle.ame_why.specs.Placed.{IsExplained};
 
-use crate::caret::append;
-use crate::placed::{append_number, explained_at};
+use crate::page::{append, append_decimal};
+use crate::placed::explained_at;
 use crate::words::{line_from, line_start, start_of, word_at, word_start};
 use ame_check::Reason;
 use ame_machine::Wants;
@@ -136,7 +136,7 @@ fn append_want(message: &mut Vec<u8>, want: Wants) -> Result<(), NoMemory> {
         ),
         Wants::Device(device, _) => {
             append(message, b"the member calls device ")?;
-            append_number(message, device as usize)?;
+            append_decimal(message, u64::from(device))?;
             append(
                 message,
                 b", which only a `free` line does, in its last step",
@@ -156,12 +156,6 @@ fn append_at(
     append(message, before)?;
     append_decimal(message, u64::from(location.0))?;
     append(message, behind)
-}
-
-/// Adds a number in decimal.
-fn append_decimal(message: &mut Vec<u8>, number: u64) -> Result<(), NoMemory> {
-    let mut buffer = Buffer::new();
-    append(message, buffer.format(number).as_bytes())
 }
 
 /// What a member wants, in words.

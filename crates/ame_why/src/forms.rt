@@ -1,17 +1,16 @@
 //! Where the `ref` forms of a text are that made locations.
 
-ghost use Rattle.std.specs.Prelude.{◌≡◌, ◌++◌, ◌≤◌, All, IfOk, OnOk, decimal, length, slice_get};
+ghost use Rattle.std.specs.Prelude.{◌≡◌, ◌++◌, ◌≤◌, All, IfOk, OnOk, length, slice_get};
 ghost use Rattle.std.specs.List.{flat_map};
 ghost use Rattle.ame_lex.specs.Bytes.{max_text};
 ghost use Rattle.ame_lex.specs.Reading.{tokens_of};
 ghost use Rattle.ame_lex.specs.Tokens.{IsWithin};
 ghost use Rattle.ame_why.specs.Forms as spec;
 
-use crate::page::{append, append_column};
+use crate::page::{append, append_column, append_decimal};
 use crate::{Position, position_of};
 use ame_lex::{LexFault, Token, lex};
 use ame_term::{Loc, NoMemory, TyNo, push};
-use itoa::Buffer;
 use std::alloc::Global;
 
 /// A location, and the `ref` form that made it.
@@ -124,15 +123,7 @@ pub(crate) fn append_position(page: &mut Vec<u8>, at: Option<Position>) -> Resul
     let Some(at) = at else {
         return append(page, b"unknown");
     };
-    append_number(page, at.line)?;
+    append_decimal(page, at.line as u64)?;
     append(page, b":")?;
-    append_number(page, at.column)
-}
-
-/// Adds a number.
-fn append_number(page: &mut Vec<u8>, number: usize) -> Result<(), NoMemory>
-    ensures { OnOk result (page.new.items ≡ page.old.items ++ decimal number) }
-{
-    let mut buffer = Buffer::new();
-    append(page, buffer.format(number as u64).as_bytes())
+    append_decimal(page, at.column as u64)
 }

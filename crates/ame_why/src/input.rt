@@ -5,7 +5,7 @@ ghost use Rattle.ame_journal.specs.declared.entry.Entry.{Entry};
 ghost use Rattle.ame_journal.specs.JournalView.{IsFit};
 ghost use Rattle.ame_why.specs.Input.{IsCertificateInput};
 
-use crate::caret::append;
+use crate::page::append;
 use ame_journal::{Entry, EntryKind, Journal};
 use ame_term::{Copied, NoMemory};
 use std::alloc::Global;

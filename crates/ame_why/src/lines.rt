@@ -55,7 +55,7 @@ fn line_of(
 }
 
 /// The integers behind so many.
-fn behind(printed: &[i64], count: usize) -> &[i64]
+pub(crate) fn behind(printed: &[i64], count: usize) -> &[i64]
     ensures { result.now ≡ drop count printed.now }
 {
     if count <= printed.len() {

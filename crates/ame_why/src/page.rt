@@ -44,3 +44,11 @@ pub(crate) fn append_told(page: &mut Vec<u8>, words: &[u8], number: i64) -> Resu
     append(page, words)?;
     append(page, buffer.format(number).as_bytes())
 }
+
+/// Adds a number.
+pub(crate) fn append_decimal(page: &mut Vec<u8>, number: u64) -> Result<(), NoMemory>
+    ensures { OnOk result (page.new.items ≡ page.old.items ++ decimal number) }
+{
+    let mut buffer = Buffer::new();
+    append(page, buffer.format(number).as_bytes())
+}

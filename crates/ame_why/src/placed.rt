@@ -1,12 +1,12 @@
 //! A place as a person finds it, with a message below it.
 
-ghost use Rattle.std.specs.Prelude.{◌≡◌, ◌++◌, ◌≤◌, decimal, length, IfOk, OnOk};
+ghost use Rattle.std.specs.Prelude.{◌≡◌, ◌++◌, ◌≤◌, length, IfOk};
 ghost use Rattle.ame_why.specs.Placed as spec;
 
-use crate::caret::{append, excerpt};
+use crate::caret::excerpt;
+use crate::page::{append, append_decimal};
 use crate::position::position_of;
 use ame_term::NoMemory;
-use itoa::Buffer;
 use std::alloc::Global;
 
 /// The line and the column of a place, and the line itself with a caret below it.
@@ -19,20 +19,12 @@ fn place_of(alloc: Global, text: &[u8], place: usize) -> Result<Vec<u8>, NoMemor
     let excerpt = excerpt(alloc, text, place)?;
     let mut page = Vec::new(alloc);
     append(&mut page, b"line ")?;
-    append_number(&mut page, position.line)?;
+    append_decimal(&mut page, position.line as u64)?;
     append(&mut page, b", column ")?;
-    append_number(&mut page, position.column)?;
+    append_decimal(&mut page, position.column as u64)?;
     append(&mut page, b":\n")?;
     append(&mut page, &excerpt)?;
     Ok(page)
-}
-
-/// Adds a number in decimal.
-pub(crate) fn append_number(page: &mut Vec<u8>, number: usize) -> Result<(), NoMemory>
-    ensures { OnOk result (page.new.items ≡ page.old.items ++ decimal number) }
-{
-    let mut buffer = Buffer::new();
-    append(page, buffer.format(number).as_bytes())
 }
 
 /// A place that is told of a text, and a message below it.

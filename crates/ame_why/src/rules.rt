@@ -5,8 +5,8 @@ ghost use Rattle.ame_types.specs.Fault.{fault_of, shown_of};
 ghost use Rattle.ame_why.specs.Rules as spec;
 ghost use Rattle.ame_why.specs.Rules.{IsTypeExplained, shown_line};
 
-use crate::caret::append;
-use crate::placed::{append_number, explained};
+use crate::page::{append, append_decimal};
+use crate::placed::explained;
 use ame_print::print_ty;
 use ame_term::{Effect, NoMemory, Sort};
 use ame_types::{Shown, TypeFault, rule};
@@ -71,7 +71,7 @@ fn append_shown(
         Shown::Device(number) => {
             append(page, label)?;
             append(page, device)?;
-            append_number(page, *number as usize)?;
+            append_decimal(page, u64::from(*number))?;
             append(page, b"\n")
         }
     }

@@ -6,7 +6,7 @@ ghost use Rattle.ame_lex.specs.Tokens.{IsWithin};
 ghost use Rattle.ame_parse.specs.Fault.{place_of};
 ghost use Rattle.ame_why.specs.Placed.{IsExplained};
 
-use crate::caret::append;
+use crate::page::append;
 use crate::placed::explained;
 use crate::spans::{open_before, token_at, tokens_of};
 use ame_lex::{Kind, Token};

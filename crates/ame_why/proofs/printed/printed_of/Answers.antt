@@ -33,14 +33,14 @@ loop-entry-preserved g c =
       next = c.make.new.self.next;
     })
     c.loop-entry.invariant
-    (subst (CameOf g.M.Runner.meaning c.args.code.now (take i entries) c.entry-item.result
+    ((subst (CameOf g.M.Runner.meaning c.args.code.now (take i entries) c.entry-item.result
     (record {
       cells = c.make.new.self.cells.entries;
       members = c.make.new.self.members.entries;
       output = c.make.new.self.output.items;
       next = c.make.new.self.next;
     })) c.in-Made.is
-    (c.in_ok-make.ensures (take i entries) c.loop-entry.invariant.stands))
+    (c.in_ok-make.ensures (take i entries) c.loop-entry.invariant.stands)).1)
     printed (map line_of c.push.new.self.items)
     (ap (map line_of) c.in_ok-push-in-Made.ensures.items ∙ map-append line_of c.loop-entry.lines.items (c.in_ok-line-in-Made.line ∷ []))
 

@@ -71,7 +71,8 @@ pub fn lane_of(alloc: Global, picks: &[Pick], seat: u32) -> Result<Vec<Attempt>,
     ensures apart { IfOk result (λ lane. AreOneAfterOther lane.items) }
     ensures covered { IfOk result (λ lane. (k : ℕ) (d : Pick) → k < length picks.now → spec_picks.is_work_of seat (slice_index_or picks.now k d) ≡ true
         → LiesInOne lane.items k) }
-    ensures ended { IfOk result (λ lane. (k : ℕ) (d : Pick) (fate : Fate) → k < length picks.now → spec_picks.is_work_of seat (slice_index_or picks.now k d) ≡ true
+    ensures ended { IfOk result (λ lane. (k : ℕ) (d : Pick) (fate : Fate) → k < length picks.now
+        → spec_picks.is_work_of seat (slice_index_or picks.now k d) ≡ true
         → spec.fate_made (slice_index_or picks.now k d).did ≡ Some fate → EndsSo lane.items k fate) }
     ensures looks { IfOk result (λ lane. All (LooksAsEnded picks.now) lane.items) }
 {

@@ -3,4 +3,5 @@ pub mod StampLemmas
 pub mod EscapeLemmas
 pub mod ArrowLemmas
 pub mod CountLemmas
+pub mod EndLemmas
 pub mod HiddenLemmas

@@ -1,5 +1,6 @@
 -- Which pick an arrow leads from, and to which.
-use Rattle.std.specs.Prelude.{◌≡◌, ◌<◌, length, slice_index_or, ℕ, ◌+◌, ◌==◌, ◌&&◌, if◌then◌else◌, Bool, List, [], ◌∷◌, ◌++◌, take, Option, Some, None, option_to_list}
+use Rattle.std.specs.Prelude.{◌≡◌, ◌<◌, length, slice_index_or, ℕ, ◌+◌, ◌==◌, ◌&&◌, if◌then◌else◌}
+use Rattle.std.specs.Prelude.{Bool, List, [], ◌∷◌, ◌++◌, take, Option, Some, None, option_to_list}
 use Rattle.ame_picture.specs.declared.pick.Did.{Did}
 use Rattle.ame_picture.specs.declared.pick.Pick.{Pick}
 use Rattle.ame_picture.specs.declared.arrow.Arrow.{Arrow}

@@ -1,5 +1,5 @@
 -- The lane of a seat.
-use Rattle.std.specs.Prelude.{◌≡◌, ℕ, ◌+◌, ◌<◌, ◌≤◌, if◌then◌else◌, List, [], ◌∷◌, Option, Some, None, All, Contains, option_to_list, ⊤}
+use Rattle.std.specs.Prelude.{slice_index_or, ◌≡◌, ℕ, ◌+◌, ◌<◌, ◌≤◌, if◌then◌else◌, List, [], ◌∷◌, Option, Some, None, All, Contains, option_to_list, ⊤}
 use Rattle.ame_picture.specs.declared.pick.Did.{Did}
 use Rattle.ame_picture.specs.declared.pick.Pick.{Pick}
 use Rattle.ame_picture.specs.declared.lane.Fate.{Fate}
@@ -57,3 +57,27 @@ pub record LiesInOne (attempts : List Attempt) (k : ℕ) : Type 0 where
   pub among : Contains attempts one
   pub lies : IsDuring k one
   pub alone : All (λ other. IsDuring k other → other ≡ one) attempts
+
+-- how an attempt looks that such a pick ends with an entry, and which pick ends one that looks so
+abbrev pub fate_made : Did → Option Fate
+fate_made Did.Ended = Some Fate.Ended
+fate_made Did.Left = Some Fate.Left
+fate_made Did.CameHome = Some Fate.Visited
+fate_made _ = None
+
+abbrev pub end_made : Fate → Option Did
+end_made Fate.Ended = Some Did.Ended
+end_made Fate.Left = Some Did.Left
+end_made Fate.Visited = Some Did.CameHome
+end_made _ = None
+
+-- one of these attempts ends with pick k, and looks so
+pub record EndsSo (attempts : List Attempt) (k : ℕ) (fate : Fate) : Type 0 where
+  pub one : Attempt
+  pub among : Contains attempts one
+  pub last : one.to ≡ k
+  pub looks : one.fate ≡ fate
+
+-- where an attempt looks as if a pick had ended it with an entry, its last pick did
+abbrev pub LooksAsEnded : List Pick → Attempt → Type 0
+LooksAsEnded picks attempt = (did : Did) (d : Pick) → end_made attempt.fate ≡ Some did → (slice_index_or picks attempt.to d).did ≡ did

@@ -3,7 +3,7 @@
 ghost use Rattle.std.specs.Prelude.{◌≡◌, ◌<◌, ◌^◌, ℕ, IfOk, All, length, slice_index_or, true};
 ghost use Rattle.ame_picture.specs.Lanes as spec;
 ghost use Rattle.ame_picture.specs.Picks as spec_picks;
-ghost use Rattle.ame_picture.specs.Lanes.{IsAttemptOn, AreOneAfterOther, LiesInOne};
+ghost use Rattle.ame_picture.specs.Lanes.{IsAttemptOn, AreOneAfterOther, LiesInOne, EndsSo, LooksAsEnded};
 
 use crate::pick::{Did, Pick};
 use ame_term::NoMemory;
@@ -63,6 +63,7 @@ pub struct Attempt {
 }
 
 /// The attempts on a seat, in order. They don't overlap, and each pick in which the seat has a member at work lies in one.
+/// One that looks committed or visited ends with such a pick, and each such pick ends one that looks so.
 pub fn lane_of(alloc: Global, picks: &[Pick], seat: u32) -> Result<Vec<Attempt>, NoMemory>
     requires { length picks.now < 2 ^ 32 }
     ensures told { IfOk result (λ lane. lane.items ≡ spec.lane seat picks.now) }
@@ -70,6 +71,10 @@ pub fn lane_of(alloc: Global, picks: &[Pick], seat: u32) -> Result<Vec<Attempt>,
     ensures apart { IfOk result (λ lane. AreOneAfterOther lane.items) }
     ensures covered { IfOk result (λ lane. (k : ℕ) (d : Pick) → k < length picks.now → spec_picks.is_work_of seat (slice_index_or picks.now k d) ≡ true
         → LiesInOne lane.items k) }
+    ensures ended { IfOk result (λ lane. (k : ℕ) (d : Pick) (fate : Fate) → k < length picks.now
+        → spec_picks.is_work_of seat (slice_index_or picks.now k d) ≡ true
+        → spec.fate_made (slice_index_or picks.now k d).did ≡ Some fate → EndsSo lane.items k fate) }
+    ensures looks { IfOk result (λ lane. All (LooksAsEnded picks.now) lane.items) }
 {
     let lane = collect(alloc, picks, seat)?;
     Ok(lane)

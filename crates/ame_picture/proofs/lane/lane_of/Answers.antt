@@ -1,6 +1,7 @@
 use Rattle.std.proofs.Common.{List, All, length, sym, subst}
 use Rattle.ame_picture.specs.declared.lane.Attempt.{Attempt}
-use Rattle.ame_picture.specs.Lanes.{IsAttemptOn, AreOneAfterOther, LiesInOne}
+use Rattle.ame_picture.specs.Lanes.{IsAttemptOn, AreOneAfterOther, LiesInOne, EndsSo, LooksAsEnded}
+use Rattle.ame_picture.proofs.EndLemmas.{ends_so, looks_ended}
 use Rattle.ame_picture.proofs.LaneLemmas.{laid, covers}
 use Rattle.ame_picture.proofs.lane.lane_of.Goals as goal
 
@@ -18,3 +19,13 @@ pub returns-clause-covered : goal.returns-clause-covered
 returns-clause-covered c = λ k d below works.
     let P : List Attempt → Type 0 = λ lane. LiesInOne lane k in
     subst P (sym c.in_ok-lane.ensures) (covers c.args.seat c.args.picks.now k d below works)
+
+pub returns-clause-ended : goal.returns-clause-ended
+returns-clause-ended c = λ k d fate below works made.
+    let P : List Attempt → Type 0 = λ lane. EndsSo lane k fate in
+    subst P (sym c.in_ok-lane.ensures) (ends_so c.args.seat c.args.picks.now k d fate below works made)
+
+pub returns-clause-looks : goal.returns-clause-looks
+returns-clause-looks c =
+    let P : List Attempt → Type 0 = All (LooksAsEnded c.args.picks.now) in
+    subst P (sym c.in_ok-lane.ensures) (looks_ended c.args.seat c.args.picks.now)

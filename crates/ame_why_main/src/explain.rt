@@ -9,7 +9,7 @@ use ame_lex::LexFault;
 use ame_parse::ParseFault;
 use ame_term::NoMemory;
 use ame_why::{
-    explain_bytes, explain_entry, explain_line, explain_tokens, explain_types, heading_of,
+    explain_bytes, explain_entry, explain_line, explain_tokens, explain_types, heading_of, waits_of,
 };
 use std::alloc::Global;
 
@@ -75,8 +75,19 @@ fn reason<K>(
         (Status::BadJournal(line), _) => explain_line(alloc, input, u64::from(*line)),
         (Status::Invalid(entry), Own::Unmade(why)) => explain_entry(alloc, input, *entry, why),
         (Status::ReadFault, _) => unread(alloc, origin),
+        (Status::Blocked(_), _) => blocked(alloc, report),
         (status, _) => Ok(Vec::from_slice(alloc, remark(status))?),
     }
+}
+
+/// That nobody will go on, and after how many steps each fragment waits.
+fn blocked<K>(alloc: Global, report: &Report<K, StandardDevice>) -> Result<Vec<u8>, NoMemory> {
+    let mut page = Vec::from_slice(
+        alloc,
+        b"each fragment that is left waits for a condition that nobody will make true\n",
+    )?;
+    page.extend_from_slice(&waits_of(alloc, report.blocked())?)?;
+    Ok(page)
 }
 
 /// Which file can't be read, and why.
@@ -94,8 +105,6 @@ fn unread(alloc: Global, origin: Origin<'_>) -> Result<Vec<u8>, NoMemory> {
 /// What is to be said of a call without a place in its text.
 fn remark(status: &Status) -> &'static [u8] {
     match status {
-        Status::Blocked(_) =>
-            b"each fragment that is left waits for a condition that nobody will make true\n",
         Status::Spent => b"all turns were made, and fragments are left; `--turns` allows more\n",
         Status::Usage =>
             b"the words are those of `ame`, and one view; `./why --help` tells them, docs/ame.1 and docs/why.1 say more\n",

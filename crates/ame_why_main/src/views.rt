@@ -12,17 +12,13 @@ use ame_eval::Fragment;
 use ame_journal::Entry;
 use ame_protocol::Limits;
 use ame_store::Store;
-use ame_term::{Copied, Loc, NoMemory, copy_term, push};
+use ame_term::{Copied, Loc, NoMemory, push};
 use ame_value::Val;
 use ame_why::{
-    Made, counts_of, forms_of, fragments_of, input_of, journal_of, lines_of, store_of, table_of,
+    Made, counts_of, forms_of, fragments_of, input_of, journal_of, printed_of, store_of, table_of,
 };
 use std::alloc::Global;
 use std::sync::Arc;
-
-/// The most steps of a run whose entries are replayed for their lines. A replay over terms goes down each term, so it takes stack and
-/// time by the depth of terms, which grows with the steps.
-const REPLAYED_STEPS: u64 = 10_000;
 
 /// What is said of a run that has no schedule.
 const NO_SCHEDULE: &[u8] = b"this run has no schedule; those of `sim` and `replay` have one\n";
@@ -100,9 +96,6 @@ fn trace_text<K>(
 {
     let lines = lines_told(alloc, &report.code, entries)?;
     let mut page = table_of(alloc, entries, &lines)?;
-    if lines.is_empty() {
-        page.extend_from_slice(b"\nwhat entries printed isn't told\n")?;
-    }
     let made = made_in(alloc, ended.store())?;
     if !made.is_empty() {
         page.push(b'\n')?;
@@ -130,15 +123,6 @@ fn made_in(alloc: Global, store: &Store<Val>) -> Result<Vec<Made>, NoMemory> {
     Ok(made)
 }
 
-/// The steps of all entries.
-fn steps_of(entries: &[Entry]) -> u64 {
-    let mut steps = 0_u64;
-    for entry in entries {
-        steps = steps.saturating_add(entry.steps);
-    }
-    steps
-}
-
 /// The lines of each entry of a run's journal; none where they aren't told.
 fn lines_told(
     alloc: Global,
@@ -148,11 +132,7 @@ fn lines_told(
     let Some(code) = code else {
         return Ok(Vec::new(alloc));
     };
-    if steps_of(entries) > REPLAYED_STEPS {
-        return Ok(Vec::new(alloc));
-    }
-    let program = copy_term(alloc, &code.accepted().program.term)?;
-    match lines_of(alloc, program, entries)? {
+    match printed_of::<Fragment>(alloc, code, entries)? {
         Some(lines) => Ok(lines),
         None => Ok(Vec::new(alloc)),
     }

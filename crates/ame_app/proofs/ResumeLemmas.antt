@@ -1,9 +1,10 @@
 -- What is told of a journal from which no run can go on.
-use Rattle.std.proofs.Common.{◌≡◌, ◌≢◌, ℕ, ◌+◌, ◌-◌, ◌<◌, ℤ, Bool, true, false, not, if◌then◌else◌, List, [], ◌∷◌, ◌++◌, length, take, get_or, Some, refl, sym, ap, ◌∙◌, subst, arith}
+use Rattle.std.proofs.Common.{◌≡◌, ◌≢◌, ℕ, ◌+◌, ◌-◌, ℤ, Bool, true, false, not}
+use Rattle.std.proofs.Common.{List, [], ◌∷◌, ◌++◌, length, take, get_or, Some, refl, sym, ap, ◌∙◌, subst, arith}
 use Rattle.std.specs.List.{slice_get}
 use Rattle.std.proofs.Math.Seq.{get_or-append_seam}
 use Rattle.std.proofs.lemmas.List.{length-append}
-use Rattle.std.proofs.lemmas.List.Elements.{All-weaker, filter_more, filter_passes}
+use Rattle.std.proofs.lemmas.List.Elements.{All-weaker, filter_passes}
 use Rattle.std.proofs.lemmas.Option.{get_or_from_slice_get}
 use Rattle.ame_term.specs.Tree.{Tree}
 use Rattle.ame_journal.specs.declared.entry.Entry.{Entry}
@@ -44,18 +45,6 @@ acts-are entries =
     by true e = sym e
     by false e = refl
 
--- one more entry is one of them, or a note
-pub acts-more : (entries : List Entry) (index : ℕ) (entry : Entry) (b : Bool) → index < length entries → entry ≡ get_or entries index entry → is_note entry.kind ≡ b
-    → without_notes (take (index + 1) entries) ≡ without_notes (take index entries) ++ (if b then [] else entry ∷ [])
-acts-more entries index entry b below is note =
-    filter_more (λ (e : Entry). not (is_note e.kind)) entries index entry below
-    ∙ ap (λ (e : Entry). without_notes (take index entries) ++ (if not (is_note e.kind) then e ∷ [] else [])) (sym is)
-    ∙ ap (λ (l : List Entry). without_notes (take index entries) ++ l) (by b note)
-  where
-    by : (b : Bool) → is_note entry.kind ≡ b → (if not (is_note entry.kind) then entry ∷ [] else []) ≡ (if b then [] else entry ∷ [])
-    by true e = ap (λ (v : Bool). if not v then entry ∷ [] else []) e
-    by false e = ap (λ (v : Bool). if not v then entry ∷ [] else []) e
-
 -- they lead where the journal leads
 pub acts-lead : (program : Tree) (entries : List Entry) (output : List ℤ) → LeadsTo program entries output
     → (led : Replayed) × (replay program (without_notes entries) ≡ Some led)
@@ -87,9 +76,10 @@ tells-tall program entries place last tall is note ahead own told ahead_is own_i
     })
 
 -- an engine goes on from them
-pub goes-on : (options : Options) (front : Front) (code : FlatCode) (limits : Limits) (base : List Entry) (output : List ℤ) (engine : Core FlatCode Val Fragment)
-    → limits ≡ limits_of options → base ≡ without_notes (entries_before front) → LeadsTo (program_of code) (entries_before front) output
-    → ((n : ℕ) → IsFar base n → ⊥) → engine.code ≡ code → HasResumed fragments limits base engine → IsOpened (Command.Resume options) front code engine
+pub goes-on : (options : Options) (front : Front) (code : FlatCode) (limits : Limits) (base : List Entry) (output : List ℤ)
+    → (engine : Core FlatCode Val Fragment) → limits ≡ limits_of options → base ≡ without_notes (entries_before front)
+    → LeadsTo (program_of code) (entries_before front) output → ((n : ℕ) → IsFar base n → ⊥)
+    → engine.code ≡ code → HasResumed fragments limits base engine → IsOpened (Command.Resume options) front code engine
 goes-on options front code limits base output engine limits_is base_is leads near code_is resumed =
     let same_limits : engine.limits ≡ limits = ap (λ (s : State). s.parts.limits) resumed.state in
     let same_base : engine.base ≡ base = ap (λ (s : State). s.parts.base) resumed.state in
@@ -120,8 +110,8 @@ module _ (program : Tree) (entries : List Entry) where
       one.count ∙ ap (λ (k : ℕ). length (without_notes (take k entries))) (high-one one.place two.place one.tall.there two.tall.there) ∙ sym two.count
 
   -- of a journal one status is told
-  pub base-one : (ahead more : List ℕ) (own also : Own) (told other : Status) → TellsOfBase program entries ahead own told → TellsOfBase program entries more also other
-      → told ≡ other
+  pub base-one : (ahead more : List ℕ) (own also : Own) (told other : Status) → TellsOfBase program entries ahead own told
+      → TellsOfBase program entries more also other → told ≡ other
   base-one ahead more own also (Status.Invalid n) (Status.Invalid m) one two =
       ap Status.Invalid (invalid-one program entries n m one.why two.why one.invalid two.invalid)
   base-one ahead more own also (Status.Invalid n) (Status.LongJournal m) one two = absurd (long-short entries m two.long one.invalid.short)

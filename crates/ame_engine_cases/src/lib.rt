@@ -3,40 +3,4 @@
 #![tactic(auto)]
 
 #[cfg(test)]
-mod baton;
-#[cfg(test)]
-mod devices;
-#[cfg(test)]
-mod ends;
-#[cfg(test)]
-mod memories;
-#[cfg(test)]
-mod memory_ends;
-#[cfg(test)]
-mod one_seat;
-#[cfg(test)]
-mod picked;
-#[cfg(test)]
-mod random;
-#[cfg(test)]
-mod replay;
-#[cfg(test)]
-mod rows;
-#[cfg(test)]
-mod sample;
-#[cfg(test)]
-mod schedules;
-#[cfg(test)]
-mod std_ends;
-#[cfg(test)]
-mod stops;
-#[cfg(test)]
-mod stores;
-#[cfg(test)]
-mod table;
-#[cfg(test)]
-mod texts;
-#[cfg(test)]
-mod two_seats;
-#[cfg(test)]
-mod visits;
+mod cases;

@@ -1,11 +1,11 @@
 //! Journals of texts, judged on machines.
 
-use crate::replay::first_undefined;
-use crate::texts::code_of;
+use crate::texts::{code_of, read};
 use ame_check::{Judged, Reason, judge, split_input};
 use ame_eval::Fragment;
-use ame_journal::{Entry, Journal};
+use ame_journal::{Entry, EntryKind, Journal};
 use ame_machine::Wants;
+use ame_strong::{Next, Replay, StepFail};
 use ame_term::{Copied, Loc, Locs};
 use std::alloc::Global;
 use std::process::Abort;
@@ -246,9 +246,37 @@ fn with_change(
     Ok(result)
 }
 
+/// A replay after an entry. A note that holds changes nothing.
+fn made(alloc: Global, replay: Replay, entry: &Entry) -> Result<Replay, StepFail> {
+    match entry.kind {
+        EntryKind::Ran | EntryKind::Free => replay.make(alloc, entry),
+        EntryKind::Stuck => {
+            let fresh = entry.fresh.as_slice();
+            match replay.comes_to(alloc, entry.number, entry.steps, fresh)? {
+                Next::Stuck => Ok(replay),
+                _ => Err(StepFail::Illegal),
+            }
+        }
+        EntryKind::Cut | EntryKind::Tall => Err(StepFail::Illegal),
+    }
+}
+
+/// The place of the first entry that can't be made, from 1. Of the notes `Stuck` alone is asked.
+fn first_undefined(alloc: Global, text: &[u8], entries: &[Entry]) -> Result<Option<u64>, Fail> {
+    let mut replay = Replay::start(alloc, read(alloc, text)?.term)?;
+    for (index, entry) in entries.iter().enumerate() {
+        replay = match made(alloc, replay, entry) {
+            Ok(after) => after,
+            Err(StepFail::Illegal) => return Ok(Some(index as u64 + 1)),
+            Err(StepFail::NoMemory) => return Err("no memory".into()),
+        };
+    }
+    Ok(None)
+}
+
 /// Whether the judgment is that of the strong semantics.
-fn is_alike(rt: &impl Abort, alloc: Global, text: &[u8], entries: &[Entry]) -> Result<bool, Fail> {
-    let wanted = first_undefined(rt, alloc, text, entries)?;
+fn is_alike(alloc: Global, text: &[u8], entries: &[Entry]) -> Result<bool, Fail> {
+    let wanted = first_undefined(alloc, text, entries)?;
     Ok(match verdict_on(alloc, text, entries)? {
         Verdict::Valid => wanted.is_none(),
         Verdict::Invalid(place, _) => wanted == Some(place),
@@ -263,7 +291,7 @@ fn judges_changes(rt: &impl Abort, alloc: Global, text: &str, journal: &str) -> 
     for place in 0..entries.len() {
         for change in CHANGES {
             let other = with_change(alloc, entries, place, *change)?;
-            let alike = is_alike(rt, alloc, text.as_bytes(), &other)?;
+            let alike = is_alike(alloc, text.as_bytes(), &other)?;
             assert!(rt; alike, "{text}, entry {place}, {change:?}");
         }
     }

@@ -14,6 +14,8 @@ mod against;
 #[cfg(test)]
 mod calls;
 #[cfg(test)]
+mod dice;
+#[cfg(test)]
 mod journal_texts;
 #[cfg(test)]
 mod journals;
@@ -21,8 +23,6 @@ mod journals;
 mod lines;
 #[cfg(test)]
 mod made_up;
-#[cfg(test)]
-mod replay;
 #[cfg(test)]
 mod rows;
 #[cfg(test)]

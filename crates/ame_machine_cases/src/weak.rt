@@ -54,13 +54,6 @@ pub(crate) fn take(state: &mut WeakState, alloc: Global, label: Label) -> Result
     }
 }
 
-fn take_all(state: &mut WeakState, alloc: Global, labels: &[Label]) -> Result<(), StepFail> {
-    for label in labels {
-        take(state, alloc, *label)?;
-    }
-    Ok(())
-}
-
 /// The number, from 1, of the first label that the strong semantics refuses, or 0.
 fn first_refused(state: &mut StrongState, alloc: Global, labels: &[Label]) -> u64 {
     for (made, label) in labels.iter().enumerate() {
@@ -104,7 +97,9 @@ fn has_integer(state: &StrongState, l: Loc, wanted: i64) -> bool {
 fn unprotected_code_steps_while_a_fragment_is_active(rt: HostRuntime) -> Result<(), Fail> {
     let alloc = rt.alloc();
     let mut weak = WeakState::start(alloc, read(alloc, INTERLEAVED)?.term)?;
-    take_all(&mut weak, alloc, LABELS)?;
+    for label in LABELS {
+        take(&mut weak, alloc, *label)?;
+    }
     assert!(rt; has_integer(weak.strong(), Loc(0), 1) && has_integer(weak.strong(), Loc(1), 7));
     assert_eq!(rt;
         (weak.active(), weak.next(), weak.active_term().is_some()),

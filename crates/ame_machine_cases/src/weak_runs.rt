@@ -1,11 +1,12 @@
 //! Weak runs that are drawn at random, straightened, and replayed by the strong semantics.
 
+use crate::dice::Dice;
 use crate::strong::{active_label, kind_of};
 use crate::texts::accept;
 use crate::weak::take;
-use crate::weak_programs::{Dice, made_up};
-use ame_journal::{Entry, EntryKind, Journal};
-use ame_strong::{Next, StepFail, StrongState};
+use crate::weak_programs::made_up;
+use ame_journal::Journal;
+use ame_strong::{Next, Replay, StepFail, StrongState};
 use ame_term::{Accepted, Copied, Label, Loc, NoMemory, Value, copy_term, push};
 use ame_weak::{Straight, WeakState, straighten};
 use std::alloc::Global;
@@ -113,73 +114,24 @@ impl Draw {
     }
 }
 
-/// One label of the strong semantics.
-fn makes(strong: &mut StrongState, alloc: Global, label: Label) -> Result<bool, NoMemory> {
-    if strong.next() >= 1 << 32 {
-        return Ok(false);
-    }
-    match strong.step(alloc, &label) {
-        Ok(()) => Ok(true),
-        Err(StepFail::Illegal) => Ok(false),
-        Err(StepFail::NoMemory) => Err(NoMemory),
-    }
-}
-
-/// The steps of an entry's fragment, with its new locations, and its end.
-fn replay_steps(strong: &mut StrongState, alloc: Global, entry: &Entry) -> Result<bool, NoMemory> {
-    let mut fresh = entry.fresh.as_slice().iter();
-    for _ in 0..entry.steps {
-        let next = strong.next_of(None);
-        let l = if next == Next::Alloc {
-            fresh.next().copied()
-        } else {
-            Some(Loc(0))
-        };
-        match l.and_then(|l| active_label(next, l)) {
-            Some(label) => {
-                if !makes(strong, alloc, label)? {
-                    return Ok(false);
-                }
-            }
-            None => return Ok(false),
-        }
-    }
-    let gone = if strong.next_of(None) == Next::Leave {
-        Label::Leave
-    } else {
-        Label::End
-    };
-    Ok(fresh.next().is_none() && makes(strong, alloc, gone)?)
-}
-
-/// An entry that isn't a note; whether it can be made.
-fn replay_entry(strong: &mut StrongState, alloc: Global, entry: &Entry) -> Result<bool, NoMemory> {
-    let number = entry.number;
-    if entry.kind == EntryKind::Ran {
-        if makes(strong, alloc, Label::Activate(number))? {
-            return replay_steps(strong, alloc, entry);
-        }
-        return Ok(entry.steps == 0 && strong.member(number).is_some());
-    }
-    let next = strong.next_of(Some(number));
-    if next == Next::Close {
-        return makes(strong, alloc, Label::Close(number));
-    }
-    let l = entry.fresh.as_slice().first().copied().unwrap_or(Loc(0));
-    match kind_of(next, l) {
-        Some(kind) => makes(strong, alloc, Label::Free(number, kind)),
-        None => Ok(false),
-    }
-}
-
-/// Whether all entries of a journal can be made, one after another.
-fn replay(strong: &mut StrongState, alloc: Global, journal: &Journal) -> Result<bool, NoMemory> {
+/// The state to which a journal of a program leads, where each entry can be made.
+fn replayed(
+    alloc: Global,
+    accepted: &Accepted,
+    journal: &Journal,
+) -> Result<Option<StrongState>, NoMemory> {
+    let mut replay = Replay::start(alloc, copy_term(alloc, &accepted.program.term)?)?;
     for entry in journal.entries() {
-        if !replay_entry(strong, alloc, entry)? {
-            return Ok(false);
+        if entry.kind.is_note() {
+            return Ok(None);
         }
+        replay = match replay.make(alloc, entry) {
+            Ok(after) => after,
+            Err(StepFail::Illegal) => return Ok(None),
+            Err(StepFail::NoMemory) => return Err(NoMemory),
+        };
     }
-    Ok(true)
+    Ok(Some(replay.into_state()))
 }
 
 /// Whether two cells are both absent, or have the same integer.
@@ -211,8 +163,10 @@ fn leads_to_its_end(alloc: Global, accepted: &Accepted, draw: &Draw) -> Result<b
     else {
         return Ok(false);
     };
-    let mut strong = StrongState::start(alloc, copy_term(alloc, &accepted.program.term)?)?;
-    Ok(replay(&mut strong, alloc, &journal)? && are_alike(draw.state.strong(), &strong, draw.fresh))
+    Ok(match replayed(alloc, accepted, &journal)? {
+        Some(strong) => are_alike(draw.state.strong(), &strong, draw.fresh),
+        None => false,
+    })
 }
 
 /// Ten runs of a program; how many labels stood between the steps of a fragment of another member, or `None` where a run

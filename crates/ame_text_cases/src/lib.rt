@@ -3,28 +3,4 @@
 #![tactic(auto)]
 
 #[cfg(test)]
-mod certificates;
-#[cfg(test)]
-mod code;
-#[cfg(test)]
-mod generated;
-#[cfg(test)]
-mod labels;
-#[cfg(test)]
-mod pages;
-#[cfg(test)]
-mod printed;
-#[cfg(test)]
-mod programs;
-#[cfg(test)]
-mod tables;
-#[cfg(test)]
-mod texts;
-#[cfg(test)]
-mod tokens;
-#[cfg(test)]
-mod types;
-#[cfg(test)]
-mod words;
-#[cfg(test)]
-mod workload;
+mod cases;

@@ -1,7 +1,7 @@
 //! Each device by a few calls.
 ghost use Rattle.std.specs.Prelude.{None};
 
-use crate::sample::sink_that_fails;
+use crate::cases::sample::sink_that_fails;
 use ame_device::{
     Adder, Counter, Device, DeviceFail, FailsAt, Heard, LineDevice, Tape, call_boxed, call_device,
 };

@@ -1,10 +1,10 @@
 //! What is so of a run's end, beside the state to which its journal is replayed.
 
-use crate::replay::{Replay, comes_to};
-use ame_device::Device;
+use crate::cases::replay::comes_to;
+use ame_device::{Device, Heard};
 use ame_engine::{Certificate, Ended, Stop};
 use ame_journal::EntryKind;
-use ame_strong::Next;
+use ame_strong::{Next, Replay};
 use ame_value::Val;
 use std::alloc::Global;
 use std::process::Abort;
@@ -18,14 +18,14 @@ fn are_certified(
     replay: &Replay,
 ) -> Result<(), Fail> {
     let mut least = 0;
-    assert_eq!(rt; certificates.len(), replay.state.pool_len());
+    assert_eq!(rt; certificates.len(), replay.state().pool_len());
     for certificate in certificates {
         let Certificate {
             number,
             steps,
             fresh,
         } = certificate;
-        let next = comes_to(rt, alloc, replay, *number, *steps, fresh.as_slice())?;
+        let next = comes_to(alloc, replay, *number, *steps, fresh.as_slice())?;
         assert_eq!(rt; next, Some(Next::Stuck));
         assert!(rt; least <= *number);
         least = number.saturating_add(1);
@@ -41,7 +41,7 @@ pub fn has_cause(
     turns: u32,
     replay: &Replay,
 ) -> Result<(), Fail> {
-    let members = replay.state.pool_len();
+    let members = replay.state().pool_len();
     match ended.stopped() {
         Some(Stop::Finished) => assert_eq!(rt; members, 0),
         Some(Stop::Blocked) => {
@@ -62,10 +62,10 @@ pub fn has_cause(
 }
 
 /// Each device heard the calls of the journal.
-pub fn have_heard<D: Device>(rt: &impl Abort, devices: &[D], replay: &Replay) {
+pub fn have_heard<D: Device>(rt: &impl Abort, devices: &[D], calls: &[(u8, Heard)]) {
     for at in 0..devices.len() {
         let mut heard = devices[at].heard().unwrap_or(&[]).iter();
-        for (device, call) in &replay.calls {
+        for (device, call) in calls {
             if *device as usize == at {
                 assert_eq!(rt; heard.next(), Some(call), "device {at}");
             }

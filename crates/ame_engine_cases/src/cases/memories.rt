@@ -4,8 +4,8 @@ ghost use Rattle.std.specs.Prelude.{◌≡◌, ◌<◌, IsTrue, All, length, sli
 ghost use Rattle.std.specs.Option.{ForSome};
 ghost use Rattle.ame_store.specs.Cells.{CanGrow};
 
-use crate::sample::{Kept, Sample};
-use crate::stores::{State, state};
+use crate::cases::sample::{Kept, Sample};
+use crate::cases::stores::{State, state};
 use ame_rows::{Memory, WriteAnswer};
 use ame_store::Store;
 use ame_term::{Loc, NoMemory, Sort, TyNo};

@@ -2,7 +2,7 @@
 
 ghost use Rattle.std.specs.Prelude.{◌≤◌};
 
-use crate::sample::sink_that_fails;
+use crate::cases::sample::sink_that_fails;
 use ame_io::{
     Failed, MemSource, READ_LIMIT, ReadAllFail, Sink, Source, WriteFault, integer_line, read_all,
     write_all, write_line,

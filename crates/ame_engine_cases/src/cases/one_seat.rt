@@ -1,6 +1,6 @@
 //! One seat, by a table: ends, conditions that are false, and who is woken.
 
-use crate::table::{Event, ONE_SEAT, Row, play_all};
+use crate::cases::table::{Event, ONE_SEAT, Row, play_all};
 use ame_engine::Stop;
 use ame_turn::Deed::*;
 use std::test::Fail;

@@ -1,7 +1,7 @@
 //! Runs under a chooser: schedules, what each pick did, and a program whose output no interleaving changes.
 
-use crate::schedules::run;
-use crate::table::text_of;
+use crate::cases::schedules::run;
+use crate::cases::table::text_of;
 use ame_chooser::{Chooser, Drawn, Listed, read_schedule, schedule_line};
 use ame_device::Counter;
 use ame_engine::Stop;

@@ -1,10 +1,10 @@
 //! Seats in turns that a seed tells: after each event the journal replays to what the engine has.
 
-use crate::ends::{has_cause, have_heard};
-use crate::replay::{Replay, begun, follow, is_replayed};
-use crate::texts::{Team, sink_of, team_of};
+use crate::cases::ends::{has_cause, have_heard};
+use crate::cases::replay::{Followed, begun, follow, is_replayed};
+use crate::cases::texts::{Team, sink_of, team_of};
 use ame_chooser::{Chooser, Drawn};
-use ame_device::{Device, FailsAt};
+use ame_device::FailsAt;
 use ame_engine::{Counters, Ended, Stop};
 use ame_gen::SEED_LIMIT;
 use ame_protocol::Limits;
@@ -136,38 +136,37 @@ fn devices_of(alloc: Global, load: &Load) -> Result<Vec<FailsAt>, Fail> {
     Ok(devices)
 }
 
+/// Seats on a text, and the replay of what they did.
+#[derive(Drop)]
+struct Play {
+    team: Team<FailsAt>,
+    followed: Followed,
+}
+
 /// A seat has its turn, and the journal then replays to what the engine has.
-fn turn<D: Device>(
-    rt: &impl Abort,
-    alloc: Global,
-    team: &mut Team<D>,
-    replay: &mut Replay,
-    seat: u32,
-) -> Result<(), Fail> {
+fn turn(rt: &impl Abort, alloc: Global, play: Play, seat: u32) -> Result<Play, Fail> {
+    let Play { mut team, followed } = play;
     assert!(rt; seat < team.engine().limits().seats);
     let made = team.turn(seat);
     assert_eq!(rt; made.seat, seat);
-    follow(rt, alloc, replay, team.engine().journal())?;
-    is_replayed(rt, team, replay);
-    Ok(())
+    let followed = follow(rt, alloc, followed, team.engine().journal())?;
+    is_replayed(rt, &team, &followed.replay);
+    Ok(Play { team, followed })
 }
 
 /// A text in turns by a seed, until a stop is kept.
-fn play<D: Device>(
-    rt: &impl Abort,
-    alloc: Global,
-    team: &mut Team<D>,
-    replay: &mut Replay,
-    chooser: &mut Drawn,
-) -> Result<(), Fail> {
-    let seats = team.engine().limits().seats as usize;
+fn played(rt: &impl Abort, alloc: Global, begun: Play, seed: u32) -> Result<Play, Fail> {
+    let mut play = begun;
+    let seats = play.team.engine().limits().seats as usize;
     assert!(rt; 0 < seats && seats <= SEATS.len());
+    assert!(rt; seed <= SEED_LIMIT);
+    let mut chooser = Drawn::new(seed);
     for _ in 0..40_000 {
-        if !team.goes_on() {
-            return Ok(());
+        if !play.team.goes_on() {
+            return Ok(play);
         }
         let seat = chooser.choose(&SEATS[..seats])?;
-        turn(rt, alloc, team, replay, seat)?;
+        play = turn(rt, alloc, play, seat)?;
     }
     Err("goes on".into())
 }
@@ -176,17 +175,18 @@ fn play<D: Device>(
 fn run(rt: &impl Abort, alloc: Global, load: &Load, seed: u32) -> Result<Ended<Val>, Fail> {
     let limits = limits_of(load, seed);
     let sink = sink_of(alloc, faults_of(seed))?;
-    let mut team = team_of(alloc, load.text, limits, sink, devices_of(alloc, load)?)?;
-    let mut replay = begun(alloc, load.text)?;
-    assert!(rt; seed <= SEED_LIMIT);
-    play(rt, alloc, &mut team, &mut replay, &mut Drawn::new(seed))?;
+    let begun = Play {
+        team: team_of(alloc, load.text, limits, sink, devices_of(alloc, load)?)?,
+        followed: begun(alloc, load.text)?,
+    };
+    let Play { mut team, followed } = played(rt, alloc, begun, seed)?;
     if team.goes_on() {
         return Err("goes on".into());
     }
     team.unwind_all();
     let left = team.finish();
-    has_cause(rt, alloc, &left.ended, limits.turns, &replay)?;
-    have_heard(rt, &left.devices, &replay);
+    has_cause(rt, alloc, &left.ended, limits.turns, &followed.replay)?;
+    have_heard(rt, &left.devices, &followed.calls);
     Ok(left.ended)
 }
 

@@ -4,7 +4,7 @@ ghost use Rattle.std.specs.Prelude.{◌≡◌, ◌%◌, ◌↔◌, ◌<◌, None
 ghost use Rattle.std.specs.Option.{ForSome};
 ghost use Rattle.ame_store.specs.Cells.{IsOwnedBy, CanGrow};
 
-use crate::sample::{Kept, Sample};
+use crate::cases::sample::{Kept, Sample};
 use ame_rows::{Bad, ReadNote, Row, Undo};
 use ame_store::{Cell, Store};
 use ame_term::{Loc, NoMemory, Sort, TyNo};
@@ -186,21 +186,17 @@ fn notes<V: Sample>(alloc: Global, row: &mut Row<V>) -> Result<bool, NoMemory> {
     Ok(logged && made && wrote && told(row.pop_undo()).is_none())
 }
 
-#[test]
-fn logs_of_integers(rt: HostRuntime) -> Result<(), Fail> {
-    let mut row = Row::<i64>::new(rt.alloc());
-    assert!(rt; notes(rt.alloc(), &mut row)?);
+/// Whether logs hold what is noted, and are empty again.
+fn are_logs<V: Sample>(alloc: Global) -> Result<bool, NoMemory> {
+    let mut row = Row::<V>::new(alloc);
+    let noted = notes(alloc, &mut row)?;
     row.clear();
-    assert!(rt; row.reads().is_empty());
-    Ok(())
+    Ok(noted && row.reads().is_empty())
 }
 
 #[test]
-fn logs_of_values_that_take_memory(rt: HostRuntime) -> Result<(), Fail> {
-    let mut row = Row::<Kept>::new(rt.alloc());
-    assert!(rt; notes(rt.alloc(), &mut row)?);
-    row.clear();
-    assert!(rt; row.reads().is_empty());
+fn logs_of_integers_and_of_values_that_take_memory(rt: HostRuntime) -> Result<(), Fail> {
+    assert!(rt; are_logs::<i64>(rt.alloc())? && are_logs::<Kept>(rt.alloc())?);
     Ok(())
 }
 

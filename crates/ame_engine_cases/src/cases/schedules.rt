@@ -1,7 +1,7 @@
 //! Rows of the tables as schedules: their seats, picked from a list, make the same deeds in one call.
 
-use crate::table::{Event, Row, text_of};
-use crate::texts::{code_of, may_run, sink_of};
+use crate::cases::table::{Event, Row, text_of};
+use crate::cases::texts::{code_of, may_run, sink_of};
 use ame_chooser::{Chooser, Listed};
 use ame_device::Counter;
 use ame_eval::Fragment;

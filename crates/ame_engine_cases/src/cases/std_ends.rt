@@ -1,5 +1,5 @@
 //! The ends of std: a pipe of the system, and a reader and a writer that fail.
-use crate::memory_ends::has_left;
+use crate::cases::memory_ends::has_left;
 use ame_io::{Failed, MemSink, MemSource, Sink, Source, StdSink, StdSource, WriteFault, write_all};
 use std::io;
 use std::io::{ErrorKind, Read, Write};

@@ -1,6 +1,6 @@
 //! Ends that come early, by a table: turns that are used up, values that are too high, and want of memory.
 
-use crate::table::{Event, FIRST_TRIED, ONE_SEAT, Row, SECOND_TRIED, TWO_SEATS, play_all};
+use crate::cases::table::{Event, FIRST_TRIED, ONE_SEAT, Row, SECOND_TRIED, TWO_SEATS, play_all};
 use ame_engine::Stop;
 use ame_protocol::Limits;
 use ame_turn::Deed::*;

@@ -4,7 +4,7 @@ ghost use Rattle.std.specs.Prelude.{◌≡◌, ◌↔◌, ◌<◌, None, IsTrue,
 ghost use Rattle.std.specs.Option.{ForSome};
 ghost use Rattle.ame_store.specs.Cells.{IsOwnedBy, IsDead, CanGrow};
 
-use crate::sample::{Kept, Sample};
+use crate::cases::sample::{Kept, Sample};
 use ame_store::{Cell, Store, Taken};
 use ame_term::{Loc, NoMemory, Sort, TyNo};
 use std::alloc::{AllocError, Global};

@@ -1,7 +1,7 @@
 //! Tables: what happens, turn by turn, and what is left at the end.
 
-use crate::schedules::is_scheduled;
-use crate::texts::{Team, sink_of, team_of};
+use crate::cases::schedules::is_scheduled;
+use crate::cases::texts::{Team, sink_of, team_of};
 use ame_device::{Counter, Device, Heard};
 use ame_engine::{Certificate, Ended, Stop};
 use ame_journal::{Entry, EntryKind, Journal};

@@ -1,6 +1,6 @@
 //! Two seats, by a table: reads that became invalid, conflicts, members that wait, and one that begins alone.
 
-use crate::table::{Event, FIRST_TRIED, Row, SECOND_TRIED, TWO_SEATS, play_all};
+use crate::cases::table::{Event, FIRST_TRIED, Row, SECOND_TRIED, TWO_SEATS, play_all};
 use ame_engine::Stop;
 use ame_protocol::Limits;
 use ame_rows::Bad;

@@ -1,6 +1,6 @@
 //! Unprotected code, by a table: cells, peeks, devices and new members.
 
-use crate::table::{Event, ONE_SEAT, Row, TWO_SEATS, play_all, plays};
+use crate::cases::table::{Event, ONE_SEAT, Row, TWO_SEATS, play_all, plays};
 use ame_device::{Adder, Counter, Device, FailsAt};
 use ame_engine::Stop;
 use ame_turn::Deed::*;

@@ -1,5 +1,5 @@
 //! The flat code of texts: each node with the slots that it captures.
-use crate::texts::read;
+use crate::cases::texts::read;
 use ame_code::{Code, NodeNo, compile};
 use ame_types::check;
 use std::alloc::Global;

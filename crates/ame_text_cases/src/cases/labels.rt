@@ -1,6 +1,6 @@
 //! Labels where they are not legal.
 
-use crate::texts::read;
+use crate::cases::texts::read;
 use ame_strong::{StepFail, StrongState};
 use ame_term::{Label, Loc, StepKind};
 use std::alloc::Global;
@@ -38,6 +38,18 @@ const KINDS: &[StepKind] = &[
     StepKind::Device(1),
 ];
 
+/// Labels that no rule has where a member could begin or make a step.
+fn are_refused(rt: &impl Abort, alloc: Global, state: &mut StrongState, activated: u64) {
+    for label in [
+        Label::Leave,
+        Label::End,
+        Label::Close(0),
+        Label::Activate(activated),
+    ] {
+        assert!(rt; !makes(rt, alloc, state, label));
+    }
+}
+
 #[test]
 fn at_the_beginning_only_a_member_begins(rt: HostRuntime) -> Result<(), Fail> {
     let alloc = rt.alloc();
@@ -46,14 +58,7 @@ fn at_the_beginning_only_a_member_begins(rt: HostRuntime) -> Result<(), Fail> {
         assert!(rt; !makes(&rt, alloc, &mut state, Label::Step(kind)));
         assert!(rt; !makes(&rt, alloc, &mut state, Label::Free(0, kind)));
     }
-    for label in [
-        Label::Leave,
-        Label::End,
-        Label::Close(0),
-        Label::Activate(1),
-    ] {
-        assert!(rt; !makes(&rt, alloc, &mut state, label));
-    }
+    are_refused(&rt, alloc, &mut state, 1);
     assert!(rt; makes(&rt, alloc, &mut state, Label::Activate(0)));
     Ok(())
 }
@@ -69,14 +74,7 @@ fn an_active_member_makes_the_step_of_its_redex(rt: HostRuntime) -> Result<(), F
             assert!(rt; !makes(&rt, alloc, &mut state, Label::Step(kind)));
         }
     }
-    for label in [
-        Label::Leave,
-        Label::End,
-        Label::Close(0),
-        Label::Activate(0),
-    ] {
-        assert!(rt; !makes(&rt, alloc, &mut state, label));
-    }
+    are_refused(&rt, alloc, &mut state, 0);
     assert!(rt; makes(&rt, alloc, &mut state, Label::Step(StepKind::Print)));
     assert!(rt; makes(&rt, alloc, &mut state, Label::End));
     assert_eq!(rt; state.output(), [1i64].as_slice());

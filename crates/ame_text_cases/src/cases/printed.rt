@@ -1,6 +1,6 @@
 //! Texts and their canonical form, and what no text has.
 
-use crate::texts::read;
+use crate::cases::texts::read;
 use ame_gen::generate;
 use ame_print::{print_program, print_term, print_ty};
 use ame_term::{Effect, Function, Loc, Name, Sort, Term, Ty, Value, boxed};

@@ -1,6 +1,6 @@
 //! What the check of types tells beside the rule and the place: the types that are stored, and what was found and wanted.
 
-use crate::texts::read;
+use crate::cases::texts::read;
 use ame_term::{Accepted, Sort, Ty};
 use ame_types::{Shown, TypeFault, TypesFail, check};
 use std::alloc::Global;

@@ -1,5 +1,6 @@
 -- The lines of entries that are made on machines.
-use Rattle.std.proofs.Common.{◌≡◌, ℕ, ◌+◌, ◌<◌, ◌≤◌, ℤ, Bool, true, false, List, [], ◌∷◌, ◌++◌, length, get_or, take, drop, Some, option_and_then, refl, sym, ap, ◌∙◌, subst, arith}
+use Rattle.std.proofs.Common.{◌≡◌, ℕ, ◌+◌, ◌<◌, ◌≤◌, ℤ, Bool, true, false, List, [], ◌∷◌, ◌++◌, length, get_or, take, drop, Some}
+use Rattle.std.proofs.Common.{option_and_then, refl, sym, ap, ◌∙◌, subst, arith}
 use Rattle.std.proofs.lemmas.List.{drop_all, take_more}
 use Rattle.ame_journal.specs.declared.entry.Entry.{Entry}
 use Rattle.ame_journal.specs.Replayed.{Replayed, begun_at}
@@ -13,7 +14,8 @@ use Rattle.ame_why.specs.Lines.{printed_between, lines_from, lines_of, Prints}
 use Rattle.ame_why.proofs.LineLemmas.{lines_go_on, lines_are_all}
 
 -- an entry that leads from one state to another prints what is new
-leads-prints : (r t : Replayed) (entry : Entry) → replay_entry r entry ≡ Some t → (b : Bool) → is_note entry.kind ≡ b → Prints r entry (printed_between r.state t.state) t
+leads-prints : (r t : Replayed) (entry : Entry) → replay_entry r entry ≡ Some t → (b : Bool) → is_note entry.kind ≡ b →
+    Prints r entry (printed_between r.state t.state) t
 leads-prints r t entry e true is =
     let same : t ≡ r = note-same r entry t is e in
     let nothing : printed_between r.state r.state ≡ [] = drop_all (length r.state.output) r.state.output (omega arith) in

@@ -13,7 +13,8 @@ use Rattle.ame_why.specs.Stored.{stored_row, stored_rows}
 
 -- a page before which rows are left, and one with the next row
 pub cells_go_on : (places : List Position) (whole page new : List ℕ) (cells : List (Cell Val)) (i : ℕ) (cell : Cell Val) → slice_get cells i ≡ Some cell →
-    page ++ stored_rows places i (drop i cells) ≡ whole → new ≡ page ++ stored_row places i cell → new ++ stored_rows places (i + 1) (drop (i + 1) cells) ≡ whole
+    page ++ stored_rows places i (drop i cells) ≡ whole → new ≡ page ++ stored_row places i cell →
+    new ++ stored_rows places (i + 1) (drop (i + 1) cells) ≡ whole
 unfolding stored_rows
 cells_go_on places whole page new cells i cell is left added =
     let rest = stored_rows places (i + 1) (drop (i + 1) cells) in

@@ -1,5 +1,6 @@
 -- What the locations hold that are left.
-use Rattle.std.specs.Prelude.{◌≡◌, ℕ, ◌+◌, ◌-◌, List, [], ◌∷◌, ◌++◌, Bool, true, false, ◌||◌, if◌then◌else◌, Option, Some, None, length, replicate, codes, slice_get}
+use Rattle.std.specs.Prelude.{◌≡◌, ℕ, ◌+◌, ◌-◌, List, [], ◌∷◌, ◌++◌, Bool, true, false, ◌||◌, if◌then◌else◌, Option, Some, None}
+use Rattle.std.specs.Prelude.{length, replicate, codes, slice_get}
 use Rattle.ame_term.specs.Tree.{Tree}
 use Rattle.ame_term.specs.View.{val_of}
 use Rattle.ame_term.specs.declared.term.Value.{Value}

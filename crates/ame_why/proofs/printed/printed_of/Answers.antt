@@ -8,7 +8,8 @@ abbrev line_of : Vec ℤ Global → List ℤ
 line_of v = v.items
 
 pub loop-entry-init : goal.loop-entry-init
-loop-entry-init g c = printing-begins g.M.Runner.meaning c.args.code.now c.args.entries.now _ _ (ap (map line_of) c.new-lines.ensures.items) c.in_ok-replay.ensures
+loop-entry-init g c =
+    printing-begins g.M.Runner.meaning c.args.code.now c.args.entries.now _ _ (ap (map line_of) c.new-lines.ensures.items) c.in_ok-replay.ensures
 
 pub loop-entry-preserved : goal.loop-entry-preserved
 loop-entry-preserved g c =
@@ -46,5 +47,5 @@ loop-entry-preserved g c =
 
 pub returns : goal.returns
 returns g c =
-    printing-ends g.M.Runner.meaning c.args.code.now c.args.entries.now c.loop-entry.entry-index (map line_of c.loop-entry.lines.items) _ c.loop-entry-test.false
-    c.loop-entry.invariant
+    printing-ends g.M.Runner.meaning c.args.code.now c.args.entries.now c.loop-entry.entry-index (map line_of c.loop-entry.lines.items) _
+    c.loop-entry-test.false c.loop-entry.invariant

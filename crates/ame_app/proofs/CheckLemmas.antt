@@ -49,6 +49,10 @@ line-one bytes m n (inr one) (inr two) =
 pub bad-one : (bytes : List ℕ) (told other : Status) → HasNoCertificate bytes told → HasNoCertificate bytes other → told ≡ other
 bad-one bytes told other one two = one.told_is ∙ ap Status.BadJournal (line-one bytes one.line two.line one.why two.why) ∙ sym two.told_is
 
+-- and not as a fault of the sink
+pub bad-other : (bytes : List ℕ) (told : Status) → HasNoCertificate bytes told → told ≢ Status.WriteFault
+bad-other bytes told none = λ e. absurd (let clash : Status.BadJournal none.line ≡ Status.WriteFault = sym none.told_is ∙ e in cc)
+
 -- of a journal one status is told
 pub journal-one : (program : Tree) (entries : List Entry) (ahead more : List ℕ) (own also : Own) (told other : Status)
     → TellsOfJournal program entries ahead own told → TellsOfJournal program entries more also other → told ≡ other

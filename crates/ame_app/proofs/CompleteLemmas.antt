@@ -292,7 +292,7 @@ module _ (one : SpellOne) (call : Call) (before after : Ends) (n : NothingFailed
       let is = command-is one call bytes given h.command h.asked.spelled in
       is_run h.front h.text (record { source = source; reads = h.program.reads; typed = h.program.typed })
       (subst (λ (o : Option Options). TellsEndWith o report.status) (sym h.with_options ∙ ap options_of is) (subst TellsEnd (sym spoken) run))
-      (λ ahead own told settles. begins-unsettled h.command h.front end.base h.begun source.tree ahead own told
+      (λ ahead own told settles. begins-unsettled h.command h.front source.tree end.base h.begun ahead own told
       (subst (λ (k : Command). Settles k h.front source.tree ahead own told) (sym is) settles))
       (asked-takes one call bytes given h.command h.front h.text h.asked)
       (asked-most one call bytes given h.command h.front h.text whole_limit h.asked h.asked.text_is.most)

@@ -15,7 +15,7 @@ below-or-far : (m n : ℕ) → (m < n) ⊎ (n ≤ m)
 below-or-far m n = grind arith
 
 -- two numbers, neither of which is below the other, are the same
-one-number : (m n : ℕ) → (m < n → ⊥) → (n < m → ⊥) → m ≡ n
+pub one-number : (m n : ℕ) → (m < n → ⊥) → (n < m → ⊥) → m ≡ n
 one-number m n not_below not_above = elim (below-or-far m n) [
   | inl below ↦ absurd (not_below below)
   | inr far ↦ elim (below-or-far n m) [

@@ -1,6 +1,7 @@
 pub mod CrossingLemmas
 pub mod JudgedLemmas
 pub mod CheckLemmas
+pub mod ResumeLemmas
 pub mod VerbLemmas
 pub mod CountLemmas
 pub mod WrittenLemmas

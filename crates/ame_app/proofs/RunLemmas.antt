@@ -24,7 +24,7 @@ use Rattle.ame_protocol.specs.Event.Causes.{NotesStop}
 use Rattle.ame_engine.specs.Ending.{End, HasStopped}
 use Rattle.ame_shell.specs.Ends.{Ends}
 use Rattle.ame_device.specs.declared.told.Told.{Told}
-use Rattle.ame_shell.specs.Heard.{HaveHeard, HaveFailed}
+use Rattle.ame_shell.specs.Heard.{HaveHeardSince, HaveFailed}
 use Rattle.ame_app.specs.declared.parts.Front.{Front}
 use Rattle.ame_app.specs.declared.parts.Own.{Own}
 use Rattle.ame_app.specs.declared.status.Status.{Status}
@@ -32,7 +32,7 @@ use Rattle.ame_app.specs.Calls.{Call}
 use Rattle.ame_app.specs.Causes.{status_at, status_of, RunCause}
 use Rattle.ame_app.specs.Headline.{limits_of, reported, Headline, IsTypedState, journal_of, verdict_of, IsWritten}
 use Rattle.ame_app.specs.Jobs.{IsJobOf, IsRunMade, Speaks}
-use Rattle.ame_app.specs.Verbs.{written_behind}
+use Rattle.ame_app.specs.Verbs.{BeginsFrom, written_behind}
 use Rattle.ame_app.specs.Verdict.{verdict}
 use Rattle.ame_app.proofs.VerbLemmas.{nothing-behind}
 use Rattle.ame_app.proofs.WrittenLemmas.{after-lines, tells-fault, spoken-is}
@@ -130,15 +130,15 @@ module _ (call : Call) (status : Status) (text : Text) (code : FlatCode) (comman
     text_is = refl;
     program = job.program;
     code_is = refl;
-    begun = made.begun;
+    begun = subst (BeginsFrom command front (program_of code)) (sym made.over.base) made.begun;
     replays = made.over.ends.replays;
     seats = made.over.seats;
     output = text-written;
     store = record { stored = made.over.ends.store; free = made.over.ends.free };
     typed = is-reached.typed;
     devices = record {
-      heard = subst (λ (es : List Entry). HaveHeard (program_of code) es before.told after.told) (ap (λ (b : List Entry). b ++ end.entries) (sym made.over.base))
-          (subst (λ (t : List Told). HaveHeard (program_of code) end.entries before.told t) (sym kept) made.over.heard);
+      heard = subst (λ (b : List Entry). HaveHeardSince (program_of code) b end.entries before.told after.told) (sym made.over.base)
+          (subst (λ (t : List Told). HaveHeardSince (program_of code) made.base end.entries before.told t) (sym kept) made.over.heard);
       failed = have-failed;
     };
     cause = stop-cause (limits_of made.options) made.options made.over.ends.r end before after status has-causes end.stop refl;

@@ -1,5 +1,5 @@
 -- What the tables of the verbs keep: laws with a case a verb.
-use Rattle.std.proofs.Common.{◌≡◌, ◌≢◌, ℕ, List, [], refl, sym, ap, ◌∙◌, subst}
+use Rattle.std.proofs.Common.{◌≡◌, ◌≢◌, ℕ, List, [], refl, sym, ◌∙◌, subst}
 use Rattle.ame_chooser.proofs.TextLemmas.{scheduled-same}
 use Rattle.ame_lex.specs.Bytes.{Text}
 use Rattle.ame_term.specs.Tree.{Tree}
@@ -10,7 +10,9 @@ use Rattle.ame_app.specs.declared.parts.Own.{Own}
 use Rattle.ame_app.specs.declared.status.Status.{Status}
 use Rattle.ame_app.specs.Verbs.{TakesInput, Declines, Settles, BeginsFrom, written_behind}
 use Rattle.ame_app.specs.Verbs.Check.{entries_before, TellsOfJournal}
-use Rattle.ame_app.proofs.CheckLemmas.{certificate-one, certificate-none, bad-one, journal-one, journal-other}
+use Rattle.ame_app.specs.Verbs.Resume.{TellsOfBase}
+use Rattle.ame_app.proofs.CheckLemmas.{certificate-one, certificate-none, bad-one, bad-other, journal-one, journal-other}
+use Rattle.ame_app.proofs.ResumeLemmas.{base-one, base-other, base-unsettled}
 
 -- a command takes one text of its bytes
 pub takes-one : (command : Command) (bytes : List ℕ) (front other : Front) (text also : Text)
@@ -21,6 +23,7 @@ takes-one (Command.Sim seed options) bytes front other text also one two = one.1
 takes-one (Command.Replay options) bytes front other text also one two =
     (scheduled-same bytes one.picks two.picks text also one.scheduled two.scheduled).1
 takes-one Command.Check bytes front other text also one two = (certificate-one bytes front other text also one two).0
+takes-one (Command.Resume options) bytes front other text also one two = (certificate-one bytes front other text also one two).0
 
 -- bytes that it takes aren't declined
 pub takes-none : (command : Command) (bytes : List ℕ) (front : Front) (text : Text) (told : Status)
@@ -30,6 +33,7 @@ takes-none (Command.Bench seed size options) bytes front text told takes decline
 takes-none (Command.Sim seed options) bytes front text told takes declines = declines
 takes-none (Command.Replay options) bytes front text told takes declines = declines.none takes.picks text takes.scheduled
 takes-none Command.Check bytes front text told takes declines = certificate-none bytes front text told takes declines
+takes-none (Command.Resume options) bytes front text told takes declines = certificate-none bytes front text told takes declines
 
 -- bytes are declined in one way
 pub declines-one : (command : Command) (bytes : List ℕ) (told other : Status) → Declines command bytes told → Declines command bytes other → told ≡ other
@@ -38,6 +42,7 @@ declines-one (Command.Bench seed size options) bytes told other one two = absurd
 declines-one (Command.Sim seed options) bytes told other one two = absurd one
 declines-one (Command.Replay options) bytes told other one two = one.told_is ∙ sym two.told_is
 declines-one Command.Check bytes told other one two = bad-one bytes told other one two
+declines-one (Command.Resume options) bytes told other one two = bad-one bytes told other one two
 
 -- and not as a fault of the sink
 pub declines-other : (command : Command) (bytes : List ℕ) (told : Status) → Declines command bytes told → told ≢ Status.WriteFault
@@ -45,7 +50,8 @@ declines-other (Command.Run options) bytes told declines = absurd declines
 declines-other (Command.Bench seed size options) bytes told declines = absurd declines
 declines-other (Command.Sim seed options) bytes told declines = absurd declines
 declines-other (Command.Replay options) bytes told declines = λ e. absurd (let clash : Status.BadSchedule ≡ Status.WriteFault = sym declines.told_is ∙ e in cc)
-declines-other Command.Check bytes told declines = λ e. absurd (let clash : Status.BadJournal declines.line ≡ Status.WriteFault = sym declines.told_is ∙ e in cc)
+declines-other Command.Check bytes told declines = bad-other bytes told declines
+declines-other (Command.Resume options) bytes told declines = bad-other bytes told declines
 
 -- of a program one status is told without a run
 pub settles-one : (command : Command) (front : Front) (program : Tree) (ahead more : List ℕ) (own also : Own) (told other : Status)
@@ -56,6 +62,8 @@ settles-one (Command.Sim seed options) front program ahead more own also told ot
 settles-one (Command.Replay options) front program ahead more own also told other one two = absurd one
 settles-one Command.Check front program ahead more own also told other one two =
     journal-one program (entries_before front) ahead more own also told other one two
+settles-one (Command.Resume options) front program ahead more own also told other one two =
+    base-one program (entries_before front) ahead more own also told other one two
 
 -- not as a fault of the sink
 pub settles-other : (command : Command) (front : Front) (program : Tree) (ahead : List ℕ) (own : Own) (told : Status)
@@ -65,6 +73,7 @@ settles-other (Command.Bench seed size options) front program ahead own told set
 settles-other (Command.Sim seed options) front program ahead own told settles = absurd settles
 settles-other (Command.Replay options) front program ahead own told settles = absurd settles
 settles-other Command.Check front program ahead own told settles = journal-other program (entries_before front) ahead own told settles
+settles-other (Command.Resume options) front program ahead own told settles = base-other program (entries_before front) ahead own told settles
 
 -- whichever front is taken of the same bytes
 pub settles-same : (command : Command) (bytes : List ℕ) (front other : Front) (text also : Text)
@@ -76,15 +85,19 @@ settles-same (Command.Sim seed options) bytes front other text also one two prog
 settles-same (Command.Replay options) bytes front other text also one two program ahead own told settles = settles
 settles-same Command.Check bytes front other text also one two program ahead own told settles =
     subst (λ (es : List Entry). TellsOfJournal program es ahead own told) (certificate-one bytes front other text also one two).1 settles
+settles-same (Command.Resume options) bytes front other text also one two program ahead own told settles =
+    subst (λ (es : List Entry). TellsOfBase program es ahead own told) (certificate-one bytes front other text also one two).1 settles
 
 -- and not where a run is begun
-pub begins-unsettled : (command : Command) (front : Front) (base : List Entry) → BeginsFrom command front base
-    → (program : Tree) (ahead : List ℕ) (own : Own) (told : Status) → Settles command front program ahead own told → ⊥
-begins-unsettled (Command.Run options) front base begins program ahead own told settles = settles
-begins-unsettled (Command.Bench seed size options) front base begins program ahead own told settles = settles
-begins-unsettled (Command.Sim seed options) front base begins program ahead own told settles = settles
-begins-unsettled (Command.Replay options) front base begins program ahead own told settles = settles
-begins-unsettled Command.Check front base begins program ahead own told settles = begins
+pub begins-unsettled : (command : Command) (front : Front) (program : Tree) (base : List Entry) → BeginsFrom command front program base
+    → (ahead : List ℕ) (own : Own) (told : Status) → Settles command front program ahead own told → ⊥
+begins-unsettled (Command.Run options) front program base begins ahead own told settles = settles
+begins-unsettled (Command.Bench seed size options) front program base begins ahead own told settles = settles
+begins-unsettled (Command.Sim seed options) front program base begins ahead own told settles = settles
+begins-unsettled (Command.Replay options) front program base begins ahead own told settles = settles
+begins-unsettled Command.Check front program base begins ahead own told settles = begins
+begins-unsettled (Command.Resume options) front program base begins ahead own told settles =
+    base-unsettled program (entries_before front) base begins ahead own told settles
 
 -- nothing is written behind a fault of the sink
 pub nothing-behind : (command : Command) (own : Own) → written_behind command own Status.WriteFault ≡ []
@@ -93,3 +106,4 @@ nothing-behind (Command.Bench seed size options) own = refl
 nothing-behind (Command.Sim seed options) own = refl
 nothing-behind (Command.Replay options) own = refl
 nothing-behind Command.Check own = refl
+nothing-behind (Command.Resume options) own = refl

@@ -28,7 +28,7 @@ use Rattle.ame_protocol.specs.Event.Bounds.{HasBounds}
 use Rattle.ame_protocol.specs.Event.Causes.{NotesStop}
 use Rattle.ame_engine.specs.Ending.{End}
 use Rattle.ame_shell.specs.Ends.{Ends}
-use Rattle.ame_shell.specs.Heard.{HaveHeard, HaveFailed}
+use Rattle.ame_shell.specs.Heard.{HaveHeardSince, HaveFailed}
 use Rattle.ame_shell.specs.Over.{AreOfSeats, NoneWereInTheWay}
 use Rattle.ame_app.specs.declared.parts.Front.{Front}
 use Rattle.ame_app.specs.declared.parts.Own.{Own}
@@ -64,9 +64,9 @@ pub record IsTypedState (devices : ℕ) (s : State) : Type 0 where
   pub cells : StoreTyping
   pub typed : IsTyped devices cells s
 
--- each device has heard what the journal tells; none failed, but for the one that the stop tells
+-- each device has heard what the journal tells behind the entries from which the run was opened; none failed, but for the one that the stop tells
 pub record DevicesTell (code : FlatCode) (end : End Val) (before after : Ends) : Type 0 where
-  pub heard : HaveHeard (program_of code) (journal_of end) before.told after.told
+  pub heard : HaveHeardSince (program_of code) end.base end.entries before.told after.told
   pub failed : HaveFailed end.stop before.told after.told
 
 -- the verdict line of a run
@@ -97,7 +97,7 @@ pub record Headline (call : Call) (report : Reported) (end : End Val) (before af
   pub program : IsProgramOf text call.devices compiled.accepted
   pub code_is : report.code ≡ Some compiled
   -- The journal, which begins as the command says, replays from the program as one run of the strong semantics.
-  pub begun : BeginsFrom command front end.base
+  pub begun : BeginsFrom command front (program_of compiled) end.base
   pub replays : replay (program_of compiled) (journal_of end) ≡ Some final
   pub seats : AreOfSeats options.workers end.entries
   -- What was written is the output of that run, a line each, and the verdict line; what is left is its state.

@@ -11,17 +11,24 @@ use Rattle.ame_types.specs.declared.fault.TypesFail.{TypesFail}
 use Rattle.ame_code.specs.FlatCode.{FlatCode}
 use Rattle.ame_code.specs.Code.{program_of}
 use Rattle.ame_value.specs.declared.val.Val.{Val}
-use Rattle.ame_eval.specs.Values.{value_meant}
+use Rattle.ame_eval.specs.Values.{value_meant, IsMadeValue}
+use Rattle.ame_eval.specs.Fragments.{IsFragmentOf, stage_of}
+use Rattle.ame_eval.specs.declared.fragment.Fragment.{Fragment}
 use Rattle.ame_cli.specs.declared.command.CliFail.{CliFail}
 use Rattle.ame_cli.specs.declared.command.Options.{Options}
 use Rattle.ame_cli.specs.declared.command.Command.{Command}
+use Rattle.ame_journal.specs.declared.entry.Entry.{Entry}
+use Rattle.ame_machine.specs.Meaning.{Meaning}
+use Rattle.ame_engine.specs.Core.{Core}
 use Rattle.ame_engine.specs.Ending.{End}
+use Rattle.ame_engine.specs.Resuming.{HasResumed}
 use Rattle.ame_shell.specs.Ends.{Ends}
-use Rattle.ame_shell.specs.Over.{IsOver}
+use Rattle.ame_shell.specs.Over.{IsOverSince}
 use Rattle.ame_app.specs.declared.fault.TextFault.{TextFault}
 use Rattle.ame_app.specs.declared.parts.Front.{Front}
 use Rattle.ame_app.specs.declared.parts.Own.{Own}
 use Rattle.ame_app.specs.declared.status.Status.{Status}
+use Rattle.ame_app.specs.declared.verbs.Outlook.{Outlook}
 use Rattle.ame_app.specs.Verbs.{Declines, Settles, options_of, BeginsFrom, Promises}
 use Rattle.ame_app.specs.Calls.{Call, Asks}
 use Rattle.ame_app.specs.Texts.{IsNoProgram, IsIllTyped, IsProgramOf}
@@ -68,14 +75,43 @@ IsTextStatus text devices (Status.Types fault) = IsIllTyped text devices fault
 IsTextStatus text devices Status.NoMemory = ⊤
 IsTextStatus text devices _ = ⊥
 
+-- What comes of it
+
+-- what code, values and machines of programs mean
+abbrev pub fragments : Meaning FlatCode Val Fragment
+fragments = record {
+  program = λ code. program_of code;
+  devices = λ code. code.accepted.devices;
+  is_value = λ code v. IsMadeValue code v;
+  value_of = λ code v. value_meant code v;
+  is_machine = λ code m. IsFragmentOf code m;
+  stage = λ code m. stage_of code m;
+}
+
+-- an engine goes on with the code from the entries with which the run of a command begins
+pub record IsOpened (command : Command) (front : Front) (code : FlatCode) (engine : Core FlatCode Val Fragment) : Type 0 where
+  pub options : Options
+  pub command_is : command ≡ Command.Resume options
+  pub begun : BeginsFrom command front (program_of code) engine.base
+  pub code_is : engine.code ≡ code
+  pub limits_are : engine.limits ≡ limits_of options
+  pub resumed : HasResumed fragments engine.limits engine.base engine
+
+-- something is told without a run, or a run goes on from an engine, or one begins with nothing
+abbrev pub IsOutlook : Command → Front → FlatCode → Outlook → Type 0
+IsOutlook command front code (Outlook.Told settled) = Settles command front (program_of code) settled.ahead.items settled.own settled.told
+IsOutlook command front code (Outlook.GoesOn engine) = IsOpened command front code engine
+IsOutlook command front code Outlook.Begins = ⊤
+
 -- The run
 
 -- a run that a command makes is over, and has kept what the command promises
 pub record IsRunMade (command : Command) (front : Front) (code : FlatCode) (before : Ends) (own : Own) (end : End Val) (after : Ends) : Type 0 where
   pub options : Options
   pub with_options : options_of command ≡ Some options
-  pub over : IsOver (program_of code) (limits_of options) (value_meant code) before end after
-  pub begun : BeginsFrom command front end.base
+  pub base : List Entry
+  pub begun : BeginsFrom command front (program_of code) base
+  pub over : IsOverSince base (program_of code) (limits_of options) (value_meant code) before end after
   pub own_is : Promises command front options own end
 
 -- no run was begun of a job: what is told is what its command tells of the program, or memory was wanted

@@ -4,6 +4,7 @@ pub mod Bench
 pub mod Sim
 pub mod Replay
 pub mod Check
+pub mod Resume
 use Rattle.std.specs.Prelude.{ℕ, Bool, true, false, List, [], Option, Some, None}
 use Rattle.ame_lex.specs.Bytes.{Text}
 use Rattle.ame_term.specs.Tree.{Tree}
@@ -20,6 +21,7 @@ use Rattle.ame_app.specs.Verbs.Bench.{TakesGenerated}
 use Rattle.ame_app.specs.Verbs.Sim.{IsPicked, schedule_behind}
 use Rattle.ame_app.specs.Verbs.Replay.{TakesScheduled, HasNoSchedule, IsPickedAsListed}
 use Rattle.ame_app.specs.Verbs.Check.{TakesCertificate, HasNoCertificate, entries_before, TellsOfJournal}
+use Rattle.ame_app.specs.Verbs.Resume.{TellsOfBase, BeginsFromActs, TellsResumed}
 use Rattle.ame_chooser.specs.Drawn.{drawn}
 
 -- What is given
@@ -31,6 +33,7 @@ reads_source (Command.Bench seed size options) = false
 reads_source (Command.Sim seed options) = true
 reads_source (Command.Replay options) = true
 reads_source Command.Check = true
+reads_source (Command.Resume options) = true
 
 -- the bytes that were read are this front and this text of a program
 abbrev pub TakesInput : Command → List ℕ → Front → Text → Type 0
@@ -39,6 +42,7 @@ TakesInput (Command.Bench seed size options) bytes front text = TakesGenerated s
 TakesInput (Command.Sim seed options) bytes front text = TakesAll bytes front text
 TakesInput (Command.Replay options) bytes front text = TakesScheduled bytes front text
 TakesInput Command.Check bytes front text = TakesCertificate bytes front text
+TakesInput (Command.Resume options) bytes front text = TakesCertificate bytes front text
 
 -- they are no front and text, which is told so
 abbrev pub Declines : Command → List ℕ → Status → Type 0
@@ -47,6 +51,7 @@ Declines (Command.Bench seed size options) bytes told = ⊥
 Declines (Command.Sim seed options) bytes told = ⊥
 Declines (Command.Replay options) bytes told = HasNoSchedule bytes told
 Declines Command.Check bytes told = HasNoCertificate bytes told
+Declines (Command.Resume options) bytes told = HasNoCertificate bytes told
 
 -- What is told without a run
 
@@ -57,6 +62,7 @@ Settles (Command.Bench seed size options) front program ahead own told = ⊥
 Settles (Command.Sim seed options) front program ahead own told = ⊥
 Settles (Command.Replay options) front program ahead own told = ⊥
 Settles Command.Check front program ahead own told = TellsOfJournal program (entries_before front) ahead own told
+Settles (Command.Resume options) front program ahead own told = TellsOfBase program (entries_before front) ahead own told
 
 -- What is run
 
@@ -67,14 +73,16 @@ options_of (Command.Bench seed size options) = Some options
 options_of (Command.Sim seed options) = Some options
 options_of (Command.Replay options) = Some options
 options_of Command.Check = None
+options_of (Command.Resume options) = Some options
 
--- the entries with which the run begins
-abbrev pub BeginsFrom : Command → Front → List Entry → Type 0
-BeginsFrom (Command.Run options) front base = BeginsWithNothing base
-BeginsFrom (Command.Bench seed size options) front base = BeginsWithNothing base
-BeginsFrom (Command.Sim seed options) front base = BeginsWithNothing base
-BeginsFrom (Command.Replay options) front base = BeginsWithNothing base
-BeginsFrom Command.Check front base = ⊥
+-- the entries with which the run of a program begins
+abbrev pub BeginsFrom : Command → Front → Tree → List Entry → Type 0
+BeginsFrom (Command.Run options) front program base = BeginsWithNothing base
+BeginsFrom (Command.Bench seed size options) front program base = BeginsWithNothing base
+BeginsFrom (Command.Sim seed options) front program base = BeginsWithNothing base
+BeginsFrom (Command.Replay options) front program base = BeginsWithNothing base
+BeginsFrom Command.Check front program base = ⊥
+BeginsFrom (Command.Resume options) front program base = BeginsFromActs program (entries_before front) base
 
 -- What is told
 
@@ -85,6 +93,7 @@ Promises (Command.Bench seed size options) front with own end = HasNothing own
 Promises (Command.Sim seed options) front with own end = IsPicked (drawn seed) with.workers own end
 Promises (Command.Replay options) front with own end = IsPickedAsListed front with.workers own end
 Promises Command.Check front with own end = ⊥
+Promises (Command.Resume options) front with own end = TellsResumed own end
 
 -- what is written behind the verdict line of a run
 abbrev pub written_behind : Command → Own → Status → List ℕ
@@ -93,3 +102,4 @@ written_behind (Command.Bench seed size options) own told = []
 written_behind (Command.Sim seed options) own told = schedule_behind own told
 written_behind (Command.Replay options) own told = schedule_behind own told
 written_behind Command.Check own told = []
+written_behind (Command.Resume options) own told = []

@@ -25,6 +25,8 @@ number_of (Status.Valid entries) = 11
 number_of (Status.Invalid entry) = 12
 number_of (Status.BadJournal line) = 13
 number_of (Status.LongJournal entry) = 14
+number_of (Status.FarJournal entry) = 15
+number_of (Status.TallJournal entry) = 16
 number_of Status.BadSchedule = 17
 
 -- the status of a process whose words can't be read
@@ -84,3 +86,5 @@ verdict (Status.Valid entries) = line_at (codes "valid ") entries
 verdict (Status.Invalid entry) = line_at (codes "invalid at ") entry
 verdict (Status.BadJournal line) = line_at (codes "bad journal at ") line
 verdict (Status.LongJournal entry) = line_at (codes "long journal at ") entry
+verdict (Status.FarJournal entry) = line_at (codes "far journal at ") entry
+verdict (Status.TallJournal entry) = line_at (codes "tall journal at ") entry

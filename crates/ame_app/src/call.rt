@@ -8,7 +8,7 @@ ghost use Rattle.ame_shell.specs.Ends.{Ends, ends_of};
 ghost use Rattle.ame_app.specs.Answered.{IsAnswered};
 ghost use Rattle.ame_app.specs.Calls.{Call, what_is_given, call_of};
 ghost use Rattle.ame_app.specs.Headline.{reported, Headline, IsToldAlone, IsTurnedAway};
-ghost use Rattle.ame_app.specs.Jobs.{IsJobOf, IsRunMade, IsLeft};
+ghost use Rattle.ame_app.specs.Jobs.{IsJobOf, IsOpened, IsRunMade, IsLeft};
 
 use crate::asked::{Asked, asked_of};
 use crate::code::code_of;
@@ -16,9 +16,11 @@ use crate::parts::Own;
 use crate::report::Report;
 use crate::speak::{speak_behind, speak_of};
 use crate::status::Status;
-use crate::verbs::{Job, Made, Settled, make, settle};
+use crate::verbs::{Job, Made, Outlook, Settled, make, settle};
 use ame_cli::spells_one_command;
 use ame_device::Device;
+use ame_engine::Engine;
+use ame_eval::Fragment;
 use ame_io::{Sink, Source};
 use ame_term::NoMemory;
 use ame_worker::Gate;
@@ -127,17 +129,23 @@ where
         (ends_of K.written K.faults D.device_heard D.device_faults result.sink result.devices.items) }
 {
     match settle(alloc, &job) {
-        Ok(Some(Settled { told, ahead, own })) => tell(&ahead, own, told, text, sink, devices),
-        Ok(None) => run(rt, alloc, job, text, sink, devices, gate),
+        Ok(Outlook::Told(Settled { told, ahead, own })) => {
+            tell(&ahead, own, told, text, sink, devices)
+        }
+        Ok(Outlook::Begins) => run(rt, alloc, job, None, text, sink, devices, gate),
+        Ok(Outlook::GoesOn(engine)) => {
+            run(rt, alloc, job, Some(engine), text, sink, devices, gate)
+        }
         Err(NoMemory) => turn_away(Status::NoMemory, text, sink, devices),
     }
 }
 
-/// Makes a run, and tells how it ended.
+/// Makes a run, from an engine where it goes on from one, and tells how it ended.
 fn run<R, K, D, G>(
     rt: &R,
     alloc: Global,
     job: Job,
+    engine: Option<Engine<Fragment>>,
     text: Vec<u8>,
     sink: K,
     devices: Vec<D>,
@@ -150,6 +158,7 @@ where
     G: Gate + Sync,
     requires ranges { IsInRange job.command }
     requires devices { (arc_value job.code).accepted.devices ≡ vec_len devices }
+    requires opened { IfSome engine (IsOpened job.command job.front (arc_value job.code)) }
     ensures text { result.text ≡ text }
     ensures ran { IfSome result.ended (λ end. (call : Call) → call.devices ≡ vec_len devices
         → IsJobOf call text.items (arc_value job.code) job.command job.front
@@ -161,7 +170,7 @@ where
         (ends_of K.written K.faults D.device_heard D.device_faults sink devices.items)
         (ends_of K.written K.faults D.device_heard D.device_faults result.sink result.devices.items) }
 {
-    match make(rt, alloc, &job, sink, devices, gate) {
+    match make(rt, alloc, &job, engine, sink, devices, gate) {
         Ok(made) => conclude(job, text, made),
         Err((sink, devices)) => turn_away(Status::NoMemory, text, sink, devices),
     }

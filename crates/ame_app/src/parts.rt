@@ -22,4 +22,6 @@ pub enum Own {
     Picked(Mades),
     /// Why an entry of a certificate can't be made.
     Unmade(Reason),
+    /// From how many entries a run went on.
+    Resumed(u64),
 }

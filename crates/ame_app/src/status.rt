@@ -44,6 +44,10 @@ pub enum Status {
     BadJournal(u32),
     /// With this entry of the journal, from 1, its steps and entries are more than are judged.
     LongJournal(u64),
+    /// This entry of the journal without its notes, from 1, is the first with a location that is too far for a run to go on.
+    FarJournal(u64),
+    /// This entry of the journal without its notes, from 1, passes a form whose value would be too high.
+    TallJournal(u64),
 }
 
 impl Status {
@@ -67,6 +71,8 @@ impl Status {
             Status::Invalid(_) => 12,
             Status::BadJournal(_) => 13,
             Status::LongJournal(_) => 14,
+            Status::FarJournal(_) => 15,
+            Status::TallJournal(_) => 16,
             Status::BadSchedule => 17,
         }
     }
@@ -93,6 +99,8 @@ impl Status {
             Status::Invalid(entry) => numbered("invalid at ", *entry),
             Status::BadJournal(line) => numbered("bad journal at ", u64::from(*line)),
             Status::LongJournal(entry) => numbered("long journal at ", *entry),
+            Status::FarJournal(entry) => numbered("far journal at ", *entry),
+            Status::TallJournal(entry) => numbered("tall journal at ", *entry),
         }
     }
 

@@ -3,18 +3,18 @@
 mod bench;
 mod check;
 mod replay;
+mod resume;
 mod run;
 mod sim;
 
-ghost use Rattle.std.specs.Prelude.{◌≡◌, ◌≤◌, IfOk, IfErr, IfSome, OnOk, OnErr, vec_len};
+ghost use Rattle.std.specs.Prelude.{◌≡◌, ◌≤◌, [], IfOk, IfErr, IfSome, OnOk, OnErr, vec_len};
 ghost use Rattle.std.specs.Arc.{arc_value};
 ghost use Rattle.std.specs.Io.KnownBytes.{Appends};
 ghost use Rattle.ame_cli.specs.Ranges.{IsInRange};
-ghost use Rattle.ame_code.specs.Code.{program_of};
 ghost use Rattle.ame_io.specs.Counts.{HasRisen};
 ghost use Rattle.ame_io.specs.Writes.{AppendsFront};
 ghost use Rattle.ame_shell.specs.Ends.{ends_of};
-ghost use Rattle.ame_app.specs.Jobs.{IsRunMade, IsUntaken};
+ghost use Rattle.ame_app.specs.Jobs.{IsOpened, IsOutlook, IsRunMade, IsUntaken};
 ghost use Rattle.ame_app.specs.Verbs as spec;
 
 use crate::parts::{Front, Own};
@@ -23,6 +23,8 @@ use ame_chooser::Drawn;
 use ame_cli::Command;
 use ame_code::Code;
 use ame_device::Device;
+use ame_engine::Engine;
+use ame_eval::Fragment;
 use ame_io::{READ_LIMIT, Sink, WriteFault};
 use ame_shell::Remains;
 use ame_term::NoMemory;
@@ -55,6 +57,17 @@ pub(crate) struct Settled {
     pub(crate) own: Own,
 }
 
+/// What comes of a job.
+#[derive(Drop)]
+pub(crate) enum Outlook {
+    /// This is told without a run.
+    Told(Settled),
+    /// A run begins with nothing.
+    Begins,
+    /// A run goes on from this engine.
+    GoesOn(Engine<Fragment>),
+}
+
 /// What a run left, and what the command has of its own.
 pub(crate) struct Made<K, D> {
     pub(crate) left: Remains<Val, K, D>,
@@ -68,7 +81,7 @@ pub(crate) fn reads_source(command: &Command) -> bool
     match command {
         Command::Run(_) => true,
         Command::Bench(_, _, _) => false,
-        Command::Sim(_, _) | Command::Replay(_) | Command::Check => true,
+        Command::Sim(_, _) | Command::Replay(_) | Command::Check | Command::Resume(_) => true,
     }
 }
 
@@ -84,27 +97,44 @@ pub(crate) fn take(alloc: Global, command: &Command, bytes: Vec<u8>) -> Result<T
         Command::Run(_) | Command::Sim(_, _) => Ok(run::take(bytes)),
         Command::Bench(seed, size, _) => bench::take(alloc, *seed, *size),
         Command::Replay(_) => replay::take(alloc, &bytes),
-        Command::Check => check::take(alloc, &bytes),
+        Command::Check | Command::Resume(_) => check::take(alloc, &bytes),
     }
 }
 
-/// What a command tells of a program without a run, if it tells something.
-pub(crate) fn settle(alloc: Global, job: &Job) -> Result<Option<Settled>, NoMemory>
-    ensures { IfOk result (λ told. IfSome told (λ s. spec.Settles job.now.command job.now.front (program_of (arc_value job.now.code)) s.ahead.items s.own s.told)) }
+/// This is told, with nothing ahead of the verdict line.
+fn told_alone(alloc: Global, told: Status, own: Own) -> Settled
+    ensures told { result.told ≡ told }
+    ensures ahead { result.ahead.items ≡ [] }
+    ensures own { result.own ≡ own }
+{
+    Settled {
+        told,
+        ahead: Vec::new(alloc),
+        own,
+    }
+}
+
+/// What a command tells of a program without a run, or how its run begins.
+pub(crate) fn settle(alloc: Global, job: &Job) -> Result<Outlook, NoMemory>
+    requires ranges { IsInRange job.now.command }
+    ensures { IfOk result (IsOutlook job.now.command job.now.front (arc_value job.now.code)) }
 {
     match job.command {
-        Command::Check => Ok(Some(check::settle(alloc, &job.code, &job.front)?)),
+        Command::Check => Ok(Outlook::Told(check::settle(alloc, &job.code, &job.front)?)),
+        Command::Resume(options) => resume::settle(alloc, &job.code, options, &job.front),
         Command::Run(_) | Command::Bench(_, _, _) | Command::Sim(_, _) | Command::Replay(_) => {
-            Ok(None)
+            Ok(Outlook::Begins)
         }
     }
 }
 
-/// Makes the run that a command asks for. Where nothing was begun, for want of memory, it hands sink and devices back as they were.
+/// Makes the run that a command asks for, from an engine where it goes on from one. Where nothing was begun, for want of memory, it
+/// hands sink and devices back as they were.
 pub(crate) fn make<R, K, D, G>(
     rt: &R,
     alloc: Global,
     job: &Job,
+    engine: Option<Engine<Fragment>>,
     sink: K,
     devices: Vec<D>,
     gate: &G,
@@ -116,12 +146,16 @@ where
     G: Gate + Sync,
     requires ranges { IsInRange job.now.command }
     requires devices { (arc_value job.now.code).accepted.devices ≡ vec_len devices }
+    requires opened { IfSome engine (IsOpened job.now.command job.now.front (arc_value job.now.code)) }
     ensures made { IfOk result (λ made. IsRunMade job.now.command job.now.front (arc_value job.now.code)
         (ends_of K.written K.faults D.device_heard D.device_faults sink devices.items) made.own made.left.ended
         (ends_of K.written K.faults D.device_heard D.device_faults made.left.sink made.left.devices.items)) }
     ensures sink { IfErr result (λ back. back.0 ≡ sink) }
     ensures devices { IfErr result (λ back. back.1 ≡ devices) }
 {
+    if let Some(engine) = engine {
+        return resume::run(rt, alloc, &job.code, engine, sink, devices, gate);
+    }
     match job.command {
         Command::Run(options) | Command::Bench(_, _, options) => {
             run::run(rt, alloc, &job.code, options, sink, devices, gate)
@@ -133,7 +167,7 @@ where
         Command::Replay(options) => {
             replay::run(alloc, &job.code, options, &job.front, sink, devices)
         }
-        Command::Check => Err((sink, devices)),
+        Command::Check | Command::Resume(_) => Err((sink, devices)),
     }
 }
 
@@ -150,7 +184,7 @@ pub(crate) fn write_behind<K: Sink>(
     ensures risen { OnErr result (HasRisen (K.faults sink.old) (K.faults sink.new)) }
 {
     match command {
-        Command::Run(_) | Command::Bench(_, _, _) | Command::Check => Ok(()),
+        Command::Run(_) | Command::Bench(_, _, _) | Command::Check | Command::Resume(_) => Ok(()),
         Command::Sim(_, _) | Command::Replay(_) => sim::write_behind(sink, own, told),
     }
 }

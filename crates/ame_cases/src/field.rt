@@ -11,6 +11,8 @@ pub enum Field {
     Written,
     /// Whether a run was begun.
     Run,
+    /// From how many entries it went on.
+    Resumed,
     Journal,
     /// What the strong semantics comes to by the journal.
     Replay,
@@ -38,6 +40,7 @@ const KEYS: &[(&str, Field)] = &[
     ("lines", Field::Lines),
     ("written", Field::Written),
     ("run", Field::Run),
+    ("resumed", Field::Resumed),
     ("journal", Field::Journal),
     ("replay", Field::Replay),
     ("output", Field::Output),

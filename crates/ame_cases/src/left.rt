@@ -18,7 +18,7 @@ pub fn left(
     is_alone: bool,
 ) -> Result<String, Fault> {
     match field {
-        Field::Journal => journal(alloc, ended.journal(), is_alone),
+        Field::Journal => journal(alloc, ended, is_alone),
         Field::Output => output(alloc, ended.output()),
         Field::Turns => turns(alloc, ended),
         Field::Unwound => line(alloc, u64::from(ended.counters().unwound)),
@@ -26,14 +26,21 @@ pub fn left(
     }
 }
 
-/// The entries of a journal, a line each. With several workers any seat may have made one, so each is told with seat 0.
-fn journal(alloc: Global, entries: &[Entry], is_alone: bool) -> Result<String, Fault> {
+/// The entries from which a run went on, and those that it added, a line each.
+fn journal(alloc: Global, ended: &Ended<Val>, is_alone: bool) -> Result<String, Fault> {
     let mut text = String::new(alloc);
+    write_entries(&mut text, ended.base(), is_alone)?;
+    write_entries(&mut text, ended.journal(), is_alone)?;
+    Ok(text)
+}
+
+/// Lines of a journal. With several workers any seat may have made an entry, so each is told with seat 0.
+fn write_entries(text: &mut String, entries: &[Entry], is_alone: bool) -> Result<(), AllocError> {
     for entry in entries {
         let seat = if is_alone { entry.seat } else { 0 };
-        write_entry(&mut text, entry, seat)?;
+        write_entry(text, entry, seat)?;
     }
-    Ok(text)
+    Ok(())
 }
 
 /// A line of a journal.

@@ -6,7 +6,7 @@ use crate::fault::Fault;
 use crate::field::Field;
 use crate::left::left;
 use crate::replay::replayed;
-use ame_app::Report;
+use ame_app::{Own, Report};
 use ame_code::Code;
 use ame_device::Device;
 use ame_engine::Certificate;
@@ -32,6 +32,7 @@ pub fn told(
         Field::Lines => Ok(String::from_utf8_lossy(alloc, report.sink.written())?),
         Field::Written => written(alloc, report.sink.written()),
         Field::Run => begun(alloc, report),
+        Field::Resumed => resumed(alloc, &report.own),
         Field::Heard => heard(alloc, &report.devices),
         Field::Certificates => certificates(alloc, report.blocked()),
         Field::Replay => replay(alloc, case, report),
@@ -71,6 +72,14 @@ fn begun(alloc: Global, report: &CaseReport) -> Result<String, Fault> {
         (true, true) => word(alloc, "some"),
         (false, false) => word(alloc, "none"),
         _ => word(alloc, "half of one"),
+    }
+}
+
+/// From how many entries a run went on, where it did.
+fn resumed(alloc: Global, own: &Own) -> Result<String, Fault> {
+    match own {
+        Own::Resumed(entries) => line(alloc, *entries),
+        Own::Nothing | Own::Picked(_) | Own::Unmade(_) => word(alloc, "none"),
     }
 }
 
@@ -117,9 +126,9 @@ fn replay(alloc: Global, case: &Case, report: &CaseReport) -> Result<String, Fau
     };
     let program = copy_term(alloc, &code.accepted().program.term)?;
     let state = match &case.certificate {
-        None => replayed(alloc, program, ended.journal())?,
+        None => replayed(alloc, program, ended.base(), ended.journal())?,
         Some(lines) => match journal(alloc, lines.as_str())? {
-            Some(journal) => replayed(alloc, program, journal.entries())?,
+            Some(journal) => replayed(alloc, program, &[], journal.entries())?,
             None => return word(alloc, "no journal"),
         },
     };

@@ -26,7 +26,7 @@ use Rattle.ame_machine.specs.Run.Local.{LocalState, one_step, goes, acted, with_
 use Rattle.ame_machine.specs.Run.AgreesWith.{AgreesWith, IsAfterRun}
 use Rattle.ame_machine.specs.Run.Told.{IsTooHigh}
 use Rattle.ame_machine.specs.MachineView.{MachineView, running_side, place_shown}
-use Rattle.ame_machine.specs.Move.{Advances}
+use Rattle.ame_machine.specs.Move.{Advances, GoesLow}
 use Rattle.ame_machine.proofs.Run.RunLemmas.{Acts, step-is, step-of}
 use Rattle.ame_machine.proofs.Run.TypedLemmas.{goes-empty}
 use Rattle.ame_machine.proofs.Run.EffectLemmas.{step-made, unfed}
@@ -34,7 +34,7 @@ use Rattle.ame_check.specs.Walk.{label_by, active_on, begun_on, steps_on, LeadsO
 use Rattle.ame_check.specs.Walked.{place_with}
 use Rattle.ame_check.proofs.HaltLemmas.{reduced-on}
 use Rattle.ame_check.proofs.SortLemmas.{grows-through}
-use Rattle.ame_check.proofs.TallLemmas.{GoesLow, low-more}
+use Rattle.ame_check.proofs.TallLemmas.{low-more}
 
 -- a place without inputs, answer and footprint, with these values set
 abbrev pub bare : List (ℕ × Val) → LocalState → LocalState

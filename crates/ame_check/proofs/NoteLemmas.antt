@@ -1,8 +1,7 @@
 -- Notes.
-use Rattle.std.proofs.Common.{◌≡◌, ◌≢◌, ℕ, ◌+◌, ◌≤◌, ◌==◌, ◌||◌, ℤ, Bool, true, false, List, Option, Some, None, refl, sym, ap, ◌∙◌, subst, is_some, arith, if◌then◌else◌, nat_lt}
+use Rattle.std.proofs.Common.{◌≡◌, ◌≢◌, ℕ, ◌+◌, ◌≤◌, ◌==◌, ◌||◌, ℤ, Bool, true, false, List, Option, Some, None, refl, sym, ap, ◌∙◌, subst, is_some, arith}
 use Rattle.std.proofs.lemmas.Bool.{eq-eqb, eqb-true}
 use Rattle.ame_machine.specs.Run.Local.{LocalState, goes}
-use Rattle.std.proofs.lemmas.Bool.{ltb-false}
 use Rattle.ame_term.specs.Tree.{Val, Tree}
 use Rattle.ame_term.specs.Height.{max_height}
 use Rattle.ame_term.specs.Frame.{Side, side_told}
@@ -12,20 +11,20 @@ use Rattle.ame_term.specs.Maps.{at}
 use Rattle.ame_term.specs.State.{State, at_unprotected}
 use Rattle.ame_term.specs.declared.types.Unary.TheVariants as unary
 use Rattle.ame_term.specs.declared.semantics.Label.{Label}
-use Rattle.ame_journal.specs.Replayed.{Replayed, is_inside, has_such, is_at_unprotected, side_at, is_failing, is_tall, is_false_condition, coming_height, value_height}
+use Rattle.ame_journal.specs.Replayed.{Replayed, is_inside, has_such, is_at_unprotected, side_at, is_failing, is_tall, is_false_condition, coming_height}
 use Rattle.ame_journal.specs.Replay.{replay, replay_kind, fragment, attempt, attempt_on, steps, locations, note_where}
 use Rattle.ame_journal.specs.Totals.{is_note}
 use Rattle.ame_journal.specs.declared.entry.Entry.{Entry}
 use Rattle.ame_journal.specs.declared.entry.EntryKind.{EntryKind}
 use Rattle.ame_journal.proofs.ReachedLemmas.{IsCalm}
 use Rattle.ame_machine.specs.MachineView.{MachineView, running_side, place_shown}
-use Rattle.ame_machine.specs.Need.{Need, need_of, need_of_focus, need_told, need_at_redex, need_at, leaving_need}
+use Rattle.ame_machine.specs.Need.{Need, need_of, need_of_focus, need_told}
 use Rattle.ame_machine.specs.Sound.{IsSoundStage}
 use Rattle.ame_machine.specs.Move.{tells_leave, AdvancesWithin}
 use Rattle.ame_machine.specs.declared.wants.Wants.{Wants}
 use Rattle.ame_machine.specs.declared.wants.Wants.TheVariants as wants
 use Rattle.ame_machine.proofs.NeedLemmas.{comes_as}
-use Rattle.ame_machine.proofs.LowLemmas.{tall-is}
+use Rattle.ame_machine.proofs.LowLemmas.{stands-low, tall-is}
 use Rattle.ame_check.specs.Walk.{begun_on, steps_on, ComesToTall, StaysLow}
 use Rattle.ame_check.specs.Entries.{BeginsSteps, MeetsTall, MeetsNoTall, is_confirmed}
 use Rattle.ame_check.specs.Reasons.{entry_side}
@@ -70,25 +69,6 @@ failing-need : (f : Focus) → is_false_condition f ≡ true → need_of_focus f
 unfolding act_of
 failing-need (Focus.AtRedex Side.Protected (Tree.One unary.Block (Tree.Held (Val.Bool false)))) e = refl
 failing-need _ e = cc
-
--- whether it comes to a value that is too high
-head-low : (side : Side) (redex : Tree) → need_at_redex side redex ≢ Need.Tall → value_height redex ≤ max_height
-head-low side redex never = by (nat_lt max_height (value_height redex)) refl
-  where
-    by : (b : Bool) → nat_lt max_height (value_height redex) ≡ b → value_height redex ≤ max_height
-    by true e = absurd (never (ap (λ (b : Bool). if b then Need.Tall else need_at side (act_of redex)) e))
-    by false e = ltb-false max_height (value_height redex) e
-
-leaving-low : (redex : Tree) → leaving_need redex ≢ Need.Tall → value_height redex ≤ max_height
-leaving-low (Tree.Unprotected part) never = omega arith
-leaving-low redex never = head-low Side.Protected redex never
-
-pub stands-low : (inside : Bool) (f : Focus) → need_of_focus inside f ≢ Need.Tall → coming_height (side_told inside) f ≤ max_height
-stands-low inside (Focus.AtValue v) never = omega arith
-stands-low false (Focus.AtRedex Side.Unprotected redex) never = omega arith
-stands-low false (Focus.AtRedex Side.Protected redex) never = leaving-low redex never
-stands-low true (Focus.AtRedex Side.Unprotected redex) never = head-low Side.Unprotected redex never
-stands-low true (Focus.AtRedex Side.Protected redex) never = omega arith
 
 -- What is told and what is so
 

@@ -1,30 +1,19 @@
 -- Steps that pass no form that would become a value that is too high.
-use Rattle.std.proofs.Common.{◌≡◌, ℕ, zero, suc, ◌+◌, ◌<◌, ◌≤◌, ◌==◌, ◌⊎◌, inl, inr, Bool, true, false, List, [], ◌∷◌, ◌++◌, append-nil, append_assoc, Some, None, refl, sym, ap, ◌∙◌, subst, arith, if◌then◌else◌}
+use Rattle.std.proofs.Common.{◌≡◌, ℕ, zero, suc, ◌+◌, ◌<◌, ◌==◌, ◌⊎◌, inl, inr, Bool, true, false, List, [], ◌∷◌, ◌++◌, append-nil, append_assoc, Some, None, refl, sym, ap, ◌∙◌, subst, arith, if◌then◌else◌}
 use Rattle.std.specs.Option.{option_and_then}
 use Rattle.std.proofs.lemmas.Option.{option_and_then_some}
-use Rattle.std.proofs.lemmas.Bool.{eqb-true}
-use Rattle.ame_term.specs.Tree.{Val, Tree}
-use Rattle.ame_term.specs.Frame.{Frame, Side, plug, plug_all}
-use Rattle.ame_term.specs.Context.{Focus, focus, fill}
-use Rattle.ame_term.specs.Act.{Act, act_of, StepName}
-use Rattle.ame_term.specs.Height.{height, max_height, held_height, held_heights}
+use Rattle.ame_term.specs.Frame.{Side}
+use Rattle.ame_term.specs.Act.{Act, StepName}
 use Rattle.ame_term.specs.State.{State}
-use Rattle.ame_term.specs.declared.types.Binary.TheVariants as binary
 use Rattle.ame_term.specs.declared.semantics.StepKind.{StepKind}
 use Rattle.ame_term.specs.declared.semantics.Label.{Label}
 use Rattle.ame_laws.specs.Typed.StoreTyping.{StoreTyping}
-use Rattle.ame_laws.proofs.FrameLemmas.{found}
-use Rattle.ame_journal.specs.Replayed.{is_tall, value_height, coming_height}
+use Rattle.ame_journal.specs.Replayed.{is_tall}
 use Rattle.ame_journal.specs.Labels.{fresh_of}
 use Rattle.ame_journal.specs.Replay.{Supply, steps, locations, is_nothing, next_kind, step_by_name}
 use Rattle.ame_journal.proofs.SupplyLemmas.{taken, none_left}
 use Rattle.ame_journal.proofs.ReplayLemmas.{steps-behind}
-use Rattle.ame_machine.specs.MachineView.{MachineView, running_side, place_shown}
-use Rattle.ame_machine.specs.Move.{Advances}
-use Rattle.ame_machine.specs.Run.Local.{LocalState, one_step, goes}
-use Rattle.ame_machine.specs.Run.Told.{IsTooHigh}
-use Rattle.ame_machine.specs.Sound.{HoldsLow, IsSoundStage}
-use Rattle.ame_machine.proofs.Run.RunLemmas.{Acts, step-is}
+use Rattle.ame_machine.specs.Run.Local.{LocalState}
 use Rattle.ame_check.specs.Walk.{label_by, begun_on, steps_on, StaysLow, IsStepping}
 
 -- Steps and locations behind those that they use
@@ -141,71 +130,3 @@ module _ {types : StoreTyping} (devices : ℕ) (s : State) (i : ℕ) (side : Sid
       by (inr count) =
           calm (ap (is_tall side i) (same-there more c.used c.rest c.there c.front
           (ap (λ (k : ℕ). steps_on side i k c.used None (begun_on side i s)) (sym count) ∙ c.leads)).1 ∙ c.tall)
-
--- A step alone by which no value becomes too high
-
--- the value that a redex of such a height becomes
-made-value : (redex : Tree) (h : ℕ) → value_height redex ≡ h + 1 → (v : Val) × (act_of redex ≡ Act.Becomes (Tree.Held v)) × (height v ≡ value_height redex)
-unfolding act_of
-made-value (Tree.Lambda head body) h e = (Val.Fun head body, refl, refl)
-made-value (Tree.Two binary.Pair (Tree.Held v) (Tree.Held w)) h e = (Val.Pair v w, refl, refl)
-made-value _ h e = absurd (omega arith)
-
--- a value that a term holds in frames
-held-in : (f : Frame) (t : Tree) → held_height t ≤ held_height (plug f t)
-unfolding held_height held_heights
-held-in (Frame.One op) t = omega arith
-held-in (Frame.Left op right) t = omega arith
-held-in (Frame.Right op left) t = omega arith
-held-in (Frame.Bound x body) t = omega arith
-held-in (Frame.First rest) t = omega arith
-held-in (Frame.Test a b) t = omega arith
-held-in Frame.Under t = omega arith
-
-held-in_all : (fs : List Frame) (t : Tree) → held_height t ≤ held_height (plug_all fs t)
-held-in_all [] t = omega arith
-held-in_all (f ∷ fs) t = let one = held-in f (plug_all fs t) in let all = held-in_all fs t in omega arith
-
-held-low : (term redex : Tree) (side : Side) (v : Val) → focus term ≡ Focus.AtRedex side redex → HoldsLow (fill term (Tree.Held v)) → height v ≤ max_height
-unfolding held_height
-held-low term redex side v stands low =
-    let f = found term redex side stands in
-    let all = held-in_all f.frames (Tree.Held v) in
-    let filled : held_height (plug_all f.frames (Tree.Held v)) ≤ max_height = subst HoldsLow (f.refilled (Tree.Held v)) low in
-    omega arith
-
-becomes-part : (p : LocalState) (side : Side) (act : Act) (part t : Tree) (q : LocalState) → Acts p side act part q → act ≡ Act.Becomes t → p.inputs ≡ [] → part ≡ t
-becomes-part p _ _ _ t _ (Acts.becomes side term) e empty = cc
-becomes-part p _ _ _ t _ (Acts.spawns body) e empty = cc
-becomes-part p _ _ _ t _ (Acts.prints n) e empty = cc
-becomes-part p _ _ _ t _ Acts.passes e empty = cc
-becomes-part p _ _ _ t _ (Acts.feeds side act v inputs part q is given) e empty = absurd (let clash : v ∷ inputs ≡ [] = sym is ∙ empty in cc)
-
-coming-here : (side : Side) (redex : Tree) → coming_height side (Focus.AtRedex side redex) ≡ value_height redex
-coming-here Side.Protected redex = refl
-coming-here Side.Unprotected redex = refl
-
--- it leads to a term with such a value
-step-low : (side : Side) (p q : LocalState) → p.inputs ≡ [] → one_step side p ≡ Some q → HoldsLow q.term → IsTooHigh side p → ⊥
-step-low side p q empty e low high =
-    let x = step-is side p q e in
-    let tall : value_height x.redex ≡ max_height + 1 = sym (coming-here side x.redex) ∙ sym (ap (coming_height side) x.stands) ∙ eqb-true _ _ high in
-    let v = made-value x.redex max_height tall in
-    let part = becomes-part p side (act_of x.redex) x.part (Tree.Held v.0) x.behind x.acts v.1 empty in
-    let term : q.term ≡ fill p.term (Tree.Held v.0) = ap (λ (z : LocalState). z.term) x.is ∙ ap (fill p.term) part in
-    let under = held-low p.term x.redex side v.0 x.stands (subst HoldsLow term low) in
-    let is : height v.0 ≡ max_height + 1 = v.2 ∙ tall in
-    omega arith
-
--- no place of some steps alone, but for the last, is at a form that would become a value that is too high
-abbrev pub GoesLow : Side → LocalState → ℕ → Type 0
-GoesLow side p k = (j : ℕ) (r : LocalState) → j < k → goes side p j ≡ Some r → IsTooHigh side r → ⊥
-
--- one step alone, of a machine that holds low values then
-pub one-low : (m o : MachineView) (k : ℕ) → k ≤ 1 → Advances k m o → IsSoundStage o → GoesLow (running_side m) (place_shown m) k
-one-low m o k within a sound (suc j) r below e high = absurd (omega arith)
-one-low m o k within a sound zero r below e high =
-    let one : k ≡ 1 = omega arith in
-    let same : place_shown m ≡ r = cc in
-    let run : goes (running_side m) (place_shown m) 1 ≡ Some (place_shown o) = ap (goes (running_side m) (place_shown m)) (sym one) ∙ a.run in
-    step-low (running_side m) (place_shown m) (place_shown o) refl run sound.low (subst (IsTooHigh (running_side m)) (sym same) high)

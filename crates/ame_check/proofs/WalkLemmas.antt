@@ -1,5 +1,5 @@
 -- A machine on its walk can run, and goes on by steps alone.
-use Rattle.std.proofs.Common.{◌≡◌, ◌≢◌, ℕ, ◌+◌, ◌-◌, ◌<◌, ◌≤◌, List, [], ◌∷◌, ◌++◌, zero, suc, map, min, length, append-nil, Some, None, refl, sym, ap, ◌∙◌, subst, arith}
+use Rattle.std.proofs.Common.{◌≡◌, ◌≢◌, ℕ, ◌+◌, ◌-◌, ◌<◌, ◌≤◌, List, [], ◌∷◌, ◌++◌, zero, suc, map, length, append-nil, Some, None, refl, sym, ap, ◌∙◌, subst, arith}
 use Rattle.std.specs.List.{AllByRecursion}
 use Rattle.ame_term.specs.Tree.{Tree}
 use Rattle.ame_term.specs.Frame.{Side, side_told}
@@ -18,7 +18,7 @@ use Rattle.ame_machine.proofs.Run.TypedLemmas.{goes-empty}
 use Rattle.ame_machine.specs.MachineView.{running_side, place_shown}
 use Rattle.ame_machine.specs.Meaning.{Meaning}
 use Rattle.ame_machine.specs.Move.{AdvancesWithin}
-use Rattle.ame_machine.specs.Sound.{CanRun, IsSoundStage}
+use Rattle.ame_machine.specs.Sound.{CanRun}
 use Rattle.ame_term.specs.declared.types.Loc.{Loc}
 use Rattle.ame_check.specs.Walk.{steps_on, begun_on}
 use Rattle.ame_check.proofs.ListLemmas.{rest-some, rest-none}
@@ -26,7 +26,6 @@ use Rattle.ame_check.proofs.EntryLemmas.{left-over}
 use Rattle.ame_check.specs.Walked.{place_with, IsWalking, IsAtStep}
 use Rattle.ame_check.proofs.GoingLemmas.{going-advanced}
 use Rattle.ame_check.proofs.SortLemmas.{sorts-grow}
-use Rattle.ame_check.proofs.TallLemmas.{one-low}
 use Rattle.ame_check.specs.declared.stored.Stored.{Stored}
 
 -- new members leave those before them
@@ -75,14 +74,12 @@ module _ {C V M : Type 0} (meaning : Meaning C V M) (code : C) (s : State) (i : 
       )
 
   pub walk-advanced : (m o : M) (side : Side) (n fuel : ℕ) → IsAtStep meaning code s i fresh cells overlay m side n → meaning.is_machine code o
-      → IsSoundStage (meaning.stage code o) → fuel ≤ 1 → AdvancesWithin fuel (meaning.stage code m) (meaning.stage code o)
-      → IsAtStep meaning code s i fresh cells overlay o side (meaning.stage code o).steps
-  walk-advanced m o side n fuel a good sound one within =
+      → AdvancesWithin fuel (meaning.stage code m) (meaning.stage code o) → IsAtStep meaning code s i fresh cells overlay o side (meaning.stage code o).steps
+  walk-advanced m o side n fuel a good within =
       let w = a.walking in
       let v = within.advances in
       let on : running_side (meaning.stage code o) ≡ running_side (meaning.stage code m) = ap side_told v.inside in
-      let gone = going-advanced (meaning.devices code) s i w.sets (meaning.stage code m) (meaning.stage code o) within.made v
-      (one-low (meaning.stage code m) (meaning.stage code o) within.made (let made : within.made ≤ fuel = within.within in omega arith) v sound) w.going in
+      let gone = going-advanced (meaning.devices code) s i w.sets (meaning.stage code m) (meaning.stage code o) within.made v within.low w.going in
       record {
         walking = record {
           machine = good;
@@ -116,10 +113,10 @@ module _ {C V M : Type 0} (meaning : Meaning C V M) (code : C) (fresh : List ℕ
         → IsAtStep meaning code s i fresh cells over o (running_side (meaning.stage code m)) (meaning.stage code o).steps
     there s i w = gone.goes_on s i (running_side (meaning.stage code m)) (meaning.stage code m).steps (begins s i w)
 
-    pub gone-advanced : (t : M) (fuel before : ℕ) → before ≡ (meaning.stage code o).steps → fuel ≤ 1 → fuel ≤ steps - before → meaning.is_machine code t
-        → IsSoundStage (meaning.stage code t) → AdvancesWithin fuel (meaning.stage code o) (meaning.stage code t) → HasGoneOn meaning code fresh cells first over m t steps
-    gone-advanced t fuel before count one left good sound within = record {
-      goes_on = λ s i side n a. walk-advanced meaning code s i fresh cells over o t side (meaning.stage code o).steps fuel (gone.goes_on s i side n a) good sound one within;
+    pub gone-advanced : (t : M) (fuel before : ℕ) → before ≡ (meaning.stage code o).steps → fuel ≡ steps - before → meaning.is_machine code t
+        → AdvancesWithin fuel (meaning.stage code o) (meaning.stage code t) → HasGoneOn meaning code fresh cells first over m t steps
+    gone-advanced t fuel before count left good within = record {
+      goes_on = λ s i side n a. walk-advanced meaning code s i fresh cells over o t side (meaning.stage code o).steps fuel (gone.goes_on s i side n a) good within;
       under =
           let below : (meaning.stage code o).steps ≤ steps = gone.under in
           let made : within.made ≤ fuel = within.within in
@@ -152,10 +149,6 @@ module _ {C V M : Type 0} (meaning : Meaning C V M) (code : C) (fresh : List ℕ
         let below : (meaning.stage code o).steps ≤ steps = gone.under in
         let differs : (meaning.stage code o).steps ≢ steps = more in
         omega arith
-
--- the fuel for one step, or for none where all were made
-pub one-or-all : (steps before fuel : ℕ) → fuel ≡ min (steps - before) 1 → (fuel ≤ 1) × (fuel ≤ steps - before)
-one-or-all steps before fuel is = (omega arith, omega arith)
 
 -- fewer steps are left after one was made
 pub fewer-left : (before there after made steps : ℕ) → there ≡ before + made → after ≡ there + 1 → there < steps → steps - after < steps - before

@@ -43,19 +43,14 @@ pub fn walk<M: Runner>(
         → WalksAlong M.meaning code.now s i (map (λ l. l.0) fresh.now) cells.now.entries overlay.new.entries machine.new side steps walked) }
 {
     'walk: loop {
-        // One step at a time: of more, it isn't told that none was at a form whose value would be too high.
-        let fuel = (steps - machine.steps()).min(1);
-        let want = machine.advance(alloc, code, fuel)?;
+        let want = machine.advance(alloc, code, steps - machine.steps())?;
         if machine.steps() == steps {
             return Ok(Walked::Whole(want));
         }
-        match want {
-            Wants::OutOfFuel => {}
-            _ => match take(alloc, code, cells, fresh, overlay, machine, want)? {
-                Took::Taken => {}
-                Took::Undefined(why) => return Ok(Walked::Undefined(why)),
-                Took::Tall => return Ok(Walked::Tall),
-            },
+        match take(alloc, code, cells, fresh, overlay, machine, want)? {
+            Took::Taken => {}
+            Took::Undefined(why) => return Ok(Walked::Undefined(why)),
+            Took::Tall => return Ok(Walked::Tall),
         }
     }
 }

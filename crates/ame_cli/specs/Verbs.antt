@@ -5,7 +5,7 @@ use Rattle.ame_cli.specs.declared.bounds.Bounds.{Bounds}
 use Rattle.ame_cli.specs.declared.item.Item.{Item}
 use Rattle.ame_cli.specs.declared.item.Item.TheVariants.{Workers, Turns, Slice}
 use Rattle.ame_cli.specs.declared.verb.Verb.{Verb}
-use Rattle.ame_cli.specs.declared.verb.Verb.TheVariants.{Run, Bench, Sim, Replay, Check}
+use Rattle.ame_cli.specs.declared.verb.Verb.TheVariants.{Run, Bench, Sim, Replay, Check, Resume}
 use Rattle.ame_cli.specs.declared.command.Options.{Options}
 use Rattle.ame_cli.specs.declared.command.Command.{Command}
 use Rattle.ame_cli.specs.declared.command.Command.TheVariants as command
@@ -37,6 +37,7 @@ verb_form Bench = record { word = codes "bench"; numbers = seeds ∷ sizes ∷ [
 verb_form Sim = record { word = codes "sim"; numbers = seeds ∷ []; items = all_items }
 verb_form Replay = record { word = codes "replay"; numbers = []; items = all_items }
 verb_form Check = record { word = codes "check"; numbers = []; items = [] }
+verb_form Resume = record { word = codes "resume"; numbers = []; items = all_items }
 
 -- what a verb makes of its numbers and of the options
 abbrev pub command_with : Verb → List ℕ → Options → Command
@@ -45,10 +46,11 @@ command_with Bench numbers options = command.Bench (slice_index numbers 0) (slic
 command_with Sim numbers options = command.Sim (slice_index numbers 0) options
 command_with Replay numbers options = command.Replay options
 command_with Check numbers options = command.Check
+command_with Resume numbers options = command.Resume options
 
 -- all verbs
 unfoldable pub verbs : List Verb
-verbs = Run ∷ Bench ∷ Sim ∷ Replay ∷ Check ∷ []
+verbs = Run ∷ Bench ∷ Sim ∷ Replay ∷ Check ∷ Resume ∷ []
 
 -- the word of a verb
 abbrev pub verb_word : Verb → Word

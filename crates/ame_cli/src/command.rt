@@ -40,6 +40,8 @@ pub enum Command {
     Replay(Options),
     /// Judges the journal on the standard input by the program behind it.
     Check,
+    /// Goes on from the journal on the standard input with the program behind it.
+    Resume(Options),
 }
 
 /// Why words gave no command.

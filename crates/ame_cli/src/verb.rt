@@ -14,6 +14,7 @@ pub enum Verb {
     Sim,
     Replay,
     Check,
+    Resume,
 }
 
 /// A verb's word, the bounds of its number words in their order, and the options that it may be given.
@@ -43,7 +44,14 @@ impl Verb {
     pub fn all() -> &'static [Verb]
         ensures { result.now ≡ verbs }
     {
-        &[Verb::Run, Verb::Bench, Verb::Sim, Verb::Replay, Verb::Check]
+        &[
+            Verb::Run,
+            Verb::Bench,
+            Verb::Sim,
+            Verb::Replay,
+            Verb::Check,
+            Verb::Resume,
+        ]
     }
 
     /// What may stand behind a verb.
@@ -78,6 +86,11 @@ impl Verb {
                 numbers: &[],
                 items: &[],
             },
+            Verb::Resume => Form {
+                word: "resume",
+                numbers: &[],
+                items: ALL_ITEMS,
+            },
         }
     }
 
@@ -92,6 +105,7 @@ impl Verb {
             Verb::Sim => Command::Sim(numbers[0], options),
             Verb::Replay => Command::Replay(options),
             Verb::Check => Command::Check,
+            Verb::Resume => Command::Resume(options),
         }
     }
 

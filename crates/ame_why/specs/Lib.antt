@@ -8,5 +8,3 @@ pub mod Nexts
 pub mod Table
 pub mod Forms
 pub mod Lines
-pub mod Replay
-pub mod Walk

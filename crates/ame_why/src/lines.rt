@@ -3,10 +3,10 @@
 ghost use Rattle.std.specs.Prelude.{◌≡◌, ◌++◌, IfOk, IfSome, drop, map, [], ◌∷◌};
 ghost use Rattle.ame_term.specs.View.{tree_of};
 ghost use Rattle.ame_why.specs.Lines as spec;
-ghost use Rattle.ame_why.specs.Replay.{replayed_of};
+ghost use Rattle.ame_strong.specs.Replaying.{replayed_of};
 
-use crate::replay::Replay;
 use ame_journal::Entry;
+use ame_strong::{Replay, StepFail};
 use ame_term::{NoMemory, Term};
 use std::alloc::Global;
 
@@ -22,27 +22,36 @@ pub fn lines_of(
     let mut replay = Replay::start(alloc, program)?;
     let mut lines = Vec::new(alloc);
     for entry in entries {
-        match line_of(alloc, &mut replay, entry)? {
-            Some(line) => lines.push(line)?,
+        match line_of(alloc, replay, entry)? {
+            Some((line, after)) => {
+                lines.push(line)?;
+                replay = after;
+            }
             None => return Ok(None),
         }
     }
     Ok(Some(lines))
 }
 
-/// Makes an entry, and tells what it prints.
-fn line_of(alloc: Global, replay: &mut Replay, entry: &Entry) -> Result<Option<Vec<i64>>, NoMemory>
-    ensures { IfOk result (λ told. IfSome told (λ line. spec.Prints (replayed_of replay.old) entry.now line.items (replayed_of replay.new))) }
+/// What an entry prints, and the replay after it.
+fn line_of(
+    alloc: Global,
+    replay: Replay,
+    entry: &Entry,
+) -> Result<Option<(Vec<i64>, Replay)>, NoMemory>
+    ensures { IfOk result (λ told. IfSome told (λ p. spec.Prints (replayed_of replay) entry.now p.0.items (replayed_of p.1))) }
 {
     if entry.kind.is_note() {
-        return Ok(Some(Vec::new(alloc)));
+        return Ok(Some((Vec::new(alloc), replay)));
     }
-    let before = replay.state.output().len();
-    if !replay.make(alloc, entry)? {
-        return Ok(None);
-    }
-    let line = Vec::from_slice(alloc, behind(replay.state.output(), before))?;
-    Ok(Some(line))
+    let before = replay.state().output().len();
+    let after = match replay.make(alloc, entry) {
+        Ok(after) => after,
+        Err(StepFail::Illegal) => return Ok(None),
+        Err(StepFail::NoMemory) => return Err(NoMemory),
+    };
+    let line = Vec::from_slice(alloc, behind(after.state().output(), before))?;
+    Ok(Some((line, after)))
 }
 
 /// The integers behind so many.

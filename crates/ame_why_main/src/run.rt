@@ -110,7 +110,7 @@ fn page_of<K>(
 fn schedule_text(alloc: Global, own: &Own, text: &[u8]) -> Result<Vec<u8>, NoMemory> {
     match own {
         Own::Picked(mades) => mades.schedule_text(alloc, text),
-        Own::Nothing | Own::Unmade(_) => Ok(Vec::from_slice(alloc, NO_SCHEDULE)?),
+        Own::Nothing | Own::Unmade(_) | Own::Resumed(_) => Ok(Vec::from_slice(alloc, NO_SCHEDULE)?),
     }
 }
 

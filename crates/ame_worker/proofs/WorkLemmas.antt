@@ -1,12 +1,12 @@
 -- What a worker has at hand is what it had, but for steps that its machine made alone.
-use Rattle.std.proofs.Common.{◌≡◌, ℕ, ◌+◌, ◌-◌, false, sym, ap, ◌∙◌, arith}
+use Rattle.std.proofs.Common.{◌≡◌, ℕ, ◌+◌, ◌-◌, false, sym, ap, ◌∙◌, subst, arith}
 use Rattle.std.specs.Prelude.{Result, Ok, Err, is_err, OnOk, option_and_then}
 use Rattle.ame_term.specs.Frame.{Side, side_told}
 use Rattle.ame_machine.specs.Run.Local.{LocalState, goes}
 use Rattle.ame_machine.proofs.Run.RunLemmas.{goes-added}
 use Rattle.ame_machine.specs.MachineView.{MachineView, running_side, place_shown}
-use Rattle.ame_machine.specs.Move.{Advances, AdvancesWithin}
-use Rattle.ame_machine.proofs.MoveLemmas.{advances-none}
+use Rattle.ame_machine.specs.Move.{Advances, GoesLow, AdvancesWithin}
+use Rattle.ame_machine.proofs.MoveLemmas.{low-none, low-added, advances-none}
 use Rattle.ame_machine.proofs.RunnableLemmas.{runs-advanced}
 use Rattle.ame_turn.specs.declared.work.Work.{Work}
 use Rattle.ame_turn.specs.declared.work.Work.TheVariants as work
@@ -30,13 +30,24 @@ both-advance j k s t u a b = record {
   since = let x = a.since in let y = b.since in omega (arith, x, y);
 }
 
+both-low : (j k : ℕ) (s t : MachineView) → Advances j s t → GoesLow (running_side s) (place_shown s) j → GoesLow (running_side t) (place_shown t) k
+    → GoesLow (running_side s) (place_shown s) (j + k)
+both-low j k s t a first second =
+    low-added (running_side s) (place_shown s) (place_shown t) j k a.run first
+    (subst (λ (side : Side). GoesLow side (place_shown t) k) (ap side_told a.inside) second)
+
 module _ {C M : Type 0} (is_machine : C → M → Type 0) (stage : C → M → MachineView) (code : C) (slice : ℕ) where
   -- nothing was done
   pub prepared-none : (hand : Work M) → CanBePrepared is_machine stage code slice hand → IsPrepared is_machine stage code slice hand hand
   prepared-none work.Idle can = tt
   prepared-none (work.Running m) can = record {
     machine = can.machine;
-    ran = record { made = 0; within = omega arith; advances = advances-none (stage code m) };
+    ran = record {
+      made = 0;
+      within = omega arith;
+      advances = advances-none (stage code m);
+      low = low-none (running_side (stage code m)) (place_shown (stage code m));
+    };
   }
   prepared-none work.Undoing can = tt
 
@@ -57,6 +68,7 @@ module _ {C M : Type 0} (is_machine : C → M → Type 0) (stage : C → M → M
           made = a.made + b.made;
           within = let x = a.within in let y = b.within in let since = a.advances.since in omega (arith, x, y, since);
           advances = both-advance a.made b.made (stage code m) (stage code n) (stage code o) a.advances b.advances;
+          low = both-low a.made b.made (stage code m) (stage code n) a.advances a.low b.low;
         };
       }
   prepared-twice (work.Running m) (work.Running n) work.Undoing p q = absurd q

@@ -1,14 +1,15 @@
 //! `check`: a source that is a certificate, and what is told of it without a run.
 
-ghost use Rattle.std.specs.Prelude.{◌≡◌, ◌==◌, ◌≤◌, ◌⊎◌, IfOk, IfErr, count_by, length, vec_len};
+ghost use Rattle.std.specs.Prelude.{◌≡◌, ◌==◌, ◌≤◌, ◌⊎◌, All, IfOk, IfErr, count_by, length, vec_len};
 ghost use Rattle.std.specs.Arc.{arc_value};
 ghost use Rattle.ame_code.specs.Code.{program_of};
+ghost use Rattle.ame_journal.specs.JournalView.{IsFit};
 ghost use Rattle.ame_app.specs.Verbs.Check.{TakesCertificate, HasNoCertificate, entries_before, TellsOfJournal};
 ghost use Rattle.ame_app.specs.declared.status.Status.{Status as Told};
 
 use crate::parts::{Front, Own};
 use crate::status::Status;
-use crate::verbs::{Settled, Taken};
+use crate::verbs::{Settled, Taken, told_alone};
 use ame_check::{Judged, judge, split_input};
 use ame_code::Code;
 use ame_eval::Fragment;
@@ -50,8 +51,9 @@ fn feeds(bytes: &[u8]) -> usize
 }
 
 /// The entries of the journal before a text.
-fn entries_before(front: &Front) -> &[Entry]
-    ensures { result.now ≡ entries_before front.now }
+pub(crate) fn entries_before(front: &Front) -> &[Entry]
+    ensures entries { result.now ≡ entries_before front.now }
+    ensures fit { All IsFit result.now }
 {
     match front {
         Front::Journal(journal) => journal.entries(),
@@ -70,16 +72,12 @@ pub(crate) fn settle(alloc: Global, code: &Arc<Code>, front: &Front) -> Result<S
             ahead: lines_of(alloc, &output)?,
             own: Own::Nothing,
         }),
-        Judged::Invalid(place, why) => Ok(Settled {
-            told: Status::Invalid(place),
-            ahead: Vec::new(alloc),
-            own: Own::Unmade(why),
-        }),
-        Judged::Long(place) => Ok(Settled {
-            told: Status::LongJournal(place),
-            ahead: Vec::new(alloc),
-            own: Own::Nothing,
-        }),
+        Judged::Invalid(place, why) => Ok(told_alone(
+            alloc,
+            Status::Invalid(place),
+            Own::Unmade(why),
+        )),
+        Judged::Long(place) => Ok(told_alone(alloc, Status::LongJournal(place), Own::Nothing)),
         Judged::Tall(_) => Err(NoMemory),
     }
 }

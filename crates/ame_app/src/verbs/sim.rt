@@ -90,7 +90,7 @@ fn mades_of(own: &Own) -> &[Done]
 {
     match own {
         Own::Picked(mades) => mades.as_slice(),
-        Own::Nothing | Own::Unmade(_) => &[],
+        Own::Nothing | Own::Unmade(_) | Own::Resumed(_) => &[],
     }
 }
 

@@ -2,7 +2,7 @@ use Rattle.std.proofs.Common.{◌+◌, ◌++◌, ℤ, List, [], ◌∷◌, map, 
 use Rattle.std.proofs.lemmas.List.{map-append}
 use Rattle.ame_term.specs.View.{tree_of}
 use Rattle.ame_why.specs.Lines as spec
-use Rattle.ame_why.specs.Replay.{replayed_of}
+use Rattle.ame_strong.specs.Replaying.{replayed_of}
 use Rattle.ame_why.proofs.LineLemmas.{lines_go_on, lines_are_all}
 use Rattle.ame_why.proofs.lines.lines_of.Goals as goal
 
@@ -12,7 +12,7 @@ line_of v = v.items
 pub loop-entry-preserved : goal.loop-entry-preserved
 loop-entry-preserved c =
     let r = replayed_of c.loop-entry.replay in
-    let t = replayed_of c.line_of.new.replay in
+    let t = replayed_of c.in-Some.after in
     let whole = spec.lines_of (tree_of c.args.program) c.args.entries.now in
     let told = map line_of c.loop-entry.lines.items in
     let line = c.in-Some.line.items in

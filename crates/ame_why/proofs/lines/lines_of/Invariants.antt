@@ -1,7 +1,7 @@
 use Rattle.std.proofs.Common.{◌≡◌, ◌++◌, map, drop}
 use Rattle.ame_term.specs.View.{tree_of}
 use Rattle.ame_why.specs.Lines.{lines_from, lines_of}
-use Rattle.ame_why.specs.Replay.{replayed_of}
+use Rattle.ame_strong.specs.Replaying.{replayed_of}
 use Rattle.ame_why.proofs.lines.lines_of.Given as goal
 
 abbrev pub invariant-loop-entry : goal.invariant-loop-entry

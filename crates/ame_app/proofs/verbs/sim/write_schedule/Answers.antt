@@ -1,6 +1,5 @@
-use Rattle.std.proofs.Common.{List, ◌++◌, ◌∷◌, [], ℕ, subst}
+use Rattle.std.proofs.Common.{◌++◌}
 use Rattle.std.specs.Prelude.{codes}
-use Rattle.std.proofs.KnownBytes.{Appends-trans}
 use Rattle.ame_io.proofs.WritesLemmas.{AppendsFront-after, AppendsFront-longer}
 use Rattle.ame_app.proofs.PickLemmas.{on-err, on-err-then, signs_made}
 use Rattle.ame_app.proofs.verbs.sim.write_schedule.Goals as goal

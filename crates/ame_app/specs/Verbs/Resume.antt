@@ -1,0 +1,53 @@
+-- `resume`: a source that is a certificate, as for `check`. A run goes on from the journal without its notes; where none can, what is told of the
+-- journal is told without a run.
+use Rattle.std.specs.Prelude.{◌≡◌, ℕ, ℤ, List, [], length, take, false}
+use Rattle.ame_term.specs.Tree.{Tree}
+use Rattle.ame_value.specs.declared.val.Val.{Val}
+use Rattle.ame_journal.specs.declared.entry.Entry.{Entry}
+use Rattle.ame_journal.specs.Totals.{is_note, without_notes}
+use Rattle.ame_check.specs.Judge.{LeadsTo, IsTallAt}
+use Rattle.ame_engine.specs.Ending.{End}
+use Rattle.ame_engine.specs.Resuming.{IsFar}
+use Rattle.ame_app.specs.declared.parts.Own.{Own}
+use Rattle.ame_app.specs.declared.status.Status.{Status}
+use Rattle.ame_app.specs.Verbs.Check.{IsUnmade, IsTooMuch}
+
+-- What is told
+
+-- the journal leads to a state, and of its entries that are no notes the n-th is the first with a location that is too far for an engine
+pub record IsTooFar (program : Tree) (entries : List Entry) (ahead : List ℕ) (own : Own) (n : ℕ) : Type 0 where
+  pub output : List ℤ
+  pub leads : LeadsTo program entries output
+  pub far : IsFar (without_notes entries) n
+  pub ahead_is : ahead ≡ []
+  pub own_is : own ≡ Own.Nothing
+
+-- an entry that is no note, the n-th of those, passes a form that would become a value that is too high
+pub record IsTooTall (program : Tree) (entries : List Entry) (ahead : List ℕ) (own : Own) (n : ℕ) : Type 0 where
+  pub place : ℕ
+  pub tall : IsTallAt program entries place
+  pub act : is_note tall.there.passes.entry.kind ≡ false
+  pub count : n ≡ length (without_notes (take place entries))
+  pub ahead_is : ahead ≡ []
+  pub own_is : own ≡ Own.Nothing
+
+-- what is told of a journal of a program from which no run can go on, a row a status
+abbrev pub TellsOfBase : Tree → List Entry → List ℕ → Own → Status → Type 0
+TellsOfBase program entries ahead own (Status.Invalid n) = IsUnmade program entries ahead own n
+TellsOfBase program entries ahead own (Status.LongJournal n) = IsTooMuch entries ahead own n
+TellsOfBase program entries ahead own (Status.FarJournal n) = IsTooFar program entries ahead own n
+TellsOfBase program entries ahead own (Status.TallJournal n) = IsTooTall program entries ahead own n
+TellsOfBase program entries ahead own _ = ⊥
+
+-- What is run
+
+-- the run goes on from the entries that are no notes, of a journal that leads to a state; an engine has cells for all their locations
+pub record BeginsFromActs (program : Tree) (entries base : List Entry) : Type 0 where
+  pub output : List ℤ
+  pub leads : LeadsTo program entries output
+  pub acts : base ≡ without_notes entries
+  pub near : (n : ℕ) → IsFar base n → ⊥
+
+-- and the report has how many they are
+abbrev pub TellsResumed : Own → End Val → Type 0
+TellsResumed own end = own ≡ Own.Resumed (length end.base)

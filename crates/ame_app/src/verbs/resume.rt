@@ -1,0 +1,179 @@
+//! `resume`: a run that goes on from a certificate.
+
+ghost use Rattle.std.specs.Prelude.{◌≡◌, All, IfErr, IfOk, List, length, vec_len, ℤ};
+ghost use Rattle.std.specs.Arc.{arc_value};
+ghost use Rattle.ame_term.specs.Tree.{Tree};
+ghost use Rattle.ame_journal.specs.JournalView.{IsFit};
+ghost use Rattle.ame_journal.specs.Totals.{without_notes};
+ghost use Rattle.ame_check.specs.Judge.{LeadsTo, IsTallAt};
+ghost use Rattle.ame_cli.specs.Ranges.{AreInRange};
+ghost use Rattle.ame_cli.specs.declared.command.Command.{Command as Asked};
+ghost use Rattle.ame_code.specs.Code.{program_of};
+ghost use Rattle.ame_code.specs.FlatCode.{FlatCode};
+ghost use Rattle.ame_engine.specs.Resuming.{HasResumed};
+ghost use Rattle.ame_engine.specs.Whole.{AreLimits};
+ghost use Rattle.ame_eval.specs.Values.{value_meant};
+ghost use Rattle.ame_shell.specs.Ends.{ends_of};
+ghost use Rattle.ame_shell.specs.Over.{IsOverSince};
+ghost use Rattle.ame_app.specs.Jobs.{fragments, IsOutlook};
+ghost use Rattle.ame_app.specs.Verbs.Check.{entries_before as entries_in};
+ghost use Rattle.ame_app.specs.Verbs.Resume.{TellsResumed};
+
+use crate::parts::{Front, Own};
+use crate::status::Status;
+use crate::verbs::check::entries_before;
+use crate::verbs::{Made, Outlook, told_alone};
+use ame_check::{Judged, judge};
+use ame_cli::Options;
+use ame_code::Code;
+use ame_device::Device;
+use ame_engine::{Engine, ResumeFail};
+use ame_eval::Fragment;
+use ame_io::Sink;
+use ame_journal::{Entry, Journal};
+use ame_protocol::Limits;
+use ame_team::resume_by_workers;
+use ame_term::{Copied, NoMemory};
+use ame_worker::Gate;
+use std::alloc::Global;
+use std::sync::{Arc, Wait};
+use std::thread::Threads;
+
+/// The entries that are no notes.
+fn acts_of(alloc: Global, entries: &[Entry]) -> Result<Journal, NoMemory>
+    requires fit { All IsFit entries.now }
+    ensures { IfOk result (λ acts. acts.entries ≡ without_notes entries.now) }
+{
+    let mut acts = Journal::new(alloc);
+    for entry in entries {
+        if !entry.kind.is_note() {
+            let act = entry.copy(alloc)?;
+            acts.room()?;
+            acts.push(act);
+        }
+    }
+    Ok(acts)
+}
+
+/// How many entries are no notes.
+fn acts_among(entries: &[Entry]) -> usize
+    ensures { result ≡ length (without_notes entries.now) }
+{
+    entries.iter().filter(|entry| !entry.kind.is_note()).count()
+}
+
+/// What is told of a journal whose entry at a place, from 1, passes a form that would become too high a value: its place without the
+/// notes, unless it is one itself. That is want of memory, since no run goes on from it.
+fn tall(alloc: Global, front: &Front, options: Options, place: u64) -> Result<Outlook, NoMemory>
+    requires tall { (program : Tree) × IsTallAt program (entries_in front.now) place }
+    ensures { IfOk result (λ outlook. (code : FlatCode) → IsTallAt (program_of code) (entries_in front.now) place
+        → IsOutlook (Asked.Resume options) front.now code outlook) }
+{
+    let with = &entries_before(front)[..place as usize];
+    match with.last() {
+        Some(entry) if !entry.kind.is_note() => Ok(Outlook::Told(told_alone(
+            alloc,
+            Status::TallJournal(acts_among(with) as u64),
+            Own::Nothing,
+        ))),
+        _ => Err(NoMemory),
+    }
+}
+
+/// An engine that goes on from a journal that leads to a state, without its notes; or which of its entries is too far for one.
+fn go_on(
+    alloc: Global,
+    code: &Arc<Code>,
+    options: Options,
+    front: &Front,
+) -> Result<Outlook, NoMemory>
+    requires ranges { AreInRange options }
+    requires leads { (output : List ℤ) × LeadsTo (program_of (arc_value code.now)) (entries_in front.now) output }
+    ensures { IfOk result (IsOutlook (Asked.Resume options) front.now (arc_value code.now)) }
+{
+    let base = acts_of(alloc, entries_before(front))?;
+    let Ok(code) = Arc::try_clone(code) else {
+        return Err(NoMemory);
+    };
+    let limits = Limits {
+        turns: options.turns,
+        slice: options.slice,
+        seats: options.workers,
+    };
+    match Engine::<Fragment>::resume(alloc, code, limits, base) {
+        Ok(engine) => Ok(Outlook::GoesOn(engine)),
+        Err(ResumeFail::Far(place)) => Ok(Outlook::Told(told_alone(
+            alloc,
+            Status::FarJournal(place),
+            Own::Nothing,
+        ))),
+        Err(ResumeFail::Tall(_) | ResumeFail::NoMemory) => Err(NoMemory),
+    }
+}
+
+/// An engine that goes on from the journal before a text, or what is told of a journal from which none can.
+pub(crate) fn settle(
+    alloc: Global,
+    code: &Arc<Code>,
+    options: Options,
+    front: &Front,
+) -> Result<Outlook, NoMemory>
+    requires ranges { AreInRange options }
+    ensures { IfOk result (IsOutlook (Asked.Resume options) front.now (arc_value code.now)) }
+{
+    match judge::<Fragment>(alloc, code, entries_before(front))? {
+        Judged::Valid(_) => go_on(alloc, code, options, front),
+        Judged::Invalid(place, why) => Ok(Outlook::Told(told_alone(
+            alloc,
+            Status::Invalid(place),
+            Own::Unmade(why),
+        ))),
+        Judged::Long(place) => Ok(Outlook::Told(told_alone(
+            alloc,
+            Status::LongJournal(place),
+            Own::Nothing,
+        ))),
+        Judged::Tall(place) => tall(alloc, front, options, place),
+    }
+}
+
+/// Runs on from an engine by as many workers as its limits have seats.
+pub(crate) fn run<R, K, D, G>(
+    rt: &R,
+    alloc: Global,
+    code: &Arc<Code>,
+    engine: Engine<Fragment>,
+    sink: K,
+    devices: Vec<D>,
+    gate: &G,
+) -> Result<Made<K, D>, (K, Vec<D>)>
+where
+    R: Threads + Wait + Sync,
+    K: Sink + Send + Drop,
+    D: Device + Send,
+    G: Gate + Sync,
+    requires resumed { HasResumed fragments engine.limits engine.base engine }
+    requires limits { AreLimits engine.limits }
+    requires code { arc_value code.now ≡ engine.code }
+    requires devices { engine.code.accepted.devices ≡ vec_len devices }
+    ensures over { IfOk result (λ made. IsOverSince engine.base (program_of engine.code) engine.limits (value_meant engine.code)
+        (ends_of K.written K.faults D.device_heard D.device_faults sink devices.items) made.left.ended
+        (ends_of K.written K.faults D.device_heard D.device_faults made.left.sink made.left.devices.items)) }
+    ensures own { IfOk result (λ made. TellsResumed made.own made.left.ended) }
+    ensures sink { IfErr result (λ back. back.0 ≡ sink) }
+    ensures devices { IfErr result (λ back. back.1 ≡ devices) }
+{
+    let Ok(code) = Arc::try_clone(code) else {
+        return Err((sink, devices));
+    };
+    match resume_by_workers::<Fragment, K, D, G, R>(rt, alloc, code, engine, sink, devices, gate) {
+        Ok(left) => {
+            let resumed = left.ended.base().len() as u64;
+            Ok(Made {
+                left,
+                own: Own::Resumed(resumed),
+            })
+        }
+        Err(back) => Err(back),
+    }
+}

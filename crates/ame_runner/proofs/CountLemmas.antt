@@ -86,10 +86,10 @@ runs-counted r m q label x h low more is = subst IsRunning (sym is) (record {
   cut = inl (subst AreFailing (sym h.tries) (all-failed r x more));
 })
 
-itself : (n : ℕ) → (n == n) ≡ true
+pub itself : (n : ℕ) → (n == n) ≡ true
 itself n = grind arith
 
-or-there : (a b : Bool) → b ≡ true → (a || b) ≡ true
+pub or-there : (a b : Bool) → b ≡ true → (a || b) ≡ true
 or-there true b e = refl
 or-there false b e = e
 

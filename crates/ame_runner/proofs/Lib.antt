@@ -7,3 +7,6 @@ pub mod RunLemmas
 pub mod CountLemmas
 pub mod DeviceLemmas
 pub mod HearLemmas
+pub mod ChooseLemmas
+pub mod TotalLemmas
+pub mod EndLemmas

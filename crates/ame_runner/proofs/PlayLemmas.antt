@@ -20,7 +20,7 @@ pub above-more : (xs : List Label) (y : Label) → location_above (xs ++ y ∷ [
 above-more [] y = omega arith
 above-more (x ∷ xs) y = let more = above-more xs y in omega arith
 
-none-where : {X : Type 0} (o : Option X) → is_none o ≡ true → o ≡ None
+pub none-where : {X : Type 0} (o : Option X) → is_none o ≡ true → o ≡ None
 none-where None e = refl
 none-where (Some x) e = absurd (cc)
 

@@ -7,3 +7,4 @@ pub mod Notes
 pub mod Run
 pub mod Freeing
 pub mod Stop
+pub mod Ended

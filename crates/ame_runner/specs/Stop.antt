@@ -1,5 +1,5 @@
 -- Why a run stops.
-use Rattle.std.specs.Prelude.{◌≡◌, ◌≢◌, ℕ, ◌==◌, ℤ, true, List, [], Option, Some, None, is_some, ⊤}
+use Rattle.std.specs.Prelude.{◌≡◌, ◌≢◌, ℕ, ◌<◌, ◌==◌, ℤ, true, List, [], Option, Some, None, is_some, Result, Ok, Err, ⊤}
 use Rattle.std.specs.List.{AllByRecursion, list_any}
 use Rattle.ame_term.specs.Maps.{at}
 use Rattle.ame_device.specs.declared.told.Told.{Told}
@@ -11,7 +11,7 @@ use Rattle.ame_shell.specs.Heard.{HaveHeard, NoneFailed, OneFailed}
 use Rattle.ame_weak.specs.Weak.{Weak}
 use Rattle.ame_weak.specs.Straight.{straight}
 use Rattle.ame_weak.specs.declared.tries.Certificate.{Certificate}
-use Rattle.ame_runner.specs.Run.{RunView, IsRunning}
+use Rattle.ame_runner.specs.Run.{RunView, IsRunning, CanBeEnded}
 use Rattle.ame_runner.specs.declared.stop.WeakStop.{WeakStop}
 
 -- Devices
@@ -61,3 +61,31 @@ pub record HasStopped (stop : WeakStop) (r : RunView) : Type 0 where
 abbrev pub StopsIfTold : Option WeakStop → RunView → Type 0
 StopsIfTold None r = ⊤
 StopsIfTold (Some stop) r = HasStopped stop r
+
+-- it isn't the stop by a device
+abbrev pub IsNoFault : WeakStop → Type 0
+IsNoFault (WeakStop.DeviceFault device) = ⊥
+IsNoFault stop = ⊤
+
+-- what is found while nothing is active: a stop with its cause, or that turns are left
+abbrev pub FoundAtRest : RunView → Option WeakStop → Type 0
+FoundAtRest r None = (r.play.weak.state.active ≡ None) × (r.turns < r.limit)
+FoundAtRest r (Some stop) = IsRunning r → HasStopped stop r × IsNoFault stop
+
+-- a certificate was added, if the member is there
+pub record HasCertified (r : RunView) (number : ℕ) (old new : List Certificate) : Type 0 where
+  pub fail :
+      IsRunning r → AllByRecursion (λ c. fails_after r.play.weak.state c.number c.steps c.fresh ≡ true) old
+      → AllByRecursion (λ c. fails_after r.play.weak.state c.number c.steps c.fresh ≡ true) new
+  pub there : is_some (at (pool r.play.weak.state) number) ≡ true → list_any (λ c. c.number == number) new ≡ true
+  pub others : (i : ℕ) → list_any (λ c. c.number == i) old ≡ true → list_any (λ c. c.number == i) new ≡ true
+
+-- a choice, or a stop in its place; memory may be wanted
+abbrev pub GoesOrStops : {E : Type 0} → RunView → RunView → List Told → List Told → Result (Option WeakStop) E → Type 0
+GoesOrStops old new before after (Ok stop) = IsRunning old → IsRunning new × HearsOn stop old new before after × StopsIfTold stop new
+GoesOrStops old new before after (Err e) = IsRunning old → CanBeEnded new
+
+-- choices until a stop
+abbrev pub PlaysOn : {E : Type 0} → RunView → RunView → List Told → List Told → Result WeakStop E → Type 0
+PlaysOn old new before after (Ok stop) = IsRunning old → IsRunning new × HearsOn (Some stop) old new before after × HasStopped stop new
+PlaysOn old new before after (Err e) = IsRunning old → CanBeEnded new

@@ -51,7 +51,8 @@ fn call_for<D: Device>(
     argument: i64,
 ) -> Result<Freed, NoMemory>
     ensures { IfOk result (λ freed. (w : Weak) (above : ℕ) → next_of w.state (Some number) ≡ Next.Device device argument
-        → HasFreed w number above (all_told D.device_heard D.device_faults devices.old.items) (all_told D.device_heard D.device_faults devices.new.items) freed) }
+        → HasFreed w number above (all_told D.device_heard D.device_faults devices.old.items)
+        (all_told D.device_heard D.device_faults devices.new.items) freed) }
 {
     let place = usize::from(device);
     if place >= devices.len() {

@@ -8,6 +8,7 @@ mod notes;
 mod play;
 mod run;
 mod stop;
+mod stopping;
 mod theorems;
 mod trial;
 
@@ -15,5 +16,5 @@ pub use choices::{candidates, drawn};
 pub use freeing::{Freed, next_free};
 pub use notes::Notes;
 pub use play::Play;
-pub use theorems::tried_fragments_hold;
+pub use theorems::{tried_fragments_hold, turns_are_told};
 pub use trial::{Outcome, TriedOut, note_of, try_member};

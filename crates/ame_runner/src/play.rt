@@ -1,6 +1,6 @@
 //! A weak run under way.
 
-ghost use Rattle.std.specs.Prelude.{max, ◌≡◌, ◌+◌, ◌<◌, ◌^◌, [], ◌∷◌, ◌++◌, length, vec_len, vec_capacity, IfOk, OnOk, OnErr, Err, None};
+ghost use Rattle.std.specs.Prelude.{take, max, ◌≡◌, ◌+◌, ◌<◌, ◌^◌, [], ◌∷◌, ◌++◌, length, vec_len, vec_capacity, IfOk, OnOk, OnErr, Err, None};
 ghost use Rattle.ame_term.specs.View.{tree_of};
 ghost use Rattle.ame_weak.specs.View.{weak_of};
 ghost use Rattle.ame_runner.specs.Labels.{label_location, behind_location};
@@ -62,6 +62,21 @@ impl<'a> Play<'a> {
         ensures { result.0 ≡ (play_of self.now).above }
     {
         Loc(self.above)
+    }
+
+    /// The labels up to the last moment with nothing active, over their memory.
+    pub fn into_settled(self) -> Vec<Label>
+        ensures { result.items ≡ take (play_of self.entry).settled (play_of self.entry).labels }
+    {
+        let Play {
+            accepted: _,
+            state: _,
+            mut labels,
+            above: _,
+            settled,
+        } = self;
+        labels.truncate(settled);
+        labels
     }
 
     /// Makes one label. Want of memory is answered also where numbers or locations have run out.

@@ -1,0 +1,214 @@
+-- Choices, and the stops that are found in their place.
+use Rattle.std.proofs.Common.{◌≡◌, ◌≢◌, ℕ, suc, ◌+◌, ◌<◌, ◌≤◌, ◌==◌, ◌++◌, Bool, true, false, List, [], ◌∷◌, length, Option, Some, None, is_some, option_map, not, if◌then◌else◌, refl, sym, ap, ◌∙◌, subst, arith, inl, inr, ℤ}
+use Rattle.std.specs.Prelude.{⊤, ◌||◌, ◌⊎◌, nat_lt, Vec}
+use Rattle.std.specs.declared.alloc.Global.{Global}
+use Rattle.std.proofs.lemmas.Bool.Decides.{nat_tests}
+use Rattle.std.proofs.lemmas.List.Folds.{list_any-append}
+use Rattle.std.specs.List.{AllByRecursion, list_any}
+use Rattle.ame_term.specs.Tree.{Typ, Tree}
+use Rattle.ame_term.specs.Maps.{at}
+use Rattle.ame_term.specs.SourceTerm.{IsSourceTerm}
+use Rattle.ame_term.specs.Typing.{Accepts}
+use Rattle.ame_term.specs.declared.semantics.Label.{Label}
+use Rattle.ame_device.specs.declared.told.Told.{Told}
+use Rattle.ame_laws.specs.Orderly.{IsOrderly}
+use Rattle.ame_laws.proofs.MapLemmas.{numbers-at}
+use Rattle.ame_journal.specs.Replay.{fragment, fails_after}
+use Rattle.ame_journal.specs.Replayed.{begun_at}
+use Rattle.ame_strong.specs.Pool.{pool}
+use Rattle.ame_strong.specs.Next.{next_of}
+use Rattle.ame_strong.specs.declared.next_label.Next.{Next}
+use Rattle.ame_strong.specs.declared.next_label.Next.TheVariants as next
+use Rattle.ame_strong.proofs.PoolLemmas.{at-pool_idle}
+use Rattle.ame_weak.specs.Weak.{Weak, weak_start, weak_run}
+use Rattle.ame_weak.specs.Straight.{outset}
+use Rattle.ame_weak.specs.Tries.{HoldsIn}
+use Rattle.ame_weak.specs.declared.tries.Try.{Try}
+use Rattle.ame_weak.specs.declared.tries.Certificate.{Certificate}
+use Rattle.ame_weak.proofs.StraightLemmas.{past_all, follow-labels, ends-strong, begun-followed}
+use Rattle.ame_runner.specs.Play.{PlayView, HasMade}
+use Rattle.ame_runner.specs.Freeing.{FailsFor, HasFreed}
+use Rattle.ame_runner.specs.Run.{RunView, IsRunning}
+use Rattle.ame_runner.specs.Stop.{HearsOn, StandsAtCall, IsBlockedBy, HasStopped, IsNoFault, FoundAtRest, HasCertified}
+use Rattle.ame_runner.specs.declared.freeing.Freed.{Freed}
+use Rattle.ame_runner.specs.declared.stop.WeakStop.{WeakStop}
+use Rattle.ame_runner.proofs.NoteLemmas.{all-more}
+use Rattle.ame_runner.proofs.CountLemmas.{itself, or-there}
+use Rattle.ame_runner.proofs.DeviceLemmas.{none-failed, one-failed, heard-fault}
+use Rattle.ame_runner.proofs.HearLemmas.{hears-free, hears-then}
+
+-- Choices
+
+-- a label, or none, by which devices hear nothing
+pub goes-quiet : (r q : RunView) (told : List Told) → (IsRunning r → IsRunning q) → HearsOn None r q told told → IsRunning r → IsRunning q × HearsOn None r q told told × ⊤
+goes-quiet r q told runs hears running = (runs running, hears, tt)
+
+-- the device that a member calls fails, and the active fragment runs to its end
+pub goes-fault : (r q : RunView) (i device : ℕ) (before after : List Told) → FailsFor r.play.weak i device before after → (IsRunning r → IsRunning q)
+    → ((told : List Told) → HearsOn None r q told told) → q.left ≡ [] → q.play.weak.state.active ≡ None → StandsAtCall q.play.weak device
+    → IsRunning r → IsRunning q × HearsOn (Some (WeakStop.DeviceFault device)) r q before after × HasStopped (WeakStop.DeviceFault device) q
+goes-fault r q i device before after f runs hears none idle stands running = (
+  runs running,
+  λ opened go heard. (
+    (hears after opened go (heard-fault r.play.weak i device before after f r.play.program opened r.play.labels heard)).0,
+    one-failed r.play.weak i device before after f,
+  ),
+  record { none = none; idle = idle; cause = stands },
+)
+
+-- a stop by no device
+pub hears-stop : (stop : WeakStop) → IsNoFault stop → (r : RunView) (told : List Told) → HearsOn (Some stop) r r told told
+hears-stop WeakStop.Finished quiet r told = λ opened running heard. (heard, λ k. refl)
+hears-stop (WeakStop.Blocked certificates) quiet r told = λ opened running heard. (heard, λ k. refl)
+hears-stop WeakStop.Spent quiet r told = λ opened running heard. (heard, λ k. refl)
+hears-stop WeakStop.NoMemory quiet r told = λ opened running heard. (heard, λ k. refl)
+hears-stop (WeakStop.DeviceFault device) quiet r told = absurd quiet
+
+pub goes-stop : (r : RunView) (told : List Told) (stop : WeakStop) → FoundAtRest r (Some stop) → IsRunning r → IsRunning r × HearsOn (Some stop) r r told told × HasStopped stop r
+goes-stop r told stop found running = let f = found running in (running, hears-stop stop f.1 r told, f.0)
+
+-- choices, and one more or the stop
+module _ (a b q : RunView) (before mid after : List Told) (runs : IsRunning a → IsRunning b) (hears : HearsOn None a b before mid) where
+  pub plays-until : (stop : WeakStop) → (IsRunning b → IsRunning q × HearsOn (Some stop) b q mid after × HasStopped stop q)
+      → IsRunning a → IsRunning q × HearsOn (Some stop) a q before after × HasStopped stop q
+  plays-until stop next running = let x = next (runs running) in (x.0, hears-then (Some stop) a b q before mid after hears runs x.1, x.2)
+
+  pub plays-runs : (IsRunning b → IsRunning q × HearsOn None b q mid after × ⊤) → IsRunning a → IsRunning q
+  plays-runs next running = (next (runs running)).0
+
+  pub plays-hears : (IsRunning b → IsRunning q × HearsOn None b q mid after × ⊤) → HearsOn None a q before after
+  plays-hears next = λ opened running heard. hears-then None a b q before mid after hears runs (next (runs running)).1 opened running heard
+
+module _ (devices : ℕ) (places : List ℕ) (program : Tree) (refs : List Typ) (accepts : Accepts devices places program refs) (source : IsSourceTerm program) where
+  -- a label under `unprotected`
+  pub goes-label : (r q : RunView) (i : ℕ) (label : Label) (before after : List Told) → r.play.program ≡ program → HasFreed r.play.weak i r.above before after (Freed.Label label)
+      → HasMade label r.play q.play → (IsRunning r → IsRunning q) → IsRunning r → IsRunning q × HearsOn None r q before after × ⊤
+  goes-label r q i label before after is freed made runs running = (
+    runs running,
+    λ opened go heard. (
+      hears-free devices places program refs accepts source r.play q.play label made is go.played opened before heard i after freed.1,
+      none-failed r.play.weak i before after label freed.1,
+    ),
+    tt,
+  )
+
+  -- a member's number is below the next one
+  pub below-next : (p : PlayView) → p.program ≡ program → weak_run (weak_start p.program) p.labels ≡ Some p.weak → p.weak.state.active ≡ None → (i : ℕ)
+      → is_some (at (pool p.weak.state) i) ≡ true → i < p.weak.state.next
+  below-next p is leads idle i there =
+      let here : weak_run (weak_start program) p.labels ≡ Some p.weak = subst (λ (t : Tree). weak_run (weak_start t) p.labels ≡ Some p.weak) is leads in
+      let g = follow-labels devices (begun_at program) outset (weak_start program) p.weak p.labels (begun-followed devices places program refs accepts source) here in
+      let strong = ends-strong devices g.behind (past_all outset p.labels) p.weak g.follows idle in
+      let orderly : IsOrderly p.weak.state = subst (λ (w : Weak). IsOrderly w.state) (sym strong) g.follows.calm.orderly in
+      numbers-at (λ k. k < p.weak.state.next) p.weak.state.members i (ap is_some (sym (at-pool_idle p.weak.state i idle)) ∙ there) orderly.members_below
+
+-- Stops
+
+module _ (r : RunView) (none : r.left ≡ []) (idle : r.play.weak.state.active ≡ None) where
+  pub found-finished : length (pool r.play.weak.state) ≡ 0 → FoundAtRest r (Some WeakStop.Finished)
+  found-finished empty = λ running. (record { none = none; idle = idle; cause = by (pool r.play.weak.state) empty }, tt)
+    where
+      by : (xs : List (ℕ × Tree)) → length xs ≡ 0 → xs ≡ []
+      by [] e = refl
+      by (x ∷ xs) e = absurd (omega (arith, e))
+
+  some-there : (length (pool r.play.weak.state) ≡ 0 → ⊥) → pool r.play.weak.state ≢ []
+  some-there some = λ is. some (ap length is)
+
+  pub found-spent : (length (pool r.play.weak.state) ≡ 0 → ⊥) → r.limit ≤ r.turns → FoundAtRest r (Some WeakStop.Spent)
+  found-spent some all = λ running. (
+    record { none = none; idle = idle; cause = (let within = running.within in omega (arith, within, all), some-there some) },
+    tt,
+  )
+
+-- Certificates
+
+pub fails-there : (w : Weak) (t : Try) → HoldsIn w t → t.failing ≡ true → fails_after w.state t.certificate.number t.certificate.steps t.certificate.fresh ≡ true
+fails-there w t holds failing =
+    subst
+    (λ (b : Bool). (if b then fails_after w.state t.certificate.number t.certificate.steps t.certificate.fresh
+    else is_some (fragment t.certificate.number t.certificate.steps t.certificate.fresh w.state)) ≡ true) failing holds.1
+
+module _ (r : RunView) (number : ℕ) (old new : List Certificate) where
+  abbrev Fails : Certificate → Type 0
+  Fails c = fails_after r.play.weak.state c.number c.steps c.fresh ≡ true
+
+  -- one that is there
+  pub has-certified : (c : Certificate) → new ≡ old ++ c ∷ [] → c.number ≡ number → (IsRunning r → Fails c) → HasCertified r number old new
+  has-certified c more is fails = record {
+    fail = λ running all. subst (AllByRecursion Fails) (sym more) (all-more Fails old c all (fails running));
+    there = λ there.
+        ap (list_any (λ d. d.number == number)) more ∙ list_any-append (λ d. d.number == number) old (c ∷ [])
+        ∙ or-there (list_any (λ d. d.number == number) old) (list_any (λ d. d.number == number) (c ∷ []))
+        (ap (λ b. b || list_any (λ (d : Certificate). d.number == number) []) (ap (λ n. n == number) is ∙ itself number));
+    others = λ i before.
+        ap (list_any (λ d. d.number == i)) more ∙ list_any-append (λ d. d.number == i) old (c ∷ [])
+        ∙ ap (λ b. b || list_any (λ (d : Certificate). d.number == i) (c ∷ [])) before;
+  }
+
+  -- one that isn't
+  pub has-passed : new ≡ old → is_some (at (pool r.play.weak.state) number) ≡ false → HasCertified r number old new
+  has-passed same none = record {
+    fail = λ running all. subst (AllByRecursion Fails) (sym same) all;
+    there = λ there. absurd (let clash : true ≡ false = sym there ∙ none in cc);
+    others = λ i before. ap (list_any (λ d. d.number == i)) same ∙ before;
+  }
+
+-- so it is of all below a number
+pub record AreCertified (r : RunView) (n : ℕ) (certificates : List Certificate) : Type 0 where
+  pub fail : IsRunning r → AllByRecursion (λ c. fails_after r.play.weak.state c.number c.steps c.fresh ≡ true) certificates
+  pub all : (i : ℕ) → i < n → is_some (at (pool r.play.weak.state) i) ≡ true → list_any (λ c. c.number == i) certificates ≡ true
+
+pub certified-more : (r : RunView) (n : ℕ) (old new : List Certificate) → AreCertified r n old → HasCertified r n old new → AreCertified r (n + 1) new
+certified-more r n old new a h = record {
+  fail = λ running. h.fail running (a.fail running);
+  all = λ i below there. by i there (which i n below);
+}
+  where
+    which : (i n : ℕ) → i < n + 1 → (i ≡ n) ⊎ (i < n)
+    which i n below = by-test (nat_lt i n) refl
+      where
+        by-test : (b : Bool) → nat_lt i n ≡ b → (i ≡ n) ⊎ (i < n)
+        by-test true is = inr (grind (arith, nat_tests, is))
+        by-test false is = inl (grind (arith, nat_tests, is, below))
+
+    by : (i : ℕ) → is_some (at (pool r.play.weak.state) i) ≡ true → (i ≡ n) ⊎ (i < n) → list_any (λ c. c.number == i) new ≡ true
+    by i there (inl same) = subst (λ k. list_any (λ (c : Certificate). c.number == k) new ≡ true) (sym same) (h.there (subst (λ k. is_some (at (pool r.play.weak.state) k) ≡ true) same there))
+    by i there (inr less) = h.others i (a.all i less there)
+
+module _ (devices : ℕ) (places : List ℕ) (program : Tree) (refs : List Typ) (accepts : Accepts devices places program refs) (source : IsSourceTerm program) where
+  pub found-blocked : (r : RunView) (certificates : Vec Certificate Global) → r.play.program ≡ program → r.left ≡ [] → r.play.weak.state.active ≡ None
+      → (length (pool r.play.weak.state) ≡ 0 → ⊥) → AreCertified r r.play.weak.state.next certificates.items → FoundAtRest r (Some (WeakStop.Blocked certificates))
+  found-blocked r certificates is none idle some certified = λ running. (
+    record {
+      none = none;
+      idle = idle;
+      cause = record {
+        some = some-there r none idle some;
+        fail = certified.fail running;
+        all = λ i there. certified.all i (below-next devices places program refs accepts source r.play is running.played.leads idle i there) there;
+      };
+    },
+    tt,
+  )
+
+-- a member that is looked for and isn't there
+pub absent-so : {X : Type 0} (f : X → Tree) (o : Option X) (w v : Weak) (n : ℕ) (b : Bool) → option_map f o ≡ at (pool w.state) n → w ≡ v → is_some o ≡ not b → b ≡ true
+    → is_some (at (pool v.state) n) ≡ false
+absent-so f None w v n b found same is there = ap (λ (z : Weak). is_some (at (pool z.state) n)) (sym same) ∙ ap is_some (sym found)
+absent-so f (Some x) w v n b found same is there = absurd (let clash : true ≡ false = is ∙ ap not there in cc)
+
+-- who stands at a call
+pub stands-so : (w v : Weak) (i device called : ℕ) (argument : ℤ) (told : Next) → told ≡ next_of w.state (Some i) → w ≡ v → told ≡ next.Device called argument → called ≡ device
+    → StandsAtCall v device
+stands-so w v i device called argument told is same stands alike = record {
+  number = i;
+  argument = argument;
+  stands = subst (λ (z : Weak). next_of z.state (Some i) ≡ next.Device device argument) same (sym is ∙ stands ∙ ap (λ d. next.Device d argument) alike);
+}
+
+pub certified-none : (r : RunView) (certificates : List Certificate) → certificates ≡ [] → AreCertified r 0 certificates
+certified-none r certificates none = record {
+  fail = λ running. subst (AllByRecursion (λ c. fails_after r.play.weak.state c.number c.steps c.fresh ≡ true)) (sym none) tt;
+  all = λ i below there. absurd (omega (arith, below));
+}

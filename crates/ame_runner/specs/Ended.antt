@@ -1,0 +1,48 @@
+-- What is told of a run that has ended.
+use Rattle.std.specs.Prelude.{◌≡◌, ℕ, ◌*◌, ◌≤◌, ◌⊎◌, List, length, Some, None, ⊤}
+use Rattle.ame_term.specs.Tree.{Tree}
+use Rattle.ame_term.specs.declared.semantics.Label.{Label}
+use Rattle.ame_device.specs.declared.told.Told.{Told}
+use Rattle.ame_journal.specs.Totals.{total_steps}
+use Rattle.ame_shell.specs.Heard.{HaveHeard}
+use Rattle.ame_weak.specs.Weak.{Weak, weak_start, IsWeakRun}
+use Rattle.ame_weak.specs.Straight.{straight, outset}
+use Rattle.ame_weak.specs.Straightened.{EndsActive}
+use Rattle.ame_weak.specs.Tries.{AreTried, AreTriesInOrder, straight_with}
+use Rattle.ame_weak.specs.declared.tries.Try.{Try}
+use Rattle.ame_runner.specs.Labels.{location_above}
+use Rattle.ame_runner.specs.Play.{AreWithinBounds}
+use Rattle.ame_runner.specs.Notes.{AreSpaced}
+use Rattle.ame_runner.specs.Run.{AreFailing, CutAt}
+use Rattle.ame_runner.specs.Stop.{HasCause, FailsBy}
+use Rattle.ame_runner.specs.declared.stop.WeakStop.{WeakStop}
+
+-- The labels are legal and end with nothing active; what makes a step is within the bounds; and each location is below
+-- the limit of turns. The tries hold where they stand, in order; all of them failed, but that the last may have been cut
+-- off at the end; and between two failing ones of one member a fragment left or ended, or a location was new.
+pub record IsWeakRunOf (program : Tree) (limit : ℕ) (labels : List Label) (tries : List Try) : Type 0 where
+  pub ends : EndsActive program labels None
+  pub within : AreWithinBounds (weak_start program) labels
+  pub below : location_above labels ≤ limit
+  pub order : AreTriesInOrder 0 (length labels) tries
+  pub tried : AreTried program labels tries
+  pub last : AreFailing tries ⊎ CutAt (length labels) tries
+  pub spaced : AreSpaced labels tries
+
+-- Of a run that ended otherwise than by want of memory: devices have heard the calls of its journal and no others, and its
+-- turns are at most three times the steps and entries that the journal tells, with the notes of the tries.
+pub record IsWholeRun (program : Tree) (labels : List Label) (tries : List Try) (turns : ℕ) (before after : List Told) : Type 0 where
+  pub heard : HaveHeard program (straight labels) before after
+  pub paid : turns ≤ 3 * total_steps (straight_with 0 tries outset labels)
+
+-- What a stop tells of a run: its cause in the state to which the labels lead, and what devices heard and which failed.
+pub record IsToldBy (program : Tree) (limit : ℕ) (labels : List Label) (tries : List Try) (turns : ℕ) (before after : List Told) (stop : WeakStop) :
+    Type 0 where
+  pub cause : (w : Weak) → IsWeakRun program labels w → HasCause stop w turns limit
+  pub whole : IsWholeRun program labels tries turns before after
+  pub fails : FailsBy (Some stop) before after
+
+-- where memory was wanted, nothing
+abbrev pub TellsStop : Tree → ℕ → List Label → List Try → ℕ → List Told → List Told → WeakStop → Type 0
+TellsStop program limit labels tries turns before after WeakStop.NoMemory = ⊤
+TellsStop program limit labels tries turns before after stop = IsToldBy program limit labels tries turns before after stop

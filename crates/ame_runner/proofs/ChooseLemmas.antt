@@ -29,7 +29,7 @@ use Rattle.ame_weak.proofs.StraightLemmas.{past_all, follow-labels, ends-strong,
 use Rattle.ame_runner.specs.Play.{PlayView, HasMade}
 use Rattle.ame_runner.specs.Freeing.{FailsFor, HasFreed}
 use Rattle.ame_runner.specs.Run.{RunView, IsRunning}
-use Rattle.ame_runner.specs.Stop.{HearsOn, StandsAtCall, IsBlockedBy, HasStopped, IsNoFault, FoundAtRest, HasCertified}
+use Rattle.ame_runner.specs.Stop.{HearsOn, StandsAtCall, IsBlockedBy, HasStoppedWeakly, IsNoFault, FoundAtRest, HasCertified}
 use Rattle.ame_runner.specs.declared.freeing.Freed.{Freed}
 use Rattle.ame_runner.specs.declared.stop.WeakStop.{WeakStop}
 use Rattle.ame_runner.proofs.NoteLemmas.{all-more}
@@ -46,7 +46,7 @@ goes-quiet r q told runs hears running = (runs running, hears, tt)
 -- the device that a member calls fails, and the active fragment runs to its end
 pub goes-fault : (r q : RunView) (i device : ℕ) (before after : List Told) → FailsFor r.play.weak i device before after → (IsRunning r → IsRunning q)
     → ((told : List Told) → HearsOn None r q told told) → q.left ≡ [] → q.play.weak.state.active ≡ None → StandsAtCall q.play.weak device
-    → IsRunning r → IsRunning q × HearsOn (Some (WeakStop.DeviceFault device)) r q before after × HasStopped (WeakStop.DeviceFault device) q
+    → IsRunning r → IsRunning q × HearsOn (Some (WeakStop.DeviceFault device)) r q before after × HasStoppedWeakly (WeakStop.DeviceFault device) q
 goes-fault r q i device before after f runs hears none idle stands running = (
   runs running,
   λ opened go heard. (
@@ -64,13 +64,13 @@ hears-stop WeakStop.Spent quiet r told = λ opened running heard. (heard, λ k. 
 hears-stop WeakStop.NoMemory quiet r told = λ opened running heard. (heard, λ k. refl)
 hears-stop (WeakStop.DeviceFault device) quiet r told = absurd quiet
 
-pub goes-stop : (r : RunView) (told : List Told) (stop : WeakStop) → FoundAtRest r (Some stop) → IsRunning r → IsRunning r × HearsOn (Some stop) r r told told × HasStopped stop r
+pub goes-stop : (r : RunView) (told : List Told) (stop : WeakStop) → FoundAtRest r (Some stop) → IsRunning r → IsRunning r × HearsOn (Some stop) r r told told × HasStoppedWeakly stop r
 goes-stop r told stop found running = let f = found running in (running, hears-stop stop f.1 r told, f.0)
 
 -- choices, and one more or the stop
 module _ (a b q : RunView) (before mid after : List Told) (runs : IsRunning a → IsRunning b) (hears : HearsOn None a b before mid) where
-  pub plays-until : (stop : WeakStop) → (IsRunning b → IsRunning q × HearsOn (Some stop) b q mid after × HasStopped stop q)
-      → IsRunning a → IsRunning q × HearsOn (Some stop) a q before after × HasStopped stop q
+  pub plays-until : (stop : WeakStop) → (IsRunning b → IsRunning q × HearsOn (Some stop) b q mid after × HasStoppedWeakly stop q)
+      → IsRunning a → IsRunning q × HearsOn (Some stop) a q before after × HasStoppedWeakly stop q
   plays-until stop next running = let x = next (runs running) in (x.0, hears-then (Some stop) a b q before mid after hears runs x.1, x.2)
 
   pub plays-runs : (IsRunning b → IsRunning q × HearsOn None b q mid after × ⊤) → IsRunning a → IsRunning q

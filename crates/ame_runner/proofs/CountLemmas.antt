@@ -12,11 +12,11 @@ use Rattle.ame_weak.specs.Weak.{Weak, IsWeakRun}
 use Rattle.ame_weak.specs.Tries.{HoldsIn}
 use Rattle.ame_weak.specs.declared.tries.Try.{Try}
 use Rattle.ame_runner.specs.Labels.{label_location, behind_location, location_above}
-use Rattle.ame_runner.specs.Play.{PlayView, IsPlayed, HasMade}
+use Rattle.ame_runner.specs.Play.{PlayView, IsPlayedWeakly, HasMade}
 use Rattle.ame_runner.specs.Trial.{AreNext, last_turn, is_failure}
 use Rattle.ame_runner.specs.declared.trial.Outcome.{Outcome}
 use Rattle.ame_runner.specs.Notes.{IsAsideSince, AreKept}
-use Rattle.ame_runner.specs.Run.{RunView, turns_of_tries, IsOwn, AreSettled, AreFailing, IsCutNow, IsRunning, HasRun}
+use Rattle.ame_runner.specs.Run.{RunView, turns_of_tries, IsOwn, AreSettled, AreFailedTries, IsCutNow, IsRunning, HasRun}
 use Rattle.ame_runner.proofs.NoteLemmas.{all-more, kept-try}
 use Rattle.ame_runner.proofs.RunLemmas.{kept-on, settled-on}
 
@@ -61,7 +61,7 @@ counted-next a (kind ∷ kinds) b is = counted-where a kind kinds b (λ c rest. 
 -- Turns
 
 -- as long as turns are left, no try was cut off
-all-failed : (r : RunView) → IsRunning r → r.turns < r.limit → AreFailing r.tries
+all-failed : (r : RunView) → IsRunning r → r.turns < r.limit → AreFailedTries r.tries
 all-failed r x more = elim x.cut [ inl failing ↦ failing | inr now ↦ absurd (let all = now.used in omega (arith, all, more)) ]
 
 -- a label that is counted, which makes the least location or none
@@ -83,7 +83,7 @@ runs-counted r m q label x h low more is = subst IsRunning (sym is) (record {
   to_make = let same = h.above in let to_make = x.to_make in let left : location_above m.left ≡ location_above r.left = ap location_above h.left in omega (arith, same, to_make, left);
   few = let above = h.above in let up = h.made.above in let few = x.few in let made = x.made in let turns = h.turns in omega (arith, above, up, few, made, turns, low);
   within = let turns = h.turns in let limit = h.limit in omega (arith, turns, limit, more);
-  cut = inl (subst AreFailing (sym h.tries) (all-failed r x more));
+  cut = inl (subst AreFailedTries (sym h.tries) (all-failed r x more));
 })
 
 pub itself : (n : ℕ) → (n == n) ≡ true
@@ -99,7 +99,7 @@ pub runs-noted : (r q : RunView) (u : Try) → IsRunning r → r.play.weak.state
     → q.play ≡ r.play → q.tries ≡ r.tries ++ u ∷ [] → q.left ≡ r.left → q.above ≡ r.above → q.turns ≡ r.turns + (u.certificate.steps + 1) → q.turns ≤ q.limit → r.turns < r.limit → r.left ≡ []
     → (u.failing ≡ true) ⊎ (q.turns ≡ q.limit) → IsRunning q
 runs-noted r q u x idle last holds free put play tries left above turns within more none how = record {
-  played = subst IsPlayed (sym play) x.played;
+  played = subst IsPlayedWeakly (sym play) x.played;
   kept =
       subst (λ (p : PlayView). AreKept p.program p.labels q.aside q.tries) (sym play)
       (subst (AreKept r.play.program r.play.labels q.aside) (sym tries)
@@ -118,10 +118,10 @@ runs-noted r q u x idle last holds free put play tries left above turns within m
   to_make = let to_make = x.to_make in let same : location_above q.left ≡ location_above r.left = ap location_above left in omega (arith, to_make, same, above);
   few = let few = x.few in omega (arith, few, above, turns);
   within = within;
-  cut = elim how [ inl failing ↦ inl (subst AreFailing (sym tries) (all-more (λ t. t.failing ≡ true) r.tries u failed failing)) | inr used ↦ inr (cut-now used) ];
+  cut = elim how [ inl failing ↦ inl (subst AreFailedTries (sym tries) (all-more (λ t. t.failing ≡ true) r.tries u failed failing)) | inr used ↦ inr (cut-now used) ];
 }
   where
-    failed : AreFailing r.tries
+    failed : AreFailedTries r.tries
     failed = all-failed r x more
 
     cut-now : q.turns ≡ q.limit → IsCutNow q
@@ -165,7 +165,7 @@ runs-begun r q i kinds last x next none own play tries aside left turns within m
     let count = n.few in
     let below = n.below in
     record {
-      played = subst IsPlayed (sym play) x.played;
+      played = subst IsPlayedWeakly (sym play) x.played;
       kept =
           subst (λ (p : PlayView). AreKept p.program p.labels q.aside q.tries) (sym play)
           (subst (AreKept r.play.program r.play.labels q.aside) (sym tries) (record {
@@ -197,7 +197,7 @@ runs-begun r q i kinds last x next none own play tries aside left turns within m
           omega (arith, to_make, all, ends, steps, end, none, from, below);
       few = let few = x.few in omega (arith, few, count, turns);
       within = within;
-      cut = inl (subst AreFailing (sym tries) (all-failed r x more));
+      cut = inl (subst AreFailedTries (sym tries) (all-failed r x more));
     }
   where
     still : (ts : List Try) → AllByRecursion (IsAsideSince r.play.labels r.aside) ts → AllByRecursion (IsAsideSince r.play.labels q.aside) ts

@@ -9,11 +9,11 @@ use Rattle.ame_weak.specs.Straightened.{EndsActive}
 use Rattle.ame_weak.specs.Tries.{HoldsIn, IsTried, AreTried, AreTriesInOrder}
 use Rattle.ame_weak.specs.declared.tries.Try.{Try}
 use Rattle.ame_runner.specs.Labels.{label_location, behind_location, location_above}
-use Rattle.ame_runner.specs.Play.{PlayView, AreWithinBounds, IsPlayed}
+use Rattle.ame_runner.specs.Play.{PlayView, AreWithinBounds, IsPlayedWeakly}
 use Rattle.ame_runner.specs.Notes.{HasChange, AreSetApart, AreSpaced, HoldsAfter}
 use Rattle.ame_device.specs.declared.told.Told.{Told}
-use Rattle.ame_runner.specs.Run.{RunView, AreFailing, CutAt, IsRunning, CanBeEnded}
-use Rattle.ame_runner.specs.Stop.{HasCause, FailsBy, HeardSoFar, HasStopped}
+use Rattle.ame_runner.specs.Run.{RunView, AreFailedTries, CutAt, IsRunning, CanBeEnded}
+use Rattle.ame_runner.specs.Stop.{HasWeakCause, FailsBy, HeardSoFar, HasStoppedWeakly}
 use Rattle.ame_runner.specs.Ended.{IsWeakRunOf, IsToldBy, TellsStop}
 use Rattle.ame_runner.specs.declared.stop.WeakStop.{WeakStop}
 use Rattle.ame_runner.proofs.TotalLemmas.{turns-told}
@@ -75,13 +75,13 @@ ended-run r x =
       tried =
           all-with (HoldsAfter r.play.program r.play.labels) (λ t. t.after ≤ r.play.settled) (IsTried r.play.program (take r.play.settled r.play.labels))
           (tried-taken r.play.program r.play.labels r.play.settled) r.tries x.kept.hold x.settled;
-      last = subst (λ (m : ℕ). AreFailing r.tries ⊎ CutAt m r.tries) (sym count) x.cut;
+      last = subst (λ (m : ℕ). AreFailedTries r.tries ⊎ CutAt m r.tries) (sym count) x.cut;
       spaced = spaced-taken r.play.program r.play.labels r.play.settled r.tries x.settled x.kept.spaced;
     }
 
 -- A run that has stopped
 
-module _ (r : RunView) (x : IsRunning r) (stop : WeakStop) (stopped : HasStopped stop r) where
+module _ (r : RunView) (x : IsRunning r) (stop : WeakStop) (stopped : HasStoppedWeakly stop r) where
   all-settled : take r.play.settled r.play.labels ≡ r.play.labels
   all-settled = let here = x.played.here stopped.idle in take_all r.play.settled r.play.labels (omega (arith, here))
 
@@ -91,7 +91,7 @@ module _ (r : RunView) (x : IsRunning r) (stop : WeakStop) (stopped : HasStopped
     cause = λ w leads.
         let both : ◌≡◌ {A = Option Weak} (Some r.play.weak) (Some w) = sym x.played.leads ∙ leads in
         let same : r.play.weak ≡ w = cc in
-        subst (λ (z : Weak). HasCause stop z r.turns r.limit) same stopped.cause;
+        subst (λ (z : Weak). HasWeakCause stop z r.turns r.limit) same stopped.cause;
     whole = record {
       heard = heard;
       paid =

@@ -11,7 +11,7 @@ use Rattle.ame_weak.specs.Straight.{straight}
 use Rattle.ame_shell.specs.Ends.{told_at}
 use Rattle.ame_shell.specs.Heard.{HaveHeard, NoneFailed, OneFailed}
 use Rattle.ame_io.specs.Counts.{HasRisen}
-use Rattle.ame_runner.specs.Play.{PlayView, IsPlayed, HasMade}
+use Rattle.ame_runner.specs.Play.{PlayView, IsPlayedWeakly, HasMade}
 use Rattle.ame_runner.specs.Freeing.{HasCalledFor}
 use Rattle.ame_runner.specs.Run.{RunView, IsOwn, IsRunning}
 use Rattle.ame_runner.specs.Stop.{FailsBy, HeardSoFar, HearsOn}
@@ -23,7 +23,7 @@ ok-then (Ok x) P Q f p = f p
 ok-then (Err e) P Q f p = p
 
 module _ (devices : ℕ) (places : List ℕ) (program : Tree) (refs : List Typ) (accepts : Accepts devices places program refs) (source : IsSourceTerm program) where
-  module _ (r q : PlayView) (label : Label) (made : HasMade label r q) (is : r.program ≡ program) (played : IsPlayed r) (opened now : List Told)
+  module _ (r q : PlayView) (label : Label) (made : HasMade label r q) (is : r.program ≡ program) (played : IsPlayedWeakly r) (opened now : List Told)
       (heard : HaveHeard r.program (straight r.labels) opened now) where
     leads : weak_run (weak_start program) r.labels ≡ Some r.weak
     leads = subst (λ (t : Tree). weak_run (weak_start t) r.labels ≡ Some r.weak) is played.leads

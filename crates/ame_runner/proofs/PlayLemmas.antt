@@ -7,7 +7,7 @@ use Rattle.ame_term.specs.declared.semantics.Label.{Label}
 use Rattle.ame_weak.specs.Weak.{Weak, weak_start, weak_after, weak_run, IsWeakRun}
 use Rattle.ame_weak.specs.Bounds.{IsWithinBounds}
 use Rattle.ame_runner.specs.Labels.{label_location, behind_location, location_above}
-use Rattle.ame_runner.specs.Play.{PlayView, IsSettledAfter, AreWithinBounds, IsPlayed, HasMade}
+use Rattle.ame_runner.specs.Play.{PlayView, IsSettledAfter, AreWithinBounds, IsPlayedWeakly, HasMade}
 
 pub run-more : (w v u : Weak) (xs : List Label) (y : Label) → weak_run w xs ≡ Some v → weak_after v y ≡ Some u → weak_run w (xs ++ y ∷ []) ≡ Some u
 run-more w v u [] y e f =
@@ -25,7 +25,7 @@ none-where None e = refl
 none-where (Some x) e = absurd (cc)
 
 pub played-begun : (program : Tree) (labels : List Label) (w : Weak) → labels ≡ [] → w ≡ weak_start program
-    → IsPlayed (record { program = program; labels = labels; weak = w; above = 0; settled = 0 })
+    → IsPlayedWeakly (record { program = program; labels = labels; weak = w; above = 0; settled = 0 })
 played-begun program labels w none is = record {
   leads = ap (weak_run (weak_start program)) none ∙ ap Some (sym is);
   within = subst (AreWithinBounds (weak_start program)) (sym none) tt;
@@ -39,7 +39,7 @@ within-more w v [] y all e within = let same : w ≡ v = cc in (subst (λ z. IsW
 within-more w v (x ∷ xs) y all e within = (all.0, λ u first. within-more u v xs y (all.1 u first) (sym (ap (option_and_then (λ z. weak_run z xs)) first) ∙ e) within)
 
 -- one label more
-pub played-made : (p q : PlayView) (label : Label) → IsPlayed p → HasMade label p q → IsPlayed q
+pub played-made : (p q : PlayView) (label : Label) → IsPlayedWeakly p → HasMade label p q → IsPlayedWeakly q
 played-made p q label played h = record {
   leads = leads;
   within =

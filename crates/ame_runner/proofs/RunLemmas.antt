@@ -11,9 +11,9 @@ use Rattle.ame_weak.specs.Weak.{Weak, IsWeakRun}
 use Rattle.ame_weak.specs.Tries.{HoldsIn}
 use Rattle.ame_weak.specs.declared.tries.Try.{Try}
 use Rattle.ame_runner.specs.Labels.{label_location, behind_location, location_above}
-use Rattle.ame_runner.specs.Play.{PlayView, IsPlayed, begun_play, HasMade}
+use Rattle.ame_runner.specs.Play.{PlayView, IsPlayedWeakly, begun_play, HasMade}
 use Rattle.ame_runner.specs.Notes.{lets_try_again, IsAsideSince, AreKept}
-use Rattle.ame_runner.specs.Run.{RunView, turns_of_tries, IsOwn, AreSettled, AreFailing, CutAt, IsRunning, CanBeEnded, HasRun, RunsOrEnds}
+use Rattle.ame_runner.specs.Run.{RunView, turns_of_tries, IsOwn, AreSettled, AreFailedTries, CutAt, IsRunning, CanBeEnded, HasRun, RunsOrEnds}
 use Rattle.ame_runner.proofs.PlayLemmas.{above-more}
 use Rattle.ame_runner.proofs.NoteLemmas.{all-with, all-more, kept-label, kept-try}
 
@@ -67,7 +67,7 @@ not-none : (label : Label) (labels : List Label) → label ∷ labels ≡ [] →
 not-none label labels e = let clash : suc (length labels) ≡ 0 = ap length e in omega arith
 
 module _ (r q : RunView) (label : Label) (h : HasRun label r q) where
-  more-settled : IsPlayed r.play → r.play.settled ≤ q.play.settled
+  more-settled : IsPlayedWeakly r.play → r.play.settled ≤ q.play.settled
   more-settled played = by (is_none q.play.weak.state.active) h.made.settled
     where
       few : r.play.settled ≤ length r.play.labels
@@ -80,14 +80,14 @@ module _ (r q : RunView) (label : Label) (h : HasRun label r q) where
       by true is = let now : q.play.settled ≡ length q.play.labels = is in let a = few in let b = long in omega (arith, now, a, b)
       by false is = let now : q.play.settled ≡ r.play.settled = is in omega (arith, now)
 
-  pub kept-on : IsPlayed r.play → AreKept r.play.program r.play.labels r.aside r.tries → AreKept q.play.program q.play.labels q.aside q.tries
+  pub kept-on : IsPlayedWeakly r.play → AreKept r.play.program r.play.labels r.aside r.tries → AreKept q.play.program q.play.labels q.aside q.tries
   kept-on played kept =
       subst (λ (p : Tree). AreKept p q.play.labels q.aside q.tries) (sym h.made.program)
       (subst (λ (ls : List Label). AreKept r.play.program ls q.aside q.tries) (sym h.made.labels)
       (subst (λ (ts : List Try). AreKept r.play.program (r.play.labels ++ label ∷ []) q.aside ts) (sym h.tries)
       (kept-label r.play.program r.play.labels r.aside r.tries kept label q.aside (aside-how label r.aside q.aside h.aside))))
 
-  pub settled-on : IsPlayed r.play → AreSettled r.play r.tries → AreSettled q.play q.tries
+  pub settled-on : IsPlayedWeakly r.play → AreSettled r.play r.tries → AreSettled q.play q.tries
   settled-on played settled =
       let more = more-settled played in
       subst (λ (ts : List Try). AreSettled q.play ts) (sym h.tries)
@@ -112,7 +112,7 @@ module _ (r q : RunView) (label : Label) (h : HasRun label r q) where
         to_make = let same = h.above in let rest : location_above q.left ≡ location_above r.left = ap location_above h.left in omega (arith, same, rest, to_make);
         few = let a = x.few in let b = h.above in let c = h.turns in omega (arith, a, b, c);
         within = let a = x.within in let b = h.turns in let c = h.limit in omega (arith, a, b, c);
-        cut = elim x.cut [ inl failing ↦ inl (subst AreFailing (sym h.tries) failing) | inr now ↦ absurd (not-none label r.left now.none) ];
+        cut = elim x.cut [ inl failing ↦ inl (subst AreFailedTries (sym h.tries) failing) | inr now ↦ absurd (not-none label r.left now.none) ];
       }
 
 -- what is still to be made doesn't matter for an end
@@ -122,7 +122,7 @@ ended-before s r ls y is =
     record { played = e.played; kept = e.kept; settled = e.settled; few = e.few; cut = e.cut }
 
 -- before the first label
-pub running-begun : (r : RunView) (program : Tree) → IsPlayed r.play → r.play ≡ begun_play program → r.tries ≡ [] → r.left ≡ [] → r.above ≡ 0 → r.turns ≡ 0 → IsRunning r
+pub running-begun : (r : RunView) (program : Tree) → IsPlayedWeakly r.play → r.play ≡ begun_play program → r.tries ≡ [] → r.left ≡ [] → r.above ≡ 0 → r.turns ≡ 0 → IsRunning r
 running-begun r program played begun tries left above turns = record {
   played = played;
   kept = subst (λ (ts : List Try). AreKept r.play.program r.play.labels r.aside ts) (sym tries) (record { order = tt; hold = tt; spaced = tt; put = tt });
@@ -134,7 +134,7 @@ running-begun r program played begun tries left above turns = record {
   to_make = let low : location_above r.left ≡ 0 = ap location_above left in omega (arith, low);
   few = omega (arith, above);
   within = omega (arith, turns);
-  cut = inl (subst AreFailing (sym tries) tt);
+  cut = inl (subst AreFailedTries (sym tries) tt);
 }
 
 -- the answer of a label that isn't counted

@@ -5,7 +5,7 @@ use Rattle.ame_term.specs.declared.semantics.StepKind.{StepKind}
 use Rattle.ame_term.specs.declared.semantics.Label.{Label}
 use Rattle.ame_journal.specs.Labels.{fresh_of, made_by, fragment_labels}
 use Rattle.ame_weak.specs.Weak.{Weak, weak_after, weak_run}
-use Rattle.ame_runner.specs.Trial.{AreNext, IsTrial, HasGoneOn, StandsAs, IsDecided, last_turn, IsTriedOut}
+use Rattle.ame_runner.specs.Trial.{AreNext, IsTrial, HasTriedOn, StandsAs, IsDecided, last_turn, IsTriedOut}
 use Rattle.ame_runner.specs.declared.trial.Outcome.{Outcome}
 use Rattle.ame_runner.specs.declared.trial.TriedOut.{TriedOut}
 use Rattle.ame_runner.proofs.PlayLemmas.{run-more}
@@ -25,7 +25,7 @@ pub trial-begun : (w v : Weak) (i first : ℕ) → weak_after w (Label.Activate 
 trial-begun w v i first e = record { leads = ap (option_and_then (λ z. weak_run z [])) e; made = refl }
 
 pub trial-more : (w : Weak) (i first : ℕ) (v : Weak) (kinds : List StepKind) (above : ℕ) (later : Weak) (more : List StepKind) (next_above : ℕ)
-    → IsTrial w i first v kinds above → HasGoneOn v kinds above later more next_above → IsTrial w i first later more next_above
+    → IsTrial w i first v kinds above → HasTriedOn v kinds above later more next_above → IsTrial w i first later more next_above
 trial-more w i first v kinds above later more next_above t g = record {
   leads =
       ap (λ ks. weak_run w (fragment_labels i ks)) g.added ∙ ap (λ ls. weak_run w (Label.Activate i ∷ ls)) (steps-more kinds g.kind)
@@ -35,7 +35,7 @@ trial-more w i first v kinds above later more next_above t g = record {
       (subst (λ ls. AreNext first ls next_above) (sym (made-more kinds g.kind)) (next-more first (made_by kinds) (fresh_of g.kind) above next_above t.made g.made));
 }
 
-pub longer : (v : Weak) (kinds : List StepKind) (above : ℕ) (later : Weak) (more : List StepKind) (next_above : ℕ) → HasGoneOn v kinds above later more next_above
+pub longer : (v : Weak) (kinds : List StepKind) (above : ℕ) (later : Weak) (more : List StepKind) (next_above : ℕ) → HasTriedOn v kinds above later more next_above
     → length more ≡ length kinds + 1
 longer v kinds above later more next_above g = ap length g.added ∙ length-append kinds (g.kind ∷ [])
 

@@ -13,8 +13,8 @@ use Rattle.ame_weak.specs.declared.tries.Try.{Try}
 use Rattle.ame_runner.specs.Labels.{location_above}
 use Rattle.ame_runner.specs.Play.{AreWithinBounds}
 use Rattle.ame_runner.specs.Notes.{AreSpaced}
-use Rattle.ame_runner.specs.Run.{AreFailing, CutAt}
-use Rattle.ame_runner.specs.Stop.{HasCause, FailsBy}
+use Rattle.ame_runner.specs.Run.{AreFailedTries, CutAt}
+use Rattle.ame_runner.specs.Stop.{HasWeakCause, FailsBy}
 use Rattle.ame_runner.specs.declared.stop.WeakStop.{WeakStop}
 
 -- The labels are legal and end with nothing active; what makes a step is within the bounds; and each location is below
@@ -26,7 +26,7 @@ pub record IsWeakRunOf (program : Tree) (limit : ℕ) (labels : List Label) (tri
   pub below : location_above labels ≤ limit
   pub order : AreTriesInOrder 0 (length labels) tries
   pub tried : AreTried program labels tries
-  pub last : AreFailing tries ⊎ CutAt (length labels) tries
+  pub last : AreFailedTries tries ⊎ CutAt (length labels) tries
   pub spaced : AreSpaced labels tries
 
 -- Of a run that ended otherwise than by want of memory: devices have heard the calls of its journal and no others, and its
@@ -38,7 +38,7 @@ pub record IsWholeRun (program : Tree) (labels : List Label) (tries : List Try) 
 -- What a stop tells of a run: its cause in the state to which the labels lead, and what devices heard and which failed.
 pub record IsToldBy (program : Tree) (limit : ℕ) (labels : List Label) (tries : List Try) (turns : ℕ) (before after : List Told) (stop : WeakStop) :
     Type 0 where
-  pub cause : (w : Weak) → IsWeakRun program labels w → HasCause stop w turns limit
+  pub cause : (w : Weak) → IsWeakRun program labels w → HasWeakCause stop w turns limit
   pub whole : IsWholeRun program labels tries turns before after
   pub fails : FailsBy (Some stop) before after
 

@@ -28,7 +28,7 @@ AreWithinBounds w [] = ⊤
 AreWithinBounds w (label ∷ labels) = IsWithinBounds w label × ((v : Weak) → weak_after w label ≡ Some v → AreWithinBounds v labels)
 
 -- the labels are legal, and lead to the weak state
-pub record IsPlayed (p : PlayView) : Type 0 where
+pub record IsPlayedWeakly (p : PlayView) : Type 0 where
   pub leads : IsWeakRun p.program p.labels p.weak
   pub within : AreWithinBounds (weak_start p.program) p.labels
   pub above : p.above ≡ location_above p.labels

@@ -4,7 +4,7 @@ use Rattle.std.specs.List.{AllByRecursion, sum_by}
 use Rattle.ame_term.specs.declared.semantics.Label.{Label}
 use Rattle.ame_weak.specs.declared.tries.Try.{Try}
 use Rattle.ame_runner.specs.Labels.{location_above}
-use Rattle.ame_runner.specs.Play.{PlayView, IsPlayed, HasMade}
+use Rattle.ame_runner.specs.Play.{PlayView, IsPlayedWeakly, HasMade}
 use Rattle.ame_runner.specs.Notes.{lets_try_again, AreKept}
 
 -- The weak run so far, its tries, and who is put aside; the labels of the active fragment that are still to be made;
@@ -33,15 +33,15 @@ abbrev pub AreSettled : PlayView → List Try → Type 0
 AreSettled play tries = AllByRecursion (λ t. t.after ≤ play.settled) tries
 
 -- all tries failed
-abbrev pub AreFailing : List Try → Type 0
-AreFailing tries = AllByRecursion (λ t. t.failing ≡ true) tries
+abbrev pub AreFailedTries : List Try → Type 0
+AreFailedTries tries = AllByRecursion (λ t. t.failing ≡ true) tries
 
 -- all but the last failed, which was made after n labels
 pub record CutAt (n : ℕ) (tries : List Try) : Type 0 where
   pub front : List Try
   pub last : Try
   pub parts : tries ≡ front ++ last ∷ []
-  pub failing : AreFailing front
+  pub failing : AreFailedTries front
   pub after : last.after ≡ n
 
 -- a try was cut off just now, with the last turn
@@ -53,7 +53,7 @@ pub record IsCutNow (r : RunView) : Type 0 where
 -- What is so between two labels. Each label and each step of a try was counted, those that are still to be made among
 -- them; and each location took a turn.
 pub record IsRunning (r : RunView) : Type 0 where
-  pub played : IsPlayed r.play
+  pub played : IsPlayedWeakly r.play
   pub kept : AreKept r.play.program r.play.labels r.aside r.tries
   pub settled : AreSettled r.play r.tries
   pub counted : r.turns ≡ length r.play.labels + length r.left + turns_of_tries r.tries
@@ -62,12 +62,12 @@ pub record IsRunning (r : RunView) : Type 0 where
   pub own : AllByRecursion IsOwn r.left
   pub few : r.above ≤ r.turns
   pub within : r.turns ≤ r.limit
-  pub cut : AreFailing r.tries ⊎ IsCutNow r
+  pub cut : AreFailedTries r.tries ⊎ IsCutNow r
 
 -- A label was made, which wasn't counted; nobody is put aside any more, or the same members still.
 pub record HasRun (label : Label) (old new : RunView) : Type 0 where
   pub made : HasMade label old.play new.play
-  pub played : IsPlayed old.play → IsPlayed new.play
+  pub played : IsPlayedWeakly old.play → IsPlayedWeakly new.play
   pub tries : new.tries ≡ old.tries
   pub aside : (i : ℕ) → new.aside i ≡ (if lets_try_again label then false else old.aside i)
   pub left : new.left ≡ old.left
@@ -77,11 +77,11 @@ pub record HasRun (label : Label) (old new : RunView) : Type 0 where
 
 -- what is so also where memory was wanted
 pub record CanBeEnded (r : RunView) : Type 0 where
-  pub played : IsPlayed r.play
+  pub played : IsPlayedWeakly r.play
   pub kept : AreKept r.play.program r.play.labels (λ i. true) r.tries
   pub settled : AreSettled r.play r.tries
   pub few : r.play.above ≤ r.limit
-  pub cut : AreFailing r.tries ⊎ CutAt r.play.settled r.tries
+  pub cut : AreFailedTries r.tries ⊎ CutAt r.play.settled r.tries
 
 abbrev pub RunsOrEnds : {X E : Type 0} → Result X E → RunView → Type 0
 RunsOrEnds (Ok x) r = IsRunning r

@@ -45,22 +45,22 @@ pub record StandsAtCall (w : Weak) (device : ℕ) : Type 0 where
   pub stands : next_of w.state (Some number) ≡ next.Device device argument
 
 -- the cause of a stop, in the weak state at the end
-abbrev pub HasCause : WeakStop → Weak → ℕ → ℕ → Type 0
-HasCause WeakStop.Finished w turns limit = pool w.state ≡ []
-HasCause (WeakStop.Blocked certificates) w turns limit = IsBlockedBy w certificates.items
-HasCause WeakStop.Spent w turns limit = (turns ≡ limit) × (pool w.state ≢ [])
-HasCause (WeakStop.DeviceFault device) w turns limit = StandsAtCall w device
-HasCause WeakStop.NoMemory w turns limit = ⊤
+abbrev pub HasWeakCause : WeakStop → Weak → ℕ → ℕ → Type 0
+HasWeakCause WeakStop.Finished w turns limit = pool w.state ≡ []
+HasWeakCause (WeakStop.Blocked certificates) w turns limit = IsBlockedBy w certificates.items
+HasWeakCause WeakStop.Spent w turns limit = (turns ≡ limit) × (pool w.state ≢ [])
+HasWeakCause (WeakStop.DeviceFault device) w turns limit = StandsAtCall w device
+HasWeakCause WeakStop.NoMemory w turns limit = ⊤
 
 -- the run has stopped: nothing is active, no label is left to be made, and the stop has its cause
-pub record HasStopped (stop : WeakStop) (r : RunView) : Type 0 where
+pub record HasStoppedWeakly (stop : WeakStop) (r : RunView) : Type 0 where
   pub none : r.left ≡ []
   pub idle : r.play.weak.state.active ≡ None
-  pub cause : HasCause stop r.play.weak r.turns r.limit
+  pub cause : HasWeakCause stop r.play.weak r.turns r.limit
 
 abbrev pub StopsIfTold : Option WeakStop → RunView → Type 0
 StopsIfTold None r = ⊤
-StopsIfTold (Some stop) r = HasStopped stop r
+StopsIfTold (Some stop) r = HasStoppedWeakly stop r
 
 -- it isn't the stop by a device
 abbrev pub IsNoFault : WeakStop → Type 0
@@ -70,7 +70,7 @@ IsNoFault stop = ⊤
 -- what is found while nothing is active: a stop with its cause, or that turns are left
 abbrev pub FoundAtRest : RunView → Option WeakStop → Type 0
 FoundAtRest r None = (r.play.weak.state.active ≡ None) × (r.turns < r.limit)
-FoundAtRest r (Some stop) = IsRunning r → HasStopped stop r × IsNoFault stop
+FoundAtRest r (Some stop) = IsRunning r → HasStoppedWeakly stop r × IsNoFault stop
 
 -- a certificate was added, if the member is there
 pub record HasCertified (r : RunView) (number : ℕ) (old new : List Certificate) : Type 0 where
@@ -87,5 +87,5 @@ GoesOrStops old new before after (Err e) = IsRunning old → CanBeEnded new
 
 -- choices until a stop
 abbrev pub PlaysOn : {E : Type 0} → RunView → RunView → List Told → List Told → Result WeakStop E → Type 0
-PlaysOn old new before after (Ok stop) = IsRunning old → IsRunning new × HearsOn (Some stop) old new before after × HasStopped stop new
+PlaysOn old new before after (Ok stop) = IsRunning old → IsRunning new × HearsOn (Some stop) old new before after × HasStoppedWeakly stop new
 PlaysOn old new before after (Err e) = IsRunning old → CanBeEnded new

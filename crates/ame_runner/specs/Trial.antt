@@ -28,7 +28,7 @@ abbrev pub MakesNext : ℕ → StepKind → Type 0
 MakesNext l kind = (m : ℕ) → fresh_location kind ≡ Some m → m ≡ l
 
 -- one step more, which makes the next location if it makes one
-pub record HasGoneOn (v : Weak) (kinds : List StepKind) (above : ℕ) (later : Weak) (more : List StepKind) (next_above : ℕ) : Type 0 where
+pub record HasTriedOn (v : Weak) (kinds : List StepKind) (above : ℕ) (later : Weak) (more : List StepKind) (next_above : ℕ) : Type 0 where
   pub kind : StepKind
   pub legal : weak_after v (Label.Step kind) ≡ Some later
   pub added : more ≡ kinds ++ kind ∷ []

@@ -25,13 +25,13 @@ pub struct Play<'a> {
 
 impl<'a> Play<'a> {
     ghost use Rattle.ame_weak.specs.Weak.{weak_after};
-    ghost use Rattle.ame_runner.specs.Play.{begun_play, HasMade, IsPlayed};
+    ghost use Rattle.ame_runner.specs.Play.{begun_play, HasMade, IsPlayedWeakly};
     ghost use Rattle.ame_runner.specs.View.{play_of};
 
     /// Before the first label.
     pub fn start(alloc: Global, accepted: &'a Accepted) -> Result<Play<'a>, NoMemory>
         ensures begins { IfOk result (λ play. play_of play ≡ begun_play (tree_of accepted.now.program.term)) }
-        ensures played { IfOk result (λ play. IsPlayed (play_of play)) }
+        ensures played { IfOk result (λ play. IsPlayedWeakly (play_of play)) }
     {
         let program = copy_term(alloc, &accepted.program.term)?;
         Ok(Play {
@@ -84,7 +84,7 @@ impl<'a> Play<'a> {
         ensures ok { OnOk result (HasMade label (play_of self.old) (play_of self.new)) }
         ensures illegal { result ≡ Err StepFail.Illegal → weak_after (play_of self.old).weak label ≡ None }
         ensures err { OnErr result (play_of self.new ≡ play_of self.old) }
-        ensures played { IsPlayed (play_of self.old) → IsPlayed (play_of self.new) }
+        ensures played { IsPlayedWeakly (play_of self.old) → IsPlayedWeakly (play_of self.new) }
     {
         let above = self.above_with(label)?;
         self.room()?;

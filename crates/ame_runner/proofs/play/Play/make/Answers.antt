@@ -1,6 +1,6 @@
 use Rattle.std.proofs.Common.{rules, ◌≡◌, ◌∙◌, true, false, is_none, max, sym, ap, subst, refl}
 use Rattle.ame_weak.specs.View.{weak_of}
-use Rattle.ame_runner.specs.Play.{PlayView, IsPlayed, HasMade}
+use Rattle.ame_runner.specs.Play.{PlayView, IsPlayedWeakly, HasMade}
 use Rattle.ame_runner.specs.View.{play_of}
 use Rattle.ame_runner.specs.Labels.{label_location, behind_location}
 use Rattle.ame_runner.proofs.PlayLemmas.{played-made}
@@ -44,7 +44,7 @@ returns-then-is_none-clause-played c = λ played.
       above = c.in_ok-above.ensures ∙ ap (λ (p : PlayView). max p.above (behind_location (label_location c.args.label))) (sym same);
       settled = search rules;
     } in
-    played-made (play_of c.room.new.self) q c.args.label (subst IsPlayed (sym same) played) made
+    played-made (play_of c.room.new.self) q c.args.label (subst IsPlayedWeakly (sym same) played) made
 
 pub returns-else-is_none-clause-ok : goal.returns-else-is_none-clause-ok
 returns-else-is_none-clause-ok c =
@@ -84,4 +84,4 @@ returns-else-is_none-clause-played c = λ played.
       above = c.in_ok-above.ensures ∙ ap (λ (p : PlayView). max p.above (behind_location (label_location c.args.label))) (sym same);
       settled = search rules;
     } in
-    played-made (play_of c.room.new.self) q c.args.label (subst IsPlayed (sym same) played) made
+    played-made (play_of c.room.new.self) q c.args.label (subst IsPlayedWeakly (sym same) played) made

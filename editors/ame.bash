@@ -70,8 +70,8 @@ _ame() {
     return
   fi
   if [[ $program == why ]]; then
-    local views='--journal --trace --schedule'
-    if [[ ${words[0]-} == --journal || ${words[0]-} == --trace || ${words[0]-} == --schedule ]]; then
+    local views='--journal --trace --schedule --counts --store --picture'
+    if [[ " $views " == *" ${words[0]-none} "* ]]; then
       views= words=("${words[@]:1}")
     fi
     case ${words[0]-} in

@@ -1,5 +1,5 @@
 -- Members that go on under `unprotected`.
-use Rattle.std.specs.Prelude.{◌≡◌, ℕ, ◌+◌, ◌≤◌, ℤ, ◌⊎◌, List, [], Some, Ok, Err}
+use Rattle.std.specs.Prelude.{◌≡◌, ℕ, ◌+◌, ◌≤◌, ℤ, ◌⊎◌, List, [], Some, Ok, Err, ⊤}
 use Rattle.ame_term.specs.State.{State}
 use Rattle.ame_term.specs.declared.semantics.StepKind.{StepKind}
 use Rattle.ame_term.specs.declared.semantics.Label.{Label}
@@ -38,3 +38,13 @@ HasCalledFor w i before after label = (IsSilent label × (after ≡ before)) ⊎
 abbrev pub HasFreed : Weak → ℕ → ℕ → List Told → List Told → Freed → Type 0
 HasFreed w i above before after (Freed.Label label) = (behind_location (label_location label) ≤ above + 1) × HasCalledFor w i before after label
 HasFreed w i above before after (Freed.Fault device) = FailsFor w i device before after
+
+-- a label is one by which member i goes on under `unprotected`
+abbrev pub IsLabelOf : ℕ → Label → Type 0
+IsLabelOf i (Label.Close j) = j ≡ i
+IsLabelOf i (Label.Free j kind) = j ≡ i
+IsLabelOf i _ = ⊥
+
+abbrev pub IsOwnOf : ℕ → Freed → Type 0
+IsOwnOf i (Freed.Label label) = IsLabelOf i label
+IsOwnOf i (Freed.Fault device) = ⊤

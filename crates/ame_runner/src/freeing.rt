@@ -5,7 +5,7 @@ ghost use Rattle.ame_device.specs.Calls.{all_told};
 ghost use Rattle.ame_strong.specs.Next.{next_of};
 ghost use Rattle.ame_weak.specs.Weak.{Weak};
 ghost use Rattle.ame_weak.specs.View.{weak_of};
-ghost use Rattle.ame_runner.specs.Freeing.{HasFreed};
+ghost use Rattle.ame_runner.specs.Freeing.{HasFreed, IsOwnOf};
 
 use crate::trial::kind_of;
 use ame_device::{Device, DeviceFail, call_device};
@@ -30,7 +30,8 @@ pub fn next_free<D: Device>(
     number: u64,
     devices: &mut Vec<D>,
 ) -> Result<Freed, NoMemory>
-    ensures { IfOk result (HasFreed (weak_of state.now) number above.0 (all_told D.device_heard D.device_faults devices.old.items)
+    ensures own { IfOk result (IsOwnOf number) }
+    ensures freed { IfOk result (HasFreed (weak_of state.now) number above.0 (all_told D.device_heard D.device_faults devices.old.items)
         (all_told D.device_heard D.device_faults devices.new.items)) }
 {
     match state.next_of(Some(number)) {
@@ -50,7 +51,8 @@ fn call_for<D: Device>(
     device: u8,
     argument: i64,
 ) -> Result<Freed, NoMemory>
-    ensures { IfOk result (λ freed. (w : Weak) (above : ℕ) → next_of w.state (Some number) ≡ Next.Device device argument
+    ensures own { IfOk result (IsOwnOf number) }
+    ensures freed { IfOk result (λ freed. (w : Weak) (above : ℕ) → next_of w.state (Some number) ≡ Next.Device device argument
         → HasFreed w number above (all_told D.device_heard D.device_faults devices.old.items)
         (all_told D.device_heard D.device_faults devices.new.items) freed) }
 {

@@ -18,18 +18,18 @@ use Rattle.ame_check.specs.Shows.{ReplayView, ShowsMember, StandsForEntries}
 use Rattle.ame_check.specs.Walk.{steps_on, begun_on, StaysLow}
 use Rattle.ame_check.specs.Walked.{place_with, IsAtStep, RunsAlong}
 use Rattle.ame_check.specs.Entries.{BeginsSteps, MeetsTall, MeetsNoTall, is_confirmed}
-use Rattle.ame_check.specs.Reasons.{MeetsReason, IsMet}
+use Rattle.ame_check.specs.Reasons.{MeetsReason, IsMet, entry_side, is_shut}
 use Rattle.ame_check.specs.declared.reason.Reason.{Reason}
 use Rattle.ame_check.specs.declared.reason.Reason.TheVariants as reason
 use Rattle.ame_check.specs.declared.walk.Walked.{Walked}
 use Rattle.ame_check.specs.declared.walk.Walked.TheVariants as walked
-use Rattle.ame_check.proofs.EntryLemmas.{behind-journal, whole-leads}
+use Rattle.ame_check.proofs.EntryLemmas.{behind-journal, stands-as, whole-leads}
 use Rattle.ame_check.proofs.StartLemmas.{its-term, its-rest, its-machine, walk-begins}
-use Rattle.ame_check.proofs.ReasonLemmas.{FailsBy, met-on, note-side, stops-met}
+use Rattle.ame_check.proofs.ReasonLemmas.{FailsBy, met-on, note-side, shut-apart, stops-met}
 use Rattle.ame_check.proofs.SortLemmas.{all-front}
 use Rattle.ame_check.proofs.WalkLemmas.{can-run}
 use Rattle.ame_check.proofs.RanLemmas.{undefined-there}
-use Rattle.ame_check.proofs.NoteLemmas.{note-undefined, note-is, note-absent, note-answered, side-tall, none-made, settled-flag, meets-unbegun, meets-nobody, meets-low}
+use Rattle.ame_check.proofs.NoteLemmas.{note-undefined, stuck-standing, note-is, note-absent, note-answered, side-tall, none-made, settled-flag, meets-unbegun, meets-apart, meets-nobody, meets-low}
 use Rattle.ame_check.proofs.WantLemmas.{walked-low}
 use Rattle.ame_check.specs.declared.stored.Stored.{Stored}
 
@@ -63,9 +63,6 @@ module _ {C V M : Type 0} (meaning : Meaning C V M) (code : C) (accepted : IsAcc
   fails : (why : Reason) → MeetsNoTall (meaning.program code) entries entry → replay (meaning.program code) (entries ++ entry ∷ []) ≡ None → IsMet st.led entry why
       → FailsBy (meaning.program code) entries entry why
   fails why low none met = (low, none, (st.led, st.replayed, met))
-
-  on-side : (why : Reason) → MeetsReason (side_at entry.number st.led.state) st.led.state entry.number entry.fresh entry.steps why → IsMet st.led entry why
-  on-side = met-on st.led entry (side_at entry.number st.led.state) (note-side entry.kind note entry.number st.led.state)
 
   pub noted-answer : is_some entry.answer ≡ true → FailsBy (meaning.program code) entries entry reason.Answered
   noted-answer e =
@@ -124,9 +121,23 @@ module _ {C V M : Type 0} (meaning : Meaning C V M) (code : C) (accepted : IsAcc
             (ap (λ (z : MachineView). z.term) settles ∙ ready-term) (ap (λ (z : MachineView). z.prints) settles) (ap (λ (z : MachineView). z.spawns) settles) (ap (λ (z : MachineView). z.fresh) settles)
             (ap (λ (z : MachineView). z.steps) settles) flag (λ e. e)
 
-        module _ (later : List (ℕ × Stored V)) (m : M) (found_as : Walked)
+        pub noted-shut : is_shut entry.kind (meaning.stage code settled).inside ≡ true → FailsBy (meaning.program code) entries entry reason.Inside
+        noted-shut shut =
+            let so = shut-apart entry.kind note st.led entry.number (ap (is_shut entry.kind) (sym flag) ∙ shut) in
+            let stands = sym (stands-as st.led.state entry.number calm.idle (meaning.stage code machine).term term) ∙ so.1 in
+            fails reason.Inside (meets-apart (meaning.program code) entries entry st.led st.replayed so.2)
+            (none-there (as-quiet ∙ ap (λ (k : EntryKind). replay_kind k st.led entry.number entry.steps entry.fresh None) so.0
+            ∙ stuck-standing st.led entry.number entry.steps entry.fresh (meaning.stage code machine).term calm.idle term stands)) so.3
+
+        module _ (opened : is_shut entry.kind (meaning.stage code settled).inside ≡ false) (later : List (ℕ × Stored V)) (m : M) (found_as : Walked)
             (runs : (s : State) (i : ℕ) (side : Side) (n : ℕ) → IsAtStep meaning code s i entry.fresh place.cells overlay settled side n
             → RunsAlong meaning code s i entry.fresh place.cells later m side entry.steps found_as) where
+          its_side : side_at entry.number st.led.state ≡ entry_side entry.kind entry.number st.led.state
+          its_side = note-side entry.kind note entry.number st.led.state (ap (is_shut entry.kind) (sym flag) ∙ opened)
+
+          on-side : (why : Reason) → MeetsReason (side_at entry.number st.led.state) st.led.state entry.number entry.fresh entry.steps why → IsMet st.led entry why
+          on-side = met-on st.led entry (side_at entry.number st.led.state) its_side
+
           to : (w : Walked) → found_as ≡ w → RunsAlong meaning code st.led.state entry.number entry.fresh place.cells later m (side_at entry.number st.led.state) entry.steps w
           to w is =
               subst (RunsAlong meaning code st.led.state entry.number entry.fresh place.cells later m (side_at entry.number st.led.state) entry.steps) is
@@ -135,7 +146,7 @@ module _ {C V M : Type 0} (meaning : Meaning C V M) (code : C) (accepted : IsAcc
           low-so : StaysLow (side_at entry.number st.led.state) entry.number entry.steps entry.fresh st.led.state → MeetsNoTall (meaning.program code) entries entry
           low-so low =
               meets-low (meaning.program code) entries entry st.led st.replayed (meaning.stage code machine).term calm.idle term
-              (subst (λ (z : Side). StaysLow z entry.number entry.steps entry.fresh st.led.state) (note-side entry.kind note entry.number st.led.state) low)
+              (subst (λ (z : Side). StaysLow z entry.number entry.steps entry.fresh st.led.state) its_side low)
 
           pub noted-no-run : (why : Reason) → found_as ≡ walked.Undefined why → FailsBy (meaning.program code) entries entry why
           noted-no-run why is =
@@ -148,7 +159,7 @@ module _ {C V M : Type 0} (meaning : Meaning C V M) (code : C) (accepted : IsAcc
             st.led,
             st.replayed,
             side-tall st.led entry (meaning.stage code machine).term calm.idle term
-                (begins-note_so entry.kind note (is_inside st.led entry.number) entry.answer quiet) (note-side entry.kind note entry.number st.led.state) (to walked.Tall is),
+                (begins-note_so entry.kind note (is_inside st.led entry.number) entry.answer quiet) its_side (to walked.Tall is),
           )
 
           module _ (next : Wants) (is : found_as ≡ walked.Whole next) where

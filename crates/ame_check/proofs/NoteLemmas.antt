@@ -133,6 +133,9 @@ module _ (r : Replayed) (i n : ℕ) (fresh : List ℕ) (term : Tree) (idle : r.s
       fragment-calm r.state i idle term member n fresh calm
       ∙ ap (λ (z : Side). steps_on z i n fresh None (begun_on z i r.state)) (sym on) ∙ e
 
+  pub stuck-standing : at_unprotected (focus term) ≡ true → replay_kind EntryKind.Stuck r i n fresh None ≡ None
+  stuck-standing stands = ap (λ (o : Option State). note_where (has_such (is_failing i) o) r) (fragment-none r.state i idle term member n fresh stands)
+
   pub note-undefined : (kind : EntryKind) → is_note kind ≡ true → steps_on (side_at i r.state) i n fresh None (begun_on (side_at i r.state) i r.state) ≡ None → replay_kind kind r i n fresh None ≡ None
   note-undefined EntryKind.Ran note e = cc
   note-undefined EntryKind.Free note e = cc
@@ -221,6 +224,12 @@ module _ (program : Tree) (entries : List Entry) (entry : Entry) (r : Replayed) 
   meets-unbegun never t e tall =
       let same : r ≡ t = (let both : Some r ≡ Some t = sym replayed ∙ e in cc) in
       never (subst (λ (z : Replayed). BeginsSteps entry.kind (is_inside z entry.number) entry.answer) (sym same) tall.begins)
+
+  -- where its member stands on another side
+  pub meets-apart : (side_at entry.number r.state ≡ entry_side entry.kind entry.number r.state → ⊥) → MeetsNoTall program entries entry
+  meets-apart apart t e tall =
+      let same : r ≡ t = (let both : Some r ≡ Some t = sym replayed ∙ e in cc) in
+      apart (subst (λ (z : Replayed). side_at entry.number z.state ≡ entry_side entry.kind entry.number z.state) (sym same) tall.side)
 
   -- where there is no such member
   pub meets-nobody : r.state.active ≡ None → at r.state.members entry.number ≡ None → MeetsNoTall program entries entry

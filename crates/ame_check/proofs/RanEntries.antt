@@ -20,7 +20,7 @@ use Rattle.ame_check.specs.Entries.{BeginsSteps, MeetsTall, MeetsNoTall}
 use Rattle.ame_check.specs.Walk.{StaysLow}
 use Rattle.ame_check.proofs.NoteLemmas.{meets-unbegun, meets-nobody, meets-low}
 use Rattle.ame_check.proofs.WantLemmas.{walked-low}
-use Rattle.ame_check.specs.Reasons.{MeetsReason, IsMet, entry_side}
+use Rattle.ame_check.specs.Reasons.{MeetsReason, IsMet, IsShut, entry_side}
 use Rattle.ame_check.specs.declared.reason.Reason.{Reason}
 use Rattle.ame_check.specs.declared.reason.Reason.TheVariants as reason
 use Rattle.ame_check.specs.declared.walk.Walked.{Walked}
@@ -76,7 +76,7 @@ module _ {C V M : Type 0} (meaning : Meaning C V M) (code : C) (accepted : IsAcc
     goes-on_inside flag =
         let inside = sym (ap (λ (z : MachineView). z.inside) rest) ∙ flag in
         fails reason.Inside
-        (meets-unbegun (meaning.program code) entries entry st.led st.replayed (λ begins. let clash : true ≡ false = sym inside ∙ (begun-so begins).0 in cc)) (undefined-there meaning code entries entry place st.led st.replayed st.shows calm (ran-inside st.led entry kind inside)) (kind, inside)
+        (meets-unbegun (meaning.program code) entries entry st.led st.replayed (λ begins. let clash : true ≡ false = sym inside ∙ (begun-so begins).0 in cc)) (undefined-there meaning code entries entry place st.led st.replayed st.shows calm (ran-inside st.led entry kind inside)) (subst (λ (z : EntryKind). IsShut z st.led entry.number) (sym kind) inside)
 
     module _ (flag : (meaning.stage code machine).inside ≡ false) (overlay : List (ℕ × Stored V)) (empty : overlay ≡ []) where
       pub begins-ran : IsAtStep meaning code st.led.state entry.number entry.fresh place.cells overlay machine Side.Protected 0

@@ -7,7 +7,7 @@ use Rattle.ame_term.specs.State.{State}
 use Rattle.ame_term.specs.declared.types.Loc.{Loc}
 use Rattle.ame_term.specs.Tree.{Tree}
 use Rattle.ame_journal.specs.Replay.{replay, or_else}
-use Rattle.ame_journal.specs.Replayed.{Replayed, side_at}
+use Rattle.ame_journal.specs.Replayed.{Replayed, is_at_unprotected, side_at}
 use Rattle.ame_journal.specs.Totals.{is_note}
 use Rattle.ame_journal.specs.declared.entry.Entry.{Entry}
 use Rattle.ame_journal.specs.declared.entry.EntryKind.{EntryKind}
@@ -17,7 +17,7 @@ use Rattle.ame_machine.specs.Need.{need_of_focus}
 use Rattle.ame_machine.specs.Sound.{IsSoundStage}
 use Rattle.ame_machine.specs.declared.wants.Wants.{Wants}
 use Rattle.ame_machine.specs.declared.wants.Wants.TheVariants as wants
-use Rattle.ame_check.specs.Reasons.{is_unprotected_side, ComesAt, MeetsReason, IsMet, entry_side}
+use Rattle.ame_check.specs.Reasons.{is_unprotected_side, ComesAt, MeetsReason, IsMet, entry_side, is_shut, IsShut}
 use Rattle.ame_check.specs.Visit.{VisitMeets}
 use Rattle.ame_check.specs.Entries.{MeetsNoTall}
 use Rattle.ame_check.specs.Walked.{place_with, Allocates, WantsAnswer, IsAtStep}
@@ -145,7 +145,18 @@ abbrev pub FailsBy : Tree → List Entry → Entry → Reason → Type 0
 FailsBy program entries entry why =
     MeetsNoTall program entries entry × (replay program (entries ++ entry ∷ []) ≡ None) × ((r : Replayed) × (replay program entries ≡ Some r) × IsMet r entry why)
 
-pub note-side : (kind : EntryKind) → is_note kind ≡ true → (i : ℕ) (s : State) → side_at i s ≡ entry_side kind i s
-note-side EntryKind.Ran note i s = cc
-note-side EntryKind.Free note i s = cc
-note-side _ note i s = refl
+pub note-side : (kind : EntryKind) → is_note kind ≡ true → (i : ℕ) (s : State) → is_shut kind (is_at_unprotected i s) ≡ false → side_at i s ≡ entry_side kind i s
+note-side EntryKind.Ran note i s out = cc
+note-side EntryKind.Free note i s out = cc
+note-side EntryKind.Stuck note i s out = ap side_told out
+note-side EntryKind.Cut note i s out = refl
+note-side EntryKind.Tall note i s out = refl
+
+-- a note is shut to a member that stands at `unprotected` alone, and isn't made on its side
+pub shut-apart : (kind : EntryKind) → is_note kind ≡ true → (r : Replayed) (i : ℕ) → is_shut kind (is_at_unprotected i r.state) ≡ true
+    → (kind ≡ EntryKind.Stuck) × (is_at_unprotected i r.state ≡ true) × (side_at i r.state ≡ entry_side kind i r.state → ⊥) × IsShut kind r i
+shut-apart EntryKind.Ran note r i shut = cc
+shut-apart EntryKind.Free note r i shut = cc
+shut-apart EntryKind.Stuck note r i shut = (refl, shut, (λ same. let clash : Side.Unprotected ≡ Side.Protected = sym (ap side_told shut) ∙ same in cc), shut)
+shut-apart EntryKind.Cut note r i shut = cc
+shut-apart EntryKind.Tall note r i shut = cc

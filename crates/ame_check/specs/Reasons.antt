@@ -7,7 +7,7 @@ use Rattle.ame_term.specs.Maps.{at}
 use Rattle.ame_term.specs.State.{State}
 use Rattle.ame_term.specs.declared.types.Sort.{Sort}
 use Rattle.ame_term.specs.declared.types.TyNo.{TyNo}
-use Rattle.ame_journal.specs.Replayed.{Replayed, is_inside, side_at}
+use Rattle.ame_journal.specs.Replayed.{Replayed, is_inside, is_at_unprotected, side_at}
 use Rattle.ame_journal.specs.declared.entry.Entry.{Entry}
 use Rattle.ame_journal.specs.declared.entry.EntryKind.{EntryKind}
 use Rattle.ame_machine.specs.Need.{need_of_focus, need_told}
@@ -49,12 +49,23 @@ MeetsReason side s i fresh total _ = ⊥
 abbrev pub entry_side : EntryKind → ℕ → State → Side
 entry_side EntryKind.Ran i s = Side.Protected
 entry_side EntryKind.Free i s = Side.Unprotected
+entry_side EntryKind.Stuck i s = Side.Protected
 entry_side _ i s = side_at i s
+
+-- whether a note of a kind is shut to a member, by whether that stands at `unprotected`
+abbrev pub is_shut : EntryKind → Bool → Bool
+is_shut EntryKind.Stuck standing = standing
+is_shut _ standing = false
+
+-- an entry of a kind is shut to a member
+abbrev pub IsShut : EntryKind → Replayed → ℕ → Type 0
+IsShut EntryKind.Ran r i = is_inside r i ≡ true
+IsShut kind r i = is_shut kind (is_at_unprotected i r.state) ≡ true
 
 -- what an entry meets
 abbrev pub IsMet : Replayed → Entry → Reason → Type 0
 IsMet r entry reason.NoMember = at r.state.members entry.number ≡ None
-IsMet r entry reason.Inside = (entry.kind ≡ EntryKind.Ran) × (is_inside r entry.number ≡ true)
+IsMet r entry reason.Inside = IsShut entry.kind r entry.number
 IsMet r entry reason.Outside = (entry.kind ≡ EntryKind.Free) × (is_inside r entry.number ≡ false)
 IsMet r entry reason.NoSteps = (entry.kind ≡ EntryKind.Free) × (entry.steps ≡ 0)
 IsMet r entry reason.Answered = is_some entry.answer ≡ true

@@ -8,7 +8,7 @@ use ame_term::Loc;
 pub enum Reason {
     /// No member has its number.
     NoMember,
-    /// The member is under `unprotected`, where it goes on by `Free` entries alone.
+    /// The member is under `unprotected`, where it goes on by `Free` entries alone; or, for a `Stuck` note, it stands there.
     Inside,
     /// The member isn't under `unprotected`, where alone a `Free` entry goes on.
     Outside,

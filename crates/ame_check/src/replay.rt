@@ -11,6 +11,7 @@ ghost use Rattle.ame_journal.specs.declared.entry.Entry.{Entry};
 ghost use Rattle.ame_journal.specs.declared.entry.EntryKind.{EntryKind};
 ghost use Rattle.ame_journal.specs.Totals.{is_note};
 ghost use Rattle.ame_check.specs.Entries.{is_confirmed};
+ghost use Rattle.ame_check.specs.Reasons.{is_shut};
 ghost use Rattle.ame_check.specs.Shows.{ShowsMembers, Adopts};
 
 use crate::halt::Halt;
@@ -50,6 +51,16 @@ fn confirms(kind: EntryKind, want: Wants) -> bool
             Wants::Tall => true,
             _ => false,
         },
+    }
+}
+
+/// Whether a note of a kind is shut to a member, by whether that stands at `unprotected`.
+fn shuts(kind: EntryKind, standing: bool) -> bool
+    ensures { result ≡ is_shut kind standing }
+{
+    match kind {
+        EntryKind::Stuck => standing,
+        EntryKind::Ran | EntryKind::Free | EntryKind::Cut | EntryKind::Tall => false,
     }
 }
 
@@ -231,8 +242,8 @@ where
         }
     }
 
-    /// A note (`Stuck`, `Cut`, `Tall`), on a copy of its member's machine. One that stands at `unprotected` makes its steps there.
-    /// Nothing changes. Costs a copy of the machine, and its steps.
+    /// A note (`Stuck`, `Cut`, `Tall`), on a copy of its member's machine. One that stands at `unprotected` makes its steps there,
+    /// and no `Stuck` note is of it. Nothing changes. Costs a copy of the machine, and its steps.
     pub fn note(&self, alloc: Global, code: &M::Code, entry: &Entry) -> Result<Made, NoMemory>
         requires note { is_note entry.now.kind ≡ true }
         requires stands { (entries : List Entry) × StandsForEntries M.meaning code.now entries
@@ -251,6 +262,9 @@ where
         let mut machine = member.copy(alloc)?;
         let _next = machine.advance(alloc, code, 0)?;
         machine.settle();
+        if shuts(entry.kind, machine.inside()) {
+            return Ok(Made::Undefined(Reason::Inside));
+        }
         let mut overlay = BTreeMap::new(alloc);
         match run(alloc, code, &self.cells, entry, &mut overlay, &mut machine)? {
             Walked::Whole(want) => {

@@ -1,6 +1,7 @@
-use Rattle.std.proofs.Common.{sym, ◌∙◌, arith}
+use Rattle.std.proofs.Common.{[], refl, sym, ap, ◌∙◌, arith}
+use Rattle.ame_check.specs.Reasons.{is_shut}
 use Rattle.ame_check.proofs.RanEntries.{quiet-of}
-use Rattle.ame_check.proofs.NoteEntries.{noted-answer, noted-none, copy-good, copy-steps, copy-runs, begins-note, noted-no-run, noted-tall, noted-so, noted-not}
+use Rattle.ame_check.proofs.NoteEntries.{noted-answer, noted-none, copy-good, copy-steps, copy-runs, begins-note, noted-no-run, noted-shut, noted-tall, noted-so, noted-not}
 use Rattle.ame_check.proofs.replay.Replay.note.Goals as goal
 
 pub returns-then-is_some : goal.returns-then-is_some
@@ -30,6 +31,15 @@ advance-requires-clause-steps g c =
     (g.met.M.Runner.stage_shown c.args.code.now c.in-Some.member.now c.in_ok-machine.machine c.in_ok-machine.ensures) in
     omega arith
 
+pub returns-then-shuts : goal.returns-then-shuts
+returns-then-shuts g c = λ entries st.
+    noted-shut g.M.Runner.meaning c.args.code.now (g.met.M.Runner.accepted c.args.code.now) (g.met.M.Runner.sound c.args.code.now) c.args.entry.now c.requires.note _ entries st (quiet-of c.args.entry.now.answer (sym c.is_some.ensures ∙ c.if-is_some.false))
+    c.in-Some.member.now c.in-Some.ensures.value c.in_ok-machine.machine (g.met.M.Runner.same_machines c.args.code.now c.in-Some.member.now c.in_ok-machine.machine c.in_ok-machine.ensures)
+    (g.met.M.Runner.stage_shown c.args.code.now c.in-Some.member.now c.in_ok-machine.machine c.in_ok-machine.ensures)
+    c.advance.new.self c.advance.ensures.machine c.advance.ensures.ran c.in_ok-_next._next c.in_ok-_next.ensures.told c.settle.new.self
+    (c.settle.ensures.machine c.args.code.now c.advance.ensures.machine) (c.settle.ensures.stage c.args.code.now) [] refl
+    (ap (is_shut c.args.entry.now.kind) (sym (c.inside.ensures c.args.code.now)) ∙ sym c.shuts.ensures ∙ c.if-shuts.true)
+
 pub run-requires-clause-walking : goal.run-requires-clause-walking
 run-requires-clause-walking g c = (
   c.requires.stands.1.led.state,
@@ -48,7 +58,7 @@ returns-then-confirms g c = λ entries st.
     (g.met.M.Runner.stage_shown c.args.code.now c.in-Some.member.now c.in_ok-machine.machine c.in_ok-machine.ensures)
     c.advance.new.self c.advance.ensures.machine c.advance.ensures.ran c.in_ok-_next._next c.in_ok-_next.ensures.told c.settle.new.self
     (c.settle.ensures.machine c.args.code.now c.advance.ensures.machine) (c.settle.ensures.stage c.args.code.now) c.new-overlay.result.entries c.new-overlay.ensures.empty
-    c.run.new.overlay.entries c.run.new.machine c.in_ok-want.field-0 c.in_ok-want.ensures c.in-Whole.want c.in-Whole.is (sym c.confirms.ensures ∙ c.if-confirms.true)
+    (ap (is_shut c.args.entry.now.kind) (sym (c.inside.ensures c.args.code.now)) ∙ sym c.shuts.ensures ∙ c.if-shuts.false) c.run.new.overlay.entries c.run.new.machine c.in_ok-want.field-0 c.in_ok-want.ensures c.in-Whole.want c.in-Whole.is (sym c.confirms.ensures ∙ c.if-confirms.true)
 
 pub returns-in-Whole : goal.returns-in-Whole
 returns-in-Whole g c = λ entries st.
@@ -57,7 +67,7 @@ returns-in-Whole g c = λ entries st.
     (g.met.M.Runner.stage_shown c.args.code.now c.in-Some.member.now c.in_ok-machine.machine c.in_ok-machine.ensures)
     c.advance.new.self c.advance.ensures.machine c.advance.ensures.ran c.in_ok-_next._next c.in_ok-_next.ensures.told c.settle.new.self
     (c.settle.ensures.machine c.args.code.now c.advance.ensures.machine) (c.settle.ensures.stage c.args.code.now) c.new-overlay.result.entries c.new-overlay.ensures.empty
-    c.run.new.overlay.entries c.run.new.machine c.in_ok-want.field-0 c.in_ok-want.ensures c.in-Whole.want c.in-Whole.is (sym c.confirms.ensures ∙ c.if-confirms.false)
+    (ap (is_shut c.args.entry.now.kind) (sym (c.inside.ensures c.args.code.now)) ∙ sym c.shuts.ensures ∙ c.if-shuts.false) c.run.new.overlay.entries c.run.new.machine c.in_ok-want.field-0 c.in_ok-want.ensures c.in-Whole.want c.in-Whole.is (sym c.confirms.ensures ∙ c.if-confirms.false)
 
 pub returns-in-Undefined : goal.returns-in-Undefined
 returns-in-Undefined g c = λ entries st.
@@ -66,7 +76,7 @@ returns-in-Undefined g c = λ entries st.
     (g.met.M.Runner.stage_shown c.args.code.now c.in-Some.member.now c.in_ok-machine.machine c.in_ok-machine.ensures)
     c.advance.new.self c.advance.ensures.machine c.advance.ensures.ran c.in_ok-_next._next c.in_ok-_next.ensures.told c.settle.new.self
     (c.settle.ensures.machine c.args.code.now c.advance.ensures.machine) (c.settle.ensures.stage c.args.code.now) c.new-overlay.result.entries c.new-overlay.ensures.empty
-    c.run.new.overlay.entries c.run.new.machine c.in_ok-want.field-0 c.in_ok-want.ensures c.in-Undefined.why c.in-Undefined.is
+    (ap (is_shut c.args.entry.now.kind) (sym (c.inside.ensures c.args.code.now)) ∙ sym c.shuts.ensures ∙ c.if-shuts.false) c.run.new.overlay.entries c.run.new.machine c.in_ok-want.field-0 c.in_ok-want.ensures c.in-Undefined.why c.in-Undefined.is
 
 pub returns : goal.returns
 returns g c = λ entries st.
@@ -75,4 +85,4 @@ returns g c = λ entries st.
     (g.met.M.Runner.stage_shown c.args.code.now c.in-Some.member.now c.in_ok-machine.machine c.in_ok-machine.ensures)
     c.advance.new.self c.advance.ensures.machine c.advance.ensures.ran c.in_ok-_next._next c.in_ok-_next.ensures.told c.settle.new.self
     (c.settle.ensures.machine c.args.code.now c.advance.ensures.machine) (c.settle.ensures.stage c.args.code.now) c.new-overlay.result.entries c.new-overlay.ensures.empty
-    c.run.new.overlay.entries c.run.new.machine c.in_ok-want.field-0 c.in_ok-want.ensures c.in-Tall.is
+    (ap (is_shut c.args.entry.now.kind) (sym (c.inside.ensures c.args.code.now)) ∙ sym c.shuts.ensures ∙ c.if-shuts.false) c.run.new.overlay.entries c.run.new.machine c.in_ok-want.field-0 c.in_ok-want.ensures c.in-Tall.is

@@ -8,7 +8,7 @@ use Rattle.ame_picture.specs.declared.arrow.Sought.{Sought}
 use Rattle.ame_picture.specs.declared.arrow.Spot.{Spot}
 use Rattle.ame_picture.specs.declared.pick.Did.{Did}
 use Rattle.ame_picture.specs.declared.pick.Pick.{Pick}
-use Rattle.ame_picture.specs.Arrows.{is_sought, last_spot, continuation, obstacle, obstacle_at, arrow_by, arrows_from, IsPickOn, LeadsAmong}
+use Rattle.ame_picture.specs.Arrows.{is_sought, spot_of, last_spot, continuation, obstacle, obstacle_at, arrow_by, arrows_from, IsPickOn, LeadsAmong}
 
 -- the next spot: this pick, or the one before
 next : (P : ℕ → ℕ → Type 0) (spot : Spot) (last : Option Spot) (b : Bool) → IfSome last (λ s. P s.pick s.seat) → P spot.pick spot.seat →
@@ -33,12 +33,12 @@ spot_holds P sought (pick ∷ picks) k last was each =
     subst R e (each (suc j) d within))
 
 continues : (all : List Pick) (k : ℕ) (pick : Pick) (o : Option Spot) → IfSome o (λ s. IsPickOn all s.pick s.seat) → IsPickOn all k pick.seat →
-    IfSome (continuation k pick o) (LeadsAmong all)
+    IfSome (continuation pick o (spot_of k pick)) (LeadsAmong all)
 continues all k pick None is here = _
 continues all k pick (Some spot) is here = record { begins = is; ends = here }
 
 hinders : (all : List Pick) (k : ℕ) (pick : Pick) (o : Option Spot) → IfSome o (λ s. IsPickOn all s.pick s.seat) → IsPickOn all k pick.seat →
-    IfSome (obstacle k pick o) (LeadsAmong all)
+    IfSome (obstacle pick o (spot_of k pick)) (LeadsAmong all)
 hinders all k pick None is here = _
 hinders all k pick (Some spot) is here = record { begins = here; ends = is }
 

@@ -6,7 +6,7 @@ use Rattle.ame_picture.specs.declared.drawing.Drawing.{Drawing}
 use Rattle.ame_picture.specs.Escapes.{escaped}
 use Rattle.ame_picture.specs.Layout.{journal_top}
 use Rattle.ame_picture.specs.Marks.{stamp_mark}
-use Rattle.ame_picture.specs.Picture.{marks_from, picture_head, frame, body, print_marks, legend, hidden_begin, hidden, foot, svg_of, Holds}
+use Rattle.ame_picture.specs.Picture.{marks_from, picture_head, frame, body, print_marks, legend, hidden_begin, hidden, foot, svg_of, HasHidden}
 use Rattle.ame_picture.specs.Shapes.{words_text}
 
 first_hidden : (p w l b t c other e : List ℕ) → p ++ (w ++ l ++ (b ++ t ++ c) ++ other ++ e) ≡ (p ++ (w ++ l)) ++ (b ++ (t ++ (c ++ (other ++ e))))
@@ -23,7 +23,7 @@ above drawing lines captions =
     picture_head top picks captions ++ frame top picks drawing ++ marks_from (stamp_mark top) 1 drawing.stamps.items ++ body drawing
     ++ print_marks top lines drawing.stamps.items
 
-pub holds_replay : (drawing : Drawing) (lines : List (List ℤ)) (captions : Captions) → Holds (svg_of drawing lines captions) (codes "replay") captions.replay.items
+pub holds_replay : (drawing : Drawing) (lines : List (List ℤ)) (captions : Captions) → HasHidden (svg_of drawing lines captions) (codes "replay") captions.replay.items
 unfolding above svg_of foot hidden
 holds_replay drawing lines captions =
     let top = journal_top drawing.seats drawing.places in
@@ -35,7 +35,7 @@ holds_replay drawing lines captions =
       split = first_hidden (above drawing lines captions) words (legend (top + 62)) (hidden_begin (codes "replay")) (escaped captions.replay.items) HIDDEN_END.now other (codes "</svg>\n");
     }
 
-pub holds_journal : (drawing : Drawing) (lines : List (List ℤ)) (captions : Captions) → Holds (svg_of drawing lines captions) (codes "journal") captions.journal.items
+pub holds_journal : (drawing : Drawing) (lines : List (List ℤ)) (captions : Captions) → HasHidden (svg_of drawing lines captions) (codes "journal") captions.journal.items
 unfolding above svg_of foot hidden
 holds_journal drawing lines captions =
     let top = journal_top drawing.seats drawing.places in

@@ -14,32 +14,39 @@ abbrev pub is_sought : Sought → Pick → Bool
 is_sought (Sought.Member member) pick = pick.member == member && is_work pick.did
 is_sought (Sought.Write seat place) pick = pick.seat == seat && is_write_to place pick
 
+-- where pick k is
+abbrev pub spot_of : ℕ → Pick → Spot
+spot_of k pick = record { pick = k; seat = pick.seat }
+
 -- the last one that is sought, where this was the last before pick k
 abbrev pub last_spot : Sought → ℕ → Option Spot → List Pick → Option Spot
 last_spot sought k last [] = last
 last_spot sought k last (pick ∷ picks) =
-    last_spot sought (k + 1) (if is_sought sought pick then Some (record { pick = k; seat = pick.seat }) else last) picks
+    last_spot sought (k + 1) (if is_sought sought pick then Some (spot_of k pick) else last) picks
+
+-- an arrow of a member from a spot to another
+abbrev pub between : ArrowKind → ℕ → Spot → Spot → Arrow
+between kind member from to =
+    record { kind = kind; member = member; from = from.pick; from_seat = from.seat; to = to.pick; to_seat = to.seat }
 
 -- a member goes on where it was last at work
-abbrev pub continuation : ℕ → Pick → Option Spot → Option Arrow
-continuation k pick None = None
-continuation k pick (Some spot) =
-    Some (record { kind = ArrowKind.GoesOn; member = pick.member; from = spot.pick; from_seat = spot.seat; to = k; to_seat = pick.seat })
+abbrev pub continuation : Pick → Option Spot → Spot → Option Arrow
+continuation pick None here = None
+continuation pick (Some last) here = Some (between ArrowKind.GoesOn pick.member last here)
 
 -- the owner's last write was in the way
-abbrev pub obstacle : ℕ → Pick → Option Spot → Option Arrow
-obstacle k pick None = None
-obstacle k pick (Some spot) =
-    Some (record { kind = ArrowKind.InTheWay; member = pick.member; from = k; from_seat = pick.seat; to = spot.pick; to_seat = spot.seat })
+abbrev pub obstacle : Pick → Option Spot → Spot → Option Arrow
+obstacle pick None here = None
+obstacle pick (Some write) here = Some (between ArrowKind.InTheWay pick.member here write)
 
 -- what a refused write met
 abbrev pub obstacle_at : ℕ → Pick → ℕ → List Pick → Option ℕ → Option Arrow
 obstacle_at k pick owner earlier None = None
-obstacle_at k pick owner earlier (Some place) = obstacle k pick (last_spot (Sought.Write owner place) 0 None earlier)
+obstacle_at k pick owner earlier (Some place) = obstacle pick (last_spot (Sought.Write owner place) 0 None earlier) (spot_of k pick)
 
 -- the arrow of pick k, where these picks were made before it
 abbrev pub arrow_by : ℕ → Pick → List Pick → Did → Option Arrow
-arrow_by k pick earlier Did.Began = continuation k pick (last_spot (Sought.Member pick.member) 0 None earlier)
+arrow_by k pick earlier Did.Began = continuation pick (last_spot (Sought.Member pick.member) 0 None earlier) (spot_of k pick)
 arrow_by k pick earlier (Did.Met owner) = obstacle_at k pick owner earlier pick.place
 arrow_by k pick earlier _ = None
 

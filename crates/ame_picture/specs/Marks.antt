@@ -20,6 +20,10 @@ use Rattle.ame_picture.specs.Shapes.{box_text, line_text, words_begin, words_tex
 unfoldable pub member_begin : ℕ → List ℕ
 member_begin member = codes "<g class=" ++ codes "\"m" ++ decimal (member % 8) ++ codes "\">"
 
+-- a line of a member from a place to another
+unfoldable pub member_line : ℕ → List ℕ → ℕ → ℕ → ℕ → ℕ → List ℕ
+member_line member class x y to_x to_y = member_begin member ++ line_text class x y to_x to_y ++ codes "</g>\n"
+
 -- how the box of an attempt looks, and what its title says
 abbrev pub fate_class : Fate → List ℕ
 fate_class Fate.UnderWay = codes "begun"
@@ -175,14 +179,12 @@ span_mark seats span =
 -- where a member goes on, below the boxes
 unfoldable pub on_line : Arrow → List ℕ
 on_line arrow =
-    member_begin arrow.member ++ line_text (codes "on") (left_of arrow.from + 21) (top_of arrow.from_seat + 6) (left_of arrow.to + 1) (top_of arrow.to_seat + 6)
-    ++ codes "</g>\n"
+    member_line arrow.member (codes "on") (left_of arrow.from + 21) (top_of arrow.from_seat + 6) (left_of arrow.to + 1) (top_of arrow.to_seat + 6)
 
 -- what was in the way, above the boxes
 unfoldable pub way_line : Arrow → List ℕ
 way_line arrow =
-    member_begin arrow.member ++ line_text (codes "way") (middle_of arrow.from) (top_of arrow.from_seat + 17) (middle_of arrow.to) (top_of arrow.to_seat + 17)
-    ++ codes "</g>\n"
+    member_line arrow.member (codes "way") (middle_of arrow.from) (top_of arrow.from_seat + 17) (middle_of arrow.to) (top_of arrow.to_seat + 17)
 
 abbrev pub on_marks : Arrow → ArrowKind → List ℕ
 on_marks arrow ArrowKind.GoesOn = on_line arrow
@@ -211,7 +213,7 @@ print_mark top stamp (x ∷ printed) =
 -- a line from an invalid read down to the location's lane
 unfoldable pub stale_line : ℕ → ℕ → Pick → ℕ → List ℕ
 stale_line seats k pick place =
-    member_begin pick.member ++ line_text (codes "stale") (middle_of k) (top_of pick.seat + 31) (middle_of k) (place_top seats place) ++ codes "</g>\n"
+    member_line pick.member (codes "stale") (middle_of k) (top_of pick.seat + 31) (middle_of k) (place_top seats place)
 
 -- the line of a location, if it is one of so many that have a lane
 abbrev pub stale_at : ℕ → ℕ → ℕ → Pick → Option ℕ → List ℕ

@@ -80,7 +80,7 @@ svg_of drawing lines captions =
     ++ print_marks top lines drawing.stamps.items ++ foot top captions
 
 -- A page holds a hidden text of this name: what stands behind its beginning, up to its end, is the text, escaped.
-pub record Holds (page name text : List ℕ) : Type 0 where
+pub record HasHidden (page name text : List ℕ) : Type 0 where
   pub front : List ℕ
   pub behind : List ℕ
   pub split : page ≡ front ++ (hidden_begin name ++ (escaped text ++ (HIDDEN_END.now ++ behind)))

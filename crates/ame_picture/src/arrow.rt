@@ -72,44 +72,53 @@ fn arrow_of(earlier: &[Pick], index: u32, pick: &Pick) -> Option<Arrow>
     requires { length earlier.now < 2 ^ 32 }
     ensures { result ≡ spec.arrow_by index pick.now earlier.now pick.now.did }
 {
+    let here = spot_of(index, pick);
     match pick.did {
-        Did::Began => { continuation(index, pick, last_spot(earlier, Sought::Member(pick.member))) }
+        Did::Began => continuation(pick, last_spot(earlier, Sought::Member(pick.member)), here),
         Did::Met(owner) => match pick.place {
             None => None,
-            Some(place) => obstacle(index, pick, last_spot(earlier, Sought::Write(owner, place))),
+            Some(place) => obstacle(pick, last_spot(earlier, Sought::Write(owner, place)), here),
         },
         _ => None,
     }
 }
 
-/// A member goes on where it was last at work.
-fn continuation(index: u32, pick: &Pick, spot: Option<Spot>) -> Option<Arrow>
-    ensures { result ≡ spec.continuation index pick.now spot }
+/// Where a pick with this index is.
+fn spot_of(index: u32, pick: &Pick) -> Spot
+    ensures { result ≡ spec.spot_of index pick.now }
 {
-    let spot = spot?;
-    Some(Arrow {
-        kind: ArrowKind::GoesOn,
-        member: pick.member,
-        from: spot.pick,
-        from_seat: spot.seat,
-        to: index,
-        to_seat: pick.seat,
-    })
+    Spot {
+        pick: index,
+        seat: pick.seat,
+    }
+}
+
+/// An arrow of a member from a spot to another.
+fn between(kind: ArrowKind, member: u64, from: Spot, to: Spot) -> Arrow
+    ensures { result ≡ spec.between kind member from to }
+{
+    Arrow {
+        kind,
+        member,
+        from: from.pick,
+        from_seat: from.seat,
+        to: to.pick,
+        to_seat: to.seat,
+    }
+}
+
+/// A member goes on where it was last at work.
+fn continuation(pick: &Pick, last: Option<Spot>, here: Spot) -> Option<Arrow>
+    ensures { result ≡ spec.continuation pick.now last here }
+{
+    Some(between(ArrowKind::GoesOn, pick.member, last?, here))
 }
 
 /// The owner's last write was in the way.
-fn obstacle(index: u32, pick: &Pick, spot: Option<Spot>) -> Option<Arrow>
-    ensures { result ≡ spec.obstacle index pick.now spot }
+fn obstacle(pick: &Pick, write: Option<Spot>, here: Spot) -> Option<Arrow>
+    ensures { result ≡ spec.obstacle pick.now write here }
 {
-    let spot = spot?;
-    Some(Arrow {
-        kind: ArrowKind::InTheWay,
-        member: pick.member,
-        from: index,
-        from_seat: pick.seat,
-        to: spot.pick,
-        to_seat: spot.seat,
-    })
+    Some(between(ArrowKind::InTheWay, pick.member, here, write?))
 }
 
 /// The last one that is sought.
@@ -120,10 +129,7 @@ fn last_spot(picks: &[Pick], sought: Sought) -> Option<Spot>
     let mut last = None;
     for (index, pick) in picks.iter().enumerate() {
         if sought.is_met_by(pick) {
-            last = Some(Spot {
-                pick: index as u32,
-                seat: pick.seat,
-            });
+            last = Some(spot_of(index as u32, pick));
         }
     }
     last

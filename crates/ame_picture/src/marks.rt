@@ -27,6 +27,22 @@ fn append_member(page: &mut Vec<u8>, member: u64) -> Result<(), NoMemory>
     append(page, b"\">")
 }
 
+/// Adds a line of a member from a place to another.
+#[tactic(auto, unfolding(crate::specs::Marks::member_line))]
+fn append_member_line(
+    page: &mut Vec<u8>,
+    member: u64,
+    class: &[u8],
+    at: Place,
+    to: Place,
+) -> Result<(), NoMemory>
+    ensures { OnOk result (page.new.items ≡ page.old.items ++ spec.member_line member class.now at.x at.y to.x to.y) }
+{
+    append_member(page, member)?;
+    append_line(page, class, at, to)?;
+    append(page, b"</g>\n")
+}
+
 /// Adds an attempt: a box with the member's number in a field.
 #[tactic(auto, unfolding(crate::specs::Marks::attempt_mark))]
 pub(crate) fn append_attempt(page: &mut Vec<u8>, attempt: &Attempt) -> Result<(), NoMemory>
@@ -59,17 +75,13 @@ fn append_attempt_field(page: &mut Vec<u8>, attempt: &Attempt) -> Result<(), NoM
 {
     let x = left_of(attempt.from);
     let y = top_of(attempt.seat);
-    append_box(page, b"field", Place { x: x + 3, y: y + 3 }, 17, 13)?;
-    append_label(
-        page,
-        b"number",
-        Place {
-            x: x + 5,
-            y: y + 13,
-        },
-        b"",
-        attempt.member,
-    )
+    let corner = Place { x: x + 3, y: y + 3 };
+    let number = Place {
+        x: x + 5,
+        y: y + 13,
+    };
+    append_box(page, b"field", corner, 17, 13)?;
+    append_label(page, b"number", number, b"", attempt.member)
 }
 
 /// Adds the beginning of the title of what has a number.
@@ -284,20 +296,10 @@ pub(crate) fn append_lane(page: &mut Vec<u8>, picks: u32, seat: u32) -> Result<(
     ensures { OnOk result (page.new.items ≡ page.old.items ++ spec.lane_mark picks seat) }
 {
     let y = top_of(seat);
-    append_label(
-        page,
-        b"lane",
-        Place { x: 10, y: y + 20 },
-        b"seat ",
-        u64::from(seat),
-    )?;
-    append_box(
-        page,
-        b"floor",
-        Place { x: 96, y: y + 33 },
-        22 * u64::from(picks),
-        1,
-    )
+    let name = Place { x: 10, y: y + 20 };
+    let floor = Place { x: 96, y: y + 33 };
+    append_label(page, b"lane", name, b"seat ", u64::from(seat))?;
+    append_box(page, b"floor", floor, 22 * u64::from(picks), 1)
 }
 
 /// Adds a line at a pick, down to the journal.
@@ -306,13 +308,8 @@ pub(crate) fn append_tick(page: &mut Vec<u8>, top: u64, pick: u32) -> Result<(),
     ensures { OnOk result (page.new.items ≡ page.old.items ++ spec.tick_mark top pick) }
 {
     let x = left_of(pick);
-    append_label(
-        page,
-        b"tick",
-        Place { x: x + 2, y: 62 },
-        b"",
-        u64::from(pick),
-    )?;
+    let number = Place { x: x + 2, y: 62 };
+    append_label(page, b"tick", number, b"", u64::from(pick))?;
     append_line(page, b"grid", Place { x, y: 66 }, Place { x, y: top })
 }
 
@@ -409,9 +406,7 @@ fn append_on_line(page: &mut Vec<u8>, arrow: &Arrow) -> Result<(), NoMemory>
         x: left_of(arrow.to) + 1,
         y: top_of(arrow.to_seat) + 6,
     };
-    append_member(page, arrow.member)?;
-    append_line(page, b"on", at, to)?;
-    append(page, b"</g>\n")
+    append_member_line(page, arrow.member, b"on", at, to)
 }
 
 /// Adds what was in the way, if the arrow tells it.
@@ -438,9 +433,7 @@ fn append_way_line(page: &mut Vec<u8>, arrow: &Arrow) -> Result<(), NoMemory>
         x: middle_of(arrow.to),
         y: top_of(arrow.to_seat) + 17,
     };
-    append_member(page, arrow.member)?;
-    append_line(page, b"way", at, to)?;
-    append(page, b"</g>\n")
+    append_member_line(page, arrow.member, b"way", at, to)
 }
 
 /// Adds what an entry printed, below its box, if it printed anything.
@@ -543,7 +536,5 @@ fn append_stale_line(
         x,
         y: place_top(seats, place),
     };
-    append_member(page, pick.member)?;
-    append_line(page, b"stale", at, to)?;
-    append(page, b"</g>\n")
+    append_member_line(page, pick.member, b"stale", at, to)
 }

@@ -4,7 +4,7 @@ ghost use Rattle.std.specs.Prelude.{◌≡◌, ◌+◌, ◌*◌, ◌/◌, ◌<�
 ghost use Rattle.std.specs.List.{flat_map};
 ghost use Rattle.ame_picture.specs.Marks as marks;
 ghost use Rattle.ame_picture.specs.Picture as spec;
-ghost use Rattle.ame_picture.specs.Picture.{marks_from, Holds};
+ghost use Rattle.ame_picture.specs.Picture.{marks_from, HasHidden};
 
 use crate::arrow::Arrow;
 use crate::constants::{HATCHINGS, HIDDEN, HIDDEN_END, KEYS, LEGEND, OPENING, STYLES, VIEW_BOX};
@@ -34,8 +34,8 @@ pub fn picture_of(
 ) -> Result<Vec<u8>, NoMemory>
     requires { length drawing.now.picks.items < 2 ^ 32 }
     ensures told { IfOk result (λ page. page.items ≡ spec.svg_of drawing.now (map (λ v. v.items) lines.now) captions.now) }
-    ensures replay { IfOk result (λ page. Holds page.items (codes "replay") captions.now.replay.items) }
-    ensures journal { IfOk result (λ page. Holds page.items (codes "journal") captions.now.journal.items) }
+    ensures replay { IfOk result (λ page. HasHidden page.items (codes "replay") captions.now.replay.items) }
+    ensures journal { IfOk result (λ page. HasHidden page.items (codes "journal") captions.now.journal.items) }
 {
     let page = collect(alloc, drawing, lines, captions)?;
     Ok(page)

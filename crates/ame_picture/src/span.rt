@@ -1,6 +1,6 @@
 //! The lane of a location: who owned it, and when.
 
-ghost use Rattle.std.specs.Prelude.{◌≡◌, ◌+◌, ◌<◌, ◌^◌, None, IfOk, length, min};
+ghost use Rattle.std.specs.Prelude.{◌≡◌, ◌+◌, ◌<◌, ◌^◌, ◌++◌, None, IfOk, OnOk, length, min};
 ghost use Rattle.ame_picture.specs.Spans as spec;
 
 use crate::pick::{Did, Pick};
@@ -37,18 +37,16 @@ pub(crate) fn spans_of(alloc: Global, places: u32, picks: &[Pick]) -> Result<Vec
 {
     let mut spans = Vec::new(alloc);
     for place in 0..places {
-        let lane = spans_at(alloc, place, picks)?;
-        spans.extend_from_slice(lane.as_slice())?;
+        add_spans_at(&mut spans, place, picks)?;
     }
     Ok(spans)
 }
 
-/// The spans of a location, in order.
-fn spans_at(alloc: Global, place: u32, picks: &[Pick]) -> Result<Vec<Span>, NoMemory>
+/// Adds the spans of a location, in order.
+fn add_spans_at(spans: &mut Vec<Span>, place: u32, picks: &[Pick]) -> Result<(), NoMemory>
     requires { length picks.now < 2 ^ 32 }
-    ensures { IfOk result (λ spans. spans.items ≡ spec.spans_from place 0 None picks.now) }
+    ensures { OnOk result (spans.new.items ≡ spans.old.items ++ spec.spans_from place 0 None picks.now) }
 {
-    let mut spans = Vec::new(alloc);
     let mut begun = None;
     for (index, pick) in picks.iter().enumerate() {
         match begun {
@@ -71,7 +69,7 @@ fn spans_at(alloc: Global, place: u32, picks: &[Pick]) -> Result<Vec<Span>, NoMe
             ..span
         })?;
     }
-    Ok(spans)
+    Ok(())
 }
 
 /// A span that begins with a pick.

@@ -1,6 +1,6 @@
 -- Reads, writes and allocations of a seat that runs protected code.
 use Rattle.std.proofs.Common.{◌≡◌, ℕ, ◌+◌, ◌*◌, ◌<◌, ◌≤◌, ◌⊎◌, inl, inr, Option, Some, true, false, length, length-set, refl, sym, ap, ◌∙◌, subst, arith}
-use Rattle.ame_term.specs.Tree.{Typ, Val}
+use Rattle.ame_term.specs.Tree.{Typ, Val, Tree, unit_tree}
 use Rattle.ame_term.specs.Act.{Act}
 use Rattle.ame_term.specs.declared.types.Loc.{Loc}
 use Rattle.ame_term.specs.declared.types.Sort.{Sort}
@@ -13,19 +13,19 @@ use Rattle.ame_store.specs.Cells.{IsFree, IsOwnedBy}
 use Rattle.ame_store.specs.Changes.{made}
 use Rattle.ame_store.specs.Writes.{taken_by}
 use Rattle.ame_rows.specs.declared.notes.Undo.TheVariants.{Wrote, Made}
-use Rattle.ame_machine.specs.Run.Local.{LocalState}
+use Rattle.ame_machine.specs.Run.Local.{LocalState, took, set_at, made_at}
 use Rattle.ame_rows.specs.MemoryView.{MemoryView, row_at}
 use Rattle.ame_rows.specs.Access.{notes_read, notes_written, notes_allocated, written_by, next_place, allocated_by}
 use Rattle.ame_rows.proofs.LookupLemmas.{row_set_else}
 use Rattle.ame_protocol.specs.Row.Heap.{Heap, cell_at, IsCell}
-use Rattle.ame_protocol.specs.Row.SeatRun.{SeatRun, ComesTo}
+use Rattle.ame_protocol.specs.Row.SeatRun.{SeatRun, IsSomewhere, ComesTo}
 use Rattle.ame_protocol.specs.Row.Owes.{Owes}
 use Rattle.ame_protocol.specs.Row.Changed.{BecomesAt}
 use Rattle.ame_protocol.specs.Row.Framed.{IsFramedAt, IsFramed}
 use Rattle.ame_protocol.specs.Row.Own.{given_one, given_outside, given_undo}
 use Rattle.ame_protocol.specs.Row.TypedHeap.{types_with, IsTypedHeap, IsTypedRun}
 use Rattle.ame_protocol.specs.Row.Scoped.{IsScoped}
-use Rattle.ame_protocol.proofs.Row.OwnLemmas.{outside, own_read, first_write, second_write, allocation}
+use Rattle.ame_protocol.proofs.Row.OwnLemmas.{somewhere-on, outside, own_read, first_write, second_write, allocation}
 use Rattle.ame_protocol.proofs.Row.EventLemmas.{taken-framed, again-framed, new-framed}
 use Rattle.ame_protocol.proofs.Row.TypedRunLemmas.{read-typed, run-read, write-typed, run-first, run-write, heap-stays, allocated-typed, types-grow, new-fit, heap-grows, run-made}
 use Rattle.ame_protocol.proofs.Row.ScopedLemmas.{scoped-outside, scoped-own, scoped-first, scoped-later, scoped-made}
@@ -57,13 +57,14 @@ module _ (parts : Parts) (s : Simulates parts) (seat : ℕ) (attempt : Attempt) 
 
   -- the row after an event that leaves the task
   runs-acted : (memory : MemoryView Val) (turns : ℕ) (types : StoreTyping) (next : SeatRun) → parts.turns ≤ turns
-      → logged_run (term_at parts.pool attempt.tried.number) (row_at memory.rows seat) ≡ next → Owes (heap_of memory) seat next → IsTypedRun parts.devices types next
+      → logged_run (term_at parts.pool attempt.tried.number) (row_at memory.rows seat) ≡ next → IsSomewhere next → Owes (heap_of memory) seat next → IsTypedRun parts.devices types next
       → IsScoped parts.devices types (heap_of memory) seat next → MeetsTask (acted memory parts.tasks turns parts) types seat (task_at parts.tasks seat)
-  runs-acted memory turns types next later is owes typed scoped =
+  runs-acted memory turns types next later is there owes typed scoped =
       let new = acted memory parts.tasks turns parts in
       let h : RunsProtected new types seat attempt = record {
         work = work-on parts new false attempt (goes_on parts memory parts.tasks turns later) (stays_busy parts memory parts.tasks turns attempt.tried.number) runs.work;
         outside = runs.outside;
+        somewhere = subst IsSomewhere (sym is) there;
         owes = subst (Owes (heap_of memory) seat) (sym is) owes;
         typed = subst (IsTypedRun parts.devices types) (sym is) typed;
         scoped = subst (IsScoped parts.devices types (heap_of memory) seat) (sym is) scoped;
@@ -95,18 +96,24 @@ module _ (parts : Parts) (s : Simulates parts) (seat : ℕ) (attempt : Attempt) 
       same : heap_of read_memory ≡ heap
       same = read-heap parts.memory seat within l
 
+      -- the run that was given it, with what was logged
+      stands-on : IsSomewhere (given_one cell.value run)
+      stands-on = somewhere-on run (Act.Reads l.0) n p cell.value (Tree.Held cell.value, took l.0 cell.value p) comes refl
+
       outside_typed : IsTypedRun parts.devices s.types (given_one cell.value run) → IsTypedRun parts.devices s.types (given_outside l cell run)
       outside_typed h = record { places = h.places; undos = h.undos }
 
       read-runs : IsOwnedBy seat cell ⊎ (IsOwnedBy seat cell → ⊥) → MeetsTask (acted read_memory parts.tasks later_turns parts) s.types seat (task_at parts.tasks seat)
       read-runs (inl own) =
           runs-acted read_memory later_turns s.types (given_one cell.value run) (omega arith) (read-own parts.memory seat within l is_there.0 own (term_at parts.pool attempt.tried.number))
+          stands-on
           (subst (λ (h : Heap). Owes h seat (given_one cell.value run)) (sym same) (own_read heap seat run runs.owes l.0 n p comes own))
           (run-read parts.devices s.types heap s.typed.heap run runs.typed n p l.0 comes)
           (subst (λ (h : Heap). IsScoped parts.devices s.types h seat (given_one cell.value run)) (sym same)
           (scoped-own parts.devices s.types heap seat run s.r.state l.0 n p comes runs.owes.given own runs.scoped))
       read-runs (inr apart) =
           runs-acted read_memory later_turns s.types (given_outside l cell run) (omega arith) (read-outside parts.memory seat within l is_there.0 apart (term_at parts.pool attempt.tried.number))
+          (record { steps = stands-on.steps; place = stands-on.place; used = record { ran = stands-on.used.ran; used = stands-on.used.used } })
           (subst (λ (h : Heap). Owes h seat (given_outside l cell run)) (sym same)
           (outside heap seat run runs.owes (memory-committed parts.memory) l n p comes is_there.0 is_there.1 apart))
           (outside_typed (run-read parts.devices s.types heap s.typed.heap run runs.typed n p l.0 comes))
@@ -176,6 +183,9 @@ module _ (parts : Parts) (s : Simulates parts) (seat : ℕ) (attempt : Attempt) 
         own = own;
       }
 
+      stands-written : IsSomewhere (given_one Val.Unit run)
+      stands-written = somewhere-on run (Act.Writes l.0 v) n p Val.Unit (unit_tree, set_at l.0 v p) comes refl
+
       pub write-first_stands : IsFree written_cell → Simulates (has_written seat l v parts)
       write-first_stands free =
           let b = write-first parts.memory seat l v can_write.0 free in
@@ -185,6 +195,7 @@ module _ (parts : Parts) (s : Simulates parts) (seat : ℕ) (attempt : Attempt) 
           (write-acts (taken_by seat v written_cell) b refl can_write.2 (few-taken parts.turns seat v written_cell free (s.bounded.numbers l.0))
           (λ other apart. taken-framed other seat (λ e. apart (sym e)) heap (heap_of wrote) l.0 k v free b)
           (runs-acted wrote later_turns s.types next (omega arith) (first-run parts.memory seat l v within can_write.0 free (term_at parts.pool attempt.tried.number))
+          (record { steps = stands-written.steps; place = stands-written.place; used = record { ran = stands-written.used.ran; used = stands-written.used.used } })
           (first_write heap (heap_of wrote) seat run runs.owes l v n p (memory-committed parts.memory) comes can_write.0 free b k)
           (run-first parts.devices s.types heap s.typed.heap run runs.typed n p l written_cell.number v comes)
           (scoped-first parts.devices s.types s.types heap (heap_of wrote) seat run (λ m c e. e) runs.owes.notes runs.scoped l.0 v n p comes free b)))
@@ -198,6 +209,7 @@ module _ (parts : Parts) (s : Simulates parts) (seat : ℕ) (attempt : Attempt) 
           (write-acts cell b refl can_write.2 (few-later parts.turns later_turns written_cell (omega arith) (s.bounded.numbers l.0))
           (λ other apart. again-framed other seat (λ e. apart (sym e)) heap (heap_of wrote) l.0 k v own b)
           (runs-acted wrote later_turns s.types (given_one Val.Unit run) (omega arith) (later-run parts.memory seat l v within can_write.0 own (term_at parts.pool attempt.tried.number))
+          stands-written
           (second_write heap (heap_of wrote) seat run runs.owes l v n p comes own b k)
           (run-write parts.devices s.types heap s.typed.heap run runs.typed n p l.0 v comes)
           (scoped-later parts.devices s.types s.types heap (heap_of wrote) seat run (λ m c e. e) runs.owes.notes runs.scoped l.0 v n p comes b)))
@@ -220,6 +232,9 @@ module _ (parts : Parts) (s : Simulates parts) (seat : ℕ) (attempt : Attempt) 
 
       not_there : IsCell heap place → ⊥
       not_there there = let h : place < length parts.memory.cells = there in omega arith
+
+      stands-made : IsSomewhere (given_one (Val.Loc place) run)
+      stands-made = somewhere-on run (Act.Allocates sort v) n p (Val.Loc place) (Tree.Held (Val.Loc place), made_at place v p) comes refl
 
       allocation-acts : (content : Typ) → IsValueOf parts.devices s.types v content → Acts parts s seat larger parts.tasks later_turns
       allocation-acts content value =
@@ -250,6 +265,7 @@ module _ (parts : Parts) (s : Simulates parts) (seat : ℕ) (attempt : Attempt) 
             cells = let h = s.bounded.cells in let e = allocation-count parts.memory seat sort ty v in omega arith;
             own =
                 runs-acted larger later_turns types next (omega arith) (allocation-run parts.memory seat sort ty v within (term_at parts.pool attempt.tried.number))
+                (record { steps = stands-made.steps; place = stands-made.place; used = record { ran = stands-made.used.ran; used = stands-made.used.used } })
                 (allocation heap (heap_of larger) seat run runs.owes sort ty (next_place parts.memory.cells) v n p comes not_there b k)
                 (run-made parts.devices s.types types run sort (next_place parts.memory.cells) v n p grows runs.typed comes fit)
                 (scoped-made parts.devices s.types types heap (heap_of larger) seat run grows runs.owes.notes runs.scoped sort ty place v n p comes not_there b fit);

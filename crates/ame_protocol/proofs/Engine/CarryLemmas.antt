@@ -11,6 +11,7 @@ use Rattle.ame_rows.specs.declared.notes.Undo.{Undo}
 use Rattle.ame_rows.specs.declared.notes.Undo.TheVariants.{Wrote, Made}
 use Rattle.ame_rows.specs.MemoryView.{Log, row_at}
 use Rattle.ame_protocol.specs.Row.Framed.{IsFramed}
+use Rattle.ame_protocol.specs.Row.SeatRun.{IsSomewhere}
 use Rattle.ame_protocol.specs.Row.Owes.{Owes}
 use Rattle.ame_protocol.specs.Row.TypedHeap.{IsTypedUndo, IsTypedRun}
 use Rattle.ame_protocol.specs.Row.Scoped.{IsScoped}
@@ -78,6 +79,7 @@ module _ (old new : Parts) (types later : StoreTyping) (seat : ℕ) (on : GoesOn
       record {
         work = work-on old new false attempt on stays h.work;
         outside = stays.inside ∙ h.outside;
+        somewhere = subst IsSomewhere (sym same) h.somewhere;
         owes = subst (Owes (heap_in new) seat) (sym same) (owes-kept seat (heap_in old) (heap_in new) framed (run_in old seat i) h.owes);
         typed =
             subst (λ (d : ℕ). IsTypedRun d later (run_in new seat i)) (sym on.devices)

@@ -22,6 +22,7 @@ use Rattle.ame_rows.specs.MemoryView.{MemoryView, Log, no_log, row_at}
 use Rattle.ame_rows.specs.LettingGo.{notes_undone, undone_last}
 use Rattle.ame_rows.proofs.LookupLemmas.{row_set_else}
 use Rattle.ame_protocol.specs.Row.Heap.{cell_at}
+use Rattle.ame_protocol.specs.Row.SeatRun.{IsSomewhere}
 use Rattle.ame_protocol.specs.Row.Owes.{Owes}
 use Rattle.ame_protocol.specs.Row.UndoLog.{IsUndoLog}
 use Rattle.ame_protocol.specs.Row.Framed.{IsFramedAt}
@@ -29,7 +30,7 @@ use Rattle.ame_protocol.specs.Row.Own.{begun_seat}
 use Rattle.ame_protocol.specs.Row.TypedHeap.{IsTypedUndo, IsTypedRun}
 use Rattle.ame_protocol.specs.Row.Scoped.{live_types, IsScoped}
 use Rattle.ame_protocol.proofs.Row.CellLemmas.{which}
-use Rattle.ame_protocol.proofs.Row.OwnLemmas.{begun-owes}
+use Rattle.ame_protocol.proofs.Row.OwnLemmas.{begun-somewhere, begun-owes}
 use Rattle.ame_protocol.proofs.Row.SettledLemmas.{nothing-owned}
 use Rattle.ame_protocol.proofs.Row.ReachLemmas.{where-within, fragment-grown}
 use Rattle.ame_protocol.proofs.Row.TypedRunLemmas.{run-begun}
@@ -166,6 +167,7 @@ module _ (parts : Parts) (s : Simulates parts) (seat number : ℕ) (idle : task_
             let m : (elim (Some member) as (λ _. Bool) [ None ↦ false | Some x ↦ x.inside ]) ≡ false =
             subst (λ (o : Option (Member Tree)). (elim o [ None ↦ false | Some x ↦ x.inside ]) ≡ false) is-member e in
             inside-stays number ∙ ap (option_map (λ (x : Member Tree). x.inside)) is-member ∙ ap Some m;
+        somewhere = subst IsSomewhere (sym same) (begun-somewhere term);
         owes = subst (Owes (heap_in parts) seat) (sym same) (begun-owes (heap_in parts) seat term owns-nothing);
         typed = subst (IsTypedRun parts.devices s.types) (sym same) (run-begun parts.devices s.types term typed-term);
         scoped =

@@ -154,6 +154,7 @@ module _ (parts : Parts) (s : Simulates parts) (seat : ℕ) (attempt : Attempt) 
         retask (Task.Running checked) refl (record {
           work = check-work;
           outside = its-runs.outside;
+          somewhere = its-runs.somewhere;
           owes = its-runs.owes;
           typed = its-runs.typed;
           scoped = its-runs.scoped;

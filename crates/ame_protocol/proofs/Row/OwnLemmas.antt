@@ -23,16 +23,16 @@ use Rattle.ame_rows.specs.declared.notes.ReadNote.{ReadNote}
 use Rattle.ame_rows.specs.declared.notes.Undo.{Undo}
 use Rattle.ame_rows.specs.declared.notes.Undo.TheVariants.{Wrote, Made}
 use Rattle.ame_rows.specs.Valid.{IsValidAt}
-use Rattle.ame_machine.specs.Run.Local.{LocalState, begun_with, took, taken_where, set_at, made_at, fed, local}
+use Rattle.ame_machine.specs.Run.Local.{LocalState, begun_with, took, taken_where, set_at, made_at, fed, refilled_in, local}
 use Rattle.ame_protocol.specs.Row.Heap.{Heap, cell_at, IsCell, IsCommitted}
-use Rattle.ame_protocol.specs.Row.SeatRun.{SeatRun, HasUsed, ComesTo, IsValidNote, AreValid}
+use Rattle.ame_protocol.specs.Row.SeatRun.{SeatRun, HasUsed, IsSomewhere, ComesTo, IsValidNote, AreValid}
 use Rattle.ame_protocol.specs.Row.Given.{IsHeld, IsLogged, IsMadeCell, IsGiven}
 use Rattle.ame_protocol.specs.Row.UndoLog.{undo_place, IsUndo, IsUndoLog}
 use Rattle.ame_protocol.specs.Row.Owes.{IsNote, Owes}
 use Rattle.ame_protocol.specs.Row.Changed.{BecomesAt, KeepsCommitted}
 use Rattle.ame_protocol.specs.Row.Own.{begun_seat, given_one, given_outside, given_undo}
 use Rattle.ame_protocol.proofs.Row.CellLemmas.{each, free_or_owned, free-apart, owned_cell, after}
-use Rattle.ame_protocol.proofs.Row.PlaceLemmas.{SameFootprint, goes-footprint, later-footprint}
+use Rattle.ame_protocol.proofs.Row.PlaceLemmas.{SameFootprint, goes-footprint, goes-quiet, later-place, later-used, later-footprint}
 
 -- what a place was given is told by its footprint
 given-there : (heap : Heap) (seat : ℕ) (reads : List ReadNote) (p q : LocalState) → SameFootprint p q → IsGiven heap seat reads p → IsGiven heap seat reads q
@@ -52,6 +52,25 @@ given-on heap seat run act n p v reads result c gives h m q ran used =
     (later-footprint Side.Protected (begun_with run.start run.inputs) p c.there.redex n v result c.place.ran c.place.used c.there.stands
     (ap (λ (a : Act). fed a Side.Protected v p) c.there.acts ∙ gives) m q ran used)
     h
+
+-- after one more input it stands somewhere
+pub somewhere-on : (run : SeatRun) (act : Act) (n : ℕ) (p : LocalState) (v : Val) (result : Tree × LocalState) → ComesTo run act n p
+    → fed act Side.Protected v p ≡ Some result → IsSomewhere (given_one v run)
+somewhere-on run act n p v result c gives =
+    let its = ap (λ (a : Act). fed a Side.Protected v p) c.there.acts ∙ gives in
+    let start = begun_with run.start run.inputs in
+    record {
+      steps = n + 1;
+      place = refilled_in p.term result;
+      used = record {
+        ran = later-place Side.Protected start p c.there.redex n v result c.place.ran c.place.used c.there.stands its (goes-quiet start p n c.place.ran refl);
+        used = later-used Side.Protected start p c.there.redex n v result c.place.ran c.place.used c.there.stands its;
+      };
+    }
+
+-- so does a run that begins
+pub begun-somewhere : (term : Tree) → IsSomewhere (begun_seat term)
+begun-somewhere term = record { steps = 0; place = begun_with term []; used = record { ran = refl; used = refl } }
 
 -- more reads are logged
 logged-more : (heap : Heap) (seat : ℕ) (reads more : List ReadNote) (e : ℕ × Val) → IsLogged heap seat reads e → IsLogged heap seat (reads ++ more) e

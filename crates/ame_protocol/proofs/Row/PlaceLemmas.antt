@@ -5,8 +5,9 @@ use Rattle.ame_term.specs.Tree.{Val, Tree}
 use Rattle.ame_term.specs.Frame.{Side}
 use Rattle.ame_term.specs.Context.{Focus, focus}
 use Rattle.ame_term.specs.Act.{Act, act_of}
-use Rattle.ame_machine.specs.Run.Local.{LocalState, fed, refilled_in, one_step, goes, given_more}
-use Rattle.ame_machine.proofs.Run.RunLemmas.{Acts, step-is, step-of, acted-more, feeds-of, goes-added, goes-on, goes-more}
+use Rattle.ame_term.specs.Maps.{at}
+use Rattle.ame_machine.specs.Run.Local.{LocalState, taken_where, fed, refilled_in, one_step, goes, given_more}
+use Rattle.ame_machine.proofs.Run.RunLemmas.{Feeds, Acts, step-is, step-of, acted-more, feeds-of, goes-added, goes-on, goes-more, one-more}
 use Rattle.ame_machine.proofs.Run.TypedLemmas.{feeds-inputs, goes-empty, compared}
 
 -- two places have one footprint
@@ -44,6 +45,35 @@ goes-footprint side p q (suc n) e empty =
     option_and_then_some _ _ _ e (λ r first second.
     footprint-trans p r q (goes-footprint side p r n first empty) (step-footprint side r q second (goes-empty side p r n first empty)))
 
+-- Protected code calls no device.
+
+taken-quiet : (o : Option Val) (l : ℕ) (v : Val) (p : LocalState) → (taken_where o l v p).answer ≡ p.answer
+taken-quiet None l v p = refl
+taken-quiet (Some w) l v p = refl
+
+feeds-quiet : (p : LocalState) (side : Side) (act : Act) (v : Val) (part : Tree) (q : LocalState) → Feeds p side act v part q → side ≡ Side.Protected → q.answer ≡ p.answer
+feeds-quiet p _ _ _ _ _ (Feeds.allocates side sort v l) e = refl
+feeds-quiet p _ _ _ _ _ (Feeds.reads side l v) e = taken-quiet (at p.sets l) l v p
+feeds-quiet p _ _ _ _ _ (Feeds.peeks l v) e = taken-quiet (at p.sets l) l v p
+feeds-quiet p _ _ _ _ _ (Feeds.writes side l v) e = refl
+feeds-quiet p _ _ _ _ _ (Feeds.spawns body) e = refl
+feeds-quiet p _ _ _ _ _ (Feeds.prints n) e = refl
+feeds-quiet p _ _ _ _ _ (Feeds.calls device n answer) e = absurd (let clash : Side.Unprotected ≡ Side.Protected = e in cc)
+
+acts-quiet : (p : LocalState) (side : Side) (act : Act) (part : Tree) (q : LocalState) → Acts p side act part q → side ≡ Side.Protected → q.answer ≡ p.answer
+acts-quiet p _ _ _ _ (Acts.feeds side act v inputs part q is given) e = feeds-quiet (record p { inputs = inputs }) side act v part q given e
+acts-quiet p _ _ _ _ (Acts.becomes side term) e = refl
+acts-quiet p _ _ _ _ (Acts.spawns body) e = refl
+acts-quiet p _ _ _ _ (Acts.prints n) e = refl
+acts-quiet p _ _ _ _ Acts.passes e = refl
+
+pub goes-quiet : (p q : LocalState) (n : ℕ) → goes Side.Protected p n ≡ Some q → p.answer ≡ None → q.answer ≡ None
+goes-quiet p q zero e quiet = let same : p ≡ q = cc in subst (λ (z : LocalState). z.answer ≡ None) same quiet
+goes-quiet p q (suc n) e quiet =
+    option_and_then_some _ _ _ e (λ r first second.
+    let x = step-is Side.Protected r q second in
+    ap (λ (z : LocalState). z.answer) x.is ∙ acts-quiet r Side.Protected (act_of x.redex) x.part x.behind x.acts refl ∙ x.resting)
+
 -- a run that has used all inputs, and stands at an act that takes one more
 module _ (side : Side) (start p : LocalState) (redex : Tree) (n : ℕ) (v : Val) (made : Tree × LocalState)
     (ran : goes side start n ≡ Some p) (empty : p.inputs ≡ []) (stands : focus p.term ≡ Focus.AtRedex side redex) (gives : fed (act_of redex) side v p ≡ Some made) where
@@ -67,6 +97,13 @@ module _ (side : Side) (start p : LocalState) (redex : Tree) (n : ℕ) (v : Val)
         },
         ap (λ (z : LocalState). z.inputs) (sym same) ∙ left ∙ empty,
       )
+
+  -- that step leads to a place that has used all inputs
+  pub later-place : p.answer ≡ None → goes side (given_more (v ∷ []) start) (n + 1) ≡ Some (refilled_in p.term made)
+  later-place quiet = one-more side start p redex v n made ran empty quiet stands gives
+
+  pub later-used : (refilled_in p.term made).inputs ≡ []
+  later-used = feeds-inputs p side (act_of redex) v made.0 made.1 (feeds-of p side (act_of redex) v made gives) ∙ empty
 
   -- each place that has used all inputs, this one too, stands after that step
   pub later-footprint : (m : ℕ) (q : LocalState) → goes side (given_more (v ∷ []) start) m ≡ Some q → q.inputs ≡ [] → SameFootprint made.1 q

@@ -193,7 +193,7 @@ told-work parts noted attempt h = record { busy = h.busy; sound = h.sound; few =
 told-meets : (parts : Parts) (types : StoreTyping) (seat : ℕ) (task : Task) → MeetsTask parts types seat task → MeetsTask parts types seat (told_task task)
 told-meets parts types seat Task.Idle h = h
 told-meets parts types seat (Task.Running attempt) h =
-    record { work = told-work parts false attempt h.work; outside = h.outside; owes = h.owes; typed = h.typed; scoped = h.scoped }
+    record { work = told-work parts false attempt h.work; outside = h.outside; somewhere = h.somewhere; owes = h.owes; typed = h.typed; scoped = h.scoped }
 told-meets parts types seat (Task.Free attempt) h = record { work = told-work parts false attempt h.work; inside = h.inside; clear = h.clear }
 told-meets parts types seat (Task.Undoing attempt reason) h =
     record { work = told-work parts (is_noted_for reason) attempt h.work; outside = h.outside; undos = h.undos }

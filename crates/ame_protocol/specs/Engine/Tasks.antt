@@ -5,6 +5,7 @@ use Rattle.ame_pool.specs.declared.member.Member.{Member}
 use Rattle.ame_pool.specs.Calls.{IsAt, is_running, is_noted, inside_of}
 use Rattle.ame_laws.specs.Typed.StoreTyping.{StoreTyping}
 use Rattle.ame_rows.specs.MemoryView.{no_log, row_at}
+use Rattle.ame_protocol.specs.Row.SeatRun.{IsSomewhere}
 use Rattle.ame_protocol.specs.Row.Owes.{Owes}
 use Rattle.ame_protocol.specs.Row.TypedHeap.{IsTypedUndo, IsTypedRun}
 use Rattle.ame_protocol.specs.Row.Scoped.{IsScoped}
@@ -36,11 +37,12 @@ pub record HasAtWork (parts : Parts) (noted : Bool) (attempt : Attempt) : Type 0
   pub few : attempt.tried.steps ≤ parts.limits.slice * parts.turns
 
 module _ (parts : Parts) (types : StoreTyping) (seat : ℕ) where
-  -- Protected code is run: the member isn't inside, and its run owes what it owes, is typed by all cells and, while its
-  -- reads are valid, by what it reaches.
+  -- Protected code is run: the member isn't inside, and its run stands somewhere, owes what it owes, is typed by all cells and,
+  -- while its reads are valid, by what it reaches.
   pub record RunsProtected (attempt : Attempt) : Type 0 where
     pub work : HasAtWork parts false attempt
     pub outside : inside_of attempt.tried.number parts.pool ≡ Some false
+    pub somewhere : IsSomewhere (run_in parts seat attempt.tried.number)
     pub owes : Owes (heap_in parts) seat (run_in parts seat attempt.tried.number)
     pub typed : IsTypedRun parts.devices types (run_in parts seat attempt.tried.number)
     pub scoped : IsScoped parts.devices types (heap_in parts) seat (run_in parts seat attempt.tried.number)

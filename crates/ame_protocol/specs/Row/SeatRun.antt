@@ -22,6 +22,12 @@ pub record HasUsed (run : SeatRun) (n : ℕ) (p : LocalState) : Type 0 where
   pub ran : local Side.Protected run.start run.inputs n ≡ Some p
   pub used : p.inputs ≡ []
 
+-- the run stands somewhere: at some place it has used all that it was given
+pub record IsSomewhere (run : SeatRun) : Type 0 where
+  pub steps : ℕ
+  pub place : LocalState
+  pub used : HasUsed run steps place
+
 -- a place of a run stands at an act, on a side of `unprotected`
 pub record StandsAt (side : Side) (act : Act) (p : LocalState) : Type 0 where
   pub redex : Tree

@@ -203,6 +203,7 @@ module _ {C V M : Type 0} (meaning : Meaning C V M) (core : Core C V M)
     free = free;
     once = whole.state.once.once;
     stopped = has-stopped core.stop refl whole.state.caused;
+    shown = record { limited = refl; counts = whole.state.counters; most = s.bounded.turns };
     lone = whole.state.lone.counts;
     bounds = has-bounds core.stop whole.state.bounds;
   }

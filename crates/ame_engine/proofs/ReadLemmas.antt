@@ -138,10 +138,11 @@ module _ {C V M : Type 0} (meaning : Meaning C V M) where
     task = runs-as parts seat (meaning.stage core.code m) on outside
 
     -- a cell is there
+    pub read-cell : IsCell (heap_in parts) l.0
+    read-cell = (read-there parts whole.state.stands seat on.attempt task (meaning.stage core.code m).steps comes.0 l comes.1).0
+
     pub read-within : l.0 < length core.memory.cells
-    read-within =
-        let there : IsCell (heap_in parts) l.0 = (read-there parts whole.state.stands seat on.attempt task (meaning.stage core.code m).steps comes.0 l comes.1).0 in
-        subst (λ (n : ℕ). l.0 < n) (length-map core.memory.cells (shown_cell (meaning.value_of core.code))) there
+    read-within = subst (λ (n : ℕ). l.0 < n) (length-map core.memory.cells (shown_cell (meaning.value_of core.code))) read-cell
 
     -- what is in place there, as plain data
     pub in-place : (cell : Cell V) → slice_get core.memory.cells l.0 ≡ Some cell → (cell_at (heap_in parts) l.0).value ≡ meaning.value_of core.code cell.value

@@ -2,13 +2,18 @@
 use Rattle.std.proofs.Common.{◌≡◌, ℕ, ◌+◌, ◌<◌, false, length, All, Option, Some, refl, sym, ap, ◌∙◌, subst, None}
 use Rattle.std.specs.Prelude.{slice_get}
 use Rattle.std.specs.Option.{ForSome}
+use Rattle.ame_term.specs.Tree.{Val}
 use Rattle.ame_term.specs.declared.types.Loc.{Loc}
+use Rattle.ame_laws.specs.Typed.StoreTyping.{StoreTyping}
+use Rattle.ame_laws.specs.Typed.Fragment.{IsValueOf}
+use Rattle.ame_laws.specs.Typed.TypedState.{IsStored}
 use Rattle.ame_store.specs.declared.cell.Cell.{Cell}
 use Rattle.ame_store.specs.Cells.{HasItsParity}
 use Rattle.ame_rows.specs.MemoryView.{MemoryView, row_at, by_seat}
 use Rattle.ame_rows.specs.Access.{IsRead}
 use Rattle.ame_rows.proofs.LookupLemmas.{get_there, all_at}
 use Rattle.ame_protocol.specs.Row.Heap.{cell_at}
+use Rattle.ame_protocol.specs.Row.TypedHeap.{IsTypedHeap}
 use Rattle.ame_machine.specs.declared.wants.Wants.{Wants}
 use Rattle.ame_machine.specs.declared.wants.Wants.TheVariants as wants
 use Rattle.ame_machine.specs.MachineView.{MachineView}
@@ -24,7 +29,7 @@ use Rattle.ame_engine.specs.Makes.{Makes}
 use Rattle.ame_engine.specs.Whole.{IsSound, IsGoodMemory}
 use Rattle.ame_engine.specs.AtWork.{IsOnSeat, IsOn}
 use Rattle.ame_engine.proofs.MakesLemmas.{made-event}
-use Rattle.ame_engine.proofs.ReadLemmas.{read-within, in-place, read-parts, may-read, read-memory}
+use Rattle.ame_engine.proofs.ReadLemmas.{read-cell, read-within, in-place, read-parts, may-read, read-memory}
 use Rattle.ame_engine.proofs.RunLemmas.{can-run}
 use Rattle.ame_machine.specs.Meaning.{Meaning}
 use Rattle.ame_engine.proofs.SoundLemmas.{sound-next}
@@ -120,6 +125,20 @@ module _ {C V M : Type 0} (meaning : Meaning C V M) (same : V → V → Type 0)
         subst (λ (x : Loc). meaning.value_of now.code value ≡ (cell_at (heap_in (parts_of meaning now)) x.0).value)
         (read-same l k (meaning.stage now.code m).want told e)
         (subst (λ (x : Core C V M). meaning.value_of x.code value ≡ (cell_at (heap_in (parts_of meaning x)) l.0).value) view in-core)
+
+    -- it is of the type of its location, by whatever types the cells are typed
+    abbrev IsTypedThere : Core C V M → Loc → Type 0
+    IsTypedThere x k = (types : StoreTyping) → IsTypedHeap (meaning.devices x.code) types (heap_in (parts_of meaning x))
+        → IsStored (meaning.devices x.code) types k.0 (meaning.value_of x.code value)
+
+    typed-core : IsTypedThere core l
+    typed-core types heap =
+        let its = heap.typed l.0 (read-cell meaning core whole seat m l on' outside' need') in
+        (_, its.1, subst (λ (v : Val). IsValueOf (meaning.devices core.code) types v its.0) (sym in-core) its.2)
+
+    pub typed-read : (k : Loc) → (meaning.stage now.code m).want ≡ Some (wants.Read k) → IsTypedThere now k
+    typed-read k e =
+        subst (IsTypedThere now) (read-same l k (meaning.stage now.code m).want told e) (subst (λ (x : Core C V M). IsTypedThere x l) view typed-core)
 
     pub good-read : meaning.is_value now.code value
     good-read = subst (λ (x : Core C V M). meaning.is_value x.code value) view good-value

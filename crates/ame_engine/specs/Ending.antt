@@ -1,5 +1,5 @@
 -- What an engine had at its end, and what that tells.
-use Rattle.std.specs.Prelude.{◌≡◌, ℕ, ℤ, ◌<◌, ◌++◌, ◌↔◌, List, [], ◌∷◌, map, All, Contains, Option, Some, IsSome}
+use Rattle.std.specs.Prelude.{◌≡◌, ℕ, ℤ, ◌<◌, ◌≤◌, ◌++◌, ◌↔◌, List, [], ◌∷◌, map, All, Contains, Option, Some, IsSome}
 use Rattle.ame_term.specs.Tree.{Val, Tree}
 use Rattle.ame_term.specs.Maps.{at}
 use Rattle.ame_term.specs.State.{State}
@@ -20,12 +20,14 @@ use Rattle.ame_protocol.specs.declared.stop.Stop.{Stop}
 use Rattle.ame_engine.specs.Core.{Core}
 use Rattle.ame_protocol.specs.Event.Faults.{ComesToCall}
 use Rattle.ame_protocol.specs.Event.Causes.{NotesStop}
+use Rattle.ame_protocol.specs.Event.Counting.{CountsTurns}
 use Rattle.ame_protocol.specs.Event.Lone.{IsUndisturbed}
 use Rattle.ame_protocol.specs.Event.Bounds.{HasBounds}
 
--- The entries from which it was opened, those that it added, its cells, its output, the events that counted, in all and of each
--- kind, the tries that left no entry, the stop that was kept, and what tells that each member is blocked, where that is the stop.
+-- The limits and the entries with which it was opened, those that it added, its cells, its output, the events that counted, in all and of
+-- each kind, the tries that left no entry, the stop that was kept, and what tells that each member is blocked, where that is the stop.
 pub record End (V : Type 0) : Type 0 where
+  pub limits : Limits
   pub base : List Entry
   pub entries : List Entry
   pub cells : List (Cell V)
@@ -38,6 +40,7 @@ pub record End (V : Type 0) : Type 0 where
 
 abbrev pub end_of : {C V M : Type 0} → Core C V M → End V
 end_of core = record {
+  limits = core.limits;
   base = core.base;
   entries = core.entries;
   cells = core.memory.cells;
@@ -48,6 +51,13 @@ end_of core = record {
   stop = core.stop;
   certificates = core.certificates;
 }
+
+-- What an end shows of its limits and its counts: these are the limits, each turn stands in one count, and the turns are at most as many as
+-- they may be.
+pub record ShowsCounts (limits : Limits) {V : Type 0} (end : End V) : Type 0 where
+  pub limited : end.limits ≡ limits
+  pub counts : CountsTurns end.turns end.counters
+  pub most : end.turns ≤ limits.turns
 
 -- each number is below those after it
 abbrev pub Rise : List ℕ → Type 0
@@ -71,8 +81,8 @@ pub record HasStopped (limits : Limits) (r : Replayed) {V : Type 0} (end : End V
   pub ends : NotesStop end.stop end.entries
 
 -- The base and the journal replay to a state whose store is what the live cells have, and whose output is what was printed. No
--- cell has an owner, no member is noted twice without a commit between, and the stop has its cause in the state. With one seat
--- nothing was met that another seat did. Rollbacks and tries are few, and entries and tries pay for the turns.
+-- cell has an owner, no member is noted twice without a commit between, and the stop has its cause in the state. Limits and counts are
+-- shown. With one seat nothing was met that another seat did. Rollbacks and tries are few, and entries and tries pay for the turns.
 pub record IsEnd (program : Tree) (limits : Limits) {V : Type 0} (value : V → Val) (end : End V) : Type 0 where
   pub r : Replayed
   pub replays : replay program (end.base ++ end.entries) ≡ Some r
@@ -81,5 +91,6 @@ pub record IsEnd (program : Tree) (limits : Limits) {V : Type 0} (value : V → 
   pub free : All IsFree end.cells
   pub once : IsNotedOnce (end.base ++ end.entries)
   pub stopped : HasStopped limits r end
+  pub shown : ShowsCounts limits end
   pub lone : limits.seats ≡ 1 → IsUndisturbed end.counters
   pub bounds : HasBounds program limits r end.base end.entries end.turns end.counters end.tried end.stop

@@ -4,12 +4,13 @@ ghost use Rattle.std.specs.Prelude.{◌≡◌, All};
 ghost use Rattle.ame_store.specs.Cells.{IsFree};
 
 use ame_journal::{Entry, Journal};
-use ame_protocol::{Certificate, Counters, Stop, Tried};
+use ame_protocol::{Certificate, Counters, Limits, Stop, Tried};
 use ame_store::Store;
 use std::marker::Model;
 
 /// What an engine had at its end. Only an engine that was taken apart gives one, and no call changes it.
 pub struct Ended<V> {
+    pub(crate) limits: Limits,
     pub(crate) base: Journal,
     pub(crate) journal: Journal,
     pub(crate) store: Store<V>,
@@ -24,6 +25,7 @@ pub struct Ended<V> {
 impl<V: Drop> Drop for Ended<V> {
     fn drop(self) {
         let Ended {
+            limits: _,
             base: _,
             journal: _,
             store: _,
@@ -46,6 +48,7 @@ impl<V> Model for Ended<V> {
     ghost use Rattle.ame_store.specs.Cells.{IsFree};
 
     ghost view = { λ e. record {
+      limits = e.limits;
       base = e.base.entries;
       entries = e.journal.entries;
       cells = e.store;
@@ -61,6 +64,13 @@ impl<V> Model for Ended<V> {
 }
 
 impl<V> Ended<V> {
+    /// The limits with which the engine was opened.
+    pub fn limits(&self) -> &Limits
+        ensures { result.now ≡ self.now.limits }
+    {
+        &self.limits
+    }
+
     /// The entries from which the engine was opened.
     pub fn base(&self) -> &[Entry]
         ensures { result.now ≡ self.now.base }

@@ -22,7 +22,7 @@ where
     {
         let Engine {
             code: _,
-            limits: _,
+            limits,
             base,
             journal,
             memory,
@@ -38,6 +38,7 @@ where
             certificates,
         } = self;
         Ended {
+            limits,
             base,
             journal,
             store: memory.into_cells(),

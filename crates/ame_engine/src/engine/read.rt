@@ -2,8 +2,11 @@
 
 ghost use Rattle.std.specs.Prelude.{◌≡◌, ◌<◌, All, IfOk, OnOk, OnErr, Some, None, false};
 ghost use Rattle.ame_term.specs.declared.types.Loc.{Loc};
+ghost use Rattle.ame_laws.specs.Typed.StoreTyping.{StoreTyping};
+ghost use Rattle.ame_laws.specs.Typed.TypedState.{IsStored};
 ghost use Rattle.ame_store.specs.Cells.{HasItsParity};
 ghost use Rattle.ame_protocol.specs.Row.Heap.{cell_at};
+ghost use Rattle.ame_protocol.specs.Row.TypedHeap.{IsTypedHeap};
 ghost use Rattle.ame_machine.specs.declared.wants.Wants.{Wants};
 ghost use Rattle.ame_machine.specs.MachineView.{MachineView};
 ghost use Rattle.ame_machine.specs.Sound.{CanRun};
@@ -42,6 +45,9 @@ where
             → OnOk result (Makes M.meaning (Event.Read seat l) self.old self.new) }
         ensures value { (l : Loc) → (M.meaning.stage self.old.code at.now).want ≡ Some (Wants.Read l) → IfOk result (λ value.
             M.meaning.value_of self.old.code value ≡ (cell_at (heap_in (parts_of M.meaning self.old)) l.0).value) }
+        ensures typed { (l : Loc) → (M.meaning.stage self.old.code at.now).want ≡ Some (Wants.Read l) → IfOk result (λ value. (types : StoreTyping)
+            → IsTypedHeap (M.meaning.devices self.old.code) types (heap_in (parts_of M.meaning self.old))
+            → IsStored (M.meaning.devices self.old.code) types l.0 (M.meaning.value_of self.old.code value)) }
         ensures good { IfOk result (M.meaning.is_value self.old.code) }
         ensures runs { OnOk result ((s : MachineView) → IsOnSeat (parts_of M.meaning self.new) seat s → s.inside ≡ false → CanRun s) }
         ensures err { OnErr result (self.new ≡ self.old) }

@@ -1,6 +1,6 @@
 use Rattle.std.proofs.Common.{rules, ◌≡◌, Some}
 use Rattle.ame_machine.specs.declared.wants.Wants.TheVariants as wants
-use Rattle.ame_engine.proofs.ReadingLemmas.{read-location, whole-read, makes-read, value-read, good-read, runs-read}
+use Rattle.ame_engine.proofs.ReadingLemmas.{read-location, whole-read, makes-read, value-read, typed-read, good-read, runs-read}
 use Rattle.ame_engine.proofs.engine.Engine.read.Goals as goal
 
 pub read-requires-clause-location : goal.read-requires-clause-location
@@ -33,6 +33,14 @@ pub returns-clause-value : goal.returns-clause-value
 returns-clause-value g c =
     let told : (g.M.Runner.meaning.stage c.args.self.now.code c.args.at.now).want ≡ Some (wants.Read c.in-Some-Read.l) = search rules in
     value-read g.M.Runner.meaning
+    g.M.Value.Copied.same g.met.M.Runner.same_values g.met.M.Runner.value_shown _ c.args.self.now c.self.view_is c.self.invariant.whole c.args.seat c.args.at.now
+    c.in-Some-Read.l c.requires.on c.requires.reads.outside told (g.met.M.Runner.sound c.args.self.now.code c.args.at.now c.requires.on.machine) c.requires.left
+    c.in_ok-value.value c.read.new.self c.in_ok-value.ensures.value c.in_ok-value.ensures.row c.in_ok-value.ensures.others
+
+pub returns-clause-typed : goal.returns-clause-typed
+returns-clause-typed g c =
+    let told : (g.M.Runner.meaning.stage c.args.self.now.code c.args.at.now).want ≡ Some (wants.Read c.in-Some-Read.l) = search rules in
+    typed-read g.M.Runner.meaning
     g.M.Value.Copied.same g.met.M.Runner.same_values g.met.M.Runner.value_shown _ c.args.self.now c.self.view_is c.self.invariant.whole c.args.seat c.args.at.now
     c.in-Some-Read.l c.requires.on c.requires.reads.outside told (g.met.M.Runner.sound c.args.self.now.code c.args.at.now c.requires.on.machine) c.requires.left
     c.in_ok-value.value c.read.new.self c.in_ok-value.ensures.value c.in_ok-value.ensures.row c.in_ok-value.ensures.others

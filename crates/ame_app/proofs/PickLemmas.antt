@@ -8,9 +8,9 @@ use Rattle.std.proofs.lemmas.List.{map-append, take-append-drop}
 use Rattle.ame_io.specs.Writes.{AppendsFront}
 use Rattle.ame_io.proofs.WritesLemmas.{AppendsFront-after, AppendsFront-longer}
 use Rattle.std.proofs.lemmas.List.Elements.{All-map, All-take, All-weaker}
-use Rattle.ame_chooser.specs.Questions.{Picked, questions, seats_of}
-use Rattle.ame_chooser.specs.Schedule.{AreSeats, sign, signs}
-use Rattle.ame_chooser.specs.Strategy.{PicksSeats}
+use Rattle.ame_sim.specs.Questions.{Picked, questions, seats_of}
+use Rattle.ame_sim.specs.Schedule.{AreSeats, sign, signs}
+use Rattle.ame_sim.specs.Strategy.{PicksSeats}
 use Rattle.ame_machine.specs.Meaning.{Meaning}
 use Rattle.ame_journal.specs.declared.entry.Entry.{Entry}
 use Rattle.ame_value.specs.declared.val.Val.{Val}

@@ -22,7 +22,7 @@ use Rattle.ame_app.specs.Verbs.Sim.{IsPicked, schedule_behind}
 use Rattle.ame_app.specs.Verbs.Replay.{TakesScheduled, HasNoSchedule, IsPickedAsListed}
 use Rattle.ame_app.specs.Verbs.Check.{TakesCertificate, HasNoCertificate, entries_before, TellsOfJournal}
 use Rattle.ame_app.specs.Verbs.Resume.{TellsOfBase, BeginsFromActs, TellsResumed}
-use Rattle.ame_chooser.specs.Drawn.{drawn}
+use Rattle.ame_sim.specs.Drawn.{drawn}
 
 -- What is given
 

@@ -1,12 +1,11 @@
 //! Lists of picks, which contracts see as lists.
 
 ghost use Rattle.std.specs.Prelude.{◌≡◌, ◌<◌, All, IfOk};
-ghost use Rattle.ame_chooser.specs.Questions.{seats_of};
-ghost use Rattle.ame_chooser.specs.Schedule.{IsScheduled};
 ghost use Rattle.ame_sim.specs.Picks.{picks_of};
+ghost use Rattle.ame_sim.specs.Questions.{seats_of};
+ghost use Rattle.ame_sim.specs.Schedule.{IsScheduled};
 
-use ame_chooser::schedule_text;
-use ame_sim::Made;
+use ame_sim::{Made, schedule_text};
 use ame_term::{NoMemory, push};
 use std::alloc::Global;
 use std::marker::Model;

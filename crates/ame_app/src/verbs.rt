@@ -19,7 +19,6 @@ ghost use Rattle.ame_app.specs.Verbs as spec;
 
 use crate::parts::{Front, Own};
 use crate::status::Status;
-use ame_chooser::Drawn;
 use ame_cli::Command;
 use ame_code::Code;
 use ame_device::Device;
@@ -27,6 +26,7 @@ use ame_engine::Engine;
 use ame_eval::Fragment;
 use ame_io::{READ_LIMIT, Sink, WriteFault};
 use ame_shell::Remains;
+use ame_sim::Drawn;
 use ame_term::NoMemory;
 use ame_value::Val;
 use ame_worker::Gate;

@@ -1,3 +1,10 @@
+pub mod StrategyLemmas
+pub mod DrawnLemmas
+pub mod ListedLemmas
+pub mod WaitsLemmas
+pub mod QuestionsLemmas
+pub mod SignLemmas
+pub mod TextLemmas
 pub mod OrderLemmas
 pub mod PickLemmas
 pub mod BusyLemmas

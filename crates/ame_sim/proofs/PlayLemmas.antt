@@ -6,11 +6,11 @@ use Rattle.std.proofs.lemmas.Bool.{cases_Bool}
 use Rattle.std.proofs.lemmas.List.{map-append, length-set, length-replicate}
 use Rattle.std.proofs.lemmas.List.Elements.{All-nil, All-push}
 use Rattle.std.proofs.lemmas.List.Sums.{count_by-le-length}
-use Rattle.ame_chooser.specs.Questions.{turns_of, seats_of, waits_after, who_waits, count_of}
-use Rattle.ame_chooser.specs.Strategy.{PicksSeats}
-use Rattle.ame_chooser.specs.Waits.{may_be_picked}
-use Rattle.ame_chooser.proofs.QuestionsLemmas.{count-waits, length-waits_along}
-use Rattle.ame_chooser.proofs.WaitsLemmas.{free-seat, some-seat}
+use Rattle.ame_sim.specs.Questions.{turns_of, seats_of, waits_after, who_waits, count_of}
+use Rattle.ame_sim.specs.Strategy.{PicksSeats}
+use Rattle.ame_sim.specs.Waits.{may_be_picked}
+use Rattle.ame_sim.proofs.QuestionsLemmas.{count-waits, length-waits_along}
+use Rattle.ame_sim.proofs.WaitsLemmas.{free-seat, some-seat}
 use Rattle.ame_journal.specs.declared.entry.Entry.{Entry}
 use Rattle.ame_machine.specs.Meaning.{Meaning}
 use Rattle.ame_protocol.specs.declared.types.Limits.{Limits}

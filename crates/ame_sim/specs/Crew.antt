@@ -1,6 +1,6 @@
 -- What is so of a crew.
 use Rattle.std.specs.Prelude.{◌≡◌, ℕ, ◌+◌, ◌-◌, ◌*◌, ◌<◌, ◌≤◌, Bool, true, false, List, Option, Some, None, length, slice_index_or}
-use Rattle.ame_chooser.specs.Questions.{count_of}
+use Rattle.ame_sim.specs.Questions.{count_of}
 use Rattle.ame_engine.specs.declared.pick.Pick.{Pick}
 use Rattle.ame_protocol.specs.declared.stop.Stop.{Stop}
 use Rattle.ame_engine.specs.Begins.{pick_of}

@@ -1,3 +1,9 @@
+pub mod Strategy
+pub mod Drawn
+pub mod Listed
+pub mod Waits
+pub mod Questions
+pub mod Schedule
 pub mod Places
 pub mod Picks
 pub mod Played

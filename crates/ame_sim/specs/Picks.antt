@@ -1,7 +1,7 @@
 -- What picks did, as far as it tells who may be picked.
 use Rattle.std.specs.Prelude.{ℕ, Bool, true, false, List, map}
-use Rattle.ame_chooser.specs.Questions.{Picked, questions, seats_of}
-use Rattle.ame_chooser.specs.Strategy.{PicksSeats}
+use Rattle.ame_sim.specs.Questions.{Picked, questions, seats_of}
+use Rattle.ame_sim.specs.Strategy.{PicksSeats}
 use Rattle.ame_turn.specs.declared.work.Deed.{Deed}
 use Rattle.ame_sim.specs.declared.made.Made.{Made}
 

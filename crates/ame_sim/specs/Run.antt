@@ -1,6 +1,6 @@
 -- What a run tells that one chooser made.
 use Rattle.std.specs.Prelude.{◌≡◌, ℕ, ◌+◌, ◌*◌, ◌<◌, ◌≤◌, ◌⊎◌, false, List, [], ◌∷◌, length, map, replicate, All, None, IsSome}
-use Rattle.ame_chooser.specs.Questions.{AreAnswers, idles_of, seats_of, turns_of}
+use Rattle.ame_sim.specs.Questions.{AreAnswers, idles_of, seats_of, turns_of}
 use Rattle.ame_journal.specs.declared.entry.Entry.{Entry}
 use Rattle.ame_protocol.specs.Engine.Events.{started}
 use Rattle.ame_engine.specs.Ending.{End}

@@ -1,12 +1,12 @@
 //! The book of a run: what each pick did, and so who may be picked next.
 
 ghost use Rattle.std.specs.Prelude.{◌≡◌, ◌<◌, ◌++◌, ◌∷◌, [], false, length, IfOk, OnOk, replicate, vec_len, vec_capacity};
-ghost use Rattle.ame_chooser.specs.Questions.{waits_after};
+ghost use Rattle.ame_sim.specs.Questions.{waits_after};
 ghost use Rattle.ame_sim.specs.Picks.{is_waited, picked_by};
 ghost use Rattle.ame_turn.specs.declared.work.Deed.{Deed};
 
 use crate::made::Made;
-use ame_chooser::Waits;
+use crate::waits::Waits;
 use ame_term::NoMemory;
 use ame_turn::Deed;
 use std::alloc::Global;

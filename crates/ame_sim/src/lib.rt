@@ -1,13 +1,27 @@
-//! Many seats of a speculating engine, driven on one thread under a chooser that is handed in.
+//! Many seats of a speculating engine, driven on one thread under a chooser that is handed in; choosers, what each of them would pick,
+//! and schedules.
 #![tactic(auto)]
 
 mod book;
+mod boxed;
+mod chooser;
 mod crew;
+mod drawn;
 mod hands;
+mod listed;
 mod made;
 mod places;
 mod run;
+mod schedule;
+mod waits;
 
+pub use chooser::Chooser;
 pub use crew::Crew;
+pub use drawn::Drawn;
+pub use listed::Listed;
 pub use made::Made;
 pub use run::{Played, run_by_chooser};
+pub use schedule::{
+    ScheduleFault, Scheduled, read_schedule, schedule_line, schedule_text, sign_of,
+};
+pub use waits::Waits;

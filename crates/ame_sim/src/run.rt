@@ -2,8 +2,8 @@
 
 ghost use Rattle.std.specs.Prelude.{◌≡◌, ◌<◌, ◌≤◌, ◌⊎◌, ℕ, Bool, List, None, IsSome, IfOk, IfErr, true, false, [], OnOk, OnErr, vec_len};
 ghost use Rattle.std.specs.Arc.{arc_value};
-ghost use Rattle.ame_chooser.specs.Questions.{questions, seats_of, who_waits};
-ghost use Rattle.ame_chooser.specs.Strategy.{PicksSeats};
+ghost use Rattle.ame_sim.specs.Questions.{questions, seats_of, who_waits};
+ghost use Rattle.ame_sim.specs.Strategy.{PicksSeats};
 ghost use Rattle.ame_engine.specs.Whole.{AreLimits};
 ghost use Rattle.ame_shell.specs.Ends.{ends_of};
 ghost use Rattle.ame_shell.specs.Over.{IsOver};
@@ -13,9 +13,9 @@ ghost use Rattle.ame_sim.specs.Picks.{picks_of, HasAnswered};
 ghost use Rattle.ame_sim.specs.Run.{IsPlaying, IsPlayed};
 
 use crate::book::Book;
+use crate::chooser::Chooser;
 use crate::crew::Crew;
 use crate::made::Made;
-use ame_chooser::Chooser;
 use ame_device::Device;
 use ame_io::Sink;
 use ame_machine::Runner;

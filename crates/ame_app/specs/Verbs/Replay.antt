@@ -3,8 +3,8 @@ use Rattle.std.specs.Prelude.{◌≡◌, ℕ, List}
 use Rattle.ame_lex.specs.Bytes.{Text}
 use Rattle.ame_value.specs.declared.val.Val.{Val}
 use Rattle.ame_engine.specs.Ending.{End}
-use Rattle.ame_chooser.specs.Listed.{picked_as_listed}
-use Rattle.ame_chooser.specs.Schedule.{IsScheduled}
+use Rattle.ame_sim.specs.Listed.{picked_as_listed}
+use Rattle.ame_sim.specs.Schedule.{IsScheduled}
 use Rattle.ame_app.specs.declared.parts.Front.{Front}
 use Rattle.ame_app.specs.declared.parts.Own.{Own}
 use Rattle.ame_app.specs.declared.status.Status.{Status}

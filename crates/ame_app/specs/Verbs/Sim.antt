@@ -2,9 +2,9 @@
 use Rattle.std.specs.Prelude.{◌≡◌, ℕ, List, []}
 use Rattle.ame_value.specs.declared.val.Val.{Val}
 use Rattle.ame_engine.specs.Ending.{End}
-use Rattle.ame_chooser.specs.Strategy.{PicksSeats}
-use Rattle.ame_chooser.specs.Questions.{questions, seats_of}
-use Rattle.ame_chooser.specs.Schedule.{schedule_line}
+use Rattle.ame_sim.specs.Strategy.{PicksSeats}
+use Rattle.ame_sim.specs.Questions.{questions, seats_of}
+use Rattle.ame_sim.specs.Schedule.{schedule_line}
 use Rattle.ame_sim.specs.declared.made.Made.{Made}
 use Rattle.ame_sim.specs.Picks.{picks_of}
 use Rattle.ame_sim.specs.Run.{AreTold}

@@ -15,11 +15,11 @@ use crate::lists::Picks;
 use crate::parts::Front;
 use crate::status::Status;
 use crate::verbs::{Made, Taken, sim};
-use ame_chooser::{Listed, ScheduleFault, read_schedule};
 use ame_cli::Options;
 use ame_code::Code;
 use ame_device::Device;
 use ame_io::Sink;
+use ame_sim::{Listed, ScheduleFault, read_schedule};
 use std::alloc::Global;
 use std::sync::Arc;
 

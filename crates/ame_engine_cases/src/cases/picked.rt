@@ -2,13 +2,12 @@
 
 use crate::cases::schedules::run;
 use crate::cases::table::text_of;
-use ame_chooser::{Chooser, Drawn, Listed, read_schedule, schedule_line};
 use ame_device::Counter;
 use ame_engine::Stop;
 use ame_gen::SEED_LIMIT;
 use ame_io::MemSink;
 use ame_protocol::Limits;
-use ame_sim::{Made, Played};
+use ame_sim::{Chooser, Drawn, Listed, Made, Played, read_schedule, schedule_line};
 use ame_turn::Deed;
 use ame_value::Val;
 use std::alloc::Global;

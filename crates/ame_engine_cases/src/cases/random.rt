@@ -3,11 +3,11 @@
 use crate::cases::ends::{has_cause, have_heard};
 use crate::cases::replay::{Followed, begun, follow, is_replayed};
 use crate::cases::texts::{Team, sink_of, team_of};
-use ame_chooser::{Chooser, Drawn};
 use ame_device::FailsAt;
 use ame_engine::{Counters, Ended, Stop};
 use ame_gen::SEED_LIMIT;
 use ame_protocol::Limits;
+use ame_sim::{Chooser, Drawn};
 use ame_value::Val;
 use std::alloc::Global;
 use std::process::Abort;

@@ -2,12 +2,11 @@
 
 use crate::cases::table::{Event, Row, text_of};
 use crate::cases::texts::{code_of, may_run, sink_of};
-use ame_chooser::{Chooser, Listed};
 use ame_device::Counter;
 use ame_eval::Fragment;
 use ame_io::MemSink;
 use ame_protocol::Limits;
-use ame_sim::{Made, Played, run_by_chooser};
+use ame_sim::{Chooser, Listed, Made, Played, run_by_chooser};
 use ame_turn::Deed;
 use ame_value::Val;
 use std::alloc::Global;

@@ -1,6 +1,6 @@
 use Rattle.std.proofs.Common.{◌<◌, length, sym, ap, ◌∙◌, subst, arith}
-use Rattle.ame_chooser.specs.Waits.{may_be_picked}
-use Rattle.ame_chooser.proofs.WaitsLemmas.{free-seat}
+use Rattle.ame_sim.specs.Waits.{may_be_picked}
+use Rattle.ame_sim.proofs.WaitsLemmas.{free-seat}
 use Rattle.std.specs.List.{Contains}
 use Rattle.ame_sim.specs.Crew.{AreResting, left_to_play}
 use Rattle.ame_sim.specs.Run.{IsPlaying}

@@ -1,5 +1,5 @@
 use Rattle.std.proofs.Common.{◌≡◌, sym, ap, ◌∙◌, refl, subst}
-use Rattle.ame_chooser.specs.Questions.{who_waits}
+use Rattle.ame_sim.specs.Questions.{who_waits}
 use Rattle.ame_protocol.specs.declared.types.Limits.{Limits}
 use Rattle.ame_engine.specs.Whole.{AreLimits}
 use Rattle.ame_sim.specs.Picks.{picks_of, HasAnswered}

@@ -1,5 +1,5 @@
 use Rattle.std.proofs.Common.{◌≡◌, None}
-use Rattle.ame_chooser.specs.Questions.{who_waits}
+use Rattle.ame_sim.specs.Questions.{who_waits}
 use Rattle.ame_engine.specs.Whole.{AreLimits}
 use Rattle.ame_shell.specs.Shell.{Opening, ShellView, IsShell}
 use Rattle.ame_sim.specs.Crew.{AreResting, left_to_play}

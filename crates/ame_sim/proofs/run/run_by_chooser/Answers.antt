@@ -1,7 +1,7 @@
 use Rattle.std.proofs.Common.{◌≡◌, [], refl, sym, ap, ◌∙◌, subst}
 use Rattle.std.specs.Arc.{arc_value}
-use Rattle.ame_chooser.specs.Questions.{questions, seats_of}
-use Rattle.ame_chooser.specs.Strategy.{PicksSeats}
+use Rattle.ame_sim.specs.Questions.{questions, seats_of}
+use Rattle.ame_sim.specs.Strategy.{PicksSeats}
 use Rattle.ame_engine.specs.Ending.{End}
 use Rattle.ame_protocol.specs.Engine.Parts.{Parts}
 use Rattle.ame_shell.specs.Ends.{ends_of}

@@ -1,5 +1,5 @@
 use Rattle.std.proofs.Common.{sym, ◌∙◌, subst}
-use Rattle.ame_chooser.specs.Schedule.{AreSeats}
+use Rattle.ame_sim.specs.Schedule.{AreSeats}
 use Rattle.ame_app.proofs.PickLemmas.{seats-low}
 use Rattle.ame_app.proofs.lists.Mades.schedule_text.Goals as goal
 

@@ -1,6 +1,6 @@
 -- The seats of the picks so far.
 use Rattle.std.proofs.Common.{◌≡◌, take}
-use Rattle.ame_chooser.specs.Questions.{seats_of}
+use Rattle.ame_sim.specs.Questions.{seats_of}
 use Rattle.ame_sim.specs.Picks.{picks_of}
 use Rattle.ame_app.proofs.lists.Mades.schedule_text.Given as goal
 

@@ -1,0 +1,78 @@
+//! Who may be picked.
+ghost use Rattle.std.specs.Prelude.{◌≡◌, ◌<◌, ◌≤◌, ◌^◌, true, false, length, IfOk, replicate, slice_set, vec_capacity};
+ghost use Rattle.ame_sim.specs.Waits as spec;
+
+use ame_term::NoMemory;
+use std::alloc::Global;
+use std::marker::Model;
+
+/// Which of the seats wait. Contracts see a flag for each, which is true where it waits.
+#[derive(Drop)]
+pub struct Waits {
+    waits: Vec<bool>,
+    may: Vec<u32>,
+}
+
+impl Model for Waits {
+    ghost use Rattle.std.specs.Prelude.{Bool, List};
+    ghost use Rattle.ame_sim.specs.Waits.{IsListOf};
+
+    ghost Value = { List Bool };
+
+    ghost view = { λ w. w.waits.items };
+
+    ghost invariant = { λ w. IsListOf w.waits w.may };
+}
+
+impl Waits {
+    /// So many seats, none of which waits.
+    pub fn new(alloc: Global, seats: u32) -> Result<Waits, NoMemory>
+        ensures { IfOk result (λ waits. waits ≡ replicate seats false) }
+    {
+        let waits = vec![in alloc; false; seats as usize]?;
+        let mut may = Vec::with_capacity(alloc, seats as usize)?;
+        list_seats(&mut may, &waits);
+        Ok(Waits { waits, may })
+    }
+
+    /// The seats that don't wait, rising.
+    pub fn may_be_picked(&self) -> &[u32]
+        ensures { result.now ≡ spec.may_be_picked self.now }
+    {
+        &self.may
+    }
+
+    /// Lets a seat wait. Its cost is linear in the number of seats.
+    pub fn wait(&mut self, seat: u32)
+        requires { seat < length self.old }
+        ensures { self.new ≡ slice_set self.old seat true }
+    {
+        self.waits[seat as usize] = true;
+        list_seats(&mut self.may, &self.waits);
+    }
+
+    /// Lets no seat wait any more. It costs nothing where none does.
+    pub fn go_on(&mut self)
+        ensures { self.new ≡ replicate (length self.old) false }
+    {
+        if self.may.len() < self.waits.len() {
+            self.waits.fill(false);
+            list_seats(&mut self.may, &self.waits);
+        }
+    }
+}
+
+/// Lists the seats that don't wait, in room that is there.
+fn list_seats(may: &mut Vec<u32>, waits: &[bool])
+    requires room { length waits.now ≤ vec_capacity may.old }
+    requires range { length waits.now < 2 ^ 32 }
+    ensures items { may.new.items ≡ spec.may_be_picked waits.now }
+    ensures capacity { vec_capacity may.new ≡ vec_capacity may.old }
+{
+    may.clear();
+    for seat in 0..waits.len() {
+        if !waits[seat] {
+            may.push_reserved(seat as u32);
+        }
+    }
+}

@@ -1,6 +1,6 @@
 //! The generated program.
 
-use ame_workload::accepted_workload;
+use crate::accept::accepted_workload;
 use std::test::Fail;
 
 /// Whether these are nine names, with that of the sixth account and that of the cell in their places.

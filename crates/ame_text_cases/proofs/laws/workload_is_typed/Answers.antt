@@ -6,9 +6,9 @@ use Rattle.ame_term.specs.Scope.{unscoped}
 use Rattle.ame_term.specs.Typing.{no_cells, program_row, same_type}
 use Rattle.ame_term.specs.declared.types.Effect.{Effect}
 use Rattle.ame_gen.specs.Transfers.{transfers, IsTransfer}
-use Rattle.ame_workload.specs.Workload.{workload_term}
-use Rattle.ame_workload.proofs.TypingLemmas.{workload_has}
-use Rattle.ame_workload.proofs.laws.workload_is_typed.Goals as goal
+use Rattle.ame_text_cases.specs.Workload.{workload_term}
+use Rattle.ame_text_cases.proofs.TypingLemmas.{workload_has}
+use Rattle.ame_text_cases.proofs.laws.workload_is_typed.Goals as goal
 
 -- a program that is typed as Unit passes
 passes : (at : ℕ) → program_row at (Ok Typ.Unit) ≡ Ok Typ.Unit

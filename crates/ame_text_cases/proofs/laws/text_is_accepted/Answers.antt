@@ -1,6 +1,6 @@
 use Rattle.std.proofs.Common.{◌∙◌, ap, arith}
 use Rattle.ame_term.specs.Typing.{typing}
-use Rattle.ame_workload.proofs.laws.text_is_accepted.Goals as goal
+use Rattle.ame_text_cases.proofs.laws.text_is_accepted.Goals as goal
 
 pub returns : goal.returns
 returns c = record {

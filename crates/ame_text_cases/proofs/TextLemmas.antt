@@ -17,10 +17,10 @@ use Rattle.ame_gen.specs.declared.transfers.Transfer.{Transfer}
 use Rattle.ame_gen.specs.Transfers.{accounts, transfers, IsTransfer}
 use Rattle.ame_gen.specs.Balances.{initial_balance}
 use Rattle.ame_gen.specs.Template.{account_line, transfer_line, print_of, report_line, account_lines, transfer_lines, program_text}
-use Rattle.ame_workload.specs.Workload.{workload_names, counter, transfer_term, print_term, report_term, with_cells, members_term, workload_term}
-use Rattle.ame_workload.proofs.Lexing.{IsLexed, no_tokens, laid, laid_append, laid_lexed, IsLine, line_of, two_lines, lines}
-use Rattle.ame_workload.proofs.PartLemmas.{number_fixed}
-use Rattle.ame_workload.proofs.ReadsLemmas.{spelled, fixed, reads_transfer, reads_print, reads_waits, waits_term, accounts_are_cells}
+use Rattle.ame_text_cases.specs.Workload.{workload_names, counter, transfer_term, print_term, report_term, with_cells, members_term, workload_term}
+use Rattle.ame_text_cases.proofs.Lexing.{IsLexed, no_tokens, laid, laid_append, laid_lexed, IsLine, line_of, two_lines, lines}
+use Rattle.ame_text_cases.proofs.PartLemmas.{number_fixed}
+use Rattle.ame_text_cases.proofs.ReadsLemmas.{spelled, fixed, reads_transfer, reads_print, reads_waits, waits_term, accounts_are_cells}
 
 -- ---- how names and small numbers are spelled
 

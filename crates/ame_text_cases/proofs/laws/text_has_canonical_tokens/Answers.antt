@@ -5,11 +5,11 @@ use Rattle.ame_print.specs.Again.{source_text}
 use Rattle.ame_print.specs.Tokens.{term_tokens}
 use Rattle.ame_gen.specs.Template.{program_text}
 use Rattle.ame_gen.specs.Transfers.{transfers, IsTransfer}
-use Rattle.ame_workload.specs.Workload.{workload, workload_names, workload_term}
-use Rattle.ame_workload.proofs.ReadsLemmas.{workload_reads}
-use Rattle.ame_workload.proofs.TextLemmas.{text_lexed}
-use Rattle.ame_workload.proofs.WholeLemmas.{canonical_lexed, same_lexemes}
-use Rattle.ame_workload.proofs.laws.text_has_canonical_tokens.Goals as goal
+use Rattle.ame_text_cases.specs.Workload.{workload, workload_names, workload_term}
+use Rattle.ame_text_cases.proofs.ReadsLemmas.{workload_reads}
+use Rattle.ame_text_cases.proofs.TextLemmas.{text_lexed}
+use Rattle.ame_text_cases.proofs.WholeLemmas.{canonical_lexed, same_lexemes}
+use Rattle.ame_text_cases.proofs.laws.text_has_canonical_tokens.Goals as goal
 
 pub returns : goal.returns
 returns c = λ seed size some most.

@@ -14,7 +14,7 @@ use Rattle.ame_parse.specs.Forms.{row}
 use Rattle.ame_gen.specs.declared.transfers.Transfer.{Transfer}
 use Rattle.ame_gen.specs.Transfers.{accounts, transfers, IsTransfer}
 use Rattle.ame_gen.specs.Balances.{initial_balance}
-use Rattle.ame_workload.specs.Workload.{counter, content, updated, transfer_term, print_term, report_term, with_cells, members_term, workload_term}
+use Rattle.ame_text_cases.specs.Workload.{counter, content, updated, transfer_term, print_term, report_term, with_cells, members_term, workload_term}
 
 -- ---- scopes
 

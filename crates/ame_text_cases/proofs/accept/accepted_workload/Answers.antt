@@ -3,7 +3,7 @@ use Rattle.ame_term.specs.Tree.{Typ}
 use Rattle.ame_term.specs.Typing.{typing}
 use Rattle.ame_parse.specs.Text.{Source, reading, source_of}
 use Rattle.ame_gen.specs.Template.{program_text}
-use Rattle.ame_workload.proofs.accept.accepted_workload.Goals as goal
+use Rattle.ame_text_cases.proofs.accept.accepted_workload.Goals as goal
 
 pub accepted_of-requires-clause-typed : goal.accepted_of-requires-clause-typed
 accepted_of-requires-clause-typed c =

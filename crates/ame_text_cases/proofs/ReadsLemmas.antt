@@ -26,8 +26,8 @@ use Rattle.ame_print.proofs.Alone.{IsFixed, word_alone, free_fixed}
 use Rattle.ame_gen.specs.declared.transfers.Transfer.{Transfer}
 use Rattle.ame_gen.specs.Transfers.{accounts, transfer, transfers, IsTransfer}
 use Rattle.ame_gen.specs.Balances.{initial_balance}
-use Rattle.ame_workload.specs.Workload.{workload_names, counter, numeral, content, updated, transfer_term, print_term, report_term, with_cells, members_term, workload_term}
-use Rattle.ame_workload.proofs.PartLemmas.{IsPart, input_with, IsKnown, variable_part, number_part, one_part, ref_part, two_part, async_part, let_part, IsRow, no_more_parts, one_more_part, do_part}
+use Rattle.ame_text_cases.specs.Workload.{workload_names, counter, numeral, content, updated, transfer_term, print_term, report_term, with_cells, members_term, workload_term}
+use Rattle.ame_text_cases.proofs.PartLemmas.{IsPart, input_with, IsKnown, variable_part, number_part, one_part, ref_part, two_part, async_part, let_part, IsRow, no_more_parts, one_more_part, do_part}
 
 -- ---- names
 

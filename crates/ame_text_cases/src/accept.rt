@@ -9,7 +9,7 @@ ghost use Rattle.ame_types.specs.Limits.{max_devices};
 ghost use Rattle.ame_parse.specs.Text.{reading, source_of};
 ghost use Rattle.ame_gen.specs.declared.numbers.TheConstants.{SEED_LIMIT};
 ghost use Rattle.ame_gen.specs.declared.text.TheConstants.{SIZE_LIMIT};
-ghost use Rattle.ame_workload.specs.Workload.{workload_names, workload_term};
+ghost use Rattle.ame_text_cases.specs.Workload.{workload_names, workload_term};
 
 use crate::laws::{text_is_accepted, text_is_read};
 use ame_gen::generate;

@@ -8,8 +8,8 @@ ghost use Rattle.ame_parse.specs.Text.{Source, reading};
 ghost use Rattle.ame_print.specs.Again.{ReadsAs, source_text};
 ghost use Rattle.ame_gen.specs.Template.{program_text};
 ghost use Rattle.ame_gen.specs.declared.text.TheConstants.{SIZE_LIMIT};
-ghost use Rattle.ame_workload.specs.SameTokens.{HaveSameTokens};
-ghost use Rattle.ame_workload.specs.Workload.{workload, workload_term};
+ghost use Rattle.ame_text_cases.specs.SameTokens.{HaveSameTokens};
+ghost use Rattle.ame_text_cases.specs.Workload.{workload, workload_term};
 
 use ame_gen::{length_is_linear, transfers_are_valid};
 use ame_laws::table_gives_what_is_had;

@@ -6,11 +6,11 @@ use Rattle.ame_print.specs.Again.{ReadsAs, source_text}
 use Rattle.ame_print.proofs.Whole.{SpellsAs}
 use Rattle.ame_gen.specs.Template.{program_text}
 use Rattle.ame_gen.specs.Transfers.{transfers, IsTransfer}
-use Rattle.ame_workload.specs.Workload.{workload}
-use Rattle.ame_workload.proofs.ReadsLemmas.{workload_reads}
-use Rattle.ame_workload.proofs.TextLemmas.{text_lexed}
-use Rattle.ame_workload.proofs.WholeLemmas.{spelled_so, canonical_lexed}
-use Rattle.ame_workload.proofs.laws.text_is_read.Goals as goal
+use Rattle.ame_text_cases.specs.Workload.{workload}
+use Rattle.ame_text_cases.proofs.ReadsLemmas.{workload_reads}
+use Rattle.ame_text_cases.proofs.TextLemmas.{text_lexed}
+use Rattle.ame_text_cases.proofs.WholeLemmas.{spelled_so, canonical_lexed}
+use Rattle.ame_text_cases.proofs.laws.text_is_read.Goals as goal
 
 pub returns : goal.returns
 returns c =

@@ -24,7 +24,7 @@ use Rattle.ame_print.proofs.Canon.{IsLike}
 use Rattle.ame_print.proofs.Alone.{IsFixed, closing_fixed, reserved, word_text, unary_word, binary_fixed, sort_fixed, sort_read}
 use Rattle.ame_print.proofs.Numbers.{number_alone}
 use Rattle.ame_print.proofs.Parts.{Part, Moves, Shut, begun, both, mapped, regrouped, within, atom, shut_part, form_part}
-use Rattle.ame_workload.specs.Workload.{numeral}
+use Rattle.ame_text_cases.specs.Workload.{numeral}
 
 -- the tokens are read as the term, with at most so many parentheses open, between inputs like these
 abbrev pub IsPart : List Printed → ℕ → Input → Tree → Input → Type 0

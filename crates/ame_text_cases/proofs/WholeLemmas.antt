@@ -12,8 +12,8 @@ use Rattle.ame_print.specs.Tokens.{term_tokens}
 use Rattle.ame_print.proofs.Canon.{tokens_of}
 use Rattle.ame_print.proofs.Lexing.{lexed_again}
 use Rattle.ame_print.proofs.Whole.{SpellsAs}
-use Rattle.ame_workload.proofs.Lexing.{LexedBehind}
-use Rattle.ame_workload.proofs.PartLemmas.{IsPart, input_with}
+use Rattle.ame_text_cases.proofs.Lexing.{LexedBehind}
+use Rattle.ame_text_cases.proofs.PartLemmas.{IsPart, input_with}
 
 no_more_in : (rest : List Seen) → tokens_of rest ≡ [] → ahead_in rest ≡ a.End
 no_more_in [] none = refl

@@ -2,18 +2,18 @@
 
 ghost use Rattle.std.specs.Prelude.{◌≡◌, ◌≢◌, ◌≤◌, ◌<◌, ℕ, [], None, IsSome, IfOk, IfErr, true, false, is_some, vec_len};
 ghost use Rattle.std.specs.Arc.{arc_value};
-ghost use Rattle.ame_protocol.specs.declared.types.Task.{Task};
-ghost use Rattle.ame_protocol.specs.Engine.Events.{started};
-ghost use Rattle.ame_protocol.specs.Engine.Parts.{task_at};
 ghost use Rattle.ame_engine.specs.Ending.{end_of};
 ghost use Rattle.ame_engine.specs.Seen.{parts_of};
 ghost use Rattle.ame_engine.specs.Whole.{AreLimits};
+ghost use Rattle.ame_protocol.specs.declared.types.Task.{Task};
+ghost use Rattle.ame_protocol.specs.Engine.Events.{started};
+ghost use Rattle.ame_protocol.specs.Engine.Parts.{task_at};
 ghost use Rattle.ame_shell.specs.Ends.{ends_of};
 ghost use Rattle.ame_shell.specs.Over.{IsOverSince};
 ghost use Rattle.ame_shell.specs.Shell.{Opening, IsShell};
-ghost use Rattle.ame_turn.specs.declared.work.Work.TheVariants as work;
 ghost use Rattle.ame_sim.specs.Crew.{lacking, left_to_undo, IsUnwound, SomeSeatIsAtWork};
 ghost use Rattle.ame_sim.specs.Played.{HasPlayed};
+ghost use Rattle.ame_turn.specs.declared.work.Work.TheVariants as work;
 
 use crate::hands::{idle_hands, lacks_memory};
 use crate::made::Made;
@@ -31,6 +31,7 @@ use std::mem;
 use std::sync::Arc;
 
 /// An engine with its sink and its devices, its code, and what each of its seats has at hand. Contracts see the shell.
+#[derive(Drop)]
 pub struct Crew<M: Runner, K: Sink, D: Device>
 where
     M::Code: Drop,
@@ -38,19 +39,6 @@ where
     shell: Shell<M, K, D>,
     code: Arc<M::Code>,
     hands: Vec<Work<M>>,
-}
-
-impl<M: Runner, K: Sink + Drop, D: Device + Drop> Drop for Crew<M, K, D>
-where
-    M::Code: Drop,
-{
-    fn drop(self) {
-        let Crew {
-            shell: _,
-            code: _,
-            hands: _,
-        } = self;
-    }
 }
 
 impl<M: Runner, K: Sink, D: Device> Model for Crew<M, K, D>

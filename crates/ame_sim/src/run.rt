@@ -33,17 +33,13 @@ pub struct Played<V, K, D> {
 }
 
 /// One question is asked, and the seat that is picked has its turn. Where memory is lacking nothing was done.
-fn pick<M, K, D, H>(
+fn pick<M: Runner, K: Sink, D: Device, H: Chooser>(
     crew: &mut Crew<M, K, D>,
     book: &mut Book,
     chooser: &mut H,
 ) -> Result<(), NoMemory>
 where
-    M: Runner,
     M::Code: Drop,
-    K: Sink,
-    D: Device,
-    H: Chooser,
     requires limits { AreLimits crew.old.core.limits }
     requires going { crew.old.core.stop ≡ None }
     requires waits { book.old.waits ≡ who_waits crew.old.core.limits.seats (picks_of book.old.mades.items) }
@@ -67,13 +63,13 @@ where
 }
 
 /// Seats are picked until a stop is kept.
-fn play<M, K, D, H>(crew: &mut Crew<M, K, D>, book: &mut Book, chooser: &mut H)
+fn play<M: Runner, K: Sink, D: Device, H: Chooser>(
+    crew: &mut Crew<M, K, D>,
+    book: &mut Book,
+    chooser: &mut H,
+)
 where
-    M: Runner,
     M::Code: Drop,
-    K: Sink,
-    D: Device,
-    H: Chooser,
     requires limits { AreLimits crew.old.core.limits }
     requires waits { book.old.waits ≡ who_waits crew.old.core.limits.seats (picks_of book.old.mades.items) }
     requires rests { AreResting book.old.waits crew.old.core }

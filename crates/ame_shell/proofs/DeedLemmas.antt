@@ -38,7 +38,8 @@ use Rattle.ame_protocol.specs.Event.Undoing.{reason_to_undo}
 use Rattle.ame_engine.specs.Visiting.{VisitsTo, visited_at, HasComeHome, HasBeenRefused}
 use Rattle.ame_engine.proofs.VisitPlaceLemmas.{visits-as}
 use Rattle.ame_turn.specs.declared.work.Deed.{Deed}
-use Rattle.ame_turn.specs.Deeds.{StopsBy, Spends, is_visit, IsMade, IsDone}
+use Rattle.ame_turn.specs.Deeds.{StopsBy, is_visit}
+use Rattle.ame_turn.proofs.DeedRows.{Spends, Row, HasRow}
 use Rattle.ame_shell.specs.Ends.{told_at}
 use Rattle.ame_shell.specs.Heard.{HaveHeardSince, NoneFailed, OneFailed, HaveFailed}
 use Rattle.ame_shell.specs.Over.{AreOfSeats}
@@ -189,7 +190,7 @@ module _ {C V M : Type 0} (meaning : Meaning C V M) where
     -- the rest of what changes neither meaning.devices nor the output
     module _ (hand : Option MachineView) (before after : List Told) where
       abbrev Makes : Deed → Type 0
-      Makes deed = IsMade meaning seat hand old new before after deed
+      Makes deed = Row meaning seat hand old new before after deed
 
       pub deed-silent : (deed : Deed) → is_to_flush deed ≡ false → is_visit deed ≡ false → Makes deed → IsSilent seat old new
       deed-silent Deed.Began e f h = event-silent (one_counted Counted.Begin) (has_begun seat h.0) h.2 refl refl (Adds.nothing refl) refl
@@ -356,7 +357,7 @@ module _ {C V M : Type 0} (meaning : Meaning C V M) where
 
     module _ (hand : Option MachineView) (at-hand : (s : MachineView) → hand ≡ Some s → IsOnSeat (parts old) seat s × IsSoundStage s) (before after : List Told) where
       abbrev Done : Deed → Type 0
-      Done deed = IsDone meaning seat hand old new before after deed
+      Done deed = HasRow meaning seat hand old new before after deed
 
       quietly : (deed : Deed) → is_to_flush deed ≡ false → is_visit deed ≡ false → Done deed → IsOpenedSo meaning.program opening old before → IsOpenedSo meaning.program opening new after
       quietly deed e f h o =
@@ -406,7 +407,7 @@ module _ {C V M : Type 0} (meaning : Meaning C V M) where
     pub output : new.output ≡ old.output ++ more
 
   module _ (seat : ℕ) (hand : Option MachineView) (old new : Core C V M) (before after : List Told) where
-    pub deed-more : (deed : Deed) → is_to_flush deed ≡ true → IsDone meaning seat hand old new before after deed → HasMore old new
+    pub deed-more : (deed : Deed) → is_to_flush deed ≡ true → HasRow meaning seat hand old new before after deed → HasMore old new
     deed-more Deed.Ended e h =
         let x = h.event in
         let m = x.4 in

@@ -18,6 +18,7 @@ use Rattle.ame_turn.specs.declared.work.Work.{Work}
 use Rattle.ame_turn.specs.declared.work.Work.TheVariants as work
 use Rattle.ame_turn.specs.Work.{stage_at, Fits}
 use Rattle.ame_turn.specs.Deeds.{is_visit, IsDone}
+use Rattle.ame_turn.proofs.DeedRows.{HasRow, rowed}
 use Rattle.ame_shell.specs.Ends.{Ends}
 use Rattle.ame_shell.specs.Heard.{HaveFailed}
 use Rattle.ame_shell.specs.Shell.{ShellView, Opening, GoesTo, IsSentSince, IsOpenedSo, IsShell}
@@ -39,7 +40,7 @@ module _ {C V M : Type 0} (meaning : Meaning C V M) where
 
   -- after a deed of which no lines come
   calm : (seat : ℕ) (hand : Option MachineView) (old new : Core C V M) (before after : List Told) (deed : Deed) → is_to_flush deed ≡ false
-      → IsDone meaning seat hand old new before after deed → (opened now : Ends) (sent : ℕ)
+      → HasRow meaning seat hand old new before after deed → (opened now : Ends) (sent : ℕ)
       → IsSentSince opened now old.stop sent (lines old.output) → IsSentSince opened now new.stop sent (lines new.output)
   calm seat hand old new before after deed e h opened now sent s = by (no-lines deed e)
     where
@@ -48,7 +49,7 @@ module _ {C V M : Type 0} (meaning : Meaning C V M) where
       after-all same goes =
           subst (λ (t : List ℕ). IsSentSince opened now new.stop sent t) (sym (ap lines same)) (record { first = s.first; goes = goes })
 
-      failed : (device : ℕ) → IsDone meaning seat hand old new before after (Deed.DeviceFailed device)
+      failed : (device : ℕ) → HasRow meaning seat hand old new before after (Deed.DeviceFailed device)
           → IsSentSince opened now new.stop sent (lines new.output)
       failed device d =
           let x = d.event in
@@ -61,7 +62,7 @@ module _ {C V M : Type 0} (meaning : Meaning C V M) where
       by (inl f) =
           let silent = deed-silent meaning seat old new hand before after deed e f h.event in
           after-all silent.output (quiet-goes sent (lines old.output) opened.write_faults now.write_faults old.stop new.stop silent.recorded.stop s.goes)
-      by (inr d) = failed d.0 (subst (λ (x : Deed). IsDone meaning seat hand old new before after x) d.1 h)
+      by (inr d) = failed d.0 (subst (λ (x : Deed). HasRow meaning seat hand old new before after x) d.1 h)
 
   -- what was opened so stays so once lines are sent
   pub flush-opened : (opening : Opening C) (old new : ShellView C V M) (told : List Told) → HasFlushed old new → old.core.stop ≡ None
@@ -94,16 +95,19 @@ module _ {C V M : Type 0} (meaning : Meaning C V M) where
     abbrev mid : ShellView C V M
     mid = record { core = turned.core; sent = old.sent; ends = record old.ends { told = new.ends.told } }
 
+    row : HasRow meaning seat hand old.core turned.core old.ends.told new.ends.told deed
+    row = rowed meaning seat hand old.core turned.core old.ends.told new.ends.told deed turned.done
+
     pub turn-keeps : (opening : Opening C) → Simulates (parts old.core) → seat < old.core.limits.seats
         → ((s : MachineView) → hand ≡ Some s → IsOnSeat (parts old.core) seat s × IsSoundStage s) → IsShell meaning.program opening old → IsShell meaning.program opening new
     turn-keeps opening stands within at-hand h = by (is_to_flush deed) refl
       where
         opened : IsOpenedSo meaning.program opening mid.core new.ends.told
-        opened = deed-opened meaning seat old.core turned.core stands within opening hand at-hand old.ends.told new.ends.told deed turned.done h.opened
+        opened = deed-opened meaning seat old.core turned.core stands within opening hand at-hand old.ends.told new.ends.told deed row h.opened
 
         flushed : is_to_flush deed ≡ true → IsShell meaning.program opening new
         flushed e =
-            let more = deed-more meaning seat hand old.core turned.core old.ends.told new.ends.told deed e turned.done in
+            let more = deed-more meaning seat hand old.core turned.core old.ends.told new.ends.told deed e row in
             let f = turned.flushes e in
             let before : IsSentSince opening.ends mid.ends None old.sent (lines old.core.output) =
             subst (λ (o : Option Stop). IsSentSince opening.ends mid.ends o old.sent (lines old.core.output)) more.was
@@ -120,7 +124,7 @@ module _ {C V M : Type 0} (meaning : Meaning C V M) where
             (record {
               opened = opened;
               sends =
-                  calm seat hand old.core turned.core old.ends.told new.ends.told deed e turned.done opening.ends mid.ends old.sent
+                  calm seat hand old.core turned.core old.ends.told new.ends.told deed e row opening.ends mid.ends old.sent
                   (record { first = h.sends.first; goes = h.sends.goes });
             })
 
@@ -145,19 +149,19 @@ module _ {C V M : Type 0} (meaning : Meaning C V M) where
     }
 
   -- no line is taken back
-  pub sent-still : (seat : ℕ) (hand : Option MachineView) (old new : Core C V M) (before after : List Told) (deed : Deed)
-      → IsDone meaning seat hand old new before after deed → (sent : ℕ) → sent ≤ length (lines old.output) → sent ≤ length (lines new.output)
-  sent-still seat hand old new before after deed h sent within = by (is_to_flush deed) refl
+  still-sent : (seat : ℕ) (hand : Option MachineView) (old new : Core C V M) (before after : List Told) (deed : Deed)
+      → HasRow meaning seat hand old new before after deed → (sent : ℕ) → sent ≤ length (lines old.output) → sent ≤ length (lines new.output)
+  still-sent seat hand old new before after deed h sent within = by (is_to_flush deed) refl
     where
       same : new.output ≡ old.output → sent ≤ length (lines new.output)
       same e = subst (λ (xs : List ℤ). sent ≤ length (lines xs)) (sym e) within
 
-      failed : (device : ℕ) → IsDone meaning seat hand old new before after (Deed.DeviceFailed device) → sent ≤ length (lines new.output)
+      failed : (device : ℕ) → HasRow meaning seat hand old new before after (Deed.DeviceFailed device) → sent ≤ length (lines new.output)
       failed device d = same (ap (λ (p : Parts). p.output) d.event.4.event.parts)
 
       stayed : is_to_flush deed ≡ false → (is_visit deed ≡ false) ⊎ ((device : ℕ) × (deed ≡ Deed.DeviceFailed device)) → sent ≤ length (lines new.output)
       stayed e (inl f) = same (deed-silent meaning seat old new hand before after deed e f h.event).output
-      stayed e (inr d) = failed d.0 (subst (λ (x : Deed). IsDone meaning seat hand old new before after x) d.1 h)
+      stayed e (inr d) = failed d.0 (subst (λ (x : Deed). HasRow meaning seat hand old new before after x) d.1 h)
 
       by : (b : Bool) → is_to_flush deed ≡ b → sent ≤ length (lines new.output)
       by true e =
@@ -166,3 +170,7 @@ module _ {C V M : Type 0} (meaning : Meaning C V M) where
           ap length (ap lines more.output ∙ lines-append old.output more.more) ∙ length-append (lines old.output) (lines more.more) in
           omega (arith, all, within)
       by false e = stayed e (no-lines deed e)
+
+  pub sent-still : (seat : ℕ) (hand : Option MachineView) (old new : Core C V M) (before after : List Told) (deed : Deed)
+      → IsDone meaning seat hand old new before after deed → (sent : ℕ) → sent ≤ length (lines old.output) → sent ≤ length (lines new.output)
+  sent-still seat hand old new before after deed h = still-sent seat hand old new before after deed (rowed meaning seat hand old new before after deed h)

@@ -9,6 +9,7 @@ ghost use Rattle.ame_engine.specs.Ending.{end_of};
 ghost use Rattle.ame_engine.specs.Stops.{stopped_by};
 ghost use Rattle.ame_turn.specs.declared.work.Deed.{Deed};
 ghost use Rattle.ame_turn.specs.declared.work.Work.{Work};
+ghost use Rattle.ame_turn.specs.Asked.{LacksWhereDue};
 ghost use Rattle.ame_turn.specs.Ready.{IsReadyWork, CanBePrepared};
 ghost use Rattle.ame_turn.specs.Work.{stage_at, Fits};
 ghost use Rattle.ame_shell.specs.Ends.{ends_of};
@@ -105,6 +106,7 @@ where
             (shown K.written K.faults D.device_heard D.device_faults self.old.engine self.old.sent self.old.sink self.old.devices.items)
             (shown K.written K.faults D.device_heard D.device_faults self.new.engine self.new.sent self.new.sink self.new.devices.items) result.deed }
         ensures lacks { lacks ≡ true → self.old.engine.stop ≡ None → result.deed ≡ Deed.Lacked }
+        ensures due { lacks ≡ false → LacksWhereDue self.old.engine seat (stage_at M.meaning.stage self.old.engine.code work) result.deed }
         ensures keeps { (opening : Opening M.Code)
             → IsShell M.meaning.program opening (shown K.written K.faults D.device_heard D.device_faults self.old.engine self.old.sent self.old.sink self.old.devices.items)
             → IsShell M.meaning.program opening (shown K.written K.faults D.device_heard D.device_faults self.new.engine self.new.sent self.new.sink self.new.devices.items) }

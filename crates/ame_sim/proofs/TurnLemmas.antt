@@ -28,7 +28,8 @@ use Rattle.ame_engine.specs.Stops.{stopped_by}
 use Rattle.ame_protocol.specs.Event.Undoing.{reason_to_undo}
 use Rattle.ame_engine.specs.Visiting.{visited_at}
 use Rattle.ame_turn.specs.declared.work.Deed.{Deed}
-use Rattle.ame_turn.specs.Deeds.{StopsBy, Spends, IsDone}
+use Rattle.ame_turn.specs.Deeds.{StopsBy}
+use Rattle.ame_turn.proofs.DeedRows.{Spends, HasRow, rowed}
 use Rattle.ame_shell.specs.Shell.{ShellView}
 use Rattle.ame_shell.specs.Turned.{HasFlushed, is_to_flush, HasTurned}
 use Rattle.ame_shell.proofs.DeedLemmas.{Adds, deed-silent}
@@ -87,7 +88,7 @@ module _ {C V M : Type 0} (meaning : Meaning C V M) where
 
   module _ (seat : ℕ) (hand : Option MachineView) (old new : Core C V M) (before after : List Told) where
     abbrev Done : Deed → Type 0
-    Done deed = IsDone meaning seat hand old new before after deed
+    Done deed = HasRow meaning seat hand old new before after deed
 
     deed-adds : (deed : Deed) → Done deed → AddsOne seat old.entries new.entries
     deed-adds Deed.Ended h =
@@ -201,12 +202,14 @@ module _ {C V M : Type 0} (meaning : Meaning C V M) where
     pub turn-adds : AddsOne seat old.core.entries new.core.entries
     turn-adds =
         turn-on (λ (core : Core C V M). AddsOne seat old.core.entries core.entries) (λ core x. x)
-        (deed-adds seat hand old.core turned.core old.ends.told new.ends.told deed turned.done)
+        (deed-adds seat hand old.core turned.core old.ends.told new.ends.told deed
+        (rowed meaning seat hand old.core turned.core old.ends.told new.ends.told deed turned.done))
 
     pub turn-counts : old.core.stop ≡ None → is_waited deed ≡ false → GoesBy old.core.turns new.core.turns new.core.stop
     turn-counts going did =
         turn-on (λ (core : Core C V M). GoesBy old.core.turns core.turns core.stop) still
-        (deed-counts seat hand old.core turned.core old.ends.told new.ends.told going deed did turned.done)
+        (deed-counts seat hand old.core turned.core old.ends.told new.ends.told going deed did
+        (rowed meaning seat hand old.core turned.core old.ends.told new.ends.told deed turned.done))
       where
         still : (core : Core C V M) → GoesBy old.core.turns core.turns core.stop → GoesBy old.core.turns core.turns (stopped_by Stop.WriteFault core).stop
         still core (GoesBy.more counted) = GoesBy.more counted
@@ -221,6 +224,6 @@ module _ {C V M : Type 0} (meaning : Meaning C V M) where
   pub turn-waits : (seat : ℕ) (hand : Option MachineView) (old new : ShellView C V M) (deed : Deed) (turned : HasTurned meaning seat hand old new deed)
       → is_waited deed ≡ true → HasWaited seat hand old new deed turned
   turn-waits seat hand old new Deed.Waited turned w =
-      let e = turned.done.event in
+      let e = (rowed meaning seat hand old.core turned.core old.ends.told new.ends.told Deed.Waited turned.done).event in
       record { idle = e.0.idle; met = e.0.meets; same = ap (λ (x : ShellView C V M). x.core) (turned.stays refl) ∙ e.1 }
   turn-waits seat hand old new _ turned w = cc

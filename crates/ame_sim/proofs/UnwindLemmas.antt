@@ -25,7 +25,8 @@ use Rattle.ame_engine.specs.Core.{Core}
 use Rattle.ame_engine.specs.Seen.{parts_of}
 use Rattle.ame_protocol.specs.Event.Undoing.{reason_to_undo}
 use Rattle.ame_turn.specs.declared.work.Deed.{Deed}
-use Rattle.ame_turn.specs.Deeds.{StopsBy, IsDone}
+use Rattle.ame_turn.specs.Deeds.{StopsBy}
+use Rattle.ame_turn.proofs.DeedRows.{HasRow, rowed}
 use Rattle.ame_shell.specs.Shell.{ShellView}
 use Rattle.ame_shell.specs.Turned.{is_to_flush, HasTurned}
 use Rattle.ame_shell.proofs.DeedLemmas.{deed-more}
@@ -122,7 +123,7 @@ module _ {C V M : Type 0} (meaning : Meaning C V M) where
               absurd (let contra : ◌≡◌ {A = Option Attempt} None (Some attempt) = none in cc)
           by (inr apart) = ap (λ (ts : List Task). task_at ts other) new-tasks ∙ task_else old.tasks seat task other apart ∙ idle
 
-    deed-undid : IsDone meaning seat hand old new before after Deed.Undid → Unwinds seat old new
+    deed-undid : HasRow meaning seat hand old new before after Deed.Undid → Unwinds seat old new
     deed-undid h =
         let e = h.event in
         let reason = reason_to_undo (task_at old.tasks seat) in
@@ -145,7 +146,7 @@ module _ {C V M : Type 0} (meaning : Meaning C V M) where
           less = λ busy. omega (arith, shorter, rows, left, had, was, is);
         }
 
-    deed-gone : IsDone meaning seat hand old new before after Deed.WentHome → Unwinds seat old new
+    deed-gone : HasRow meaning seat hand old new before after Deed.WentHome → Unwinds seat old new
     deed-gone h =
         let e = h.event in
         let next = with_task seat Task.Idle (record (parts old) {
@@ -163,7 +164,7 @@ module _ {C V M : Type 0} (meaning : Meaning C V M) where
           less = λ busy. omega (arith, left, had);
         }
 
-    deed-stopped : IsDone meaning seat hand old new before after Deed.Stopped → Unwinds seat old new
+    deed-stopped : HasRow meaning seat hand old new before after Deed.Stopped → Unwinds seat old new
     deed-stopped h =
         let e = h.event in
         let same : new ≡ old = by e.0 (met-clash e.0 e.1.meets) e.2 in
@@ -187,7 +188,7 @@ module _ {C V M : Type 0} (meaning : Meaning C V M) where
         by Pick.Idle met is = absurd is
         by (Pick.Member number) met is = absurd is
 
-    pub deed-unwinds : (deed : Deed) → IsDone meaning seat hand old new before after deed → Unwinds seat old new
+    pub deed-unwinds : (deed : Deed) → HasRow meaning seat hand old new before after deed → Unwinds seat old new
     deed-unwinds Deed.Undid h = deed-undid h
     deed-unwinds Deed.WentHome h = deed-gone h
     deed-unwinds Deed.Stopped h = deed-stopped h
@@ -219,10 +220,12 @@ module _ {C V M : Type 0} (meaning : Meaning C V M) where
       by : (b : Bool) → is_to_flush deed ≡ b → Unwinds seat old.core new.core
       by true e =
           absurd (clash seat hand old.core turned.core old.ends.told new.ends.told stands within kept
-          (deed-more meaning seat hand old.core turned.core old.ends.told new.ends.told deed e turned.done).was)
+          (deed-more meaning seat hand old.core turned.core old.ends.told new.ends.told deed e
+          (rowed meaning seat hand old.core turned.core old.ends.told new.ends.told deed turned.done)).was)
       by false e =
           subst (Unwinds seat old.core) (sym (ap (λ (x : ShellView C V M). x.core) (turned.stays e)))
-          (deed-unwinds seat hand old.core turned.core old.ends.told new.ends.told stands within kept deed turned.done)
+          (deed-unwinds seat hand old.core turned.core old.ends.told new.ends.told stands within kept deed
+          (rowed meaning seat hand old.core turned.core old.ends.told new.ends.told deed turned.done))
 
   -- one after the other
   pub unwound-none : (core : Core C V M) → IsUnwound core core

@@ -11,7 +11,10 @@ use Rattle.ame_protocol.specs.Engine.Events.{checked_attempt, has_checked}
 use Rattle.ame_protocol.proofs.Engine.StepLemmas.{seat_within, task_here}
 use Rattle.ame_protocol.specs.Event.Counting.{Counted, one_counted}
 use Rattle.ame_engine.specs.Core.{Core}
-use Rattle.ame_engine.specs.Seen.{parts_of, MakesEvent}
+use Rattle.ame_protocol.specs.Event.Event.{Event}
+use Rattle.ame_engine.specs.Makes.{Makes}
+use Rattle.ame_engine.specs.Seen.{parts_of}
+use Rattle.ame_engine.proofs.MakesLemmas.{checked-made}
 use Rattle.ame_engine.specs.AtWork.{is_free, IsOnSeat, IsOn}
 use Rattle.ame_engine.proofs.RunLemmas.{can-run}
 use Rattle.ame_turn.specs.Served.{IsServed}
@@ -42,12 +45,13 @@ checked-goes parts seat s t on a task is =
 module _ {C V M : Type 0} (meaning : Meaning C V M) where
   pub check-on : (old new : Core C V M) (seat : ℕ) (m n : M) (a : Attempt) → Simulates (parts_of meaning new)
       → IsOn meaning old seat m → (meaning.stage old.code m).inside ≡ false → task_at old.tasks seat ≡ Task.Running a
-      → MakesEvent meaning (one_counted Counted.Check) (has_checked seat (meaning.stage old.code m).steps a) old new
+      → Makes meaning (Event.Check seat a (meaning.stage old.code m).steps) old new
       → meaning.is_machine old.code n → meaning.stage old.code n ≡ record (meaning.stage old.code m) { since = 0 }
-      → IsServed meaning (one_counted Counted.Check) (has_checked seat (meaning.stage old.code m).steps a) seat old new n
+      → IsServed meaning (Event.Check seat a (meaning.stage old.code m).steps) seat old new n
   check-on old new seat m n a stands on outside task makes machine is =
       let parts = parts_of meaning old in
-      goes meaning (one_counted Counted.Check) (has_checked seat (meaning.stage old.code m).steps a) seat old new n makes machine
+      goes meaning (one_counted Counted.Check) (has_checked seat (meaning.stage old.code m).steps a) (Event.Check seat a (meaning.stage old.code m).steps) seat old new n
+      makes (checked-made meaning old new seat a (meaning.stage old.code m).steps makes) machine
       (checked-goes parts seat (meaning.stage old.code m) (meaning.stage old.code n) on.stands a task is) (ap (λ (x : MachineView). x.inside) is ∙ outside) refl
       (let since : (meaning.stage old.code n).since ≡ 0 = ap (λ (x : MachineView). x.since) is in omega (arith, since))
       (λ s there side. can-run (parts_of meaning new) stands seat s there side)

@@ -1,6 +1,6 @@
 -- What a seat did, from what its event was asked with.
 use Rattle.std.proofs.Common.{◌≡◌, ℕ, ◌<◌, ◌≤◌, ◌⊎◌, inl, inr, Bool, true, false, List, [], Option, Some, None, Result, Ok, Err, refl, sym, ap, ◌∙◌, subst, arith, length-set}
-use Rattle.std.specs.Prelude.{IfOk, OnOk, ℤ, length, is_some}
+use Rattle.std.specs.Prelude.{IfOk, OnOk, ℤ, length, is_some, if◌then◌else◌}
 use Rattle.ame_term.specs.Tree.{Val}
 use Rattle.ame_term.specs.declared.types.Loc.{Loc}
 use Rattle.ame_rows.specs.declared.notes.Bad.{Bad}
@@ -17,20 +17,30 @@ use Rattle.ame_machine.specs.Need.{Need}
 use Rattle.ame_machine.specs.Acting.{takes_input}
 use Rattle.ame_machine.specs.Sound.{IsSoundStage}
 use Rattle.ame_machine.proofs.NeedLemmas.{comes_as}
-use Rattle.ame_protocol.specs.Engine.Parts.{Parts}
+use Rattle.ame_protocol.specs.declared.types.Task.{Task}
+use Rattle.ame_protocol.specs.Engine.Parts.{Parts, task_at, working}
+use Rattle.ame_protocol.specs.Event.Causes.{certificates_in}
+use Rattle.ame_protocol.specs.Event.Undoing.{is_undoing}
+use Rattle.ame_engine.specs.declared.pick.Pick.{Pick}
+use Rattle.ame_engine.specs.Begins.{pick_of, stop_met, takes_memory}
 use Rattle.ame_protocol.specs.Engine.Simulates.{Simulates}
 use Rattle.ame_protocol.proofs.Engine.ShownMemoryLemmas.{row-shown}
 use Rattle.ame_protocol.proofs.Visits.PlaceLemmas.{visits}
 use Rattle.ame_engine.specs.Core.{Core}
+use Rattle.ame_protocol.specs.declared.stop.Stop.{Stop}
+use Rattle.ame_protocol.specs.Event.Event.{Event}
+use Rattle.ame_engine.specs.Makes.{Makes}
 use Rattle.ame_engine.specs.Seen.{parts_of}
+use Rattle.ame_engine.specs.Stops.{stopped_by}
 use Rattle.ame_engine.specs.Committing.{IsCommitting}
 use Rattle.ame_engine.specs.Visiting.{VisitsTo}
 use Rattle.ame_engine.proofs.VisitPlaceLemmas.{visits-as}
 use Rattle.ame_turn.specs.declared.work.Deed.{Deed}
 use Rattle.ame_turn.specs.Ready.{IsReady}
-use Rattle.ame_turn.specs.Work.{IsAtWork}
-use Rattle.ame_turn.specs.Asked.{waits_for_check, IsToGoOn, AsksFor, RunsTo, Accesses, IsToCheck, IsToCommit, IsToVisit}
-use Rattle.ame_turn.specs.Deeds.{IsMade, IsDone}
+use Rattle.ame_turn.specs.Work.{CanUndo, IsAtWork}
+use Rattle.ame_turn.specs.Asked.{waits_for_check, IsToGoOn, AsksFor, RunsTo, Accesses, IsToCheck, IsToCommit, IsToVisit, IsToTakeMemory, LacksWhereDue}
+use Rattle.ame_turn.specs.Deeds.{StopsBy, Tells, IsMade, IsDone}
+use Rattle.ame_turn.proofs.DeedRows.{HasRow, rowed}
 use Rattle.ame_turn.proofs.ValidLemmas.{none-invalid}
 use Rattle.ame_machine.specs.Meaning.{Meaning}
 
@@ -167,6 +177,60 @@ module _ {C V M : Type 0} (meaning : Meaning C V M)
       → IsDone meaning seat hand core new told told deed
   done-alone hand new told deed made = record { event = made; quiet = λ _. refl }
 
+  -- memory was lacking: the engine is as before but for that stop
+  module _ (hand : Option MachineView) (mid new : Core C V M) (told : List Told) (deed : Deed) (same : mid ≡ core) (going : core.stop ≡ None)
+      (halts : mid.stop ≡ None → Makes meaning (Event.Halt Stop.NoMemory) mid new) (is : new ≡ stopped_by Stop.NoMemory mid) (lacks : deed ≡ Deed.Lacked) where
+    pub lacked : IsDone meaning seat hand core new told told deed
+    lacked = subst (λ (d : Deed). IsDone meaning seat hand core new told told d) (sym lacks) (record {
+      event = IsMade.makes _ _ (Tells.lacked (is ∙ ap (stopped_by Stop.NoMemory) same))
+          (subst (λ (x : Core C V M). Makes meaning (Event.Halt Stop.NoMemory) x new) same (halts (ap (λ (x : Core C V M). x.stop) same ∙ going)));
+      quiet = λ _. refl;
+    })
+
+  -- a seat that begins meets a stop
+  module _ (hand : Option MachineView) (new : Core C V M) (told : List Told) where
+    abbrev IsStopped : Type 0
+    IsStopped = IsMade meaning seat hand core new told told Deed.Stopped
+
+    pub stops-made : (pick : Pick) → pick_of core ≡ pick → task_at core.tasks seat ≡ Task.Idle → StopsBy (certificates_in parts) pick core new
+        → ((why : Stop) → stop_met pick ≡ Some why → Makes meaning (Event.Halt why) core new) → IsStopped
+    stops-made (Pick.Member number) met idle h halts = absurd h
+    stops-made Pick.Stopped met idle h halts = IsMade.rests (record { idle = idle; meets = met }) h
+    stops-made Pick.Finished met idle h halts =
+        IsMade.makes _ _ (Tells.stopped Pick.Finished Stop.Finished (record { idle = idle; meets = met }) refl h) (halts Stop.Finished refl)
+    stops-made Pick.Blocked met idle h halts =
+        IsMade.makes _ _ (Tells.stopped Pick.Blocked Stop.Blocked (record { idle = idle; meets = met }) refl h) (halts Stop.Blocked refl)
+    stops-made Pick.Spent met idle h halts =
+        IsMade.makes _ _ (Tells.stopped Pick.Spent Stop.Spent (record { idle = idle; meets = met }) refl h) (halts Stop.Spent refl)
+    stops-made Pick.Idle met idle h halts = absurd h
+
+-- what a seat meets takes memory while no stop is kept
+goes-on : (o : Option Stop) (pick : Pick) → takes_memory (if is_some o then Pick.Stopped else pick) ≡ true → o ≡ None
+goes-on None pick e = refl
+goes-on (Some why) pick e = cc
+
+pub takes-going : {C V M : Type 0} (core : Core C V M) → takes_memory (pick_of core) ≡ true → core.stop ≡ None
+takes-going core e = goes-on core.stop _ e
+
+-- there is no machine
+pub none-at : (s : MachineView) → None ≡ Some s → ⊥
+none-at s e = cc
+
+-- a seat that undoes runs no code
+undoing-none : (t : Task) → is_undoing t ≡ true → working t ≡ None
+undoing-none Task.Idle e = refl
+undoing-none (Task.Running a) e = cc
+undoing-none (Task.Free a) e = cc
+undoing-none (Task.Undoing a reason) e = refl
+
+pub undoing-works : {C V M : Type 0} (core : Core C V M) (seat : ℕ) → CanUndo core seat → core.stop ≡ None → working (task_at core.tasks seat) ≡ None
+undoing-works core seat can going = undoing-none (task_at core.tasks seat) (can.undoes (ap is_some going))
+
+-- it was due
+pub lacked-due : {C V M : Type 0} (core : Core C V M) (seat : ℕ) (hand : Option MachineView) (deed : Deed) → deed ≡ Deed.Lacked → IsToTakeMemory core seat hand
+    → LacksWhereDue core seat hand deed
+lacked-due core seat hand deed is due = subst (LacksWhereDue core seat hand) (sym is) due
+
 -- A call keeps the number of devices
 
 call-counts : (before after : List Told) (k : ℕ) (argument : ℤ) (result : Result ℤ DeviceFail) → CallsOne before k argument result after
@@ -188,30 +252,33 @@ visit-counts s n memory later before after answer (VisitsTo.calls device argumen
 
 module _ {C V M : Type 0} (meaning : Meaning C V M) (seat : ℕ) (hand : Option MachineView)
     (old new : Core C V M) (before after : List Told) where
-  pub told-counts : (deed : Deed) → IsDone meaning seat hand old new before after deed → length after ≡ length before
-  told-counts Deed.CameHome d =
+  row-counts : (deed : Deed) → HasRow meaning seat hand old new before after deed → length after ≡ length before
+  row-counts Deed.CameHome d =
       let home = d.event.4 in visit-counts d.event.0 home.comes (parts_of meaning old).memory home.memory before after home.answer home.visits
-  told-counts (Deed.DeviceFailed device) d = let refused = d.event.4 in call-counts before after device refused.argument (Err DeviceFail.Failed) refused.fails
-  told-counts Deed.Began d = ap length (d.quiet refl)
-  told-counts Deed.Waited d = ap length (d.quiet refl)
-  told-counts Deed.Stopped d = ap length (d.quiet refl)
-  told-counts Deed.Read d = ap length (d.quiet refl)
-  told-counts Deed.Wrote d = ap length (d.quiet refl)
-  told-counts (Deed.Met owner) d = ap length (d.quiet refl)
-  told-counts Deed.Allocated d = ap length (d.quiet refl)
-  told-counts Deed.Checked d = ap length (d.quiet refl)
-  told-counts (Deed.FoundInvalid bad) d = ap length (d.quiet refl)
-  told-counts Deed.Ended d = ap length (d.quiet refl)
-  told-counts Deed.Left d = ap length (d.quiet refl)
-  told-counts (Deed.Refused bad) d = ap length (d.quiet refl)
-  told-counts Deed.Noted d = ap length (d.quiet refl)
-  told-counts (Deed.NotNoted bad) d = ap length (d.quiet refl)
-  told-counts Deed.GrewTall d = ap length (d.quiet refl)
-  told-counts (Deed.NotTall bad) d = ap length (d.quiet refl)
-  told-counts Deed.Spent d = ap length (d.quiet refl)
-  told-counts Deed.Undid d = ap length (d.quiet refl)
-  told-counts Deed.WentHome d = ap length (d.quiet refl)
-  told-counts Deed.Lacked d = ap length (d.quiet refl)
+  row-counts (Deed.DeviceFailed device) d = let refused = d.event.4 in call-counts before after device refused.argument (Err DeviceFail.Failed) refused.fails
+  row-counts Deed.Began d = ap length (d.quiet refl)
+  row-counts Deed.Waited d = ap length (d.quiet refl)
+  row-counts Deed.Stopped d = ap length (d.quiet refl)
+  row-counts Deed.Read d = ap length (d.quiet refl)
+  row-counts Deed.Wrote d = ap length (d.quiet refl)
+  row-counts (Deed.Met owner) d = ap length (d.quiet refl)
+  row-counts Deed.Allocated d = ap length (d.quiet refl)
+  row-counts Deed.Checked d = ap length (d.quiet refl)
+  row-counts (Deed.FoundInvalid bad) d = ap length (d.quiet refl)
+  row-counts Deed.Ended d = ap length (d.quiet refl)
+  row-counts Deed.Left d = ap length (d.quiet refl)
+  row-counts (Deed.Refused bad) d = ap length (d.quiet refl)
+  row-counts Deed.Noted d = ap length (d.quiet refl)
+  row-counts (Deed.NotNoted bad) d = ap length (d.quiet refl)
+  row-counts Deed.GrewTall d = ap length (d.quiet refl)
+  row-counts (Deed.NotTall bad) d = ap length (d.quiet refl)
+  row-counts Deed.Spent d = ap length (d.quiet refl)
+  row-counts Deed.Undid d = ap length (d.quiet refl)
+  row-counts Deed.WentHome d = ap length (d.quiet refl)
+  row-counts Deed.Lacked d = ap length (d.quiet refl)
+
+  pub told-counts : (deed : Deed) → IsDone meaning seat hand old new before after deed → length after ≡ length before
+  told-counts deed done = row-counts deed (rowed meaning seat hand old new before after deed done)
 
 -- no stop is kept
 pub none-kept : {A : Type 0} (kept : Option A) → false ≡ is_some kept → kept ≡ None

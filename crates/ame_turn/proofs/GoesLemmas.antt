@@ -32,7 +32,10 @@ use Rattle.ame_engine.specs.declared.answer.Wrote.{Wrote}
 use Rattle.ame_engine.specs.declared.answer.Wrote.TheVariants as answer
 use Rattle.ame_engine.specs.Writing.{answer_to_write}
 use Rattle.ame_engine.specs.Core.{Core}
+use Rattle.ame_protocol.specs.Event.Event.{Event}
+use Rattle.ame_engine.specs.Makes.{Makes}
 use Rattle.ame_engine.specs.Seen.{parts_of, MakesEvent}
+use Rattle.ame_engine.proofs.MakesLemmas.{read-made, written-made, allocated-made}
 use Rattle.ame_engine.specs.AtWork.{IsOnSeat, IsOn}
 use Rattle.ame_engine.proofs.ReadLemmas.{runs-as, comes-to}
 use Rattle.ame_turn.specs.Served.{IsServed}
@@ -76,17 +79,17 @@ not-others seat (Some owner) e = by (which owner seat)
 
 module _ {C V M : Type 0} (meaning : Meaning C V M) where
   -- by what the event is and where the machine stands after it
-  pub goes : (counts : Counters → Counters) (event : Parts → Parts) (seat : ℕ) (old new : Core C V M) (m : M)
-      → MakesEvent meaning counts event old new → meaning.is_machine old.code m
+  pub goes : (counts : Counters → Counters) (event : Parts → Parts) (e : Event) (seat : ℕ) (old new : Core C V M) (m : M)
+      → Makes meaning e old new → MakesEvent meaning counts event old new → meaning.is_machine old.code m
       → IsOnSeat (event (parts_of meaning old)) seat (meaning.stage old.code m) → (meaning.stage old.code m).inside ≡ false
       → (event (parts_of meaning old)).limits ≡ old.limits → (meaning.stage old.code m).since ≤ old.limits.slice
       → ((s : MachineView) → IsOnSeat (parts_of meaning new) seat s → s.inside ≡ false → CanRun s)
-      → IsServed meaning counts event seat old new m
-  goes counts event seat old new m makes machine there side limits within runs =
+      → IsServed meaning e seat old new m
+  goes counts event e seat old new m made makes machine there side limits within runs =
       let here : IsOnSeat (parts_of meaning new) seat (meaning.stage old.code m) =
       subst (λ (p : Parts). IsOnSeat p seat (meaning.stage old.code m)) (sym makes.parts) there in
       record {
-        makes = makes;
+        makes = made;
         at = record {
           on = record {
             machine = subst (λ (c : C). meaning.is_machine c m) (sym makes.code) machine;
@@ -102,11 +105,11 @@ module _ {C V M : Type 0} (meaning : Meaning C V M) where
   -- after a read
   pub read-on : (old new : Core C V M) (seat : ℕ) (m fed : M) (l : Loc) (value : V) → Simulates (parts_of meaning old)
       → IsOn meaning old seat m → (meaning.stage old.code m).inside ≡ false → (meaning.stage old.code m).since < old.limits.slice → (meaning.stage old.code m).want ≡ Some (wants.Read l)
-      → IsSoundStage (meaning.stage old.code m) → MakesEvent meaning (one_counted Counted.Read) (has_read seat l) old new
+      → IsSoundStage (meaning.stage old.code m) → Makes meaning (Event.Read seat l) old new
       → meaning.value_of old.code value ≡ (cell_at (heap_in (parts_of meaning old)) l.0).value
       → ((s : MachineView) → IsOnSeat (parts_of meaning new) seat s → s.inside ≡ false → CanRun s)
       → meaning.is_machine old.code fed → after_input (meaning.stage old.code m).want (meaning.value_of old.code value) (meaning.stage old.code m) ≡ Some (meaning.stage old.code fed)
-      → IsServed meaning (one_counted Counted.Read) (has_read seat l) seat old new fed
+      → IsServed meaning (Event.Read seat l) seat old new fed
   read-on old new seat m fed l value stands on outside early told sound makes is runs machine after =
       let s = meaning.stage old.code m in
       let t = meaning.stage old.code fed in
@@ -117,17 +120,17 @@ module _ {C V M : Type 0} (meaning : Meaning C V M) where
       let side : t.inside ≡ false = ap (λ (x : MachineView). x.inside) more.is ∙ outside in
       let since : t.since ≡ s.since + 1 = ap (λ (x : MachineView). x.since) more.is in
       let within : t.since ≤ old.limits.slice = omega (arith, since, early) in
-      goes (one_counted Counted.Read) (has_read seat l) seat old new fed makes machine
+      goes (one_counted Counted.Read) (has_read seat l) (Event.Read seat l) seat old new fed makes (read-made meaning old new seat l makes) machine
       (read-goes parts seat s t stands on.stands outside l (sound.told (wants.Read l) told) given) side refl within runs
 
   -- after a write that was accepted
   pub write-on : (old new : Core C V M) (seat : ℕ) (m fed : M) (l : Loc) (v : Val) → Simulates (parts_of meaning old)
       → IsOn meaning old seat m → (meaning.stage old.code m).inside ≡ false → (meaning.stage old.code m).since < old.limits.slice → (meaning.stage old.code m).want ≡ Some (wants.Write l)
-      → IsSoundStage (meaning.stage old.code m) → MakesEvent meaning (one_counted Counted.Write) (has_written seat l v) old new
+      → IsSoundStage (meaning.stage old.code m) → Makes meaning (Event.Write seat l v) old new
       → answer.Wrote ≡ answer_to_write seat (cell_at (heap_in (parts_of meaning old)) l.0).owner
       → ((s : MachineView) → IsOnSeat (parts_of meaning new) seat s → s.inside ≡ false → CanRun s)
       → meaning.is_machine old.code fed → after_input (meaning.stage old.code m).want Val.Unit (meaning.stage old.code m) ≡ Some (meaning.stage old.code fed)
-      → IsServed meaning (one_counted Counted.Write) (has_written seat l v) seat old new fed
+      → IsServed meaning (Event.Write seat l v) seat old new fed
   write-on old new seat m fed l v stands on outside early told sound makes wrote runs machine after =
       let s = meaning.stage old.code m in
       let t = meaning.stage old.code fed in
@@ -137,18 +140,18 @@ module _ {C V M : Type 0} (meaning : Meaning C V M) where
       let side : t.inside ≡ false = ap (λ (x : MachineView). x.inside) more.is ∙ outside in
       let since : t.since ≡ s.since + 1 = ap (λ (x : MachineView). x.since) more.is in
       let within : t.since ≤ old.limits.slice = omega (arith, since, early) in
-      goes (one_counted Counted.Write) (has_written seat l v) seat old new fed makes machine
+      goes (one_counted Counted.Write) (has_written seat l v) (Event.Write seat l v) seat old new fed makes (written-made meaning old new seat l v makes) machine
       (write-goes parts seat s t stands on.stands outside l v (sound.told (wants.Write l) told) (not-others seat (cell_at (heap_in parts) l.0).owner wrote) step) side refl within runs
 
   -- after an allocation
   pub alloc-on : (old new : Core C V M) (seat : ℕ) (m fed : M) (sort : Sort) (number : TyNo) (v : Val) (place : ℕ)
       → Simulates (parts_of meaning old) → IsOn meaning old seat m → (meaning.stage old.code m).inside ≡ false
       → (meaning.stage old.code m).since < old.limits.slice → (meaning.stage old.code m).want ≡ Some (wants.Alloc sort number) → IsSoundStage (meaning.stage old.code m)
-      → MakesEvent meaning (one_counted Counted.Alloc) (has_allocated seat sort number v) old new
+      → Makes meaning (Event.Alloc seat sort number v) old new
       → place ≡ length old.memory.cells
       → ((s : MachineView) → IsOnSeat (parts_of meaning new) seat s → s.inside ≡ false → CanRun s)
       → meaning.is_machine old.code fed → after_input (meaning.stage old.code m).want (Val.Loc place) (meaning.stage old.code m) ≡ Some (meaning.stage old.code fed)
-      → IsServed meaning (one_counted Counted.Alloc) (has_allocated seat sort number v) seat old new fed
+      → IsServed meaning (Event.Alloc seat sort number v) seat old new fed
   alloc-on old new seat m fed sort number v place stands on outside early told sound makes is runs machine after =
       let s = meaning.stage old.code m in
       let t = meaning.stage old.code fed in
@@ -160,5 +163,5 @@ module _ {C V M : Type 0} (meaning : Meaning C V M) where
       let side : t.inside ≡ false = ap (λ (x : MachineView). x.inside) more.is ∙ outside in
       let since : t.since ≡ s.since + 1 = ap (λ (x : MachineView). x.since) more.is in
       let within : t.since ≤ old.limits.slice = omega (arith, since, early) in
-      goes (one_counted Counted.Alloc) (has_allocated seat sort number v) seat old new fed makes machine
+      goes (one_counted Counted.Alloc) (has_allocated seat sort number v) (Event.Alloc seat sort number v) seat old new fed makes (allocated-made meaning old new seat sort number v makes) machine
       (alloc-goes parts seat s t stands on.stands outside sort number v (sound.told (wants.Alloc sort number) told) given) side refl within runs

@@ -38,15 +38,10 @@ use Rattle.ame_engine.proofs.ReadLemmas.{runs-as}
 use Rattle.ame_turn.specs.declared.work.Work.{Work}
 use Rattle.ame_turn.specs.Work.{CanUndo, IsAtWork, Fits}
 use Rattle.ame_turn.specs.Deeds.{StopsBy}
+use Rattle.ame_turn.proofs.DeedRows.{working-busy}
 use Rattle.ame_turn.proofs.EndsLemmas.{turn-tasks}
 use Rattle.ame_turn.proofs.RestLemmas.{by-stop}
 use Rattle.ame_machine.specs.Meaning.{Meaning}
-
-pub working-busy : (t : Task) (a : Attempt) → working t ≡ Some a → is_some (attempt_of t) ≡ true
-working-busy Task.Idle a e = cc
-working-busy (Task.Running b) a e = refl
-working-busy (Task.Free b) a e = refl
-working-busy (Task.Undoing b reason) a e = cc
 
 working-attempt : (t : Task) (a : Attempt) → working t ≡ Some a → attempt_of t ≡ Some a
 working-attempt Task.Idle a e = cc

@@ -1,3 +1,4 @@
+pub mod DeedRows
 pub mod FedLemmas
 pub mod OthersLemmas
 pub mod EndsLemmas

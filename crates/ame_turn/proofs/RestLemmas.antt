@@ -33,7 +33,8 @@ use Rattle.ame_turn.specs.declared.work.Deed.{Deed}
 use Rattle.ame_turn.specs.declared.work.Work.{Work}
 use Rattle.ame_turn.specs.declared.work.Work.TheVariants as work
 use Rattle.ame_turn.specs.Work.{Fits}
-use Rattle.ame_turn.specs.Deeds.{StopsBy, TurnsBack, Spends, IsMade}
+use Rattle.ame_turn.specs.Deeds.{StopsBy, IsMade}
+use Rattle.ame_turn.proofs.DeedRows.{TurnsBack, Spends, Row, row-made}
 use Rattle.ame_turn.proofs.OthersLemmas.{begun-others, read-others, written-others, allocated-others, checked-others, back-others}
 use Rattle.ame_turn.proofs.EndsLemmas.{turn-tasks, turn-limits, undone-others, gone-others, ended-others, left-others}
 use Rattle.ame_turn.proofs.VisitedLemmas.{noted-others, cut-others, tall-others, refused-others, visit-rows, visited-others}
@@ -186,70 +187,68 @@ module _ {C V M : Type 0} (meaning : Meaning C V M) where
     spend-leaves hand (Some s) (inl cuts) = cut-leaves Stop.Spent (λ counters. counters) cuts.attempt.tried.number s.steps s cuts.event
     spend-leaves hand (Some s) (inr stops) = stop-leaves old new seat Stop.Spent stops.1
 
-    -- an event of a deed leaves the rest
-    pub made-leaves : (hand : Option MachineView) (before after : List Told) (deed : Deed)
-        → IsMade meaning seat hand old new before after deed → Leaves seat old new
-    made-leaves hand before after Deed.Began d =
+    row-leaves : (hand : Option MachineView) (before after : List Told) (deed : Deed) → Row meaning seat hand old new before after deed → Leaves seat old new
+    row-leaves hand before after Deed.Began d =
         by-event old new seat (one_counted Counted.Begin) (has_begun seat d.0) d.2 refl (λ other else. (
           task_else old.tasks seat (begun_task (is_inside_at (parts old).pool.members d.0) (fresh_attempt d.0 (parts old))) other else,
           λ s on. begun-others (parts old) seat other s else on d.0,
         ))
-    made-leaves hand before after Deed.Waited d = same-leaves old new seat d.1
-    made-leaves hand before after Deed.Stopped d = pick-leaves old new seat _ d.0 d.2
-    made-leaves hand before after Deed.Read d =
+    row-leaves hand before after Deed.Waited d = same-leaves old new seat d.1
+    row-leaves hand before after Deed.Stopped d = pick-leaves old new seat _ d.0 d.2
+    row-leaves hand before after Deed.Read d =
         by-event old new seat (one_counted Counted.Read) (has_read seat d.1) d.3 refl (λ other else. (
           refl,
           λ s on. read-others (parts old) seat other s else on d.1,
         ))
-    made-leaves hand before after Deed.Wrote d =
+    row-leaves hand before after Deed.Wrote d =
         by-event old new seat (one_counted Counted.Write) (has_written seat d.1 d.2) d.6 refl (λ other else. (
           refl,
           λ s on. written-others (parts old) seat other s else on d.1 d.2,
         ))
-    made-leaves hand before after (Deed.Met owner) d = back-leaves old new seat (one_counted Counted.Conflict) d.2 d.6
-    made-leaves hand before after Deed.Allocated d =
+    row-leaves hand before after (Deed.Met owner) d = back-leaves old new seat (one_counted Counted.Conflict) d.2 d.6
+    row-leaves hand before after Deed.Allocated d =
         by-event old new seat (one_counted Counted.Alloc) (has_allocated seat d.1 d.2 d.3) d.6 refl (λ other else. (
           refl,
           λ s on. allocated-others (parts old) seat other s else on d.1 d.2 d.3,
         ))
-    made-leaves hand before after Deed.Checked d =
+    row-leaves hand before after Deed.Checked d =
         by-event old new seat (one_counted Counted.Check) (has_checked seat d.0.steps d.2) d.4 refl (λ other else. (
           task_else old.tasks seat (Task.Running (checked_attempt d.0.steps d.2 (parts old))) other else,
           λ s on. checked-others (parts old) seat other s else on d.0.steps d.2,
         ))
-    made-leaves hand before after (Deed.FoundInvalid bad) d = turned-leaves old new seat hand (one_invalid Counted.Check) bad d.2
-    made-leaves hand before after Deed.Ended d =
+    row-leaves hand before after (Deed.FoundInvalid bad) d = turned-leaves old new seat hand (one_invalid Counted.Check) bad d.2
+    row-leaves hand before after Deed.Ended d =
         by-event old new seat (one_counted Counted.Commit) (ended_at seat d.2.tried.number d.0) d.4 refl (λ other else. (
           task_else old.tasks seat Task.Idle other else,
           λ s on. ended-others (parts old) stands seat other s else on d.2 d.3.task d.0.steps (place_shown d.0) (owned_places seat (parts old).memory.cells),
         ))
-    made-leaves hand before after Deed.Left d =
+    row-leaves hand before after Deed.Left d =
         by-event old new seat (one_counted Counted.Commit) (left_at seat d.2.tried.number d.0) d.4 refl (λ other else. (
           task_else old.tasks seat Task.Idle other else,
           λ s on. left-others (parts old) stands seat other s else on d.2 d.3.task d.0.steps (place_shown d.0) (owned_places seat (parts old).memory.cells),
         ))
-    made-leaves hand before after (Deed.Refused bad) d = turned-leaves old new seat hand (one_invalid Counted.Commit) bad d.2
-    made-leaves hand before after Deed.Noted d =
+    row-leaves hand before after (Deed.Refused bad) d = turned-leaves old new seat hand (one_invalid Counted.Commit) bad d.2
+    row-leaves hand before after Deed.Noted d =
         by-event old new seat (one_counted Counted.Block) (has_noted seat d.2 d.0.steps (place_shown d.0)) d.4 refl (λ other else. (
           task_else old.tasks seat (Task.Undoing (record d.2 { logged = true }) Reason.Noted) other else,
           λ s on. noted-others (parts old) seat other s else on d.2 d.0.steps (place_shown d.0),
         ))
-    made-leaves hand before after (Deed.NotNoted bad) d = turned-leaves old new seat hand (one_invalid Counted.Block) bad d.2
-    made-leaves hand before after Deed.GrewTall d =
+    row-leaves hand before after (Deed.NotNoted bad) d = turned-leaves old new seat hand (one_invalid Counted.Block) bad d.2
+    row-leaves hand before after Deed.GrewTall d =
         by-last old new seat (Stop.Tall d.2.tried.number) (one_counted Counted.Tall)
         (has_grown_tall seat d.2.tried.number d.0.steps (place_shown d.0) (task_at old.tasks seat)) d.5 refl (λ other else. (
           task_else old.tasks seat (told_task (task_at old.tasks seat)) other else,
           λ s on. tall-others (parts old) seat other s else on d.2.tried.number d.0.steps (place_shown d.0) (task_at old.tasks seat),
         ))
-    made-leaves hand before after (Deed.NotTall bad) d = turned-leaves old new seat hand (one_invalid Counted.Tall) bad d.2
-    made-leaves hand before after Deed.CameHome d = home-leaves d.2.tried.number d.2 d.3 refl d.0 before after d.4
-    made-leaves hand before after (Deed.DeviceFailed device) d =
+    row-leaves hand before after (Deed.NotTall bad) d = turned-leaves old new seat hand (one_invalid Counted.Tall) bad d.2
+    row-leaves hand before after Deed.CameHome d = home-leaves d.2.tried.number d.2 d.3 refl d.0 before after d.4
+    row-leaves hand before after (Deed.DeviceFailed device) d =
         by-last old new seat (Stop.DeviceFault device) (one_counted Counted.Free) (has_been_refused seat d.2.tried.number) d.4.event refl (λ other else. (
           task_else old.tasks seat Task.Idle other else,
           λ s on. refused-others (parts old) seat other s else on d.2.tried.number,
         ))
-    made-leaves hand before after Deed.Spent d = spend-leaves hand hand d.1
-    made-leaves hand before after Deed.Undid d =
+    row-leaves hand before after Deed.Spent d = spend-leaves hand hand d.1
+    row-leaves hand before after Deed.Undid d =
         by-event old new seat (one_undone (is_some old.stop)) (has_undone seat d.0 (reason_to_undo (task_at old.tasks seat))) d.2.event
         (turn-limits (with_task seat (Task.Undoing d.0 (reason_to_undo (task_at old.tasks seat))) (with_memory (undone_last seat (parts old).memory) (parts old))))
         (λ other else. (
@@ -258,7 +257,7 @@ module _ {C V M : Type 0} (meaning : Meaning C V M) where
               ∙ task_else old.tasks seat (Task.Undoing d.0 (reason_to_undo (task_at old.tasks seat))) other else,
           λ s on. undone-others (parts old) seat other s else on d.0 (reason_to_undo (task_at old.tasks seat)),
         ))
-    made-leaves hand before after Deed.WentHome d =
+    row-leaves hand before after Deed.WentHome d =
         let reason = reason_to_undo (task_at old.tasks seat) in
         let gone : Parts = with_task seat Task.Idle (record (parts old) {
           memory = undone_last seat (parts old).memory;
@@ -269,4 +268,9 @@ module _ {C V M : Type 0} (meaning : Meaning C V M) where
           ap (λ (ts : List Task). task_at ts other) (turn-tasks gone) ∙ task_else old.tasks seat Task.Idle other else,
           λ s on. gone-others (parts old) seat other s else on d.0 reason,
         ))
-    made-leaves hand before after Deed.Lacked d = stop-leaves old new seat Stop.NoMemory d.1
+    row-leaves hand before after Deed.Lacked d = stop-leaves old new seat Stop.NoMemory d.1
+
+    -- an event of a deed leaves the rest
+    pub made-leaves : (hand : Option MachineView) (before after : List Told) (deed : Deed)
+        → IsMade meaning seat hand old new before after deed → Leaves seat old new
+    made-leaves hand before after deed made = row-leaves hand before after deed (row-made meaning seat hand old new before after deed made)

@@ -1,12 +1,18 @@
 -- What an engine is asked for in a turn, by what a seat has at hand.
 use Rattle.std.specs.Prelude.{◌≡◌, ℕ, ◌≤◌, ◌<◌, ◌⊎◌, Bool, true, false, Option, Some, None, is_some}
+use Rattle.ame_rows.specs.Valid.{IsValid}
+use Rattle.ame_rows.specs.MemoryView.{row_at}
 use Rattle.ame_machine.specs.declared.wants.Wants.{Wants}
 use Rattle.ame_machine.specs.declared.wants.Wants.TheVariants as wants
 use Rattle.ame_machine.specs.MachineView.{MachineView}
+use Rattle.ame_machine.specs.Acting.{takes_input}
+use Rattle.ame_protocol.specs.declared.types.Task.{Task}
 use Rattle.ame_protocol.specs.Engine.Parts.{task_at}
 use Rattle.ame_engine.specs.Core.{Core}
+use Rattle.ame_engine.specs.Begins.{pick_of, takes_memory}
 use Rattle.ame_engine.specs.Committing.{IsCommitting}
 use Rattle.ame_protocol.specs.Event.Undoing.{is_undoing}
+use Rattle.ame_turn.specs.declared.work.Deed.{Deed}
 
 -- whether reads are checked at a full slice before this is done
 abbrev pub waits_for_check : Option Wants → Bool
@@ -66,3 +72,24 @@ module _ {C V M : Type 0} (core : Core C V M) where
   pub record IsToUndo (seat : ℕ) : Type 0 where
     pub why : (is_some core.stop ≡ true) ⊎ (is_undoing (task_at core.tasks seat) ≡ true)
     pub left : is_some core.stop ≡ false → core.turns < core.limits.turns
+
+  -- each read of the seat is valid
+  abbrev pub AreAllValid : ℕ → Type 0
+  AreAllValid seat = IsValid core.memory.cells seat (row_at core.memory.rows seat).reads
+
+module _ {C V M : Type 0} (core : Core C V M) (seat : ℕ) (hand : Option MachineView) where
+  -- An event that takes memory is due: a member begins or all are parked, protected code accesses a cell, a row whose reads are valid
+  -- is committed or noted, or unprotected code is visited.
+  pub data IsToTakeMemory : Type 0 where
+    begins : task_at core.tasks seat ≡ Task.Idle → takes_memory (pick_of core) ≡ true → IsToTakeMemory
+    accesses : (s : MachineView) (want : Wants) → Accesses core hand s want → takes_input (Some want) ≡ true → IsToTakeMemory
+    commits : (s : MachineView) → IsToCommit core hand s → AreAllValid core seat → IsToTakeMemory
+    notes : (s : MachineView) → RunsTo core hand s wants.Block → AreAllValid core seat → IsToTakeMemory
+    grows : (s : MachineView) → AsksFor core hand s wants.Tall → AreAllValid core seat → IsToTakeMemory
+    visits : (s : MachineView) → IsToVisit core hand s → IsToTakeMemory
+    cuts : (s : MachineView) → hand ≡ Some s → HasNoTurnsLeft core → AreAllValid core seat → IsToTakeMemory
+
+  -- memory is lacking where such an event is due
+  abbrev pub LacksWhereDue : Deed → Type 0
+  LacksWhereDue Deed.Lacked = IsToTakeMemory
+  LacksWhereDue _ = Unit {0}

@@ -10,9 +10,9 @@ ghost use Rattle.ame_machine.specs.declared.wants.Wants.{Wants};
 ghost use Rattle.ame_machine.specs.Input.{value_to_set};
 ghost use Rattle.ame_protocol.specs.declared.types.Attempt.{Attempt};
 ghost use Rattle.ame_protocol.specs.Engine.Parts.{heap_in, task_at};
-ghost use Rattle.ame_protocol.specs.Engine.Events.{has_read, has_written, has_allocated, has_turned_back};
-ghost use Rattle.ame_protocol.specs.Event.Counting.{Counted, one_counted};
-ghost use Rattle.ame_engine.specs.Seen.{parts_of, MakesEvent};
+ghost use Rattle.ame_protocol.specs.Event.Event.{Event, Reverse};
+ghost use Rattle.ame_engine.specs.Makes.{Makes};
+ghost use Rattle.ame_engine.specs.Seen.{parts_of};
 ghost use Rattle.ame_engine.specs.AtWork.{IsOn, IsReading, IsWriting, IsAllocating};
 ghost use Rattle.ame_engine.specs.Writing.{answer_to_write};
 ghost use Rattle.ame_turn.specs.Served.{IsServed};
@@ -40,7 +40,7 @@ where
     requires going { engine.old.stop ≡ None }
     requires steps { (M.meaning.stage engine.old.code machine.old).steps + 1 < 2 ^ 64 }
     ensures goes { (l : Loc) → (M.meaning.stage engine.old.code machine.old).want ≡ Some (Wants.Read l) → OnOk result
-        (IsServed M.meaning (one_counted Counted.Read) (has_read seat l) seat engine.old engine.new machine.new) }
+        (IsServed M.meaning (Event.Read seat l) seat engine.old engine.new machine.new) }
     ensures engine { OnErr result (engine.new ≡ engine.old) }
     ensures machine { OnErr result (machine.new ≡ machine.old) }
 {
@@ -71,9 +71,10 @@ where
         answer ≡ answer_to_write seat (cell_at (heap_in (parts_of M.meaning engine.old)) l.0).owner) }
     ensures goes { (l : Loc) (v : Val) → (M.meaning.stage engine.old.code machine.old).want ≡ Some (Wants.Write l)
         → value_to_set (M.meaning.stage engine.old.code machine.old) ≡ Some v → result ≡ Ok Wrote.Wrote
-        → IsServed M.meaning (one_counted Counted.Write) (has_written seat l v) seat engine.old engine.new machine.new }
-    ensures back { (attempt : Attempt) (owner : ℕ) → task_at engine.old.tasks seat ≡ Task.Running attempt → result ≡ Ok (Wrote.Conflict owner)
-        → MakesEvent M.meaning (one_counted Counted.Conflict) (has_turned_back seat attempt) engine.old engine.new }
+        → IsServed M.meaning (Event.Write seat l v) seat engine.old engine.new machine.new }
+    ensures back { (l : Loc) (attempt : Attempt) (owner : ℕ) → (M.meaning.stage engine.old.code machine.old).want ≡ Some (Wants.Write l)
+        → task_at engine.old.tasks seat ≡ Task.Running attempt → result ≡ Ok (Wrote.Conflict owner)
+        → Makes M.meaning (Event.TurnBack seat attempt (Reverse.Met l owner)) engine.old engine.new }
     ensures engine { OnErr result (engine.new ≡ engine.old) }
     ensures machine { OnErr result (machine.new ≡ machine.old) }
 {
@@ -107,7 +108,7 @@ where
     requires steps { (M.meaning.stage engine.old.code machine.old).steps + 1 < 2 ^ 64 }
     ensures goes { (sort : Sort) (number : TyNo) (v : Val) → (M.meaning.stage engine.old.code machine.old).want ≡ Some (Wants.Alloc sort number)
         → value_to_set (M.meaning.stage engine.old.code machine.old) ≡ Some v → OnOk result (IsServed M.meaning
-        (one_counted Counted.Alloc) (has_allocated seat sort number v) seat engine.old engine.new machine.new) }
+        (Event.Alloc seat sort number v) seat engine.old engine.new machine.new) }
     ensures engine { OnErr result (engine.new ≡ engine.old) }
     ensures machine { OnErr result (machine.new ≡ machine.old) }
 {

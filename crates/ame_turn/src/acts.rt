@@ -6,7 +6,7 @@ ghost use Rattle.ame_device.specs.Calls.{all_told};
 ghost use Rattle.ame_machine.specs.declared.wants.Wants.{Wants};
 ghost use Rattle.ame_turn.specs.declared.work.Deed.{Deed};
 ghost use Rattle.ame_turn.specs.declared.work.Work.{Work};
-ghost use Rattle.ame_turn.specs.Asked.{waits_for_check};
+ghost use Rattle.ame_turn.specs.Asked.{waits_for_check, LacksWhereDue};
 ghost use Rattle.ame_turn.specs.Ready.{IsReady, IsReadyWork, CanBePrepared};
 ghost use Rattle.ame_turn.specs.Work.{stage_at, CanUndo, IsAtWork, HasTurn, Fits};
 ghost use Rattle.ame_turn.specs.Deeds.{IsDone};
@@ -74,6 +74,7 @@ where
     ensures fits { Fits M.meaning engine.new seat result.work }
     ensures done { IsDone M.meaning seat (Some (M.meaning.stage engine.old.code machine)) engine.old engine.new
         (all_told D.device_heard D.device_faults devices.old.items) (all_told D.device_heard D.device_faults devices.new.items) result.deed }
+    ensures due { LacksWhereDue engine.old seat (Some (M.meaning.stage engine.old.code machine)) result.deed }
 {
     engine.stands();
     limits_are_small(engine);
@@ -101,6 +102,7 @@ where
     ensures fits { Fits M.meaning engine.new seat result.work }
     ensures done { IsDone M.meaning seat (Some (M.meaning.stage engine.old.code machine)) engine.old engine.new
         (all_told D.device_heard D.device_faults devices.old.items) (all_told D.device_heard D.device_faults devices.new.items) result.deed }
+    ensures due { LacksWhereDue engine.old seat (Some (M.meaning.stage engine.old.code machine)) result.deed }
 {
     if engine.stopped().is_some() {
         return undo_on(engine, seat);
@@ -143,6 +145,7 @@ where
     requires can { CanUndo engine.old seat }
     ensures fits { Fits M.meaning engine.new seat result.work }
     ensures done { (told : List Told) → IsDone M.meaning seat None engine.old engine.new told told result.deed }
+    ensures due { LacksWhereDue engine.old seat None result.deed }
 {
     if engine.stopped().is_none() && engine.turns() >= engine.limits().turns {
         return spend_undoing(engine, seat);
@@ -170,6 +173,7 @@ where
     ensures done { IsDone M.meaning seat (stage_at M.meaning.stage engine.old.code work) engine.old engine.new
         (all_told D.device_heard D.device_faults devices.old.items) (all_told D.device_heard D.device_faults devices.new.items) result.deed }
     ensures lacks { lacks ≡ true → engine.old.stop ≡ None → result.deed ≡ Deed.Lacked }
+    ensures due { lacks ≡ false → LacksWhereDue engine.old seat (stage_at M.meaning.stage engine.old.code work) result.deed }
 {
     if lacks && engine.stopped().is_none() {
         return give_up(engine, work);
@@ -183,7 +187,8 @@ where
 
 /// One event of a seat, exactly the one that the engine, what the seat has at hand and what its machine wants name. `lacks` is
 /// whether memory was lacking when what it has at hand was prepared; that stop is kept then, unless one is. Where memory is lacking
-/// for the event itself that stop is kept, and nothing else changes. What other seats have at hand still fits.
+/// for the event itself that stop is kept, and nothing else changes; an event that takes none never lacks it. What other seats have
+/// at hand still fits.
 pub fn act<M: Runner, D: Device>(
     engine: &mut Engine<M>,
     code: &M::Code,
@@ -202,6 +207,7 @@ where
     ensures done { IsDone M.meaning seat (stage_at M.meaning.stage engine.old.code work) engine.old engine.new
         (all_told D.device_heard D.device_faults devices.old.items) (all_told D.device_heard D.device_faults devices.new.items) result.deed }
     ensures lacks { lacks ≡ true → engine.old.stop ≡ None → result.deed ≡ Deed.Lacked }
+    ensures due { lacks ≡ false → LacksWhereDue engine.old seat (stage_at M.meaning.stage engine.old.code work) result.deed }
     ensures fits { Fits M.meaning engine.new seat result.work }
     ensures others { (other : ℕ) (rest : Work M) → other ≢ seat → Fits M.meaning engine.old other rest
         → Fits M.meaning engine.new other rest }

@@ -6,9 +6,8 @@ ghost use Rattle.ame_rows.specs.Valid.{IsValid, IsFirstBad};
 ghost use Rattle.ame_rows.specs.MemoryView.{row_at};
 ghost use Rattle.ame_protocol.specs.declared.types.Attempt.{Attempt};
 ghost use Rattle.ame_protocol.specs.Engine.Parts.{task_at};
-ghost use Rattle.ame_protocol.specs.Engine.Events.{has_checked, has_turned_back};
-ghost use Rattle.ame_protocol.specs.Event.Counting.{Counted, one_counted, one_invalid};
-ghost use Rattle.ame_engine.specs.Seen.{MakesEvent};
+ghost use Rattle.ame_protocol.specs.Event.Event.{Event, Find, Reverse};
+ghost use Rattle.ame_engine.specs.Makes.{Makes};
 ghost use Rattle.ame_engine.specs.AtWork.{IsOn};
 ghost use Rattle.ame_turn.specs.Served.{IsServed};
 
@@ -27,10 +26,9 @@ where
     requires left { engine.old.turns < engine.old.limits.turns }
     requires going { engine.old.stop ≡ None }
     ensures goes { (attempt : Attempt) → task_at engine.old.tasks seat ≡ Task.Running attempt → result ≡ Checked.Valid
-        → IsServed M.meaning (one_counted Counted.Check)
-        (has_checked seat (M.meaning.stage engine.old.code machine.old).steps attempt) seat engine.old engine.new machine.new }
+        → IsServed M.meaning (Event.Check seat attempt (M.meaning.stage engine.old.code machine.old).steps) seat engine.old engine.new machine.new }
     ensures back { (attempt : Attempt) (bad : Bad) → task_at engine.old.tasks seat ≡ Task.Running attempt → result ≡ Checked.Invalid bad
-        → MakesEvent M.meaning (one_invalid Counted.Check) (has_turned_back seat attempt) engine.old engine.new }
+        → Makes M.meaning (Event.TurnBack seat attempt (Reverse.Stale Find.Check)) engine.old engine.new }
     ensures exact { (result ≡ Checked.Valid) ↔ IsValid engine.old.memory.cells seat (row_at engine.old.memory.rows seat).reads }
     ensures bad { (bad : Bad) → result ≡ Checked.Invalid bad → IsFirstBad engine.old.memory.cells seat (row_at engine.old.memory.rows seat).reads bad }
 {

@@ -6,11 +6,13 @@ ghost use Rattle.ame_machine.specs.MachineView.{MachineView};
 ghost use Rattle.ame_protocol.specs.Engine.Parts.{task_at};
 ghost use Rattle.ame_protocol.specs.declared.types.Task.{Task};
 ghost use Rattle.ame_protocol.specs.declared.stop.Stop.{Stop};
+ghost use Rattle.ame_protocol.specs.Event.Event.{Event};
+ghost use Rattle.ame_engine.specs.Makes.{Makes};
 ghost use Rattle.ame_engine.specs.Stops.{stopped_by};
 ghost use Rattle.ame_turn.specs.declared.work.Deed.{Deed};
 ghost use Rattle.ame_turn.specs.declared.work.Work.TheVariants as spec;
 ghost use Rattle.ame_turn.specs.Work.{CanUndo, Fits};
-ghost use Rattle.ame_turn.specs.Asked.{IsToUndo};
+ghost use Rattle.ame_turn.specs.Asked.{IsToUndo, LacksWhereDue};
 ghost use Rattle.ame_turn.specs.Deeds.{IsDone};
 
 use crate::work::{Deed, Turned, Work};
@@ -22,6 +24,7 @@ pub(crate) fn give_up<M: Runner>(engine: &mut Engine<M>, work: Work<M>) -> Turne
 where
     M::Code: Drop,
     ensures engine { engine.new ≡ stopped_by Stop.NoMemory engine.old }
+    ensures halts { engine.old.stop ≡ None → Makes M.meaning (Event.Halt Stop.NoMemory) engine.old engine.new }
     ensures deed { result.deed ≡ Deed.Lacked }
     ensures work { result.work ≡ work }
 {
@@ -51,6 +54,7 @@ where
     requires idle { task_at engine.old.tasks seat ≡ Task.Idle }
     ensures fits { Fits M.meaning engine.new seat result.work }
     ensures done { (told : List Told) → IsDone M.meaning seat None engine.old engine.new told told result.deed }
+    ensures due { LacksWhereDue engine.old seat None result.deed }
 {
     match engine.begin(seat) {
         Ok(Begin::Begun(machine)) => Turned {
@@ -71,6 +75,7 @@ where
     requires undoes { IsToUndo engine.old seat }
     ensures fits { Fits M.meaning engine.new seat result.work }
     ensures done { (hand : Option MachineView) (told : List Told) → IsDone M.meaning seat hand engine.old engine.new told told result.deed }
+    ensures due { (hand : Option MachineView) → LacksWhereDue engine.old seat hand result.deed }
 {
     match engine.undo_one(seat) {
         Undone::More => Turned {

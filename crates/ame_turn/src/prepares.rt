@@ -1,6 +1,6 @@
 //! What is done before a turn.
 
-ghost use Rattle.std.specs.Prelude.{◌<◌, OnOk};
+ghost use Rattle.std.specs.Prelude.{◌<◌, OnOk, OnErr};
 ghost use Rattle.ame_turn.specs.Ready.{CanGoOn, HasAdvanced, IsReady, CanBePrepared, IsPrepared, IsReadyWork};
 
 use crate::work::Work;
@@ -19,6 +19,7 @@ fn go_on<M: Runner>(
     requires can { CanGoOn M.meaning.is_machine M.meaning.stage code.now slice machine.old }
     ensures gone { HasAdvanced M.meaning.is_machine M.meaning.stage code.now slice machine.old machine.new }
     ensures ready { OnOk result (IsReady slice (M.meaning.stage code.now machine.new)) }
+    ensures lacks { OnErr result (IsReady slice (M.meaning.stage code.now machine.new) → ⊥) }
 {
     match machine.want() {
         None | Some(Wants::OutOfFuel) => {
@@ -31,7 +32,7 @@ fn go_on<M: Runner>(
 }
 
 /// The machine that a seat has at hand makes steps until it wants something or its slice is full, unless it wants something
-/// already. Done before a turn, without the engine. After `NoMemory` it may have made some of the steps.
+/// already. Done before a turn, without the engine. After `NoMemory` it may have made some of the steps, and isn't ready.
 pub fn prepare<M: Runner>(
     alloc: Global,
     code: &M::Code,
@@ -42,6 +43,7 @@ pub fn prepare<M: Runner>(
     requires can { CanBePrepared M.meaning.is_machine M.meaning.stage code.now slice work.old }
     ensures prepared { IsPrepared M.meaning.is_machine M.meaning.stage code.now slice work.old work.new }
     ensures ready { OnOk result (IsReadyWork M.meaning.stage code.now slice work.new) }
+    ensures lacks { OnErr result (IsReadyWork M.meaning.stage code.now slice work.new → ⊥) }
 {
     match work {
         Work::Running(machine) => go_on(alloc, code, slice, machine),

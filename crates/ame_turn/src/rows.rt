@@ -3,8 +3,8 @@
 ghost use Rattle.std.specs.Prelude.{◌≡◌, List, Some, true, false};
 ghost use Rattle.ame_device.specs.declared.told.Told.{Told};
 ghost use Rattle.ame_machine.specs.declared.wants.Wants.{Wants};
-ghost use Rattle.ame_turn.specs.Asked.{waits_for_check};
 ghost use Rattle.ame_turn.specs.Work.{Fits, HasTurn};
+ghost use Rattle.ame_turn.specs.Asked.{waits_for_check, LacksWhereDue};
 ghost use Rattle.ame_turn.specs.Deeds.{IsDone};
 
 use crate::checks::check;
@@ -23,6 +23,7 @@ where
     requires full { (M.meaning.stage engine.old.code machine).since ≡ engine.old.limits.slice }
     ensures fits { Fits M.meaning engine.new seat result.work }
     ensures done { (told : List Told) → IsDone M.meaning seat (Some (M.meaning.stage engine.old.code machine)) engine.old engine.new told told result.deed }
+    ensures due { LacksWhereDue engine.old seat (Some (M.meaning.stage engine.old.code machine)) result.deed }
 {
     match check(engine, seat, &mut machine) {
         Checked::Valid => Turned {
@@ -45,6 +46,7 @@ where
     requires told { (M.meaning.stage engine.old.code machine).want ≡ Some Wants.Done }
     ensures fits { Fits M.meaning engine.new seat result.work }
     ensures done { (told : List Told) → IsDone M.meaning seat (Some (M.meaning.stage engine.old.code machine)) engine.old engine.new told told result.deed }
+    ensures due { LacksWhereDue engine.old seat (Some (M.meaning.stage engine.old.code machine)) result.deed }
 {
     match engine.commit(seat, machine) {
         Ok(Noted::Noted) => Turned {
@@ -68,6 +70,7 @@ where
     requires told { (M.meaning.stage engine.old.code machine).want ≡ Some Wants.Leave }
     ensures fits { Fits M.meaning engine.new seat result.work }
     ensures done { (told : List Told) → IsDone M.meaning seat (Some (M.meaning.stage engine.old.code machine)) engine.old engine.new told told result.deed }
+    ensures due { LacksWhereDue engine.old seat (Some (M.meaning.stage engine.old.code machine)) result.deed }
 {
     match engine.commit(seat, machine) {
         Ok(Noted::Noted) => Turned {
@@ -91,6 +94,7 @@ where
     requires told { (M.meaning.stage engine.old.code machine).want ≡ Some Wants.Block }
     ensures fits { Fits M.meaning engine.new seat result.work }
     ensures done { (told : List Told) → IsDone M.meaning seat (Some (M.meaning.stage engine.old.code machine)) engine.old engine.new told told result.deed }
+    ensures due { LacksWhereDue engine.old seat (Some (M.meaning.stage engine.old.code machine)) result.deed }
 {
     match engine.block(seat, &machine) {
         Ok(Noted::Noted) => Turned {
@@ -113,6 +117,7 @@ where
     requires told { (M.meaning.stage engine.old.code machine).want ≡ Some Wants.Tall }
     ensures fits { Fits M.meaning engine.new seat result.work }
     ensures done { (told : List Told) → IsDone M.meaning seat (Some (M.meaning.stage engine.old.code machine)) engine.old engine.new told told result.deed }
+    ensures due { LacksWhereDue engine.old seat (Some (M.meaning.stage engine.old.code machine)) result.deed }
 {
     engine.stands();
     match engine.tall(seat, &machine) {

@@ -4,6 +4,7 @@ ghost use Rattle.std.specs.Prelude.{◌≡◌, ◌<◌, ◌+◌, ◌^◌, List, 
 ghost use Rattle.ame_device.specs.declared.told.Told.{Told};
 ghost use Rattle.ame_engine.specs.AtWork.{IsReading, IsWriting, IsAllocating};
 ghost use Rattle.ame_turn.specs.Work.{Fits, HasTurn};
+ghost use Rattle.ame_turn.specs.Asked.{LacksWhereDue};
 ghost use Rattle.ame_turn.specs.Deeds.{IsDone};
 
 use crate::accesses::{alloc, read, write};
@@ -28,6 +29,7 @@ where
     requires steps { (M.meaning.stage engine.old.code machine).steps + 1 < 2 ^ 64 }
     ensures fits { Fits M.meaning engine.new seat result.work }
     ensures done { (told : List Told) → IsDone M.meaning seat (Some (M.meaning.stage engine.old.code machine)) engine.old engine.new told told result.deed }
+    ensures due { LacksWhereDue engine.old seat (Some (M.meaning.stage engine.old.code machine)) result.deed }
 {
     match read(engine, code, seat, &mut machine) {
         Ok(()) => Turned {
@@ -54,6 +56,7 @@ where
     requires steps { (M.meaning.stage engine.old.code machine).steps + 1 < 2 ^ 64 }
     ensures fits { Fits M.meaning engine.new seat result.work }
     ensures done { (told : List Told) → IsDone M.meaning seat (Some (M.meaning.stage engine.old.code machine)) engine.old engine.new told told result.deed }
+    ensures due { LacksWhereDue engine.old seat (Some (M.meaning.stage engine.old.code machine)) result.deed }
 {
     match write(engine, code, seat, &mut machine) {
         Ok(Wrote::Wrote) => Turned {
@@ -84,6 +87,7 @@ where
     requires steps { (M.meaning.stage engine.old.code machine).steps + 1 < 2 ^ 64 }
     ensures fits { Fits M.meaning engine.new seat result.work }
     ensures done { (told : List Told) → IsDone M.meaning seat (Some (M.meaning.stage engine.old.code machine)) engine.old engine.new told told result.deed }
+    ensures due { LacksWhereDue engine.old seat (Some (M.meaning.stage engine.old.code machine)) result.deed }
 {
     match alloc(engine, code, seat, &mut machine) {
         Ok(()) => Turned {

@@ -2,7 +2,7 @@
 
 ghost use Rattle.std.specs.Prelude.{◌≡◌, List, Some, None};
 ghost use Rattle.ame_device.specs.declared.told.Told.{Told};
-ghost use Rattle.ame_turn.specs.Asked.{HasNoTurnsLeft};
+ghost use Rattle.ame_turn.specs.Asked.{HasNoTurnsLeft, LacksWhereDue};
 ghost use Rattle.ame_turn.specs.declared.work.Deed.{Deed};
 ghost use Rattle.ame_turn.specs.declared.work.Work.TheVariants as spec;
 ghost use Rattle.ame_turn.specs.Work.{CanUndo, Fits, IsAtWork};
@@ -39,6 +39,7 @@ where
     requires spent { HasNoTurnsLeft engine.old }
     ensures fits { Fits M.meaning engine.new seat result.work }
     ensures done { (told : List Told) → IsDone M.meaning seat (Some (M.meaning.stage engine.old.code machine)) engine.old engine.new told told result.deed }
+    ensures due { LacksWhereDue engine.old seat (Some (M.meaning.stage engine.old.code machine)) result.deed }
 {
     engine.stands();
     match engine.spend(seat, Some(&machine)) {
@@ -55,6 +56,7 @@ where
     requires spent { HasNoTurnsLeft engine.old }
     ensures fits { Fits M.meaning engine.new seat result.work }
     ensures done { (told : List Told) → IsDone M.meaning seat None engine.old engine.new told told result.deed }
+    ensures due { LacksWhereDue engine.old seat None result.deed }
 {
     engine.stands();
     let work = Work::Undoing;

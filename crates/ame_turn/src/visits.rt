@@ -5,6 +5,7 @@ ghost use Rattle.ame_device.specs.Calls.{all_told};
 ghost use Rattle.ame_machine.specs.declared.wants.Wants.{Wants};
 ghost use Rattle.ame_turn.specs.Ready.{IsReady};
 ghost use Rattle.ame_turn.specs.Work.{Fits, HasTurn};
+ghost use Rattle.ame_turn.specs.Asked.{LacksWhereDue};
 ghost use Rattle.ame_turn.specs.Deeds.{IsDone};
 
 use crate::events::give_up;
@@ -31,6 +32,7 @@ where
     ensures fits { Fits M.meaning engine.new seat result.work }
     ensures done { IsDone M.meaning seat (Some (M.meaning.stage engine.old.code machine)) engine.old engine.new
         (all_told D.device_heard D.device_faults devices.old.items) (all_told D.device_heard D.device_faults devices.new.items) result.deed }
+    ensures due { LacksWhereDue engine.old seat (Some (M.meaning.stage engine.old.code machine)) result.deed }
 {
     engine.stands();
     match engine.free(seat, machine, devices) {

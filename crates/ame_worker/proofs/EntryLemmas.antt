@@ -18,7 +18,7 @@ use Rattle.ame_engine.specs.Seen.{parts_of, MakesEvent}
 use Rattle.ame_engine.specs.Stops.{stopped_by}
 use Rattle.ame_engine.specs.Visiting.{visited_at}
 use Rattle.ame_turn.specs.declared.work.Deed.{Deed}
-use Rattle.ame_turn.specs.Deeds.{IsDone}
+use Rattle.ame_turn.proofs.DeedRows.{HasRow, rowed}
 use Rattle.ame_shell.specs.Shell.{ShellView}
 use Rattle.ame_shell.specs.Turned.{HasFlushed, is_to_flush, HasTurned}
 use Rattle.ame_shell.proofs.DeedLemmas.{Adds, IsRecorded, deed-silent}
@@ -95,7 +95,7 @@ module _ {C V M : Type 0} (meaning : Meaning C V M) where
     recorded-extends : IsRecorded meaning seat old new → Extends seat old new
     recorded-extends r = extends-adds seat old new r.code r.limits r.base (quiet-kept old.stop new.stop r.stop) r.adds
 
-    pub deed-extends : (deed : Deed) → IsDone meaning seat hand old new before after deed → Extends seat old new
+    pub deed-extends : (deed : Deed) → HasRow meaning seat hand old new before after deed → Extends seat old new
     deed-extends Deed.Ended h =
         let e = h.event in
         by-event (one_counted Counted.Commit) (ended_at seat e.2.tried.number e.0) e.4 refl refl (ran_entry seat e.2.tried.number e.0.steps (place_shown e.0)) refl refl
@@ -131,4 +131,5 @@ module _ {C V M : Type 0} (meaning : Meaning C V M) where
     pub turn-extends : Extends seat old.core new.core
     turn-extends =
         turn-on (λ (core : Core C V M). Extends seat old.core core) (λ core x. extends-stop seat old.core core Stop.WriteFault x)
-        (deed-extends seat hand old.core turned.core old.ends.told new.ends.told deed turned.done)
+        (deed-extends seat hand old.core turned.core old.ends.told new.ends.told deed
+        (rowed meaning seat hand old.core turned.core old.ends.told new.ends.told deed turned.done))

@@ -25,7 +25,8 @@ use Rattle.ame_engine.specs.Stops.{stopped_by, blocked_by}
 use Rattle.ame_protocol.specs.Event.Undoing.{reason_to_undo}
 use Rattle.ame_engine.specs.Visiting.{visited_at, HasComeHome}
 use Rattle.ame_turn.specs.declared.work.Deed.{Deed}
-use Rattle.ame_turn.specs.Deeds.{StopsBy, TurnsBack, Spends, IsMade, IsDone}
+use Rattle.ame_turn.specs.Deeds.{StopsBy}
+use Rattle.ame_turn.proofs.DeedRows.{TurnsBack, Spends, Row, HasRow, rowed}
 use Rattle.ame_turn.proofs.VisitedLemmas.{visit-rows}
 use Rattle.ame_shell.specs.Shell.{ShellView}
 use Rattle.ame_shell.specs.Turned.{HasTurned}
@@ -90,7 +91,7 @@ module _ {C V M : Type 0} (meaning : Meaning C V M) where
         (visited-stays (parts old) stands seat number (ap member_of task) h.comes.steps (with_answer h.answer (place_shown h.comes)) h.comes.inside h.memory
         (visit-rows (parts old) number h.comes.steps h.visit.place h.comes.inside h.memory h.visit.visit))
 
-    made-slots : (deed : Deed) → IsMade meaning seat hand old new before after deed → Stay seat old new
+    made-slots : (deed : Deed) → Row meaning seat hand old new before after deed → Stay seat old new
     made-slots Deed.Began d = by-event seat old new (one_counted Counted.Begin) (has_begun seat d.0) d.2 (begun-stays (parts old) seat d.0)
     made-slots Deed.Waited d = by-same seat old new d.1
     made-slots Deed.Stopped d = by-pick seat old new (certificates_in (parts old)) d.0 d.2
@@ -131,7 +132,7 @@ module _ {C V M : Type 0} (meaning : Meaning C V M) where
         by-event seat old new (one_undone (is_some old.stop)) (has_gone_home seat d.0 reason) d.2.event (gone-stays (parts old) seat d.0 reason)
     made-slots Deed.Lacked d = by-stop seat old new Stop.NoMemory d.1
 
-    module _ (deed : Deed) (done : IsDone meaning seat hand old new before after deed) where
+    module _ (deed : Deed) (done : HasRow meaning seat hand old new before after deed) where
       pub deed-slots : Stay seat old new
       deed-slots = made-slots deed done.event
 
@@ -141,4 +142,5 @@ module _ {C V M : Type 0} (meaning : Meaning C V M) where
     pub turn-slots : Stay seat old.core new.core
     turn-slots =
         turn-on meaning seat hand old new deed turned (λ (core : Core C V M). Stay seat old.core core) (λ core stays. stays)
-        (deed-slots seat old.core turned.core stands hand old.ends.told new.ends.told deed turned.done)
+        (deed-slots seat old.core turned.core stands hand old.ends.told new.ends.told deed
+        (rowed meaning seat hand old.core turned.core old.ends.told new.ends.told deed turned.done))

@@ -15,6 +15,7 @@ use Rattle.ame_engine.specs.Seen.{parts_of}
 use Rattle.ame_turn.specs.declared.work.Deed.{Deed}
 use Rattle.ame_turn.specs.declared.work.Work.{Work}
 use Rattle.ame_turn.specs.Work.{stage_at}
+use Rattle.ame_turn.proofs.DeedRows.{rowed}
 use Rattle.ame_turn.specs.Deeds.{StopsBy}
 use Rattle.ame_shell.specs.Shell.{ShellView}
 use Rattle.ame_shell.specs.Turned.{HasTurned}
@@ -72,7 +73,7 @@ module _ {C V M : Type 0} (meaning : Meaning C V M) where
       let deed : m.deed ≡ Deed.Stopped = point-stopped m.deed _ _ (sym m.told ∙ e) in
       let turned : HasTurned meaning seat (stage_at meaning.stage code old) m.taken m.given Deed.Stopped =
       subst (λ (d : Deed). HasTurned meaning seat (stage_at meaning.stage code old) m.taken m.given d) deed m.turned in
-      let event = turned.done.event in
+      let event = (rowed meaning seat (stage_at meaning.stage code old) m.taken.core turned.core m.taken.ends.told m.given.ends.told Deed.Stopped turned.done).event in
       let stops = stops-so (certificates_in (parts_of meaning m.taken.core)) event.0 m.taken.core turned.core event.1.meets event.2 in
       let core : m.given.core ≡ turned.core = ap (λ (s : ShellView C V M). s.core) (turned.stays refl) in
       record {

@@ -1,8 +1,15 @@
-use Rattle.std.proofs.Common.{sym, subst}
+use Rattle.std.proofs.Common.{refl, sym, ap, ◌∙◌, subst}
+use Rattle.std.specs.Prelude.{is_some}
 use Rattle.ame_device.specs.Calls.{all_told}
 use Rattle.ame_turn.specs.Work.{stage_at}
 use Rattle.ame_turn.specs.Deeds.{IsDone}
+use Rattle.ame_turn.proofs.DoneLemmas.{none-kept, lacked}
 use Rattle.ame_turn.proofs.acts.event.Goals as goal
+
+pub returns-then-is_none-clause-done : goal.returns-then-is_none-clause-done
+returns-then-is_none-clause-done g c =
+    lacked g.M.Runner.meaning c.args.engine.now c.args.seat _ c.args.engine.now c.give_up.new.engine _ _ refl
+    (none-kept _ (sym c.if-is_none.ensures ∙ ap is_some c.stopped.ensures)) c.give_up.ensures.halts c.give_up.ensures.engine c.give_up.ensures.deed
 
 pub returns-in-Idle-clause-done : goal.returns-in-Idle-clause-done
 returns-in-Idle-clause-done g c =

@@ -8,6 +8,9 @@ use Rattle.ame_turn.proofs.acts.run.Goals as goal
 pub returns-then-is_some-clause-done : goal.returns-then-is_some-clause-done
 returns-then-is_some-clause-done g c = c.undo_on.ensures.done _ _
 
+pub returns-then-is_some-clause-due : goal.returns-then-is_some-clause-due
+returns-then-is_some-clause-due g c = c.undo_on.ensures.due _
+
 pub returns-then-turns-limits-clause-done : goal.returns-then-turns-limits-clause-done
 returns-then-turns-limits-clause-done g c = c.spend_running.ensures.done _
 

@@ -1,12 +1,10 @@
-use Rattle.std.proofs.Common.{◌≡◌, length, refl, sym, ◌∙◌}
-use Rattle.ame_rows.specs.MemoryView.{row_at}
-use Rattle.ame_engine.specs.declared.answer.Undone.{Undone}
-use Rattle.ame_engine.specs.declared.answer.Undone.TheVariants as answer
+use Rattle.std.proofs.Common.{refl}
 use Rattle.ame_protocol.specs.Engine.Parts.{task_at, attempt_of}
 use Rattle.ame_protocol.specs.Event.Undoing.{reason_to_undo}
 use Rattle.ame_engine.proofs.UndoingLemmas.{attempt-in}
 use Rattle.ame_engine.proofs.MakesLemmas.{undone-made, gone-made}
-use Rattle.ame_turn.proofs.HandLemmas.{undid-fits, home-fits, at-most-one}
+use Rattle.ame_turn.proofs.HandLemmas.{undid-fits, home-fits}
+use Rattle.ame_turn.specs.Deeds.{Tells, IsMade}
 use Rattle.ame_turn.proofs.events.undo_on.Goals as goal
 
 pub returns-in-More-clause-fits : goal.returns-in-More-clause-fits
@@ -19,11 +17,7 @@ pub returns-in-More-clause-done : goal.returns-in-More-clause-done
 returns-in-More-clause-done g c = λ hand told.
     let a = attempt-in (attempt_of (task_at c.args.engine.now.tasks c.args.seat)) c.requires.can.busy in
     record {
-      event = (
-        a.0,
-        c.undo_one.ensures.answer.0 c.in-More.is,
-        record { undoes = c.requires.undoes; has = a.1; event = undone-made g.M.Runner.meaning c.args.engine.now c.undo_one.new.self c.args.seat a.0 (c.undo_one.ensures.more a.0 a.1 c.in-More.is) },
-      );
+      event = IsMade.makes _ _ (Tells.undid a.0) (c.undo_one.ensures.more a.0 a.1 c.in-More.is);
       quiet = λ _. refl;
     }
 
@@ -37,11 +31,6 @@ pub returns-in-Home-clause-done : goal.returns-in-Home-clause-done
 returns-in-Home-clause-done g c = λ hand told.
     let a = attempt-in (attempt_of (task_at c.args.engine.now.tasks c.args.seat)) c.requires.can.busy in
     record {
-      event = (
-        a.0,
-        at-most-one (length (row_at c.args.engine.now.memory.rows c.args.seat).undos)
-            (λ more. absurd (let clash : ◌≡◌ {A = Undone} answer.Home answer.More = sym c.in-Home.is ∙ c.undo_one.ensures.answer.1 more in cc)),
-        record { undoes = c.requires.undoes; has = a.1; event = gone-made g.M.Runner.meaning c.args.engine.now c.undo_one.new.self c.args.seat a.0 (c.undo_one.ensures.home a.0 a.1 c.in-Home.is) },
-      );
+      event = IsMade.makes _ _ (Tells.went_home a.0) (c.undo_one.ensures.home a.0 a.1 c.in-Home.is);
       quiet = λ _. refl;
     }

@@ -4,7 +4,9 @@ use Rattle.ame_machine.specs.MachineView.{place_shown}
 use Rattle.ame_protocol.specs.Event.Event.{Find}
 use Rattle.ame_engine.proofs.MakesLemmas.{noted-made, stale-made}
 use Rattle.ame_turn.proofs.HandLemmas.{running, back-fits, noted-fits}
-use Rattle.ame_turn.proofs.DoneLemmas.{told-ok, runs-from}
+use Rattle.ame_turn.specs.Asked.{IsToTakeMemory}
+use Rattle.ame_turn.proofs.DoneLemmas.{runs-from, lacked, lacked-due}
+use Rattle.ame_turn.specs.Deeds.{Tells, IsMade}
 use Rattle.ame_turn.proofs.rows.block_on.Goals as goal
 
 pub returns-in-Ok-Noted-clause-fits : goal.returns-in-Ok-Noted-clause-fits
@@ -18,14 +20,9 @@ returns-in-Ok-Noted-clause-done g c = λ told.
     let a = c.requires.turn.at.on.stands.attempt in
     let task = running g.M.Runner.meaning c.args.engine.now c.args.engine.now c.args.seat c.args.machine c.requires.turn.at c.requires.outside in
     let is = c.in-Ok-Noted.is ∙ ap Ok c.in-Ok-Noted.field-0-is in
+    let at = c.block.ensures.noted a task is in
     record {
-      event = (
-        (g.M.Runner.meaning.stage c.args.engine.now.code c.args.machine),
-        runs-from c.args.engine.now (g.M.Runner.meaning.stage c.args.engine.now.code c.args.machine) c.requires.turn.going c.requires.turn.left wants.Block c.requires.told c.requires.outside,
-        a,
-        record { task = task; valid = (told-ok _ _ _ is c.block.ensures.exact).0 refl },
-        noted-made g.M.Runner.meaning c.args.engine.now c.block.new.self (g.M.Runner.meaning.stage c.args.engine.now.code c.args.machine) c.args.seat a (c.block.ensures.noted a task is),
-      );
+      event = IsMade.makes _ _ (Tells.noted (g.M.Runner.meaning.stage c.args.engine.now.code c.args.machine) a at.place (runs-from c.args.engine.now (g.M.Runner.meaning.stage c.args.engine.now.code c.args.machine) c.requires.turn.going c.requires.turn.left wants.Block c.requires.told c.requires.outside) at.shows) at.makes;
       quiet = λ _. refl;
     }
 
@@ -41,15 +38,18 @@ returns-in-Ok-Invalid-clause-done g c = λ told.
     let task = running g.M.Runner.meaning c.args.engine.now c.args.engine.now c.args.seat c.args.machine c.requires.turn.at c.requires.outside in
     let is = c.in-Ok-Invalid.is ∙ ap Ok c.in-Ok-Invalid.field-0-is in
     record {
-      event = (
-        (g.M.Runner.meaning.stage c.args.engine.now.code c.args.machine),
-        runs-from c.args.engine.now (g.M.Runner.meaning.stage c.args.engine.now.code c.args.machine) c.requires.turn.going c.requires.turn.left wants.Block c.requires.told c.requires.outside,
-        record {
-          attempt = a;
-          task = task;
-          invalid = c.block.ensures.bad c.in-Ok-Invalid.bad is;
-          event = stale-made g.M.Runner.meaning c.args.engine.now c.block.new.self c.args.seat a Find.Block (c.block.ensures.back a c.in-Ok-Invalid.bad task is);
-        },
-      );
+      event = IsMade.makes _ _ (Tells.not_noted (g.M.Runner.meaning.stage c.args.engine.now.code c.args.machine) a _ (runs-from c.args.engine.now (g.M.Runner.meaning.stage c.args.engine.now.code c.args.machine) c.requires.turn.going c.requires.turn.left wants.Block c.requires.told c.requires.outside) (c.block.ensures.bad c.in-Ok-Invalid.bad is))
+          (c.block.ensures.back a c.in-Ok-Invalid.bad task is);
       quiet = λ _. refl;
     }
+
+pub returns-clause-done : goal.returns-clause-done
+returns-clause-done g c = λ told.
+    lacked g.M.Runner.meaning c.args.engine.now c.args.seat _ c.block.new.self c.give_up.new.engine told _ c.in-Err.ensures.err c.requires.turn.going
+    c.give_up.ensures.halts c.give_up.ensures.engine c.give_up.ensures.deed
+
+pub returns-clause-due : goal.returns-clause-due
+returns-clause-due g c =
+    lacked-due c.args.engine.now c.args.seat _ _ c.give_up.ensures.deed
+    (IsToTakeMemory.notes (g.M.Runner.meaning.stage c.args.engine.now.code c.args.machine)
+    (runs-from c.args.engine.now (g.M.Runner.meaning.stage c.args.engine.now.code c.args.machine) c.requires.turn.going c.requires.turn.left wants.Block c.requires.told c.requires.outside) c.in-Err.ensures.lacks)

@@ -1,7 +1,9 @@
 use Rattle.std.proofs.Common.{refl}
 use Rattle.ame_machine.specs.declared.wants.Wants.TheVariants as wants
 use Rattle.ame_turn.proofs.HandLemmas.{alloc-sets}
-use Rattle.ame_turn.proofs.DoneLemmas.{accesses-from}
+use Rattle.ame_turn.specs.Asked.{IsToTakeMemory}
+use Rattle.ame_turn.proofs.DoneLemmas.{accesses-from, lacked, lacked-due}
+use Rattle.ame_turn.specs.Deeds.{Tells, IsMade}
 use Rattle.ame_turn.proofs.serves.alloc_on.Goals as goal
 
 pub returns-in-Ok-clause-fits : goal.returns-in-Ok-clause-fits
@@ -19,14 +21,19 @@ returns-in-Ok-clause-done g c = λ told.
     let need = (g.met.M.Runner.sound c.args.engine.now.code m c.requires.turn.at.on.machine).told (wants.Alloc a.sort a.number) a.wants in
     let v = alloc-sets (g.M.Runner.meaning.stage c.args.engine.now.code m) a.sort need in
     record {
-      event = (
-        (g.M.Runner.meaning.stage c.args.engine.now.code c.args.machine),
-        a.sort,
-        a.number,
-        v.0,
-        accesses-from c.args.engine.now (g.M.Runner.meaning.stage c.args.engine.now.code c.args.machine) c.requires.turn.going c.requires.turn.left (wants.Alloc a.sort a.number) c.requires.allocates.wants c.requires.allocates.outside c.requires.early,
-        v.1,
-        (c.in-Ok.ensures.goes a.sort a.number v.0 a.wants v.1).makes,
-      );
+      event = IsMade.makes _ _
+          (Tells.allocated (g.M.Runner.meaning.stage c.args.engine.now.code c.args.machine) a.sort a.number v.0 (accesses-from c.args.engine.now (g.M.Runner.meaning.stage c.args.engine.now.code c.args.machine) c.requires.turn.going c.requires.turn.left (wants.Alloc a.sort a.number) a.wants a.outside c.requires.early) v.1)
+          (c.in-Ok.ensures.goes a.sort a.number v.0 a.wants v.1).makes;
       quiet = λ _. refl;
     }
+
+pub returns-in-Err-clause-done : goal.returns-in-Err-clause-done
+returns-in-Err-clause-done g c = λ told.
+    lacked g.M.Runner.meaning c.args.engine.now c.args.seat _ c.alloc.new.engine c.give_up.new.engine told _ c.in-Err.ensures.engine c.requires.turn.going
+    c.give_up.ensures.halts c.give_up.ensures.engine c.give_up.ensures.deed
+
+pub returns-in-Err-clause-due : goal.returns-in-Err-clause-due
+returns-in-Err-clause-due g c =
+    lacked-due c.args.engine.now c.args.seat _ _ c.give_up.ensures.deed
+    (IsToTakeMemory.accesses (g.M.Runner.meaning.stage c.args.engine.now.code c.args.machine) (wants.Alloc c.requires.allocates.sort c.requires.allocates.number)
+    (accesses-from c.args.engine.now (g.M.Runner.meaning.stage c.args.engine.now.code c.args.machine) c.requires.turn.going c.requires.turn.left (wants.Alloc c.requires.allocates.sort c.requires.allocates.number) c.requires.allocates.wants c.requires.allocates.outside c.requires.early) refl)

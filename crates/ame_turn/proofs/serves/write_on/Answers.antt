@@ -1,7 +1,10 @@
-use Rattle.std.proofs.Common.{Ok, refl, sym, ap, ◌∙◌}
+use Rattle.std.proofs.Common.{Ok, refl, ap, ◌∙◌}
 use Rattle.ame_machine.specs.declared.wants.Wants.TheVariants as wants
+use Rattle.ame_engine.proofs.MakesLemmas.{met-made}
 use Rattle.ame_turn.proofs.HandLemmas.{write-sets, running, back-fits}
-use Rattle.ame_turn.proofs.DoneLemmas.{told-ok, accesses-from}
+use Rattle.ame_turn.specs.Asked.{IsToTakeMemory}
+use Rattle.ame_turn.proofs.DoneLemmas.{accesses-from, lacked, lacked-due}
+use Rattle.ame_turn.specs.Deeds.{Tells, IsMade}
 use Rattle.ame_turn.proofs.serves.write_on.Goals as goal
 
 pub returns-in-Ok-Wrote-clause-fits : goal.returns-in-Ok-Wrote-clause-fits
@@ -20,15 +23,9 @@ returns-in-Ok-Wrote-clause-done g c = λ told.
     let v = write-sets (g.M.Runner.meaning.stage c.args.engine.now.code m) a.l.0 need in
     let is = c.in-Ok-Wrote.is ∙ ap Ok c.in-Ok-Wrote.field-0-is in
     record {
-      event = (
-        (g.M.Runner.meaning.stage c.args.engine.now.code c.args.machine),
-        a.l,
-        v.0,
-        accesses-from c.args.engine.now (g.M.Runner.meaning.stage c.args.engine.now.code c.args.machine) c.requires.turn.going c.requires.turn.left (wants.Write a.l) c.requires.writes.wants c.requires.writes.outside c.requires.early,
-        v.1,
-        sym (told-ok _ _ _ is (c.write.ensures.answer a.l a.wants)),
-        (c.write.ensures.goes a.l v.0 a.wants v.1 is).makes,
-      );
+      event = IsMade.makes _ _
+          (Tells.wrote (g.M.Runner.meaning.stage c.args.engine.now.code c.args.machine) a.l v.0 (accesses-from c.args.engine.now (g.M.Runner.meaning.stage c.args.engine.now.code c.args.machine) c.requires.turn.going c.requires.turn.left (wants.Write a.l) a.wants a.outside c.requires.early) v.1)
+          (c.write.ensures.goes a.l v.0 a.wants v.1 is).makes;
       quiet = λ _. refl;
     }
 
@@ -37,7 +34,8 @@ returns-in-Ok-Conflict-clause-fits g c =
     let a = c.requires.turn.at.on.stands.attempt in
     let task = running g.M.Runner.meaning c.args.engine.now c.args.engine.now c.args.seat c.args.machine c.requires.turn.at c.requires.writes.outside in
     back-fits g.M.Runner.meaning c.args.engine.now c.write.new.engine c.args.seat _ a task
-    (c.write.ensures.back a _ task (c.in-Ok-Conflict.is ∙ ap Ok c.in-Ok-Conflict.field-0-is))
+    (met-made g.M.Runner.meaning c.args.engine.now c.write.new.engine c.args.seat a c.requires.writes.l _
+    (c.write.ensures.back c.requires.writes.l a _ c.requires.writes.wants task (c.in-Ok-Conflict.is ∙ ap Ok c.in-Ok-Conflict.field-0-is)))
 
 pub returns-in-Ok-Conflict-clause-done : goal.returns-in-Ok-Conflict-clause-done
 returns-in-Ok-Conflict-clause-done g c = λ told.
@@ -46,14 +44,19 @@ returns-in-Ok-Conflict-clause-done g c = λ told.
     let task = running g.M.Runner.meaning c.args.engine.now c.args.engine.now c.args.seat c.args.machine c.requires.turn.at c.requires.writes.outside in
     let is = c.in-Ok-Conflict.is ∙ ap Ok c.in-Ok-Conflict.field-0-is in
     record {
-      event = (
-        (g.M.Runner.meaning.stage c.args.engine.now.code c.args.machine),
-        l,
-        a,
-        accesses-from c.args.engine.now (g.M.Runner.meaning.stage c.args.engine.now.code c.args.machine) c.requires.turn.going c.requires.turn.left (wants.Write l) c.requires.writes.wants c.requires.writes.outside c.requires.early,
-        sym (told-ok _ _ _ is (c.write.ensures.answer l c.requires.writes.wants)),
-        task,
-        c.write.ensures.back a _ task is,
-      );
+      event = IsMade.makes _ _
+          (Tells.met (g.M.Runner.meaning.stage c.args.engine.now.code c.args.machine) l a _ (accesses-from c.args.engine.now (g.M.Runner.meaning.stage c.args.engine.now.code c.args.machine) c.requires.turn.going c.requires.turn.left (wants.Write l) c.requires.writes.wants c.requires.writes.outside c.requires.early))
+          (c.write.ensures.back l a _ c.requires.writes.wants task is);
       quiet = λ _. refl;
     }
+
+pub returns-in-Err-clause-done : goal.returns-in-Err-clause-done
+returns-in-Err-clause-done g c = λ told.
+    lacked g.M.Runner.meaning c.args.engine.now c.args.seat _ c.write.new.engine c.give_up.new.engine told _ c.in-Err.ensures.engine c.requires.turn.going
+    c.give_up.ensures.halts c.give_up.ensures.engine c.give_up.ensures.deed
+
+pub returns-in-Err-clause-due : goal.returns-in-Err-clause-due
+returns-in-Err-clause-due g c =
+    lacked-due c.args.engine.now c.args.seat _ _ c.give_up.ensures.deed
+    (IsToTakeMemory.accesses (g.M.Runner.meaning.stage c.args.engine.now.code c.args.machine) (wants.Write c.requires.writes.l)
+    (accesses-from c.args.engine.now (g.M.Runner.meaning.stage c.args.engine.now.code c.args.machine) c.requires.turn.going c.requires.turn.left (wants.Write c.requires.writes.l) c.requires.writes.wants c.requires.writes.outside c.requires.early) refl)

@@ -5,10 +5,11 @@ use Rattle.ame_protocol.specs.declared.stop.Stop.{Stop}
 use Rattle.ame_engine.proofs.MakesLemmas.{cut-made}
 use Rattle.ame_turn.specs.declared.work.Work.TheVariants as work
 use Rattle.ame_turn.specs.Work.{Fits}
-use Rattle.ame_turn.specs.Deeds.{IsDone}
 use Rattle.ame_turn.proofs.ValidLemmas.{valid-or-not}
 use Rattle.ame_turn.proofs.HandLemmas.{cut-fits, at-work-busy, stopped-undoes, lacked-fits}
-use Rattle.ame_turn.proofs.DoneLemmas.{told-on}
+use Rattle.ame_turn.specs.Asked.{IsToTakeMemory}
+use Rattle.ame_turn.proofs.DoneLemmas.{told-on, lacked, lacked-due}
+use Rattle.ame_turn.specs.Deeds.{Tells, IsMade, IsDone}
 use Rattle.ame_turn.proofs.spends.spend_running.Goals as goal
 
 pub returns-in-Ok-clause-fits : goal.returns-in-Ok-clause-fits
@@ -27,18 +28,15 @@ returns-in-Ok-clause-done g c = λ told.
     let on = c.requires.at.on.stands in
     subst (λ d. IsDone g.M.Runner.meaning c.args.seat (Some (g.M.Runner.meaning.stage c.args.engine.now.code c.args.machine)) c.args.engine.now c.spend.new.self told told d) (sym c.spent.ensures.deed)
     (record {
-      event = (
-        c.requires.spent,
-        elim (valid-or-not c.args.seat c.args.engine.now.memory.cells (row_at c.args.engine.now.memory.rows c.args.seat).reads) [
-          | inl valid ↦ inl (record {
-            attempt = on.attempt;
-            has = on.has;
-            valid = valid;
-            event = cut-made g.M.Runner.meaning c.args.engine.now c.spend.new.self (g.M.Runner.meaning.stage c.args.engine.now.code c.args.machine) c.args.seat on.attempt (told-on _ _ _ c.in-Ok.is (c.spend.ensures.cut _ refl valid on.attempt on.has));
-          })
-          | inr bad ↦ inr (bad, (c.spend.ensures.invalid bad).1)
-        ],
-      );
+      event = elim (valid-or-not c.args.seat c.args.engine.now.memory.cells (row_at c.args.engine.now.memory.rows c.args.seat).reads) [
+        | inl valid ↦
+            (let at = told-on _ _ _ c.in-Ok.is (c.spend.ensures.cut _ refl valid on.attempt on.has) in
+            IsMade.makes _ _ (Tells.cut (g.M.Runner.meaning.stage c.args.engine.now.code c.args.machine) on.attempt at.place c.requires.spent refl valid at.shows) at.makes)
+        | inr bad ↦ IsMade.makes _ _
+            (Tells.spent c.requires.spent (at-work-busy g.M.Runner.meaning c.args.engine.now c.args.engine.now c.args.seat c.args.machine c.requires.at)
+            (λ s met valid. bad valid) (c.spend.ensures.invalid bad).1)
+            (c.spend.ensures.halts (λ valid. absurd (bad valid)))
+      ];
       quiet = λ _. refl;
     })
 
@@ -47,3 +45,17 @@ returns-in-Err-clause-fits g c =
     subst (λ w. Fits g.M.Runner.meaning c.give_up.new.engine c.args.seat w) (sym c.give_up.ensures.work)
     (lacked-fits g.M.Runner.meaning c.args.engine.now c.give_up.new.engine c.args.seat c.spend.new.self c.in-Err.ensures.err c.give_up.ensures.engine (work.Running c.args.machine)
     c.requires.at)
+
+pub returns-in-Err-clause-done : goal.returns-in-Err-clause-done
+returns-in-Err-clause-done g c = λ told.
+    lacked g.M.Runner.meaning c.args.engine.now c.args.seat _ c.spend.new.self c.give_up.new.engine told _ c.in-Err.ensures.err c.requires.spent.going
+    c.give_up.ensures.halts c.give_up.ensures.engine c.give_up.ensures.deed
+
+pub returns-in-Err-clause-due : goal.returns-in-Err-clause-due
+returns-in-Err-clause-due g c =
+    lacked-due c.args.engine.now c.args.seat _ _ c.give_up.ensures.deed
+    (IsToTakeMemory.cuts (g.M.Runner.meaning.stage c.args.engine.now.code c.args.machine) refl c.requires.spent
+    (elim (valid-or-not c.args.seat c.args.engine.now.memory.cells (row_at c.args.engine.now.memory.rows c.args.seat).reads) [
+      | inl valid ↦ valid
+      | inr bad ↦ absurd (let ok = (c.spend.ensures.invalid bad).0 in let err = c.in-Err.is in cc)
+    ]))

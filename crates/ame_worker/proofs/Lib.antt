@@ -1,4 +1,3 @@
-pub mod Slots
 pub mod IdleLemmas
 pub mod StayLemmas
 pub mod EntryLemmas

@@ -45,6 +45,7 @@ impl<M> Place<M> {
 
 /// A shell that workers share, with a place for each seat, and its sink as it was before any line was sent. It is small, so that it
 /// passes from seat to seat at little cost.
+#[derive(Drop)]
 pub struct Shared<M: Runner, K, D>
 where
     M::Code: Drop,
@@ -52,19 +53,6 @@ where
     pub shell: Box<Shell<M, K, D>>,
     pub places: Vec<Place<M>>,
     pub sink_before: Snapshot<K>,
-}
-
-impl<M: Runner, K: Drop, D: Drop> Drop for Shared<M, K, D>
-where
-    M::Code: Drop,
-{
-    fn drop(self) {
-        let Shared {
-            shell: _,
-            places: _,
-            sink_before: _,
-        } = self;
-    }
 }
 
 impl<M: Runner, K, D> Shared<M, K, D>

@@ -1,16 +1,21 @@
 -- Choices, and the stops that are found in their place.
 use Rattle.std.proofs.Common.{◌≡◌, ◌≢◌, ℕ, suc, ◌+◌, ◌<◌, ◌≤◌, ◌==◌, ◌++◌, Bool, true, false, List, [], ◌∷◌, length, Option, Some, None, is_some, option_map, not, if◌then◌else◌, refl, sym, ap, ◌∙◌, subst, arith, inl, inr, ℤ}
-use Rattle.std.specs.Prelude.{⊤, ◌||◌, ◌⊎◌, nat_lt, Vec}
+use Rattle.std.specs.Prelude.{⊤, ◌||◌, ◌⊎◌, nat_lt, Vec, Result, Ok, Err, IsErr, IfOk}
 use Rattle.std.specs.declared.alloc.Global.{Global}
+use Rattle.std.proofs.lemmas.Bool.{eqb-true, eqb-false}
 use Rattle.std.proofs.lemmas.Bool.Decides.{nat_tests}
+use Rattle.std.proofs.lemmas.List.{nil_from_length}
 use Rattle.std.proofs.lemmas.List.Folds.{list_any-append}
-use Rattle.std.specs.List.{AllByRecursion, list_any}
+use Rattle.std.specs.List.{All, AllByRecursion, list_any}
+use Rattle.std.proofs.lemmas.List.{map-append}
+use Rattle.std.proofs.lemmas.List.Elements.{All-nil, All-head, All-tail, All-push}
 use Rattle.ame_term.specs.Tree.{Typ, Tree}
 use Rattle.ame_term.specs.Maps.{at}
 use Rattle.ame_term.specs.SourceTerm.{IsSourceTerm}
 use Rattle.ame_term.specs.Typing.{Accepts}
 use Rattle.ame_term.specs.declared.semantics.Label.{Label}
 use Rattle.ame_device.specs.declared.told.Told.{Told}
+use Rattle.ame_engine.specs.Ending.{Rise}
 use Rattle.ame_laws.specs.Orderly.{IsOrderly}
 use Rattle.ame_laws.proofs.MapLemmas.{numbers-at}
 use Rattle.ame_journal.specs.Replay.{fragment, fails_after}
@@ -27,9 +32,10 @@ use Rattle.ame_weak.specs.declared.tries.Try.{Try}
 use Rattle.ame_weak.specs.declared.tries.Certificate.{Certificate}
 use Rattle.ame_weak.proofs.StraightLemmas.{past_all, follow-labels, ends-strong, begun-followed}
 use Rattle.ame_runner.specs.Play.{PlayView, HasMade}
+use Rattle.ame_runner.specs.Choices.{candidates}
 use Rattle.ame_runner.specs.Freeing.{FailsFor, HasFreed}
-use Rattle.ame_runner.specs.Run.{RunView, IsRunning}
-use Rattle.ame_runner.specs.Stop.{HearsOn, StandsAtCall, IsBlockedBy, HasStoppedWeakly, IsNoFault, FoundAtRest, HasCertified}
+use Rattle.ame_runner.specs.Run.{RunView, IsRunning, CanBeEnded}
+use Rattle.ame_runner.specs.Stop.{certified_numbers, HearsOn, StopsIfTold, PlaysOn, StandsAtCall, IsBlockedBy, HasStoppedWeakly, MayGoOn, IsFoundInOrder, FoundAtRest, HasCertified}
 use Rattle.ame_runner.specs.declared.freeing.Freed.{Freed}
 use Rattle.ame_runner.specs.declared.stop.WeakStop.{WeakStop}
 use Rattle.ame_runner.proofs.NoteLemmas.{all-more}
@@ -57,15 +63,25 @@ goes-fault r q i device before after f runs hears none idle stands running = (
 )
 
 -- a stop by no device
-pub hears-stop : (stop : WeakStop) → IsNoFault stop → (r : RunView) (told : List Told) → HearsOn (Some stop) r r told told
-hears-stop WeakStop.Finished quiet r told = λ opened running heard. (heard, λ k. refl)
-hears-stop (WeakStop.Blocked certificates) quiet r told = λ opened running heard. (heard, λ k. refl)
-hears-stop WeakStop.Spent quiet r told = λ opened running heard. (heard, λ k. refl)
-hears-stop WeakStop.NoMemory quiet r told = λ opened running heard. (heard, λ k. refl)
-hears-stop (WeakStop.DeviceFault device) quiet r told = absurd quiet
+hears-stop : (stop : WeakStop) (r : RunView) (told : List Told) → IsFoundInOrder stop r → HearsOn (Some stop) r r told told
+hears-stop WeakStop.Finished r told found = λ opened running heard. (heard, λ k. refl)
+hears-stop (WeakStop.Blocked certificates) r told found = λ opened running heard. (heard, λ k. refl)
+hears-stop WeakStop.Spent r told found = λ opened running heard. (heard, λ k. refl)
+hears-stop WeakStop.NoMemory r told found = absurd found
+hears-stop (WeakStop.DeviceFault device) r told found = absurd found
 
 pub goes-stop : (r : RunView) (told : List Told) (stop : WeakStop) → FoundAtRest r (Some stop) → IsRunning r → IsRunning r × HearsOn (Some stop) r r told told × HasStoppedWeakly stop r
-goes-stop r told stop found running = let f = found running in (running, hears-stop stop f.1 r told, f.0)
+goes-stop r told stop found running = let f = found running in (running, hears-stop stop r told f.1, f.0)
+
+-- what a choice came to
+pub goes-as : (r q : RunView) (before after : List Told) (stop told : Option WeakStop) → stop ≡ told → (IsRunning r → IsRunning q × HearsOn stop r q before after × StopsIfTold stop q)
+    → IsRunning r → IsRunning q × HearsOn told r q before after × StopsIfTold told q
+goes-as r q before after stop told is goes = subst (λ (o : Option WeakStop). IsRunning r → IsRunning q × HearsOn o r q before after × StopsIfTold o q) is goes
+
+-- memory was wanted
+pub plays-lost : {E : Type 0} (r q : RunView) (before after : List Told) (a : Result WeakStop E) → IsErr a → (IsRunning r → CanBeEnded q) → PlaysOn r q before after a
+plays-lost r q before after (Err e) lost ends = ends
+plays-lost r q before after (Ok stop) lost ends = absurd (let clash : false ≡ true = lost in cc)
 
 -- choices, and one more or the stop
 module _ (a b q : RunView) (before mid after : List Told) (runs : IsRunning a → IsRunning b) (hears : HearsOn None a b before mid) where
@@ -115,10 +131,10 @@ module _ (r : RunView) (none : r.left ≡ []) (idle : r.play.weak.state.active �
   some-there : (length (pool r.play.weak.state) ≡ 0 → ⊥) → pool r.play.weak.state ≢ []
   some-there some = λ is. some (ap length is)
 
-  pub found-spent : (length (pool r.play.weak.state) ≡ 0 → ⊥) → r.limit ≤ r.turns → FoundAtRest r (Some WeakStop.Spent)
-  found-spent some all = λ running. (
+  pub found-spent : (length (pool r.play.weak.state) ≡ 0 → ⊥) → MayGoOn r → r.limit ≤ r.turns → FoundAtRest r (Some WeakStop.Spent)
+  found-spent some may all = λ running. (
     record { none = none; idle = idle; cause = (let within = running.within in omega (arith, within, all), some-there some) },
-    tt,
+    may,
   )
 
 -- Certificates
@@ -144,6 +160,7 @@ module _ (r : RunView) (number : ℕ) (old new : List Certificate) where
     others = λ i before.
         ap (list_any (λ d. d.number == i)) more ∙ list_any-append (λ d. d.number == i) old (c ∷ [])
         ∙ ap (λ b. b || list_any (λ (d : Certificate). d.number == i) (c ∷ [])) before;
+    numbers = inr (ap certified_numbers more ∙ map-append (λ (d : Certificate). d.number) old (c ∷ []) ∙ ap (λ n. certified_numbers old ++ n ∷ []) is);
   }
 
   -- one that isn't
@@ -152,19 +169,38 @@ module _ (r : RunView) (number : ℕ) (old new : List Certificate) where
     fail = λ running all. subst (AllByRecursion Fails) (sym same) all;
     there = λ there. absurd (let clash : true ≡ false = sym there ∙ none in cc);
     others = λ i before. ap (list_any (λ d. d.number == i)) same ∙ before;
+    numbers = inl (ap certified_numbers same);
   }
 
 -- so it is of all below a number
 pub record AreCertified (r : RunView) (n : ℕ) (certificates : List Certificate) : Type 0 where
   pub fail : IsRunning r → AllByRecursion (λ c. fails_after r.play.weak.state c.number c.steps c.fresh ≡ true) certificates
   pub all : (i : ℕ) → i < n → is_some (at (pool r.play.weak.state) i) ≡ true → list_any (λ c. c.number == i) certificates ≡ true
+  pub low : All (λ k. k < n) (certified_numbers certificates)
+  pub rise : Rise (certified_numbers certificates)
+
+rise-more : (ns : List ℕ) (n : ℕ) → Rise ns → All (λ k. k < n) ns → Rise (ns ++ n ∷ [])
+rise-more [] n rise low = (All-nil (λ k. n < k), tt)
+rise-more (m ∷ ns) n rise low =
+    (All-push (λ k. m < k) ns n rise.0 (All-head (λ k. k < n) m ns low), rise-more ns n rise.1 (All-tail (λ k. k < n) m ns low))
 
 pub certified-more : (r : RunView) (n : ℕ) (old new : List Certificate) → AreCertified r n old → HasCertified r n old new → AreCertified r (n + 1) new
 certified-more r n old new a h = record {
   fail = λ running. h.fail running (a.fail running);
   all = λ i below there. by i there (which i n below);
+  low = elim h.numbers [
+    | inl same ↦ subst (All (λ k. k < n + 1)) (sym same) still
+    | inr more ↦ subst (All (λ k. k < n + 1)) (sym more) (All-push (λ k. k < n + 1) (certified_numbers old) n still (omega arith))
+  ];
+  rise = elim h.numbers [
+    | inl same ↦ subst Rise (sym same) a.rise
+    | inr more ↦ subst Rise (sym more) (rise-more (certified_numbers old) n a.rise a.low)
+  ];
 }
   where
+    still : All (λ k. k < n + 1) (certified_numbers old)
+    still = λ k d within. let less = a.low k d within in omega (arith, less)
+
     which : (i n : ℕ) → i < n + 1 → (i ≡ n) ⊎ (i < n)
     which i n below = by-test (nat_lt i n) refl
       where
@@ -178,19 +214,36 @@ certified-more r n old new a h = record {
 
 module _ (devices : ℕ) (places : List ℕ) (program : Tree) (refs : List Typ) (accepts : Accepts devices places program refs) (source : IsSourceTerm program) where
   pub found-blocked : (r : RunView) (certificates : Vec Certificate Global) → r.play.program ≡ program → r.left ≡ [] → r.play.weak.state.active ≡ None
-      → (length (pool r.play.weak.state) ≡ 0 → ⊥) → AreCertified r r.play.weak.state.next certificates.items → FoundAtRest r (Some (WeakStop.Blocked certificates))
-  found-blocked r certificates is none idle some certified = λ running. (
+      → (length (pool r.play.weak.state) ≡ 0 → ⊥) → candidates r.play.weak r.aside ≡ []
+      → (IsRunning r → AllByRecursion (λ c. fails_after r.play.weak.state c.number c.steps c.fresh ≡ true) certificates.items)
+      → ((i : ℕ) → i < r.play.weak.state.next → is_some (at (pool r.play.weak.state) i) ≡ true → list_any (λ c. c.number == i) certificates.items ≡ true)
+      → Rise (certified_numbers certificates.items) → FoundAtRest r (Some (WeakStop.Blocked certificates))
+  found-blocked r certificates is none idle some nobody fail all rise = λ running. (
     record {
       none = none;
       idle = idle;
       cause = record {
         some = some-there r none idle some;
-        fail = certified.fail running;
-        all = λ i there. certified.all i (below-next devices places program refs accepts source r.play is running.played.leads idle i there) there;
+        fail = fail running;
+        all = λ i there. all i (below-next devices places program refs accepts source r.play is running.played.leads idle i there) there;
+        rise = rise;
       };
     },
-    tt,
+    nobody,
   )
+
+-- who may go on, as they were listed
+pub listed-so : {E : Type 0} (a : Result (Vec ℕ Global) E) (w v : Weak) (f g : ℕ → Bool) → IfOk a (λ may. may.items ≡ candidates w f) → w ≡ v → f ≡ g
+    → IfOk a (λ may. may.items ≡ candidates v g)
+listed-so a w v f g listed same aside =
+    subst (λ (h : ℕ → Bool). IfOk a (λ may. may.items ≡ candidates v h)) aside (subst (λ (z : Weak). IfOk a (λ may. may.items ≡ candidates z f)) same listed)
+
+module _ (may : List ℕ) (n : ℕ) (b : Bool) (test : b ≡ (n == 0)) (count : n ≡ length may) where
+  pub nobody-listed : b ≡ true → may ≡ []
+  nobody-listed is = nil_from_length may (let none : n ≡ 0 = eqb-true n 0 (sym test ∙ is) in omega (arith, none, count))
+
+  pub somebody-listed : b ≡ false → may ≡ [] → ⊥
+  somebody-listed is none = eqb-false n 0 (sym test ∙ is) (count ∙ ap length none)
 
 -- a member that is looked for and isn't there
 pub absent-so : {X : Type 0} (f : X → Tree) (o : Option X) (w v : Weak) (n : ℕ) (b : Bool) → option_map f o ≡ at (pool w.state) n → w ≡ v → is_some o ≡ not b → b ≡ true
@@ -211,4 +264,6 @@ pub certified-none : (r : RunView) (certificates : List Certificate) → certifi
 certified-none r certificates none = record {
   fail = λ running. subst (AllByRecursion (λ c. fails_after r.play.weak.state c.number c.steps c.fresh ≡ true)) (sym none) tt;
   all = λ i below there. absurd (omega (arith, below));
+  low = subst (λ (cs : List Certificate). All (λ k. k < 0) (certified_numbers cs)) (sym none) (All-nil (λ k. k < 0));
+  rise = subst (λ (cs : List Certificate). Rise (certified_numbers cs)) (sym none) tt;
 }

@@ -16,6 +16,7 @@ use Rattle.ame_runner.specs.Play.{PlayView, IsPlayedWeakly, HasMade}
 use Rattle.ame_runner.specs.Trial.{AreNext, last_turn, is_failure}
 use Rattle.ame_runner.specs.declared.trial.Outcome.{Outcome}
 use Rattle.ame_runner.specs.Notes.{IsAsideSince, AreKept}
+use Rattle.ame_runner.specs.Freeing.{MakesOnly}
 use Rattle.ame_runner.specs.Run.{RunView, turns_of_tries, IsOwn, AreSettled, AreFailedTries, IsCutNow, IsRunning, HasRun}
 use Rattle.ame_runner.proofs.NoteLemmas.{all-more, kept-try}
 use Rattle.ame_runner.proofs.RunLemmas.{kept-on, settled-on}
@@ -64,10 +65,17 @@ counted-next a (kind ∷ kinds) b is = counted-where a kind kinds b (λ c rest. 
 all-failed : (r : RunView) → IsRunning r → r.turns < r.limit → AreFailedTries r.tries
 all-failed r x more = elim x.cut [ inl failing ↦ failing | inr now ↦ absurd (let all = now.used in omega (arith, all, more)) ]
 
+only-low : (l : ℕ) (label : Label) → MakesOnly l label → behind_location (label_location label) ≤ l + 1
+only-low l label only = by (label_location label) refl
+  where
+    by : (o : Option ℕ) → label_location label ≡ o → behind_location (label_location label) ≤ l + 1
+    by None is = let none : behind_location (label_location label) ≡ 0 = ap behind_location is in omega (arith, none)
+    by (Some m) is = let some : behind_location (label_location label) ≡ m + 1 = ap behind_location is in let same = only m is in omega (arith, some, same)
+
 -- a label that is counted, which makes the least location or none
-pub runs-counted : (r m q : RunView) (label : Label) → IsRunning r → HasRun label r m → behind_location (label_location label) ≤ r.above + 1 → r.turns < r.limit
+pub runs-counted : (r m q : RunView) (label : Label) → IsRunning r → HasRun label r m → MakesOnly r.above label → r.turns < r.limit
     → q ≡ record m { above = max m.above m.play.above; turns = m.turns + 1 } → IsRunning q
-runs-counted r m q label x h low more is = subst IsRunning (sym is) (record {
+runs-counted r m q label x h fresh more is = subst IsRunning (sym is) (record {
   played = h.played x.played;
   kept = kept-on r m label h x.played x.kept;
   settled = settled-on r m label h x.played x.settled;
@@ -81,7 +89,7 @@ runs-counted r m q label x h low more is = subst IsRunning (sym is) (record {
   made = omega arith;
   own = subst (AllByRecursion IsOwn) (sym h.left) x.own;
   to_make = let same = h.above in let to_make = x.to_make in let left : location_above m.left ≡ location_above r.left = ap location_above h.left in omega (arith, same, to_make, left);
-  few = let above = h.above in let up = h.made.above in let few = x.few in let made = x.made in let turns = h.turns in omega (arith, above, up, few, made, turns, low);
+  few = let low = only-low r.above label fresh in let above = h.above in let up = h.made.above in let few = x.few in let made = x.made in let turns = h.turns in omega (arith, above, up, few, made, turns, low);
   within = let turns = h.turns in let limit = h.limit in omega (arith, turns, limit, more);
   cut = inl (subst AreFailedTries (sym h.tries) (all-failed r x more));
 })

@@ -10,14 +10,18 @@ use Rattle.ame_weak.specs.Tries.{HoldsIn, IsTried, AreTried, AreTriesInOrder}
 use Rattle.ame_weak.specs.declared.tries.Try.{Try}
 use Rattle.ame_runner.specs.Labels.{label_location, behind_location, location_above}
 use Rattle.ame_runner.specs.Play.{PlayView, AreWithinBounds, IsPlayedWeakly}
-use Rattle.ame_runner.specs.Notes.{HasChange, AreSetApart, AreSpaced, HoldsAfter}
+use Rattle.ame_runner.specs.Notes.{HasChange, AreSetApart, AreSpaced, HoldsAfter, without_cut}
 use Rattle.ame_device.specs.declared.told.Told.{Told}
-use Rattle.ame_runner.specs.Run.{RunView, AreFailedTries, CutAt, IsRunning, CanBeEnded}
+use Rattle.ame_shell.specs.Heard.{HaveHeard}
+use Rattle.ame_shell.proofs.HeardLemmas.{heard-nothing}
+use Rattle.ame_weak.specs.Straight.{straight}
+use Rattle.ame_runner.specs.Run.{RunView, AreFailedTries, CutAt, IsRunning, CanBeEnded, IsAtStart, KeepsFrame}
 use Rattle.ame_runner.specs.Stop.{HasWeakCause, FailsBy, HeardSoFar, HasStoppedWeakly}
-use Rattle.ame_runner.specs.Ended.{IsWeakRunOf, IsToldBy, TellsStop}
+use Rattle.ame_runner.specs.Ended.{EndTries, IsWeakRunOf, IsToldBy, TellsStop}
 use Rattle.ame_runner.specs.declared.stop.WeakStop.{WeakStop}
 use Rattle.ame_runner.proofs.TotalLemmas.{turns-told}
 use Rattle.ame_runner.proofs.NoteLemmas.{all-with}
+use Rattle.ame_runner.proofs.CutLemmas.{without, failed-left, ends-without}
 
 above-taken : (n : ℕ) (xs : List Label) → location_above (take n xs) ≤ location_above xs
 above-taken zero xs = omega arith
@@ -63,8 +67,9 @@ module _ (program : Tree) (labels : List Label) (k : ℕ) where
     spaced-taken ts few.1 spaced.1,
   )
 
-pub ended-run : (r : RunView) → CanBeEnded r → IsWeakRunOf r.play.program r.limit (take r.play.settled r.play.labels) r.tries
-ended-run r x =
+pub ended-run : (r : RunView) (stop : WeakStop) → CanBeEnded r → EndTries stop r.play.settled r.tries
+    → IsWeakRunOf r.play.program r.limit (take r.play.settled r.play.labels) r.tries stop
+ended-run r stop x few_cut =
     let s = x.played.settled in
     let count : length (take r.play.settled r.play.labels) ≡ r.play.settled = taken-length r.play.settled r.play.labels s.few in
     record {
@@ -75,7 +80,7 @@ ended-run r x =
       tried =
           all-with (HoldsAfter r.play.program r.play.labels) (λ t. t.after ≤ r.play.settled) (IsTried r.play.program (take r.play.settled r.play.labels))
           (tried-taken r.play.program r.play.labels r.play.settled) r.tries x.kept.hold x.settled;
-      last = subst (λ (m : ℕ). AreFailedTries r.tries ⊎ CutAt m r.tries) (sym count) x.cut;
+      last = subst (λ (m : ℕ). EndTries stop m r.tries) (sym count) few_cut;
       spaced = spaced-taken r.play.program r.play.labels r.play.settled r.tries x.settled x.kept.spaced;
     }
 
@@ -101,6 +106,7 @@ module _ (r : RunView) (x : IsRunning r) (stop : WeakStop) (stopped : HasStopped
           omega (arith, told, counted, none);
     };
     fails = fails;
+    within = x.within;
   })
 
 pub stops-as : (program : Tree) (limit : ℕ) (labels : List Label) (tries : List Try) (turns : ℕ) (before after : List Told) (stop : WeakStop)
@@ -111,14 +117,100 @@ stops-as program limit labels tries turns before after WeakStop.Spent told = tol
 stops-as program limit labels tries turns before after (WeakStop.DeviceFault device) told = told
 stops-as program limit labels tries turns before after WeakStop.NoMemory told = tt
 
+all-failed-so : (stop : WeakStop) (n : ℕ) (tries : List Try) → AreFailedTries tries → EndTries stop n tries
+all-failed-so WeakStop.Finished n tries all = all
+all-failed-so (WeakStop.Blocked certificates) n tries all = all
+all-failed-so WeakStop.Spent n tries all = inl all
+all-failed-so (WeakStop.DeviceFault device) n tries all = all
+all-failed-so WeakStop.NoMemory n tries all = all
+
 -- where there was no memory to begin
-pub none-run : (program : Tree) (limit : ℕ) → IsWeakRunOf program limit [] []
+pub none-run : (program : Tree) (limit : ℕ) → IsWeakRunOf program limit [] [] WeakStop.NoMemory
 none-run program limit = record {
   ends = record { weak = weak_start program; leads = refl; active = refl };
   within = tt;
   below = omega arith;
   order = tt;
   tried = tt;
-  last = inl tt;
+  last = tt;
   spaced = tt;
 }
+
+pub not-begun : (program : Tree) (limit : ℕ) (labels : List Label) (tries : List Try) (stop : WeakStop) → labels ≡ [] → tries ≡ [] → stop ≡ WeakStop.NoMemory
+    → IsWeakRunOf program limit labels tries stop
+not-begun program limit labels tries stop none untried lacking =
+    subst (λ (ls : List Label). IsWeakRunOf program limit ls tries stop) (sym none)
+    (subst (λ (ts : List Try). IsWeakRunOf program limit [] ts stop) (sym untried)
+    (subst (λ (why : WeakStop). IsWeakRunOf program limit [] [] why) (sym lacking) (none-run program limit)))
+
+-- where memory was wanted nothing more is told
+pub tells-nothing : (program : Tree) (limit : ℕ) (labels : List Label) (tries : List Try) (turns : ℕ) (before after : List Told) (stop : WeakStop) → stop ≡ WeakStop.NoMemory
+    → TellsStop program limit labels tries turns before after stop
+tells-nothing program limit labels tries turns before after stop lacking =
+    subst (λ (why : WeakStop). TellsStop program limit labels tries turns before after why) (sym lacking) tt
+
+-- What is told of a run that ends
+
+module _ (r : RunView) (labels : List Label) (tries : List Try) (stop : WeakStop) (are : labels ≡ take r.play.settled r.play.labels) where
+  ended-as : (ts : List Try) → tries ≡ ts → IsWeakRunOf r.play.program r.limit (take r.play.settled r.play.labels) ts stop
+      → IsWeakRunOf r.play.program r.limit labels tries stop
+  ended-as ts same is =
+      subst (λ (ls : List Label). IsWeakRunOf r.play.program r.limit ls tries stop) (sym are)
+      (subst (λ (us : List Try). IsWeakRunOf r.play.program r.limit (take r.play.settled r.play.labels) us stop) (sym same) is)
+
+  -- with the turns, so that the last try may have been cut off
+  pub ended-spent : CanBeEnded r → tries ≡ r.tries → stop ≡ WeakStop.Spent → IsWeakRunOf r.play.program r.limit labels tries stop
+  ended-spent x same spent =
+      ended-as r.tries same
+      (ended-run r stop x (subst (λ (why : WeakStop). EndTries why r.play.settled r.tries) (sym spent) x.cut))
+
+  -- without a try that was cut off
+  pub ended-without : CanBeEnded r → tries ≡ without_cut r.tries → IsWeakRunOf r.play.program r.limit labels tries stop
+  ended-without x same =
+      ended-as (without_cut r.tries) same (ended-run (without r) stop (ends-without r x) (all-failed-so stop r.play.settled (without_cut r.tries) (failed-left r x)))
+
+  -- where it has stopped
+  pub told-whole : (turns : ℕ) (why : WeakStop) → IsRunning r → HasStoppedWeakly why r → tries ≡ r.tries → turns ≡ r.turns → stop ≡ why → (before now : List Told)
+      → HeardSoFar r before now → FailsBy (Some why) before now → TellsStop r.play.program r.limit labels tries turns before now stop
+  told-whole turns why x stopped same count is before now heard fails =
+      subst (λ (w : WeakStop). TellsStop r.play.program r.limit labels tries turns before now w) (sym is)
+      (subst (λ (ls : List Label). TellsStop r.play.program r.limit ls tries turns before now why) (sym are)
+      (subst (λ (us : List Try). TellsStop r.play.program r.limit (take r.play.settled r.play.labels) us turns before now why) (sym same)
+      (subst (λ (n : ℕ). TellsStop r.play.program r.limit (take r.play.settled r.play.labels) r.tries n before now why) (sym count)
+      (stops-as r.play.program r.limit (take r.play.settled r.play.labels) r.tries r.turns before now why (told-by r x why stopped before now heard fails)))))
+
+-- the program and the limit stay
+module _ (r q : RunView) (frame : KeepsFrame r q) where
+  pub run-over : (labels : List Label) (tries : List Try) (stop : WeakStop) → IsWeakRunOf q.play.program q.limit labels tries stop
+      → IsWeakRunOf r.play.program r.limit labels tries stop
+  run-over labels tries stop is =
+      subst (λ (t : Tree). IsWeakRunOf t r.limit labels tries stop) frame.program
+      (subst (λ (m : ℕ). IsWeakRunOf q.play.program m labels tries stop) frame.limit is)
+
+  pub tells-over : (labels : List Label) (tries : List Try) (turns : ℕ) (before after : List Told) (stop : WeakStop)
+      → TellsStop q.play.program q.limit labels tries turns before after stop → TellsStop r.play.program r.limit labels tries turns before after stop
+  tells-over labels tries turns before after stop is =
+      subst (λ (t : Tree). TellsStop t r.limit labels tries turns before after stop) frame.program
+      (subst (λ (m : ℕ). TellsStop q.play.program m labels tries turns before after stop) frame.limit is)
+
+-- of a run from its start
+module _ (program : Tree) (limit : ℕ) (r : RunView) (start : IsAtStart program limit r) where
+  same-program : r.play.program ≡ program
+  same-program = ap (λ (p : PlayView). p.program) start.play
+
+  pub begun-run : (labels : List Label) (tries : List Try) (stop : WeakStop) → IsWeakRunOf r.play.program r.limit labels tries stop
+      → IsWeakRunOf program limit labels tries stop
+  begun-run labels tries stop is =
+      subst (λ (t : Tree). IsWeakRunOf t limit labels tries stop) same-program
+      (subst (λ (m : ℕ). IsWeakRunOf r.play.program m labels tries stop) start.limit is)
+
+  pub begun-tells : (labels : List Label) (tries : List Try) (turns : ℕ) (before after : List Told) (stop : WeakStop)
+      → TellsStop r.play.program r.limit labels tries turns before after stop → TellsStop program limit labels tries turns before after stop
+  begun-tells labels tries turns before after stop is =
+      subst (λ (t : Tree). TellsStop t limit labels tries turns before after stop) same-program
+      (subst (λ (m : ℕ). TellsStop r.play.program m labels tries turns before after stop) start.limit is)
+
+  -- devices have heard nothing yet
+  pub heard-at-start : (told : List Told) → HeardSoFar r told told
+  heard-at-start told =
+      subst (λ (p : PlayView). HaveHeard p.program (straight p.labels) told told) (sym start.play) (heard-nothing program [] told)

@@ -9,4 +9,5 @@ pub mod DeviceLemmas
 pub mod HearLemmas
 pub mod ChooseLemmas
 pub mod TotalLemmas
+pub mod CutLemmas
 pub mod EndLemmas

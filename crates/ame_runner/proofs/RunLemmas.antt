@@ -13,7 +13,7 @@ use Rattle.ame_weak.specs.declared.tries.Try.{Try}
 use Rattle.ame_runner.specs.Labels.{label_location, behind_location, location_above}
 use Rattle.ame_runner.specs.Play.{PlayView, IsPlayedWeakly, begun_play, HasMade}
 use Rattle.ame_runner.specs.Notes.{lets_try_again, IsAsideSince, AreKept}
-use Rattle.ame_runner.specs.Run.{RunView, turns_of_tries, IsOwn, AreSettled, AreFailedTries, CutAt, IsRunning, CanBeEnded, HasRun, RunsOrEnds}
+use Rattle.ame_runner.specs.Run.{RunView, turns_of_tries, IsOwn, AreSettled, AreFailedTries, CutAt, IsRunning, CanBeEnded, KeepsFrame, HasRun, RunsOrEnds}
 use Rattle.ame_runner.proofs.PlayLemmas.{above-more}
 use Rattle.ame_runner.proofs.NoteLemmas.{all-with, all-more, kept-label, kept-try}
 
@@ -49,6 +49,10 @@ running-ends r x = record {
   few = let a = x.made in let b = x.few in let c = x.within in omega arith;
   cut = elim x.cut [ inl failing ↦ inl failing | inr now ↦ inr (cut-settled r x now.cut) ];
 }
+
+-- one after the other
+pub frame-then : (r m q : RunView) → KeepsFrame r m → KeepsFrame m q → KeepsFrame r q
+frame-then r m q first second = record { program = second.program ∙ first.program; limit = second.limit ∙ first.limit }
 
 -- Labels
 

@@ -17,16 +17,22 @@ use Rattle.ame_runner.specs.Run.{AreFailedTries, CutAt}
 use Rattle.ame_runner.specs.Stop.{HasWeakCause, FailsBy}
 use Rattle.ame_runner.specs.declared.stop.WeakStop.{WeakStop}
 
+-- all tries failed; where the turns were used up, the last may have been cut off, after n labels
+abbrev pub EndTries : WeakStop → ℕ → List Try → Type 0
+EndTries WeakStop.Spent n tries = AreFailedTries tries ⊎ CutAt n tries
+EndTries _ n tries = AreFailedTries tries
+
 -- The labels are legal and end with nothing active; what makes a step is within the bounds; and each location is below
 -- the limit of turns. The tries hold where they stand, in order; all of them failed, but that the last may have been cut
--- off at the end; and between two failing ones of one member a fragment left or ended, or a location was new.
-pub record IsWeakRunOf (program : Tree) (limit : ℕ) (labels : List Label) (tries : List Try) : Type 0 where
+-- off at the end, with the turns; and between two failing ones of one member a fragment left or ended, or a location was
+-- new.
+pub record IsWeakRunOf (program : Tree) (limit : ℕ) (labels : List Label) (tries : List Try) (stop : WeakStop) : Type 0 where
   pub ends : EndsActive program labels None
   pub within : AreWithinBounds (weak_start program) labels
   pub below : location_above labels ≤ limit
   pub order : AreTriesInOrder 0 (length labels) tries
   pub tried : AreTried program labels tries
-  pub last : AreFailedTries tries ⊎ CutAt (length labels) tries
+  pub last : EndTries stop (length labels) tries
   pub spaced : AreSpaced labels tries
 
 -- Of a run that ended otherwise than by want of memory: devices have heard the calls of its journal and no others, and its
@@ -35,10 +41,11 @@ pub record IsWholeRun (program : Tree) (labels : List Label) (tries : List Try) 
   pub heard : HaveHeard program (straight labels) before after
   pub paid : turns ≤ 3 * total_steps (straight_with 0 tries outset labels)
 
--- What a stop tells of a run: its cause in the state to which the labels lead, and what devices heard and which failed.
+-- What a stop tells of a run: its cause in the state to which the labels lead, what devices heard, and which failed.
 pub record IsToldBy (program : Tree) (limit : ℕ) (labels : List Label) (tries : List Try) (turns : ℕ) (before after : List Told) (stop : WeakStop) :
     Type 0 where
   pub cause : (w : Weak) → IsWeakRun program labels w → HasWeakCause stop w turns limit
+  pub within : turns ≤ limit
   pub whole : IsWholeRun program labels tries turns before after
   pub fails : FailsBy (Some stop) before after
 

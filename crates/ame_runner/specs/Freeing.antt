@@ -1,5 +1,5 @@
 -- Members that go on under `unprotected`.
-use Rattle.std.specs.Prelude.{◌≡◌, ℕ, ◌+◌, ◌≤◌, ℤ, ◌⊎◌, List, [], Some, Ok, Err, ⊤}
+use Rattle.std.specs.Prelude.{◌≡◌, ℕ, ℤ, ◌⊎◌, List, [], Some, Ok, Err, ⊤}
 use Rattle.ame_term.specs.State.{State}
 use Rattle.ame_term.specs.declared.semantics.StepKind.{StepKind}
 use Rattle.ame_term.specs.declared.semantics.Label.{Label}
@@ -10,7 +10,7 @@ use Rattle.ame_journal.specs.Calls.{label_call}
 use Rattle.ame_strong.specs.Next.{next_of}
 use Rattle.ame_strong.specs.declared.next_label.Next.TheVariants as next
 use Rattle.ame_weak.specs.Weak.{Weak}
-use Rattle.ame_runner.specs.Labels.{label_location, behind_location}
+use Rattle.ame_runner.specs.Labels.{label_location}
 use Rattle.ame_runner.specs.declared.freeing.Freed.{Freed}
 
 -- a label calls no device, in whatever state
@@ -34,10 +34,14 @@ pub record FailsFor (w : Weak) (i device : ℕ) (before after : List Told) : Typ
 abbrev pub HasCalledFor : Weak → ℕ → List Told → List Told → Label → Type 0
 HasCalledFor w i before after label = (IsSilent label × (after ≡ before)) ⊎ ((device : ℕ) × CallsFor w i device before after label)
 
--- A member goes on by a label, which makes the least location or none, or the device that it calls fails.
+-- a label makes no location but this one
+abbrev pub MakesOnly : ℕ → Label → Type 0
+MakesOnly l label = (m : ℕ) → label_location label ≡ Some m → m ≡ l
+
+-- A member goes on by a label, which makes this location or none, or the device that it calls fails.
 abbrev pub HasFreed : Weak → ℕ → ℕ → List Told → List Told → Freed → Type 0
-HasFreed w i above before after (Freed.Label label) = (behind_location (label_location label) ≤ above + 1) × HasCalledFor w i before after label
-HasFreed w i above before after (Freed.Fault device) = FailsFor w i device before after
+HasFreed w i fresh before after (Freed.Label label) = MakesOnly fresh label × HasCalledFor w i before after label
+HasFreed w i fresh before after (Freed.Fault device) = FailsFor w i device before after
 
 -- a label is one by which member i goes on under `unprotected`
 abbrev pub IsLabelOf : ℕ → Label → Type 0

@@ -1,5 +1,5 @@
 -- The tries of a run, and who is put aside.
-use Rattle.std.specs.Prelude.{◌≡◌, ℕ, ◌⊎◌, Bool, true, List, [], ◌∷◌, length, drop, take, is_some, ⊤}
+use Rattle.std.specs.Prelude.{◌≡◌, ℕ, ◌⊎◌, Bool, true, List, [], ◌∷◌, length, drop, take, is_some, if◌then◌else◌, ⊤}
 use Rattle.std.specs.List.{AllByRecursion, list_any}
 use Rattle.ame_term.specs.Tree.{Tree}
 use Rattle.ame_term.specs.declared.semantics.Label.{Label}
@@ -27,6 +27,12 @@ AreSetApart labels t u =
 abbrev pub AreSpaced : List Label → List Try → Type 0
 AreSpaced labels [] = ⊤
 AreSpaced labels (t ∷ tries) = AllByRecursion (AreSetApart labels t) tries × AreSpaced labels tries
+
+-- without the last, if it was cut off
+abbrev pub without_cut : List Try → List Try
+without_cut [] = []
+without_cut (t ∷ []) = if t.failing then t ∷ [] else []
+without_cut (t ∷ u ∷ tries) = t ∷ without_cut (u ∷ tries)
 
 -- a try holds where the labels before it lead
 abbrev pub HoldsAfter : Tree → List Label → Try → Type 0

@@ -1,10 +1,11 @@
 -- A run that makes its choices.
 use Rattle.std.specs.Prelude.{◌≡◌, ℕ, ◌+◌, ◌≤◌, ◌⊎◌, Bool, true, false, List, [], ◌∷◌, ◌++◌, length, if◌then◌else◌, Result, Ok, Err, ⊤}
 use Rattle.std.specs.List.{AllByRecursion, sum_by}
+use Rattle.ame_term.specs.Tree.{Tree}
 use Rattle.ame_term.specs.declared.semantics.Label.{Label}
 use Rattle.ame_weak.specs.declared.tries.Try.{Try}
 use Rattle.ame_runner.specs.Labels.{location_above}
-use Rattle.ame_runner.specs.Play.{PlayView, IsPlayedWeakly, HasMade}
+use Rattle.ame_runner.specs.Play.{PlayView, IsPlayedWeakly, HasMade, begun_play}
 use Rattle.ame_runner.specs.Notes.{lets_try_again, AreKept}
 
 -- The weak run so far, its tries, and who is put aside; the labels of the active fragment that are still to be made;
@@ -63,6 +64,24 @@ pub record IsRunning (r : RunView) : Type 0 where
   pub few : r.above ≤ r.turns
   pub within : r.turns ≤ r.limit
   pub cut : AreFailedTries r.tries ⊎ IsCutNow r
+
+-- before the first label, with nothing counted
+pub record IsAtStart (program : Tree) (most : ℕ) (r : RunView) : Type 0 where
+  pub play : r.play ≡ begun_play program
+  pub tries : r.tries ≡ []
+  pub left : r.left ≡ []
+  pub turns : r.turns ≡ 0
+  pub limit : r.limit ≡ most
+
+-- the program and the limit stay
+pub record KeepsFrame (old new : RunView) : Type 0 where
+  pub program : new.play.program ≡ old.play.program
+  pub limit : new.limit ≡ old.limit
+
+-- no turn was counted, and no try was added
+pub record CountsNothing (old new : RunView) : Type 0 where
+  pub turns : new.turns ≡ old.turns
+  pub tries : new.tries ≡ old.tries
 
 -- A label was made, which wasn't counted; nobody is put aside any more, or the same members still.
 pub record HasRun (label : Label) (old new : RunView) : Type 0 where

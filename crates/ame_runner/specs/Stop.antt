@@ -1,8 +1,9 @@
 -- Why a run stops.
-use Rattle.std.specs.Prelude.{◌≡◌, ◌≢◌, ℕ, ◌<◌, ◌==◌, ℤ, true, List, [], Option, Some, None, is_some, Result, Ok, Err, ⊤}
+use Rattle.std.specs.Prelude.{◌≡◌, ◌≢◌, ℕ, ◌<◌, ◌==◌, ℤ, ◌⊎◌, true, List, [], ◌∷◌, ◌++◌, map, Option, Some, None, is_some, Result, Ok, Err, ⊤}
 use Rattle.std.specs.List.{AllByRecursion, list_any}
 use Rattle.ame_term.specs.Maps.{at}
 use Rattle.ame_device.specs.declared.told.Told.{Told}
+use Rattle.ame_engine.specs.Ending.{Rise}
 use Rattle.ame_journal.specs.Replay.{fails_after}
 use Rattle.ame_strong.specs.Pool.{pool}
 use Rattle.ame_strong.specs.Next.{next_of}
@@ -11,6 +12,7 @@ use Rattle.ame_shell.specs.Heard.{HaveHeard, NoneFailed, OneFailed}
 use Rattle.ame_weak.specs.Weak.{Weak}
 use Rattle.ame_weak.specs.Straight.{straight}
 use Rattle.ame_weak.specs.declared.tries.Certificate.{Certificate}
+use Rattle.ame_runner.specs.Choices.{candidates}
 use Rattle.ame_runner.specs.Run.{RunView, IsRunning, CanBeEnded}
 use Rattle.ame_runner.specs.declared.stop.WeakStop.{WeakStop}
 
@@ -32,11 +34,15 @@ HearsOn stop old new before after =
 
 -- Causes
 
--- each member of the pool fails, and there is one
+abbrev pub certified_numbers : List Certificate → List ℕ
+certified_numbers certificates = map (λ c. c.number) certificates
+
+-- each member of the pool fails, and there is one; the certificates are by rising number
 pub record IsBlockedBy (w : Weak) (certificates : List Certificate) : Type 0 where
   pub some : pool w.state ≢ []
   pub fail : AllByRecursion (λ c. fails_after w.state c.number c.steps c.fresh ≡ true) certificates
   pub all : (i : ℕ) → is_some (at (pool w.state) i) ≡ true → list_any (λ c. c.number == i) certificates ≡ true
+  pub rise : Rise (certified_numbers certificates)
 
 -- a member stands at a call of a device
 pub record StandsAtCall (w : Weak) (device : ℕ) : Type 0 where
@@ -62,15 +68,22 @@ abbrev pub StopsIfTold : Option WeakStop → RunView → Type 0
 StopsIfTold None r = ⊤
 StopsIfTold (Some stop) r = HasStoppedWeakly stop r
 
--- it isn't the stop by a device
-abbrev pub IsNoFault : WeakStop → Type 0
-IsNoFault (WeakStop.DeviceFault device) = ⊥
-IsNoFault stop = ⊤
+-- somebody may go on
+abbrev pub MayGoOn : RunView → Type 0
+MayGoOn r = candidates r.play.weak r.aside ≢ []
 
--- what is found while nothing is active: a stop with its cause, or that turns are left
+-- In which order stops are found: the run is blocked only where nobody may go on, and the turns are used up only where somebody may.
+abbrev pub IsFoundInOrder : WeakStop → RunView → Type 0
+IsFoundInOrder WeakStop.Finished r = ⊤
+IsFoundInOrder (WeakStop.Blocked certificates) r = candidates r.play.weak r.aside ≡ []
+IsFoundInOrder WeakStop.Spent r = MayGoOn r
+IsFoundInOrder (WeakStop.DeviceFault device) r = ⊥
+IsFoundInOrder WeakStop.NoMemory r = ⊥
+
+-- what is found while nothing is active: a stop with its cause, or that somebody may go on and turns are left
 abbrev pub FoundAtRest : RunView → Option WeakStop → Type 0
-FoundAtRest r None = (r.play.weak.state.active ≡ None) × (r.turns < r.limit)
-FoundAtRest r (Some stop) = IsRunning r → HasStoppedWeakly stop r × IsNoFault stop
+FoundAtRest r None = (r.play.weak.state.active ≡ None) × MayGoOn r × (r.turns < r.limit)
+FoundAtRest r (Some stop) = IsRunning r → HasStoppedWeakly stop r × IsFoundInOrder stop r
 
 -- a certificate was added, if the member is there
 pub record HasCertified (r : RunView) (number : ℕ) (old new : List Certificate) : Type 0 where
@@ -79,6 +92,7 @@ pub record HasCertified (r : RunView) (number : ℕ) (old new : List Certificate
       → AllByRecursion (λ c. fails_after r.play.weak.state c.number c.steps c.fresh ≡ true) new
   pub there : is_some (at (pool r.play.weak.state) number) ≡ true → list_any (λ c. c.number == number) new ≡ true
   pub others : (i : ℕ) → list_any (λ c. c.number == i) old ≡ true → list_any (λ c. c.number == i) new ≡ true
+  pub numbers : (certified_numbers new ≡ certified_numbers old) ⊎ (certified_numbers new ≡ certified_numbers old ++ number ∷ [])
 
 -- a choice, or a stop in its place; memory may be wanted
 abbrev pub GoesOrStops : {E : Type 0} → RunView → RunView → List Told → List Told → Result (Option WeakStop) E → Type 0

@@ -1,6 +1,6 @@
 //! A member goes on under `unprotected`.
 
-ghost use Rattle.std.specs.Prelude.{◌≡◌, ℕ, Some, IfOk};
+ghost use Rattle.std.specs.Prelude.{◌≡◌, ℕ, Some, IfOk, length};
 ghost use Rattle.ame_device.specs.Calls.{all_told};
 ghost use Rattle.ame_strong.specs.Next.{next_of};
 ghost use Rattle.ame_weak.specs.Weak.{Weak};
@@ -31,6 +31,7 @@ pub fn next_free<D: Device>(
     devices: &mut Vec<D>,
 ) -> Result<Freed, NoMemory>
     ensures own { IfOk result (IsOwnOf number) }
+    ensures count { length devices.new.items ≡ length devices.old.items }
     ensures freed { IfOk result (HasFreed (weak_of state.now) number above.0 (all_told D.device_heard D.device_faults devices.old.items)
         (all_told D.device_heard D.device_faults devices.new.items)) }
 {
@@ -52,6 +53,7 @@ fn call_for<D: Device>(
     argument: i64,
 ) -> Result<Freed, NoMemory>
     ensures own { IfOk result (IsOwnOf number) }
+    ensures count { length devices.new.items ≡ length devices.old.items }
     ensures freed { IfOk result (λ freed. (w : Weak) (above : ℕ) → next_of w.state (Some number) ≡ Next.Device device argument
         → HasFreed w number above (all_told D.device_heard D.device_faults devices.old.items)
         (all_told D.device_heard D.device_faults devices.new.items) freed) }

@@ -2,11 +2,13 @@
 #![tactic(auto)]
 
 mod choices;
+mod choosing;
 mod freeing;
 mod labels;
 mod notes;
 mod play;
 mod run;
+mod running;
 mod stop;
 mod stopping;
 mod theorems;
@@ -16,5 +18,7 @@ pub use choices::{candidates, drawn};
 pub use freeing::{Freed, next_free};
 pub use notes::Notes;
 pub use play::Play;
+pub use running::weak_run;
+pub use stop::{WeakRun, WeakStop};
 pub use theorems::{tried_fragments_hold, turns_are_told};
 pub use trial::{Outcome, TriedOut, note_of, try_member};

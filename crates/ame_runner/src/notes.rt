@@ -1,9 +1,9 @@
 //! The tries of a run, and who is put aside.
 
-ghost use Rattle.std.specs.Prelude.{◌≡◌, ◌∷◌, ◌++◌, [], ℕ, ◌==◌, ◌&&◌, ◌||◌, false, if◌then◌else◌, OnOk, OnErr, ◌<◌, vec_len, vec_capacity};
+ghost use Rattle.std.specs.Prelude.{◌≡◌, ◌∷◌, ◌++◌, [], ℕ, ◌==◌, ◌&&◌, ◌||◌, ◌-◌, true, false, take, length, if◌then◌else◌, OnOk, OnErr, ◌<◌, vec_len, vec_capacity};
 ghost use Rattle.std.specs.BTreeSet.{contains};
 ghost use Rattle.std.specs.Ordering.{nat_cmp};
-ghost use Rattle.ame_runner.specs.Notes.{lets_try_again};
+ghost use Rattle.ame_runner.specs.Notes.{without_cut, lets_try_again};
 
 use crate::labels::label_location;
 use ame_term::{Label, NoMemory};
@@ -41,7 +41,7 @@ impl Notes {
 
     /// The members that are put aside.
     pub fn aside(&self) -> &BTreeSet<u64>
-        ensures { (i : ℕ) → contains nat_cmp result.now i ≡ aside_of self.now i }
+        ensures { contains nat_cmp result.now ≡ aside_of self.now }
     {
         &self.aside
     }
@@ -52,6 +52,29 @@ impl Notes {
     {
         let Notes { tries, aside: _ } = self;
         tries
+    }
+
+    /// Lets the last try go, if it was cut off, and tells whether it was.
+    pub fn let_cut_go(&mut self) -> bool
+        ensures tries { tries_of self.new ≡ without_cut (tries_of self.old) }
+        ensures none { result ≡ false → tries_of self.new ≡ tries_of self.old }
+    {
+        let cut = self.ends_cut();
+        if cut {
+            self.tries.pop();
+        }
+        cut
+    }
+
+    /// Whether the last try was cut off.
+    fn ends_cut(&self) -> bool
+        ensures yes { result ≡ true → take (length (tries_of self.now) - 1) (tries_of self.now) ≡ without_cut (tries_of self.now) }
+        ensures no { result ≡ false → tries_of self.now ≡ without_cut (tries_of self.now) }
+    {
+        match self.tries.last() {
+            Some(t) => !t.failing,
+            None => false,
+        }
     }
 
     /// A label was made. Where a fragment has left or ended or a location is new, nobody is put aside any more.

@@ -1,6 +1,7 @@
 //! A run that makes its choices.
 
 ghost use Rattle.std.specs.Prelude.{◌≡◌, ◌+◌, ◌-◌, ◌<◌, ◌≤◌, [], ◌∷◌, ◌++◌, false, length, List, None, IfOk, OnOk, OnErr};
+ghost use Rattle.ame_term.specs.View.{tree_of};
 ghost use Rattle.ame_device.specs.declared.told.Told.{Told};
 ghost use Rattle.ame_journal.specs.Labels.{fragment_labels};
 
@@ -28,13 +29,15 @@ impl<'a> Run<'a> {
     ghost use Rattle.ame_runner.specs.Labels.{label_location, behind_location};
     ghost use Rattle.ame_runner.specs.Play.{HasMade};
     ghost use Rattle.ame_runner.specs.Trial.{last_turn, IsTriedOut};
-    ghost use Rattle.ame_runner.specs.Run.{IsOwn, HasRun, IsRunning, RunsOrEnds};
+    ghost use Rattle.ame_runner.specs.Freeing.{MakesOnly};
+    ghost use Rattle.ame_runner.specs.Run.{IsOwn, HasRun, IsRunning, IsAtStart, KeepsFrame, CountsNothing, RunsOrEnds};
     ghost use Rattle.ame_runner.specs.Stop.{HearsOn};
     ghost use Rattle.ame_runner.specs.View.{run_of};
 
     /// Before the first label, with this limit of turns.
     pub fn start(alloc: Global, accepted: &'a Accepted, limit: u32) -> Result<Run<'a>, NoMemory>
-        ensures { IfOk result (λ run. IsRunning (run_of run)) }
+        ensures runs { IfOk result (λ run. IsRunning (run_of run)) }
+        ensures begins { IfOk result (λ run. IsAtStart (tree_of accepted.now.program.term) limit (run_of run)) }
     {
         Ok(Run {
             play: Play::start(alloc, accepted)?,
@@ -48,6 +51,7 @@ impl<'a> Run<'a> {
 
     /// Makes one label.
     fn make(&mut self, alloc: Global, label: Label) -> Result<(), NoMemory>
+        ensures frame { KeepsFrame (run_of self.old) (run_of self.new) }
         ensures made { OnOk result (HasRun label (run_of self.old) (run_of self.new)) }
         ensures err { OnErr result (run_of self.new ≡ run_of self.old) }
     {
@@ -62,8 +66,10 @@ impl<'a> Run<'a> {
 
     /// Makes the next label of the active fragment. It isn't counted.
     pub(crate) fn go_on(&mut self, alloc: Global) -> Result<(), NoMemory>
+        ensures frame { KeepsFrame (run_of self.old) (run_of self.new) }
         ensures runs { IsRunning (run_of self.old) → RunsOrEnds result (run_of self.new) }
         ensures hears { OnOk result ((told : List Told) → HearsOn None (run_of self.old) (run_of self.new) told told) }
+        ensures counts { OnOk result (CountsNothing (run_of self.old) (run_of self.new)) }
         ensures left { OnOk result (length (run_of self.new).left + 1 ≡ length (run_of self.old).left) }
     {
         match self.left.pop_front() {
@@ -74,8 +80,10 @@ impl<'a> Run<'a> {
 
     /// Makes all labels that the active fragment is still to make.
     pub(crate) fn run_out(&mut self, alloc: Global) -> Result<(), NoMemory>
+        ensures frame { KeepsFrame (run_of self.old) (run_of self.new) }
         ensures runs { IsRunning (run_of self.old) → RunsOrEnds result (run_of self.new) }
         ensures hears { OnOk result ((told : List Told) → HearsOn None (run_of self.old) (run_of self.new) told told) }
+        ensures counts { OnOk result (CountsNothing (run_of self.old) (run_of self.new)) }
         ensures none { OnOk result ((run_of self.new).left ≡ []) }
     {
         while !self.left.is_empty() {
@@ -86,8 +94,9 @@ impl<'a> Run<'a> {
 
     /// Makes a label of a resting member, which takes a turn.
     pub(crate) fn count(&mut self, alloc: Global, label: Label) -> Result<(), NoMemory>
-        requires low { behind_location (label_location label) ≤ (run_of self.old).above + 1 }
+        requires fresh { MakesOnly (run_of self.old).above label }
         requires turns { (run_of self.old).turns < (run_of self.old).limit }
+        ensures frame { KeepsFrame (run_of self.old) (run_of self.new) }
         ensures runs { IsRunning (run_of self.old) → RunsOrEnds result (run_of self.new) }
         ensures made { OnOk result (HasMade label (run_of self.old).play (run_of self.new).play) }
     {
@@ -103,6 +112,7 @@ impl<'a> Run<'a> {
         requires turns { (run_of self.old).turns < (run_of self.old).limit }
         requires free { (run_of self.old).aside number ≡ false }
         requires left { (run_of self.old).left ≡ [] }
+        ensures frame { KeepsFrame (run_of self.old) (run_of self.new) }
         ensures runs { IsRunning (run_of self.old) → RunsOrEnds result (run_of self.new) }
         ensures play { (run_of self.new).play ≡ (run_of self.old).play }
     {
@@ -122,6 +132,7 @@ impl<'a> Run<'a> {
         requires none { behind_location (label_location last) ≡ 0 }
         requires own { IsOwn last }
         requires turns { (run_of self.old).turns < (run_of self.old).limit }
+        ensures frame { KeepsFrame (run_of self.old) (run_of self.new) }
         ensures runs { IsRunning (run_of self.old) → RunsOrEnds result (run_of self.new) }
         ensures play { (run_of self.new).play ≡ (run_of self.old).play }
     {
@@ -139,6 +150,7 @@ impl<'a> Run<'a> {
         requires turn { last_turn tried.now.outcome ≡ 0 }
         requires turns { (run_of self.old).turns < (run_of self.old).limit }
         requires left { (run_of self.old).left ≡ [] }
+        ensures frame { KeepsFrame (run_of self.old) (run_of self.new) }
         ensures runs { IsRunning (run_of self.old) → RunsOrEnds result (run_of self.new) }
         ensures play { (run_of self.new).play ≡ (run_of self.old).play }
     {

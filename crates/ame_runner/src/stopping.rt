@@ -3,6 +3,7 @@
 ghost use Rattle.std.specs.Prelude.{◌≡◌, ◌<◌, ◌≤◌, ◌==◌, ℕ, [], true, false, length, is_some, IfOk, OnOk, None};
 ghost use Rattle.std.specs.List.{AllByRecursion, list_any};
 ghost use Rattle.ame_term.specs.Maps.{at};
+ghost use Rattle.ame_engine.specs.Ending.{Rise};
 ghost use Rattle.ame_journal.specs.Replay.{fails_after};
 ghost use Rattle.ame_strong.specs.Pool.{pool};
 
@@ -15,12 +16,13 @@ use ame_weak::Certificate;
 use std::alloc::Global;
 
 impl<'a> Run<'a> {
+    ghost use Rattle.ame_runner.specs.Choices.{candidates};
     ghost use Rattle.ame_runner.specs.Run.{IsRunning};
-    ghost use Rattle.ame_runner.specs.Stop.{FoundAtRest, HasCertified};
+    ghost use Rattle.ame_runner.specs.Stop.{certified_numbers, MayGoOn, FoundAtRest, HasCertified};
     ghost use Rattle.ame_runner.specs.View.{run_of};
 
     /// Whether a member is active.
-    fn is_busy(&self) -> bool
+    pub(crate) fn is_busy(&self) -> bool
         ensures { result ≡ false → (run_of self.now).play.weak.state.active ≡ None }
     {
         self.play.state().active().is_some()
@@ -42,6 +44,22 @@ impl<'a> Run<'a> {
         self.turns >= self.limit
     }
 
+    /// Those who may go on, by rising number.
+    pub(crate) fn who_may(&self, alloc: Global) -> Result<Vec<u64>, NoMemory>
+        ensures { IfOk result (λ may. may.items ≡ candidates (run_of self.now).play.weak (run_of self.now).aside) }
+    {
+        candidates(alloc, self.play.state(), self.notes.aside())
+    }
+
+    /// Whether nobody may go on.
+    fn is_stuck(&self, alloc: Global) -> Result<bool, NoMemory>
+        ensures yes { IfOk result (λ stuck. stuck ≡ true → candidates (run_of self.now).play.weak (run_of self.now).aside ≡ []) }
+        ensures no { IfOk result (λ stuck. stuck ≡ false → MayGoOn (run_of self.now)) }
+    {
+        let may = self.who_may(alloc)?;
+        Ok(may.is_empty())
+    }
+
     /// The stop that is found while nothing is active, if one is. Where it is none, turns are left.
     pub(crate) fn stop_at_rest(&self, alloc: Global) -> Result<Option<WeakStop>, NoMemory>
         requires { (run_of self.now).left ≡ [] }
@@ -53,8 +71,8 @@ impl<'a> Run<'a> {
         if self.is_over() {
             return Ok(Some(WeakStop::Finished));
         }
-        let may = candidates(alloc, self.play.state(), self.notes.aside())?;
-        if may.is_empty() {
+        let stuck = self.is_stuck(alloc)?;
+        if stuck {
             let certificates = self.certificates(alloc)?;
             return Ok(Some(WeakStop::Blocked(certificates)));
         }
@@ -71,6 +89,7 @@ impl<'a> Run<'a> {
             → AllByRecursion (λ c. fails_after (run_of self.now).play.weak.state c.number c.steps c.fresh ≡ true) certificates.items) }
         ensures all { IfOk result (λ certificates. (i : ℕ) → i < (run_of self.now).play.weak.state.next
             → is_some (at (pool (run_of self.now).play.weak.state) i) ≡ true → list_any (λ c. c.number == i) certificates.items ≡ true) }
+        ensures rise { IfOk result (λ certificates. Rise (certified_numbers certificates.items)) }
     {
         let mut certificates = Vec::new(alloc);
         for number in 0..self.play.state().next() {

@@ -11,3 +11,6 @@ loop-number-preserved c =
 
 pub returns-clause-fail : goal.returns-clause-fail
 returns-clause-fail c = c.loop-number.invariant.fail
+
+pub returns-clause-rise : goal.returns-clause-rise
+returns-clause-rise c = c.loop-number.invariant.rise

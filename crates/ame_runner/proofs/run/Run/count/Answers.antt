@@ -11,5 +11,5 @@ returns-clause-runs c = λ running.
     let greater = c.max-self.ensures in
     let fresh = c.fresh.ensures in
     let up : c.max-self.result ≡ max m.above m.play.above = omega (arith, greater, fresh) in
-    runs-counted (run_of c.args.self.now) m q c.args.label running c.in_ok-make.ensures.made c.requires.low c.requires.turns
+    runs-counted (run_of c.args.self.now) m q c.args.label running c.in_ok-make.ensures.made c.requires.fresh c.requires.turns
     (ap (λ a. record m { above = a; turns = m.turns + 1 }) up)

@@ -4,7 +4,7 @@ use Rattle.ame_term.specs.View.{tree_of, typ_of}
 use Rattle.ame_term.specs.Typing.{ref_types}
 use Rattle.ame_device.specs.declared.told.Told.{Told}
 use Rattle.ame_laws.proofs.Typed.Started.{accepted}
-use Rattle.ame_runner.specs.Run.{RunView, IsOwn, HasRun}
+use Rattle.ame_runner.specs.Run.{RunView, IsOwn, HasRun, CountsNothing}
 use Rattle.ame_runner.specs.Stop.{HearsOn}
 use Rattle.ame_runner.specs.View.{run_of}
 use Rattle.ame_runner.proofs.RunLemmas.{goes-on, ended-before}
@@ -36,3 +36,10 @@ pub returns-in-None-clause-runs : goal.returns-in-None-clause-runs
 returns-in-None-clause-runs c = λ running.
     let old = run_of c.args.self.now in
     ended-before old (record old { left = c.pop_front.new.self.items }) old.left running refl
+
+pub returns-in-Some-clause-counts : goal.returns-in-Some-clause-counts
+returns-in-Some-clause-counts c =
+    let old = run_of c.args.self.now in
+    let r : RunView = record old { left = c.pop_front.new.self.items } in
+    let q = run_of c.make.new.self in
+    ok-then c.make.result (HasRun c.in-Some.label r q) (CountsNothing old q) (λ made. record { turns = made.turns; tries = made.tries }) c.make.ensures.made

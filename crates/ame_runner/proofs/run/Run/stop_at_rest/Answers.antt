@@ -12,18 +12,18 @@ returns-then-is_over c = found-finished (run_of c.args.self.now) c.requires (c.i
 pub certificates-requires : goal.certificates-requires
 certificates-requires c = c.is_busy.ensures c.if-is_busy.false
 
-pub returns-then-is_empty : goal.returns-then-is_empty
-returns-then-is_empty c =
+pub returns-then-stuck : goal.returns-then-stuck
+returns-then-stuck c =
     let a = c.args.self.now.play.accepted.now in
     let p = tree_of a.program.term in
     found-blocked a.devices a.program.places.items p (ref_types a.devices a.program.places.items p)
     (accepted a.devices a.program.places.items p (map typ_of a.ref_tys.items) a.typed) a.program.source
-    (run_of c.args.self.now) c.in_ok-certificates.certificates refl c.requires (c.is_busy.ensures c.if-is_busy.false) (c.is_over.ensures.no c.if-is_over.false)
-    (record { fail = c.in_ok-certificates.ensures.fail; all = c.in_ok-certificates.ensures.all })
+    (run_of c.args.self.now) c.in_ok-certificates.certificates refl c.requires (c.is_busy.ensures c.if-is_busy.false) (c.is_over.ensures.no c.if-is_over.false) (c.in_ok-stuck.ensures.yes c.if-stuck.true)
+    c.in_ok-certificates.ensures.fail c.in_ok-certificates.ensures.all c.in_ok-certificates.ensures.rise
 
 pub returns-then-is_spent : goal.returns-then-is_spent
 returns-then-is_spent c =
-    found-spent (run_of c.args.self.now) c.requires (c.is_busy.ensures c.if-is_busy.false) (c.is_over.ensures.no c.if-is_over.false) (c.is_spent.ensures.yes c.if-is_spent.true)
+    found-spent (run_of c.args.self.now) c.requires (c.is_busy.ensures c.if-is_busy.false) (c.is_over.ensures.no c.if-is_over.false) (c.in_ok-stuck.ensures.no c.if-stuck.false) (c.is_spent.ensures.yes c.if-is_spent.true)
 
 pub returns : goal.returns
-returns c = (c.is_busy.ensures c.if-is_busy.false, c.is_spent.ensures.no c.if-is_spent.false)
+returns c = (c.is_busy.ensures c.if-is_busy.false, c.in_ok-stuck.ensures.no c.if-stuck.false, c.is_spent.ensures.no c.if-is_spent.false)

@@ -1,0 +1,16 @@
+use Rattle.std.proofs.Common.{◌≡◌, None, length}
+use Rattle.ame_device.specs.Calls.{all_told}
+use Rattle.ame_runner.specs.Run.{IsRunning, KeepsFrame}
+use Rattle.ame_runner.specs.Stop.{HearsOn}
+use Rattle.ame_runner.specs.View.{run_of}
+use Rattle.ame_runner.proofs.run.Run.play_on.Given as goal
+
+abbrev pub invariant-loop : goal.invariant-loop
+invariant-loop g l = record {
+  frame : KeepsFrame (run_of l.initial.self) (run_of l.self);
+  count : length l.devices.items ≡ length l.initial.devices.items;
+  runs : IsRunning (run_of l.initial.self) → IsRunning (run_of l.self);
+  hears :
+      HearsOn None (run_of l.initial.self) (run_of l.self) (all_told g.D.Device.device_heard g.D.Device.device_faults l.initial.devices.items)
+      (all_told g.D.Device.device_heard g.D.Device.device_faults l.devices.items);
+}

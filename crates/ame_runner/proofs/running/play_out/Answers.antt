@@ -1,0 +1,33 @@
+use Rattle.std.proofs.Common.{inl, inr}
+use Rattle.ame_device.specs.Calls.{all_told}
+use Rattle.ame_term.specs.View.{tree_of}
+use Rattle.ame_runner.specs.View.{run_of}
+use Rattle.ame_runner.proofs.RunLemmas.{running-ends}
+use Rattle.ame_runner.proofs.EndLemmas.{run-over, tells-over, tells-nothing}
+use Rattle.ame_runner.proofs.running.play_out.Goals as goal
+
+pub returns-in-Ok-clause-run : goal.returns-in-Ok-clause-run
+returns-in-Ok-clause-run g c = λ running.
+    run-over (run_of c.args.run) (run_of c.play_on.new.self) c.play_on.ensures.frame c.end.result.labels.items c.end.result.tries.items c.end.result.stop
+    (c.end.ensures.run (running-ends (run_of c.play_on.new.self) (c.in-Ok.ensures.plays running).0))
+
+pub returns-in-Ok-clause-stop : goal.returns-in-Ok-clause-stop
+returns-in-Ok-clause-stop g c = λ running heard.
+    let before = all_told g.D.Device.device_heard g.D.Device.device_faults c.args.devices.now.items in
+    let after = all_told g.D.Device.device_heard g.D.Device.device_faults c.play_on.new.devices.items in
+    let x = c.in-Ok.ensures.plays running in
+    let h = x.1 before running heard in
+    tells-over (run_of c.args.run) (run_of c.play_on.new.self) c.play_on.ensures.frame c.end.result.labels.items c.end.result.tries.items c.end.result.turns before after
+    c.end.result.stop (c.end.ensures.stop x.0 x.2 before after h.0 h.1)
+
+pub returns-in-Err-clause-run : goal.returns-in-Err-clause-run
+returns-in-Err-clause-run g c = λ running.
+    run-over (run_of c.args.run) (run_of c.play_on.new.self) c.play_on.ensures.frame c.end-in-Err.result.labels.items c.end-in-Err.result.tries.items c.end-in-Err.result.stop
+    (c.end-in-Err.ensures.run (c.in-Err.ensures.plays running))
+
+pub returns-in-Err-clause-stop : goal.returns-in-Err-clause-stop
+returns-in-Err-clause-stop g c = λ running heard.
+    tells-nothing (tree_of c.args.run.play.accepted.now.program.term) c.args.run.limit c.end-in-Err.result.labels.items c.end-in-Err.result.tries.items c.end-in-Err.result.turns
+    (all_told g.D.Device.device_heard g.D.Device.device_faults c.args.devices.now.items)
+    (all_told g.D.Device.device_heard g.D.Device.device_faults c.play_on.new.devices.items) c.end-in-Err.result.stop
+    (elim c.end-in-Err.ensures.kept [ inl e ↦ e | inr e ↦ e ])

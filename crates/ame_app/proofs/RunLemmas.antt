@@ -134,6 +134,7 @@ module _ (call : Call) (status : Status) (text : Text) (code : FlatCode) (comman
     replays = made.over.ends.replays;
     seats = made.over.seats;
     output = text-written;
+    printed = sym made.over.ends.printed;
     store = record { stored = made.over.ends.store; free = made.over.ends.free };
     typed = is-reached.typed;
     devices = record {
@@ -146,6 +147,7 @@ module _ (call : Call) (status : Status) (text : Text) (code : FlatCode) (comman
     own = made.own_is;
     notes = made.over.ends.stopped.ends;
     once = made.over.ends.once;
+    shown = made.over.ends.shown;
     lone = made.over.lone;
     bounds = made.over.ends.bounds;
   }

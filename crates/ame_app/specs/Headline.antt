@@ -26,7 +26,7 @@ use Rattle.ame_cli.specs.declared.command.Command.{Command}
 use Rattle.ame_protocol.specs.declared.types.Limits.{Limits}
 use Rattle.ame_protocol.specs.Event.Bounds.{HasBounds}
 use Rattle.ame_protocol.specs.Event.Causes.{NotesStop}
-use Rattle.ame_engine.specs.Ending.{End}
+use Rattle.ame_engine.specs.Ending.{End, ShowsCounts}
 use Rattle.ame_shell.specs.Ends.{Ends}
 use Rattle.ame_shell.specs.Heard.{HaveHeardSince, HaveFailed}
 use Rattle.ame_shell.specs.Over.{AreOfSeats, NoneWereInTheWay}
@@ -100,8 +100,9 @@ pub record Headline (call : Call) (report : Reported) (end : End Val) (before af
   pub begun : BeginsFrom command front (program_of compiled) end.base
   pub replays : replay (program_of compiled) (journal_of end) ≡ Some final
   pub seats : AreOfSeats options.workers end.entries
-  -- What was written is the output of that run, a line each, and the verdict line; what is left is its state.
+  -- What was written is the output of that run, a line each, and the verdict line; what is left and reported is its state.
   pub output : IsWritten report.status (lines final.state.output ++ (verdict_of end ++ written_behind command report.own (status_of end))) before after
+  pub printed : end.output ≡ final.state.output
   pub store : IsStore compiled end.cells final.state
   pub typed : IsTypedState call.devices final.state
   pub devices : DevicesTell compiled end before after
@@ -114,6 +115,8 @@ pub record Headline (call : Call) (report : Reported) (end : End Val) (before af
   -- waits is noted once until somebody commits.
   pub notes : NotesStop end.stop end.entries
   pub once : IsNotedOnce (journal_of end)
+  -- The limits are those of the words. Each turn is counted by its kind, and there are at most as many as the words let be.
+  pub shown : ShowsCounts (limits_of options) end
   -- One worker by itself has nobody in its way.
   pub lone : options.workers ≡ 1 → NoneWereInTheWay end.counters
   -- Few answers turned a fragment back, at most eight for each fragment that there ever was and for each entry, and few tries left no

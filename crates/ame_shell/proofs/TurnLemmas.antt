@@ -1,7 +1,7 @@
 -- What a turn keeps of a shell.
 use Rattle.std.proofs.Common.{◌≡◌, ℕ, ◌+◌, ◌<◌, ◌≤◌, ◌⊎◌, inl, inr, Bool, true, false, List, length, Option, Some, None, refl, sym, ap, ◌∙◌, subst, arith}
 use Rattle.std.specs.Prelude.{ℤ, unwrap_or}
-use Rattle.std.proofs.lemmas.List.{length-append}
+use Rattle.std.proofs.lemmas.List.{length-append, length-drop}
 use Rattle.ame_io.specs.Lines.{lines}
 use Rattle.ame_io.proofs.LinesLemmas.{lines-append}
 use Rattle.ame_device.specs.declared.told.Told.{Told}
@@ -13,6 +13,7 @@ use Rattle.ame_protocol.specs.declared.stop.Stop.{Stop}
 use Rattle.ame_engine.specs.AtWork.{IsOnSeat}
 use Rattle.ame_engine.specs.Core.{Core}
 use Rattle.ame_engine.specs.Seen.{parts_of}
+use Rattle.ame_engine.specs.Stops.{stopped_by}
 use Rattle.ame_turn.specs.declared.work.Deed.{Deed}
 use Rattle.ame_turn.specs.declared.work.Work.{Work}
 use Rattle.ame_turn.specs.declared.work.Work.TheVariants as work
@@ -33,6 +34,11 @@ no-lines : (deed : Deed) → is_to_flush deed ≡ false → (is_visit deed ≡ f
 no-lines (Deed.DeviceFailed device) e = inr (device, refl)
 no-lines Deed.CameHome e = cc
 no-lines _ e = inl refl
+
+-- what is so whether lines come or not
+pub by-flush : {X : Type 0} (b : Bool) → (b ≡ true → X) → (b ≡ false → X) → X
+by-flush true sent stayed = sent refl
+by-flush false sent stayed = stayed refl
 
 module _ {C V M : Type 0} (meaning : Meaning C V M) where
   abbrev parts : Core C V M → Parts
@@ -131,6 +137,40 @@ module _ {C V M : Type 0} (meaning : Meaning C V M) where
         by : (b : Bool) → is_to_flush deed ≡ b → IsShell meaning.program opening new
         by true e = flushed e
         by false e = stayed e
+
+  -- What a seat has at hand fits still once lines are sent.
+  pub flushed-fits : (old new : ShellView C V M) → HasFlushed old new → (other : ℕ) (rest : Work M) → Fits meaning old.core other rest
+      → Fits meaning new.core other rest
+  flushed-fits old new (HasFlushed.sends appended stays same sent) other rest fits =
+      subst (λ (c : Core C V M). Fits meaning c other rest) (sym same) fits
+  flushed-fits old new (HasFlushed.fails gone first short risen same sent) other rest fits =
+      subst (λ (c : Core C V M). Fits meaning c other rest) (sym same) (stopped rest fits)
+    where
+      stopped : (rest : Work M) → Fits meaning old.core other rest → Fits meaning (stopped_by Stop.WriteFault old.core) other rest
+      stopped work.Idle fits = fits
+      stopped (work.Running m) fits = record {
+        on = record {
+          stands = record {
+            attempt = fits.on.stands.attempt;
+            has = fits.on.stands.has;
+            side = fits.on.stands.side;
+            run = fits.on.stands.run;
+            since = fits.on.stands.since;
+          };
+          machine = fits.on.machine;
+        };
+        within = fits.within;
+      }
+      stopped work.Undoing fits = record { busy = fits.busy; undoes = λ e. cc }
+
+  -- no more is sent than there is
+  pub flushed-within : (old new : ShellView C V M) → HasFlushed old new → old.sent ≤ length (lines old.core.output) → new.sent ≤ length (lines new.core.output)
+  flushed-within old new (HasFlushed.sends appended stays same sent) within =
+      let output : lines new.core.output ≡ lines old.core.output = ap (λ (c : Core C V M). lines c.output) same in
+      omega (arith, sent, ap length output)
+  flushed-within old new (HasFlushed.fails gone first short risen same sent) within =
+      let output : lines new.core.output ≡ lines old.core.output = ap (λ (c : Core C V M). lines c.output) same in
+      omega (arith, sent, short, length-drop old.sent (lines old.core.output), within, ap length output)
 
   -- The turn from its event and what is sent after it
 

@@ -1,8 +1,12 @@
-use Rattle.std.proofs.Common.{sym, ap}
+use Rattle.std.proofs.Common.{sym, ap, subst, ◌≤◌, length}
+use Rattle.ame_io.specs.Lines.{lines}
 use Rattle.ame_device.specs.Calls.{all_told}
-use Rattle.ame_turn.specs.Work.{stage_at}
+use Rattle.ame_turn.specs.Work.{stage_at, Fits}
+use Rattle.ame_turn.proofs.DeedRows.{rowed}
 use Rattle.ame_shell.specs.Shell.{shown}
-use Rattle.ame_shell.proofs.TurnLemmas.{turned-made, sent-still, turn-keeps, hand-stands}
+use Rattle.ame_shell.specs.Turned.{is_to_flush}
+use Rattle.ame_shell.proofs.DeedLemmas.{deed-more}
+use Rattle.ame_shell.proofs.TurnLemmas.{turned-made, sent-still, turn-keeps, hand-stands, by-flush, flushed-fits, flushed-within}
 use Rattle.ame_shell.proofs.shell.Shell.turn.Goals as goal
 
 pub flush_after-requires-clause-within : goal.flush_after-requires-clause-within
@@ -29,3 +33,23 @@ returns-clause-keeps g c = λ opening h.
     (λ e. ap (λ s. shown g.K.Sink.written g.K.Sink.faults g.D.Device.device_heard g.D.Device.device_faults s.engine s.sent s.sink s.devices.items) (c.flush_after.ensures.stays e)))
     opening c.stands.ensures c.requires.seat
     (hand-stands g.M.Runner.meaning g.met.M.Runner.sound c.args.self.now.engine c.args.seat c.args.work c.requires.fits) h
+
+pub flush_after-requires-clause-going : goal.flush_after-requires-clause-going
+flush_after-requires-clause-going g c = λ e.
+    (deed-more g.M.Runner.meaning c.args.seat (stage_at g.M.Runner.meaning.stage c.args.self.now.engine.code c.args.work)
+    c.args.self.now.engine c.act-turned.new.engine _ _ c.act-turned.result.deed e
+    (rowed g.M.Runner.meaning c.args.seat (stage_at g.M.Runner.meaning.stage c.args.self.now.engine.code c.args.work)
+    c.args.self.now.engine c.act-turned.new.engine _ _ c.act-turned.result.deed c.act-turned.ensures.done)).going
+
+pub returns-clause-others : goal.returns-clause-others
+returns-clause-others g c = λ other rest apart fits.
+    let mid = c.act-turned.ensures.others other rest apart fits in
+    by-flush (is_to_flush c.act-turned.result.deed) (λ e. flushed-fits g.M.Runner.meaning _ _ (c.flush_after.ensures.flushes e) other rest mid)
+    (λ e. subst (λ s. Fits g.M.Runner.meaning s.engine other rest) (sym (c.flush_after.ensures.stays e)) mid)
+
+pub returns-clause-sent : goal.returns-clause-sent
+returns-clause-sent g c =
+    let mid = sent-still g.M.Runner.meaning c.args.seat (stage_at g.M.Runner.meaning.stage c.args.self.now.engine.code c.args.work)
+    c.args.self.now.engine c.act-turned.new.engine _ _ c.act-turned.result.deed c.act-turned.ensures.done c.args.self.now.sent c.requires.sent in
+    by-flush (is_to_flush c.act-turned.result.deed) (λ e. flushed-within g.M.Runner.meaning _ _ (c.flush_after.ensures.flushes e) mid)
+    (λ e. subst (λ s. s.sent ≤ length (lines s.engine.output)) (sym (c.flush_after.ensures.stays e)) mid)

@@ -51,7 +51,7 @@ module _ {S C M : Type 0} (first : SeatAt S (Opened C) (SeatRow M) Entry) (rest 
   module _ {V : Type 0} (meaning : Meaning C V M)
       (opened : Opened C) (shell : ShellView C V M) (places : List (Kept M)) (shared : IsShared meaning opened shell places rows entries)
       (count : length rest + 1 ≡ shell.core.limits.seats) where
-    row-here : (n : ℕ) (within : n < shell.core.limits.seats) (it : IsLeft n) → it.row ≡ row_of meaning shell.core n (kept_at places n)
+    row-here : (n : ℕ) (within : n < shell.core.limits.seats) (it : IsLeft n) → it.row ≡ row_of shell.core n (kept_at places n)
     row-here n within it = found-kept meaning opened shell shell places rows entries shared n within it.row it.found
 
     -- no seat has anything at work

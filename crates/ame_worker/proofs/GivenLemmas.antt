@@ -33,13 +33,13 @@ module _ {C V M : Type 0} (meaning : Meaning C V M) where
   -- the row is what the engine has of the seat, and what was kept
   row-given : (opened : Opened C) (new : ShellView C V M) (places : List (Kept M)) (rows : List (SeatRow M)) (told : List Entry) (seat : ℕ) (row : SeatRow M) (kept : Kept M)
       → Shares opened new (set places seat kept) (set rows seat row) told → seat < length rows → seat < length places → seat < new.core.limits.seats
-      → row ≡ row_of meaning new.core seat kept
+      → row ≡ row_of new.core seat kept
   row-given opened new places rows told seat row kept shared in_rows in_places within =
-      some-is row (row_of meaning new.core seat kept)
+      some-is row (row_of new.core seat kept)
       (sym (get_set_here rows seat row in_rows)
       ∙ ap (λ (all : List (SeatRow M)). slice_get all seat) (sym shared.rows)
-      ∙ rows-there meaning new.core (set places seat kept) seat within
-      ∙ ap (λ (x : Kept M). Some (row_of meaning new.core seat x)) (get_or-set_same places seat kept nothing_kept in_places))
+      ∙ rows-there new.core (set places seat kept) seat within
+      ∙ ap (λ (x : Kept M). Some (row_of new.core seat x)) (get_or-set_same places seat kept nothing_kept in_places))
 
   module _ {S : Type 0} (shown_of : S → ShellView C V M) (places_of : S → List (Kept M)) (leaves : SeatRow M → Type 0)
       (k after : Knows (Opened C) (SeatRow M) Entry) (state : S)
@@ -53,14 +53,14 @@ module _ {C V M : Type 0} (meaning : Meaning C V M) where
         (subst (λ (s : ShellView C V M). Shares opened s (places_of state) (set k.rows k.number gives.0.row) (k.seen ++ gives.0.added)) shows
         (some-and (λ (o : Opened C). Shares o (shown_of state) (places_of state) (set k.rows k.number gives.0.row) (k.seen ++ gives.0.added)) k.fixed opened is gives.0.stands))
 
-    it-row : gives.0.row ≡ row_of meaning new.core k.number (keeping new.core hand)
+    it-row : gives.0.row ≡ row_of new.core k.number (keeping new.core hand)
     it-row =
         row-given opened new places k.rows (k.seen ++ gives.0.added) k.number gives.0.row (keeping new.core hand) it-shared in_rows in_places within
 
     row-is : after.row ≡ gives.0.row
     row-is = ap (λ (x : Knows (Opened C) (SeatRow M) Entry). x.row) gives.1
 
-    pub gave-row : HasGivenRow (row_of meaning new.core k.number (keeping new.core hand)) k after
+    pub gave-row : HasGivenRow (row_of new.core k.number (keeping new.core hand)) k after
     gave-row =
         let left = give_leaves (λ s opened rows told. Shares opened (shown_of s) (places_of s) rows told) maker leaves k after state gives in
         record {

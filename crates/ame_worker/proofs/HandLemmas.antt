@@ -1,13 +1,18 @@
 -- A seat that has the turn may make its event, and may give what comes of it.
-use Rattle.std.proofs.Common.{◌≡◌, ◌≢◌, ℕ, ◌<◌, ◌≤◌, ◌⊎◌, inl, inr, true, List, ◌++◌, length, map, set, Option, Some, None, IsSome, slice_get, sym, ap, ◌∙◌, subst, arith}
+use Rattle.std.proofs.Common.{◌≡◌, ◌≢◌, ℕ, ◌<◌, ◌≤◌, ◌⊎◌, inl, inr, Bool, true, List, ◌++◌, length, map, set, Option, Some, None, IsSome, slice_get, sym, ap, ◌∙◌, subst, arith}
 use Rattle.std.specs.List.{range_with_len}
 use Rattle.std.proofs.lemmas.List.{length-set, get_or-set_same, get_or-set_other}
 use Rattle.std.proofs.lemmas.List.FromFn.{get_or-map-range_with_len, length-map-range_with_len}
 use Rattle.std.proofs.lemmas.Option.{slice_get-get_or}
+use Rattle.ame_term.specs.Tree.{Val}
+use Rattle.ame_rows.specs.declared.notes.ReadNote.{ReadNote}
+use Rattle.ame_rows.specs.MemoryView.{Log}
 use Rattle.ame_protocol.proofs.Row.CellLemmas.{which}
 use Rattle.ame_journal.specs.declared.entry.Entry.{Entry}
 use Rattle.ame_protocol.specs.declared.types.Limits.{Limits}
+use Rattle.ame_protocol.specs.declared.types.Task.{Task}
 use Rattle.ame_protocol.specs.Engine.Parts.{Parts}
+use Rattle.ame_protocol.proofs.Engine.ShownMemoryLemmas.{row-shown}
 use Rattle.ame_protocol.specs.declared.stop.Stop.{Stop}
 use Rattle.ame_engine.specs.Core.{Core}
 use Rattle.ame_engine.specs.Seen.{parts_of}
@@ -17,9 +22,9 @@ use Rattle.ame_turn.specs.Work.{Fits}
 use Rattle.ame_turn.proofs.ReadyLemmas.{prepared-fits}
 use Rattle.ame_shell.specs.Shell.{ShellView, GoesTo, IsShell}
 use Rattle.ame_worker.specs.declared.shared.Opened.{Opened}
-use Rattle.ame_worker.specs.Rows.{Kept, SeatRow, nothing_kept, kept_at, row_with, row_of, rows_in}
+use Rattle.ame_worker.specs.Rows.{Kept, SeatRow, nothing_kept, kept_at, row_of, rows_in}
 use Rattle.ame_worker.specs.Shared.{opening_of, keeping, IsShared}
-use Rattle.ame_worker.specs.Slots.{Slot, slot_at}
+use Rattle.ame_worker.proofs.Slots.{Slot, slot_at}
 use Rattle.ame_worker.proofs.StayLemmas.{SlotsStay, map-set}
 use Rattle.ame_worker.proofs.EntryLemmas.{Extends}
 use Rattle.ame_machine.specs.Meaning.{Meaning}
@@ -33,14 +38,14 @@ sent-within (Some Stop.WriteFault) sent faults now text goes = let short = goes.
 sent-within None sent faults now text goes = let all = goes.0 in omega (arith, all)
 sent-within (Some _) sent faults now text goes = let all = goes.0 in omega (arith, all)
 
-module _ {C V M : Type 0} (meaning : Meaning C V M) where
+module _ {C V M : Type 0} where
   -- the rows of all seats
   pub rows-there : (core : Core C V M) (places : List (Kept M)) (seat : ℕ) → seat < core.limits.seats
-      → slice_get (rows_in meaning core places) seat ≡ Some (row_of meaning core seat (kept_at places seat))
+      → slice_get (rows_in core places) seat ≡ Some (row_of core seat (kept_at places seat))
   rows-there core places seat within =
-      let f = λ (n : ℕ). row_of meaning core n (kept_at places n) in
+      let f = λ (n : ℕ). row_of core n (kept_at places n) in
       let d = f seat in
-      slice_get-get_or (rows_in meaning core places) seat d (subst (λ (n : ℕ). seat < n) (sym (length-map-range_with_len f 0 core.limits.seats)) within)
+      slice_get-get_or (rows_in core places) seat d (subst (λ (n : ℕ). seat < n) (sym (length-map-range_with_len f 0 core.limits.seats)) within)
       ∙ ap (λ (r : SeatRow M). Some r) (get_or-map-range_with_len f 0 core.limits.seats seat seat d within (omega arith))
 
 module _ {M : Type 0} where
@@ -51,23 +56,35 @@ module _ {M : Type 0} where
   kept-else : (places : List (Kept M)) (seat other : ℕ) (kept : Kept M) → other ≢ seat → kept_at (set places seat kept) other ≡ kept_at places other
   kept-else places seat other kept apart = get_or-set_other places seat other kept nothing_kept apart
 
+-- rows with the same task, reads and work at hand that are marked alike are the same
+pub row-same : {M : Type 0} (a b : SeatRow M) → a.task ≡ b.task → a.reads ≡ b.reads → a.hand ≡ b.hand → a.marked ≡ b.marked → a ≡ b
+row-same {M} a b task reads hand marked =
+    ap (λ (t : Task). let it : SeatRow M = record { task = t; reads = a.reads; hand = a.hand; marked = a.marked } in it) task
+    ∙ ap (λ (rs : List ReadNote). let it : SeatRow M = record { task = b.task; reads = rs; hand = a.hand; marked = a.marked } in it) reads
+    ∙ ap (λ (w : Work M). let it : SeatRow M = record { task = b.task; reads = b.reads; hand = w; marked = a.marked } in it) hand
+    ∙ ap (λ (m : Bool). let it : SeatRow M = record { task = b.task; reads = b.reads; hand = b.hand; marked = m } in it) marked
+
 module _ {C V M : Type 0} (meaning : Meaning C V M) where
   abbrev parts : Core C V M → Parts
   parts core = parts_of meaning core
 
   -- what the engine has of a seat stays where its slot does
   row-stays : (old new : Core C V M) (other : ℕ) (was now : Kept M) → slot_at (parts new) other ≡ slot_at (parts old) other → now ≡ was
-      → row_of meaning new other now ≡ row_of meaning old other was
+      → row_of new other now ≡ row_of old other was
   row-stays old new other was now slot kept =
-      ap (λ (s : Slot). row_with s now) slot ∙ ap (row_with (slot_at (parts old) other)) kept
+      row-same (row_of new other now) (row_of old other was) (ap (λ (s : Slot). s.task) slot)
+      (ap (λ (n : Log Val). n.reads) (sym (row-shown (meaning.value_of new.code) new.memory.rows other))
+      ∙ ap (λ (s : Slot). s.notes.reads) slot
+      ∙ ap (λ (n : Log Val). n.reads) (row-shown (meaning.value_of old.code) old.memory.rows other))
+      (ap (λ (x : Kept M). x.hand) kept) (ap (λ (x : Kept M). x.marked) kept)
 
   module _ (opened : Opened C) (old new : ShellView C V M) (places : List (Kept M)) (rows : List (SeatRow M)) (told : List Entry)
       (was : IsShared meaning opened old places rows told) (seat : ℕ) (within : seat < old.core.limits.seats) where
     -- a seat's row says what was kept for it
-    pub found-kept : (row : SeatRow M) → slice_get rows seat ≡ Some row → row ≡ row_of meaning old.core seat (kept_at places seat)
+    pub found-kept : (row : SeatRow M) → slice_get rows seat ≡ Some row → row ≡ row_of old.core seat (kept_at places seat)
     found-kept row found =
-        some-is row (row_of meaning old.core seat (kept_at places seat))
-        (sym found ∙ ap (λ (all : List (SeatRow M)). slice_get all seat) (sym was.rows) ∙ rows-there meaning old.core places seat within)
+        some-is row (row_of old.core seat (kept_at places seat))
+        (sym found ∙ ap (λ (all : List (SeatRow M)). slice_get all seat) (sym was.rows) ∙ rows-there old.core places seat within)
 
     -- what a seat has at hand fits
     pub hand-fits : (row : SeatRow M) → slice_get rows seat ≡ Some row → (hand : Work M)
@@ -113,18 +130,18 @@ module _ {C V M : Type 0} (meaning : Meaning C V M) where
               ap (λ (x : Kept M). x.marked) (sym (ap (kept_at after) same ∙ kept-here places seat kept there)) ∙ marked
           by (inr apart) = extends.stop (was.marks other (ap (λ (x : Kept M). x.marked) (sym (kept-else places seat other kept apart)) ∙ marked))
 
-      rows-set : rows_in meaning new.core after ≡ set rows seat (row_of meaning new.core seat kept)
+      rows-set : rows_in new.core after ≡ set rows seat (row_of new.core seat kept)
       rows-set =
-          let f = λ (n : ℕ). row_of meaning new.core n (kept_at after n) in
-          let g = λ (n : ℕ). row_of meaning old.core n (kept_at places n) in
+          let f = λ (n : ℕ). row_of new.core n (kept_at after n) in
+          let g = λ (n : ℕ). row_of old.core n (kept_at places n) in
           ap (λ (n : ℕ). map f (range_with_len 0 n)) seats
           ∙ map-set f g seat
           (λ other apart. row-stays old.core new.core other (kept_at places other) (kept_at after other) (stay other apart) (kept-else places seat other kept apart))
           0 old.core.limits.seats seat (omega arith)
-          ∙ ap (λ (r : SeatRow M). set (rows_in meaning old.core places) seat r) (ap (row_of meaning new.core seat) (kept-here places seat kept there))
-          ∙ ap (λ (all : List (SeatRow M)). set all seat (row_of meaning new.core seat kept)) was.rows
+          ∙ ap (λ (r : SeatRow M). set (rows_in old.core places) seat r) (ap (row_of new.core seat) (kept-here places seat kept there))
+          ∙ ap (λ (all : List (SeatRow M)). set all seat (row_of new.core seat kept)) was.rows
 
-      pub shared-on : IsShared meaning opened new after (set rows seat (row_of meaning new.core seat kept)) (told ++ extends.added)
+      pub shared-on : IsShared meaning opened new after (set rows seat (row_of new.core seat kept)) (told ++ extends.added)
       shared-on = record {
         shell = shell;
         count = length-set places seat kept ∙ was.count ∙ sym seats;

@@ -1,3 +1,4 @@
+pub mod Slots
 pub mod IdleLemmas
 pub mod StayLemmas
 pub mod EntryLemmas

@@ -2,6 +2,8 @@
 use Rattle.std.proofs.Common.{◌≡◌, ℕ, true, false, List, [], refl, sym, ap, ◌∙◌, subst}
 use Rattle.std.specs.Prelude.{None, Result, Ok, Err, IfOk, replicate, Option}
 use Rattle.std.proofs.lemmas.List.{length-replicate}
+use Rattle.ame_term.specs.Tree.{Val}
+use Rattle.ame_rows.specs.MemoryView.{Log, row_at}
 use Rattle.ame_device.specs.declared.told.Heard.{Heard}
 use Rattle.ame_protocol.specs.declared.types.Limits.{Limits}
 use Rattle.ame_protocol.specs.declared.types.Task.{Task}
@@ -9,6 +11,7 @@ use Rattle.ame_protocol.specs.declared.stop.Stop.{Stop}
 use Rattle.ame_protocol.specs.Engine.Parts.{Parts, task_at}
 use Rattle.ame_protocol.specs.Engine.Events.{started}
 use Rattle.ame_protocol.specs.Event.State.{State}
+use Rattle.ame_protocol.proofs.Engine.ShownMemoryLemmas.{row-shown}
 use Rattle.ame_engine.specs.Core.{Core}
 use Rattle.ame_engine.specs.Resuming.{HasResumed}
 use Rattle.ame_engine.specs.Seen.{parts_of}
@@ -19,10 +22,11 @@ use Rattle.ame_shell.specs.Shell.{ShellView, shown, IsShell}
 use Rattle.ame_shell.specs.Turned.{HasFlushed}
 use Rattle.ame_shell.proofs.OverLemmas.{shell-starts, shell-resumes}
 use Rattle.ame_worker.specs.declared.shared.Opened.{Opened}
-use Rattle.ame_worker.specs.Rows.{Kept, nothing_kept, empty_row, kept_at, row_with, row_of}
+use Rattle.ame_worker.specs.Rows.{Kept, nothing_kept, empty_row, kept_at, row_of}
 use Rattle.ame_worker.specs.Shared.{opening_of, opened_with, opened_as, IsShared}
-use Rattle.ame_worker.specs.Slots.{Slot, slot_at, empty_slot}
+use Rattle.ame_worker.proofs.Slots.{Slot, slot_at, empty_slot}
 use Rattle.ame_worker.proofs.IdleLemmas.{AreUnused, unused-slot, map-all-same, replicate-at}
+use Rattle.ame_worker.proofs.HandLemmas.{row-same}
 use Rattle.ame_machine.specs.Meaning.{Meaning}
 
 -- what is so of a result by five facts of it
@@ -57,11 +61,18 @@ module _ {C V M : Type 0} (meaning : Meaning C V M) where
     task-here : (seat : ℕ) → task_at core.tasks seat ≡ Task.Idle
     task-here seat = ap (λ (s : Slot). s.task) (slot-here seat)
 
+    reads-here : (seat : ℕ) → (row_at core.memory.rows seat).reads ≡ []
+    reads-here seat =
+        ap (λ (n : Log Val). n.reads) (sym (row-shown (meaning.value_of core.code) core.memory.rows seat))
+        ∙ ap (λ (s : Slot). s.notes.reads) (slot-here seat)
+
     kept-here : (seat : ℕ) → kept_at places seat ≡ nothing_kept
     kept-here seat = replicate-at core.limits.seats seat nothing_kept
 
-    row-here : (seat : ℕ) → row_of meaning core seat (kept_at places seat) ≡ empty_row
-    row-here seat = ap (λ (s : Slot). row_with s (kept_at places seat)) (slot-here seat) ∙ ap (row_with empty_slot) (kept-here seat)
+    row-here : (seat : ℕ) → row_of core seat (kept_at places seat) ≡ empty_row
+    row-here seat =
+        row-same (row_of core seat (kept_at places seat)) empty_row (task-here seat) (reads-here seat) (ap (λ (k : Kept M). k.hand) (kept-here seat))
+        (ap (λ (k : Kept M). k.marked) (kept-here seat))
 
     shared-opens : IsShared meaning opened shell places (replicate core.limits.seats empty_row) []
     shared-opens = record {
@@ -69,7 +80,7 @@ module _ {C V M : Type 0} (meaning : Meaning C V M) where
       count = length-replicate core.limits.seats nothing_kept;
       fits = λ seat within. subst (λ (k : Kept M). Fits meaning core seat k.hand) (sym (kept-here seat)) (task-here seat);
       marks = λ seat marked. absurd (let clash : false ≡ true = sym (ap (λ (k : Kept M). k.marked) (kept-here seat)) ∙ marked in cc);
-      rows = map-all-same (λ (seat : ℕ). row_of meaning core seat (kept_at places seat)) empty_row row-here 0 core.limits.seats;
+      rows = map-all-same (λ (seat : ℕ). row_of core seat (kept_at places seat)) empty_row row-here 0 core.limits.seats;
       entries = unused.entries;
     }
 

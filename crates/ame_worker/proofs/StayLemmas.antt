@@ -35,7 +35,7 @@ use Rattle.ame_protocol.specs.Waits.Noted.{has_noted}
 use Rattle.ame_protocol.specs.Visits.Stops.{told_task, has_been_cut, has_grown_tall}
 use Rattle.ame_protocol.specs.Visits.Visit.{has_visited, has_been_refused}
 use Rattle.ame_turn.proofs.EndsLemmas.{term-home}
-use Rattle.ame_worker.specs.Slots.{start_of, slot_at}
+use Rattle.ame_worker.proofs.Slots.{start_of, slot_at}
 use Rattle.ame_worker.proofs.IdleLemmas.{slot-same}
 
 -- the slot of each other seat stays

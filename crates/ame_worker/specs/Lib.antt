@@ -1,4 +1,3 @@
-pub mod Slots
 pub mod Rows
 pub mod Shared
 pub mod Points

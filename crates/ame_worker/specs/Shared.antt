@@ -48,5 +48,5 @@ module _ {C V M : Type 0} (meaning : Meaning C V M) where
     pub fits : (seat : ℕ) → seat < shared.core.limits.seats
         → Fits meaning shared.core seat (kept_at places seat).hand
     pub marks : (seat : ℕ) → (kept_at places seat).marked ≡ true → IsSome shared.core.stop
-    pub rows : rows_in meaning shared.core places ≡ all
+    pub rows : rows_in shared.core places ≡ all
     pub entries : shared.core.entries ≡ told

@@ -42,7 +42,7 @@ module _ {C V M : Type 0} (meaning : Meaning C V M) where
     pub deed : Deed
     pub given : ShellView C V M
     pub turned : HasTurned meaning holding.number (stage_at meaning.stage code old) taken given deed
-    pub gave : HasGivenRow (row_of meaning given.core holding.number (keeping given.core new)) holding after
+    pub gave : HasGivenRow (row_of given.core holding.number (keeping given.core new)) holding after
     pub then : IsShared meaning opened given (slice_set places holding.number (keeping given.core new))
         (slice_set holding.rows holding.number after.row) after.seen
     pub told : point ≡ point_of deed (member_at taken.core holding.number) (member_at given.core holding.number)

@@ -56,7 +56,7 @@ where
 pub enum Turned {
     /// It had a turn, and made the event that the point tells.
     Did(Point),
-    /// The turn was not there, as where another seat has it. What the seat knows is as before.
+    /// Another seat had the turn. Nothing of the shared shell changed.
     Busy,
 }
 

@@ -81,7 +81,7 @@ give-requires-clause-may g c =
     (λ s. s.places.items) _ k c.keep.new.self opened seated.is new
     (ap (λ box. shown g.K.Sink.written g.K.Sink.faults g.D.Device.device_heard g.D.Device.device_faults box.value.engine box.value.sent box.value.sink box.value.devices.items) c.keep.ensures.shell)
     (set places k.number (keeping s.engine work)) (c.keep.ensures.places ∙ ap (λ n. set places n (keeping s.engine work)) same)
-    (row_of r s.engine k.number (keeping s.engine work)) tt extends.added extends.by_seat on
+    (row_of s.engine k.number (keeping s.engine work)) tt extends.added extends.by_seat on
 
 pub returns-clause-makes : goal.returns-clause-makes
 returns-clause-makes g c =
@@ -144,4 +144,4 @@ returns-clause-ready g c =
     (subst (λ (l : Limits). CanBePrepared r.is_machine r.stage c.turn-deed.new.self.engine.code l.slice c.turn-deed.result.work)
     (c.turn-deed.ensures.limits ∙ ap (λ it. it.engine.limits) c.deref_mut-shell.ensures.value) c.turn-deed.ensures.can) in
     ready-again r.devices r.is_machine r.stage c.args.code.now c.args.shared.shell.value.engine.limits k (knows c.give.new.seat)
-    (row_of r made.given.core k.number (keeping made.given.core c.turn-deed.result.work)) c.turn-deed.result.work made.gave refl c.requires.seated can
+    (row_of made.given.core k.number (keeping made.given.core c.turn-deed.result.work)) c.turn-deed.result.work made.gave refl c.requires.seated can

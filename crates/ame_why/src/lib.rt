@@ -13,6 +13,7 @@ mod journal_line;
 mod lines;
 mod nexts;
 mod page;
+mod parts;
 mod placed;
 mod position;
 mod printed;

@@ -1,23 +1,28 @@
 //! Faults of the types.
 
-ghost use Rattle.std.specs.Prelude.{◌≡◌, ◌++◌, IfOk, OnOk, codes};
+ghost use Rattle.std.specs.Prelude.{◌≡◌, ◌++◌, ◌≤◌, IfOk, OnOk, codes, length};
+ghost use Rattle.ame_lex.specs.Bytes.{max_text};
 ghost use Rattle.ame_types.specs.Fault.{fault_of, shown_of};
 ghost use Rattle.ame_why.specs.Rules as spec;
 ghost use Rattle.ame_why.specs.Rules.{IsTypeExplained, shown_line};
 
 use crate::page::{append, append_decimal};
+use crate::parts::{head_of, part_number};
 use crate::placed::explained;
+use crate::spans::{open_before, tokens_of};
 use ame_print::print_ty;
 use ame_term::{Effect, NoMemory, Sort};
 use ame_types::{Shown, TypeFault, rule};
 use std::alloc::Global;
 
+/// The most bytes of a text that has tokens.
+const MAX_TEXT: usize = 1_048_576;
+
 /// Which rule a program breaks and where, and what was found and wanted there.
 pub fn explain_types(alloc: Global, text: &[u8], fault: &TypeFault) -> Result<Vec<u8>, NoMemory>
     ensures { IfOk result (λ page. IsTypeExplained text.now (fault_of fault.now) page.items) }
 {
-    let mut message = Vec::new(alloc);
-    append(&mut message, rule_words(fault.rule))?;
+    let mut message = rule_text(alloc, text, fault)?;
     append_shown(alloc, &mut message, b"found: ", b"device ", &fault.found)?;
     append_shown(
         alloc,
@@ -27,6 +32,34 @@ pub fn explain_types(alloc: Global, text: &[u8], fault: &TypeFault) -> Result<Ve
         &fault.wanted,
     )?;
     explained(alloc, text, fault.place, &message)
+}
+
+/// Which rule is broken; where it speaks of a part of a form, of which.
+fn rule_text(alloc: Global, text: &[u8], fault: &TypeFault) -> Result<Vec<u8>, NoMemory> {
+    if fault.rule == rule::TYPE_MISMATCH && text.len() <= MAX_TEXT {
+        part_text(alloc, text, fault.place)
+    } else {
+        Ok(Vec::from_slice(alloc, rule_words(fault.rule))?)
+    }
+}
+
+/// Which part of which form has another type than it wants.
+fn part_text(alloc: Global, text: &[u8], place: u32) -> Result<Vec<u8>, NoMemory>
+    requires small { length text.now ≤ max_text }
+{
+    let tokens = tokens_of(alloc, text)?;
+    let places = open_before(alloc, &tokens, place)?;
+    let Some(open) = places.last() else {
+        return Ok(Vec::from_slice(alloc, rule_words(rule::TYPE_MISMATCH))?);
+    };
+    let mut words = Vec::from_slice(alloc, b"part ")?;
+    append_decimal(&mut words, part_number(&tokens, *open, place))?;
+    append(&mut words, b" of `")?;
+    if let Some(head) = head_of(text, &tokens, *open) {
+        append(&mut words, &text[head.start as usize..head.end as usize])?;
+    }
+    append(&mut words, b"` has another type than the form wants\n")?;
+    Ok(words)
 }
 
 /// A rule in words.

@@ -2,7 +2,7 @@
 
 use ame_cli::{Command, Verb, read_words};
 use ame_protocol::Limits;
-use std::alloc::Global;
+use std::alloc::{AllocError, Global};
 
 /// What is shown.
 #[derive(Clone, Copy, PartialEq, Eq, Debug)]
@@ -43,8 +43,56 @@ impl View {
     }
 }
 
+/// What is shown, and the file with which it is compared.
+#[derive(Drop)]
+pub struct Asked {
+    pub view: View,
+    pub same: Option<String>,
+}
+
+/// The words of each call: `--then` stands between two.
+pub fn calls_of(alloc: Global, words: Vec<String>) -> Result<Vec<Vec<String>>, AllocError> {
+    let mut calls = Vec::new(alloc);
+    let mut call = Vec::new(alloc);
+    for word in words {
+        if word.as_str() == "--then" {
+            calls.push(call)?;
+            call = Vec::new(alloc);
+        } else {
+            call.push(word)?;
+        }
+    }
+    calls.push(call)?;
+    Ok(calls)
+}
+
+/// Takes the words out that ask for more than a run.
+pub fn asked_of(words: &mut Vec<String>) -> Asked {
+    match view_of(words) {
+        View::Why => Asked {
+            view: View::Why,
+            same: None,
+        },
+        view => Asked {
+            view,
+            same: same_of(words),
+        },
+    }
+}
+
+/// Takes `--same` and the name behind it out, wherever they stand.
+fn same_of(words: &mut Vec<String>) -> Option<String> {
+    for at in 0..words.len() {
+        if at + 1 < words.len() && words[at].as_str() == "--same" {
+            let _ = words.remove(at);
+            return Some(words.remove(at));
+        }
+    }
+    None
+}
+
 /// Takes the first word out that asks for a view, wherever it stands.
-pub fn view_of(words: &mut Vec<String>) -> View {
+fn view_of(words: &mut Vec<String>) -> View {
     for at in 0..words.len() {
         if let Some(view) = View::named(words[at].as_str()) {
             let _ = words.remove(at);

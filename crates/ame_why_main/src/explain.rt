@@ -41,7 +41,7 @@ pub fn explain<K>(
 }
 
 /// The place in a text at which it is refused.
-fn place_of(status: &Status) -> Option<u32> {
+pub fn place_of(status: &Status) -> Option<u32> {
     match status {
         Status::Text(TextFault::Lexical(LexFault::BadByte(place) | LexFault::LongNumber(place))) =>
             Some(*place),

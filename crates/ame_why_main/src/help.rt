@@ -18,6 +18,8 @@ Views, one of which may stand anywhere:
   --counts     what was counted, beside its bounds
   --store      what the locations hold that are left
   --picture    the picture of a run of `sim` or `replay`, as SVG
+
+`--same FILE` beside a view tells whether the file has just that; `--then` stands between two calls.
 ";
 
 /// What is told of words that ask for no run: the synopsis, or a rule of the types.

@@ -6,12 +6,13 @@ mod explain;
 mod given;
 mod help;
 mod kept;
+mod late;
 mod origin;
 mod picture;
 mod run;
 mod views;
 
-use crate::asked::{file_of, view_of};
+use crate::asked::{asked_of, calls_of, file_of};
 use crate::given::Unopened;
 use crate::help::told_alone;
 use crate::kept::Kept;
@@ -19,42 +20,55 @@ use crate::origin::Origin;
 use crate::run::{show, write};
 use ame_app::process_words;
 use ame_io::StdSource;
+use std::fs;
+use std::io::{self, Eprint, Input};
 use std::process::ExitCode;
-use std::{fs, io};
+use std::rt::Files;
+use std::sync::Wait;
+use std::thread::Threads;
 
-fn main(rt: HostRuntime) -> ExitCode {
-    let Ok(mut words) = process_words(&rt) else {
-        return ExitCode::from(3);
-    };
+/// Does what the words of one call ask for, and tells the status of the process.
+fn call<R>(rt: &R, words: Vec<String>) -> u8
+where
+    R: AllocGlobal + Threads + Wait + Sync + Files + Input + Print + Eprint,
+{
+    let mut words = words;
     if let Some(page) = told_alone(&words) {
-        return ExitCode::from(write(io::writer(&rt), page, 0));
+        return write(io::writer(rt), page, 0);
     }
-    let view = view_of(&mut words);
-    let number = match file_of(&mut words) {
+    let asked = asked_of(&mut words);
+    match file_of(&mut words) {
         None => {
             let source = Kept::new(rt.alloc(), StdSource::new(rt.reader()));
-            show(
-                &rt,
-                words,
-                source,
-                view,
-                Origin::standard(),
-                io::writer(&rt),
-            )
+            let origin = Origin::standard();
+            show(rt, words, source, asked, origin, io::writer(rt))
         }
-        Some(name) => match fs::open(&rt, name.as_str()) {
+        Some(name) => match fs::open(rt, name.as_str()) {
             Ok(file) => {
                 let source = Kept::new(rt.alloc(), StdSource::new(file));
                 let origin = Origin::file(name.as_str());
-                show(&rt, words, source, view, origin, io::writer(&rt))
+                show(rt, words, source, asked, origin, io::writer(rt))
             }
             Err(error) => {
                 let source = Kept::new(rt.alloc(), Unopened::new());
                 let fault = format!(in rt.alloc(); "{error}");
                 let origin = Origin::unreadable(name.as_str(), &fault);
-                show(&rt, words, source, view, origin, io::writer(&rt))
+                show(rt, words, source, asked, origin, io::writer(rt))
             }
         },
+    }
+}
+
+fn main(rt: HostRuntime) -> ExitCode {
+    let Ok(words) = process_words(&rt) else {
+        return ExitCode::from(3);
     };
+    let Ok(calls) = calls_of(rt.alloc(), words) else {
+        return ExitCode::from(9);
+    };
+    let mut number = 0;
+    for words in calls {
+        number = call(&rt, words);
+    }
     ExitCode::from(number)
 }

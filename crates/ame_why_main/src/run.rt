@@ -3,17 +3,20 @@
 ghost use Rattle.std.specs.Prelude.{◌≤◌, vec_len};
 ghost use Rattle.ame_lex.specs.Bytes.{max_text};
 
-use crate::asked::{View, limits_of};
-use crate::explain::explain;
+use crate::asked::{Asked, View, limits_of};
+use crate::explain::{explain, place_of};
 use crate::kept::Kept;
+use crate::late::Late;
 use crate::origin::Origin;
 use crate::views::page_of;
 use ame_app::{Report, StandardDevice, run_process};
-use ame_io::{Source, StdSink, write_all};
+use ame_io::{Sink, Source, StdSink, StdSource, WriteFault, read_all, write_all};
 use ame_protocol::Limits;
 use ame_term::NoMemory;
 use std::alloc::Global;
+use std::fs;
 use std::io::{self, Eprint};
+use std::rt::Files;
 use std::sync::Wait;
 use std::thread::Threads;
 
@@ -22,22 +25,22 @@ pub fn show<R, S, W>(
     rt: &R,
     words: Vec<String>,
     source: Kept<S>,
-    view: View,
+    asked: Asked,
     origin: Origin<'_>,
     writer: W,
 ) -> u8
 where
-    R: AllocGlobal + Threads + Wait + Sync + Eprint,
+    R: AllocGlobal + Threads + Wait + Sync + Eprint + Files,
     S: Source + Drop,
     W: io::Write + Send + Drop,
 {
-    match view {
+    match asked.view {
         View::Why => show_run(rt, words, source, origin, writer),
-        _ => show_view(rt, words, source, view, origin, writer),
+        _ => show_view(rt, words, source, asked, origin, writer),
     }
 }
 
-/// Writes what `ame` writes, and then why.
+/// Writes what `ame` writes, and then why. Of a text that is refused at a place the first line tells that too.
 fn show_run<R, S, W>(
     rt: &R,
     words: Vec<String>,
@@ -50,12 +53,33 @@ where
     S: Source + Drop,
     W: io::Write + Send + Drop,
 {
+    let alloc = rt.alloc();
     let mut source = source;
-    let mut report = run_process(rt, rt.alloc(), Ok(words), &mut source, StdSink::new(writer));
-    if let Ok(page) = explain(rt.alloc(), &report, source.bytes(), origin) {
-        let _ = write_all(&mut report.sink, &page);
+    let sink = Late::new(alloc, StdSink::new(writer));
+    let mut report = run_process(rt, alloc, Ok(words), &mut source, sink);
+    let page = explain(alloc, &report, source.bytes(), origin);
+    let is_placed = place_of(&report.status).is_some();
+    match end_run(&mut report.sink, page, is_placed) {
+        Ok(()) => report.status.number(),
+        Err(_) => 7,
     }
-    report.status.number()
+}
+
+/// Writes the verdict line, unless what is explained begins with it, and then that.
+fn end_run<K: Sink>(
+    sink: &mut Late<K>,
+    page: Result<Vec<u8>, NoMemory>,
+    is_placed: bool,
+) -> Result<(), WriteFault> {
+    let Ok(page) = page else {
+        return sink.release();
+    };
+    if is_placed {
+        return sink.pass(&page);
+    }
+    sink.release()?;
+    let _ = sink.pass(&page);
+    Ok(())
 }
 
 /// Writes what is asked for of a run, and then the verdict line, which goes to the standard error where the view is an input of another
@@ -64,12 +88,12 @@ fn show_view<R, S, W>(
     rt: &R,
     words: Vec<String>,
     source: Kept<S>,
-    view: View,
+    asked: Asked,
     origin: Origin<'_>,
     writer: W,
 ) -> u8
 where
-    R: AllocGlobal + Threads + Wait + Sync + Eprint,
+    R: AllocGlobal + Threads + Wait + Sync + Eprint + Files,
     S: Source + Drop,
     W: io::Write + Send + Drop,
 {
@@ -78,10 +102,13 @@ where
     let limits = limits_of(alloc, &words);
     let report = run_process(rt, alloc, Ok(words), &mut source, StdSink::new(io::sink()));
     let begun = report.ended.is_some();
-    match told(alloc, view, &report, source.bytes(), limits, origin) {
+    match told(alloc, asked.view, &report, source.bytes(), limits, origin) {
         Ok(page) => {
+            if let Some(file) = &asked.same {
+                return compare(rt, file.as_str(), &page, writer);
+            }
             let number = write(writer, &page, report.status.number());
-            if begun && view.is_input() {
+            if begun && asked.view.is_input() {
                 let _ = rt.eprint(report.status.line().as_str());
             }
             number
@@ -103,8 +130,12 @@ fn told<K>(
 {
     let verdict = report.status.line();
     let Some(ended) = &report.ended else {
+        let why = explain(alloc, report, input, origin)?;
+        if place_of(&report.status).is_some() {
+            return Ok(why);
+        }
         let mut page = Vec::from_slice(alloc, verdict.as_str().as_bytes())?;
-        page.extend_from_slice(&explain(alloc, report, input, origin)?)?;
+        page.extend_from_slice(&why)?;
         return Ok(page);
     };
     let mut page = page_of(alloc, view, report, ended, limits, origin.name)?;
@@ -112,6 +143,21 @@ fn told<K>(
         page.extend_from_slice(verdict.as_str().as_bytes())?;
     }
     Ok(page)
+}
+
+/// Writes whether a file has just these bytes, and tells 0 where it has.
+fn compare<R, W>(rt: &R, file: &str, page: &[u8], writer: W) -> u8
+where
+    R: AllocGlobal + Files,
+    W: io::Write + Drop,
+{
+    match fs::open(rt, file) {
+        Ok(file) => match read_all(rt.alloc(), &mut StdSource::new(file)) {
+            Ok(bytes) if bytes.as_slice() == page => write(writer, b"same\n", 0),
+            _ => write(writer, b"differs\n", 1),
+        },
+        Err(_) => write(writer, b"differs\n", 1),
+    }
 }
 
 /// Writes bytes, and tells the status: this number, unless the sink fails.

@@ -65,7 +65,7 @@ const TOLD: &[(&[u8], &[u8])] = &[
     ),
     (
         b"(print true)",
-        b"line 1, column 8:\n    (print true)\n           ^\nthis part has another type than its form wants\nfound: Bool\nwanted: Int\n",
+        b"line 1, column 8:\n    (print true)\n           ^\npart 1 of `print` has another type than the form wants\nfound: Bool\nwanted: Int\n",
     ),
     (
         b"(unprotected (print (call 9 1)))",

@@ -70,7 +70,7 @@ _ame() {
     return
   fi
   if [[ $program == why ]]; then
-    local views='--journal --trace --schedule --counts --store --picture'
+    local views='--journal --trace --schedule --counts --store --steps --picture'
     if [[ " $views " == *" ${words[0]-none} "* ]]; then
       views= words=("${words[@]:1}")
     fi

@@ -6,3 +6,4 @@ pub mod CountLemmas
 pub mod StoredLemmas
 pub mod FragmentLemmas
 pub mod PrintedLemmas
+pub mod StepperLemmas

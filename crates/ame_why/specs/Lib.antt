@@ -13,3 +13,6 @@ pub mod Stored
 pub mod Fragments
 pub mod Heading
 pub mod Waits
+pub mod Marked
+pub mod Stepped
+pub mod Steppers

@@ -21,6 +21,8 @@ pub enum View {
     Store,
     /// The picture of the run.
     Picture,
+    /// The labels of the run, with the terms that they reduce.
+    Steps,
 }
 
 impl View {
@@ -33,6 +35,7 @@ impl View {
             "--counts" => Some(View::Counts),
             "--store" => Some(View::Store),
             "--picture" => Some(View::Picture),
+            "--steps" => Some(View::Steps),
             _ => None,
         }
     }

@@ -17,6 +17,7 @@ Views, one of which may stand anywhere:
   --schedule   the schedule of a run of `sim` or `replay`, and the program
   --counts     what was counted, beside its bounds
   --store      what the locations hold that are left
+  --steps      the labels of the run, with the terms that they reduce
   --picture    the picture of a run of `sim` or `replay`, as SVG
 
 `--same FILE` beside a view tells whether the file has just that; `--then` stands between two calls.

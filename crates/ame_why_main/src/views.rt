@@ -1,6 +1,6 @@
 //! Views of a run.
 
-ghost use Rattle.std.specs.Prelude.{◌≤◌, vec_len};
+ghost use Rattle.std.specs.Prelude.{◌≤◌, length, vec_len};
 ghost use Rattle.ame_lex.specs.Bytes.{max_text};
 
 use crate::asked::View;
@@ -10,18 +10,28 @@ use ame_code::Code;
 use ame_engine::Ended;
 use ame_eval::Fragment;
 use ame_journal::Entry;
+use ame_lex::lex;
+use ame_parse::parse;
 use ame_protocol::Limits;
 use ame_store::Store;
 use ame_term::{Copied, Loc, NoMemory, push};
 use ame_value::Val;
 use ame_why::{
-    Made, counts_of, forms_of, fragments_of, input_of, journal_of, printed_of, store_of, table_of,
+    Made, counts_of, forms_of, fragments_of, input_of, journal_of, printed_of, steps_of, store_of,
+    table_of,
 };
 use std::alloc::Global;
 use std::sync::Arc;
 
 /// What is said of a run that has no schedule.
 const NO_SCHEDULE: &[u8] = b"this run has no schedule; those of `sim` and `replay` have one\n";
+
+/// The most steps that are shown.
+const MOST_STEPS: u64 = 10_000;
+
+/// What is said of a run with more.
+const TOO_MANY: &[u8] =
+    b"further entries aren't shown: with them there are more than 10,000 steps\n";
 
 /// What is asked for of a run.
 pub fn page_of<K>(
@@ -40,6 +50,7 @@ pub fn page_of<K>(
         View::Schedule => schedule_text(alloc, &report.own, &report.text),
         View::Counts => counts_text(alloc, &report.code, ended, &entries, limits),
         View::Store => store_of(alloc, &report.text, ended.store()),
+        View::Steps => steps_text(alloc, &report.text, &entries),
         View::Picture => {
             let lines = lines_told(alloc, &report.code, &entries)?;
             picture_text(alloc, report, &entries, &lines, title)
@@ -75,6 +86,39 @@ fn counts_text(
         Some(fragments) => counts_of(alloc, ended, fragments, limits),
         None => Ok(Vec::new(alloc)),
     }
+}
+
+/// The labels of a run, one after another, as far as they are few enough.
+fn steps_text(alloc: Global, text: &[u8], entries: &[Entry]) -> Result<Vec<u8>, NoMemory>
+    requires small { length text.now ≤ max_text }
+{
+    let Ok(tokens) = lex(alloc, text) else {
+        return Err(NoMemory);
+    };
+    let Ok(program) = parse(alloc, text, &tokens) else {
+        return Err(NoMemory);
+    };
+    let count = shown_entries(entries);
+    let shown = steps_of(alloc, program, &entries[..count])?;
+    let mut page = shown.unwrap_or(Vec::new(alloc));
+    if count < entries.len() {
+        page.extend_from_slice(TOO_MANY)?;
+    }
+    Ok(page)
+}
+
+/// How many entries have few enough steps together.
+fn shown_entries(entries: &[Entry]) -> usize
+    ensures within { result ≤ length entries.now }
+{
+    let mut steps: u64 = 0;
+    for (index, entry) in entries.iter().enumerate() {
+        steps = steps.saturating_add(entry.steps);
+        if steps > MOST_STEPS {
+            return index;
+        }
+    }
+    entries.len()
 }
 
 /// The schedule of a run, the line `program` and the text; where the run has none, why.

@@ -6,6 +6,7 @@ ghost use Rattle.ame_store.specs.Cells.{CanGrow};
 
 use crate::cases::sample::{Kept, Sample};
 use crate::cases::stores::{State, state};
+use Step::*;
 use ame_rows::{Memory, WriteAnswer};
 use ame_store::Store;
 use ame_term::{Loc, NoMemory, Sort, TyNo};
@@ -28,6 +29,14 @@ enum Step {
     Release,
 }
 
+/// A call by a seat, at a location.
+#[derive(Clone, Copy)]
+struct Call {
+    seat: u32,
+    l: Loc,
+    step: Step,
+}
+
 /// What a call told.
 #[derive(Clone, Copy, PartialEq, Eq, Debug)]
 enum Told {
@@ -46,152 +55,62 @@ enum Told {
 /// Calls in a row, each with a seat and a location, what it tells, and the cell there afterwards.
 const STEPS: &[(u32, u32, Step, Told, Option<State>)] = &[
     // Seat 1 reads what seat 0 wrote, and comes too late to write.
-    (0, 0, Step::Born(10), Told::At(0), Some((10, 0, None, true))),
-    (0, 0, Step::Read, Told::Value(10), Some((10, 0, None, true))),
-    (
-        0,
-        0,
-        Step::Write(11),
-        Told::Done,
-        Some((11, 1, Some(0), true)),
-    ),
-    (0, 0, Step::Valid, Told::Valid, Some((11, 1, Some(0), true))),
+    (0, 0, Born(10), Told::At(0), Some((10, 0, None, true))),
+    (0, 0, Read, Told::Value(10), Some((10, 0, None, true))),
+    (0, 0, Write(11), Told::Done, Some((11, 1, Some(0), true))),
+    (0, 0, Valid, Told::Valid, Some((11, 1, Some(0), true))),
+    (1, 0, Read, Told::Value(11), Some((11, 1, Some(0), true))),
     (
         1,
         0,
-        Step::Read,
-        Told::Value(11),
-        Some((11, 1, Some(0), true)),
-    ),
-    (
-        1,
-        0,
-        Step::Valid,
+        Valid,
         Told::Bad(0, 1, 1),
         Some((11, 1, Some(0), true)),
     ),
     (
         1,
         0,
-        Step::Write(12),
+        Write(12),
         Told::Conflict(0, 12),
         Some((11, 1, Some(0), true)),
     ),
-    (
-        0,
-        0,
-        Step::Peek,
-        Told::Value(10),
-        Some((11, 1, Some(0), true)),
-    ),
+    (0, 0, Peek, Told::Value(10), Some((11, 1, Some(0), true))),
     // Seat 0 reads and writes its own cell, and makes one.
-    (
-        0,
-        0,
-        Step::Write(13),
-        Told::Done,
-        Some((13, 1, Some(0), true)),
-    ),
-    (
-        0,
-        0,
-        Step::Read,
-        Told::Value(13),
-        Some((13, 1, Some(0), true)),
-    ),
-    (
-        0,
-        0,
-        Step::Reads,
-        Told::Count(1),
-        Some((13, 1, Some(0), true)),
-    ),
+    (0, 0, Write(13), Told::Done, Some((13, 1, Some(0), true))),
+    (0, 0, Read, Told::Value(13), Some((13, 1, Some(0), true))),
+    (0, 0, Reads, Told::Count(1), Some((13, 1, Some(0), true))),
     (
         0,
         1,
-        Step::Allocate(20),
+        Allocate(20),
         Told::At(1),
         Some((20, 1, Some(0), false)),
     ),
-    (
-        0,
-        1,
-        Step::Peek,
-        Told::NotLive,
-        Some((20, 1, Some(0), false)),
-    ),
-    (
-        0,
-        1,
-        Step::Owned,
-        Told::Count(2),
-        Some((20, 1, Some(0), false)),
-    ),
+    (0, 1, Peek, Told::NotLive, Some((20, 1, Some(0), false))),
+    (0, 1, Owned, Told::Count(2), Some((20, 1, Some(0), false))),
     // Both are rolled back, the last entry first.
-    (
-        0,
-        1,
-        Step::Undo,
-        Told::More(true),
-        Some((20, 2, None, false)),
-    ),
-    (
-        0,
-        0,
-        Step::Undo,
-        Told::More(false),
-        Some((10, 2, None, true)),
-    ),
-    (
-        0,
-        0,
-        Step::Undo,
-        Told::More(false),
-        Some((10, 2, None, true)),
-    ),
-    (
-        1,
-        0,
-        Step::Undo,
-        Told::More(false),
-        Some((10, 2, None, true)),
-    ),
-    (1, 0, Step::Valid, Told::Valid, Some((10, 2, None, true))),
+    (0, 1, Undo, Told::More(true), Some((20, 2, None, false))),
+    (0, 0, Undo, Told::More(false), Some((10, 2, None, true))),
+    (0, 0, Undo, Told::More(false), Some((10, 2, None, true))),
+    (1, 0, Undo, Told::More(false), Some((10, 2, None, true))),
+    (1, 0, Valid, Told::Valid, Some((10, 2, None, true))),
     // Seat 1 reads again, and unprotected code writes there.
-    (1, 0, Step::Read, Told::Value(10), Some((10, 2, None, true))),
+    (1, 0, Read, Told::Value(10), Some((10, 2, None, true))),
     (
         1,
         2,
-        Step::Allocate(30),
+        Allocate(30),
         Told::At(2),
         Some((30, 1, Some(1), false)),
     ),
-    (
-        1,
-        2,
-        Step::Write(31),
-        Told::Done,
-        Some((31, 1, Some(1), false)),
-    ),
-    (
-        0,
-        0,
-        Step::Put(14),
-        Told::Value(10),
-        Some((14, 4, None, true)),
-    ),
-    (
-        1,
-        0,
-        Step::Valid,
-        Told::Bad(0, 2, 4),
-        Some((14, 4, None, true)),
-    ),
-    (1, 2, Step::Release, Told::Done, Some((31, 2, None, true))),
-    (0, 2, Step::Peek, Told::Value(31), Some((31, 2, None, true))),
-    (1, 2, Step::Owned, Told::Count(0), Some((31, 2, None, true))),
-    (2, 0, Step::Read, Told::Unmet, Some((14, 4, None, true))),
-    (0, 3, Step::Read, Told::Unmet, None),
+    (1, 2, Write(31), Told::Done, Some((31, 1, Some(1), false))),
+    (0, 0, Put(14), Told::Value(10), Some((14, 4, None, true))),
+    (1, 0, Valid, Told::Bad(0, 2, 4), Some((14, 4, None, true))),
+    (1, 2, Release, Told::Done, Some((31, 2, None, true))),
+    (0, 2, Peek, Told::Value(31), Some((31, 2, None, true))),
+    (1, 2, Owned, Told::Count(0), Some((31, 2, None, true))),
+    (2, 0, Read, Told::Unmet, Some((14, 4, None, true))),
+    (0, 3, Read, Told::Unmet, None),
 ];
 
 /// Whether each cell's number is far from the last one.
@@ -234,17 +153,18 @@ fn allocate<V: Sample>(
 
 /// A write by a seat.
 fn write<V: Sample>(
+    global: Global,
     memory: &mut Memory<V>,
-    seat: u32,
-    l: Loc,
-    value: V,
-    input: V,
+    call: Call,
+    n: i64,
 ) -> Result<Told, NoMemory>
-    requires seat { seat < length memory.old.rows }
-    requires location { l.0 < length memory.old.cells }
-    requires can_grow { ForSome (slice_get memory.old.cells l.0) CanGrow }
+    requires seat { call.seat < length memory.old.rows }
+    requires location { call.l.0 < length memory.old.cells }
+    requires can_grow { ForSome (slice_get memory.old.cells call.l.0) CanGrow }
 {
-    match memory.write(seat, l, value, input)? {
+    let value = V::of(global, n)?;
+    let input = V::of(global, 0)?;
+    match memory.write(call.seat, call.l, value, input)? {
         WriteAnswer::Done => Ok(Told::Done),
         WriteAnswer::Conflict(owner, back) => Ok(Told::Conflict(owner, back.number())),
     }
@@ -279,37 +199,26 @@ fn can_grow<V>(cells: &Store<V>, l: Loc) -> bool
 }
 
 /// A call at a location, where what it needs holds.
-fn perform_at<V: Sample>(
-    global: Global,
-    memory: &mut Memory<V>,
-    seat: u32,
-    l: Loc,
-    step: Step,
-) -> Result<Told, NoMemory>
-    requires { seat < length memory.old.rows }
+fn make_at<V: Sample>(global: Global, memory: &mut Memory<V>, call: Call) -> Result<Told, NoMemory>
+    requires { call.seat < length memory.old.rows }
 {
-    if !can_grow(memory.cells(), l) {
+    if !can_grow(memory.cells(), call.l) {
         return Ok(Told::Unmet);
     }
-    match step {
-        Step::Read => Ok(Told::Value(memory.read(seat, l)?.number())),
-        Step::Write(n) => write(memory, seat, l, V::of(global, n)?, V::of(global, 0)?),
-        Step::Put(n) => Ok(put(memory, l, V::of(global, n)?)),
+    match call.step {
+        Step::Read => Ok(Told::Value(memory.read(call.seat, call.l)?.number())),
+        Step::Write(n) => write(global, memory, call, n),
+        Step::Put(n) => Ok(put(memory, call.l, V::of(global, n)?)),
         _ => Ok(Told::Unmet),
     }
 }
 
 /// A call of a seat that is there.
-fn perform_by<V: Sample>(
-    global: Global,
-    memory: &mut Memory<V>,
-    seat: u32,
-    l: Loc,
-    step: Step,
-) -> Result<Told, NoMemory>
-    requires { seat < length memory.old.rows }
+fn make_by<V: Sample>(global: Global, memory: &mut Memory<V>, call: Call) -> Result<Told, NoMemory>
+    requires { call.seat < length memory.old.rows }
 {
-    match step {
+    let seat = call.seat;
+    match call.step {
         Step::Valid => match memory.valid(seat) {
             None => Ok(Told::Valid),
             Some(bad) => Ok(Told::Bad(bad.loc.0, bad.read, bad.now)),
@@ -321,26 +230,20 @@ fn perform_by<V: Sample>(
             memory.release_all(seat);
             Ok(Told::Done)
         }
-        _ => perform_at(global, memory, seat, l, step),
+        _ => make_at(global, memory, call),
     }
 }
 
 /// Makes the call, where what it needs holds.
-fn perform<V: Sample>(
-    global: Global,
-    memory: &mut Memory<V>,
-    seat: u32,
-    l: Loc,
-    step: Step,
-) -> Result<Told, NoMemory> {
-    if seat as usize >= memory.seats() {
+fn make<V: Sample>(global: Global, memory: &mut Memory<V>, call: Call) -> Result<Told, NoMemory> {
+    if call.seat as usize >= memory.seats() {
         return Ok(Told::Unmet);
     }
-    match step {
+    match call.step {
         Step::Born(n) => born(memory, V::of(global, n)?),
-        Step::Allocate(n) => allocate(memory, seat, V::of(global, n)?, V::of(global, 0)?),
-        Step::Peek => peek(memory, l),
-        _ => perform_by(global, memory, seat, l, step),
+        Step::Allocate(n) => allocate(memory, call.seat, V::of(global, n)?, V::of(global, 0)?),
+        Step::Peek => peek(memory, call.l),
+        _ => make_by(global, memory, call),
     }
 }
 
@@ -348,7 +251,8 @@ fn perform<V: Sample>(
 fn as_told<V: Sample>(global: Global, memory: &mut Memory<V>) -> Result<usize, NoMemory> {
     for (count, &(seat, l, step, told, after)) in STEPS.iter().enumerate() {
         let l = Loc(l);
-        if perform(global, memory, seat, l, step)? != told || state(memory.cells(), l) != after {
+        let call = Call { seat, l, step };
+        if make(global, memory, call)? != told || state(memory.cells(), l) != after {
             return Ok(count);
         }
     }

@@ -5,6 +5,17 @@ use ame_engine::Stop;
 use ame_turn::Deed::*;
 use std::test::Fail;
 
+/// Member 1 waits for a write of member 2.
+const WOKEN: Row = Row {
+    turns: 13,
+    cells: &[(0, 1, 4)],
+    events: &[
+        Event::Turns(0, &[Began, Allocated, Ended, Began, Read, Noted, WentHome]),
+        Event::Turns(0, &[Began, Wrote, Ended, Began, Read, Ended, Stopped]),
+    ],
+    ..ONE_SEAT
+};
+
 const ROWS: &[Row] = &[
     Row {
         text: "unit",
@@ -24,34 +35,16 @@ const ROWS: &[Row] = &[
     },
     Row {
         text: "(let r (ref p 0) (do (async (do (blockUntil (= (get r) 1)) (print 10))) (async (set r 1))))",
-        events: &[Event::Turns(
-            0,
-            &[
-                Began, Allocated, Ended, Began, Read, Noted, WentHome, Began, Wrote, Ended, Began,
-                Read, Ended, Stopped,
-            ],
-        )],
         output: &[10],
         journal: "ran 0 0 5 0\nstuck 0 1 2\nran 0 2 1\nran 0 1 5\n",
-        turns: 13,
-        cells: &[(0, 1, 4)],
-        ..ONE_SEAT
+        ..WOKEN
     },
     // what was printed before the condition isn't in the output
     Row {
         text: "(let r (ref p 0) (do (async (do (print 5) (blockUntil (= (get r) 1)))) (async (set r 1))))",
-        events: &[Event::Turns(
-            0,
-            &[
-                Began, Allocated, Ended, Began, Read, Noted, WentHome, Began, Wrote, Ended, Began,
-                Read, Ended, Stopped,
-            ],
-        )],
         output: &[5],
         journal: "ran 0 0 5 0\nstuck 0 1 4\nran 0 2 1\nran 0 1 5\n",
-        turns: 13,
-        cells: &[(0, 1, 4)],
-        ..ONE_SEAT
+        ..WOKEN
     },
     // a write to y wakes the two members that read it, and not the third
     Row {

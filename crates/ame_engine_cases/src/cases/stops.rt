@@ -6,7 +6,24 @@ use ame_protocol::Limits;
 use ame_turn::Deed::*;
 use std::test::Fail;
 
-const WRITES: &str = "(let r (ref p 0) (do (async (do (set r 1) (set r 2))) (async (set r 3))))";
+/// Both seats are at work when a stop is kept, and are undone.
+const UNDONE: Row = Row {
+    text: "(let r (ref p 0) (do (async (do (set r 1) (set r 2))) (async (set r 3))))",
+    turns: 6,
+    counts: (0, 0, 2),
+    cells: &[(0, 0, 4)],
+    ..TWO_SEATS
+};
+
+/// A form grows too high behind two slices.
+const TALL: Row = Row {
+    events: &[Event::Turns(0, &[Began, Checked, Checked, GrewTall, WentHome, Stopped])],
+    journal: "tall 0 0 2001\n",
+    stop: Stop::Tall(0),
+    turns: 4,
+    counts: (0, 0, 1),
+    ..ONE_SEAT
+};
 
 const ROWS: &[Row] = &[
     // a loop is cut off, and a note tells how far it had come
@@ -29,7 +46,6 @@ const ROWS: &[Row] = &[
         ..ONE_SEAT
     },
     Row {
-        text: WRITES,
         limits: Limits {
             turns: 6,
             slice: 1000,
@@ -45,31 +61,18 @@ const ROWS: &[Row] = &[
         ],
         journal: "ran 0 0 5 0\ncut 0 1 2\n",
         stop: Stop::Spent,
-        turns: 6,
-        counts: (0, 0, 2),
         tried: &[SECOND_TRIED],
-        cells: &[(0, 0, 4)],
-        ..TWO_SEATS
+        ..UNDONE
     },
     // functions, and pairs, whose values are too high
     Row {
         text: "(app (rec p f (g (Fun a Unit Unit)) Unit (app f (fn a (x Unit) (app g x)))) (fn a (x Unit) x))",
-        events: &[Event::Turns(0, &[Began, Checked, Checked, GrewTall, WentHome, Stopped])],
-        journal: "tall 0 0 2001\n",
-        stop: Stop::Tall(0),
-        turns: 4,
-        counts: (0, 0, 1),
-        ..ONE_SEAT
+        ..TALL
     },
     Row {
         text: "(app (rec p f (g (Fun a Unit Unit)) Unit (let q (pair g 0) (app f (fn a (x Unit) (app (fst q) x))))) \
         (let y (fn a (x Unit) x) (fn a (x Unit) (app y x))))",
-        events: &[Event::Turns(0, &[Began, Checked, Checked, GrewTall, WentHome, Stopped])],
-        journal: "tall 0 0 2001\n",
-        stop: Stop::Tall(0),
-        turns: 4,
-        counts: (0, 0, 1),
-        ..ONE_SEAT
+        ..TALL
     },
     // the same in unprotected code
     Row {
@@ -86,7 +89,6 @@ const ROWS: &[Row] = &[
     },
     // memory is lacking, and what is at work is undone
     Row {
-        text: WRITES,
         events: &[
             Event::Turns(0, &[Began, Allocated, Ended, Began, Wrote]),
             Event::Turns(1, &[Began]),
@@ -96,11 +98,8 @@ const ROWS: &[Row] = &[
         ],
         journal: "ran 0 0 5 0\n",
         stop: Stop::NoMemory,
-        turns: 6,
-        counts: (0, 0, 2),
         tried: &[FIRST_TRIED, SECOND_TRIED],
-        cells: &[(0, 0, 4)],
-        ..TWO_SEATS
+        ..UNDONE
     },
 ];
 

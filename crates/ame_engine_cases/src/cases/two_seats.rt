@@ -20,6 +20,23 @@ const R_CHANGED_BACK: Bad = Bad {
     now: 4,
 };
 
+/// Member 1 waits for what member 2 writes on the other seat.
+const WAITS: Row = Row {
+    text: "(let r (ref p 0) (do (async (do (blockUntil (= (get r) 1)) (print 10))) (async (set r 1))))",
+    output: &[10],
+    turns: 13,
+    cells: &[(0, 1, 4)],
+    ..TWO_SEATS
+};
+
+/// Member 1 read `x` before member 2 wrote both cells, and is tried again.
+const TRIED_AGAIN: Row = Row {
+    counts: (0, 1, 0),
+    tried: &[FIRST_TRIED],
+    cells: &[(0, 1, 4), (1, 1, 4)],
+    ..TWO_SEATS
+};
+
 const ROWS: &[Row] = &[
     // a read that became invalid is found at the commit
     Row {
@@ -38,10 +55,7 @@ const ROWS: &[Row] = &[
         output: &[2],
         journal: "ran 0 0 7 0 1\nran 1 2 3\nran 0 1 4\n",
         turns: 17,
-        counts: (0, 1, 0),
-        tried: &[FIRST_TRIED],
-        cells: &[(0, 1, 4), (1, 1, 4)],
-        ..TWO_SEATS
+        ..TRIED_AGAIN
     },
     // and by a check
     Row {
@@ -65,10 +79,7 @@ const ROWS: &[Row] = &[
         output: &[2],
         journal: "ran 0 0 7 0 1\nran 1 2 3\nran 0 1 6\n",
         turns: 20,
-        counts: (0, 1, 0),
-        tried: &[FIRST_TRIED],
-        cells: &[(0, 1, 4), (1, 1, 4)],
-        ..TWO_SEATS
+        ..TRIED_AGAIN
     },
     // what a member wrote before its condition is read by another seat, and not committed
     Row {
@@ -132,14 +143,10 @@ const ROWS: &[Row] = &[
         ],
         journal: "ran 0 0 7 0 1\nran 1 2 3\nran 0 1 6\n",
         turns: 17,
-        counts: (0, 1, 0),
-        tried: &[FIRST_TRIED],
-        cells: &[(0, 1, 4), (1, 1, 4)],
-        ..TWO_SEATS
+        ..TRIED_AGAIN
     },
     // a member that is noted, but not home yet, isn't parked where somebody commits what it read
     Row {
-        text: "(let r (ref p 0) (do (async (do (blockUntil (= (get r) 1)) (print 10))) (async (set r 1))))",
         events: &[
             Event::Turns(0, &[Began, Allocated, Ended, Began, Read]),
             Event::Turns(1, &[Began]),
@@ -147,28 +154,21 @@ const ROWS: &[Row] = &[
             Event::Turns(1, &[Wrote, Ended, Waited]),
             Event::Turns(0, &[WentHome, Began, Read, Ended, Stopped]),
         ],
-        output: &[10],
         journal: "ran 0 0 5 0\nstuck 0 1 2\nran 1 2 1\nran 0 1 5\n",
-        turns: 13,
-        cells: &[(0, 1, 4)],
-        ..TWO_SEATS
+        ..WAITS
     },
     // a condition that is false by an invalid read is no note
     Row {
-        text: "(let r (ref p 0) (do (async (do (blockUntil (= (get r) 1)) (print 10))) (async (set r 1))))",
         events: &[
             Event::Turns(0, &[Began, Allocated, Ended, Began, Read]),
             Event::Turns(1, &[Began, Wrote, Ended]),
             Event::Turns(0, &[NotNoted(X_CHANGED), WentHome]),
             Event::Turns(0, &[Began, Read, Ended, Stopped]),
         ],
-        output: &[10],
         journal: "ran 0 0 5 0\nran 1 2 1\nran 0 1 5\n",
-        turns: 13,
         counts: (0, 1, 0),
         tried: &[FIRST_TRIED],
-        cells: &[(0, 1, 4)],
-        ..TWO_SEATS
+        ..WAITS
     },
     // a member that was rolled back eight times begins alone
     Row {

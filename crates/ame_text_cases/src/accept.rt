@@ -1,15 +1,15 @@
 //! The generated program, read from its text and accepted.
 
 ghost use Rattle.std.specs.Prelude.{◌≡◌, ◌≤◌, Ok, IsOk, IfOk, length, map};
-ghost use Rattle.ame_lex.specs.Bytes.{max_text};
-ghost use Rattle.ame_term.specs.Tree.{Typ};
-ghost use Rattle.ame_term.specs.View.{tree_of};
-ghost use Rattle.ame_term.specs.Typing.{typing};
-ghost use Rattle.ame_types.specs.Limits.{max_devices};
-ghost use Rattle.ame_parse.specs.Text.{reading, source_of};
 ghost use Rattle.ame_gen.specs.declared.numbers.TheConstants.{SEED_LIMIT};
 ghost use Rattle.ame_gen.specs.declared.text.TheConstants.{SIZE_LIMIT};
+ghost use Rattle.ame_lex.specs.Bytes.{max_text};
+ghost use Rattle.ame_parse.specs.Text.{reading, source_of};
+ghost use Rattle.ame_term.specs.Tree.{Typ};
+ghost use Rattle.ame_term.specs.Typing.{typing};
+ghost use Rattle.ame_term.specs.View.{tree_of};
 ghost use Rattle.ame_text_cases.specs.Workload.{workload_names, workload_term};
+ghost use Rattle.ame_types.specs.Limits.{max_devices};
 
 use crate::laws::{text_is_accepted, text_is_read};
 use ame_gen::generate;

@@ -1,13 +1,13 @@
 //! What holds of the generated program and its text. Each is a fact for proofs, and does nothing.
 
 ghost use Rattle.std.specs.Prelude.{◌≡◌, ◌≤◌, ℕ, List, Ok, length};
-ghost use Rattle.ame_lex.specs.Bytes.{max_text};
-ghost use Rattle.ame_term.specs.Tree.{Typ};
-ghost use Rattle.ame_term.specs.Typing.{typing};
-ghost use Rattle.ame_parse.specs.Text.{Source, reading};
-ghost use Rattle.ame_print.specs.Again.{ReadsAs, source_text};
 ghost use Rattle.ame_gen.specs.Template.{program_text};
 ghost use Rattle.ame_gen.specs.declared.text.TheConstants.{SIZE_LIMIT};
+ghost use Rattle.ame_lex.specs.Bytes.{max_text};
+ghost use Rattle.ame_parse.specs.Text.{Source, reading};
+ghost use Rattle.ame_print.specs.Again.{ReadsAs, source_text};
+ghost use Rattle.ame_term.specs.Tree.{Typ};
+ghost use Rattle.ame_term.specs.Typing.{typing};
 ghost use Rattle.ame_text_cases.specs.SameTokens.{HaveSameTokens};
 ghost use Rattle.ame_text_cases.specs.Workload.{workload, workload_term};
 

@@ -2,13 +2,13 @@
 
 ghost use Rattle.std.specs.Prelude.{◌≡◌, IfOk, IfErr, vec_len};
 ghost use Rattle.std.specs.Arc.{arc_value};
+ghost use Rattle.ame_app.specs.Headline.{limits_of};
+ghost use Rattle.ame_app.specs.Verbs.Run.{TakesAll, HasNothing};
 ghost use Rattle.ame_cli.specs.Ranges.{AreInRange};
 ghost use Rattle.ame_code.specs.Code.{program_of};
 ghost use Rattle.ame_eval.specs.Values.{value_meant};
 ghost use Rattle.ame_shell.specs.Ends.{ends_of};
 ghost use Rattle.ame_shell.specs.Over.{IsOver};
-ghost use Rattle.ame_app.specs.Headline.{limits_of};
-ghost use Rattle.ame_app.specs.Verbs.Run.{TakesAll, HasNothing};
 
 use crate::parts::{Front, Own};
 use crate::verbs::{Made, Taken};

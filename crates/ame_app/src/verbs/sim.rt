@@ -4,18 +4,18 @@ ghost use Rattle.std.specs.Prelude.{◌≡◌, ◌≤◌, ◌<◌, All, IfOk, If
 ghost use Rattle.std.specs.Arc.{arc_value};
 ghost use Rattle.std.specs.Io.KnownBytes.{Appends};
 ghost use Rattle.ame_cli.specs.Ranges.{AreInRange};
-ghost use Rattle.ame_io.specs.Counts.{HasRisen};
-ghost use Rattle.ame_io.specs.Writes.{AppendsFront};
 ghost use Rattle.ame_code.specs.Code.{program_of};
 ghost use Rattle.ame_eval.specs.Values.{value_meant};
+ghost use Rattle.ame_io.specs.Counts.{HasRisen};
+ghost use Rattle.ame_io.specs.Writes.{AppendsFront};
+ghost use Rattle.ame_app.specs.Verbs.Sim.{IsPicked, mades_in, seats_picked, schedule_behind};
+ghost use Rattle.ame_app.specs.declared.parts.Own.{Own as Owned};
+ghost use Rattle.ame_app.specs.Headline.{limits_of};
 ghost use Rattle.ame_shell.specs.Ends.{ends_of};
 ghost use Rattle.ame_shell.specs.Over.{IsOver};
 ghost use Rattle.ame_sim.specs.Picks.{picks_of};
 ghost use Rattle.ame_sim.specs.Questions.{seats_of};
 ghost use Rattle.ame_sim.specs.Schedule.{schedule_line, signs};
-ghost use Rattle.ame_app.specs.Headline.{limits_of};
-ghost use Rattle.ame_app.specs.Verbs.Sim.{IsPicked, mades_in, seats_picked, schedule_behind};
-ghost use Rattle.ame_app.specs.declared.parts.Own.{Own as Owned};
 
 use crate::lists::Mades;
 use crate::parts::Own;

@@ -30,7 +30,7 @@ use Rattle.ame_app.specs.declared.status.Status.{Status}
 use Rattle.ame_app.specs.Headline.{limits_of}
 use Rattle.ame_app.specs.Jobs.{fragments, IsOpened}
 use Rattle.ame_app.specs.Verbs.Check.{entries_before}
-use Rattle.ame_app.specs.Verbs.Resume.{IsTooTall, TellsOfBase, BeginsFromActs}
+use Rattle.ame_app.specs.Verbs.Resume.{IsTallJournal, TellsOfBase, BeginsFromActs}
 use Rattle.ame_app.proofs.JudgedLemmas.{invalid-one, invalid-leads, long-one, long-short, one-number}
 
 -- The acts of a journal
@@ -105,7 +105,7 @@ module _ (program : Tree) (entries : List Entry) where
   high-one : (m n : ℕ) → IsTooHighAt program entries m → IsTooHighAt program entries n → m ≡ n
   high-one m n one two = one-number m n (λ below. two.first m below one.passes) (λ above. one.first n above two.passes)
 
-  tall-one : (ahead more : List ℕ) (own also : Own) (m n : ℕ) → IsTooTall program entries ahead own m → IsTooTall program entries more also n → m ≡ n
+  tall-one : (ahead more : List ℕ) (own also : Own) (m n : ℕ) → IsTallJournal program entries ahead own m → IsTallJournal program entries more also n → m ≡ n
   tall-one ahead more own also m n one two =
       one.count ∙ ap (λ (k : ℕ). length (without_notes (take k entries))) (high-one one.place two.place one.tall.there two.tall.there) ∙ sym two.count
 

@@ -51,7 +51,7 @@ entries_before (Front.Journal journal) = journal.entries
 entries_before _ = []
 
 -- n is the number of entries, which lead to a state, and the lines of its output stand ahead
-pub record IsValid (program : Tree) (entries : List Entry) (ahead : List ℕ) (own : Own) (n : ℕ) : Type 0 where
+pub record IsValidJournal (program : Tree) (entries : List Entry) (ahead : List ℕ) (own : Own) (n : ℕ) : Type 0 where
   pub output : List ℤ
   pub leads : LeadsTo program entries output
   pub count : n ≡ length entries
@@ -73,7 +73,7 @@ pub record IsTooMuch (entries : List Entry) (ahead : List ℕ) (own : Own) (n : 
 
 -- what is told of a journal of a program, a row a status
 abbrev pub TellsOfJournal : Tree → List Entry → List ℕ → Own → Status → Type 0
-TellsOfJournal program entries ahead own (Status.Valid n) = IsValid program entries ahead own n
+TellsOfJournal program entries ahead own (Status.Valid n) = IsValidJournal program entries ahead own n
 TellsOfJournal program entries ahead own (Status.Invalid n) = IsUnmade program entries ahead own n
 TellsOfJournal program entries ahead own (Status.LongJournal n) = IsTooMuch entries ahead own n
 TellsOfJournal program entries ahead own _ = ⊥

@@ -23,7 +23,7 @@ pub record IsTooFar (program : Tree) (entries : List Entry) (ahead : List ℕ) (
   pub own_is : own ≡ Own.Nothing
 
 -- an entry that is no note, the n-th of those, passes a form that would become a value that is too high
-pub record IsTooTall (program : Tree) (entries : List Entry) (ahead : List ℕ) (own : Own) (n : ℕ) : Type 0 where
+pub record IsTallJournal (program : Tree) (entries : List Entry) (ahead : List ℕ) (own : Own) (n : ℕ) : Type 0 where
   pub place : ℕ
   pub tall : IsTallAt program entries place
   pub act : is_note tall.there.passes.entry.kind ≡ false
@@ -36,7 +36,7 @@ abbrev pub TellsOfBase : Tree → List Entry → List ℕ → Own → Status →
 TellsOfBase program entries ahead own (Status.Invalid n) = IsUnmade program entries ahead own n
 TellsOfBase program entries ahead own (Status.LongJournal n) = IsTooMuch entries ahead own n
 TellsOfBase program entries ahead own (Status.FarJournal n) = IsTooFar program entries ahead own n
-TellsOfBase program entries ahead own (Status.TallJournal n) = IsTooTall program entries ahead own n
+TellsOfBase program entries ahead own (Status.TallJournal n) = IsTallJournal program entries ahead own n
 TellsOfBase program entries ahead own _ = ⊥
 
 -- What is run

@@ -22,9 +22,9 @@ has_function (FlatValue.Pair first second height) = has_function first || has_fu
 has_function _ = false
 
 -- no value where a function is in it, and else the one for which it stands, whatever the program is
-abbrev pub IsPlain : FlatValue → Option Value → Type 0
-IsPlain v None = has_function v ≡ true
-IsPlain v (Some value) = (has_function v ≡ false) × (val_of value ≡ meant [] v)
+abbrev pub IsFirstOrder : FlatValue → Option Value → Type 0
+IsFirstOrder v None = has_function v ≡ true
+IsFirstOrder v (Some value) = (has_function v ≡ false) × (val_of value ≡ meant [] v)
 
 -- the value's canonical text, unless a function is in it
 unfoldable pub held_words : FlatValue → List ℕ

@@ -65,13 +65,13 @@ unfoldable pub deed : Entry → Option EntryKind → List ℤ → List ℕ
 deed entry next printed = codes " " ++ kind_words entry.kind next ++ left_words entry printed ++ codes "\n"
 
 -- the row of entry n
-unfoldable pub row : ℕ → Entry → Option EntryKind → List ℤ → List ℕ
-row n entry next printed = counts n entry ++ deed entry next printed
+unfoldable pub entry_row : ℕ → Entry → Option EntryKind → List ℤ → List ℕ
+entry_row n entry next printed = counts n entry ++ deed entry next printed
 
 -- the rows of entries, the first of which is entry n, where it is told what each entry printed
 unfoldable pub rows : ℕ → List Entry → (ℕ → List ℤ) → List ℕ
 rows n [] told = []
-rows n (entry ∷ entries) told = row n entry (kind_of_next entry.number entries) (told n) ++ rows (n + 1) entries told
+rows n (entry ∷ entries) told = entry_row n entry (kind_of_next entry.number entries) (told n) ++ rows (n + 1) entries told
 
 -- the lines of entry n, counted from 1; none where there are fewer
 abbrev pub lines_at : List (List ℤ) → ℕ → List ℤ

@@ -11,7 +11,7 @@ use ame_term::{Loc, NoMemory};
 use itoa::Buffer;
 
 /// Adds the row of an entry with this number, where its member's next entry is of this kind and these lines were printed.
-#[tactic(auto, unfolding(crate::specs::Table::row))]
+#[tactic(auto, unfolding(crate::specs::Table::entry_row))]
 pub(crate) fn append_row(
     page: &mut Vec<u8>,
     number: u64,
@@ -19,7 +19,7 @@ pub(crate) fn append_row(
     next: Option<EntryKind>,
     printed: &[i64],
 ) -> Result<(), NoMemory>
-    ensures { OnOk result (page.new.items ≡ page.old.items ++ spec.row number entry.now next printed.now) }
+    ensures { OnOk result (page.new.items ≡ page.old.items ++ spec.entry_row number entry.now next printed.now) }
 {
     append_counts(page, number, entry)?;
     append_deed(page, entry, next, printed)

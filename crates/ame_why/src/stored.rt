@@ -6,7 +6,7 @@ ghost use Rattle.ame_lex.specs.Reading.{tokens_of};
 ghost use Rattle.ame_value.specs.View.{flat_value};
 ghost use Rattle.ame_why.specs.Forms.{position_words, positions, tokens_or_none};
 ghost use Rattle.ame_why.specs.Stored as spec;
-ghost use Rattle.ame_why.specs.Stored.{IsPlain, held_words, origin_words, padded, stored_row, stored_rows};
+ghost use Rattle.ame_why.specs.Stored.{IsFirstOrder, held_words, origin_words, padded, stored_row, stored_rows};
 
 use crate::Position;
 use crate::forms::{append_position, position_at, positions, tokens_in};
@@ -116,7 +116,7 @@ fn held_text(alloc: Global, value: &Val) -> Result<Vec<u8>, NoMemory>
 
 /// The value for which one of a run stands, unless a function is in it.
 fn plain(alloc: Global, value: &Val) -> Result<Option<Value>, NoMemory>
-    ensures { IfOk result (IsPlain (flat_value value.now)) }
+    ensures { IfOk result (IsFirstOrder (flat_value value.now)) }
 {
     match value {
         Val::Unit => Ok(Some(Value::Unit)),

@@ -1,5 +1,5 @@
 use Rattle.std.proofs.Common.{◌≡◌, ◌+◌, ◌-◌, ◌++◌, [], length, map, get_or, None, ap, ◌∙◌, arith}
-use Rattle.ame_why.specs.Table.{row, lines_at}
+use Rattle.ame_why.specs.Table.{entry_row, lines_at}
 use Rattle.ame_why.proofs.NextLemmas.{nexts_at, length-nexts}
 use Rattle.ame_why.proofs.RowLemmas.{rows_go_on}
 use Rattle.ame_why.proofs.table.append_rows.Goals as goal
@@ -22,4 +22,4 @@ loop-index-preserved c =
     rows_go_on (lines_at lines) _ page _ entries i entry next printed c.loop-index-test.true c.loop-index.invariant
     (ap (λ told. get_or told i None) c.requires ∙ nexts_at entries i entry None c.loop-index-test.true)
     (c.line_at.ensures ∙ ap (λ k. get_or lines k []) same)
-    (c.in_ok-append_row.ensures ∙ ap (λ e. page ++ row (i + 1) e next printed) c.index-entries-index.is)
+    (c.in_ok-append_row.ensures ∙ ap (λ e. page ++ entry_row (i + 1) e next printed) c.index-entries-index.is)

@@ -75,39 +75,46 @@ fn append_reason(message: &mut Vec<u8>, row: &[u8], why: &Reason) -> Result<(), 
             message,
             b"the last step calls no device, so there is no answer",
         ),
-        Reason::Unanswered(steps) => {
-            append_after(message, row, *steps)?;
-            append(
-                message,
-                b"the member calls a device, and the line tells no answer",
-            )
-        }
-        Reason::Missing(steps) => {
-            append_after(message, row, *steps)?;
-            append(
-                message,
-                b"the member makes a location, and the line tells no further one",
-            )
-        }
-        Reason::Taken(steps, _) => {
-            append_after(message, row, *steps)?;
-            append(
-                message,
-                b"the member makes a location, and this one has a value already",
-            )
-        }
-        Reason::Unused(steps, _) => {
-            append_after(message, row, *steps)?;
-            append(
-                message,
-                b"the member makes no further location, and this one is left",
-            )
-        }
+        Reason::Unanswered(steps) => append_behind(
+            message,
+            row,
+            *steps,
+            b"the member calls a device, and the line tells no answer",
+        ),
+        Reason::Missing(steps) => append_behind(
+            message,
+            row,
+            *steps,
+            b"the member makes a location, and the line tells no further one",
+        ),
+        Reason::Taken(steps, _) => append_behind(
+            message,
+            row,
+            *steps,
+            b"the member makes a location, and this one has a value already",
+        ),
+        Reason::Unused(steps, _) => append_behind(
+            message,
+            row,
+            *steps,
+            b"the member makes no further location, and this one is left",
+        ),
         Reason::Stops(steps, want) => {
             append_after(message, row, *steps)?;
             append_want(message, *want)
         }
     }
+}
+
+/// Adds what is so after so many steps of those that a line tells.
+fn append_behind(
+    message: &mut Vec<u8>,
+    row: &[u8],
+    steps: u64,
+    told: &[u8],
+) -> Result<(), NoMemory> {
+    append_after(message, row, steps)?;
+    append(message, told)
 }
 
 /// Adds after how many steps of those that a line tells.

@@ -5,6 +5,7 @@ ghost use Rattle.ame_machine_cases.specs.Alone.{IsAlone};
 
 use crate::lone::Lone;
 use crate::texts::{code_of, run, serve};
+use Call::{Checked, Feed, Member, Run, Settle};
 use ame_code::Code;
 use ame_machine::Runner;
 use std::alloc::{AllocError, Global};
@@ -95,72 +96,45 @@ const FUNCTION: &[u8] =
 
 const ROWS: &[Row] = &[
     Row(SUMS, &[], "None false 0 0 [] 0 []"),
-    Row(SUMS, &[Call::Run(1)], "Some(OutOfFuel) false 1 1 [] 0 []"),
+    Row(SUMS, &[Run(1)], "Some(OutOfFuel) false 1 1 [] 0 []"),
     Row(
         SUMS,
-        &[Call::Run(1), Call::Checked, Call::Run(9)],
+        &[Run(1), Checked, Run(9)],
         "Some(Done) false 3 2 [6] 0 []",
     ),
-    Row(
-        SUMS,
-        &[Call::Run(9), Call::Settle],
-        "None false 0 0 [] 0 []",
-    ),
-    Row(MEMBERS, &[Call::Run(99)], "Some(Done) false 5 5 [1] 2 []"),
+    Row(SUMS, &[Run(9), Settle], "None false 0 0 [] 0 []"),
+    Row(MEMBERS, &[Run(99)], "Some(Done) false 5 5 [1] 2 []"),
+    Row(MEMBERS, &[Run(99), Member], "None false 0 0 [] 0 []"),
     Row(
         MEMBERS,
-        &[Call::Run(99), Call::Member],
-        "None false 0 0 [] 0 []",
-    ),
-    Row(
-        MEMBERS,
-        &[Call::Run(99), Call::Member, Call::Run(99)],
+        &[Run(99), Member, Run(99)],
         "Some(Done) false 1 1 [2] 0 []",
     ),
+    Row(CELL, &[Run(99), Feed], "None false 1 1 [] 0 [Loc(0)]"),
     Row(
         CELL,
-        &[Call::Run(99), Call::Feed],
-        "None false 1 1 [] 0 [Loc(0)]",
-    ),
-    Row(
-        CELL,
-        &[
-            Call::Run(99),
-            Call::Feed,
-            Call::Run(99),
-            Call::Member,
-            Call::Run(99),
-            Call::Feed,
-            Call::Run(99),
-        ],
+        &[Run(99), Feed, Run(99), Member, Run(99), Feed, Run(99)],
         "Some(Done) false 3 3 [7] 0 []",
     ),
-    Row(INSIDE, &[Call::Run(99)], "Some(Leave) false 2 2 [1] 0 []"),
+    Row(INSIDE, &[Run(99)], "Some(Leave) false 2 2 [1] 0 []"),
     Row(
         INSIDE,
-        &[Call::Run(99), Call::Settle, Call::Run(99)],
+        &[Run(99), Settle, Run(99)],
         "Some(Spawn) true 0 0 [] 0 []",
     ),
     Row(
         INSIDE,
-        &[
-            Call::Run(99),
-            Call::Settle,
-            Call::Run(99),
-            Call::Feed,
-            Call::Run(99),
-            Call::Feed,
-        ],
+        &[Run(99), Settle, Run(99), Feed, Run(99), Feed],
         "None false 2 2 [] 1 []",
     ),
     Row(
         FUNCTION,
-        &[Call::Run(5), Call::Copy],
+        &[Run(5), Call::Copy],
         "Some(OutOfFuel) false 5 5 [1] 1 []",
     ),
     Row(
         FUNCTION,
-        &[Call::Run(5), Call::Copy, Call::Run(99)],
+        &[Run(5), Call::Copy, Run(99)],
         "Some(Done) false 9 9 [1, 9] 1 []",
     ),
 ];

@@ -4,7 +4,7 @@ use Rattle.ame_cli.specs.declared.bounds.Bounds.{Bounds}
 use Rattle.ame_cli.specs.declared.item.Item.TheVariants.{Workers, Turns, Slice}
 use Rattle.ame_cli.specs.declared.command.Options.{Options}
 use Rattle.ame_cli.specs.declared.command.Command.{Command}
-use Rattle.ame_cli.specs.declared.command.Command.TheVariants.{Run, Bench, Sim, Replay, Check, Resume}
+use Rattle.ame_cli.specs.declared.command.Command.TheVariants.{Run, Bench, Sim, Replay, Check, Resume, Weak}
 use Rattle.ame_cli.specs.Items.{bounds_of}
 use Rattle.ame_cli.specs.Verbs.{seeds, sizes}
 
@@ -26,3 +26,4 @@ IsInRange (Sim seed options) = IsInBounds seeds seed × AreInRange options
 IsInRange (Replay options) = AreInRange options
 IsInRange Check = ⊤
 IsInRange (Resume options) = AreInRange options
+IsInRange (Weak seed turns) = IsInBounds seeds seed × IsInBounds (bounds_of Turns) turns

@@ -5,7 +5,7 @@ use Rattle.ame_cli.specs.declared.bounds.Bounds.{Bounds}
 use Rattle.ame_cli.specs.declared.item.Item.{Item}
 use Rattle.ame_cli.specs.declared.item.Item.TheVariants.{Workers, Turns, Slice}
 use Rattle.ame_cli.specs.declared.verb.Verb.{Verb}
-use Rattle.ame_cli.specs.declared.verb.Verb.TheVariants.{Run, Bench, Sim, Replay, Check, Resume}
+use Rattle.ame_cli.specs.declared.verb.Verb.TheVariants.{Run, Bench, Sim, Replay, Check, Resume, Weak}
 use Rattle.ame_cli.specs.declared.command.Options.{Options}
 use Rattle.ame_cli.specs.declared.command.Command.{Command}
 use Rattle.ame_cli.specs.declared.command.Command.TheVariants as command
@@ -38,6 +38,7 @@ verb_form Sim = record { word = codes "sim"; numbers = seeds ∷ []; items = all
 verb_form Replay = record { word = codes "replay"; numbers = []; items = all_items }
 verb_form Check = record { word = codes "check"; numbers = []; items = [] }
 verb_form Resume = record { word = codes "resume"; numbers = []; items = all_items }
+verb_form Weak = record { word = codes "weak"; numbers = seeds ∷ []; items = Turns ∷ [] }
 
 -- what a verb makes of its numbers and of the options
 abbrev pub command_with : Verb → List ℕ → Options → Command
@@ -47,10 +48,11 @@ command_with Sim numbers options = command.Sim (slice_index numbers 0) options
 command_with Replay numbers options = command.Replay options
 command_with Check numbers options = command.Check
 command_with Resume numbers options = command.Resume options
+command_with Weak numbers options = command.Weak (slice_index numbers 0) options.turns
 
 -- all verbs
 unfoldable pub verbs : List Verb
-verbs = Run ∷ Bench ∷ Sim ∷ Replay ∷ Check ∷ Resume ∷ []
+verbs = Run ∷ Bench ∷ Sim ∷ Replay ∷ Check ∷ Resume ∷ Weak ∷ []
 
 -- the word of a verb
 abbrev pub verb_word : Verb → Word

@@ -42,6 +42,8 @@ pub enum Command {
     Check,
     /// Goes on from the journal on the standard input with the program behind it.
     Resume(Options),
+    /// Runs the program on the standard input under the weak semantics by the choices of a seed, with a limit of turns.
+    Weak(u32, u32),
 }
 
 /// Why words gave no command.

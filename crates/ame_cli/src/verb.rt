@@ -15,6 +15,7 @@ pub enum Verb {
     Replay,
     Check,
     Resume,
+    Weak,
 }
 
 /// A verb's word, the bounds of its number words in their order, and the options that it may be given.
@@ -51,6 +52,7 @@ impl Verb {
             Verb::Replay,
             Verb::Check,
             Verb::Resume,
+            Verb::Weak,
         ]
     }
 
@@ -91,6 +93,11 @@ impl Verb {
                 numbers: &[],
                 items: ALL_ITEMS,
             },
+            Verb::Weak => Form {
+                word: "weak",
+                numbers: &[SEEDS],
+                items: &[Item::Turns],
+            },
         }
     }
 
@@ -106,6 +113,7 @@ impl Verb {
             Verb::Replay => Command::Replay(options),
             Verb::Check => Command::Check,
             Verb::Resume => Command::Resume(options),
+            Verb::Weak => Command::Weak(numbers[0], options.turns),
         }
     }
 

@@ -11,3 +11,4 @@ pub mod ChooseLemmas
 pub mod TotalLemmas
 pub mod CutLemmas
 pub mod EndLemmas
+pub mod ApartLemmas

@@ -1,14 +1,13 @@
 -- The turns of a run, and the steps of its journal.
-use Rattle.std.proofs.Common.{◌≡◌, ℕ, ◌+◌, ◌*◌, ◌≤◌, ◌++◌, Bool, true, false, not, List, [], ◌∷◌, length, map, cond, Option, Some, None, is_none, option_map, option_and_then, if◌then◌else◌, refl, sym, ap, ◌∙◌, subst, arith}
-use Rattle.std.specs.Prelude.{◌&&◌, ◌==◌}
-use Rattle.std.specs.List.{list_any, sum_by}
+use Rattle.std.proofs.Common.{◌≡◌, ℕ, ◌+◌, ◌*◌, ◌≤◌, ◌++◌, Bool, true, false, not, List, [], ◌∷◌, length, map, cond, Option, Some, None, is_none, option_map, refl, sym, ap, ◌∙◌, arith}
+use Rattle.std.specs.Prelude.{◌&&◌}
 use Rattle.std.proofs.lemmas.Option.{option_and_then_some}
 use Rattle.std.proofs.lemmas.List.Sums.{sum_by-cons, sum_by-append}
 use Rattle.ame_term.specs.Tree.{Tree, unit_tree}
 use Rattle.ame_term.specs.Context.{focus, fill}
 use Rattle.ame_term.specs.Frame.{Side}
 use Rattle.ame_term.specs.Act.{Act, act_of, device_answer}
-use Rattle.ame_term.specs.Maps.{at, change}
+use Rattle.ame_term.specs.Maps.{change}
 use Rattle.ame_term.specs.State.{State, after, performed, reduce, closed, closed_value, activated}
 use Rattle.ame_term.specs.Tree.{Val}
 use Rattle.ame_term.specs.declared.semantics.StepKind.{StepKind}
@@ -51,17 +50,17 @@ held-active kind (Act.Calls device n) w made e = plain-active kind (Act.Calls de
 held-active kind (Act.Closes v) w made e = plain-active kind (Act.Closes v) w made e
 held-active kind Act.Stuck w made e = plain-active kind Act.Stuck w made e
 
-step-stays : (kind : StepKind) (i : ℕ) (w v : Weak) → held_step kind i w ≡ Some v → v.state.active ≡ w.state.active
+pub step-stays : (kind : StepKind) (i : ℕ) (w v : Weak) → held_step kind i w ≡ Some v → v.state.active ≡ w.state.active
 step-stays kind i w v e =
     let x = held-reduced kind i w v e in
     sym (ap (λ (z : Weak). z.state.active) x.is) ∙ held-active kind (act_of x.redex) w x.made x.performs
 
-free-stays : (kind : StepKind) (i : ℕ) (s t : State) → reduce Side.Unprotected kind i s ≡ Some t → t.active ≡ s.active
+pub free-stays : (kind : StepKind) (i : ℕ) (s t : State) → reduce Side.Unprotected kind i s ≡ Some t → t.active ≡ s.active
 free-stays kind i s t e =
     let x = reduced Side.Unprotected kind i s t e in
     sym (ap (λ (z : State). z.active) x.is) ∙ (performed-keeps kind x.act s x.result x.made).keeps.active
 
-close-stays : (i : ℕ) (s t : State) → closed i s ≡ Some t → t.active ≡ s.active
+pub close-stays : (i : ℕ) (s t : State) → closed i s ≡ Some t → t.active ≡ s.active
 close-stays i s t e =
     option_and_then_some _ _ _ e (λ term found e1.
     let m = map-gave (λ (v : Val). record s { members = change s.members i (fill term (Tree.Held v)) }) (closed_value (focus term)) t e1 in

@@ -8,3 +8,4 @@ pub mod Run
 pub mod Freeing
 pub mod Stop
 pub mod Ended
+pub mod Apart

@@ -20,5 +20,5 @@ pub use notes::Notes;
 pub use play::Play;
 pub use running::weak_run;
 pub use stop::{WeakRun, WeakStop};
-pub use theorems::{tried_fragments_hold, turns_are_told};
+pub use theorems::{notes_stand_apart, tried_fragments_hold, turns_are_told};
 pub use trial::{Outcome, TriedOut, note_of, try_member};

@@ -7,8 +7,10 @@ ghost use Rattle.ame_term.specs.declared.semantics.Label.{Label};
 ghost use Rattle.ame_journal.specs.Totals.{total_steps};
 ghost use Rattle.ame_weak.specs.Weak.{Weak, IsWeakRun};
 ghost use Rattle.ame_weak.specs.Straight.{outset};
-ghost use Rattle.ame_weak.specs.Tries.{HoldsIn, AreTriesInOrder, straight_with};
+ghost use Rattle.ame_weak.specs.Tries.{HoldsIn, AreTried, AreTriesInOrder, straight_with};
 ghost use Rattle.ame_weak.specs.declared.tries.Try.{Try};
+ghost use Rattle.ame_runner.specs.Apart.{AreNotedApart};
+ghost use Rattle.ame_runner.specs.Notes.{AreSpaced};
 ghost use Rattle.ame_runner.specs.Run.{turns_of_tries};
 ghost use Rattle.ame_runner.specs.Trial.{IsTriedOut, IsTryOf};
 ghost use Rattle.ame_runner.specs.declared.trial.TriedOut.{TriedOut};
@@ -27,4 +29,11 @@ pub fn tried_fragments_hold(accepted: &Accepted)
 pub fn turns_are_told()
     ensures { (program : Tree) (labels : List Label) (tries : List Try) (w : Weak) → IsWeakRun program labels w → w.state.active ≡ None
         → AreTriesInOrder 0 (length labels) tries → length labels + turns_of_tries tries ≤ 3 * total_steps (straight_with 0 tries outset labels) }
+{}
+
+/// In the journal of a weak run, between two notes of one member which tell that it came to a condition that is false, a fragment left or ended, or
+/// unprotected code made a location.
+pub fn notes_stand_apart()
+    ensures { (program : Tree) (labels : List Label) (tries : List Try) (w : Weak) → IsWeakRun program labels w → AreTriesInOrder 0 (length labels) tries
+        → AreTried program labels tries → AreSpaced labels tries → AreNotedApart (straight_with 0 tries outset labels) }
 {}

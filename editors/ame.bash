@@ -24,7 +24,7 @@ _ame_offer_files() {
   mapfile -t COMPREPLY < <(compgen -d -X "$hidden" -- "$cur"; compgen -f -X '!*.ame' -- "$cur"; compgen -W "$*" -- "$cur")
 }
 
-# What may follow a command word: options that aren't given yet, and the numbers of `bench` and `sim`.
+# What may follow a command word: options that aren't given yet, and the numbers of `bench`, `sim` and `weak`.
 _ame_offer_parts() {
   local option given offered=() numbers=0
   for given in "${words[@]:1}"; do
@@ -34,8 +34,9 @@ _ame_offer_parts() {
     ((numbers == 0)) && offered+=($(_ame_numbers seed))
     ((numbers == 1)) && offered+=($(_ame_numbers size))
   fi
-  [[ ${words[0]-} == sim && $cur != -* && $numbers == 0 ]] && offered+=($(_ame_numbers seed))
+  [[ ${words[0]-} == @(sim|weak) && $cur != -* && $numbers == 0 ]] && offered+=($(_ame_numbers seed))
   for option in --workers --turns --slice; do
+    [[ ${words[0]-} == weak && $option != --turns ]] && continue
     [[ " ${words[*]} " == *" $option"[\ =]* ]] || offered+=("$option")
   done
   _ame_offer "${offered[@]}"
@@ -75,14 +76,14 @@ _ame() {
       views= words=("${words[@]:1}")
     fi
     case ${words[0]-} in
-    '') _ame_offer_files run bench sim replay check resume $views; return ;;
-    run | bench | sim | replay | check | resume) ;;
+    '') _ame_offer_files run bench sim replay check resume weak $views; return ;;
+    run | bench | sim | replay | check | resume | weak) ;;
     *) words=("${words[@]:1}") ;;
     esac
   fi
   case ${words[0]-} in
-  '') _ame_offer run bench sim replay check resume ;;
-  run | bench | sim | replay | resume) _ame_offer_parts ;;
+  '') _ame_offer run bench sim replay check resume weak ;;
+  run | bench | sim | replay | resume | weak) _ame_offer_parts ;;
   esac
 }
 

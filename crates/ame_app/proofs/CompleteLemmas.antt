@@ -15,6 +15,7 @@ use Rattle.ame_term.specs.Typing.{typing}
 use Rattle.ame_types.specs.declared.fault.TypeFault.{TypeFault}
 use Rattle.ame_protocol.proofs.Row.CellLemmas.{which}
 use Rattle.ame_journal.specs.Replayed.{Replayed}
+use Rattle.ame_code.specs.FlatCode.{FlatCode}
 use Rattle.ame_code.specs.Code.{program_of}
 use Rattle.ame_value.specs.declared.val.Val.{Val}
 use Rattle.ame_cli.specs.declared.command.Options.{Options}
@@ -31,12 +32,13 @@ use Rattle.ame_app.specs.declared.parts.Front.{Front}
 use Rattle.ame_app.specs.declared.parts.Own.{Own}
 use Rattle.ame_app.specs.declared.status.Status.{Status}
 use Rattle.ame_app.specs.Verbs.{reads_source, TakesInput, Declines, Settles, options_of, written_behind}
+use Rattle.ame_app.specs.Verbs.Weak.{told_by}
 use Rattle.ame_app.specs.Calls.{Call, Given, Asks}
 use Rattle.ame_app.specs.Texts.{why_of, IsNoProgram, IsIllTyped, IsAcceptedText}
-use Rattle.ame_app.specs.Causes.{RefusalCause, RunCause, status_at, status_of}
+use Rattle.ame_app.specs.Causes.{RefusalCause, RunCause, CommandCause, status_at, status_of}
 use Rattle.ame_app.specs.Causes.RefusalCause.{by_words, by_source, by_length, by_input, by_text, by_types, by_program, by_memory}
-use Rattle.ame_app.specs.Headline.{Reported, Headline, IsTurnedAway, IsWritten, verdict_of}
-use Rattle.ame_app.specs.Complete.{IsGivenBytes, IsGivenText, IsGivenInVain, IsUnread, IsRefused, NothingFailed, IsUnlessMemory, TellsFault, TellsRule, TellsEnd, TellsEndWith, TellsOutcome, TellsInput, IsComplete}
+use Rattle.ame_app.specs.Headline.{Reported, DevicesTell, DevicesTellIfAble, DevicesTellOf, Headline, IsTurnedAway, IsWritten, verdict_of}
+use Rattle.ame_app.specs.Complete.{IsGivenBytes, IsGivenText, IsGivenInVain, IsUnread, IsRefused, NothingFailed, IsUnlessMemory, TellsFault, TellsRule, TellsEnd, TellsEndWith, TellsOutcome, TellsInput, TellsDevice, IsComplete}
 use Rattle.ame_app.specs.Answered.{IsAnswered}
 use Rattle.ame_app.specs.Verdict.{verdict}
 use Rattle.ame_app.proofs.VerbLemmas.{takes-one, takes-none, declines-one, settles-one, settles-same, begins-unsettled}
@@ -68,6 +70,27 @@ device-told (Some (Stop.DeviceFault j)) certificates before after k failed rises
   | inr other ↦ absurd (let stayed = failed.others k other in omega (arith, stayed, rises))
 ]
 device-told stop certificates before after k none rises = absurd (let stayed = none k in omega (arith, stayed, rises))
+
+-- of the run of a command
+module _ (call : Call) (code : FlatCode) (end : End Val) (before after : Ends) (status : Status) (k : ℕ)
+    (rises : (told_at before.told k).faults < (told_at after.told k).faults) (spoken : status ≡ status_of end) where
+  fault-told : DevicesTell code end before after → TellsDevice call k status
+  fault-told d = inl (spoken ∙ device-told end.stop end.certificates before.told after.told k d.failed rises)
+
+  weak-fault-told : (seed turns : ℕ) → SpellsCommand call.words (Command.Weak seed turns) → DevicesTellIfAble code end before after
+      → (stop : Option Stop) → end.stop ≡ stop → TellsDevice call k status
+  weak-fault-told seed turns spelled d (Some Stop.NoMemory) is =
+      inr (spoken ∙ ap (λ (o : Option Stop). status_at o end.certificates) is, seed, turns, spelled)
+  weak-fault-told seed turns spelled d stop is = fault-told (d.able (λ e. let clash : stop ≡ Some Stop.NoMemory = sym is ∙ e in cc))
+
+  failed-told : (command : Command) → SpellsCommand call.words command → DevicesTellOf command code end before after → TellsDevice call k status
+  failed-told (Command.Run with) spelled d = fault-told d
+  failed-told (Command.Bench seed size with) spelled d = fault-told d
+  failed-told (Command.Sim seed with) spelled d = fault-told d
+  failed-told (Command.Replay with) spelled d = fault-told d
+  failed-told Command.Check spelled d = fault-told d
+  failed-told (Command.Resume with) spelled d = fault-told d
+  failed-told (Command.Weak seed turns) spelled d = weak-fault-told seed turns spelled d end.stop refl
 
 -- What an input must give
 
@@ -251,16 +274,32 @@ module _ (one : SpellOne) (call : Call) (report : Text) where
 -- Where a run was begun, or none
 
 module _ (call : Call) (before after : Ends) (n : NothingFailed call before after) where
-  run-told : (told : Status) (options : Options) (end : End Val) (r : Replayed) → RunCause told options end r before after → TellsEnd told
-  run-told Status.Finished options end r c = tt
-  run-told (Status.Blocked number) options end r c = tt
-  run-told Status.Spent options end r c = tt
-  run-told (Status.Tall number) options end r c = tt
-  run-told Status.NoMemory options end r c = tt
-  run-told (Status.DeviceFault k) options end r c =
+  plain-told : (told : Status) (options : Options) (end : End Val) (r : Replayed) → RunCause told options end r before after → TellsEnd told
+  plain-told Status.Finished options end r c = tt
+  plain-told (Status.Blocked number) options end r c = tt
+  plain-told Status.Spent options end r c = tt
+  plain-told (Status.Tall number) options end r c = tt
+  plain-told Status.NoMemory options end r c = tt
+  plain-told (Status.DeviceFault k) options end r c =
       absurd (HasNotRisen-excludes (told_at before.told k).faults (told_at after.told k).faults (n.devices k) c.faults)
-  run-told Status.WriteFault options end r c = absurd (HasNotRisen-excludes before.write_faults after.write_faults n.sink c)
-  run-told told options end r c = absurd c
+  plain-told Status.WriteFault options end r c = absurd (HasNotRisen-excludes before.write_faults after.write_faults n.sink c)
+  plain-told told options end r c = absurd c
+
+  weak-told : (seed turns : ℕ) (told : Status) (options : Options) (end : End Val) (r : Replayed)
+      → CommandCause (Command.Weak seed turns) told options end r before after → TellsEnd told
+  weak-told seed turns (Status.DeviceFault k) options end r c =
+      absurd (HasNotRisen-excludes (told_at before.told k).faults (told_at after.told k).faults (n.devices k) c.faults)
+  weak-told seed turns told options end r c = plain-told told options end r c
+
+  run-told : (command : Command) (told : Status) (options : Options) (end : End Val) (r : Replayed)
+      → CommandCause command told options end r before after → TellsEnd told
+  run-told (Command.Run with) told options end r c = plain-told told options end r c
+  run-told (Command.Bench seed size with) told options end r c = plain-told told options end r c
+  run-told (Command.Sim seed with) told options end r c = plain-told told options end r c
+  run-told (Command.Replay with) told options end r c = plain-told told options end r c
+  run-told Command.Check told options end r c = plain-told told options end r c
+  run-told (Command.Resume with) told options end r c = plain-told told options end r c
+  run-told (Command.Weak seed turns) told options end r c = weak-told seed turns told options end r c
 
 module _ (one : SpellOne) (call : Call) (before after : Ends) (n : NothingFailed call before after) (bytes : List ℕ) (given : IsGivenBytes call bytes) where
   due-refusal : (report : Text) (ahead : List ℕ) (own : Own) (told : Status) → RefusalCause call report ahead own told → Due given.command bytes call.devices told
@@ -284,10 +323,10 @@ module _ (one : SpellOne) (call : Call) (before after : Ends) (n : NothingFailed
       (asked-most one call bytes given s.command s.front report whole_limit s.asked s.asked.text_is.most)
   due-refusal report ahead own told (by_memory c) = lacks refl
 
-  due-run : (report : Reported) (end : End Val) → Headline call report end before after → Due given.command bytes call.devices report.status
-  due-run report end h =
+  due-run : (report : Reported) (left end : End Val) → Headline call report left end before after → Due given.command bytes call.devices report.status
+  due-run report left end h =
       let spoken = h.spoken (sink-held report.status (lines h.final.state.output ++ (verdict_of end ++ written_behind h.command report.own (status_of end))) before after h.output n.sink) in
-      let run = run-told call before after n (status_of end) h.options end h.final h.cause in
+      let run = run-told call before after n h.command (status_of end) h.options end h.final h.cause in
       let source = source_of h.compiled.accepted.program in
       let is = command-is one call bytes given h.command h.asked.spelled in
       is_run h.front h.text (record { source = source; reads = h.program.reads; typed = h.program.typed })
@@ -324,16 +363,16 @@ module _ (one : SpellOne) (call : Call) (status : Status) (before after : Ends)
       due-settled g.given.command g.bytes call.devices status g.most g.front text g.takes good ahead own told settles (due n g.bytes g.given)
 
 module _ (one : SpellOne) (call : Call) (report : Reported) (before after : Ends) where
-  complete-run : (end : End Val) → Headline call report end before after → IsComplete call report.status before after
-  complete-run end h =
+  complete-run : (left end : End Val) → Headline call report left end before after → IsComplete call report.status before after
+  complete-run left end h =
       let written = lines h.final.state.output ++ (verdict_of end ++ written_behind h.command report.own (status_of end)) in
       let held = sink-held report.status written before after h.output in
       let due : (n : NothingFailed call before after) (bytes : List ℕ) (given : IsGivenBytes call bytes) → Due given.command bytes call.devices report.status =
-      λ n bytes given. due-run one call before after n bytes given report end h in
+      λ n bytes given. due-run one call before after n bytes given report left end h in
       record {
         usage = λ n nothing. absurd (nothing h.command h.asked.spelled);
         spelled = λ n command words.
-            let ends = subst TellsEnd (sym (h.spoken (held n.sink))) (run-told call before after n (status_of end) h.options end h.final h.cause) in
+            let ends = subst TellsEnd (sym (h.spoken (held n.sink))) (run-told call before after n h.command (status_of end) h.options end h.final h.cause) in
             let with = sym h.with_options ∙ ap options_of (one call.words h.command command h.asked.spelled words) in
             inr (inr (h.front, program_of h.compiled, inr (subst (λ (o : Option Options). TellsEndWith o report.status) with ends)));
         long = told-long one call report.status before after due;
@@ -343,7 +382,8 @@ module _ (one : SpellOne) (call : Call) (report : Reported) (before after : Ends
         accepted = told-accepted one call report.status before after due;
         settled = told-settled one call report.status before after due;
         sink_failed = sink-told report.status written before after h.output;
-        device_failed = λ still k rises. h.spoken (held still) ∙ device-told end.stop end.certificates before.told after.told k h.devices.failed rises;
+        device_failed = λ still k rises.
+            failed-told call h.compiled end before after report.status k rises (h.spoken (held still)) h.command h.asked.spelled h.devices;
         source_failed = λ still rises. absurd (let stayed = asked-stays call h.command h.front h.text h.asked in omega (arith, stayed, rises));
       }
 
@@ -372,13 +412,13 @@ module _ (one : SpellOne) (call : Call) (report : Reported) (before after : Ends
       }
 
   -- a run was begun, and its headline holds
-  pub answered-run : (ended : Option (End Val)) → IsSome ended → IfSome ended (λ end. Headline call report end before after)
+  pub answered-run : (ended : Option (End Val)) → IsSome ended → IfSome ended (λ end. Headline call report end (told_by report.own end) before after)
       → IsAnswered call report ended before after
   answered-run None some ran = absurd (cc)
   answered-run (Some end) some ran = record {
     ran = ran;
     turned_away = λ e. absurd (cc);
-    complete = complete-run end ran;
+    complete = complete-run end (told_by report.own end) ran;
     short = subst (λ (l : Text). length l ≤ whole_limit) (sym ran.text_is) ran.asked.most;
   }
 
@@ -388,7 +428,7 @@ module _ (one : SpellOne) (call : Call) (report : Reported) (before after : Ends
   answered-turned None none short turned = record { ran = tt; turned_away = λ _. turned; complete = complete-turned turned; short = short }
   answered-turned (Some end) none short turned = absurd (cc)
 
-  pub answered : (ended : Option (End Val)) → length report.text ≤ whole_limit → IfSome ended (λ end. Headline call report end before after)
+  pub answered : (ended : Option (End Val)) → length report.text ≤ whole_limit → IfSome ended (λ end. Headline call report end (told_by report.own end) before after)
       → (ended ≡ None → IsTurnedAway call report before after) → IsAnswered call report ended before after
   answered None short ran turned = answered-turned None refl short (turned refl)
   answered (Some end) short ran turned = answered-run (Some end) refl ran

@@ -16,20 +16,20 @@ use Rattle.ame_engine.specs.Ending.{Rise, CertifyAll}
 
 -- Elements of a list
 
-here : (n i : ℕ) (ns : List ℕ) → n ≡ i → Contains (n ∷ ns) i
+pub here : (n i : ℕ) (ns : List ℕ) → n ≡ i → Contains (n ∷ ns) i
 here n i ns e = (0, omega arith, e)
 
-more : (n i : ℕ) (ns : List ℕ) → Contains ns i → Contains (n ∷ ns) i
+pub more : (n i : ℕ) (ns : List ℕ) → Contains ns i → Contains (n ∷ ns) i
 more n i ns c = (suc c.0, (let within = c.1 in omega (arith, within)), c.2)
 
 here-or-later : (n i : ℕ) (ns : List ℕ) (k : ℕ) → k < length (n ∷ ns) → slice_index_or (n ∷ ns) k i ≡ i → (n ≡ i) ⊎ Contains ns i
 here-or-later n i ns zero within e = inl e
 here-or-later n i ns (suc k) within e = inr (k, omega (arith, within), e)
 
-first-or-later : (n i : ℕ) (ns : List ℕ) → Contains (n ∷ ns) i → (n ≡ i) ⊎ Contains ns i
+pub first-or-later : (n i : ℕ) (ns : List ℕ) → Contains (n ∷ ns) i → (n ≡ i) ⊎ Contains ns i
 first-or-later n i ns c = here-or-later n i ns c.0 c.1 c.2
 
-empty : (i : ℕ) → Contains [] i → ⊥
+pub empty : (i : ℕ) → Contains [] i → ⊥
 empty i c = let within = c.1 in omega (arith, within)
 
 -- Lists of rising numbers with the same elements are the same

@@ -8,6 +8,8 @@ pub mod WrittenLemmas
 pub mod TurnedLemmas
 pub mod AskedLemmas
 pub mod CodeLemmas
+pub mod WeakLemmas
+pub mod TakenLemmas
 pub mod RunLemmas
 pub mod GivenLemmas
 pub mod CompleteLemmas

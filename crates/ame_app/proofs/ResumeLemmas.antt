@@ -1,6 +1,6 @@
 -- What is told of a journal from which no run can go on.
 use Rattle.std.proofs.Common.{◌≡◌, ◌≢◌, ℕ, ◌+◌, ◌-◌, ℤ, Bool, true, false, not}
-use Rattle.std.proofs.Common.{List, [], ◌∷◌, ◌++◌, length, take, get_or, Some, refl, sym, ap, ◌∙◌, subst, arith}
+use Rattle.std.proofs.Common.{List, [], ◌∷◌, ◌++◌, length, take, get_or, Some, Result, Ok, Err, IfOk, refl, sym, ap, ◌∙◌, subst, arith}
 use Rattle.std.specs.List.{slice_get}
 use Rattle.std.proofs.Math.Seq.{get_or-append_seam}
 use Rattle.std.proofs.lemmas.List.{length-append}
@@ -23,12 +23,13 @@ use Rattle.ame_cli.specs.declared.command.Options.{Options}
 use Rattle.ame_cli.specs.declared.command.Command.{Command}
 use Rattle.ame_engine.specs.Core.{Core}
 use Rattle.ame_engine.specs.Resuming.{AreActs, IsFar, HasResumed}
+use Rattle.ame_engine.specs.declared.resume_fail.ResumeFail.{ResumeFail}
 use Rattle.ame_engine.proofs.FarLemmas.{far-once}
 use Rattle.ame_app.specs.declared.parts.Front.{Front}
 use Rattle.ame_app.specs.declared.parts.Own.{Own}
 use Rattle.ame_app.specs.declared.status.Status.{Status}
 use Rattle.ame_app.specs.Headline.{limits_of}
-use Rattle.ame_app.specs.Jobs.{fragments, IsOpened}
+use Rattle.ame_app.specs.Jobs.{fragments, IsEngineOn, IsOpened}
 use Rattle.ame_app.specs.Verbs.Check.{entries_before}
 use Rattle.ame_app.specs.Verbs.Resume.{IsTallJournal, TellsOfBase, BeginsFromActs}
 use Rattle.ame_app.proofs.JudgedLemmas.{invalid-one, invalid-leads, long-one, long-short, one-number}
@@ -74,6 +75,21 @@ tells-tall program entries place last tall is note ahead own told ahead_is own_i
       ahead_is = ahead_is;
       own_is = own_is;
     })
+
+-- an engine goes on from a base, where none of its entries is far
+pub near-where : {X : Type 0} (r : Result X ResumeFail) (base : List Entry) → ((n : ℕ) → IsFar base n → r ≡ Err (ResumeFail.Far n))
+    → IfOk r (λ x. (n : ℕ) → IsFar base n → ⊥)
+near-where (Ok x) base far = λ n is. let clash : Ok x ≡ Err (ResumeFail.Far n) = far n is in cc
+near-where (Err e) base far = tt
+
+-- it has its own limits and its own base
+pub own-resumed : (options : Options) (base : List Entry) (code : FlatCode) (engine : Core FlatCode Val Fragment) → IsEngineOn options base code engine
+    → HasResumed fragments engine.limits engine.base engine
+own-resumed options base code engine on =
+    let same_limits : engine.limits ≡ limits_of options = ap (λ (s : State). s.parts.limits) on.resumed.state in
+    let same_base : engine.base ≡ base = ap (λ (s : State). s.parts.base) on.resumed.state in
+    subst (λ (l : Limits). HasResumed fragments l engine.base engine) (sym same_limits)
+    (subst (λ (es : List Entry). HasResumed fragments (limits_of options) es engine) (sym same_base) on.resumed)
 
 -- an engine goes on from them
 pub goes-on : (options : Options) (front : Front) (code : FlatCode) (limits : Limits) (base : List Entry) (output : List ℤ)

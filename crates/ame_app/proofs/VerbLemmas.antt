@@ -8,7 +8,7 @@ use Rattle.ame_cli.specs.declared.command.Command.{Command}
 use Rattle.ame_app.specs.declared.parts.Front.{Front}
 use Rattle.ame_app.specs.declared.parts.Own.{Own}
 use Rattle.ame_app.specs.declared.status.Status.{Status}
-use Rattle.ame_app.specs.Verbs.{TakesInput, Declines, Settles, BeginsFrom, written_behind}
+use Rattle.ame_app.specs.Verbs.{TakesInput, Declines, Settles, BeginsFrom}
 use Rattle.ame_app.specs.Verbs.Check.{entries_before, TellsOfJournal}
 use Rattle.ame_app.specs.Verbs.Resume.{TellsOfBase}
 use Rattle.ame_app.proofs.CheckLemmas.{certificate-one, certificate-none, bad-one, bad-other, journal-one, journal-other}
@@ -24,6 +24,7 @@ takes-one (Command.Replay options) bytes front other text also one two =
     (scheduled-same bytes one.picks two.picks text also one.scheduled two.scheduled).1
 takes-one Command.Check bytes front other text also one two = (certificate-one bytes front other text also one two).0
 takes-one (Command.Resume options) bytes front other text also one two = (certificate-one bytes front other text also one two).0
+takes-one (Command.Weak seed turns) bytes front other text also one two = one.1 ∙ sym two.1
 
 -- bytes that it takes aren't declined
 pub takes-none : (command : Command) (bytes : List ℕ) (front : Front) (text : Text) (told : Status)
@@ -34,6 +35,7 @@ takes-none (Command.Sim seed options) bytes front text told takes declines = dec
 takes-none (Command.Replay options) bytes front text told takes declines = declines.none takes.picks text takes.scheduled
 takes-none Command.Check bytes front text told takes declines = certificate-none bytes front text told takes declines
 takes-none (Command.Resume options) bytes front text told takes declines = certificate-none bytes front text told takes declines
+takes-none (Command.Weak seed turns) bytes front text told takes declines = declines
 
 -- bytes are declined in one way
 pub declines-one : (command : Command) (bytes : List ℕ) (told other : Status) → Declines command bytes told → Declines command bytes other → told ≡ other
@@ -43,6 +45,7 @@ declines-one (Command.Sim seed options) bytes told other one two = absurd one
 declines-one (Command.Replay options) bytes told other one two = one.told_is ∙ sym two.told_is
 declines-one Command.Check bytes told other one two = bad-one bytes told other one two
 declines-one (Command.Resume options) bytes told other one two = bad-one bytes told other one two
+declines-one (Command.Weak seed turns) bytes told other one two = absurd one
 
 -- and not as a fault of the sink
 pub declines-other : (command : Command) (bytes : List ℕ) (told : Status) → Declines command bytes told → told ≢ Status.WriteFault
@@ -52,6 +55,7 @@ declines-other (Command.Sim seed options) bytes told declines = absurd declines
 declines-other (Command.Replay options) bytes told declines = λ e. absurd (let clash : Status.BadSchedule ≡ Status.WriteFault = sym declines.told_is ∙ e in cc)
 declines-other Command.Check bytes told declines = bad-other bytes told declines
 declines-other (Command.Resume options) bytes told declines = bad-other bytes told declines
+declines-other (Command.Weak seed turns) bytes told declines = absurd declines
 
 -- of a program one status is told without a run
 pub settles-one : (command : Command) (front : Front) (program : Tree) (ahead more : List ℕ) (own also : Own) (told other : Status)
@@ -64,6 +68,7 @@ settles-one Command.Check front program ahead more own also told other one two =
     journal-one program (entries_before front) ahead more own also told other one two
 settles-one (Command.Resume options) front program ahead more own also told other one two =
     base-one program (entries_before front) ahead more own also told other one two
+settles-one (Command.Weak seed turns) front program ahead more own also told other one two = absurd one
 
 -- not as a fault of the sink
 pub settles-other : (command : Command) (front : Front) (program : Tree) (ahead : List ℕ) (own : Own) (told : Status)
@@ -74,6 +79,7 @@ settles-other (Command.Sim seed options) front program ahead own told settles = 
 settles-other (Command.Replay options) front program ahead own told settles = absurd settles
 settles-other Command.Check front program ahead own told settles = journal-other program (entries_before front) ahead own told settles
 settles-other (Command.Resume options) front program ahead own told settles = base-other program (entries_before front) ahead own told settles
+settles-other (Command.Weak seed turns) front program ahead own told settles = absurd settles
 
 -- whichever front is taken of the same bytes
 pub settles-same : (command : Command) (bytes : List ℕ) (front other : Front) (text also : Text)
@@ -87,6 +93,7 @@ settles-same Command.Check bytes front other text also one two program ahead own
     subst (λ (es : List Entry). TellsOfJournal program es ahead own told) (certificate-one bytes front other text also one two).1 settles
 settles-same (Command.Resume options) bytes front other text also one two program ahead own told settles =
     subst (λ (es : List Entry). TellsOfBase program es ahead own told) (certificate-one bytes front other text also one two).1 settles
+settles-same (Command.Weak seed turns) bytes front other text also one two program ahead own told settles = settles
 
 -- and not where a run is begun
 pub begins-unsettled : (command : Command) (front : Front) (program : Tree) (base : List Entry) → BeginsFrom command front program base
@@ -98,12 +105,4 @@ begins-unsettled (Command.Replay options) front program base begins ahead own to
 begins-unsettled Command.Check front program base begins ahead own told settles = begins
 begins-unsettled (Command.Resume options) front program base begins ahead own told settles =
     base-unsettled program (entries_before front) base begins ahead own told settles
-
--- nothing is written behind a fault of the sink
-pub nothing-behind : (command : Command) (own : Own) → written_behind command own Status.WriteFault ≡ []
-nothing-behind (Command.Run options) own = refl
-nothing-behind (Command.Bench seed size options) own = refl
-nothing-behind (Command.Sim seed options) own = refl
-nothing-behind (Command.Replay options) own = refl
-nothing-behind Command.Check own = refl
-nothing-behind (Command.Resume options) own = refl
+begins-unsettled (Command.Weak seed turns) front program base begins ahead own told settles = settles

@@ -21,6 +21,7 @@ use Rattle.ame_app.specs.declared.parts.Front.{Front}
 use Rattle.ame_app.specs.declared.parts.Own.{Own}
 use Rattle.ame_app.specs.declared.status.Status.{Status}
 use Rattle.ame_app.specs.Verbs.{reads_source, Declines, Settles}
+use Rattle.ame_app.specs.Verbs.Weak.{IsWeakFault}
 use Rattle.ame_app.specs.Calls.{Call, IsInput, Asks}
 use Rattle.ame_app.specs.Texts.{IsNoProgram, IsIllTyped, IsAcceptedText}
 
@@ -139,3 +140,8 @@ RunCause (Status.DeviceFault device) options end r before after = IsDeviceFault 
 RunCause Status.NoMemory options end r before after = ⊤
 RunCause Status.WriteFault options end r before after = HasRisen before.write_faults after.write_faults
 RunCause _ options end r before after = ⊥
+
+-- so it is of the run of a command; where a device failed in a weak run, the member that called it may not have come in by an entry
+abbrev pub CommandCause : Command → Status → Options → End Val → Replayed → Ends → Ends → Type 0
+CommandCause (Command.Weak seed turns) (Status.DeviceFault device) options end r before after = IsWeakFault device r.state before after
+CommandCause command status options end r before after = RunCause status options end r before after

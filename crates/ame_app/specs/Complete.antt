@@ -114,6 +114,11 @@ abbrev pub TellsInput : Command → Status → Type 0
 TellsInput command status =
     TellsText status ⊎ (((bytes : List ℕ) × Declines command bytes status) ⊎ ((front : Front) × (program : Tree) × TellsOutcome command front program status))
 
+-- a device that failed is told, or else a weak run wanted memory behind it
+abbrev pub TellsDevice : Call → ℕ → Status → Type 0
+TellsDevice call k status =
+    (status ≡ Status.DeviceFault k) ⊎ ((status ≡ Status.NoMemory) × (seed : ℕ) × (turns : ℕ) × SpellsCommand call.words (Command.Weak seed turns))
+
 -- Where nothing failed, the words, what they are given and its text decide the status, but for how a run ends and for want of
 -- memory. Where something failed the status tells it: the sink first, then a device, then the source.
 pub record IsComplete (call : Call) (status : Status) (before after : Ends) : Type 0 where
@@ -131,6 +136,6 @@ pub record IsComplete (call : Call) (status : Status) (before after : Ends) : Ty
       → (ahead : List ℕ) (own : Own) (told : Status) → Settles given.given.command given.front good.source.tree ahead own told → IsUnlessMemory told status
   pub sink_failed : before.write_faults < after.write_faults → status ≡ Status.WriteFault
   pub device_failed : HasNotRisen before.write_faults after.write_faults → (k : ℕ) → (told_at before.told k).faults < (told_at after.told k).faults
-      → status ≡ Status.DeviceFault k
+      → TellsDevice call k status
   pub source_failed : HasNotRisen before.write_faults after.write_faults → call.source.faults < call.source_after.faults
       → status ≡ Status.ReadFault

@@ -1,5 +1,5 @@
 -- What is promised of a call.
-use Rattle.std.specs.Prelude.{◌≡◌, ◌≢◌, ◌++◌, ℕ, List, map, All, Option, Some, None}
+use Rattle.std.specs.Prelude.{◌≡◌, ◌≢◌, ◌++◌, ℕ, List, map, length, All, Option, Some, None}
 use Rattle.std.specs.Io.KnownBytes.{Appends}
 use Rattle.ame_io.specs.Counts.{HasRisen}
 use Rattle.ame_io.specs.Lines.{lines}
@@ -26,7 +26,9 @@ use Rattle.ame_cli.specs.declared.command.Command.{Command}
 use Rattle.ame_protocol.specs.declared.types.Limits.{Limits}
 use Rattle.ame_protocol.specs.Event.Bounds.{HasBounds}
 use Rattle.ame_protocol.specs.Event.Causes.{NotesStop}
+use Rattle.ame_protocol.specs.declared.stop.Stop.{Stop}
 use Rattle.ame_engine.specs.Ending.{End, ShowsCounts}
+use Rattle.ame_runner.specs.Apart.{AreNotedApart}
 use Rattle.ame_shell.specs.Ends.{Ends}
 use Rattle.ame_shell.specs.Heard.{HaveHeardSince, HaveFailed}
 use Rattle.ame_shell.specs.Over.{AreOfSeats, NoneWereInTheWay}
@@ -37,7 +39,7 @@ use Rattle.ame_app.specs.Verdict.{verdict}
 use Rattle.ame_app.specs.Verbs.{options_of, BeginsFrom, Promises, written_behind}
 use Rattle.ame_app.specs.Calls.{Call, Asks}
 use Rattle.ame_app.specs.Texts.{IsProgramOf}
-use Rattle.ame_app.specs.Causes.{RefusalCause, RunCause, status_of}
+use Rattle.ame_app.specs.Causes.{RefusalCause, CommandCause, status_of}
 
 -- What a call reports beside its ends and its run: how it ended, the text of the program, which is empty where none was taken, the
 -- code that was run, and what the command has of its own.
@@ -69,6 +71,20 @@ pub record DevicesTell (code : FlatCode) (end : End Val) (before after : Ends) :
   pub heard : HaveHeardSince (program_of code) end.base end.entries before.told after.told
   pub failed : HaveFailed end.stop before.told after.told
 
+-- so it is unless memory was wanted
+pub record DevicesTellIfAble (code : FlatCode) (end : End Val) (before after : Ends) : Type 0 where
+  pub able : end.stop ≢ Some Stop.NoMemory → DevicesTell code end before after
+
+-- what devices tell of the run of a command: of a weak run that wanted memory the journal may lack what they heard
+abbrev pub DevicesTellOf : Command → FlatCode → End Val → Ends → Ends → Type 0
+DevicesTellOf (Command.Weak seed turns) code end before after = DevicesTellIfAble code end before after
+DevicesTellOf command code end before after = DevicesTell code end before after
+
+-- That a fragment waits is noted once until somebody commits; in a weak run, also until a location is new.
+abbrev pub IsNotedOnceBy : Command → List Entry → Type 0
+IsNotedOnceBy (Command.Weak seed turns) journal = AreNotedApart journal
+IsNotedOnceBy command journal = IsNotedOnce journal
+
 -- the verdict line of a run
 abbrev pub verdict_of : End Val → List ℕ
 verdict_of end = verdict (status_of end)
@@ -82,8 +98,9 @@ pub record IsWritten (status : Status) (text : List ℕ) (before after : Ends) :
 abbrev pub limits_of : Options → Limits
 limits_of options = record { turns = options.turns; slice = options.slice; seats = options.workers }
 
--- The headline: what is promised of a call in which a run was begun, with what its ends tell before and after.
-pub record Headline (call : Call) (report : Reported) (end : End Val) (before after : Ends) : Type 0 where
+-- The headline: what is promised of a call in which a run was begun, by what its engine left and what is told of it, with what its ends tell before
+-- and after.
+pub record Headline (call : Call) (report : Reported) (left end : End Val) (before after : Ends) : Type 0 where
   pub command : Command
   pub front : Front
   pub options : Options
@@ -105,18 +122,19 @@ pub record Headline (call : Call) (report : Reported) (end : End Val) (before af
   pub printed : end.output ≡ final.state.output
   pub store : IsStore compiled end.cells final.state
   pub typed : IsTypedState call.devices final.state
-  pub devices : DevicesTell compiled end before after
+  pub as_many : length after.told ≡ length before.told
+  pub devices : DevicesTellOf command compiled end before after
   -- The verdict is that of the stop, and has its cause; it is the status, unless the sink failed.
-  pub cause : RunCause (status_of end) options end final before after
+  pub cause : CommandCause command (status_of end) options end final before after
   pub spoken : report.status ≢ Status.WriteFault → report.status ≡ status_of end
   -- The report has what the command promises of its own.
-  pub own : Promises command front options report.own end
+  pub own : Promises command front (program_of compiled) options report.own left
   -- A fragment that was cut off, or that came to a value that is too high, is noted last, and only with that stop. That a fragment
   -- waits is noted once until somebody commits.
   pub notes : NotesStop end.stop end.entries
-  pub once : IsNotedOnce (journal_of end)
-  -- The limits are those of the words. Each turn is counted by its kind, and there are at most as many as the words let be.
-  pub shown : ShowsCounts (limits_of options) end
+  pub once : IsNotedOnceBy command (journal_of end)
+  -- The limits are those of the words. Each turn of the engine is counted by its kind, and there are at most as many as the words let be.
+  pub shown : ShowsCounts (limits_of options) left
   -- One worker by itself has nobody in its way.
   pub lone : options.workers ≡ 1 → NoneWereInTheWay end.counters
   -- Few answers turned a fragment back, at most eight for each fragment that there ever was and for each entry, and few tries left no

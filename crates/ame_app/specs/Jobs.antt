@@ -1,13 +1,16 @@
 -- What comes before a run, the run, and what is written after it, for the private functions.
-use Rattle.std.specs.Prelude.{◌≡◌, ℕ, ◌⊎◌, List, [], Option, Some, ⊤}
+use Rattle.std.specs.Prelude.{◌≡◌, ◌≢◌, ℕ, ◌*◌, ◌≤◌, ◌⊎◌, List, [], map, length, Option, Some, ⊤}
 use Rattle.std.specs.Io.KnownBytes.{Appends}
 use Rattle.ame_io.specs.Counts.{HasRisen}
 use Rattle.ame_io.specs.Writes.{AppendsFront}
 use Rattle.ame_io.specs.declared.whole_read.ReadAllFail.{ReadAllFail}
+use Rattle.ame_io.specs.Lines.{lines}
 use Rattle.ame_lex.specs.Bytes.{Text}
 use Rattle.ame_lex.specs.declared.tokens.LexFault.{LexFault}
 use Rattle.ame_parse.specs.declared.fault.ParseFault.{ParseFault}
 use Rattle.ame_types.specs.declared.fault.TypesFail.{TypesFail}
+use Rattle.ame_term.specs.Tree.{Tree, Val as Value}
+use Rattle.ame_term.specs.State.{State}
 use Rattle.ame_code.specs.FlatCode.{FlatCode}
 use Rattle.ame_code.specs.Code.{program_of}
 use Rattle.ame_value.specs.declared.val.Val.{Val}
@@ -18,18 +21,34 @@ use Rattle.ame_cli.specs.declared.command.CliFail.{CliFail}
 use Rattle.ame_cli.specs.declared.command.Options.{Options}
 use Rattle.ame_cli.specs.declared.command.Command.{Command}
 use Rattle.ame_journal.specs.declared.entry.Entry.{Entry}
+use Rattle.ame_journal.specs.Replayed.{Replayed}
+use Rattle.ame_journal.specs.Replay.{replay}
+use Rattle.ame_journal.specs.Totals.{without_notes, total_steps}
 use Rattle.ame_machine.specs.Meaning.{Meaning}
 use Rattle.ame_engine.specs.Core.{Core}
-use Rattle.ame_engine.specs.Ending.{End}
+use Rattle.ame_device.specs.declared.told.Told.{Told}
+use Rattle.ame_protocol.specs.declared.types.Limits.{Limits}
+use Rattle.ame_protocol.specs.declared.certificate.Certificate.{Certificate}
+use Rattle.ame_protocol.specs.declared.stop.Stop.{Stop}
+use Rattle.ame_protocol.specs.Event.Causes.{NotesStop}
+use Rattle.ame_protocol.specs.Event.Counting.{nothing_counted}
+use Rattle.ame_engine.specs.Ending.{End, IsEnd, CertifyAll}
 use Rattle.ame_engine.specs.Resuming.{HasResumed}
 use Rattle.ame_shell.specs.Ends.{Ends}
-use Rattle.ame_shell.specs.Over.{IsOverSince}
+use Rattle.ame_shell.specs.Sent.{IsSent}
+use Rattle.ame_shell.specs.Heard.{HaveHeard, HaveFailed}
+use Rattle.ame_shell.specs.Over.{AreOfSeats, IsOverSince}
+use Rattle.ame_weak.specs.declared.tries.Certificate.{Certificate as Failing}
+use Rattle.ame_runner.specs.Apart.{AreNotedApart}
+use Rattle.ame_runner.specs.declared.stop.WeakStop.{WeakStop}
 use Rattle.ame_app.specs.declared.fault.TextFault.{TextFault}
 use Rattle.ame_app.specs.declared.parts.Front.{Front}
 use Rattle.ame_app.specs.declared.parts.Own.{Own}
+use Rattle.ame_app.specs.declared.parts.Weakened.{Weakened}
 use Rattle.ame_app.specs.declared.status.Status.{Status}
 use Rattle.ame_app.specs.declared.verbs.Outlook.{Outlook}
 use Rattle.ame_app.specs.Verbs.{Declines, Settles, options_of, BeginsFrom, Promises}
+use Rattle.ame_app.specs.Verbs.Weak.{alone_with, IsWeakJournal, StandsAtCallOf}
 use Rattle.ame_app.specs.Calls.{Call, Asks}
 use Rattle.ame_app.specs.Texts.{IsNoProgram, IsIllTyped, IsProgramOf}
 use Rattle.ame_app.specs.Headline.{limits_of, Reported, IsToldAlone}
@@ -88,6 +107,11 @@ fragments = record {
   stage = λ code m. stage_of code m;
 }
 
+-- an engine goes on with the code from entries
+pub record IsEngineOn (options : Options) (base : List Entry) (code : FlatCode) (engine : Core FlatCode Val Fragment) : Type 0 where
+  pub code_is : engine.code ≡ code
+  pub resumed : HasResumed fragments (limits_of options) base engine
+
 -- an engine goes on with the code from the entries with which the run of a command begins
 pub record IsOpened (command : Command) (front : Front) (code : FlatCode) (engine : Core FlatCode Val Fragment) : Type 0 where
   pub options : Options
@@ -105,14 +129,58 @@ IsOutlook command front code Outlook.Begins = ⊤
 
 -- The run
 
--- a run that a command makes is over, and has kept what the command promises
-pub record IsRunMade (command : Command) (front : Front) (code : FlatCode) (before : Ends) (own : Own) (end : End Val) (after : Ends) : Type 0 where
+-- a run that a command makes by an engine is over, and has kept what the command promises
+pub record IsEngineRunMade (command : Command) (front : Front) (code : FlatCode) (before : Ends) (own : Own) (end : End Val) (after : Ends) : Type 0 where
   pub options : Options
   pub with_options : options_of command ≡ Some options
   pub base : List Entry
   pub begun : BeginsFrom command front (program_of code) base
   pub over : IsOverSince base (program_of code) (limits_of options) (value_meant code) before end after
-  pub own_is : Promises command front options own end
+  pub own_is : Promises command front (program_of code) options own end
+
+-- the cause of the stop of a weak run, with its limit and its turns, in the state that is left
+abbrev pub HasWeakStop : Stop → ℕ → Weakened → State → Type 0
+HasWeakStop Stop.Finished limit weakened s = s.members ≡ []
+HasWeakStop Stop.Blocked limit weakened s = CertifyAll s weakened.certificates.items
+HasWeakStop Stop.Spent limit weakened s = (weakened.turns ≡ limit) × (s.members ≢ [])
+HasWeakStop (Stop.DeviceFault device) limit weakened s = StandsAtCallOf s device
+HasWeakStop Stop.NoMemory limit weakened s = ⊤
+HasWeakStop stop limit weakened s = ⊥
+
+-- what a weak run tells, with what devices tell before and after
+pub record TellsWeakly (program : Tree) (limit : ℕ) (weakened : Weakened) (before after : List Told) : Type 0 where
+  pub straight : IsWeakJournal program weakened.journal.entries
+  pub paid : weakened.stop ≢ Stop.NoMemory → weakened.turns ≤ 3 * total_steps weakened.journal.entries
+  pub final : Replayed
+  pub replays : replay program weakened.journal.entries ≡ Some final
+  pub seats : AreOfSeats 1 weakened.journal.entries
+  pub cause : HasWeakStop weakened.stop limit weakened final.state
+  pub notes : NotesStop (Some weakened.stop) weakened.journal.entries
+  pub apart : AreNotedApart weakened.journal.entries
+  pub count : length after ≡ length before
+  pub heard : weakened.stop ≢ Stop.NoMemory → HaveHeard program weakened.journal.entries before after
+  pub failed : weakened.stop ≢ Stop.NoMemory → HaveFailed (Some weakened.stop) before after
+
+-- an engine was opened on entries and taken apart at once, and its lines were sent
+pub record IsTakenApart (base : List Entry) (program : Tree) (limits : Limits) (value : Val → Value) (end : End Val) (before after : Ends) : Type 0 where
+  pub ends : IsEnd program limits value end
+  pub base_is : end.base ≡ base
+  pub nothing : end.entries ≡ []
+  pub untried : end.tried ≡ []
+  pub uncounted : end.counters ≡ nothing_counted
+  pub sent : IsSent end.stop (lines ends.r.state.output) before after
+
+-- a weak run is over, and an engine was taken apart that was opened on its journal without the notes
+pub record IsWeakRunMade (turns : ℕ) (code : FlatCode) (before : Ends) (own : Own) (left : End Val) (after : Ends) : Type 0 where
+  pub weakened : Weakened
+  pub own_is : own ≡ Own.Weak weakened
+  pub tells : TellsWeakly (program_of code) turns weakened before.told after.told
+  pub apart : IsTakenApart (without_notes weakened.journal.entries) (program_of code) (limits_of (alone_with turns)) (value_meant code) left before after
+
+-- the run of a command is over
+abbrev pub IsRunMade : Command → Front → FlatCode → Ends → Own → End Val → Ends → Type 0
+IsRunMade (Command.Weak seed turns) front code before own left after = IsWeakRunMade turns code before own left after
+IsRunMade command front code before own left after = IsEngineRunMade command front code before own left after
 
 -- no run was begun of a job: what is told is what its command tells of the program, or memory was wanted
 pub record IsLeft (command : Command) (front : Front) (code : FlatCode) (report : Reported) (before after : Ends) : Type 0 where
@@ -121,6 +189,22 @@ pub record IsLeft (command : Command) (front : Front) (code : FlatCode) (report 
   pub told : Status
   pub cause : Settles command front (program_of code) ahead own told ⊎ ((ahead ≡ []) × (own ≡ Own.Nothing) × (told ≡ Status.NoMemory))
   pub alone : IsToldAlone ahead own told report before after
+
+-- How a weak run stops, as a run of an engine does
+
+abbrev pub stop_told : WeakStop → Stop
+stop_told WeakStop.Finished = Stop.Finished
+stop_told (WeakStop.Blocked certificates) = Stop.Blocked
+stop_told WeakStop.Spent = Stop.Spent
+stop_told (WeakStop.DeviceFault device) = Stop.DeviceFault device
+stop_told WeakStop.NoMemory = Stop.NoMemory
+
+abbrev pub certificate_told : Failing → Certificate
+certificate_told c = record { number = c.number; steps = c.steps; fresh = c.fresh }
+
+abbrev pub certificates_told : WeakStop → List Certificate
+certificates_told (WeakStop.Blocked certificates) = map certificate_told certificates.items
+certificates_told stop = []
 
 -- What is written
 
@@ -142,3 +226,9 @@ pub record IsCutShort (text : List ℕ) (status : Status) (written : Option (Lis
 abbrev pub Speaks : Status → List ℕ → Status → Option (List ℕ) → ℕ → Option (List ℕ) → ℕ → Type 0
 Speaks told text status written faults after faults_after =
     IsSpoken told text status written faults after faults_after ⊎ IsCutShort text status written faults after faults_after
+
+-- Behind the lines of a run a text was written, by the stop that its engine kept; nothing was, where that is a fault of the sink.
+abbrev pub SpeaksBehind : Option Stop → Status → List ℕ → Status → Option (List ℕ) → ℕ → Option (List ℕ) → ℕ → Type 0
+SpeaksBehind (Some Stop.WriteFault) told text status written faults after faults_after =
+    (status ≡ Status.WriteFault) × (after ≡ written) × (faults_after ≡ faults)
+SpeaksBehind stop told text status written faults after faults_after = Speaks told text status written faults after faults_after

@@ -5,6 +5,7 @@ pub mod Sim
 pub mod Replay
 pub mod Check
 pub mod Resume
+pub mod Weak
 use Rattle.std.specs.Prelude.{ℕ, Bool, true, false, List, [], Option, Some, None}
 use Rattle.ame_lex.specs.Bytes.{Text}
 use Rattle.ame_term.specs.Tree.{Tree}
@@ -22,6 +23,7 @@ use Rattle.ame_app.specs.Verbs.Sim.{IsPicked, schedule_behind}
 use Rattle.ame_app.specs.Verbs.Replay.{TakesScheduled, HasNoSchedule, IsPickedAsListed}
 use Rattle.ame_app.specs.Verbs.Check.{TakesCertificate, HasNoCertificate, entries_before, TellsOfJournal}
 use Rattle.ame_app.specs.Verbs.Resume.{TellsOfBase, BeginsFromActs, TellsResumed}
+use Rattle.ame_app.specs.Verbs.Weak.{alone_with, IsWeakened}
 use Rattle.ame_sim.specs.Drawn.{drawn}
 
 -- What is given
@@ -34,6 +36,7 @@ reads_source (Command.Sim seed options) = true
 reads_source (Command.Replay options) = true
 reads_source Command.Check = true
 reads_source (Command.Resume options) = true
+reads_source (Command.Weak seed turns) = true
 
 -- the bytes that were read are this front and this text of a program
 abbrev pub TakesInput : Command → List ℕ → Front → Text → Type 0
@@ -43,6 +46,7 @@ TakesInput (Command.Sim seed options) bytes front text = TakesAll bytes front te
 TakesInput (Command.Replay options) bytes front text = TakesScheduled bytes front text
 TakesInput Command.Check bytes front text = TakesCertificate bytes front text
 TakesInput (Command.Resume options) bytes front text = TakesCertificate bytes front text
+TakesInput (Command.Weak seed turns) bytes front text = TakesAll bytes front text
 
 -- they are no front and text, which is told so
 abbrev pub Declines : Command → List ℕ → Status → Type 0
@@ -52,6 +56,7 @@ Declines (Command.Sim seed options) bytes told = ⊥
 Declines (Command.Replay options) bytes told = HasNoSchedule bytes told
 Declines Command.Check bytes told = HasNoCertificate bytes told
 Declines (Command.Resume options) bytes told = HasNoCertificate bytes told
+Declines (Command.Weak seed turns) bytes told = ⊥
 
 -- What is told without a run
 
@@ -63,6 +68,7 @@ Settles (Command.Sim seed options) front program ahead own told = ⊥
 Settles (Command.Replay options) front program ahead own told = ⊥
 Settles Command.Check front program ahead own told = TellsOfJournal program (entries_before front) ahead own told
 Settles (Command.Resume options) front program ahead own told = TellsOfBase program (entries_before front) ahead own told
+Settles (Command.Weak seed turns) front program ahead own told = ⊥
 
 -- What is run
 
@@ -74,6 +80,7 @@ options_of (Command.Sim seed options) = Some options
 options_of (Command.Replay options) = Some options
 options_of Command.Check = None
 options_of (Command.Resume options) = Some options
+options_of (Command.Weak seed turns) = Some (alone_with turns)
 
 -- the entries with which the run of a program begins
 abbrev pub BeginsFrom : Command → Front → Tree → List Entry → Type 0
@@ -83,17 +90,19 @@ BeginsFrom (Command.Sim seed options) front program base = BeginsWithNothing bas
 BeginsFrom (Command.Replay options) front program base = BeginsWithNothing base
 BeginsFrom Command.Check front program base = ⊥
 BeginsFrom (Command.Resume options) front program base = BeginsFromActs program (entries_before front) base
+BeginsFrom (Command.Weak seed turns) front program base = BeginsWithNothing base
 
 -- What is told
 
--- what the report has of the command's own, of a run that ended so
-abbrev pub Promises : Command → Front → Options → Own → End Val → Type 0
-Promises (Command.Run options) front with own end = HasNothing own
-Promises (Command.Bench seed size options) front with own end = HasNothing own
-Promises (Command.Sim seed options) front with own end = IsPicked (drawn seed) with.workers own end
-Promises (Command.Replay options) front with own end = IsPickedAsListed front with.workers own end
-Promises Command.Check front with own end = ⊥
-Promises (Command.Resume options) front with own end = TellsResumed own end
+-- what the report has of the command's own, of a run of a program whose engine left this
+abbrev pub Promises : Command → Front → Tree → Options → Own → End Val → Type 0
+Promises (Command.Run options) front program with own left = HasNothing own
+Promises (Command.Bench seed size options) front program with own left = HasNothing own
+Promises (Command.Sim seed options) front program with own left = IsPicked (drawn seed) with.workers own left
+Promises (Command.Replay options) front program with own left = IsPickedAsListed front with.workers own left
+Promises Command.Check front program with own left = ⊥
+Promises (Command.Resume options) front program with own left = TellsResumed own left
+Promises (Command.Weak seed turns) front program with own left = IsWeakened program own left
 
 -- what is written behind the verdict line of a run
 abbrev pub written_behind : Command → Own → Status → List ℕ
@@ -103,3 +112,4 @@ written_behind (Command.Sim seed options) own told = schedule_behind own told
 written_behind (Command.Replay options) own told = schedule_behind own told
 written_behind Command.Check own told = []
 written_behind (Command.Resume options) own told = []
+written_behind (Command.Weak seed turns) own told = []

@@ -8,13 +8,14 @@ ghost use Rattle.ame_shell.specs.Ends.{Ends, ends_of};
 ghost use Rattle.ame_app.specs.Answered.{IsAnswered};
 ghost use Rattle.ame_app.specs.Calls.{Call, what_is_given, call_of};
 ghost use Rattle.ame_app.specs.Headline.{reported, Headline, IsToldAlone, IsTurnedAway};
+ghost use Rattle.ame_app.specs.Verbs.Weak.{told_by};
 ghost use Rattle.ame_app.specs.Jobs.{IsJobOf, IsOpened, IsRunMade, IsLeft};
 
 use crate::asked::{Asked, asked_of};
 use crate::code::code_of;
 use crate::parts::Own;
 use crate::report::Report;
-use crate::speak::{speak_behind, speak_of};
+use crate::speak::{speak_after, speak_behind};
 use crate::status::Status;
 use crate::verbs::{Job, Made, Outlook, Settled, make, settle};
 use ame_cli::spells_one_command;
@@ -120,7 +121,7 @@ where
     ensures text { result.text ≡ text }
     ensures ran { IfSome result.ended (λ end. (call : Call) → call.devices ≡ vec_len devices
         → IsJobOf call text.items (arc_value job.code) job.command job.front
-        → Headline call (reported result.status result.text.items (option_map arc_value result.code) result.own) end
+        → Headline call (reported result.status result.text.items (option_map arc_value result.code) result.own) end (told_by result.own end)
         (ends_of K.written K.faults D.device_heard D.device_faults sink devices.items)
         (ends_of K.written K.faults D.device_heard D.device_faults result.sink result.devices.items)) }
     ensures turned_away { result.ended ≡ None → IsLeft job.command job.front (arc_value job.code)
@@ -162,7 +163,7 @@ where
     ensures text { result.text ≡ text }
     ensures ran { IfSome result.ended (λ end. (call : Call) → call.devices ≡ vec_len devices
         → IsJobOf call text.items (arc_value job.code) job.command job.front
-        → Headline call (reported result.status result.text.items (option_map arc_value result.code) result.own) end
+        → Headline call (reported result.status result.text.items (option_map arc_value result.code) result.own) end (told_by result.own end)
         (ends_of K.written K.faults D.device_heard D.device_faults sink devices.items)
         (ends_of K.written K.faults D.device_heard D.device_faults result.sink result.devices.items)) }
     ensures turned_away { result.ended ≡ None → IsToldAlone [] Own.Nothing Status.NoMemory
@@ -183,13 +184,13 @@ fn conclude<K: Sink + Drop, D: Device>(job: Job, text: Vec<u8>, made: Made<K, D>
     ensures ran { IfSome result.ended (λ end. (call : Call) (before : Ends) → IsJobOf call text.items (arc_value job.code) job.command job.front
         → IsRunMade job.command job.front (arc_value job.code) before made.own made.left.ended
         (ends_of K.written K.faults D.device_heard D.device_faults made.left.sink made.left.devices.items)
-        → Headline call (reported result.status result.text.items (option_map arc_value result.code) result.own) end before
+        → Headline call (reported result.status result.text.items (option_map arc_value result.code) result.own) end (told_by result.own end) before
         (ends_of K.written K.faults D.device_heard D.device_faults result.sink result.devices.items)) }
 {
     let Made { left, own } = made;
     let mut sink = left.sink;
-    let told = Status::of(&left.ended);
-    let status = speak_of(&mut sink, told, &job.command, &own);
+    let told = Status::of(&left.ended, &own);
+    let status = speak_after(&mut sink, &left.ended, told, &job.command, &own);
     Report {
         status,
         text,

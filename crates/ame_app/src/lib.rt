@@ -19,7 +19,7 @@ mod verdict;
 pub use call::{run_words, run_words_over};
 pub use fault::{TextFault, WordsFault};
 pub use lists::{Mades, Picks};
-pub use parts::{Front, Own};
+pub use parts::{Front, Own, Weakened};
 pub use process::{process_words, run_process};
 pub use report::Report;
 pub use standard::StandardDevice;

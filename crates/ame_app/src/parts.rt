@@ -3,6 +3,7 @@
 use crate::lists::{Mades, Picks};
 use ame_check::Reason;
 use ame_journal::Journal;
+use ame_protocol::{Certificate, Stop};
 
 /// What stands before the text of a program in the bytes that a command is given.
 #[derive(Drop)]
@@ -24,4 +25,16 @@ pub enum Own {
     Unmade(Reason),
     /// From how many entries a run went on.
     Resumed(u64),
+    /// What a run of the weak semantics came to.
+    Weak(Weakened),
+}
+
+/// What a run of the weak semantics came to: the journal of the strong run that looks like it, with the notes of fragments that were tried and came to
+/// nothing; the turns that it took; why it stopped; and a certificate for each member, where all are blocked.
+#[derive(Drop)]
+pub struct Weakened {
+    pub journal: Journal,
+    pub turns: u32,
+    pub stop: Stop,
+    pub certificates: Vec<Certificate>,
 }

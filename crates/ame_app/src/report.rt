@@ -4,6 +4,7 @@ use crate::parts::Own;
 use crate::status::Status;
 use ame_code::Code;
 use ame_engine::{Certificate, Ended};
+use ame_journal::Entry;
 use ame_value::Val;
 use std::sync::Arc;
 
@@ -26,15 +27,49 @@ pub struct Report<K, D> {
 impl<K, D> Report<K, D> {
     ghost use Rattle.std.specs.Prelude.{◌≡◌, ◌≢◌, ℕ, [], IfSome, None};
     ghost use Rattle.ame_app.specs.declared.status.Status.{Status};
+    ghost use Rattle.ame_app.specs.Verbs.Weak.{told_by};
 
     /// A certificate for each member that is left, in order of their numbers, where all are blocked.
     pub fn blocked(&self) -> &[Certificate]
-        ensures blocked { (members : ℕ) → self.now.status ≡ Status.Blocked members → IfSome self.now.ended (λ end. result.now ≡ end.certificates) }
+        ensures blocked { (members : ℕ) → self.now.status ≡ Status.Blocked members → IfSome self.now.ended (λ end. result.now ≡ (told_by self.now.own end).certificates) }
         ensures other { ((members : ℕ) → self.now.status ≢ Status.Blocked members) → result.now ≡ [] }
     {
-        match (&self.status, &self.ended) {
-            (Status::Blocked(_), Some(ended)) => ended.certificates(),
+        match (&self.status, &self.own, &self.ended) {
+            (Status::Blocked(_), Own::Weak(weakened), _) => weakened.certificates.as_slice(),
+            (Status::Blocked(_), _, Some(ended)) => ended.certificates(),
             _ => &[],
+        }
+    }
+
+    /// The entries from which the run went on; none where no run was begun.
+    pub fn base(&self) -> &[Entry]
+        ensures ran { IfSome self.now.ended (λ end. result.now ≡ (told_by self.now.own end).base) }
+    {
+        match (&self.own, &self.ended) {
+            (Own::Weak(_), _) | (_, None) => &[],
+            (_, Some(ended)) => ended.base(),
+        }
+    }
+
+    /// The entries of the run behind those from which it went on; none where no run was begun.
+    pub fn journal(&self) -> &[Entry]
+        ensures ran { IfSome self.now.ended (λ end. result.now ≡ (told_by self.now.own end).entries) }
+    {
+        match (&self.own, &self.ended) {
+            (Own::Weak(weakened), _) => weakened.journal.entries(),
+            (_, Some(ended)) => ended.journal(),
+            (_, None) => &[],
+        }
+    }
+
+    /// The turns of the run; none where no run was begun.
+    pub fn turns(&self) -> u32
+        ensures ran { IfSome self.now.ended (λ end. result ≡ (told_by self.now.own end).turns) }
+    {
+        match (&self.own, &self.ended) {
+            (Own::Weak(weakened), _) => weakened.turns,
+            (_, Some(ended)) => ended.turns(),
+            (_, None) => 0,
         }
     }
 }

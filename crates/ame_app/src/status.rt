@@ -2,11 +2,13 @@
 
 ghost use Rattle.std.specs.Prelude.{◌≡◌};
 ghost use Rattle.ame_app.specs.Verdict.{number_of, verdict};
-ghost use Rattle.ame_app.specs.Causes.{status_of};
+ghost use Rattle.ame_app.specs.Causes.{status_at, status_of};
+ghost use Rattle.ame_app.specs.Verbs.Weak.{told_by};
 
 use crate::fault::TextFault;
+use crate::parts::Own;
 use crate::verdict::{device_failed, ill_typed, numbered, plain, refused};
-use ame_engine::{Ended, Stop};
+use ame_engine::{Certificate, Ended, Stop};
 use ame_io::Line;
 use ame_types::TypeFault;
 use ame_value::Val;
@@ -104,13 +106,25 @@ impl Status {
         }
     }
 
-    /// How a run is told that is over.
-    pub(crate) fn of(ended: &Ended<Val>) -> Status
-        ensures { result ≡ status_of ended.now }
+    /// How a run is told that is over, of which a command has this of its own.
+    pub(crate) fn of(ended: &Ended<Val>, own: &Own) -> Status
+        ensures { result ≡ status_of (told_by own.now ended.now) }
     {
-        match ended.stopped() {
+        match own {
+            Own::Weak(weakened) => Status::at(Some(weakened.stop), &weakened.certificates),
+            Own::Nothing | Own::Picked(_) | Own::Unmade(_) | Own::Resumed(_) => {
+                Status::at(ended.stopped(), ended.certificates())
+            }
+        }
+    }
+
+    /// How a stop is told, with the certificates of members that are blocked.
+    fn at(stop: Option<Stop>, certificates: &[Certificate]) -> Status
+        ensures { result ≡ status_at stop certificates.now }
+    {
+        match stop {
             Some(Stop::Finished) => Status::Finished,
-            Some(Stop::Blocked) => Status::Blocked(ended.certificates().len() as u64),
+            Some(Stop::Blocked) => Status::Blocked(certificates.len() as u64),
             Some(Stop::Spent) => Status::Spent,
             Some(Stop::Tall(member)) => Status::Tall(member),
             Some(Stop::WriteFault) => Status::WriteFault,

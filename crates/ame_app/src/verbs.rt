@@ -6,6 +6,7 @@ mod replay;
 mod resume;
 mod run;
 mod sim;
+mod weak;
 
 ghost use Rattle.std.specs.Prelude.{◌≡◌, ◌≤◌, [], IfOk, IfErr, IfSome, OnOk, OnErr, vec_len};
 ghost use Rattle.std.specs.Arc.{arc_value};
@@ -81,7 +82,11 @@ pub(crate) fn reads_source(command: &Command) -> bool
     match command {
         Command::Run(_) => true,
         Command::Bench(_, _, _) => false,
-        Command::Sim(_, _) | Command::Replay(_) | Command::Check | Command::Resume(_) => true,
+        Command::Sim(_, _)
+        | Command::Replay(_)
+        | Command::Check
+        | Command::Resume(_)
+        | Command::Weak(_, _) => true,
     }
 }
 
@@ -94,7 +99,7 @@ pub(crate) fn take(alloc: Global, command: &Command, bytes: Vec<u8>) -> Result<T
     ensures declines { IfErr result (λ told. IsUntaken command.now bytes.items told) }
 {
     match command {
-        Command::Run(_) | Command::Sim(_, _) => Ok(run::take(bytes)),
+        Command::Run(_) | Command::Sim(_, _) | Command::Weak(_, _) => Ok(run::take(bytes)),
         Command::Bench(seed, size, _) => bench::take(alloc, *seed, *size),
         Command::Replay(_) => replay::take(alloc, &bytes),
         Command::Check | Command::Resume(_) => check::take(alloc, &bytes),
@@ -122,9 +127,11 @@ pub(crate) fn settle(alloc: Global, job: &Job) -> Result<Outlook, NoMemory>
     match job.command {
         Command::Check => Ok(Outlook::Told(check::settle(alloc, &job.code, &job.front)?)),
         Command::Resume(options) => resume::settle(alloc, &job.code, options, &job.front),
-        Command::Run(_) | Command::Bench(_, _, _) | Command::Sim(_, _) | Command::Replay(_) => {
-            Ok(Outlook::Begins)
-        }
+        Command::Run(_)
+        | Command::Bench(_, _, _)
+        | Command::Sim(_, _)
+        | Command::Replay(_)
+        | Command::Weak(_, _) => Ok(Outlook::Begins),
     }
 }
 
@@ -167,6 +174,7 @@ where
         Command::Replay(options) => {
             replay::run(alloc, &job.code, options, &job.front, sink, devices)
         }
+        Command::Weak(seed, turns) => weak::run(alloc, &job.code, seed, turns, sink, devices),
         Command::Check | Command::Resume(_) => Err((sink, devices)),
     }
 }
@@ -184,7 +192,11 @@ pub(crate) fn write_behind<K: Sink>(
     ensures risen { OnErr result (HasRisen (K.faults sink.old) (K.faults sink.new)) }
 {
     match command {
-        Command::Run(_) | Command::Bench(_, _, _) | Command::Check | Command::Resume(_) => Ok(()),
+        Command::Run(_)
+        | Command::Bench(_, _, _)
+        | Command::Check
+        | Command::Resume(_)
+        | Command::Weak(_, _) => Ok(()),
         Command::Sim(_, _) | Command::Replay(_) => sim::write_behind(sink, own, told),
     }
 }

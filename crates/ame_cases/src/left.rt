@@ -2,7 +2,7 @@
 
 use crate::fault::Fault;
 use crate::field::Field;
-use crate::told::line;
+use crate::told::{CaseReport, line};
 use ame_engine::Ended;
 use ame_journal::{Entry, EntryKind};
 use ame_store::Store;
@@ -13,24 +13,25 @@ use std::alloc::{AllocError, Global};
 /// What a run left of a field.
 pub fn left(
     alloc: Global,
+    report: &CaseReport,
     ended: &Ended<Val>,
     field: Field,
     is_alone: bool,
 ) -> Result<String, Fault> {
     match field {
-        Field::Journal => journal(alloc, ended, is_alone),
+        Field::Journal => journal(alloc, report, is_alone),
         Field::Output => output(alloc, ended.output()),
-        Field::Turns => turns(alloc, ended),
+        Field::Turns => turns(alloc, report.turns(), ended),
         Field::Unwound => line(alloc, u64::from(ended.counters().unwound)),
         _ => cells(alloc, ended.store()),
     }
 }
 
 /// The entries from which a run went on, and those that it added, a line each.
-fn journal(alloc: Global, ended: &Ended<Val>, is_alone: bool) -> Result<String, Fault> {
+fn journal(alloc: Global, report: &CaseReport, is_alone: bool) -> Result<String, Fault> {
     let mut text = String::new(alloc);
-    write_entries(&mut text, ended.base(), is_alone)?;
-    write_entries(&mut text, ended.journal(), is_alone)?;
+    write_entries(&mut text, report.base(), is_alone)?;
+    write_entries(&mut text, report.journal(), is_alone)?;
     Ok(text)
 }
 
@@ -76,10 +77,9 @@ fn output(alloc: Global, output: &[i64]) -> Result<String, Fault> {
 }
 
 /// The events that counted, and how often a seat was in another's way, where that was.
-fn turns(alloc: Global, ended: &Ended<Val>) -> Result<String, Fault> {
+fn turns(alloc: Global, turns: u32, ended: &Ended<Val>) -> Result<String, Fault> {
     let counters = ended.counters();
     let (conflicts, invalids) = (counters.conflicts, counters.invalids);
-    let turns = ended.turns();
     if conflicts == 0 && invalids == 0 {
         return line(alloc, u64::from(turns));
     }

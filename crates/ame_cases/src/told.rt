@@ -42,7 +42,7 @@ pub fn told(
         },
         Field::Journal | Field::Output | Field::Turns | Field::Unwound | Field::Cells => {
             match &report.ended {
-                Some(ended) => left(alloc, ended, field, is_alone),
+                Some(ended) => left(alloc, report, ended, field, is_alone),
                 None => word(alloc, "none"),
             }
         }
@@ -79,7 +79,7 @@ fn begun(alloc: Global, report: &CaseReport) -> Result<String, Fault> {
 fn resumed(alloc: Global, own: &Own) -> Result<String, Fault> {
     match own {
         Own::Resumed(entries) => line(alloc, *entries),
-        Own::Nothing | Own::Picked(_) | Own::Unmade(_) => word(alloc, "none"),
+        Own::Nothing | Own::Picked(_) | Own::Unmade(_) | Own::Weak(_) => word(alloc, "none"),
     }
 }
 
@@ -121,12 +121,12 @@ fn sizes(alloc: Global, code: &Code, field: Field) -> Result<String, Fault> {
 
 /// What the strong semantics comes to by the certificate, or by the journal of the run.
 fn replay(alloc: Global, case: &Case, report: &CaseReport) -> Result<String, Fault> {
-    let (Some(code), Some(ended)) = (&report.code, &report.ended) else {
+    let Some(code) = &report.code else {
         return word(alloc, "none");
     };
     let program = copy_term(alloc, &code.accepted().program.term)?;
     let state = match &case.certificate {
-        None => replayed(alloc, program, ended.base(), ended.journal())?,
+        None => replayed(alloc, program, report.base(), report.journal())?,
         Some(lines) => match journal(alloc, lines.as_str())? {
             Some(journal) => replayed(alloc, program, &[], journal.entries())?,
             None => return word(alloc, "no journal"),

@@ -128,7 +128,7 @@ pub fn limits_of(alloc: Global, words: &[String]) -> Option<Limits> {
         Ok(Command::Run(options) | Command::Bench(_, _, options)) => options,
         Ok(Command::Sim(_, options) | Command::Replay(options) | Command::Resume(options)) =>
             options,
-        Ok(Command::Check) | Err(_) => return None,
+        Ok(Command::Check | Command::Weak(_, _)) | Err(_) => return None,
     };
     Some(Limits {
         turns: options.turns,

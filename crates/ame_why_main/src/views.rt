@@ -44,7 +44,7 @@ pub fn page_of<K>(
 ) -> Result<Vec<u8>, NoMemory>
     requires small { vec_len report.now.text ≤ max_text }
 {
-    let entries = entries_of(alloc, ended)?;
+    let entries = entries_of(alloc, report)?;
     match view {
         View::Trace => trace_text(alloc, report, ended, &entries),
         View::Schedule => schedule_text(alloc, &report.own, &report.text),
@@ -60,12 +60,12 @@ pub fn page_of<K>(
 }
 
 /// The entries of a whole run: those from which it went on, and those that it added.
-fn entries_of(alloc: Global, ended: &Ended<Val>) -> Result<Vec<Entry>, NoMemory> {
+fn entries_of<K, D>(alloc: Global, report: &Report<K, D>) -> Result<Vec<Entry>, NoMemory> {
     let mut entries = Vec::new(alloc);
-    for entry in ended.base() {
+    for entry in report.base() {
         push(&mut entries, entry.copy(alloc)?)?;
     }
-    for entry in ended.journal() {
+    for entry in report.journal() {
         push(&mut entries, entry.copy(alloc)?)?;
     }
     Ok(entries)
@@ -125,7 +125,9 @@ fn shown_entries(entries: &[Entry]) -> usize
 fn schedule_text(alloc: Global, own: &Own, text: &[u8]) -> Result<Vec<u8>, NoMemory> {
     match own {
         Own::Picked(mades) => mades.schedule_text(alloc, text),
-        Own::Nothing | Own::Unmade(_) | Own::Resumed(_) => Ok(Vec::from_slice(alloc, NO_SCHEDULE)?),
+        Own::Nothing | Own::Unmade(_) | Own::Resumed(_) | Own::Weak(_) => {
+            Ok(Vec::from_slice(alloc, NO_SCHEDULE)?)
+        }
     }
 }
 

@@ -1,21 +1,23 @@
 //! `resume`: a run that goes on from a certificate.
 
-ghost use Rattle.std.specs.Prelude.{◌≡◌, All, IfErr, IfOk, List, length, vec_len, ℤ};
+ghost use Rattle.std.specs.Prelude.{◌≡◌, All, IfErr, IfOk, List, Some, length, vec_len, ℕ, ℤ};
 ghost use Rattle.std.specs.Arc.{arc_value};
 ghost use Rattle.ame_term.specs.Tree.{Tree};
 ghost use Rattle.ame_journal.specs.JournalView.{IsFit};
+ghost use Rattle.ame_journal.specs.Replay.{replay};
+ghost use Rattle.ame_journal.specs.Replayed.{Replayed};
 ghost use Rattle.ame_journal.specs.Totals.{without_notes};
 ghost use Rattle.ame_check.specs.Judge.{LeadsTo, IsTallAt};
 ghost use Rattle.ame_cli.specs.Ranges.{AreInRange};
 ghost use Rattle.ame_cli.specs.declared.command.Command.{Command as Asked};
 ghost use Rattle.ame_code.specs.Code.{program_of};
 ghost use Rattle.ame_code.specs.FlatCode.{FlatCode};
-ghost use Rattle.ame_engine.specs.Resuming.{HasResumed};
+ghost use Rattle.ame_engine.specs.Resuming.{AreActs, FailsToResume, HasResumed, IsFar};
 ghost use Rattle.ame_engine.specs.Whole.{AreLimits};
 ghost use Rattle.ame_eval.specs.Values.{value_meant};
 ghost use Rattle.ame_shell.specs.Ends.{ends_of};
 ghost use Rattle.ame_shell.specs.Over.{IsOverSince};
-ghost use Rattle.ame_app.specs.Jobs.{fragments, IsOutlook};
+ghost use Rattle.ame_app.specs.Jobs.{fragments, IsEngineOn, IsOutlook};
 ghost use Rattle.ame_app.specs.Verbs.Check.{entries_before as entries_in};
 ghost use Rattle.ame_app.specs.Verbs.Resume.{TellsResumed};
 
@@ -40,7 +42,7 @@ use std::sync::{Arc, Wait};
 use std::thread::Threads;
 
 /// The entries that are no notes.
-fn acts_of(alloc: Global, entries: &[Entry]) -> Result<Journal, NoMemory>
+pub(crate) fn acts_of(alloc: Global, entries: &[Entry]) -> Result<Journal, NoMemory>
     requires fit { All IsFit entries.now }
     ensures { IfOk result (λ acts. acts.entries ≡ without_notes entries.now) }
 {
@@ -80,6 +82,31 @@ fn tall(alloc: Global, front: &Front, options: Options, place: u64) -> Result<Ou
     }
 }
 
+/// An engine that goes on from entries that are no notes and lead to a state.
+pub(crate) fn engine_on(
+    alloc: Global,
+    code: &Arc<Code>,
+    options: Options,
+    base: Journal,
+) -> Result<Engine<Fragment>, ResumeFail>
+    requires ranges { AreInRange options }
+    requires acts { AreActs base.entries }
+    requires leads { (led : Replayed) × (replay (program_of (arc_value code.now)) base.entries ≡ Some led) }
+    ensures on { IfOk result (IsEngineOn options base.entries (arc_value code.now)) }
+    ensures near { IfOk result (λ _. (n : ℕ) → IsFar base.entries n → ⊥) }
+    ensures fail { IfErr result (FailsToResume (program_of (arc_value code.now)) base.entries) }
+{
+    let Ok(code) = Arc::try_clone(code) else {
+        return Err(ResumeFail::NoMemory);
+    };
+    let limits = Limits {
+        turns: options.turns,
+        slice: options.slice,
+        seats: options.workers,
+    };
+    Engine::<Fragment>::resume(alloc, code, limits, base)
+}
+
 /// An engine that goes on from a journal that leads to a state, without its notes; or which of its entries is too far for one.
 fn go_on(
     alloc: Global,
@@ -92,15 +119,7 @@ fn go_on(
     ensures { IfOk result (IsOutlook (Asked.Resume options) front.now (arc_value code.now)) }
 {
     let base = acts_of(alloc, entries_before(front))?;
-    let Ok(code) = Arc::try_clone(code) else {
-        return Err(NoMemory);
-    };
-    let limits = Limits {
-        turns: options.turns,
-        slice: options.slice,
-        seats: options.workers,
-    };
-    match Engine::<Fragment>::resume(alloc, code, limits, base) {
+    match engine_on(alloc, code, options, base) {
         Ok(engine) => Ok(Outlook::GoesOn(engine)),
         Err(ResumeFail::Far(place)) => Ok(Outlook::Told(told_alone(
             alloc,

@@ -89,7 +89,7 @@ fn mades_of(own: &Own) -> &[Done]
 {
     match own {
         Own::Picked(mades) => mades.as_slice(),
-        Own::Nothing | Own::Unmade(_) | Own::Resumed(_) => &[],
+        Own::Nothing | Own::Unmade(_) | Own::Resumed(_) | Own::Weak(_) => &[],
     }
 }
 

@@ -200,6 +200,37 @@ fn resume_with_its_options(rt: HostRuntime) -> Result<(), Fail> {
     Ok(())
 }
 
+/// Words, with the seed and the turns that they spell.
+const WEAKS: &[(&[&str], u32, u32)] = &[
+    (&["weak", "1"], 1, 1_000_000),
+    (&["weak", "--turns", "2", "65536"], 65_536, 2),
+    (&["weak", "0", "--turns=4000000"], 0, 4_000_000),
+];
+
+#[test]
+fn weak_with_its_turns(rt: HostRuntime) -> Result<(), Fail> {
+    for &(words, seed, turns) in WEAKS {
+        let command = Command::Weak(seed, turns);
+        assert!(rt; is_read_as(rt.alloc(), words, Ok(command))?, "{words:?}");
+    }
+    let none: &[&[&str]] = &[
+        &["weak"],
+        &["weak", "65537"],
+        &["weak", "1", "2"],
+        &["weak", "1", "--workers", "2"],
+        &["weak", "1", "--slice=1"],
+        &["weak", "1", "--turns", "0"],
+        &["weak", "1", "--turns", "1", "--turns", "1"],
+    ];
+    for words in none {
+        assert!(rt;
+            is_read_as(rt.alloc(), words, Err(CliFail::Usage))?,
+            "{words:?}"
+        );
+    }
+    Ok(())
+}
+
 #[test]
 fn check_stands_alone(rt: HostRuntime) -> Result<(), Fail> {
     assert!(rt; is_read_as(rt.alloc(), &["check"], Ok(Command::Check))?);

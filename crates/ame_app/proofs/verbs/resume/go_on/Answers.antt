@@ -9,23 +9,20 @@ use Rattle.ame_app.specs.Verbs.Check.{entries_before}
 use Rattle.ame_app.proofs.ResumeLemmas.{acts-are, acts-lead, goes-on}
 use Rattle.ame_app.proofs.verbs.resume.go_on.Goals as goal
 
-pub resume-requires-clause-base : goal.resume-requires-clause-base
-resume-requires-clause-base c =
+pub engine_on-requires-clause-acts : goal.engine_on-requires-clause-acts
+engine_on-requires-clause-acts c =
     subst AreActs (sym (c.in_ok-base.ensures ∙ ap without_notes c.entries_before.ensures.entries)) (acts-are (entries_before c.args.front.now))
 
-pub resume-requires-clause-replayed : goal.resume-requires-clause-replayed
-resume-requires-clause-replayed c =
+pub engine_on-requires-clause-leads : goal.engine_on-requires-clause-leads
+engine_on-requires-clause-leads c =
     let leads = c.requires.leads in
     let lead = acts-lead (program_of (arc_value c.args.code.now)) (entries_before c.args.front.now) leads.0 leads.1 in (
       lead.0,
-      ap (λ k. replay (program_of k) c.in_ok-base.base.entries) c.in-Ok.ensures
-          ∙ ap (replay (program_of (arc_value c.args.code.now))) (c.in_ok-base.ensures ∙ ap without_notes c.entries_before.ensures.entries) ∙ lead.1,
+      ap (replay (program_of (arc_value c.args.code.now))) (c.in_ok-base.ensures ∙ ap without_notes c.entries_before.ensures.entries) ∙ lead.1,
     )
 
-pub returns-in-Ok-resume : goal.returns-in-Ok-resume
-returns-in-Ok-resume c =
+pub returns-in-Ok : goal.returns-in-Ok
+returns-in-Ok c =
     let leads = c.requires.leads in
-    let resumed = c.in-Ok-resume.ensures in
-    goes-on c.args.options c.args.front.now (arc_value c.args.code.now) (limits_of c.args.options) c.in_ok-base.base.entries leads.0 c.in-Ok-resume.engine refl
-    (c.in_ok-base.ensures ∙ ap without_notes c.entries_before.ensures.entries) leads.1
-    (λ n far. let clash = resumed.far n far in cc) (resumed.code ∙ c.in-Ok.ensures) resumed.state
+    goes-on c.args.options c.args.front.now (arc_value c.args.code.now) (limits_of c.args.options) c.in_ok-base.base.entries leads.0 c.in-Ok.engine refl
+    (c.in_ok-base.ensures ∙ ap without_notes c.entries_before.ensures.entries) leads.1 c.in-Ok.ensures.near c.in-Ok.ensures.on.code_is c.in-Ok.ensures.on.resumed

@@ -1,0 +1,84 @@
+-- `weak`: a source that is the text of a program, run under the weak semantics by the choices of a seed. An engine is opened on the journal of that
+-- run without its notes, and is taken apart at once.
+use Rattle.std.specs.Prelude.{◌≡◌, ◌≢◌, ℕ, ℤ, ◌*◌, ◌≤◌, List, [], Some, None}
+use Rattle.ame_term.specs.Tree.{Tree}
+use Rattle.ame_term.specs.Frame.{Side}
+use Rattle.ame_term.specs.Context.{Focus, focus}
+use Rattle.ame_term.specs.Act.{Act, act_of}
+use Rattle.ame_term.specs.Maps.{at}
+use Rattle.ame_term.specs.State.{State}
+use Rattle.ame_term.specs.declared.semantics.Label.{Label}
+use Rattle.ame_value.specs.declared.val.Val.{Val}
+use Rattle.ame_io.specs.Counts.{HasRisen}
+use Rattle.ame_journal.specs.declared.entry.Entry.{Entry}
+use Rattle.ame_journal.specs.Totals.{without_notes, total_steps}
+use Rattle.ame_protocol.specs.declared.stop.Stop.{Stop}
+use Rattle.ame_protocol.specs.Event.Counting.{nothing_counted}
+use Rattle.ame_engine.specs.Ending.{End}
+use Rattle.ame_shell.specs.Ends.{Ends, told_at}
+use Rattle.ame_weak.specs.Weak.{Weak, IsWeakRun}
+use Rattle.ame_weak.specs.Straight.{outset}
+use Rattle.ame_weak.specs.Tries.{AreTried, straight_with}
+use Rattle.ame_weak.specs.declared.tries.Try.{Try}
+use Rattle.ame_cli.specs.Items.{default_of}
+use Rattle.ame_cli.specs.declared.item.Item.TheVariants.{Slice}
+use Rattle.ame_cli.specs.declared.command.Options.{Options}
+use Rattle.ame_app.specs.declared.parts.Own.{Own}
+use Rattle.ame_app.specs.declared.parts.Weakened.{Weakened}
+
+-- What is run
+
+-- one seat, with these turns
+abbrev pub alone_with : ℕ → Options
+alone_with turns = record { workers = 1; turns = turns; slice = default_of Slice }
+
+-- entries are the journal of the labels of a weak run, at whose end nothing is active, with the notes of tries that hold where they stand
+pub record IsWeakJournal (program : Tree) (entries : List Entry) : Type 0 where
+  pub labels : List Label
+  pub tries : List Try
+  pub weak : Weak
+  pub leads : IsWeakRun program labels weak
+  pub idle : weak.state.active ≡ None
+  pub tried : AreTried program labels tries
+  pub entries_are : entries ≡ straight_with 0 tries outset labels
+
+-- What is told
+
+-- of a run what its engine left, but of a weak run its own journal, turns and stop
+abbrev pub told_by : Own → End Val → End Val
+told_by (Own.Weak weakened) left =
+    record left {
+      base = [];
+      entries = weakened.journal.entries;
+      turns = weakened.turns;
+      stop = Some weakened.stop;
+      certificates = weakened.certificates.items;
+    }
+told_by own left = left
+
+-- The report has the journal of a weak run, whose steps and entries pay a third of its turns at least, unless memory was wanted. The engine
+-- that was opened on it has added nothing.
+pub record IsWeakened (program : Tree) (own : Own) (left : End Val) : Type 0 where
+  pub weakened : Weakened
+  pub own_is : own ≡ Own.Weak weakened
+  pub journal : IsWeakJournal program weakened.journal.entries
+  pub paid : weakened.stop ≢ Stop.NoMemory → weakened.turns ≤ 3 * total_steps weakened.journal.entries
+  pub base : left.base ≡ without_notes weakened.journal.entries
+  pub nothing : left.entries ≡ []
+  pub untried : left.tried ≡ []
+  pub uncounted : left.counters ≡ nothing_counted
+
+-- a member stands at a call of a device
+pub record StandsAtCallOf (s : State) (device : ℕ) : Type 0 where
+  pub number : ℕ
+  pub term : Tree
+  pub member : at s.members number ≡ Some term
+  pub redex : Tree
+  pub stands : focus term ≡ Focus.AtRedex Side.Unprotected redex
+  pub argument : ℤ
+  pub calls : act_of redex ≡ Act.Calls device argument
+
+-- a device failed in this call, or its count stands at its last value; a member stands at a call of it, which may not have come in by an entry
+pub record IsWeakFault (device : ℕ) (s : State) (before after : Ends) : Type 0 where
+  pub stands : StandsAtCallOf s device
+  pub faults : HasRisen (told_at before.told device).faults (told_at after.told device).faults

@@ -39,7 +39,7 @@ use Rattle.ame_app.specs.Causes.{RefusalCause, RunCause, CommandCause, status_at
 use Rattle.ame_app.specs.Causes.RefusalCause.{by_words, by_source, by_length, by_input, by_text, by_types, by_program, by_memory}
 use Rattle.ame_app.specs.Headline.{Reported, DevicesTell, DevicesTellIfAble, DevicesTellOf, Headline, IsTurnedAway, IsWritten, verdict_of}
 use Rattle.ame_app.specs.Complete.{IsGivenBytes, IsGivenText, IsGivenInVain, IsUnread, IsRefused, NothingFailed, IsUnlessMemory, TellsFault, TellsRule, TellsEnd, TellsEndWith, TellsOutcome, TellsInput, TellsDevice, IsComplete}
-use Rattle.ame_app.specs.Answered.{IsAnswered}
+use Rattle.ame_app.specs.Answered.{IsPromised}
 use Rattle.ame_app.specs.Verdict.{verdict}
 use Rattle.ame_app.proofs.VerbLemmas.{takes-one, takes-none, declines-one, settles-one, settles-same, begins-unsettled}
 use Rattle.ame_app.proofs.TurnedLemmas.{SpellOne, input-stays}
@@ -413,7 +413,7 @@ module _ (one : SpellOne) (call : Call) (report : Reported) (before after : Ends
 
   -- a run was begun, and its headline holds
   pub answered-run : (ended : Option (End Val)) → IsSome ended → IfSome ended (λ end. Headline call report end (told_by report.own end) before after)
-      → IsAnswered call report ended before after
+      → IsPromised call report ended before after
   answered-run None some ran = absurd (cc)
   answered-run (Some end) some ran = record {
     ran = ran;
@@ -424,11 +424,11 @@ module _ (one : SpellOne) (call : Call) (report : Reported) (before after : Ends
 
   -- none was
   pub answered-turned : (ended : Option (End Val)) → ended ≡ None → length report.text ≤ whole_limit → IsTurnedAway call report before after
-      → IsAnswered call report ended before after
+      → IsPromised call report ended before after
   answered-turned None none short turned = record { ran = tt; turned_away = λ _. turned; complete = complete-turned turned; short = short }
   answered-turned (Some end) none short turned = absurd (cc)
 
   pub answered : (ended : Option (End Val)) → length report.text ≤ whole_limit → IfSome ended (λ end. Headline call report end (told_by report.own end) before after)
-      → (ended ≡ None → IsTurnedAway call report before after) → IsAnswered call report ended before after
+      → (ended ≡ None → IsTurnedAway call report before after) → IsPromised call report ended before after
   answered None short ran turned = answered-turned None refl short (turned refl)
   answered (Some end) short ran turned = answered-run (Some end) refl ran

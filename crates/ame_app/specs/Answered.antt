@@ -10,7 +10,7 @@ use Rattle.ame_app.specs.Complete.{IsComplete}
 use Rattle.ame_app.specs.Verbs.Weak.{told_by}
 
 -- Where a run was begun, the headline; where none was, that the call was turned away; and of both what the status must be.
-pub record IsAnswered (call : Call) (report : Reported) (ended : Option (End Val)) (before after : Ends) : Type 0 where
+pub record IsPromised (call : Call) (report : Reported) (ended : Option (End Val)) (before after : Ends) : Type 0 where
   pub ran : IfSome ended (λ end. Headline call report end (told_by report.own end) before after)
   pub turned_away : ended ≡ None → IsTurnedAway call report before after
   pub complete : IsComplete call report.status before after

@@ -5,7 +5,7 @@ ghost use Rattle.std.specs.Arc.{arc_value};
 ghost use Rattle.ame_types.specs.Limits.{max_devices};
 ghost use Rattle.ame_cli.specs.Ranges.{IsInRange};
 ghost use Rattle.ame_shell.specs.Ends.{Ends, ends_of};
-ghost use Rattle.ame_app.specs.Answered.{IsAnswered};
+ghost use Rattle.ame_app.specs.Answered.{IsPromised};
 ghost use Rattle.ame_app.specs.Calls.{Call, what_is_given, call_of};
 ghost use Rattle.ame_app.specs.Headline.{reported, Headline, IsToldAlone, IsTurnedAway};
 ghost use Rattle.ame_app.specs.Verbs.Weak.{told_by};
@@ -48,7 +48,7 @@ where
     D: Device + Send,
     G: Gate + Sync,
     requires few { vec_len devices ≤ max_devices }
-    ensures answered { IsAnswered (call_of (map string_bytes words.now)
+    ensures answered { IsPromised (call_of (map string_bytes words.now)
         (what_is_given S.left S.faults source.old) (what_is_given S.left S.faults source.new) (vec_len devices))
         (reported result.status result.text.items (option_map arc_value result.code) result.own) result.ended
         (ends_of K.written K.faults D.device_heard D.device_faults sink devices.items)
@@ -92,7 +92,7 @@ where
     K: Sink + Send + Drop,
     G: Gate + Sync,
     requires few { vec_len devices ≤ max_devices }
-    ensures answered { IsAnswered (call_of (map string_bytes words.now)
+    ensures answered { IsPromised (call_of (map string_bytes words.now)
         (what_is_given S.left S.faults source.old) (what_is_given S.left S.faults source.new) (vec_len devices))
         (reported result.status result.text.items (option_map arc_value result.code) result.own) result.ended
         (ends_of K.written K.faults device_heard device_faults sink devices.items)

@@ -5,7 +5,7 @@ ghost use Rattle.std.specs.Arc.{arc_value};
 ghost use Rattle.ame_device.specs.Calls.{told, all_told};
 ghost use Rattle.ame_shell.specs.Ends.{ends_of};
 ghost use Rattle.ame_app.specs.Calls.{what_is_given, call_of};
-ghost use Rattle.ame_app.specs.Answered.{IsAnswered};
+ghost use Rattle.ame_app.specs.Answered.{IsPromised};
 ghost use Rattle.ame_app.specs.Headline.{reported, IsToldAlone};
 ghost use Rattle.ame_app.specs.declared.parts.Own.{Own};
 ghost use Rattle.ame_app.specs.Standard.{heard_by, faults_of, with_new};
@@ -51,7 +51,7 @@ where
     R: Threads + Wait + Sync,
     S: Source,
     K: Sink + Send + Drop,
-    ensures answered { IfOk words (λ ws. IsAnswered (call_of (map string_bytes ws.items)
+    ensures answered { IfOk words (λ ws. IsPromised (call_of (map string_bytes ws.items)
         (what_is_given S.left S.faults source.old) (what_is_given S.left S.faults source.new) 2)
         (reported result.status result.text.items (option_map arc_value result.code) result.own) result.ended
         (with_new (vec_len result.devices) (K.written sink) (K.faults sink))

@@ -21,8 +21,8 @@ play_of p = record {
 }
 
 -- the tries so far, in order
-abbrev pub tries_of : Notes → List Try
-tries_of n = n.tries.items
+abbrev pub noted_tries : Notes → List Try
+noted_tries n = n.tries.items
 
 -- whether a member is put aside
 abbrev pub aside_of : Notes → ℕ → Bool
@@ -31,7 +31,7 @@ aside_of n = contains nat_cmp n.aside
 abbrev pub run_of : Run → RunView
 run_of r = record {
   play = play_of r.play;
-  tries = tries_of r.notes;
+  tries = noted_tries r.notes;
   aside = aside_of r.notes;
   left = r.left.items;
   above = r.above;

@@ -48,7 +48,7 @@ use Rattle.ame_engine.proofs.MakesLemmas.{begun-made, read-made, written-made, m
 use Rattle.ame_engine.proofs.MakesLemmas.{noted-made, ended-made, left-made, tall-made, cut-made, refused-made, visited-made}
 use Rattle.ame_turn.specs.declared.work.Deed.{Deed}
 use Rattle.ame_turn.specs.Asked.{AsksFor, RunsTo, Accesses, IsToCheck, IsToCommit, IsToVisit, HasNoTurnsLeft, IsToUndo, AreAllValid}
-use Rattle.ame_turn.specs.Deeds.{StopsBy, is_visit, IsShownAt, Meets, Tells, IsMade, IsDone}
+use Rattle.ame_turn.specs.Deeds.{StopsBy, is_visit, IsShownAt, Meets, IsDeedOf, IsMade, IsDone}
 use Rattle.ame_machine.specs.Meaning.{Meaning}
 
 module _ {C V M : Type 0} (meaning : Meaning C V M) (seat : ℕ)
@@ -204,45 +204,45 @@ module _ {C V M : Type 0} (meaning : Meaning C V M) (seat : ℕ) (hand : Option 
   spends None invalid is = is
   spends (Some s) invalid is = inr (invalid s refl, is)
 
-  row-of : (deed : Deed) (e : Event) → Tells meaning seat hand old new before after deed e → Makes meaning e old new → Rowed deed
-  row-of _ _ (Tells.began number meets) m = (number, meets, begun-made meaning old new seat number m)
-  row-of _ _ (Tells.stopped pick why meets is stops) m = (pick, meets, stops)
-  row-of _ _ (Tells.read s l comes) m = (s, l, comes, read-made meaning old new seat l m)
-  row-of _ _ (Tells.wrote s l v comes sets) m =
+  row-of : (deed : Deed) (e : Event) → IsDeedOf meaning seat hand old new before after deed e → Makes meaning e old new → Rowed deed
+  row-of _ _ (IsDeedOf.began number meets) m = (number, meets, begun-made meaning old new seat number m)
+  row-of _ _ (IsDeedOf.stopped pick why meets is stops) m = (pick, meets, stops)
+  row-of _ _ (IsDeedOf.read s l comes) m = (s, l, comes, read-made meaning old new seat l m)
+  row-of _ _ (IsDeedOf.wrote s l v comes sets) m =
       (s, l, v, comes, sets, own-wrote seat (cell_at (heap_in parts) l.0).owner m.may.2, written-made meaning old new seat l v m)
-  row-of _ _ (Tells.met s l a owner comes) m =
+  row-of _ _ (IsDeedOf.met s l a owner comes) m =
       (s, l, a, comes, other-conflict seat owner (cell_at (heap_in parts) l.0).owner m.may.2.0 m.may.2.1, m.may.1, met-made meaning old new seat a l owner m)
-  row-of _ _ (Tells.allocated s sort ty v comes sets) m = (s, sort, ty, v, comes, sets, allocated-made meaning old new seat sort ty v m)
-  row-of _ _ (Tells.checked s a checks) m =
+  row-of _ _ (IsDeedOf.allocated s sort ty v comes sets) m = (s, sort, ty, v, comes, sets, allocated-made meaning old new seat sort ty v m)
+  row-of _ _ (IsDeedOf.checked s a checks) m =
       (s, checks, a, record { task = m.may.1.1.task; valid = valid-in m.may.2 }, checked-made meaning old new seat a s.steps m)
-  row-of _ _ (Tells.found_invalid s a bad checks invalid) m = (s, checks, turned-back a Find.Check bad invalid m)
-  row-of _ _ (Tells.ended s a place runs shows) m = (
+  row-of _ _ (IsDeedOf.found_invalid s a bad checks invalid) m = (s, checks, turned-back a Find.Check bad invalid m)
+  row-of _ _ (IsDeedOf.ended s a place runs shows) m = (
     s,
     runs,
     a,
     record { task = m.may.1.task; valid = valid-in m.may.2 },
     ended-made meaning old new s seat a (record { place = place; shows = shows; makes = m }),
   )
-  row-of _ _ (Tells.left s a place runs shows) m = (
+  row-of _ _ (IsDeedOf.left s a place runs shows) m = (
     s,
     runs,
     a,
     record { task = m.may.1.task; valid = valid-in m.may.2 },
     left-made meaning old new s seat a (record { place = place; shows = shows; makes = m }),
   )
-  row-of _ _ (Tells.refused s a bad commits invalid) m = (s, commits, turned-back a Find.Commit bad invalid m)
-  row-of _ _ (Tells.noted s a place runs shows) m = (
+  row-of _ _ (IsDeedOf.refused s a bad commits invalid) m = (s, commits, turned-back a Find.Commit bad invalid m)
+  row-of _ _ (IsDeedOf.noted s a place runs shows) m = (
     s,
     runs,
     a,
     record { task = m.may.1.task; valid = valid-in m.may.2 },
     noted-made meaning old new s seat a (record { place = place; shows = shows; makes = m }),
   )
-  row-of _ _ (Tells.not_noted s a bad runs invalid) m = (s, runs, turned-back a Find.Block bad invalid m)
-  row-of _ _ (Tells.grew_tall s a place asks valid shows) m =
+  row-of _ _ (IsDeedOf.not_noted s a bad runs invalid) m = (s, runs, turned-back a Find.Block bad invalid m)
+  row-of _ _ (IsDeedOf.grew_tall s a place asks valid shows) m =
       (s, asks, a, m.may.1.1.works, valid, tall-made meaning old new s seat a (record { place = place; shows = shows; makes = m }))
-  row-of _ _ (Tells.not_tall s a bad runs invalid) m = (s, runs, turned-back a Find.Tall bad invalid m)
-  row-of _ _ (Tells.came_home s comes answer memory a place visits leads shows) m =
+  row-of _ _ (IsDeedOf.not_tall s a bad runs invalid) m = (s, runs, turned-back a Find.Tall bad invalid m)
+  row-of _ _ (IsDeedOf.came_home s comes answer memory a place visits leads shows) m =
       let at : MakesAt meaning comes answer (visits_at seat a comes memory) old new = record { place = place; shows = shows; makes = m } in (
         s,
         visits,
@@ -259,7 +259,7 @@ module _ {C V M : Type 0} (meaning : Meaning C V M) (seat : ℕ) (hand : Option 
               (ap (λ (t : Task). unwrap_or (working t) a) (sym m.may.1.task ∙ is)) at;
         },
       )
-  row-of _ _ (Tells.device_failed s device argument a visits wants fails) m = (
+  row-of _ _ (IsDeedOf.device_failed s device argument a visits wants fails) m = (
     s,
     visits,
     a,
@@ -273,7 +273,7 @@ module _ {C V M : Type 0} (meaning : Meaning C V M) (seat : ℕ) (hand : Option 
           (ap (λ (t : Task). unwrap_or (working t) a) (sym m.may.1 ∙ is)) m;
     },
   )
-  row-of _ _ (Tells.cut s a place none is valid shows) m = (
+  row-of _ _ (IsDeedOf.cut s a place none is valid shows) m = (
     none,
     subst (Spends meaning seat hand old new) (sym is) (inl (record {
       attempt = a;
@@ -283,18 +283,18 @@ module _ {C V M : Type 0} (meaning : Meaning C V M) (seat : ℕ) (hand : Option 
     })),
     working-busy (task_at old.tasks seat) a m.may.2.1.works,
   )
-  row-of _ _ (Tells.spent none busy invalid is) m = (none, spends hand invalid is, busy)
-  row-of _ _ (Tells.undid a) m = (
+  row-of _ _ (IsDeedOf.spent none busy invalid is) m = (none, spends hand invalid is, busy)
+  row-of _ _ (IsDeedOf.undid a) m = (
     a,
     subst (λ (n : ℕ). 1 < n) undos-in m.may.1,
     record { undoes = to-undo a m.may.0; has = m.may.0.has; event = undone-made meaning old new seat a m },
   )
-  row-of _ _ (Tells.went_home a) m = (
+  row-of _ _ (IsDeedOf.went_home a) m = (
     a,
     subst (λ (n : ℕ). n ≤ 1) undos-in m.may.1,
     record { undoes = to-undo a m.may.0; has = m.may.0.has; event = gone-made meaning old new seat a m },
   )
-  row-of _ _ (Tells.lacked is) m = (m.may.none, is)
+  row-of _ _ (IsDeedOf.lacked is) m = (m.may.none, is)
 
   pub row-made : (deed : Deed) → IsMade meaning seat hand old new before after deed → Rowed deed
   row-made _ (IsMade.makes deed e tells m) = row-of deed e tells m

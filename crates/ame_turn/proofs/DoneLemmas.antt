@@ -39,7 +39,7 @@ use Rattle.ame_turn.specs.declared.work.Deed.{Deed}
 use Rattle.ame_turn.specs.Ready.{IsReady}
 use Rattle.ame_turn.specs.Work.{CanUndo, IsAtWork}
 use Rattle.ame_turn.specs.Asked.{waits_for_check, IsToGoOn, AsksFor, RunsTo, Accesses, IsToCheck, IsToCommit, IsToVisit, IsToTakeMemory, LacksWhereDue}
-use Rattle.ame_turn.specs.Deeds.{StopsBy, Tells, IsMade, IsDone}
+use Rattle.ame_turn.specs.Deeds.{StopsBy, IsDeedOf, IsMade, IsDone}
 use Rattle.ame_turn.proofs.DeedRows.{HasRow, rowed}
 use Rattle.ame_turn.proofs.ValidLemmas.{none-invalid}
 use Rattle.ame_machine.specs.Meaning.{Meaning}
@@ -182,7 +182,7 @@ module _ {C V M : Type 0} (meaning : Meaning C V M)
       (halts : mid.stop ≡ None → Makes meaning (Event.Halt Stop.NoMemory) mid new) (is : new ≡ stopped_by Stop.NoMemory mid) (lacks : deed ≡ Deed.Lacked) where
     pub lacked : IsDone meaning seat hand core new told told deed
     lacked = subst (λ (d : Deed). IsDone meaning seat hand core new told told d) (sym lacks) (record {
-      event = IsMade.makes _ _ (Tells.lacked (is ∙ ap (stopped_by Stop.NoMemory) same))
+      event = IsMade.makes _ _ (IsDeedOf.lacked (is ∙ ap (stopped_by Stop.NoMemory) same))
           (subst (λ (x : Core C V M). Makes meaning (Event.Halt Stop.NoMemory) x new) same (halts (ap (λ (x : Core C V M). x.stop) same ∙ going)));
       quiet = λ _. refl;
     })
@@ -197,11 +197,11 @@ module _ {C V M : Type 0} (meaning : Meaning C V M)
     stops-made (Pick.Member number) met idle h halts = absurd h
     stops-made Pick.Stopped met idle h halts = IsMade.rests (record { idle = idle; meets = met }) h
     stops-made Pick.Finished met idle h halts =
-        IsMade.makes _ _ (Tells.stopped Pick.Finished Stop.Finished (record { idle = idle; meets = met }) refl h) (halts Stop.Finished refl)
+        IsMade.makes _ _ (IsDeedOf.stopped Pick.Finished Stop.Finished (record { idle = idle; meets = met }) refl h) (halts Stop.Finished refl)
     stops-made Pick.Blocked met idle h halts =
-        IsMade.makes _ _ (Tells.stopped Pick.Blocked Stop.Blocked (record { idle = idle; meets = met }) refl h) (halts Stop.Blocked refl)
+        IsMade.makes _ _ (IsDeedOf.stopped Pick.Blocked Stop.Blocked (record { idle = idle; meets = met }) refl h) (halts Stop.Blocked refl)
     stops-made Pick.Spent met idle h halts =
-        IsMade.makes _ _ (Tells.stopped Pick.Spent Stop.Spent (record { idle = idle; meets = met }) refl h) (halts Stop.Spent refl)
+        IsMade.makes _ _ (IsDeedOf.stopped Pick.Spent Stop.Spent (record { idle = idle; meets = met }) refl h) (halts Stop.Spent refl)
     stops-made Pick.Idle met idle h halts = absurd h
 
 -- what a seat meets takes memory while no stop is kept

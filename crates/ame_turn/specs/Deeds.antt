@@ -63,52 +63,52 @@ module _ {C V M : Type 0} (meaning : Meaning C V M) (seat : ℕ)
   abbrev pub IsReadInvalid : Bad → Type 0
   IsReadInvalid bad = IsFirstBad old.memory.cells seat (row_at old.memory.rows seat).reads bad
 
-  -- A deed tells an event, to which the seat comes with the machine that it has at hand, if any. What the engine's own state says of
+  -- The deed of an event, to which the seat comes with the machine that it has at hand, if any. What the engine's own state says of
   -- it stands in `May`.
-  pub data Tells : Deed → Event → Type 0 where
-    began : (number : ℕ) → Meets (Pick.Member number) → Tells Deed.Began (Event.Begin seat number)
+  pub data IsDeedOf : Deed → Event → Type 0 where
+    began : (number : ℕ) → Meets (Pick.Member number) → IsDeedOf Deed.Began (Event.Begin seat number)
     stopped : (pick : Pick) (why : Stop) → Meets pick → stop_met pick ≡ Some why → StopsBy (certificates_in (parts_of meaning old)) pick old new
-        → Tells Deed.Stopped (Event.Halt why)
-    read : (s : MachineView) (l : Loc) → Accesses old hand s (wants.Read l) → Tells Deed.Read (Event.Read seat l)
-    wrote : (s : MachineView) (l : Loc) (v : Val) → Accesses old hand s (wants.Write l) → value_to_set s ≡ Some v → Tells Deed.Wrote (Event.Write seat l v)
+        → IsDeedOf Deed.Stopped (Event.Halt why)
+    read : (s : MachineView) (l : Loc) → Accesses old hand s (wants.Read l) → IsDeedOf Deed.Read (Event.Read seat l)
+    wrote : (s : MachineView) (l : Loc) (v : Val) → Accesses old hand s (wants.Write l) → value_to_set s ≡ Some v → IsDeedOf Deed.Wrote (Event.Write seat l v)
     met : (s : MachineView) (l : Loc) (attempt : Attempt) (owner : ℕ) → Accesses old hand s (wants.Write l)
-        → Tells (Deed.Met owner) (Event.TurnBack seat attempt (Reverse.Met l owner))
+        → IsDeedOf (Deed.Met owner) (Event.TurnBack seat attempt (Reverse.Met l owner))
     allocated : (s : MachineView) (sort : Sort) (ty : TyNo) (v : Val) → Accesses old hand s (wants.Alloc sort ty) → value_to_set s ≡ Some v
-        → Tells Deed.Allocated (Event.Alloc seat sort ty v)
-    checked : (s : MachineView) (attempt : Attempt) → IsToCheck old hand s → Tells Deed.Checked (Event.Check seat attempt s.steps)
+        → IsDeedOf Deed.Allocated (Event.Alloc seat sort ty v)
+    checked : (s : MachineView) (attempt : Attempt) → IsToCheck old hand s → IsDeedOf Deed.Checked (Event.Check seat attempt s.steps)
     found_invalid : (s : MachineView) (attempt : Attempt) (bad : Bad) → IsToCheck old hand s → IsReadInvalid bad
-        → Tells (Deed.FoundInvalid bad) (Event.TurnBack seat attempt (Reverse.Stale Find.Check))
+        → IsDeedOf (Deed.FoundInvalid bad) (Event.TurnBack seat attempt (Reverse.Stale Find.Check))
     ended : (s : MachineView) (attempt : Attempt) (place : LocalState) → RunsTo old hand s wants.Done → IsShownAt s None place
-        → Tells Deed.Ended (Event.End seat attempt s.steps place (owned_places seat (parts_of meaning old).memory.cells))
+        → IsDeedOf Deed.Ended (Event.End seat attempt s.steps place (owned_places seat (parts_of meaning old).memory.cells))
     left : (s : MachineView) (attempt : Attempt) (place : LocalState) → RunsTo old hand s wants.Leave → IsShownAt s None place
-        → Tells Deed.Left (Event.Leave seat attempt s.steps place (owned_places seat (parts_of meaning old).memory.cells))
+        → IsDeedOf Deed.Left (Event.Leave seat attempt s.steps place (owned_places seat (parts_of meaning old).memory.cells))
     refused : (s : MachineView) (attempt : Attempt) (bad : Bad) → IsToCommit old hand s → IsReadInvalid bad
-        → Tells (Deed.Refused bad) (Event.TurnBack seat attempt (Reverse.Stale Find.Commit))
+        → IsDeedOf (Deed.Refused bad) (Event.TurnBack seat attempt (Reverse.Stale Find.Commit))
     noted : (s : MachineView) (attempt : Attempt) (place : LocalState) → RunsTo old hand s wants.Block → IsShownAt s None place
-        → Tells Deed.Noted (Event.Note seat attempt s.steps place)
+        → IsDeedOf Deed.Noted (Event.Note seat attempt s.steps place)
     not_noted : (s : MachineView) (attempt : Attempt) (bad : Bad) → RunsTo old hand s wants.Block → IsReadInvalid bad
-        → Tells (Deed.NotNoted bad) (Event.TurnBack seat attempt (Reverse.Stale Find.Block))
+        → IsDeedOf (Deed.NotNoted bad) (Event.TurnBack seat attempt (Reverse.Stale Find.Block))
     grew_tall : (s : MachineView) (attempt : Attempt) (place : LocalState) → AsksFor old hand s wants.Tall → AreAllValid old seat → IsShownAt s None place
-        → Tells Deed.GrewTall (Event.Tall seat attempt s.steps place)
+        → IsDeedOf Deed.GrewTall (Event.Tall seat attempt s.steps place)
     not_tall : (s : MachineView) (attempt : Attempt) (bad : Bad) → RunsTo old hand s wants.Tall → IsReadInvalid bad
-        → Tells (Deed.NotTall bad) (Event.TurnBack seat attempt (Reverse.Stale Find.Tall))
+        → IsDeedOf (Deed.NotTall bad) (Event.TurnBack seat attempt (Reverse.Stale Find.Tall))
     came_home : (s comes : MachineView) (answer : Option ℤ) (memory : MemoryView Val) (attempt : Attempt) (place : LocalState) → IsToVisit old hand s
         → VisitsTo s (parts_of meaning old).memory before answer comes memory after → IsShownAt comes answer place
-        → Tells Deed.CameHome (Event.Visit seat attempt comes.steps place comes.inside memory)
+        → IsDeedOf Deed.CameHome (Event.Visit seat attempt comes.steps place comes.inside memory)
     device_failed : (s : MachineView) (device : ℕ) (argument : ℤ) (attempt : Attempt) → IsToVisit old hand s
         → s.want ≡ Some (wants.Device device argument) → CallsOne before device argument (Err DeviceFail.Failed) after
-        → Tells (Deed.DeviceFailed device) (Event.Refuse seat attempt device)
+        → IsDeedOf (Deed.DeviceFailed device) (Event.Refuse seat attempt device)
     cut : (s : MachineView) (attempt : Attempt) (place : LocalState) → HasNoTurnsLeft old → hand ≡ Some s → AreAllValid old seat → IsShownAt s None place
-        → Tells Deed.Spent (Event.Cut seat attempt s.steps place)
+        → IsDeedOf Deed.Spent (Event.Cut seat attempt s.steps place)
     spent : HasNoTurnsLeft old → is_some (attempt_of (task_at old.tasks seat)) ≡ true
-        → ((s : MachineView) → hand ≡ Some s → AreAllValid old seat → ⊥) → new ≡ stopped_by Stop.Spent old → Tells Deed.Spent (Event.Halt Stop.Spent)
-    undid : (attempt : Attempt) → Tells Deed.Undid (Event.Undo seat attempt)
-    went_home : (attempt : Attempt) → Tells Deed.WentHome (Event.Home seat attempt)
-    lacked : new ≡ stopped_by Stop.NoMemory old → Tells Deed.Lacked (Event.Halt Stop.NoMemory)
+        → ((s : MachineView) → hand ≡ Some s → AreAllValid old seat → ⊥) → new ≡ stopped_by Stop.Spent old → IsDeedOf Deed.Spent (Event.Halt Stop.Spent)
+    undid : (attempt : Attempt) → IsDeedOf Deed.Undid (Event.Undo seat attempt)
+    went_home : (attempt : Attempt) → IsDeedOf Deed.WentHome (Event.Home seat attempt)
+    lacked : new ≡ stopped_by Stop.NoMemory old → IsDeedOf Deed.Lacked (Event.Halt Stop.NoMemory)
 
   -- What a seat made: one event, which its deed tells; or none, where it waits for others or a stop was kept before.
   pub data IsMade : Deed → Type 0 where
-    makes : (deed : Deed) (e : Event) → Tells deed e → Makes meaning e old new → IsMade deed
+    makes : (deed : Deed) (e : Event) → IsDeedOf deed e → Makes meaning e old new → IsMade deed
     waits : Meets Pick.Idle → new ≡ old → IsMade Deed.Waited
     rests : Meets Pick.Stopped → new ≡ old → IsMade Deed.Stopped
 

@@ -6,14 +6,14 @@ use Rattle.ame_term.specs.State.{State, after}
 use Rattle.ame_term.specs.declared.semantics.Label.{Label}
 use Rattle.ame_print.specs.Printer.{spelling_of}
 use Rattle.ame_strong.specs.View.{state_of}
-use Rattle.ame_why.specs.Stepped.{kind_of, label_words, term_at, shown_term, changed_at, stored_words, started_words, label_row, entry_line, Leads}
-use Rattle.ame_why.specs.Steppers.{GoesOn}
+use Rattle.ame_why.specs.Stepped.{kind_of, label_words, reduced_term, shown_term, changed_at, stored_words, started_words, label_row, entry_heading, Leads}
+use Rattle.ame_why.specs.Steppers.{LeadsFurther}
 use Rattle.ame_why.specs.declared.steps.Stepper.{Stepper}
 
-pub goes_itself : (s : Stepper) → GoesOn s s
+pub goes_itself : (s : Stepper) → LeadsFurther s s
 goes_itself s = record { names = refl; leads = λ z l. l }
 
-pub goes_further : (r s t : Stepper) → GoesOn r s → GoesOn s t → GoesOn r t
+pub goes_further : (r s t : Stepper) → LeadsFurther r s → LeadsFurther s t → LeadsFurther r t
 goes_further r s t a b = record {
   names = b.names ∙ a.names;
   leads = λ z l.
@@ -23,7 +23,7 @@ goes_further r s t a b = record {
 
 -- nothing was added
 pub stays_on : (old new : Stepper) → spelling_of new.names.items ≡ spelling_of old.names.items → new.page.items ≡ old.page.items
-    → state_of new.state ≡ state_of old.state → GoesOn old new
+    → state_of new.state ≡ state_of old.state → LeadsFurther old new
 stays_on old new names page state = record {
   names = names;
   leads = λ z l.
@@ -33,7 +33,7 @@ stays_on old new names page state = record {
 
 -- a line before the rows of an entry
 pub headed_on : (old new : Stepper) (n i : ℕ) → spelling_of new.names.items ≡ spelling_of old.names.items → state_of new.state ≡ state_of old.state
-    → new.page.items ≡ old.page.items ++ entry_line n i → GoesOn old new
+    → new.page.items ≡ old.page.items ++ entry_heading n i → LeadsFurther old new
 headed_on old new n i names state page = record {
   names = names;
   leads = λ z l.
@@ -44,23 +44,23 @@ headed_on old new n i names state page = record {
 
 module _ (names : List Text) (s t : State) (label : Label) where
   -- the row by its parts
-  row_by : (more : List Text) (before : List ℕ) (changed : Option ℕ) → more ≡ names → before ≡ label_words label ++ shown_term names (term_at s label)
-      → changed ≡ changed_at (kind_of label) (term_at s label)
+  row_by : (more : List Text) (before : List ℕ) (changed : Option ℕ) → more ≡ names → before ≡ label_words label ++ shown_term names (reduced_term s label)
+      → changed ≡ changed_at (kind_of label) (reduced_term s label)
       → before ++ stored_words more t changed ++ started_words s.next (kind_of label) ++ codes "\n" ≡ label_row names s label t
   unfolding label_row
   row_by more before changed same shown told =
       ap (λ (xs : List ℕ). xs ++ stored_words more t changed ++ started_words s.next (kind_of label) ++ codes "\n") shown
-      ∙ ap (λ (ns : List Text). label_words label ++ shown_term names (term_at s label) ++ stored_words ns t changed ++ started_words s.next (kind_of label) ++ codes "\n") same
-      ∙ ap (λ (l : Option ℕ). label_words label ++ shown_term names (term_at s label) ++ stored_words names t l ++ started_words s.next (kind_of label) ++ codes "\n") told
+      ∙ ap (λ (ns : List Text). label_words label ++ shown_term names (reduced_term s label) ++ stored_words ns t changed ++ started_words s.next (kind_of label) ++ codes "\n") same
+      ∙ ap (λ (l : Option ℕ). label_words label ++ shown_term names (reduced_term s label) ++ stored_words names t l ++ started_words s.next (kind_of label) ++ codes "\n") told
 
 -- the row of a legal label
 pub stepped_on : (old new : Stepper) (label : Label) (before : List ℕ) (changed : Option ℕ) → spelling_of new.names.items ≡ spelling_of old.names.items
     → after (state_of old.state) label ≡ Some (state_of new.state)
-    → before ≡ label_words label ++ shown_term (spelling_of old.names.items) (term_at (state_of old.state) label)
-    → changed ≡ changed_at (kind_of label) (term_at (state_of old.state) label)
+    → before ≡ label_words label ++ shown_term (spelling_of old.names.items) (reduced_term (state_of old.state) label)
+    → changed ≡ changed_at (kind_of label) (reduced_term (state_of old.state) label)
     → new.page.items ≡ old.page.items ++ (before ++ stored_words (spelling_of new.names.items) (state_of new.state) changed
     ++ started_words (state_of old.state).next (kind_of label) ++ codes "\n")
-    → GoesOn old new
+    → LeadsFurther old new
 stepped_on old new label before changed names legal shown told page =
     let s = state_of old.state in
     let t = state_of new.state in

@@ -38,11 +38,11 @@ label_words (Label.Free i kind) = step_words kind
 label_words (Label.Close i) = codes "  close    "
 
 -- the term of the member that a label reduces, lets go or closes
-abbrev pub term_at : State → Label → Option Tree
-term_at s (Label.Activate i) = None
-term_at s (Label.Free i kind) = at (pool s) i
-term_at s (Label.Close i) = at (pool s) i
-term_at s _ = active_tree s
+abbrev pub reduced_term : State → Label → Option Tree
+reduced_term s (Label.Activate i) = None
+reduced_term s (Label.Free i kind) = at (pool s) i
+reduced_term s (Label.Close i) = at (pool s) i
+reduced_term s _ = active_tree s
 
 abbrev pub shown_term : List Text → Option Tree → List ℕ
 shown_term names None = []
@@ -81,12 +81,12 @@ started_words i _ = []
 -- the row of a label that leads from one state to another
 unfoldable pub label_row : List Text → State → Label → State → List ℕ
 label_row names s label t =
-    label_words label ++ shown_term names (term_at s label) ++ stored_words names t (changed_at (kind_of label) (term_at s label))
+    label_words label ++ shown_term names (reduced_term s label) ++ stored_words names t (changed_at (kind_of label) (reduced_term s label))
     ++ started_words s.next (kind_of label) ++ codes "\n"
 
 -- the line before the rows of entry n, which is one of member i
-abbrev pub entry_line : ℕ → ℕ → List ℕ
-entry_line n i = codes "entry " ++ decimal n ++ codes ", fragment " ++ decimal i ++ codes "\n"
+abbrev pub entry_heading : ℕ → ℕ → List ℕ
+entry_heading n i = codes "entry " ++ decimal n ++ codes ", fragment " ++ decimal i ++ codes "\n"
 
 -- A page leads from one state to another: each of its rows tells a label that is legal in the state to which the rows above it lead, and
 -- the term there.
@@ -94,4 +94,4 @@ pub data Leads (names : List Text) (s : State) : List ℕ → State → Type 0 w
   here : Leads names s [] s
   stepped : (page : List ℕ) (t u : State) (label : Label) → Leads names s page t → after t label ≡ Some u →
       Leads names s (page ++ label_row names t label u) u
-  headed : (page : List ℕ) (t : State) (n i : ℕ) → Leads names s page t → Leads names s (page ++ entry_line n i) t
+  headed : (page : List ℕ) (t : State) (n i : ℕ) → Leads names s page t → Leads names s (page ++ entry_heading n i) t

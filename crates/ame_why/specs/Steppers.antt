@@ -7,7 +7,7 @@ use Rattle.ame_why.specs.Stepped.{Leads}
 use Rattle.ame_why.specs.declared.steps.Stepper.{Stepper}
 
 -- the names stay, and the page leads on
-pub record GoesOn (old new : Stepper) : Type 0 where
+pub record LeadsFurther (old new : Stepper) : Type 0 where
   pub names : spelling_of new.names.items ≡ spelling_of old.names.items
   pub leads : (s : State) → Leads (spelling_of old.names.items) s old.page.items (state_of old.state)
       → Leads (spelling_of old.names.items) s new.page.items (state_of new.state)

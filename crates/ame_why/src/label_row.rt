@@ -26,8 +26,8 @@ fn kind_of(label: Label) -> Option<StepKind>
 }
 
 /// The term of the member that a label reduces, lets go or closes.
-pub(crate) fn term_at(state: &StrongState, label: Label) -> Option<&Term>
-    ensures { option_map (λ term. tree_of term.now) result ≡ spec.term_at (state_of state.now) label }
+pub(crate) fn reduced_term(state: &StrongState, label: Label) -> Option<&Term>
+    ensures { option_map (λ term. tree_of term.now) result ≡ spec.reduced_term (state_of state.now) label }
 {
     match label {
         Label::Activate(_) => None,
@@ -96,12 +96,12 @@ fn written_at(term: &Term) -> Option<Loc>
 }
 
 /// Adds the line before the rows of an entry.
-pub(crate) fn append_entry_line(
+pub(crate) fn append_entry_heading(
     page: &mut Vec<u8>,
     number: u64,
     member: u64,
 ) -> Result<(), NoMemory>
-    ensures { OnOk result (page.new.items ≡ page.old.items ++ spec.entry_line number member) }
+    ensures { OnOk result (page.new.items ≡ page.old.items ++ spec.entry_heading number member) }
 {
     append(page, b"entry ")?;
     append_decimal(page, number)?;

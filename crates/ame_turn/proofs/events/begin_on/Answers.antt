@@ -4,7 +4,7 @@ use Rattle.ame_engine.specs.Begins.{pick_of, HasBegun}
 use Rattle.ame_engine.specs.Seen.{parts_of}
 use Rattle.ame_engine.specs.Stops.{stopped_by, blocked_by}
 use Rattle.ame_turn.specs.Asked.{IsToTakeMemory}
-use Rattle.ame_turn.specs.Deeds.{Tells, IsMade, IsDone}
+use Rattle.ame_turn.specs.Deeds.{IsDeedOf, IsMade, IsDone}
 use Rattle.ame_turn.proofs.HandLemmas.{begun-met, idle-met, stopped-met}
 use Rattle.ame_turn.proofs.DoneLemmas.{told-ok, told-on, stops-made, takes-going, lacked, lacked-due}
 use Rattle.ame_turn.proofs.events.begin_on.Goals as goal
@@ -14,7 +14,7 @@ returns-in-Ok-Begun-clause-done g c = λ told.
     let is = c.in-Ok-Begun.is ∙ ap Ok c.in-Ok-Begun.field-0-is in
     let met = begun-met (λ number m. HasBegun g.M.Runner.meaning c.args.seat number c.args.engine.now c.begin.new.self m) (λ why. c.begin.new.self ≡ stopped_by why c.args.engine.now)
     (c.begin.new.self ≡ blocked_by (certificates_in (parts_of g.M.Runner.meaning c.args.engine.now)) c.args.engine.now) (c.begin.new.self ≡ c.args.engine.now) (pick_of c.args.engine.now) c.in-Ok-Begun.machine (told-ok _ _ _ is c.begin.ensures.answer) in
-    record { event = IsMade.makes _ _ (Tells.began met.0 (record { idle = c.requires.idle; meets = met.1 })) met.2.event; quiet = λ _. refl }
+    record { event = IsMade.makes _ _ (IsDeedOf.began met.0 (record { idle = c.requires.idle; meets = met.1 })) met.2.event; quiet = λ _. refl }
 
 pub returns-in-Ok-Idle-clause-done : goal.returns-in-Ok-Idle-clause-done
 returns-in-Ok-Idle-clause-done g c = λ told.

@@ -4,7 +4,7 @@ use Rattle.ame_protocol.specs.Event.Undoing.{reason_to_undo}
 use Rattle.ame_engine.proofs.UndoingLemmas.{attempt-in}
 use Rattle.ame_engine.proofs.MakesLemmas.{undone-made, gone-made}
 use Rattle.ame_turn.proofs.HandLemmas.{undid-fits, home-fits}
-use Rattle.ame_turn.specs.Deeds.{Tells, IsMade}
+use Rattle.ame_turn.specs.Deeds.{IsDeedOf, IsMade}
 use Rattle.ame_turn.proofs.events.undo_on.Goals as goal
 
 pub returns-in-More-clause-fits : goal.returns-in-More-clause-fits
@@ -17,7 +17,7 @@ pub returns-in-More-clause-done : goal.returns-in-More-clause-done
 returns-in-More-clause-done g c = λ hand told.
     let a = attempt-in (attempt_of (task_at c.args.engine.now.tasks c.args.seat)) c.requires.can.busy in
     record {
-      event = IsMade.makes _ _ (Tells.undid a.0) (c.undo_one.ensures.more a.0 a.1 c.in-More.is);
+      event = IsMade.makes _ _ (IsDeedOf.undid a.0) (c.undo_one.ensures.more a.0 a.1 c.in-More.is);
       quiet = λ _. refl;
     }
 
@@ -31,6 +31,6 @@ pub returns-in-Home-clause-done : goal.returns-in-Home-clause-done
 returns-in-Home-clause-done g c = λ hand told.
     let a = attempt-in (attempt_of (task_at c.args.engine.now.tasks c.args.seat)) c.requires.can.busy in
     record {
-      event = IsMade.makes _ _ (Tells.went_home a.0) (c.undo_one.ensures.home a.0 a.1 c.in-Home.is);
+      event = IsMade.makes _ _ (IsDeedOf.went_home a.0) (c.undo_one.ensures.home a.0 a.1 c.in-Home.is);
       quiet = λ _. refl;
     }

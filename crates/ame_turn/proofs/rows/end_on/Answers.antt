@@ -6,7 +6,7 @@ use Rattle.ame_engine.proofs.MakesLemmas.{ended-made, stale-made}
 use Rattle.ame_turn.proofs.HandLemmas.{running, back-fits, ended-fits}
 use Rattle.ame_turn.specs.Asked.{IsToTakeMemory}
 use Rattle.ame_turn.proofs.DoneLemmas.{runs-from, commits-from, lacked, lacked-due}
-use Rattle.ame_turn.specs.Deeds.{Tells, IsMade}
+use Rattle.ame_turn.specs.Deeds.{IsDeedOf, IsMade}
 use Rattle.ame_turn.proofs.rows.end_on.Goals as goal
 
 pub returns-in-Ok-Noted-clause-fits : goal.returns-in-Ok-Noted-clause-fits
@@ -22,7 +22,7 @@ returns-in-Ok-Noted-clause-done g c = λ told.
     let is = c.in-Ok-Noted.is ∙ ap Ok c.in-Ok-Noted.field-0-is in
     let at = c.commit.ensures.ended a task c.requires.told is in
     record {
-      event = IsMade.makes _ _ (Tells.ended (g.M.Runner.meaning.stage c.args.engine.now.code c.args.machine) a at.place (runs-from c.args.engine.now (g.M.Runner.meaning.stage c.args.engine.now.code c.args.machine) c.requires.turn.going c.requires.turn.left wants.Done c.requires.told c.requires.outside) at.shows) at.makes;
+      event = IsMade.makes _ _ (IsDeedOf.ended (g.M.Runner.meaning.stage c.args.engine.now.code c.args.machine) a at.place (runs-from c.args.engine.now (g.M.Runner.meaning.stage c.args.engine.now.code c.args.machine) c.requires.turn.going c.requires.turn.left wants.Done c.requires.told c.requires.outside) at.shows) at.makes;
       quiet = λ _. refl;
     }
 
@@ -38,7 +38,7 @@ returns-in-Ok-Invalid-clause-done g c = λ told.
     let task = running g.M.Runner.meaning c.args.engine.now c.args.engine.now c.args.seat c.args.machine c.requires.turn.at c.requires.outside in
     let is = c.in-Ok-Invalid.is ∙ ap Ok c.in-Ok-Invalid.field-0-is in
     record {
-      event = IsMade.makes _ _ (Tells.refused (g.M.Runner.meaning.stage c.args.engine.now.code c.args.machine) a _ (commits-from c.args.engine.now (g.M.Runner.meaning.stage c.args.engine.now.code c.args.machine) c.requires.turn.going c.requires.turn.left (record { wants = ap commits c.requires.told; outside = c.requires.outside })) (c.commit.ensures.bad c.in-Ok-Invalid.bad is))
+      event = IsMade.makes _ _ (IsDeedOf.refused (g.M.Runner.meaning.stage c.args.engine.now.code c.args.machine) a _ (commits-from c.args.engine.now (g.M.Runner.meaning.stage c.args.engine.now.code c.args.machine) c.requires.turn.going c.requires.turn.left (record { wants = ap commits c.requires.told; outside = c.requires.outside })) (c.commit.ensures.bad c.in-Ok-Invalid.bad is))
           (c.commit.ensures.back a c.in-Ok-Invalid.bad task is);
       quiet = λ _. refl;
     }

@@ -6,7 +6,7 @@ use Rattle.ame_engine.proofs.MakesLemmas.{tall-made, stale-made}
 use Rattle.ame_turn.proofs.HandLemmas.{running, back-fits, tall-fits}
 use Rattle.ame_turn.specs.Asked.{IsToTakeMemory}
 use Rattle.ame_turn.proofs.DoneLemmas.{told-ok, asks-from, runs-from, bad-outside, lacked, lacked-due}
-use Rattle.ame_turn.specs.Deeds.{Tells, IsMade}
+use Rattle.ame_turn.specs.Deeds.{IsDeedOf, IsMade}
 use Rattle.ame_turn.proofs.rows.tall_on.Goals as goal
 
 pub returns-in-Ok-Noted-clause-fits : goal.returns-in-Ok-Noted-clause-fits
@@ -21,7 +21,7 @@ returns-in-Ok-Noted-clause-done g c = λ told.
     let at = c.tall.ensures.noted on.attempt on.has is in
     record {
       event = IsMade.makes _ _
-          (Tells.grew_tall (g.M.Runner.meaning.stage c.args.engine.now.code c.args.machine) on.attempt at.place (asks-from c.args.engine.now (g.M.Runner.meaning.stage c.args.engine.now.code c.args.machine) c.requires.turn.going c.requires.turn.left wants.Tall c.requires.told)
+          (IsDeedOf.grew_tall (g.M.Runner.meaning.stage c.args.engine.now.code c.args.machine) on.attempt at.place (asks-from c.args.engine.now (g.M.Runner.meaning.stage c.args.engine.now.code c.args.machine) c.requires.turn.going c.requires.turn.left wants.Tall c.requires.told)
           ((told-ok _ _ _ is c.tall.ensures.exact).0 refl) at.shows) at.makes;
       quiet = λ _. refl;
     }
@@ -42,7 +42,7 @@ returns-in-Ok-Invalid-clause-done g c = λ told.
     let task = running g.M.Runner.meaning c.args.engine.now c.args.engine.now c.args.seat c.args.machine c.requires.turn.at outside in
     record {
       event = IsMade.makes _ _
-          (Tells.not_tall (g.M.Runner.meaning.stage c.args.engine.now.code c.args.machine) a _ (runs-from c.args.engine.now (g.M.Runner.meaning.stage c.args.engine.now.code c.args.machine) c.requires.turn.going c.requires.turn.left wants.Tall c.requires.told outside)
+          (IsDeedOf.not_tall (g.M.Runner.meaning.stage c.args.engine.now.code c.args.machine) a _ (runs-from c.args.engine.now (g.M.Runner.meaning.stage c.args.engine.now.code c.args.machine) c.requires.turn.going c.requires.turn.left wants.Tall c.requires.told outside)
           (c.tall.ensures.bad c.in-Ok-Invalid.bad is)) (c.tall.ensures.back a c.in-Ok-Invalid.bad task is);
       quiet = λ _. refl;
     }

@@ -3,7 +3,7 @@ use Rattle.ame_machine.specs.declared.wants.Wants.TheVariants as wants
 use Rattle.ame_turn.proofs.HandLemmas.{alloc-sets}
 use Rattle.ame_turn.specs.Asked.{IsToTakeMemory}
 use Rattle.ame_turn.proofs.DoneLemmas.{accesses-from, lacked, lacked-due}
-use Rattle.ame_turn.specs.Deeds.{Tells, IsMade}
+use Rattle.ame_turn.specs.Deeds.{IsDeedOf, IsMade}
 use Rattle.ame_turn.proofs.serves.alloc_on.Goals as goal
 
 pub returns-in-Ok-clause-fits : goal.returns-in-Ok-clause-fits
@@ -22,7 +22,7 @@ returns-in-Ok-clause-done g c = λ told.
     let v = alloc-sets (g.M.Runner.meaning.stage c.args.engine.now.code m) a.sort need in
     record {
       event = IsMade.makes _ _
-          (Tells.allocated (g.M.Runner.meaning.stage c.args.engine.now.code c.args.machine) a.sort a.number v.0 (accesses-from c.args.engine.now (g.M.Runner.meaning.stage c.args.engine.now.code c.args.machine) c.requires.turn.going c.requires.turn.left (wants.Alloc a.sort a.number) a.wants a.outside c.requires.early) v.1)
+          (IsDeedOf.allocated (g.M.Runner.meaning.stage c.args.engine.now.code c.args.machine) a.sort a.number v.0 (accesses-from c.args.engine.now (g.M.Runner.meaning.stage c.args.engine.now.code c.args.machine) c.requires.turn.going c.requires.turn.left (wants.Alloc a.sort a.number) a.wants a.outside c.requires.early) v.1)
           (c.in-Ok.ensures.goes a.sort a.number v.0 a.wants v.1).makes;
       quiet = λ _. refl;
     }

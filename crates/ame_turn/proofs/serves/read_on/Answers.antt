@@ -2,7 +2,7 @@ use Rattle.std.proofs.Common.{refl}
 use Rattle.ame_machine.specs.declared.wants.Wants.TheVariants as wants
 use Rattle.ame_turn.specs.Asked.{IsToTakeMemory}
 use Rattle.ame_turn.proofs.DoneLemmas.{accesses-from, lacked, lacked-due}
-use Rattle.ame_turn.specs.Deeds.{Tells, IsMade}
+use Rattle.ame_turn.specs.Deeds.{IsDeedOf, IsMade}
 use Rattle.ame_turn.proofs.serves.read_on.Goals as goal
 
 pub returns-in-Ok-clause-fits : goal.returns-in-Ok-clause-fits
@@ -13,7 +13,7 @@ returns-in-Ok-clause-done g c = λ told.
     let a = c.requires.reads in
     record {
       event = IsMade.makes _ _
-          (Tells.read (g.M.Runner.meaning.stage c.args.engine.now.code c.args.machine) a.l (accesses-from c.args.engine.now (g.M.Runner.meaning.stage c.args.engine.now.code c.args.machine) c.requires.turn.going c.requires.turn.left (wants.Read a.l) a.wants a.outside c.requires.early))
+          (IsDeedOf.read (g.M.Runner.meaning.stage c.args.engine.now.code c.args.machine) a.l (accesses-from c.args.engine.now (g.M.Runner.meaning.stage c.args.engine.now.code c.args.machine) c.requires.turn.going c.requires.turn.left (wants.Read a.l) a.wants a.outside c.requires.early))
           (c.in-Ok.ensures.goes a.l a.wants).makes;
       quiet = λ _. refl;
     }

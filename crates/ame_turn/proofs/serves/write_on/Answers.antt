@@ -4,7 +4,7 @@ use Rattle.ame_engine.proofs.MakesLemmas.{met-made}
 use Rattle.ame_turn.proofs.HandLemmas.{write-sets, running, back-fits}
 use Rattle.ame_turn.specs.Asked.{IsToTakeMemory}
 use Rattle.ame_turn.proofs.DoneLemmas.{accesses-from, lacked, lacked-due}
-use Rattle.ame_turn.specs.Deeds.{Tells, IsMade}
+use Rattle.ame_turn.specs.Deeds.{IsDeedOf, IsMade}
 use Rattle.ame_turn.proofs.serves.write_on.Goals as goal
 
 pub returns-in-Ok-Wrote-clause-fits : goal.returns-in-Ok-Wrote-clause-fits
@@ -24,7 +24,7 @@ returns-in-Ok-Wrote-clause-done g c = λ told.
     let is = c.in-Ok-Wrote.is ∙ ap Ok c.in-Ok-Wrote.field-0-is in
     record {
       event = IsMade.makes _ _
-          (Tells.wrote (g.M.Runner.meaning.stage c.args.engine.now.code c.args.machine) a.l v.0 (accesses-from c.args.engine.now (g.M.Runner.meaning.stage c.args.engine.now.code c.args.machine) c.requires.turn.going c.requires.turn.left (wants.Write a.l) a.wants a.outside c.requires.early) v.1)
+          (IsDeedOf.wrote (g.M.Runner.meaning.stage c.args.engine.now.code c.args.machine) a.l v.0 (accesses-from c.args.engine.now (g.M.Runner.meaning.stage c.args.engine.now.code c.args.machine) c.requires.turn.going c.requires.turn.left (wants.Write a.l) a.wants a.outside c.requires.early) v.1)
           (c.write.ensures.goes a.l v.0 a.wants v.1 is).makes;
       quiet = λ _. refl;
     }
@@ -45,7 +45,7 @@ returns-in-Ok-Conflict-clause-done g c = λ told.
     let is = c.in-Ok-Conflict.is ∙ ap Ok c.in-Ok-Conflict.field-0-is in
     record {
       event = IsMade.makes _ _
-          (Tells.met (g.M.Runner.meaning.stage c.args.engine.now.code c.args.machine) l a _ (accesses-from c.args.engine.now (g.M.Runner.meaning.stage c.args.engine.now.code c.args.machine) c.requires.turn.going c.requires.turn.left (wants.Write l) c.requires.writes.wants c.requires.writes.outside c.requires.early))
+          (IsDeedOf.met (g.M.Runner.meaning.stage c.args.engine.now.code c.args.machine) l a _ (accesses-from c.args.engine.now (g.M.Runner.meaning.stage c.args.engine.now.code c.args.machine) c.requires.turn.going c.requires.turn.left (wants.Write l) c.requires.writes.wants c.requires.writes.outside c.requires.early))
           (c.write.ensures.back l a _ c.requires.writes.wants task is);
       quiet = λ _. refl;
     }

@@ -9,7 +9,7 @@ use Rattle.ame_turn.proofs.ValidLemmas.{valid-or-not}
 use Rattle.ame_turn.proofs.HandLemmas.{cut-fits, at-work-busy, stopped-undoes, lacked-fits}
 use Rattle.ame_turn.specs.Asked.{IsToTakeMemory}
 use Rattle.ame_turn.proofs.DoneLemmas.{told-on, lacked, lacked-due}
-use Rattle.ame_turn.specs.Deeds.{Tells, IsMade, IsDone}
+use Rattle.ame_turn.specs.Deeds.{IsDeedOf, IsMade, IsDone}
 use Rattle.ame_turn.proofs.spends.spend_running.Goals as goal
 
 pub returns-in-Ok-clause-fits : goal.returns-in-Ok-clause-fits
@@ -31,9 +31,9 @@ returns-in-Ok-clause-done g c = λ told.
       event = elim (valid-or-not c.args.seat c.args.engine.now.memory.cells (row_at c.args.engine.now.memory.rows c.args.seat).reads) [
         | inl valid ↦
             (let at = told-on _ _ _ c.in-Ok.is (c.spend.ensures.cut _ refl valid on.attempt on.has) in
-            IsMade.makes _ _ (Tells.cut (g.M.Runner.meaning.stage c.args.engine.now.code c.args.machine) on.attempt at.place c.requires.spent refl valid at.shows) at.makes)
+            IsMade.makes _ _ (IsDeedOf.cut (g.M.Runner.meaning.stage c.args.engine.now.code c.args.machine) on.attempt at.place c.requires.spent refl valid at.shows) at.makes)
         | inr bad ↦ IsMade.makes _ _
-            (Tells.spent c.requires.spent (at-work-busy g.M.Runner.meaning c.args.engine.now c.args.engine.now c.args.seat c.args.machine c.requires.at)
+            (IsDeedOf.spent c.requires.spent (at-work-busy g.M.Runner.meaning c.args.engine.now c.args.engine.now c.args.seat c.args.machine c.requires.at)
             (λ s met valid. bad valid) (c.spend.ensures.invalid bad).1)
             (c.spend.ensures.halts (λ valid. absurd (bad valid)))
       ];

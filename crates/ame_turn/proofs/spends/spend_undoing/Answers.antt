@@ -1,5 +1,5 @@
 use Rattle.std.proofs.Common.{None, refl, sym, subst}
-use Rattle.ame_turn.specs.Deeds.{Tells, IsMade, IsDone}
+use Rattle.ame_turn.specs.Deeds.{IsDeedOf, IsMade, IsDone}
 use Rattle.ame_turn.proofs.DoneLemmas.{undoing-works, none-at}
 use Rattle.ame_turn.proofs.spends.spend_undoing.Goals as goal
 
@@ -8,7 +8,7 @@ returns-in-Ok-clause-done g c = λ told.
     subst (λ d. IsDone g.M.Runner.meaning c.args.seat None c.args.engine.now c.spend.new.self told told d) (sym c.spent.ensures.deed)
     (record {
       event = IsMade.makes _ _
-          (Tells.spent c.requires.spent c.requires.can.busy (λ s met. absurd (none-at s met)) (c.spend.ensures.undoing c.no_machine.ensures).1)
+          (IsDeedOf.spent c.requires.spent c.requires.can.busy (λ s met. absurd (none-at s met)) (c.spend.ensures.undoing c.no_machine.ensures).1)
           (c.spend.ensures.halts (λ valid. undoing-works c.args.engine.now c.args.seat c.requires.can c.requires.spent.going));
       quiet = λ _. refl;
     })

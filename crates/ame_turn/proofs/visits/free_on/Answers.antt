@@ -6,7 +6,7 @@ use Rattle.ame_engine.specs.Seen.{parts_of}
 use Rattle.ame_engine.proofs.VisitPlaceLemmas.{visits-as}
 use Rattle.ame_turn.proofs.HandLemmas.{visited-fits, refused-fits}
 use Rattle.ame_turn.specs.Asked.{IsToTakeMemory}
-use Rattle.ame_turn.specs.Deeds.{Tells, IsMade, IsDone}
+use Rattle.ame_turn.specs.Deeds.{IsDeedOf, IsMade, IsDone}
 use Rattle.ame_turn.proofs.DoneLemmas.{visit-moved, visits-from, lacked, lacked-due}
 use Rattle.ame_turn.proofs.visits.free_on.Goals as goal
 
@@ -40,7 +40,7 @@ returns-in-Ok-Home-clause-done g c =
     let h = c.free.ensures.home a task (c.in-Ok-Home.is ∙ ap Ok c.in-Ok-Home.field-0-is) in
     let at = h.makes a task in
     record {
-      event = IsMade.makes _ _ (Tells.came_home (g.M.Runner.meaning.stage c.args.engine.now.code c.args.machine) h.comes h.answer h.memory a at.place
+      event = IsMade.makes _ _ (IsDeedOf.came_home (g.M.Runner.meaning.stage c.args.engine.now.code c.args.machine) h.comes h.answer h.memory a at.place
           (visits-from c.args.engine.now (g.M.Runner.meaning.stage c.args.engine.now.code c.args.machine) c.requires.turn.going c.requires.turn.left c.requires.inside c.requires.short) h.visits at.shows) at.makes;
       quiet = λ e. absurd (cc);
     }
@@ -51,7 +51,7 @@ returns-in-Ok-DeviceFault-clause-done g c =
     let task = visits-as (parts_of g.M.Runner.meaning c.args.engine.now) c.args.seat (g.M.Runner.meaning.stage c.args.engine.now.code c.args.machine) c.requires.turn.at.on.stands c.requires.inside in
     let r = c.free.ensures.refused a c.in-Ok-DeviceFault.device task (c.in-Ok-DeviceFault.is ∙ ap Ok c.in-Ok-DeviceFault.field-0-is) in
     record {
-      event = IsMade.makes _ _ (Tells.device_failed (g.M.Runner.meaning.stage c.args.engine.now.code c.args.machine) c.in-Ok-DeviceFault.device r.argument a
+      event = IsMade.makes _ _ (IsDeedOf.device_failed (g.M.Runner.meaning.stage c.args.engine.now.code c.args.machine) c.in-Ok-DeviceFault.device r.argument a
           (visits-from c.args.engine.now (g.M.Runner.meaning.stage c.args.engine.now.code c.args.machine) c.requires.turn.going c.requires.turn.left c.requires.inside c.requires.short) r.wanted r.fails) (r.makes a task);
       quiet = λ e. absurd (cc);
     }

@@ -28,7 +28,7 @@ returns-clause-runs c = λ running.
     tried_fragments_hold a.devices a.program.places.items p (ref_types a.devices a.program.places.items p)
     (accepted a.devices a.program.places.items p (map typ_of a.ref_tys.items) a.typed) a.program.source
     old.play.labels old.play.weak c.args.number old.above _ tried t running.played.leads c.requires.idle c.requires.tried tells in
-    let how : (t.failing ≡ true) ⊎ (q.turns ≡ q.limit) = elim (how-noted tried.outcome turn) [
+    let how : (t.failing ≡ true) ⊎ (q.turns ≡ q.limit) = elim (how-noted tried.outcome turn c.requires.low) [
       | inl fails ↦ inl (tells.failing ∙ fails)
       | inr cut ↦ inr (let all = c.requires.tried.used cut in omega (arith, all, within))
     ] in

@@ -30,7 +30,7 @@ use Rattle.ame_device.specs.declared.told.Told.{Told}
 use Rattle.ame_protocol.specs.declared.types.Limits.{Limits}
 use Rattle.ame_protocol.specs.declared.certificate.Certificate.{Certificate}
 use Rattle.ame_protocol.specs.declared.stop.Stop.{Stop}
-use Rattle.ame_protocol.specs.Event.Causes.{NotesStop}
+use Rattle.ame_protocol.specs.Event.Causes.{IsTall, NotesStop}
 use Rattle.ame_protocol.specs.Event.Counting.{nothing_counted}
 use Rattle.ame_engine.specs.Ending.{End, IsEnd, CertifyAll}
 use Rattle.ame_engine.specs.Resuming.{HasResumed}
@@ -144,6 +144,7 @@ HasWeakStop Stop.Finished limit weakened s = s.members ≡ []
 HasWeakStop Stop.Blocked limit weakened s = CertifyAll s weakened.certificates.items
 HasWeakStop Stop.Spent limit weakened s = (weakened.turns ≡ limit) × (s.members ≢ [])
 HasWeakStop (Stop.DeviceFault device) limit weakened s = StandsAtCallOf s device
+HasWeakStop (Stop.Tall number) limit weakened s = IsTall number weakened.journal.entries
 HasWeakStop Stop.NoMemory limit weakened s = ⊤
 HasWeakStop stop limit weakened s = ⊥
 
@@ -197,6 +198,7 @@ stop_told WeakStop.Finished = Stop.Finished
 stop_told (WeakStop.Blocked certificates) = Stop.Blocked
 stop_told WeakStop.Spent = Stop.Spent
 stop_told (WeakStop.DeviceFault device) = Stop.DeviceFault device
+stop_told (WeakStop.Tall entry) = Stop.Tall entry.number
 stop_told WeakStop.NoMemory = Stop.NoMemory
 
 abbrev pub certificate_told : Failing → Certificate

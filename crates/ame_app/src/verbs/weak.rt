@@ -1,6 +1,6 @@
 //! `weak`: a run of the weak semantics, told by the strong run that looks like it.
 
-ghost use Rattle.std.specs.Prelude.{◌≡◌, [], IfErr, IfOk, OnErr, OnOk, List, Some, length, map, vec_len, ℕ};
+ghost use Rattle.std.specs.Prelude.{◌≡◌, ◌++◌, ◌∷◌, [], IfErr, IfOk, OnErr, OnOk, List, Some, length, map, vec_len, ℕ};
 ghost use Rattle.std.specs.Arc.{arc_value};
 ghost use Rattle.ame_cli.specs.Items.{bounds_of};
 ghost use Rattle.ame_cli.specs.Ranges.{AreInRange, IsInBounds};
@@ -16,7 +16,7 @@ ghost use Rattle.ame_journal.specs.Replayed.{Replayed};
 ghost use Rattle.ame_journal.specs.Totals.{without_notes};
 ghost use Rattle.ame_term.specs.Tree.{Tree};
 ghost use Rattle.ame_term.specs.View.{tree_of};
-ghost use Rattle.ame_runner.specs.Ended.{IsWeakRunOf, TellsStop};
+ghost use Rattle.ame_runner.specs.Ended.{IsWeakRunOf, TellsStop, notes_of_stop};
 ghost use Rattle.ame_shell.specs.Ends.{ends_of};
 ghost use Rattle.ame_app.specs.Headline.{limits_of};
 ghost use Rattle.ame_app.specs.Jobs.{fragments, certificate_told, certificates_told, stop_told, IsEngineOn, IsTakenApart, IsWeakRunMade, TellsWeakly};
@@ -31,7 +31,7 @@ use ame_device::Device;
 use ame_engine::{Certificate, Engine, Stop};
 use ame_eval::Fragment;
 use ame_io::{Sink, WriteFault, write_all};
-use ame_journal::Journal;
+use ame_journal::{Entry, Journal};
 use ame_runner::{WeakRun, WeakStop, weak_run};
 use ame_shell::Remains;
 use ame_term::{Accepted, NoMemory, push};
@@ -70,21 +70,39 @@ fn certificates_of(alloc: Global, failing: Vec<Failing>) -> Result<Vec<Certifica
     Ok(certificates)
 }
 
-/// Why a weak run stops, as a run of an engine does, and the certificates of members that are blocked.
-fn told_of(alloc: Global, stop: WeakStop) -> Result<(Stop, Vec<Certificate>), NoMemory>
+/// Adds the note of a member that grew too tall to a journal, and tells how the run stops by that.
+fn tall_of(journal: &mut Journal, entry: Entry) -> Result<Stop, NoMemory>
+    ensures stop { IfOk result (λ stop. stop ≡ Stop.Tall entry.number) }
+    ensures entries { OnOk result (journal.new.entries ≡ journal.old.entries ++ entry ∷ []) }
+{
+    let number = entry.number;
+    journal.room()?;
+    journal.push(entry);
+    Ok(Stop::Tall(number))
+}
+
+/// Why a weak run stops, as a run of an engine does, and the certificates of members that are blocked. The note of the
+/// stop is added to the journal.
+fn told_of(
+    alloc: Global,
+    journal: &mut Journal,
+    stop: WeakStop,
+) -> Result<(Stop, Vec<Certificate>), NoMemory>
     ensures stop { IfOk result (λ told. told.0 ≡ stop_told stop) }
     ensures certificates { IfOk result (λ told. told.1.items ≡ certificates_told stop) }
+    ensures entries { OnOk result (journal.new.entries ≡ journal.old.entries ++ notes_of_stop stop) }
 {
     match stop {
         WeakStop::Finished => Ok((Stop::Finished, Vec::new(alloc))),
         WeakStop::Blocked(failing) => Ok((Stop::Blocked, certificates_of(alloc, failing)?)),
         WeakStop::Spent => Ok((Stop::Spent, Vec::new(alloc))),
         WeakStop::DeviceFault(device) => Ok((Stop::DeviceFault(device), Vec::new(alloc))),
+        WeakStop::Tall(entry) => Ok((tall_of(journal, entry)?, Vec::new(alloc))),
         WeakStop::NoMemory => Ok((Stop::NoMemory, Vec::new(alloc))),
     }
 }
 
-/// What a weak run comes to that was made: the journal that straightens its labels, with the notes of its tries.
+/// What a weak run comes to that was made: the journal that straightens its labels, with the notes of its tries and of its stop.
 fn straightened(
     alloc: Global,
     accepted: &Accepted,
@@ -92,6 +110,8 @@ fn straightened(
     run: WeakRun,
 ) -> Result<Weakened, NoMemory>
     requires run { IsWeakRunOf (tree_of accepted.now.program.term) limit run.labels.items run.tries.items run.stop }
+    requires tells { (before : List Told) × (after : List Told)
+        × TellsStop (tree_of accepted.now.program.term) limit run.labels.items run.tries.items run.turns before after run.stop }
     ensures leads { IfOk result (λ weakened. (led : Replayed) × (replay (tree_of accepted.now.program.term) weakened.journal.entries ≡ Some led)) }
     ensures tells { IfOk result (λ weakened. (before after : List Told) → length after ≡ length before
         → TellsStop (tree_of accepted.now.program.term) limit run.labels.items run.tries.items run.turns before after run.stop
@@ -110,7 +130,8 @@ fn straightened(
     let Straight::Journal(journal) = straighten(alloc, accepted, &labels, &tries)? else {
         return Err(NoMemory);
     };
-    let (stop, certificates) = told_of(alloc, stop)?;
+    let mut journal = journal;
+    let (stop, certificates) = told_of(alloc, &mut journal, stop)?;
     Ok(Weakened {
         journal,
         turns,
@@ -159,6 +180,8 @@ fn opened(
 ) -> Result<(Weakened, Engine<Fragment>), NoMemory>
     requires turns { IsInBounds (bounds_of Turns) limit }
     requires run { IsWeakRunOf (program_of (arc_value code.now)) limit run.labels.items run.tries.items run.stop }
+    requires tells { (before : List Told) × (after : List Told)
+        × TellsStop (program_of (arc_value code.now)) limit run.labels.items run.tries.items run.turns before after run.stop }
     ensures tells { IfOk result (λ opened. (before after : List Told) → length after ≡ length before
         → TellsStop (program_of (arc_value code.now)) limit run.labels.items run.tries.items run.turns before after run.stop
         → TellsWeakly (program_of (arc_value code.now)) limit opened.0 before after) }
@@ -181,6 +204,8 @@ fn opened_or(
 ) -> (Weakened, Engine<Fragment>)
     requires turns { IsInBounds (bounds_of Turns) limit }
     requires run { IsWeakRunOf (program_of (arc_value code.now)) limit run.labels.items run.tries.items run.stop }
+    requires tells { (before : List Told) × (after : List Told)
+        × TellsStop (program_of (arc_value code.now)) limit run.labels.items run.tries.items run.turns before after run.stop }
     requires blank { IsEngineOn (alone_with limit) [] (arc_value code.now) blank }
     ensures tells { (before after : List Told) → length after ≡ length before
         → TellsStop (program_of (arc_value code.now)) limit run.labels.items run.tries.items run.turns before after run.stop

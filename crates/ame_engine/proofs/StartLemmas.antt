@@ -144,3 +144,7 @@ module _ {C V M : Type 0} (meaning : Meaning C V M) (code : C) (limits : Limits)
 
         pub parts-started : parts_of meaning found_core ≡ started (meaning.program code) (meaning.devices code) limits 0
         parts-started = ap (parts_of meaning) same ∙ started-parts
+
+        pub state-started : state_of meaning found_core ≡ started_state (meaning.program code) (meaning.devices code) limits
+        unfolding started-as
+        state-started = ap (state_of meaning) same ∙ started-as

@@ -12,3 +12,4 @@ pub mod TurnLemmas
 pub mod UnwindLemmas
 pub mod CrewLemmas
 pub mod PlayLemmas
+pub mod EventLemmas

@@ -8,4 +8,5 @@ pub mod Places
 pub mod Picks
 pub mod Played
 pub mod Crew
+pub mod Events
 pub mod Run

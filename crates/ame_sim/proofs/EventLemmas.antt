@@ -28,7 +28,7 @@ use Rattle.ame_turn.specs.Deeds.{IsDeedOf, IsMade}
 use Rattle.ame_turn.proofs.DeedRows.{rowed}
 use Rattle.ame_sim.specs.declared.made.Made.{Made}
 use Rattle.ame_sim.specs.Crew.{lacking}
-use Rattle.ame_sim.specs.Events.{AreHalts, AreOfPick, AreOfPicks, IsRun}
+use Rattle.ame_sim.specs.Events.{AreHalts, AreOfPicks, IsRun}
 use Rattle.ame_sim.specs.Picks.{is_waited}
 use Rattle.ame_sim.specs.Played.{HasPlayed, Plays}
 use Rattle.ame_sim.proofs.TurnLemmas.{stopped-met}

@@ -14,3 +14,4 @@ pub mod UnwindLemmas
 pub mod PlainLemmas
 pub mod CrewLemmas
 pub mod PlayLemmas
+pub mod EventLemmas

@@ -9,4 +9,5 @@ pub mod Picks
 pub mod Woven
 pub mod Played
 pub mod Crew
+pub mod Events
 pub mod Run

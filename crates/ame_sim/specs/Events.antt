@@ -32,7 +32,8 @@ module _ {C V M : Type 0} (meaning : Meaning C V M) where
   abbrev pub AreEventsOfPicks : (mades : List Made) (old new : ShellView C V M) → Plays meaning mades old new → List Event → Type 0
   AreEventsOfPicks [] old new plays events = events ≡ []
   AreEventsOfPicks (made ∷ mades) old new plays events =
-      (its : List Event) × (rest : List Event) × (events ≡ its ++ rest) × AreEventsOfPick made old plays.0 plays.2 its × AreEventsOfPicks mades plays.0 new plays.3 rest
+      (its : List Event) × (rest : List Event) × (events ≡ its ++ rest) × AreEventsOfPick made old plays.0 plays.2 its
+      × AreEventsOfPicks mades plays.0 new plays.3 rest
 
   -- The events of a run follow one another from the start of the program: those of its picks, in order, and at the end a halt where
   -- the sink failed or memory was lacking.

@@ -4,19 +4,17 @@ ghost use Rattle.std.specs.Prelude.{◌≡◌, ◌≤◌, ◌<◌, All, IfOk, If
 ghost use Rattle.std.specs.Arc.{arc_value};
 ghost use Rattle.std.specs.Io.KnownBytes.{Appends};
 ghost use Rattle.ame_cli.specs.Ranges.{AreInRange};
-ghost use Rattle.ame_code.specs.Code.{program_of};
-ghost use Rattle.ame_eval.specs.Values.{value_meant};
 ghost use Rattle.ame_io.specs.Counts.{HasRisen};
 ghost use Rattle.ame_io.specs.Writes.{AppendsFront};
 ghost use Rattle.ame_app.specs.Verbs.Sim.{IsPicked, mades_in, seats_picked, schedule_behind};
 ghost use Rattle.ame_app.specs.declared.parts.Own.{Own as Owned};
-ghost use Rattle.ame_app.specs.Headline.{limits_of};
+ghost use Rattle.ame_app.specs.Jobs.{IsOverWith};
 ghost use Rattle.ame_shell.specs.Ends.{ends_of};
-ghost use Rattle.ame_shell.specs.Over.{IsOver};
 ghost use Rattle.ame_sim.specs.Picks.{picks_of};
 ghost use Rattle.ame_sim.specs.Questions.{seats_of};
 ghost use Rattle.ame_sim.specs.Schedule.{schedule_line, signs};
 
+use crate::limits::limits_of;
 use crate::lists::Mades;
 use crate::parts::Own;
 use crate::status::Status;
@@ -26,7 +24,6 @@ use ame_code::Code;
 use ame_device::Device;
 use ame_eval::Fragment;
 use ame_io::{Sink, WriteFault, write_all};
-use ame_protocol::Limits;
 use ame_sim::{Chooser, Made as Done, run_by_chooser, sign_of};
 use arrayvec::ArrayVec;
 use std::alloc::Global;
@@ -50,7 +47,7 @@ where
     H: Chooser,
     requires ranges { AreInRange options }
     requires devices { (arc_value code.now).accepted.devices ≡ vec_len devices }
-    ensures over { IfOk result (λ made. IsOver (program_of (arc_value code.now)) (limits_of options) (value_meant (arc_value code.now))
+    ensures over { IfOk result (λ made. IsOverWith options (arc_value code.now)
         (ends_of K.written K.faults D.device_heard D.device_faults sink devices.items) made.left.ended
         (ends_of K.written K.faults D.device_heard D.device_faults made.left.sink made.left.devices.items)) }
     ensures own { IfOk result (λ made. IsPicked (H.strategy chooser.old) options.workers made.own made.left.ended) }
@@ -60,11 +57,7 @@ where
     let Ok(code) = Arc::try_clone(code) else {
         return Err((sink, devices));
     };
-    let limits = Limits {
-        turns: options.turns,
-        slice: options.slice,
-        seats: options.workers,
-    };
+    let limits = limits_of(options);
     match run_by_chooser::<Fragment, K, D, H>(alloc, code, limits, sink, devices, chooser) {
         Ok(played) => Ok(Made {
             left: played.left,

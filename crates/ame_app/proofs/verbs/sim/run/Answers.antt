@@ -19,12 +19,12 @@ returns-in-Ok-run_by_chooser-clause-over g c =
 pub returns-in-Ok-run_by_chooser-clause-own : goal.returns-in-Ok-run_by_chooser-clause-own
 returns-in-Ok-run_by_chooser-clause-own g c =
     let strategy = g.H.Chooser.strategy c.args.chooser.now in
-    subst (λ (l : Limits). IsPicked strategy l.seats (Own.Picked c.from_vec.result) c.in-Ok-run_by_chooser.played.left.ended) c.limits_of-limits.ensures
+    subst (λ (l : Limits). IsPicked strategy l.seats (Own.Picked c.of_run.result) c.in-Ok-run_by_chooser.played.left.ended) c.limits_of-limits.ensures
     (played-picked _ _ strategy (g.H.Chooser.strategy c.run_by_chooser.new.chooser) _ _ _
-    (ap Own.Picked c.from_vec.ensures) c.in-Ok-run_by_chooser.ensures.played c.in-Ok-run_by_chooser.ensures.answers)
+    (ap Own.Picked c.of_run.ensures) c.in-Ok-run_by_chooser.ensures.played c.in-Ok-run_by_chooser.ensures.answers)
 
-pub from_vec-requires : goal.from_vec-requires
-from_vec-requires g c =
+pub of_run-requires : goal.of_run-requires
+of_run-requires g c =
     let played = c.in-Ok-run_by_chooser.ensures.played in
     mades-low c.limits_of-limits.result.seats played.now.core.turns _ played.now.core.entries
     (subst (λ (l : Limits). l.seats ≤ 32) (sym c.limits_of-limits.ensures) c.requires.ranges.workers.1) played.playing.told

@@ -31,7 +31,7 @@ pub fn explain_types(alloc: Global, text: &[u8], fault: &TypeFault) -> Result<Ve
         b"a device below ",
         &fault.wanted,
     )?;
-    explained(alloc, text, fault.place, &message)
+    explained(alloc, text, fault.place as usize, &message)
 }
 
 /// Which rule is broken; where it speaks of a part of a form, of which.

@@ -117,8 +117,8 @@ pub record IsEngineOn (options : Options) (base : List Entry) (code : FlatCode) 
   pub resumed : HasResumed fragments (limits_of options) base engine
 
 -- an engine goes on from its entries, and has done nothing yet
-abbrev pub HasGoneOn : Core FlatCode Val Fragment → Type 0
-HasGoneOn engine = HasResumed fragments engine.limits engine.base engine
+abbrev pub HasJustResumed : Core FlatCode Val Fragment → Type 0
+HasJustResumed engine = HasResumed fragments engine.limits engine.base engine
 
 -- an engine goes on with the code from the entries with which the run of a command begins
 pub record IsOpened (command : Command) (front : Front) (code : FlatCode) (engine : Core FlatCode Val Fragment) : Type 0 where
@@ -127,7 +127,7 @@ pub record IsOpened (command : Command) (front : Front) (code : FlatCode) (engin
   pub begun : BeginsFrom command front (program_of code) engine.base
   pub code_is : engine.code ≡ code
   pub limits_are : engine.limits ≡ limits_of options
-  pub resumed : HasGoneOn engine
+  pub resumed : HasJustResumed engine
 
 -- something is told without a run, or a run goes on from an engine, or one begins with nothing
 abbrev pub IsOutlook : Command → Front → FlatCode → Outlook → Type 0

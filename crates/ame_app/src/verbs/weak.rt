@@ -11,7 +11,7 @@ ghost use Rattle.ame_term.specs.Tree.{Tree};
 ghost use Rattle.ame_term.specs.View.{tree_of};
 ghost use Rattle.ame_runner.specs.Ended.{IsWeakRunOf, TellsStop, notes_of_stop};
 ghost use Rattle.ame_shell.specs.Ends.{ends_of};
-ghost use Rattle.ame_app.specs.Jobs.{certificate_told, certificates_told, stop_told, HasGoneOn, IsEngineBehind, IsEngineOn, IsReplayable, IsTakenFrom, IsWeakRunMade, TellsWeakly};
+ghost use Rattle.ame_app.specs.Jobs.{certificate_told, certificates_told, stop_told, HasJustResumed, IsEngineBehind, IsEngineOn, IsReplayable, IsTakenFrom, IsWeakRunMade, TellsWeakly};
 ghost use Rattle.ame_app.specs.Verbs.Weak.{alone_with};
 
 use crate::parts::{Own, Weakened};
@@ -228,7 +228,7 @@ fn take_apart<K: Sink, D: Drop>(
     sink: K,
     devices: Vec<D>,
 ) -> Remains<Val, K, D>
-    requires resumed { HasGoneOn engine }
+    requires resumed { HasJustResumed engine }
     ensures apart { (told later : List Told) → IsTakenFrom engine result.ended
         (record { written = K.written sink; write_faults = K.faults sink; told = told })
         (record { written = K.written result.sink; write_faults = K.faults result.sink; told = later }) }

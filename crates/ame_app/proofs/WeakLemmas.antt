@@ -22,6 +22,7 @@ use Rattle.ame_laws.proofs.MapLemmas.{is_at-here}
 use Rattle.ame_device.specs.declared.told.Told.{Told}
 use Rattle.ame_journal.specs.declared.entry.Entry.{Entry}
 use Rattle.ame_journal.specs.declared.entry.EntryKind.{EntryKind}
+use Rattle.ame_journal.specs.JournalView.{IsFit}
 use Rattle.ame_journal.specs.Labels.{fresh_of, fragment_labels}
 use Rattle.ame_journal.specs.Replayed.{Replayed, begun_at, has_such, is_failing, side_at, is_tall}
 use Rattle.ame_journal.specs.Replay.{replay, replay_from, replay_entry, replay_kind, note_where, fragment, attempt, fails_after}
@@ -61,7 +62,7 @@ use Rattle.ame_runner.specs.declared.stop.WeakStop.{WeakStop}
 use Rattle.ame_runner.specs.Apart.{AreNotedApart}
 use Rattle.ame_runner.proofs.ApartLemmas.{order-behind, notes-apart}
 use Rattle.ame_app.specs.declared.parts.Weakened.{Weakened}
-use Rattle.ame_app.specs.Jobs.{stop_told, certificate_told, certificates_told, HasWeakStop, TellsWeakly}
+use Rattle.ame_app.specs.Jobs.{stop_told, LeavesFit, certificate_told, certificates_told, HasWeakStop, TellsWeakly}
 use Rattle.ame_app.specs.Verbs.Weak.{IsNoteAtEnd, IsWeakJournal, StandsAtCallOf}
 use Rattle.ame_app.proofs.CountLemmas.{here, more, empty, first-or-later}
 
@@ -423,6 +424,21 @@ notes-hold (WeakStop.Blocked certificates) s tall = tt
 notes-hold WeakStop.Spent s tall = tt
 notes-hold (WeakStop.DeviceFault device) s tall = tt
 notes-hold WeakStop.NoMemory s tall = tt
+
+-- so it is one that a journal may have
+stop-fit : (stop : WeakStop) → AreNotesOf stop → LeavesFit stop
+stop-fit (WeakStop.Tall entry) note = subst IsFit (sym note) (record { seat = omega arith; answer = refl })
+stop-fit WeakStop.Finished note = tt
+stop-fit (WeakStop.Blocked certificates) note = tt
+stop-fit WeakStop.Spent note = tt
+stop-fit (WeakStop.DeviceFault device) note = tt
+stop-fit WeakStop.NoMemory note = tt
+
+pub leaves-fit : (program : Tree) (limit : ℕ) (labels : List Label) (tries : List Try) (turns : ℕ) (before after : List Told) (stop : WeakStop)
+    → IsWeakRunOf program limit labels tries stop → TellsStop program limit labels tries turns before after stop → LeavesFit stop
+leaves-fit program limit labels tries turns before after stop made tells =
+    let w = made.ends.weak in
+    stop-fit stop (notes-hold stop w.state (holds-told program limit labels tries turns before after stop w made.ends.leads tells))
 
 noted-where : (b : Bool) (r : Replayed) → b ≡ true → note_where b r ≡ Some r
 noted-where true r e = refl

@@ -21,6 +21,7 @@ use Rattle.ame_cli.specs.declared.command.CliFail.{CliFail}
 use Rattle.ame_cli.specs.declared.command.Options.{Options}
 use Rattle.ame_cli.specs.declared.command.Command.{Command}
 use Rattle.ame_journal.specs.declared.entry.Entry.{Entry}
+use Rattle.ame_journal.specs.JournalView.{IsFit}
 use Rattle.ame_journal.specs.Replayed.{Replayed}
 use Rattle.ame_journal.specs.Replay.{replay}
 use Rattle.ame_journal.specs.Totals.{without_notes, total_steps}
@@ -224,6 +225,11 @@ stop_told WeakStop.Spent = Stop.Spent
 stop_told (WeakStop.DeviceFault device) = Stop.DeviceFault device
 stop_told (WeakStop.Tall entry) = Stop.Tall entry.number
 stop_told WeakStop.NoMemory = Stop.NoMemory
+
+-- the note that a stop leaves is one that a journal may have
+abbrev pub LeavesFit : WeakStop → Type 0
+LeavesFit (WeakStop.Tall entry) = IsFit entry
+LeavesFit stop = ⊤
 
 abbrev pub certificate_told : Failing → Certificate
 certificate_told c = record { number = c.number; steps = c.steps; fresh = c.fresh }

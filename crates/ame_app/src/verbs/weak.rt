@@ -7,11 +7,12 @@ ghost use Rattle.ame_cli.specs.declared.command.Command.{Command as Asked};
 ghost use Rattle.ame_code.specs.Code.{program_of};
 ghost use Rattle.ame_device.specs.declared.told.Told.{Told};
 ghost use Rattle.ame_engine.specs.Resuming.{AreActs};
+ghost use Rattle.ame_journal.specs.JournalView.{IsFit};
 ghost use Rattle.ame_term.specs.Tree.{Tree};
 ghost use Rattle.ame_term.specs.View.{tree_of};
 ghost use Rattle.ame_runner.specs.Ended.{IsWeakRunOf, TellsStop, notes_of_stop};
 ghost use Rattle.ame_shell.specs.Ends.{ends_of};
-ghost use Rattle.ame_app.specs.Jobs.{certificate_told, certificates_told, stop_told, HasJustResumed, IsEngineBehind, IsEngineOn, IsReplayable, IsTakenFrom, IsWeakRunMade, TellsWeakly};
+ghost use Rattle.ame_app.specs.Jobs.{certificate_told, certificates_told, stop_told, HasJustResumed, IsEngineBehind, IsEngineOn, IsReplayable, LeavesFit, IsTakenFrom, IsWeakRunMade, TellsWeakly};
 ghost use Rattle.ame_app.specs.Verbs.Weak.{alone_with};
 
 use crate::parts::{Own, Weakened};
@@ -64,6 +65,7 @@ fn certificates_of(alloc: Global, failing: Vec<Failing>) -> Result<Vec<Certifica
 
 /// Adds the note of a member that grew too tall to a journal, and tells how the run stops by that.
 fn tall_of(journal: &mut Journal, entry: Entry) -> Result<Stop, NoMemory>
+    requires { IsFit entry }
     ensures stop { IfOk result (λ stop. stop ≡ Stop.Tall entry.number) }
     ensures entries { OnOk result (journal.new.entries ≡ journal.old.entries ++ entry ∷ []) }
 {
@@ -80,6 +82,7 @@ fn told_of(
     journal: &mut Journal,
     stop: WeakStop,
 ) -> Result<(Stop, Vec<Certificate>), NoMemory>
+    requires { LeavesFit stop }
     ensures stop { IfOk result (λ told. told.0 ≡ stop_told stop) }
     ensures certificates { IfOk result (λ told. told.1.items ≡ certificates_told stop) }
     ensures entries { OnOk result (journal.new.entries ≡ journal.old.entries ++ notes_of_stop stop) }

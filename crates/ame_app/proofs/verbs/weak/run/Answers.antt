@@ -22,8 +22,8 @@ pub engine_at-requires-clause-leads : goal.engine_at-requires-clause-leads
 engine_at-requires-clause-leads g c =
     let program = program_of (arc_value c.args.code.now) in (begun_at program, ap (replay program) c.new.ensures)
 
-pub opened_or-requires-clause-tells : goal.opened_or-requires-clause-tells
-opened_or-requires-clause-tells g c =
+pub opened_or-weakened-requires-clause-tells : goal.opened_or-weakened-requires-clause-tells
+opened_or-weakened-requires-clause-tells g c =
     let run = c.weak_run-run.result in
     let old = all_told g.D.Device.device_heard g.D.Device.device_faults c.args.devices.items in
     let new = all_told g.D.Device.device_heard g.D.Device.device_faults c.weak_run-run.new.devices.items in

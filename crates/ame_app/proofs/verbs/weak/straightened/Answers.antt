@@ -8,8 +8,13 @@ use Rattle.ame_weak.specs.Tries.{straight_with}
 use Rattle.ame_weak.specs.declared.straightening.Straight.{Straight}
 use Rattle.ame_weak.specs.declared.tries.Try.{Try}
 use Rattle.ame_runner.specs.Ended.{notes_of_stop}
-use Rattle.ame_app.proofs.WeakLemmas.{weak-leads, weak-tells}
+use Rattle.ame_app.proofs.WeakLemmas.{leaves-fit, weak-leads, weak-tells}
 use Rattle.ame_app.proofs.verbs.weak.straightened.Goals as goal
+
+pub told_of-requires : goal.told_of-requires
+told_of-requires c =
+    leaves-fit (tree_of c.args.accepted.now.program.term) c.args.limit c.args.run.labels.items c.args.run.tries.items c.args.run.turns c.requires.tells.0
+    c.requires.tells.1 c.args.run.stop c.requires.run c.requires.tells.2
 
 pub returns-clause-leads : goal.returns-clause-leads
 returns-clause-leads c =

@@ -141,7 +141,7 @@ fn trace_text<K>(
     requires small { vec_len report.now.text ≤ max_text }
 {
     let lines = lines_told(alloc, &report.code, entries)?;
-    let mut page = table_of(alloc, entries, &lines)?;
+    let mut page = table_of(alloc, entries, ended.tried(), &lines)?;
     let made = made_in(alloc, ended.store())?;
     if !made.is_empty() {
         page.push(b'\n')?;

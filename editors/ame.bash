@@ -24,7 +24,7 @@ _ame_offer_files() {
   mapfile -t COMPREPLY < <(compgen -d -X "$hidden" -- "$cur"; compgen -f -X '!*.ame' -- "$cur"; compgen -W "$*" -- "$cur")
 }
 
-# What may follow a command word: options that aren't given yet, and the numbers of `bench`, `sim` and `weak`.
+# What may follow a command word: options that aren't given yet, the numbers of `bench`, `sim` and `weak`, and these words.
 _ame_offer_parts() {
   local option given offered=() numbers=0
   for given in "${words[@]:1}"; do
@@ -39,11 +39,11 @@ _ame_offer_parts() {
     [[ ${words[0]-} == weak && $option != --turns ]] && continue
     [[ " ${words[*]} " == *" $option"[\ =]* ]] || offered+=("$option")
   done
-  _ame_offer "${offered[@]}"
+  _ame_offer "${offered[@]}" "$@"
 }
 
 _ame() {
-  local program=${1##*/} cur=${COMP_WORDS[COMP_CWORD]} word last='' words=() at
+  local program=${1##*/} cur=${COMP_WORDS[COMP_CWORD]} word last='' words=() views='' rest=() at
   COMPREPLY=()
   # The words before the one at the cursor: redirections are left out, and an option's value stands in its word.
   for ((at = 1; at < COMP_CWORD; at++)); do
@@ -63,7 +63,12 @@ _ame() {
   =) cur= ;;
   esac
   case $last in
-  \<*) _ame_offer_files; return ;;
+  \<*)
+    case ${words[0]-} in
+    replay | check | resume) compopt -o default 2>/dev/null ;;
+    *) _ame_offer_files ;;
+    esac
+    return ;;
   \>*) compopt -o default 2>/dev/null; return ;;
   esac
   if [[ $last == = || $last == --workers || $last == --turns || $last == --slice ]]; then
@@ -71,19 +76,24 @@ _ame() {
     return
   fi
   if [[ $program == why ]]; then
-    local views='--journal --trace --schedule --counts --store --steps --picture'
-    if [[ " $views " == *" ${words[0]-none} "* ]]; then
-      views= words=("${words[@]:1}")
-    fi
+    views='--journal --trace --schedule --counts --store --steps --picture'
+    for word in "${words[@]}"; do
+      case $word in
+      --journal | --trace | --schedule | --counts | --store | --steps | --picture) views= ;;
+      *) rest+=("$word") ;;
+      esac
+    done
+    words=("${rest[@]}")
     case ${words[0]-} in
-    '') _ame_offer_files run bench sim replay check resume weak $views; return ;;
+    '') _ame_offer_files run bench sim replay check resume weak $views ${views:+--help --explain --version}; return ;;
     run | bench | sim | replay | check | resume | weak) ;;
     *) words=("${words[@]:1}") ;;
     esac
   fi
   case ${words[0]-} in
-  '') _ame_offer run bench sim replay check resume weak ;;
-  run | bench | sim | replay | resume | weak) _ame_offer_parts ;;
+  '') _ame_offer run bench sim replay check resume weak $views ;;
+  run | bench | sim | replay | resume | weak) _ame_offer_parts $views ;;
+  check) _ame_offer $views ;;
   esac
 }
 

@@ -1,5 +1,6 @@
 pub mod CrossingLemmas
 pub mod JudgedLemmas
+pub mod OverLemmas
 pub mod CheckLemmas
 pub mod ResumeLemmas
 pub mod VerbLemmas

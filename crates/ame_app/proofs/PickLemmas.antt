@@ -8,7 +8,8 @@ use Rattle.std.proofs.lemmas.List.{map-append, take-append-drop}
 use Rattle.ame_io.specs.Writes.{AppendsFront}
 use Rattle.ame_io.proofs.WritesLemmas.{AppendsFront-after, AppendsFront-longer}
 use Rattle.std.proofs.lemmas.List.Elements.{All-map, All-take, All-weaker}
-use Rattle.ame_sim.specs.Questions.{Picked, questions, seats_of}
+use Rattle.ame_sim.specs.declared.picked.Picked.{Picked}
+use Rattle.ame_sim.specs.Questions.{questions, seats_of}
 use Rattle.ame_sim.specs.Schedule.{AreSeats, sign, signs}
 use Rattle.ame_sim.specs.Strategy.{PicksSeats}
 use Rattle.ame_machine.specs.Meaning.{Meaning}
@@ -23,14 +24,11 @@ use Rattle.ame_app.specs.declared.parts.Own.{Own}
 use Rattle.ame_app.specs.Verbs.Sim.{IsPicked}
 
 -- the signs of picks, one after the other
-abbrev pub signs_made : List Made → List ℕ
-signs_made mades = signs (seats_of (picks_of mades))
+abbrev pub signs_picked : List Picked → List ℕ
+signs_picked picks = signs (seats_of picks)
 
-pub signs-append : (xs ys : List Made) → signs_made (xs ++ ys) ≡ signs_made xs ++ signs_made ys
-signs-append xs ys =
-    ap (λ (ps : List Picked). map sign (map (λ p. p.seat) ps)) (map-append picked_by xs ys)
-    ∙ ap (map sign) (map-append (λ (p : Picked). p.seat) (picks_of xs) (picks_of ys))
-    ∙ map-append sign (seats_of (picks_of xs)) (seats_of (picks_of ys))
+pub signs-append : (xs ys : List Picked) → signs_picked (xs ++ ys) ≡ signs_picked xs ++ signs_picked ys
+signs-append xs ys = ap (map sign) (map-append (λ (p : Picked). p.seat) xs ys) ∙ map-append sign (seats_of xs) (seats_of ys)
 
 -- what is so anyway is so of an error
 pub on-err : {T E : Type 0} (r : Result T E) (P : Type 0) → P → OnErr r P
@@ -41,25 +39,25 @@ pub on-err-then : {T E : Type 0} (r : Result T E) (P Q : Type 0) → (P → Q) �
 on-err-then (Ok x) P Q go h = tt
 on-err-then (Err e) P Q go h = go h
 
-module _ (mades : List Made) (gone next : ℕ) (more : gone ≤ next) (a b c : Option (List ℕ))
-    (before : Appends a b (signs_made (take gone mades))) where
+module _ (picks : List Picked) (gone next : ℕ) (more : gone ≤ next) (a b c : Option (List ℕ))
+    (before : Appends a b (signs_picked (take gone picks))) where
   -- behind the signs of the first picks those of the next ones are written
-  pub signs-more : Appends b c (signs_made (take (next - gone) (drop gone mades))) → Appends a c (signs_made (take next mades))
+  pub signs-more : Appends b c (signs_picked (take (next - gone) (drop gone picks))) → Appends a c (signs_picked (take next picks))
   signs-more now =
       subst (λ (l : List ℕ). Appends a c l)
-      (sym (signs-append (take gone mades) (take (next - gone) (drop gone mades)))
-      ∙ ap signs_made (sym (take-add gone (next - gone) mades) ∙ ap (λ (n : ℕ). take n mades) (omega (arith, more))))
+      (sym (signs-append (take gone picks) (take (next - gone) (drop gone picks)))
+      ∙ ap signs_picked (sym (take-add gone (next - gone) picks) ∙ ap (λ (n : ℕ). take n picks) (omega (arith, more))))
       (Appends-trans a b c _ _ before now)
 
   -- or a front of them
-  pub signs-front : AppendsFront b c (signs_made (take (next - gone) (drop gone mades))) → AppendsFront a c (signs_made mades)
+  pub signs-front : AppendsFront b c (signs_picked (take (next - gone) (drop gone picks))) → AppendsFront a c (signs_picked picks)
   signs-front now =
-      let rest = drop (next - gone) (drop gone mades) in
+      let rest = drop (next - gone) (drop gone picks) in
       subst (λ (l : List ℕ). AppendsFront a c l)
-      (ap (λ (l : List ℕ). signs_made (take gone mades) ++ l) (sym (signs-append (take (next - gone) (drop gone mades)) rest))
-      ∙ sym (signs-append (take gone mades) (take (next - gone) (drop gone mades) ++ rest))
-      ∙ ap signs_made (ap (λ (l : List Made). take gone mades ++ l) (take-append-drop (next - gone) (drop gone mades)) ∙ take-append-drop gone mades))
-      (AppendsFront-after a b c _ _ before (AppendsFront-longer b c _ (signs_made rest) now))
+      (ap (λ (l : List ℕ). signs_picked (take gone picks) ++ l) (sym (signs-append (take (next - gone) (drop gone picks)) rest))
+      ∙ sym (signs-append (take gone picks) (take (next - gone) (drop gone picks) ++ rest))
+      ∙ ap signs_picked (ap (λ (l : List Picked). take gone picks ++ l) (take-append-drop (next - gone) (drop gone picks)) ∙ take-append-drop gone picks))
+      (AppendsFront-after a b c _ _ before (AppendsFront-longer b c _ (signs_picked rest) now))
 
 -- seats of a run have signs
 pub mades-low : (seats turns : ℕ) (mades : List Made) (entries : List Entry) → seats ≤ 32 → AreTold seats turns mades entries
@@ -67,11 +65,12 @@ pub mades-low : (seats turns : ℕ) (mades : List Made) (entries : List Entry) �
 mades-low seats turns mades entries most told =
     All-weaker (λ (made : Made). made.seat < seats) (λ (made : Made). made.seat < 32) (λ made low. omega (arith, low, most)) mades told.within
 
-pub seats-low : (mades : List Made) (n : ℕ) → All (λ (made : Made). made.seat < 32) mades → AreSeats (seats_of (picks_of (take n mades)))
-seats-low mades n low =
-    All-map (λ (seat : ℕ). seat < 32) (λ (pick : Picked). pick.seat) (picks_of (take n mades))
-    (All-map (λ (pick : Picked). pick.seat < 32) picked_by (take n mades)
-    (All-take (λ (made : Made). made.seat < 32) n mades low))
+pub picks-low : (mades : List Made) → All (λ (made : Made). made.seat < 32) mades → All (λ (pick : Picked). pick.seat < 32) (picks_of mades)
+picks-low mades low = All-map (λ (pick : Picked). pick.seat < 32) picked_by mades low
+
+pub seats-low : (picks : List Picked) (n : ℕ) → All (λ (pick : Picked). pick.seat < 32) picks → AreSeats (seats_of (take n picks))
+seats-low picks n low =
+    All-map (λ (seat : ℕ). seat < 32) (λ (pick : Picked). pick.seat) (take n picks) (All-take (λ (pick : Picked). pick.seat < 32) n picks low)
 
 module _ {C M : Type 0} (meaning : Meaning C Val M) where
   -- the picks of a run that was played are those of the strategy that answered

@@ -172,7 +172,7 @@ module _ (call : Call) (status : Status) (text : Text) (code : FlatCode) (front 
       seats = made.over.seats;
       output = text-written;
       printed = sym made.over.ends.printed;
-      store = record { stored = made.over.ends.store; free = made.over.ends.free };
+      store = record { stored = made.over.ends.store; free = made.over.ends.free; forms = made.over.ends.forms };
       typed = is-reached.typed;
       as_many = ap length kept ∙ made.over.heard.count;
       devices = plain.devices (record {
@@ -288,7 +288,7 @@ module _ (call : Call) (status : Status) (text : Text) (code : FlatCode) (front 
       seats = tells.seats;
       output = weak-written;
       printed = sym apart.ends.printed ∙ ap (λ (r : Replayed). r.state.output) same-state;
-      store = subst (λ (r : Replayed). IsStore code left.cells r.state) same-state (record { stored = apart.ends.store; free = apart.ends.free });
+      store = subst (λ (r : Replayed). IsStore code left.cells r.state) same-state (record { stored = apart.ends.store; free = apart.ends.free; forms = apart.ends.forms });
       typed = there.typed;
       as_many = ap length kept ∙ tells.count;
       devices = record {

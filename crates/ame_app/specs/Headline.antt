@@ -14,6 +14,7 @@ use Rattle.ame_store.specs.Cells.{IsFree}
 use Rattle.ame_journal.specs.declared.entry.Entry.{Entry}
 use Rattle.ame_journal.specs.Replayed.{Replayed}
 use Rattle.ame_journal.specs.Replay.{replay}
+use Rattle.ame_machine.specs.RefSorts.{IsRefForm}
 use Rattle.ame_protocol.specs.Row.Shown.{shown_cell}
 use Rattle.ame_protocol.specs.Waits.Once.{IsNotedOnce}
 use Rattle.ame_protocol.specs.Visits.Opened.{cell_of, stored_in}
@@ -56,10 +57,11 @@ reported status text code own = record { status = status; text = text; code = co
 abbrev pub journal_of : End Val → List Entry
 journal_of end = end.base ++ end.entries
 
--- the live cells are the store of a state, and no cell has an owner
+-- the live cells are the store of a state, no cell has an owner, and each has the number of a `ref` form of its sort
 pub record IsStore (code : FlatCode) (cells : List (Cell Val)) (s : State) : Type 0 where
   pub stored : (l : ℕ) → at s.store l ≡ stored_in (cell_of (map (shown_cell (value_meant code)) cells) l)
   pub free : All IsFree cells
+  pub forms : All (λ cell. IsRefForm (program_of code) cell.sort cell.ty.0) cells
 
 -- the values stored and the members are typed, for some types of the locations
 pub record IsTypedState (devices : ℕ) (s : State) : Type 0 where

@@ -37,7 +37,7 @@ use Rattle.ame_engine.specs.Resuming.{HasResumed}
 use Rattle.ame_shell.specs.Ends.{Ends}
 use Rattle.ame_shell.specs.Sent.{IsSent}
 use Rattle.ame_shell.specs.Heard.{HaveHeard, HaveFailed}
-use Rattle.ame_shell.specs.Over.{AreOfSeats, IsOverSince}
+use Rattle.ame_shell.specs.Over.{AreOfSeats, IsOver, IsOverSince}
 use Rattle.ame_weak.specs.declared.tries.Certificate.{Certificate as Failing}
 use Rattle.ame_runner.specs.Apart.{AreNotedApart}
 use Rattle.ame_runner.specs.declared.stop.WeakStop.{WeakStop}
@@ -107,10 +107,18 @@ fragments = record {
   stage = λ code m. stage_of code m;
 }
 
+-- entries lead from a program to a state
+abbrev pub IsReplayable : Tree → List Entry → Type 0
+IsReplayable program entries = (led : Replayed) × (replay program entries ≡ Some led)
+
 -- an engine goes on with the code from entries
 pub record IsEngineOn (options : Options) (base : List Entry) (code : FlatCode) (engine : Core FlatCode Val Fragment) : Type 0 where
   pub code_is : engine.code ≡ code
   pub resumed : HasResumed fragments (limits_of options) base engine
+
+-- an engine goes on from its entries, and has done nothing yet
+abbrev pub HasGoneOn : Core FlatCode Val Fragment → Type 0
+HasGoneOn engine = HasResumed fragments engine.limits engine.base engine
 
 -- an engine goes on with the code from the entries with which the run of a command begins
 pub record IsOpened (command : Command) (front : Front) (code : FlatCode) (engine : Core FlatCode Val Fragment) : Type 0 where
@@ -119,7 +127,7 @@ pub record IsOpened (command : Command) (front : Front) (code : FlatCode) (engin
   pub begun : BeginsFrom command front (program_of code) engine.base
   pub code_is : engine.code ≡ code
   pub limits_are : engine.limits ≡ limits_of options
-  pub resumed : HasResumed fragments engine.limits engine.base engine
+  pub resumed : HasGoneOn engine
 
 -- something is told without a run, or a run goes on from an engine, or one begins with nothing
 abbrev pub IsOutlook : Command → Front → FlatCode → Outlook → Type 0
@@ -128,6 +136,14 @@ IsOutlook command front code (Outlook.GoesOn engine) = IsOpened command front co
 IsOutlook command front code Outlook.Begins = ⊤
 
 -- The run
+
+-- a run of code from its beginning, with these options, is over
+abbrev pub IsOverWith : Options → FlatCode → Ends → End Val → Ends → Type 0
+IsOverWith options code before end after = IsOver (program_of code) (limits_of options) (value_meant code) before end after
+
+-- a run that went on from an engine is over
+abbrev pub IsOverFrom : Core FlatCode Val Fragment → Ends → End Val → Ends → Type 0
+IsOverFrom engine before end after = IsOverSince engine.base (program_of engine.code) engine.limits (value_meant engine.code) before end after
 
 -- a run that a command makes by an engine is over, and has kept what the command promises
 pub record IsEngineRunMade (command : Command) (front : Front) (code : FlatCode) (before : Ends) (own : Own) (end : End Val) (after : Ends) : Type 0 where
@@ -169,6 +185,14 @@ pub record IsTakenApart (base : List Entry) (program : Tree) (limits : Limits) (
   pub untried : end.tried ≡ []
   pub uncounted : end.counters ≡ nothing_counted
   pub sent : IsSent end.stop (lines ends.r.state.output) before after
+
+-- so it was with this engine
+abbrev pub IsTakenFrom : Core FlatCode Val Fragment → End Val → Ends → Ends → Type 0
+IsTakenFrom engine end before after = IsTakenApart engine.base (program_of engine.code) engine.limits (value_meant engine.code) end before after
+
+-- an engine goes on with the code from the journal of a weak run without its notes
+abbrev pub IsEngineBehind : Weakened → ℕ → FlatCode → Core FlatCode Val Fragment → Type 0
+IsEngineBehind weakened turns code engine = IsEngineOn (alone_with turns) (without_notes weakened.journal.entries) code engine
 
 -- a weak run is over, and an engine was taken apart that was opened on its journal without the notes
 pub record IsWeakRunMade (turns : ℕ) (code : FlatCode) (before : Ends) (own : Own) (left : End Val) (after : Ends) : Type 0 where

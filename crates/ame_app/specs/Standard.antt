@@ -1,9 +1,12 @@
 -- The devices of a process.
-use Rattle.std.specs.Prelude.{ℕ, List, [], replicate, Option, Some}
+use Rattle.std.specs.Prelude.{◌≡◌, ◌≢◌, ◌⊎◌, ℕ, List, [], replicate, Option, Some, None}
 use Rattle.ame_device.specs.declared.told.Heard.{Heard}
 use Rattle.ame_device.specs.Calls.{told}
+use Rattle.ame_value.specs.declared.val.Val.{Val}
+use Rattle.ame_engine.specs.Ending.{End}
 use Rattle.ame_shell.specs.Ends.{Ends}
 use Rattle.ame_app.specs.declared.standard.StandardDevice.{StandardDevice}
+use Rattle.ame_app.specs.declared.status.Status.{Status}
 
 -- what a device heard, and its count of faults
 abbrev pub heard_by : StandardDevice → Option (List Heard)
@@ -17,3 +20,13 @@ faults_of (StandardDevice.Adder device) = device.faults
 -- what a sink tells, and so many devices that heard nothing yet
 abbrev pub with_new : ℕ → Option (List ℕ) → ℕ → Ends
 with_new count written faults = record { written = written; write_faults = faults; told = replicate count (told (Some []) 0) }
+
+-- there was no memory for the devices: none come back, no run was begun, and want of memory is told
+pub record HasNoDevices (count : ℕ) (status : Status) (ended : Option (End Val)) : Type 0 where
+  pub none : count ≡ 0
+  pub unbegun : ended ≡ None
+  pub told : status ≢ Status.WriteFault → status ≡ Status.NoMemory
+
+-- the two new devices come back, unless there was no memory for them
+abbrev pub ComeBack : ℕ → Status → Option (End Val) → Type 0
+ComeBack count status ended = (count ≡ 2) ⊎ HasNoDevices count status ended

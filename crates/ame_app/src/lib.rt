@@ -5,6 +5,7 @@ mod asked;
 mod call;
 mod code;
 mod fault;
+mod limits;
 mod lists;
 mod parts;
 mod process;

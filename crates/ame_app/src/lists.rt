@@ -1,11 +1,11 @@
 //! Lists of picks, which contracts see as lists.
 
-ghost use Rattle.std.specs.Prelude.{◌≡◌, ◌<◌, All, IfOk};
+ghost use Rattle.std.specs.Prelude.{◌≡◌, ◌<◌, All, IfOk, length};
 ghost use Rattle.ame_sim.specs.Picks.{picks_of};
 ghost use Rattle.ame_sim.specs.Questions.{seats_of};
 ghost use Rattle.ame_sim.specs.Schedule.{IsScheduled};
 
-use ame_sim::{Made, schedule_text};
+use ame_sim::{MadesIter, PackedMades, Picked, schedule_text};
 use ame_term::{NoMemory, push};
 use std::alloc::Global;
 use std::marker::Model;
@@ -43,7 +43,7 @@ impl Picks {
 /// What picks did, one after the other, each of one of 32 seats. Contracts see the list.
 #[derive(Drop)]
 pub struct Mades {
-    items: Vec<Made>,
+    mades: PackedMades,
 }
 
 impl Model for Mades {
@@ -52,35 +52,50 @@ impl Model for Mades {
 
     ghost Value = { List Done };
 
-    ghost view = { λ mades. mades.items.items };
+    ghost view = { λ m. m.mades.items };
 
-    ghost invariant = { λ mades. All (λ made. made.seat < 32) mades.items.items };
+    ghost invariant = { λ m. All (λ made. made.seat < 32) m.mades.items };
 }
 
 impl Mades {
-    /// What a vector has, whose memory it keeps.
-    pub fn from_vec(items: Vec<Made>) -> Mades
-        requires { All (λ made. made.seat < 32) items.items }
-        ensures { result ≡ items.items }
+    /// What the picks of a run did, in its memory.
+    pub fn of_run(mades: PackedMades) -> Mades
+        requires { All (λ made. made.seat < 32) mades.items }
+        ensures { result ≡ mades.items }
     {
-        Mades { items }
+        Mades { mades }
+    }
+
+    /// How many there are.
+    pub fn len(&self) -> usize
+        ensures { result ≡ length self.now }
+    {
+        self.mades.len()
     }
 
     /// What each pick did, in order.
-    pub fn as_slice(&self) -> &[Made]
-        ensures value { self.now ≡ result.now }
-        ensures low { All (λ made. made.seat < 32) result.now }
+    pub fn iter(&self) -> MadesIter<'_>
+        ensures value { result ≡ self.now }
+        ensures low { All (λ made. made.seat < 32) result }
     {
-        self.items.as_slice()
+        self.mades.iter()
+    }
+
+    /// The picks, in order.
+    pub fn picks(&self) -> &[Picked]
+        ensures value { result.now ≡ picks_of self.now }
+        ensures low { All (λ pick. pick.seat < 32) result.now }
+    {
+        self.mades.picks()
     }
 
     /// The schedule of these picks, with the text of the program that it is for, as one text that can be run again.
     pub fn schedule_text(&self, alloc: Global, text: &[u8]) -> Result<Vec<u8>, NoMemory>
         ensures { IfOk result (λ bytes. IsScheduled bytes.items (seats_of (picks_of self.now)) text.now) }
     {
-        let mut seats = Vec::new(alloc);
-        for made in self.as_slice() {
-            push(&mut seats, made.seat)?;
+        let mut seats = Vec::with_capacity(alloc, self.len())?;
+        for pick in self.picks() {
+            push(&mut seats, u32::from(pick.seat))?;
         }
         schedule_text(alloc, &seats, text)
     }

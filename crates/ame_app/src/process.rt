@@ -8,7 +8,7 @@ ghost use Rattle.ame_app.specs.Calls.{what_is_given, call_of};
 ghost use Rattle.ame_app.specs.Answered.{IsPromised};
 ghost use Rattle.ame_app.specs.Headline.{reported, IsToldAlone};
 ghost use Rattle.ame_app.specs.declared.parts.Own.{Own};
-ghost use Rattle.ame_app.specs.Standard.{heard_by, faults_of, with_new};
+ghost use Rattle.ame_app.specs.Standard.{heard_by, faults_of, with_new, ComeBack};
 ghost use Rattle.ame_app.specs.Verdict.{unread};
 
 use crate::call::{run_words_over, turn_away};
@@ -57,6 +57,7 @@ where
         (with_new (vec_len result.devices) (K.written sink) (K.faults sink))
         (ends_of K.written K.faults heard_by faults_of result.sink result.devices.items)) }
     ensures two { IfSome result.ended (λ _. vec_len result.devices ≡ 2) }
+    ensures devices { IfOk words (λ _. ComeBack (vec_len result.devices) result.status result.ended) }
     ensures unread { IfErr words (λ fault. (result.ended ≡ None) × IsToldAlone [] Own.Nothing (unread fault)
         (reported result.status result.text.items (option_map arc_value result.code) result.own)
         (ends_of K.written K.faults heard_by faults_of sink [])

@@ -19,7 +19,7 @@ use Rattle.ame_machine.specs.Comes.{HasNextAct}
 use Rattle.ame_machine.specs.Move.{fed_stage, stepped_to}
 use Rattle.ame_machine.proofs.Run.RunLemmas.{step-of, acted-more}
 use Rattle.ame_machine.proofs.MoveLemmas.{fed-is}
-use Rattle.ame_check.specs.Shows.{ShowsValue, ShowsCells}
+use Rattle.ame_check.specs.Shows.{IsMadeCell, ShowsValue, ShowsCells}
 use Rattle.ame_check.specs.Walk.{active_on, IsStepping}
 use Rattle.ame_check.specs.Walked.{place_with}
 use Rattle.ame_check.proofs.GoingLemmas.{bare, Chosen, any-types, going-on, going-as}
@@ -150,7 +150,7 @@ module _ (devices : ℕ) (s : State) (i : ℕ) where
 -- Values shown
 
 module _ {C V M : Type 0} (meaning : Meaning C V M) (code : C) where
-  pub shows-put : (cells : List (ℕ × Stored V)) (store : List (ℕ × Val)) (l : ℕ) (v : Stored V) (w : Val) → ShowsCells meaning code cells store → meaning.is_value code v.value → meaning.value_of code v.value ≡ w
+  pub shows-put : (cells : List (ℕ × Stored V)) (store : List (ℕ × Val)) (l : ℕ) (v : Stored V) (w : Val) → ShowsCells meaning code cells store → IsMadeCell meaning code v → meaning.value_of code v.value ≡ w
       → ShowsCells meaning code (put cells l v) (put store l w)
   shows-put cells store l v w shows good is k = by (at-put cells l k v) (at-put store l k w)
     where
@@ -166,14 +166,14 @@ module _ {C V M : Type 0} (meaning : Meaning C V M) (code : C) where
 
   -- one value laid over another
   pub shown-some : (a b : Option (Stored V)) (x y : Option Val) (v : Stored V) → ShowsValue meaning code a x → ShowsValue meaning code b y → Some v ≡ or_else a b
-      → meaning.is_value code v.value × (or_else x y ≡ Some (meaning.value_of code v.value))
+      → IsMadeCell meaning code v × (or_else x y ≡ Some (meaning.value_of code v.value))
   shown-some None None x y v h k e = cc
   shown-some None (Some w) x y v h k e =
       let same : w ≡ v = cc in
-      (subst (λ (z : Stored V). meaning.is_value code z.value) same k.0, ap (λ (o : Option Val). or_else o y) h ∙ k.1 ∙ ap (λ (z : Stored V). Some (meaning.value_of code z.value)) same)
+      (subst (λ (z : Stored V). IsMadeCell meaning code z) same k.0, ap (λ (o : Option Val). or_else o y) h ∙ k.1 ∙ ap (λ (z : Stored V). Some (meaning.value_of code z.value)) same)
   shown-some (Some w) b x y v h k e =
       let same : w ≡ v = cc in
-      (subst (λ (z : Stored V). meaning.is_value code z.value) same h.0, ap (λ (o : Option Val). or_else o y) h.1 ∙ ap (λ (z : Stored V). Some (meaning.value_of code z.value)) same)
+      (subst (λ (z : Stored V). IsMadeCell meaning code z) same h.0, ap (λ (o : Option Val). or_else o y) h.1 ∙ ap (λ (z : Stored V). Some (meaning.value_of code z.value)) same)
 
   pub shown-none : (a b : Option (Stored V)) (x y : Option Val) → ShowsValue meaning code a x → ShowsValue meaning code b y → None ≡ or_else a b → (x ≡ None) × (y ≡ None)
   shown-none None None x y h k e = (h, k)

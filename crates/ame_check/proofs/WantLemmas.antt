@@ -23,6 +23,7 @@ use Rattle.ame_journal.specs.Replay.{or_else, member_act, redex_act}
 use Rattle.ame_machine.specs.Run.Local.{LocalState}
 use Rattle.ame_machine.specs.MachineView.{MachineView, running_side}
 use Rattle.ame_machine.specs.Meaning.{Meaning}
+use Rattle.ame_machine.specs.RefSorts.{IsRefForm}
 use Rattle.ame_machine.specs.Comes.{Comes, HasNextAct}
 use Rattle.ame_machine.specs.Need.{need_told}
 use Rattle.ame_machine.specs.Sound.{IsSoundStage}
@@ -180,9 +181,10 @@ module _ {C V M : Type 0} (meaning : Meaning C V M) (code : C) (sound : (m : M) 
       let one : comes.0 ≡ meaning.value_of code v = (let both : ◌≡◌ {A = Option Val} (Some comes.0) (Some (meaning.value_of code v)) = sym lends ∙ lent in cc) in
       let f = fed-write (meaning.devices code) s i w.sets (meaning.stage code m) (meaning.stage code o) w.going (low-at (wants.Write l) told (λ e. cc)) l.0 comes.0 comes.1 (at_want o (wants.Write l) Val.Unit told e) in
       let cell = record at_place { value = c } in
+      let made = (shown-some meaning code (at overlay l.0) (at cells l.0) (at w.sets l.0) (at s.store l.0) at_place (w.laid l.0) (w.store l.0) is_there).0.1 in
       let has = sort-found w.types overlay cells l.0 at_place w.sorts_set w.sorts is_there in
       next _ (put w.sets l.0 comes.0) laid_later o _ f
-      good (subst (λ (z : List (ℕ × Stored V)). ShowsCells meaning code z (put w.sets l.0 comes.0)) (sym is) (shows-put meaning code overlay w.sets l.0 cell comes.0 w.laid good_value (sym same ∙ sym one)))
+      good (subst (λ (z : List (ℕ × Stored V)). ShowsCells meaning code z (put w.sets l.0 comes.0)) (sym is) (shows-put meaning code overlay w.sets l.0 cell comes.0 w.laid (good_value, made) (sym same ∙ sym one)))
       (subst (λ (z : List (ℕ × Stored V)). HaveSorts f.later z) (sym is)
       (sorts-put f.later overlay l.0 cell (has.0, f.grows l.0 (at_place.sort, has.0) has.1) (sorts-grow w.types f.later overlay f.grows w.sorts_set)))
       (λ most told under. subst (λ (z : List (ℕ × Stored V)). AreBelow most z) (sym is)
@@ -213,10 +215,10 @@ module _ {C V M : Type 0} (meaning : Meaning C V M) (code : C) (sound : (m : M) 
       (w.going.after_run.stored l ∙ has)))
 
   pub allocate-made : (sort : Sort) (number : TyNo) (l : Loc) (more : List ℕ) (v c : V) (o : M) → (meaning.stage code m).want ≡ Some (wants.Alloc sort number) → w.rest ≡ l.0 ∷ more → None ≡ or_else (at overlay l.0) (at cells l.0)
-      → value_to_set (meaning.stage code m) ≡ Some (meaning.value_of code v) → meaning.is_value code c → meaning.value_of code v ≡ meaning.value_of code c → meaning.is_machine code o
+      → value_to_set (meaning.stage code m) ≡ Some (meaning.value_of code v) → meaning.is_value code c → IsRefForm (meaning.program code) sort number.0 → meaning.value_of code v ≡ meaning.value_of code c → meaning.is_machine code o
       → after_input (meaning.stage code m).want (Val.Loc l.0) (meaning.stage code m) ≡ Some (meaning.stage code o) → (laid_later : List (ℕ × Stored V)) → laid_later ≡ put overlay l.0 (record { sort = sort; number = number; value = c })
       → IsAtStep meaning code s i fresh cells laid_later o side (n + 1)
-  allocate-made sort number l more v c o told front none lent good_value same good e laid_later is =
+  allocate-made sort number l more v c o told front none lent good_value form same good e laid_later is =
       let comes = coming (wants.Alloc sort number) told in
       let lends = set-of (Act.Allocates sort comes.0) comes.1 ∙ refl in
       let one : comes.0 ≡ meaning.value_of code v = (let both : ◌≡◌ {A = Option Val} (Some comes.0) (Some (meaning.value_of code v)) = sym lends ∙ lent in cc) in
@@ -224,7 +226,7 @@ module _ {C V M : Type 0} (meaning : Meaning C V M) (code : C) (sound : (m : M) 
       let f = fed-alloc (meaning.devices code) s i w.sets (meaning.stage code m) (meaning.stage code o) w.going (low-at (wants.Alloc sort number) told (λ e. cc)) sort l.0 comes.0 comes.1 (at_want o (wants.Alloc sort number) (Val.Loc l.0) told e) free.0 free.1 in
       let cell : Stored V = record { sort = sort; number = number; value = c } in
       next _ (put w.sets l.0 comes.0) laid_later o _ f
-      good (subst (λ (z : List (ℕ × Stored V)). ShowsCells meaning code z (put w.sets l.0 comes.0)) (sym is) (shows-put meaning code overlay w.sets l.0 cell comes.0 w.laid good_value (sym same ∙ sym one)))
+      good (subst (λ (z : List (ℕ × Stored V)). ShowsCells meaning code z (put w.sets l.0 comes.0)) (sym is) (shows-put meaning code overlay w.sets l.0 cell comes.0 w.laid (good_value, form) (sym same ∙ sym one)))
       (subst (λ (z : List (ℕ × Stored V)). HaveSorts f.later z) (sym is)
       (sorts-put f.later overlay l.0 cell f.has (sorts-grow w.types f.later overlay f.grows w.sorts_set)))
       (λ most told under. subst (λ (z : List (ℕ × Stored V)). AreBelow most z) (sym is)

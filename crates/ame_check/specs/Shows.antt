@@ -9,6 +9,7 @@ use Rattle.ame_journal.specs.Replay.{replay}
 use Rattle.ame_journal.specs.declared.entry.Entry.{Entry}
 use Rattle.ame_machine.specs.Run.AgreesWith.{with_members}
 use Rattle.ame_machine.specs.Meaning.{Meaning}
+use Rattle.ame_machine.specs.RefSorts.{IsRefForm}
 use Rattle.ame_machine.specs.MachineView.{MachineView, starting_at}
 use Rattle.ame_check.specs.declared.stored.Stored.{Stored}
 
@@ -36,10 +37,14 @@ abbrev pub IsResting : Bool → MachineView → Type 0
 IsResting inside m = m ≡ record (starting_at m.term) { inside = inside }
 
 module _ {C V M : Type 0} (meaning : Meaning C V M) (code : C) where
+  -- the value of a cell is one of the code, and its number is that of a `ref` form of its sort
+  abbrev pub IsMadeCell : Stored V → Type 0
+  IsMadeCell cell = meaning.is_value code cell.value × IsRefForm (meaning.program code) cell.sort cell.number.0
+
   -- what a cell has stands for the plain data
   abbrev pub ShowsValue : Option (Stored V) → Option Val → Type 0
   ShowsValue None o = o ≡ None
-  ShowsValue (Some cell) o = meaning.is_value code cell.value × (o ≡ Some (meaning.value_of code cell.value))
+  ShowsValue (Some cell) o = IsMadeCell cell × (o ≡ Some (meaning.value_of code cell.value))
 
   -- so does a machine at rest for a term
   abbrev pub ShowsMember : Bool → Option M → Option Tree → Type 0

@@ -21,6 +21,7 @@ use Rattle.ame_machine.specs.Need.{Need, need_of}
 use Rattle.ame_machine.specs.Input.{value_set, value_to_set}
 use Rattle.ame_machine.specs.Comes.{HasNextAct}
 use Rattle.ame_machine.specs.Sound.{IsSoundStage, CanRun}
+use Rattle.ame_machine.specs.RefSorts.{IsRefForm, WantsRefForm}
 use Rattle.ame_machine.proofs.NeedLemmas.{comes_as}
 use Rattle.ame_protocol.specs.Engine.Parts.{Parts}
 use Rattle.ame_protocol.specs.Engine.Shown.{shown_memory}
@@ -52,13 +53,15 @@ number-wanted _ d = d
 
 -- Good values
 
-module _ {V : Type 0} (IsGood : V → Type 0) (seat : ℕ) (sort : Sort) (number : TyNo) (value input : V) (good : IsGood value) (good-input : IsGood input) where
-  memory-good : (c : MemoryView V) → IsGoodMemory IsGood c → IsGoodMemory IsGood (allocated_by seat sort number value input c)
+module _ {V : Type 0} (IsGood : V → Type 0) (IsForm : Sort → ℕ → Type 0) (seat : ℕ) (sort : Sort) (number : TyNo) (value input : V) (good : IsGood value) (form : IsForm sort number.0)
+    (good-input : IsGood input) where
+  memory-good : (c : MemoryView V) → IsGoodMemory IsGood IsForm c → IsGoodMemory IsGood IsForm (allocated_by seat sort number value input c)
   memory-good c whole =
       let row = row_at c.rows seat in
       let its = row-good IsGood c.rows seat whole.rows in
       record {
         cells = All-push (λ (cell : Cell V). IsGood cell.value) c.cells (made sort number value (Some seat)) whole.cells good;
+        forms = All-push (λ (cell : Cell V). IsForm cell.sort cell.ty.0) c.cells (made sort number value (Some seat)) whole.forms form;
         rows = All-set (IsGoodLog IsGood) c.rows seat _ (record {
           inputs = All-push IsGood row.inputs input its.inputs good-input;
           undos = All-push (IsGoodUndo IsGood) row.undos (Made (next_place c.cells)) its.undos tt;
@@ -73,7 +76,7 @@ module _ {C V M : Type 0} (meaning : Meaning C V M) (same : V → V → Type 0)
     (core now : Core C V M) (view : core ≡ now) (whole : IsSound meaning core)
     (seat : ℕ) (m : M) (sort : Sort) (number : TyNo) (on : IsOn meaning now seat m)
     (outside : (meaning.stage now.code m).inside ≡ false) (wants-it : (meaning.stage now.code m).want ≡ Some (wants.Alloc sort number))
-    (sound : IsSoundStage (meaning.stage now.code m)) where
+    (sound : IsSoundStage (meaning.stage now.code m)) (form : WantsRefForm (meaning.program now.code) (meaning.stage now.code m).want) where
   abbrev parts : Parts
   parts = parts_of meaning core
 
@@ -85,6 +88,10 @@ module _ {C V M : Type 0} (meaning : Meaning C V M) (same : V → V → Type 0)
 
   outside' : s.inside ≡ false
   outside' = subst (λ (x : Core C V M). (meaning.stage x.code m).inside ≡ false) (sym view) outside
+
+  form' : IsRefForm (meaning.program core.code) sort number.0
+  form' = subst (λ (c : C). IsRefForm (meaning.program c) sort number.0) (ap (λ (x : Core C V M). x.code) (sym view))
+      (subst (WantsRefForm (meaning.program now.code)) wants-it form)
 
   need' : Need.Alloc sort ≡ need_of s
   need' = subst (λ (x : Core C V M). Need.Alloc sort ≡ need_of (meaning.stage x.code m)) (sym view) (sound.told (wants.Alloc sort number) wants-it)
@@ -157,8 +164,8 @@ module _ {C V M : Type 0} (meaning : Meaning C V M) (same : V → V → Type 0)
     pub whole-allocated : now.stop ≡ None → (meaning.stage now.code m).since < now.limits.slice → IsSound meaning after
     whole-allocated going early =
         sound-next meaning core now after view whole (Event.Alloc seat sort number (meaning.value_of core.code value)) (makes-it going early)
-        (subst (IsGoodMemory (meaning.is_value core.code)) (sym is)
-        (memory-good (meaning.is_value core.code) seat sort number value input (keeps core.code lent value copied lent-good) input-good core.memory whole.memory))
+        (subst (IsGoodMemory (meaning.is_value core.code) (IsRefForm (meaning.program core.code))) (sym is)
+        (memory-good (meaning.is_value core.code) (IsRefForm (meaning.program core.code)) seat sort number value input (keeps core.code lent value copied lent-good) form' input-good core.memory whole.memory))
         whole.members whole.text
 
     pub runs-allocated : now.stop ≡ None → (meaning.stage now.code m).since < now.limits.slice → (t : MachineView) → IsOnSeat (parts_of meaning after) seat t → t.inside ≡ false → CanRun t

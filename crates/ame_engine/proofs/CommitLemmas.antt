@@ -8,6 +8,7 @@ use Rattle.std.proofs.lemmas.List.Elements.{All-map, All-set, All-nil, All-cons,
 use Rattle.ame_io.specs.Lines.{lines}
 use Rattle.ame_io.proofs.LinesLemmas.{lines-append}
 use Rattle.ame_term.specs.Tree.{Val, Tree}
+use Rattle.ame_term.specs.declared.types.Sort.{Sort}
 use Rattle.ame_term.specs.Frame.{Side, side_told}
 use Rattle.ame_term.specs.Context.{focus}
 use Rattle.ame_term.specs.State.{at_value, at_unprotected}
@@ -67,6 +68,7 @@ use Rattle.ame_engine.proofs.CheckLemmas.{valid-shown}
 use Rattle.ame_engine.proofs.OwnedLemmas.{owned-are}
 use Rattle.ame_engine.proofs.CrewLemmas.{woken-rest, all-woken-shown, busy-told, none-told, room-used, all-woken-room}
 use Rattle.ame_machine.specs.Meaning.{Meaning}
+use Rattle.ame_machine.specs.RefSorts.{IsRefForm}
 use Rattle.ame_engine.proofs.SoundLemmas.{sound-next}
 
 -- what the machine wants
@@ -105,7 +107,7 @@ module _ {V : Type 0} (view : V → Val) where
 
 -- Good values
 
-module _ {V : Type 0} (IsGood : V → Type 0) (seat : ℕ) where
+module _ {V : Type 0} (IsGood : V → Type 0) (IsForm : Sort → ℕ → Type 0) (seat : ℕ) where
   released-good : (cell : Cell V) → IsGood cell.value → IsGood (released_by seat cell).value
   released-good cell good = by (is_owned_by seat cell)
     where
@@ -113,10 +115,19 @@ module _ {V : Type 0} (IsGood : V → Type 0) (seat : ℕ) where
       by true = good
       by false = good
 
-  pub memory-released : (c : MemoryView V) → IsGoodMemory IsGood c → IsGoodMemory IsGood (released_all seat c)
+  released-form : (cell : Cell V) → IsForm cell.sort cell.ty.0 → IsForm (released_by seat cell).sort (released_by seat cell).ty.0
+  released-form cell form = by (is_owned_by seat cell)
+    where
+      by : (b : Bool) → IsForm (cond b (released cell) cell).sort (cond b (released cell) cell).ty.0
+      by true = form
+      by false = form
+
+  pub memory-released : (c : MemoryView V) → IsGoodMemory IsGood IsForm c → IsGoodMemory IsGood IsForm (released_all seat c)
   memory-released c good = record {
     cells = All-map (λ (cell : Cell V). IsGood cell.value) (released_by seat) c.cells
         (All-weaker (λ (cell : Cell V). IsGood cell.value) (λ cell. IsGood (released_by seat cell).value) released-good c.cells good.cells);
+    forms = All-map (λ (cell : Cell V). IsForm cell.sort cell.ty.0) (released_by seat) c.cells
+        (All-weaker (λ (cell : Cell V). IsForm cell.sort cell.ty.0) (λ cell. IsForm (released_by seat cell).sort (released_by seat cell).ty.0) released-form c.cells good.forms);
     rows = All-set (IsGoodLog IsGood) c.rows seat no_log (record { inputs = All-nil IsGood; undos = All-nil (IsGoodUndo IsGood) }) good.rows;
   }
 
@@ -466,5 +477,6 @@ module _ {C V M : Type 0} (meaning : Meaning C V M)
           whole-committed committing going =
               let event = by-want going (which-want s.want committing) in
               sound-next meaning core now after view whole event.0 event.1
-              (subst (IsGoodMemory (meaning.is_value core.code)) (sym memory_is) (memory-released (meaning.is_value core.code) seat core.memory whole.memory))
+              (subst (IsGoodMemory (meaning.is_value core.code) (IsRefForm (meaning.program core.code))) (sym memory_is)
+              (memory-released (meaning.is_value core.code) (IsRefForm (meaning.program core.code)) seat core.memory whole.memory))
               rests text-is

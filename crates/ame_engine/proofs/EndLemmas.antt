@@ -201,6 +201,7 @@ module _ {C V M : Type 0} (meaning : Meaning C V M) (core : Core C V M)
     store = all-stored parts s idle;
     printed = s.stands.output;
     free = free;
+    forms = whole.memory.forms;
     once = whole.state.once.once;
     stopped = has-stopped core.stop refl whole.state.caused;
     shown = record { limited = refl; counts = whole.state.counters; most = s.bounded.turns };

@@ -42,6 +42,7 @@ use Rattle.ame_engine.specs.Makes.{state_of}
 use Rattle.ame_engine.specs.Whole.{IsGoodUndo, IsGoodLog, IsSound, IsGoodMemory}
 use Rattle.ame_engine.specs.AtWork.{IsOnSeat, is_free}
 use Rattle.ame_machine.specs.Meaning.{Meaning}
+use Rattle.ame_machine.specs.RefSorts.{IsRefForm}
 
 -- Good values
 
@@ -198,8 +199,9 @@ module _ {C V M : Type 0} (meaning : Meaning C V M) where
           )
 
       -- and what the memory has then is good
-      pub read-memory : IsGoodMemory (meaning.is_value core.code) (by_seat seat core.memory.cells notes core.memory)
+      pub read-memory : IsGoodMemory (meaning.is_value core.code) (IsRefForm (meaning.program core.code)) (by_seat seat core.memory.cells notes core.memory)
       read-memory = record {
         cells = whole.memory.cells;
+        forms = whole.memory.forms;
         rows = All-set (IsGoodLog (meaning.is_value core.code)) core.memory.rows seat notes good-row whole.memory.rows;
       }

@@ -32,6 +32,7 @@ use Rattle.ame_engine.proofs.MakesLemmas.{made-event}
 use Rattle.ame_engine.proofs.ReadLemmas.{read-cell, read-within, in-place, read-parts, may-read, read-memory}
 use Rattle.ame_engine.proofs.RunLemmas.{can-run}
 use Rattle.ame_machine.specs.Meaning.{Meaning}
+use Rattle.ame_machine.specs.RefSorts.{IsRefForm}
 use Rattle.ame_engine.proofs.SoundLemmas.{sound-next}
 
 -- the location that is wanted to be read
@@ -106,7 +107,7 @@ module _ {C V M : Type 0} (meaning : Meaning C V M) (same : V → V → Type 0)
         → IsSound meaning after
     whole-read going early parity =
         sound-next meaning core now after view whole (Event.Read seat l) (makes-it going early parity)
-        (subst (IsGoodMemory (meaning.is_value core.code)) (sym others)
+        (subst (IsGoodMemory (meaning.is_value core.code) (IsRefForm (meaning.program core.code))) (sym others)
         (read-memory meaning core whole seat m l on' outside' need' left' same shows' (keeps core.code) (row_at memory.rows seat) row))
         whole.members whole.text
 

@@ -11,6 +11,7 @@ use Rattle.ame_term.specs.declared.types.TyNo.{TyNo}
 use Rattle.ame_laws.specs.Typed.StoreTyping.{StoreTyping}
 use Rattle.ame_laws.proofs.MapLemmas.{less-from_lt}
 use Rattle.ame_machine.specs.Meaning.{Meaning}
+use Rattle.ame_machine.specs.RefSorts.{IsRefForm}
 use Rattle.ame_check.specs.declared.stored.Stored.{Stored}
 use Rattle.ame_check.specs.Shows.{ShowsCells, ShowsValue, HaveSorts}
 use Rattle.ame_store.specs.declared.cell.Cell.{Cell}
@@ -234,12 +235,12 @@ module _ {C V M : Type 0} (meaning : Meaning C V M) (code : C) (same : V → V �
     -- each value is one of the code
     good-as : (l : ℕ) (o : Option (Stored V)) (cell : Cell V) → at stored l ≡ o → IsCellOf same (at stored are.least) o cell → meaning.is_value code cell.value
     good-as l (Some c) cell is made_so =
-        subst (λ (z : Cell V). meaning.is_value code z.value) (sym made_so) (subst (λ (o : Option (Stored V)). ShowsValue meaning code o (at s.store l)) is (shows l)).0
+        subst (λ (z : Cell V). meaning.is_value code z.value) (sym made_so) (subst (λ (o : Option (Stored V)). ShowsValue meaning code o (at s.store l)) is (shows l)).0.0
     good-as l None cell is made_so = dead (at stored are.least) refl made_so
       where
         dead : (first : Option (Stored V)) → at stored are.least ≡ first → IsCellOf same first None cell → meaning.is_value code cell.value
         dead (Some first) there (v, alike, e) =
-            let good = (subst (λ (o : Option (Stored V)). ShowsValue meaning code o (at s.store are.least)) there (shows are.least)).0 in
+            let good = (subst (λ (o : Option (Stored V)). ShowsValue meaning code o (at s.store are.least)) there (shows are.least)).0.0 in
             subst (λ (z : Cell V). meaning.is_value code z.value) (sym e) (good_same first.value v alike good)
         dead None there none = absurd none
 
@@ -249,3 +250,23 @@ module _ {C V M : Type 0} (meaning : Meaning C V M) (code : C) (same : V → V �
         by : (cs : List (Cell V)) → cs ≡ cells → All (λ cell. meaning.is_value code cell.value) cells
         by [] e = subst (All (λ (z : Cell V). meaning.is_value code z.value)) e (All-nil (λ (z : Cell V). meaning.is_value code z.value))
         by (c ∷ cs) e = All-from_get_or (λ (z : Cell V). meaning.is_value code z.value) cells c (λ l under. good-as l (at stored l) (get_or cells l c) refl (are.each l c under))
+
+    -- each number is that of a form
+    abbrev HasForm : Cell V → Type 0
+    HasForm cell = IsRefForm (meaning.program code) cell.sort cell.ty.0
+
+    form-as : (l : ℕ) (o : Option (Stored V)) (cell : Cell V) → at stored l ≡ o → IsCellOf same (at stored are.least) o cell → HasForm cell
+    form-as l (Some c) cell is made_so = subst HasForm (sym made_so) (subst (λ (o : Option (Stored V)). ShowsValue meaning code o (at s.store l)) is (shows l)).0.1
+    form-as l None cell is made_so = dead (at stored are.least) refl made_so
+      where
+        dead : (first : Option (Stored V)) → at stored are.least ≡ first → IsCellOf same first None cell → HasForm cell
+        dead (Some first) there (v, alike, e) =
+            subst HasForm (sym e) (subst (λ (o : Option (Stored V)). ShowsValue meaning code o (at s.store are.least)) there (shows are.least)).0.1
+        dead None there none = absurd none
+
+    pub cells-form : All HasForm cells
+    cells-form = by cells refl
+      where
+        by : (cs : List (Cell V)) → cs ≡ cells → All HasForm cells
+        by [] e = subst (All HasForm) e (All-nil HasForm)
+        by (c ∷ cs) e = All-from_get_or HasForm cells c (λ l under. form-as l (at stored l) (get_or cells l c) refl (are.each l c under))

@@ -42,7 +42,7 @@ use Rattle.ame_engine.specs.Seen.{parts_of, term_shown}
 use Rattle.ame_engine.specs.Makes.{state_of}
 use Rattle.ame_engine.specs.Whole.{AreLimits, IsGoodLog, IsGoodUndo, IsAtRest, IsSound}
 use Rattle.ame_engine.specs.Resuming.{AreActs, AreCellsOf, AreMembersOf, HasResumed}
-use Rattle.ame_engine.proofs.ResumedCells.{shown, cells-opened, cells-good}
+use Rattle.ame_engine.proofs.ResumedCells.{shown, cells-opened, cells-good, cells-form}
 use Rattle.ame_engine.proofs.ResumedMembers.{as_member, member-at}
 use Rattle.ame_engine.proofs.StartLemmas.{rows-shown}
 
@@ -188,6 +188,7 @@ module _ {C V M : Type 0} (meaning : Meaning C V M) (code : C) (limits : Limits)
         limits = in_range;
         memory = record {
           cells = cells-good meaning code same good_same shown_same place.cells cells are st.led.state st.types st.shows.store st.sorts;
+          forms = cells-form meaning code same good_same shown_same place.cells cells are st.led.state st.types st.shows.store st.sorts;
           rows = All-replicate (IsGoodLog (meaning.is_value code)) limits.seats no_log
               (record { inputs = All-nil (meaning.is_value code); undos = All-nil (IsGoodUndo (meaning.is_value code)) });
         };

@@ -2,6 +2,7 @@
 use Rattle.std.proofs.Common.{◌≡◌, ◌∙◌, All, ap, sym, subst}
 use Rattle.ame_io.specs.Lines.{lines}
 use Rattle.ame_machine.specs.Meaning.{Meaning}
+use Rattle.ame_machine.specs.RefSorts.{IsRefForm}
 use Rattle.ame_protocol.specs.Event.Event.{Event}
 use Rattle.ame_protocol.specs.Event.Rollbacks.{IsGoodPool}
 use Rattle.ame_protocol.specs.Event.Sound.{Sound}
@@ -21,12 +22,12 @@ module _ {C V M : Type 0} (meaning : Meaning C V M) where
 
   -- Its values and machines are those of the code still, and its text is that of the output. The rest is the theorem on events.
   module _ (core now new : Core C V M) (view : core ≡ now) (whole : IsSound meaning core) where
-    pub sound-next : (e : Event) → Makes meaning e now new → IsGoodMemory (meaning.is_value core.code) new.memory
+    pub sound-next : (e : Event) → Makes meaning e now new → IsGoodMemory (meaning.is_value core.code) (IsRefForm (meaning.program core.code)) new.memory
         → All (IsAtRest meaning.is_machine meaning.stage core.code) new.pool.members → new.text ≡ lines new.output → IsSound meaning new
     sound-next e makes memory members text = record {
       state = subst Sound (sym makes.state) (sound-after e (state_of meaning now) makes.may (subst (λ (x : Core C V M). Sound (state_of meaning x)) view whole.state));
       limits = subst AreLimits limits whole.limits;
-      memory = subst (λ (c : C). IsGoodMemory (meaning.is_value c) new.memory) code memory;
+      memory = subst (λ (c : C). IsGoodMemory (meaning.is_value c) (IsRefForm (meaning.program c)) new.memory) code memory;
       members = subst (λ (c : C). All (IsAtRest meaning.is_machine meaning.stage c) new.pool.members) code members;
       text = text;
     }

@@ -23,6 +23,7 @@ use Rattle.ame_protocol.specs.Event.Counting.{nothing_counted}
 use Rattle.ame_engine.specs.Seen.{parts_of}
 use Rattle.ame_engine.specs.Whole.{AreLimits, IsGoodLog, IsGoodUndo, IsAtRest, IsSound}
 use Rattle.ame_machine.specs.Meaning.{Meaning}
+use Rattle.ame_machine.specs.RefSorts.{IsRefForm}
 use Rattle.ame_protocol.specs.Event.Sound.{Sound}
 use Rattle.ame_protocol.specs.Event.State.{started_state}
 use Rattle.ame_protocol.proofs.Event.SoundLemmas.{sound-start}
@@ -76,6 +77,7 @@ module _ {C V M : Type 0} (meaning : Meaning C V M) (code : C) (limits : Limits)
         limits = in_range;
         memory = record {
           cells = All-nil (λ cell. meaning.is_value code cell.value);
+          forms = All-nil (λ cell. IsRefForm (meaning.program code) cell.sort cell.ty.0);
           rows = All-replicate (IsGoodLog (meaning.is_value code)) limits.seats no_log
               (record { inputs = All-nil (meaning.is_value code); undos = All-nil (IsGoodUndo (meaning.is_value code)) });
         };
@@ -142,3 +144,7 @@ module _ {C V M : Type 0} (meaning : Meaning C V M) (code : C) (limits : Limits)
 
         pub parts-started : parts_of meaning found_core ≡ started (meaning.program code) (meaning.devices code) limits 0
         parts-started = ap (parts_of meaning) same ∙ started-parts
+
+        pub state-started : state_of meaning found_core ≡ started_state (meaning.program code) (meaning.devices code) limits
+        unfolding started-as
+        state-started = ap (state_of meaning) same ∙ started-as

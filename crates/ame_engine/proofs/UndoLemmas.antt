@@ -4,6 +4,7 @@ use Rattle.std.specs.Prelude.{slice_get, slice_set, nat_lt, is_some, if◌then�
 use Rattle.std.specs.Option.{option_map_or}
 use Rattle.std.proofs.lemmas.List.Elements.{All-set, All-take, All-nil, All-cons, All-head, All-tail}
 use Rattle.ame_term.specs.Tree.{Val, Tree}
+use Rattle.ame_term.specs.declared.types.Sort.{Sort}
 use Rattle.ame_store.specs.declared.cell.Cell.{Cell}
 use Rattle.ame_store.specs.Cells.{CanGrow}
 use Rattle.ame_rows.specs.declared.notes.Undo.{Undo}
@@ -33,6 +34,7 @@ use Rattle.ame_protocol.specs.Event.Undoing.{reason_to_undo, home_for}
 use Rattle.ame_engine.proofs.MemberLemmas.{all_altered}
 use Rattle.ame_engine.proofs.ReadLemmas.{row-good}
 use Rattle.ame_machine.specs.Meaning.{Meaning}
+use Rattle.ame_machine.specs.RefSorts.{IsRefForm}
 
 -- what all pass, one that is there passes
 all-get : {A : Type 0} (P : A → Type 0) (xs : List A) (i : ℕ) (x : A) → All P xs → slice_get xs i ≡ Some x → P x
@@ -42,12 +44,16 @@ all-get P (y ∷ xs) (suc i) x all e = all-get P xs i x (All-tail P y xs all) e
 
 -- Good values
 
-module _ {V : Type 0} (IsGood : V → Type 0) where
+module _ {V : Type 0} (IsGood : V → Type 0) (IsForm : Sort → ℕ → Type 0) where
   undone-good : (u : Undo V) (cell : Cell V) → IsGoodUndo IsGood u → IsGood cell.value → IsGood (undone_by u cell).value
   undone-good (Wrote l number old) cell its good = its
   undone-good (Made l) cell its good = good
 
-  module _ (seat : ℕ) (c : MemoryView V) (whole : IsGoodMemory IsGood c) where
+  undone-form : (u : Undo V) (cell : Cell V) → IsForm cell.sort cell.ty.0 → IsForm (undone_by u cell).sort (undone_by u cell).ty.0
+  undone-form (Wrote l number old) cell form = form
+  undone-form (Made l) cell form = form
+
+  module _ (seat : ℕ) (c : MemoryView V) (whole : IsGoodMemory IsGood IsForm c) where
     abbrev row : Log V
     row = row_at c.rows seat
 
@@ -67,13 +73,25 @@ module _ {V : Type 0} (IsGood : V → Type 0) where
     cells-by (Some u) e =
         changed-by u (all-get (IsGoodUndo IsGood) row.undos (length row.undos - 1) u good.undos e) (slice_get c.cells (named_by u)) refl
 
+    forms-by : (o : Option (Undo V)) → All (λ cell. IsForm cell.sort cell.ty.0) (option_map_or (λ u. changed_at (named_by u) (undone_by u) c.cells) o c.cells)
+    forms-by None = whole.forms
+    forms-by (Some u) = at-cell (slice_get c.cells (named_by u)) refl
+      where
+        at-cell : (o : Option (Cell V)) → slice_get c.cells (named_by u) ≡ o
+            → All (λ cell. IsForm cell.sort cell.ty.0) (option_map_or (λ cell. slice_set c.cells (named_by u) (undone_by u cell)) o c.cells)
+        at-cell None e = whole.forms
+        at-cell (Some cell) e =
+            All-set (λ (cell : Cell V). IsForm cell.sort cell.ty.0) c.cells (named_by u) (undone_by u cell)
+            (undone-form u cell (all-get (λ (cell : Cell V). IsForm cell.sort cell.ty.0) c.cells (named_by u) cell whole.forms e)) whole.forms
+
     notes-by : (b : Bool) → IsGoodLog IsGood (cond b (record row { undos = take (length row.undos - 1) row.undos }) no_log)
     notes-by true = record { inputs = good.inputs; undos = All-take (IsGoodUndo IsGood) (length row.undos - 1) row.undos good.undos }
     notes-by false = record { inputs = All-nil IsGood; undos = All-nil (IsGoodUndo IsGood) }
 
-    pub undo-good : IsGoodMemory IsGood (undone_last seat c)
+    pub undo-good : IsGoodMemory IsGood IsForm (undone_last seat c)
     undo-good = record {
       cells = cells-by (last_entry row.undos) refl;
+      forms = forms-by (last_entry row.undos);
       rows = All-set (IsGoodLog IsGood) c.rows seat (notes_undone row) (notes-by (nat_lt 1 (length row.undos))) whole.rows;
     }
 
@@ -140,8 +158,8 @@ module _ {C V M : Type 0} (meaning : Meaning C V M) where
     undone-parts : parts_of meaning undone_core ≡ has_undone seat attempt reason parts
     undone-parts = ap (λ (d : MemoryView Val). undone-with d undo_turns) (undo-shown (meaning.value_of core.code) seat core.memory) ∙ undone-by_stop (is_some core.stop)
 
-    pub undo-memory : IsGoodMemory (meaning.is_value core.code) undone_core.memory
-    undo-memory = undo-good (meaning.is_value core.code) seat core.memory whole.memory
+    pub undo-memory : IsGoodMemory (meaning.is_value core.code) (IsRefForm (meaning.program core.code)) undone_core.memory
+    undo-memory = undo-good (meaning.is_value core.code) (IsRefForm (meaning.program core.code)) seat core.memory whole.memory
 
     pub undone-makes : MakesEvent meaning (one_undone (is_some core.stop)) (has_undone seat attempt reason) core undone_core
     undone-makes = record { code = refl; parts = undone-parts; counted = refl; stop = refl }

@@ -36,6 +36,7 @@ use Rattle.ame_protocol.specs.Event.Undoing.{is_undoing, reason_to_undo, is_busy
 use Rattle.ame_engine.proofs.CheckLemmas.{task-read}
 use Rattle.ame_engine.proofs.UndoLemmas.{grow-shown, undone-makes, gone-makes, undo-memory, gone-rests}
 use Rattle.ame_machine.specs.Meaning.{Meaning}
+use Rattle.ame_machine.specs.RefSorts.{IsRefForm}
 use Rattle.ame_engine.proofs.SoundLemmas.{sound-next}
 
 -- an attempt that is there
@@ -178,8 +179,8 @@ module _ {C V M : Type 0} (meaning : Meaning C V M)
           → Makes meaning (Event.Undo seat a) now after-more
       makes-undone more a e = subst (λ (x : Attempt). Makes meaning (Event.Undo seat x) now after-more) (its-own a e) (makes-more more)
 
-      memory-good : IsGoodMemory (meaning.is_value core.code) memory
-      memory-good = subst (IsGoodMemory (meaning.is_value core.code)) (sym memory-is) (undo-memory meaning core whole seat attempt has-it)
+      memory-good : IsGoodMemory (meaning.is_value core.code) (IsRefForm (meaning.program core.code)) memory
+      memory-good = subst (IsGoodMemory (meaning.is_value core.code) (IsRefForm (meaning.program core.code))) (sym memory-is) (undo-memory meaning core whole seat attempt has-it)
 
       pub whole-undone : 1 < length (row_at core.memory.rows seat).undos → IsSound meaning after-more
       whole-undone more =

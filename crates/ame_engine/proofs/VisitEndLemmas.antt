@@ -41,6 +41,7 @@ use Rattle.ame_engine.proofs.MemberLemmas.{all_altered}
 use Rattle.ame_engine.proofs.CrewLemmas.{busy-told, none-told, room-used}
 use Rattle.ame_engine.proofs.VisitMemoryLemmas.{changed-good, changed-shown}
 use Rattle.ame_machine.specs.Meaning.{Meaning}
+use Rattle.ame_machine.specs.RefSorts.{IsRefForm}
 use Rattle.ame_engine.proofs.SoundLemmas.{sound-next}
 
 -- A member goes home with no more than its term
@@ -166,7 +167,7 @@ module _ {C V M : Type 0} (meaning : Meaning C V M)
             (join-rests : meaning.is_machine core.code m → All (IsAtRest meaning.is_machine meaning.stage core.code) roomy.members → All (IsAtRest meaning.is_machine meaning.stage core.code) joined.members)
             (send-rests : meaning.is_machine core.code sent → SettlesThere (meaning.stage core.code sent) → All (IsAtRest meaning.is_machine meaning.stage core.code) joined.members
             → All (IsAtRest meaning.is_machine meaning.stage core.code) final.members)
-            (memory : MemoryView V) (memory_is : memory ≡ changed_by (λ v. v) change core.memory) (good-now : IsGoodChange (meaning.is_value now.code) change)
+            (memory : MemoryView V) (memory_is : memory ≡ changed_by (λ v. v) change core.memory) (good-now : IsGoodChange (meaning.is_value now.code) (IsRefForm (meaning.program now.code)) change)
             (printed output prints : List ℤ) (prints_are : prints ≡ s.prints) (printed_is : printed ≡ core.output) (appends : output ≡ printed ++ prints)
             (written text added bytes : List ℕ) (told : List ℤ) (told_are : told ≡ s.prints) (bytes_are : bytes ≡ lines told) (added_is : added ≡ bytes)
             (written_is : written ≡ core.text) (writes : text ≡ written ++ added)
@@ -178,8 +179,8 @@ module _ {C V M : Type 0} (meaning : Meaning C V M)
           settles' : SettlesThere s
           settles' = subst (λ (x : Core C V M). SettlesThere (meaning.stage x.code m)) (sym view) settles-now
 
-          good-change : IsGoodChange (meaning.is_value core.code) change
-          good-change = subst (λ (x : Core C V M). IsGoodChange (meaning.is_value x.code) change) (sym view) good-now
+          good-change : IsGoodChange (meaning.is_value core.code) (IsRefForm (meaning.program core.code)) change
+          good-change = subst (λ (x : Core C V M). IsGoodChange (meaning.is_value x.code) (IsRefForm (meaning.program x.code)) change) (sym view) good-now
 
           rests : All (IsAtRest meaning.is_machine meaning.stage core.code) final.members
           rests =
@@ -272,5 +273,6 @@ module _ {C V M : Type 0} (meaning : Meaning C V M)
               let at = makes-visited going low in
               sound-next meaning core now after view whole
               (visits_at seat attempt (meaning.stage now.code m) (changed_by (meaning.value_of now.code) change (parts_of meaning now).memory) at.place) at.makes
-              (subst (IsGoodMemory (meaning.is_value core.code)) (sym memory_is) (changed-good (meaning.is_value core.code) change core.memory good-change whole.memory))
+              (subst (IsGoodMemory (meaning.is_value core.code) (IsRefForm (meaning.program core.code))) (sym memory_is)
+              (changed-good (meaning.is_value core.code) (IsRefForm (meaning.program core.code)) change core.memory good-change whole.memory))
               rests text-is

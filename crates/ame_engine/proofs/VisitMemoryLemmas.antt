@@ -5,6 +5,7 @@ use Rattle.std.specs.Option.{option_map_or}
 use Rattle.std.proofs.lemmas.Option.{slice_get_within}
 use Rattle.std.proofs.lemmas.List.Elements.{All-push, All-set, All-head, All-tail}
 use Rattle.ame_term.specs.Tree.{Val}
+use Rattle.ame_term.specs.declared.types.Sort.{Sort}
 use Rattle.ame_store.specs.declared.cell.Cell.{Cell}
 use Rattle.ame_store.specs.Changes.{made, replaced}
 use Rattle.ame_rows.specs.declared.notes.Undo.{Undo}
@@ -21,7 +22,7 @@ use Rattle.ame_engine.specs.Whole.{IsGoodUndo, IsGoodLog, IsGoodMemory}
 use Rattle.ame_engine.specs.Visiting.{changed_by, IsGoodChange}
 use Rattle.ame_engine.proofs.ReadLemmas.{row-good}
 
-module _ {V : Type 0} (IsGood : V → Type 0) where
+module _ {V : Type 0} (IsGood : V → Type 0) (IsForm : Sort → ℕ → Type 0) where
   -- What is committed is good
 
   entry-good : (us : List (Undo V)) (l : ℕ) (u : Undo V) → All (IsGoodUndo IsGood) us → entry_at us l ≡ Some u → IsGoodUndo IsGood u
@@ -45,7 +46,7 @@ module _ {V : Type 0} (IsGood : V → Type 0) where
       let its = row-good IsGood rows owner all in
       old-good (entry_at (row_at rows owner).undos l) v (λ u there. entry-good (row_at rows owner).undos l u its.undos there) e
 
-  pub committed-good : (c : MemoryView V) (l : ℕ) (v : V) → IsGoodMemory IsGood c → committed c l ≡ Some v → IsGood v
+  pub committed-good : (c : MemoryView V) (l : ℕ) (v : V) → IsGoodMemory IsGood IsForm c → committed c l ≡ Some v → IsGood v
   committed-good c l v good e =
       by (slice_get c.cells l) (λ cell there. all_at (λ (x : Cell V). IsGood x.value) c.cells l cell (slice_get_within c.cells l cell there) there good.cells) e
     where
@@ -66,11 +67,26 @@ module _ {V : Type 0} (IsGood : V → Type 0) where
   put-good cells l value good None all = all
   put-good cells l value good (Some cell) all = All-set (λ (x : Cell V). IsGood x.value) cells l (replaced value cell) good all
 
-  pub changed-good : (change : Change V) (c : MemoryView V) → IsGoodChange IsGood change → IsGoodMemory IsGood c → IsGoodMemory IsGood (changed_by (λ v. v) change c)
+  put-form : (cells : List (Cell V)) (l : ℕ) (value : V) (o : Option (Cell V)) → slice_get cells l ≡ o → All (λ cell. IsForm cell.sort cell.ty.0) cells
+      → All (λ cell. IsForm cell.sort cell.ty.0) (option_map_or (λ cell. set cells l (replaced value cell)) o cells)
+  put-form cells l value None e all = all
+  put-form cells l value (Some cell) e all =
+      All-set (λ (x : Cell V). IsForm x.sort x.ty.0) cells l (replaced value cell)
+      (all_at (λ (x : Cell V). IsForm x.sort x.ty.0) cells l cell (slice_get_within cells l cell e) e all) all
+
+  pub changed-good : (change : Change V) (c : MemoryView V) → IsGoodChange IsGood IsForm change → IsGoodMemory IsGood IsForm c
+      → IsGoodMemory IsGood IsForm (changed_by (λ v. v) change c)
   changed-good changes.Stays c good all = all
-  changed-good (changes.Puts l value) c good all = record { cells = put-good c.cells l.0 value good (slice_get c.cells l.0) all.cells; rows = all.rows }
-  changed-good (changes.Makes sort number value) c good all =
-      record { cells = All-push (λ (cell : Cell V). IsGood cell.value) c.cells (made sort number value None) all.cells good; rows = all.rows }
+  changed-good (changes.Puts l value) c good all = record {
+    cells = put-good c.cells l.0 value good (slice_get c.cells l.0) all.cells;
+    forms = put-form c.cells l.0 value (slice_get c.cells l.0) refl all.forms;
+    rows = all.rows;
+  }
+  changed-good (changes.Makes sort number value) c good all = record {
+    cells = All-push (λ (cell : Cell V). IsGood cell.value) c.cells (made sort number value None) all.cells good.0;
+    forms = All-push (λ (cell : Cell V). IsForm cell.sort cell.ty.0) c.cells (made sort number value None) all.forms good.1;
+    rows = all.rows;
+  }
 
 module _ {V : Type 0} (view : V → Val) where
   pub changed-shown : (change : Change V) (c : MemoryView V) → shown_memory view (changed_by (λ v. v) change c) ≡ changed_by view change (shown_memory view c)

@@ -49,6 +49,7 @@ use Rattle.ame_engine.specs.Visiting.{IsVisiting, VisitsTo, HasMadeItsStep}
 use Rattle.ame_engine.proofs.VisitPlaceLemmas.{visits-as, visit-steps}
 use Rattle.ame_engine.proofs.VisitMemoryLemmas.{committed-good}
 use Rattle.ame_machine.specs.Meaning.{Meaning}
+use Rattle.ame_machine.specs.RefSorts.{IsRefForm, WantsRefForm}
 
 some-before : {X Y : Type 0} (f : X → Y) (o : Option X) → IsSome (option_map f o) → IsSome o
 some-before f None h = h
@@ -162,7 +163,7 @@ module _ {C V M : Type 0} (meaning : Meaning C V M) (same : V → V → Type 0)
 
       pub given-good : meaning.is_value core.code value
       given-good =
-          keeps core.code held.0 value same-held (committed-good (meaning.is_value core.code) core.memory l.0 held.0 whole.memory held.1)
+          keeps core.code held.0 value same-held (committed-good (meaning.is_value core.code) (IsRefForm (meaning.program core.code)) core.memory l.0 held.0 whole.memory held.1)
 
       is-committed : committed parts.memory l.0 ≡ Some (meaning.value_of core.code value)
       is-committed =
@@ -239,7 +240,12 @@ module _ {C V M : Type 0} (meaning : Meaning C V M) (same : V → V → Type 0)
 
   -- It makes a cell
 
-  module _ (sort : Sort) (number : TyNo) (wants-now : (meaning.stage now.code m).want ≡ Some (wants.Alloc sort number)) where
+  module _ (sort : Sort) (number : TyNo) (wants-now : (meaning.stage now.code m).want ≡ Some (wants.Alloc sort number))
+      (form : WantsRefForm (meaning.program now.code) (meaning.stage now.code m).want) where
+    form-there : IsRefForm (meaning.program core.code) sort number.0
+    form-there = subst (λ (c : C). IsRefForm (meaning.program c) sort number.0) (ap (λ (x : Core C V M). x.code) (sym view))
+        (subst (WantsRefForm (meaning.program now.code)) wants-now form)
+
     allocates : s.want ≡ Some (wants.Alloc sort number)
     allocates = wants-here (wants.Alloc sort number) wants-now
 
@@ -271,7 +277,7 @@ module _ {C V M : Type 0} (meaning : Meaning C V M) (same : V → V → Type 0)
             machine = machine;
             visits =
                 λ told. VisitsTo.makes sort number (meaning.value_of core.code value) (meaning.stage core.code n) allocates (sets ∙ ap Some (shows core.code lent value copied)) fed-alloc;
-            good = keeps core.code lent value copied lent-good;
+            good = (keeps core.code lent value copied lent-good, form-there);
             fits = subst (λ (k : ℕ). k < 4294967295) cells-are (cells-few parts whole.state.stands whole.limits.turns);
             lone = λ _. none-made;
           })

@@ -6,6 +6,7 @@ use Rattle.std.proofs.lemmas.List.{length-map}
 use Rattle.std.proofs.lemmas.Option.{slice_get-map, get_or_from_slice_get}
 use Rattle.std.proofs.lemmas.List.Elements.{All-push, All-set}
 use Rattle.ame_term.specs.Tree.{Val}
+use Rattle.ame_term.specs.declared.types.Sort.{Sort}
 use Rattle.ame_term.specs.Act.{Act}
 use Rattle.ame_term.specs.declared.types.Loc.{Loc}
 use Rattle.ame_journal.specs.Replay.{redex_act}
@@ -59,6 +60,7 @@ use Rattle.ame_engine.proofs.ReadLemmas.{row-good, runs-as, comes-to, has-come, 
 use Rattle.ame_engine.proofs.CheckLemmas.{unexhausted-apart, still-rolls}
 use Rattle.ame_engine.proofs.RunLemmas.{can-run}
 use Rattle.ame_machine.specs.Meaning.{Meaning}
+use Rattle.ame_machine.specs.RefSorts.{IsRefForm}
 use Rattle.ame_engine.proofs.SoundLemmas.{sound-next}
 
 -- The location that is wanted
@@ -137,7 +139,7 @@ module _ {V : Type 0} (seat : ℕ) (value : V) where
 
 -- Good values
 
-module _ {V : Type 0} (IsGood : V → Type 0) (seat : ℕ) (l : Loc) (value input : V) (good : IsGood value) (good-input : IsGood input) where
+module _ {V : Type 0} (IsGood : V → Type 0) (IsForm : Sort → ℕ → Type 0) (seat : ℕ) (l : Loc) (value input : V) (good : IsGood value) (good-input : IsGood input) where
   one-good : (o : Option ℕ) (cell : Cell V) → IsGood cell.value → IsGood (overwritten seat value o cell).value
   one-good None cell its = good
   one-good (Some owner) cell its = by (owner == seat)
@@ -145,6 +147,14 @@ module _ {V : Type 0} (IsGood : V → Type 0) (seat : ℕ) (l : Loc) (value inpu
       by : (b : Bool) → IsGood (cond b (record cell { value = value }) cell).value
       by true = good
       by false = its
+
+  one-form : (o : Option ℕ) (cell : Cell V) → IsForm cell.sort cell.ty.0 → IsForm (overwritten seat value o cell).sort (overwritten seat value o cell).ty.0
+  one-form None cell form = form
+  one-form (Some owner) cell form = by (owner == seat)
+    where
+      by : (b : Bool) → IsForm (cond b (record cell { value = value }) cell).sort (cond b (record cell { value = value }) cell).ty.0
+      by true = form
+      by false = form
 
   noted-good : (o : Option ℕ) (cell : Cell V) (notes : Log V) → IsGood cell.value → IsGoodLog IsGood notes
       → IsGoodLog IsGood (noted_write seat l input o cell notes)
@@ -158,14 +168,24 @@ module _ {V : Type 0} (IsGood : V → Type 0) (seat : ℕ) (l : Loc) (value inpu
       by true = record { inputs = All-push IsGood notes.inputs input all.inputs good-input; undos = all.undos }
       by false = all
 
-  pub memory-good : (c : MemoryView V) → l.0 < length c.cells → IsGoodMemory IsGood c → IsGoodMemory IsGood (written_by seat l value input c)
+  pub memory-good : (c : MemoryView V) → l.0 < length c.cells → IsGoodMemory IsGood IsForm c → IsGoodMemory IsGood IsForm (written_by seat l value input c)
   memory-good c below whole = record {
     cells = cells-by (slice_get c.cells l.0) (λ cell e. its cell e);
+    forms = forms-by (slice_get c.cells l.0) (λ cell e. form cell e);
     rows = All-set (IsGoodLog IsGood) c.rows seat _ (notes-by (slice_get c.cells l.0) (λ cell e. its cell e)) whole.rows;
   }
     where
       its : (cell : Cell V) → slice_get c.cells l.0 ≡ Some cell → IsGood cell.value
       its cell e = all_at (λ (cell : Cell V). IsGood cell.value) c.cells l.0 cell below e whole.cells
+
+      form : (cell : Cell V) → slice_get c.cells l.0 ≡ Some cell → IsForm cell.sort cell.ty.0
+      form cell e = all_at (λ (cell : Cell V). IsForm cell.sort cell.ty.0) c.cells l.0 cell below e whole.forms
+
+      forms-by : (o : Option (Cell V)) → ((cell : Cell V) → o ≡ Some cell → IsForm cell.sort cell.ty.0)
+          → All (λ (cell : Cell V). IsForm cell.sort cell.ty.0) (option_map_or (λ cell. set c.cells l.0 (overwritten seat value cell.owner cell)) o c.cells)
+      forms-by None each = whole.forms
+      forms-by (Some cell) each =
+          All-set (λ (cell : Cell V). IsForm cell.sort cell.ty.0) c.cells l.0 (overwritten seat value cell.owner cell) (one-form cell.owner cell (each cell refl)) whole.forms
 
       cells-by : (o : Option (Cell V)) → ((cell : Cell V) → o ≡ Some cell → IsGood cell.value)
           → All (λ (cell : Cell V). IsGood cell.value) (option_map_or (λ cell. set c.cells l.0 (overwritten seat value cell.owner cell)) o c.cells)
@@ -304,8 +324,8 @@ module _ {C V M : Type 0} (meaning : Meaning C V M) (same : V → V → Type 0)
       pub whole-written : now.stop ≡ None → (meaning.stage now.code m).since < now.limits.slice → IsSound meaning after
       whole-written going early =
           sound-next meaning core now after view whole (Event.Write seat l (meaning.value_of core.code value)) (makes-it going early)
-          (subst (IsGoodMemory (meaning.is_value core.code)) (sym is)
-          (memory-good (meaning.is_value core.code) seat l value input value-good input-good core.memory write-location whole.memory))
+          (subst (IsGoodMemory (meaning.is_value core.code) (IsRefForm (meaning.program core.code))) (sym is)
+          (memory-good (meaning.is_value core.code) (IsRefForm (meaning.program core.code)) seat l value input value-good input-good core.memory write-location whole.memory))
           whole.members whole.text
 
       pub runs-written : now.stop ≡ None → (meaning.stage now.code m).since < now.limits.slice → (t : MachineView) → IsOnSeat (parts_of meaning after) seat t → t.inside ≡ false → CanRun t
@@ -387,7 +407,7 @@ module _ {C V M : Type 0} (meaning : Meaning C V M) (same : V → V → Type 0)
       pub whole-conflict : now.stop ≡ None → IsSound meaning after-conflict
       whole-conflict going =
           sound-next meaning core now after-conflict view whole (Event.TurnBack seat attempt (Reverse.Met l owner)) (makes-back going)
-          (subst (IsGoodMemory (meaning.is_value core.code)) (sym memory-stays) whole.memory) whole.members whole.text
+          (subst (IsGoodMemory (meaning.is_value core.code) (IsRefForm (meaning.program core.code))) (sym memory-stays) whole.memory) whole.members whole.text
 
       pub runs-conflict : now.stop ≡ None → (t : MachineView) → IsOnSeat (parts_of meaning after-conflict) seat t → t.inside ≡ false → CanRun t
       runs-conflict going t stands out = can-run (parts_of meaning after-conflict) (whole-conflict going).state.stands seat t stands out

@@ -17,6 +17,7 @@ use Rattle.ame_protocol.specs.Visits.Opened.{cell_of, stored_in}
 use Rattle.ame_protocol.specs.declared.certificate.Certificate.{Certificate}
 use Rattle.ame_protocol.specs.declared.counters.Counters.{Counters}
 use Rattle.ame_protocol.specs.declared.stop.Stop.{Stop}
+use Rattle.ame_machine.specs.RefSorts.{IsRefForm}
 use Rattle.ame_engine.specs.Core.{Core}
 use Rattle.ame_protocol.specs.Event.Faults.{ComesToCall}
 use Rattle.ame_protocol.specs.Event.Causes.{NotesStop}
@@ -81,14 +82,15 @@ pub record HasStopped (limits : Limits) (r : Replayed) {V : Type 0} (end : End V
   pub ends : NotesStop end.stop end.entries
 
 -- The base and the journal replay to a state whose store is what the live cells have, and whose output is what was printed. No
--- cell has an owner, no member is noted twice without a commit between, and the stop has its cause in the state. Limits and counts are
--- shown. With one seat nothing was met that another seat did. Rollbacks and tries are few, and entries and tries pay for the turns.
+-- cell has an owner, and each has the number of a `ref` form of its sort. No member is noted twice without a commit between, and the stop
+-- has its cause in the state. Limits and counts are shown. With one seat nothing was met that another seat did. Rollbacks and tries are few, and entries and tries pay for the turns.
 pub record IsEnd (program : Tree) (limits : Limits) {V : Type 0} (value : V → Val) (end : End V) : Type 0 where
   pub r : Replayed
   pub replays : replay program (end.base ++ end.entries) ≡ Some r
   pub store : (l : ℕ) → at r.state.store l ≡ stored_in (cell_of (map (shown_cell value) end.cells) l)
   pub printed : r.state.output ≡ end.output
   pub free : All IsFree end.cells
+  pub forms : All (λ cell. IsRefForm program cell.sort cell.ty.0) end.cells
   pub once : IsNotedOnce (end.base ++ end.entries)
   pub stopped : HasStopped limits r end
   pub shown : ShowsCounts limits end

@@ -32,6 +32,7 @@ use Rattle.ame_protocol.specs.Event.Event.{Event}
 use Rattle.ame_engine.specs.Seen.{parts_of, MakesEvent, MakesLastEvent}
 use Rattle.ame_engine.specs.Makes.{Makes, MakesAt}
 use Rattle.ame_machine.specs.Meaning.{Meaning}
+use Rattle.ame_machine.specs.RefSorts.{IsRefForm}
 
 -- Unprotected code has come so far: it is to be fed what it wants, or it has made steps alone, and its next value isn't too high.
 pub record IsVisiting (s : MachineView) : Type 0 where
@@ -93,11 +94,11 @@ module _ {V : Type 0} where
   CanChange memory (changes.Puts l value) = (l.0 < length memory.cells) × ForSome (slice_get memory.cells l.0) IsFree × ForSome (slice_get memory.cells l.0) CanGrow
   CanChange memory (changes.Makes sort number value) = length memory.cells < 4294967295
 
-  -- the value that it puts in place is good
-  abbrev pub IsGoodChange : (V → Type 0) → Change V → Type 0
-  IsGoodChange IsGood changes.Stays = Unit {0}
-  IsGoodChange IsGood (changes.Puts l value) = IsGood value
-  IsGoodChange IsGood (changes.Makes sort number value) = IsGood value
+  -- the value that it puts in place is good, and a new cell is that of a form
+  abbrev pub IsGoodChange : (V → Type 0) → (Sort → ℕ → Type 0) → Change V → Type 0
+  IsGoodChange IsGood IsForm changes.Stays = Unit {0}
+  IsGoodChange IsGood IsForm (changes.Puts l value) = IsGood value
+  IsGoodChange IsGood IsForm (changes.Makes sort number value) = IsGood value × IsForm sort number.0
 
   -- whether it makes a cell
   abbrev pub makes_cell : Change V → Bool
@@ -110,7 +111,7 @@ module _ {C V M : Type 0} (meaning : Meaning C V M) where
     pub machine : meaning.is_machine core.code new
     pub visits : (told : List Told) → VisitsTo (meaning.stage core.code old) (parts_of meaning core).memory told None (meaning.stage core.code new)
         (changed_by (meaning.value_of core.code) change (parts_of meaning core).memory) told
-    pub good : IsGoodChange (meaning.is_value core.code) change
+    pub good : IsGoodChange (meaning.is_value core.code) (IsRefForm (meaning.program core.code)) change
     pub fits : CanChange core.memory change
     pub lone : makes_cell change ≡ true → (meaning.stage core.code new).spawns ≡ []
 

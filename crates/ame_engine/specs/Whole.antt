@@ -2,6 +2,7 @@
 use Rattle.std.specs.Prelude.{◌≡◌, ℕ, ◌≤◌, Bool, All}
 use Rattle.ame_io.specs.Lines.{lines}
 use Rattle.ame_term.specs.Tree.{Tree}
+use Rattle.ame_term.specs.declared.types.Sort.{Sort}
 use Rattle.ame_rows.specs.declared.notes.Undo.{Undo}
 use Rattle.ame_rows.specs.declared.notes.Undo.TheVariants.{Wrote, Made}
 use Rattle.ame_pool.specs.declared.member.Member.{Member}
@@ -11,6 +12,7 @@ use Rattle.ame_protocol.specs.declared.types.Limits.{Limits}
 use Rattle.ame_engine.specs.Core.{Core}
 use Rattle.ame_engine.specs.Places.{HasPlacesFor}
 use Rattle.ame_machine.specs.Meaning.{Meaning}
+use Rattle.ame_machine.specs.RefSorts.{IsRefForm}
 use Rattle.ame_protocol.specs.Event.Sound.{Sound}
 use Rattle.ame_engine.specs.Makes.{state_of}
 
@@ -34,9 +36,10 @@ module _ {V : Type 0} (IsGood : V → Type 0) where
     pub inputs : All IsGood notes.inputs
     pub undos : All IsGoodUndo notes.undos
 
-  -- each value in a shared memory
-  pub record IsGoodMemory (memory : MemoryView V) : Type 0 where
+  -- each value in a shared memory; and the sort and the number of each cell are those of a form
+  pub record IsGoodMemory (IsForm : Sort → ℕ → Type 0) (memory : MemoryView V) : Type 0 where
     pub cells : All (λ cell. IsGood cell.value) memory.cells
+    pub forms : All (λ cell. IsForm cell.sort cell.ty.0) memory.cells
     pub rows : All IsGoodLog memory.rows
 
 -- a machine that has made no step, and holds nothing back
@@ -50,12 +53,12 @@ module _ {C M : Type 0} (is_machine : C → M → Type 0) (stage : C → M → M
     pub rests : stage code m.machine ≡ resting_at (stage code m.machine).term m.inside
 
 module _ {C V M : Type 0} (meaning : Meaning C V M) where
-  -- The state is sound: what each event keeps. The limits are in range, each value in the memory is one of the code, the members'
-  -- machines are at rest, and the text is the lines of the output.
+  -- The state is sound: what each event keeps. The limits are in range, each value in the memory is one of the code, each cell has
+  -- the number of a `ref` form of its sort, the members' machines are at rest, and the text is the lines of the output.
   pub record IsSound (core : Core C V M) : Type 0 where
     pub state : Sound (state_of meaning core)
     pub limits : AreLimits core.limits
-    pub memory : IsGoodMemory (meaning.is_value core.code) core.memory
+    pub memory : IsGoodMemory (meaning.is_value core.code) (IsRefForm (meaning.program core.code)) core.memory
     pub members : All (IsAtRest meaning.is_machine meaning.stage core.code) core.pool.members
     pub text : core.text ≡ lines core.output
 

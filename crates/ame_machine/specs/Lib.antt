@@ -7,5 +7,6 @@ pub mod Sound
 pub mod Comes
 pub mod Acting
 pub mod Ahead
+pub mod RefSorts
 pub mod AcceptedProgram
 pub mod Run

@@ -1,7 +1,7 @@
 //! Weak runs that are drawn at random, straightened, and replayed by the strong semantics.
 
 use crate::dice::Dice;
-use crate::strong::{active_label, kind_of};
+use crate::strong::{active_label, kind_with_devices};
 use crate::texts::accept;
 use crate::weak::take;
 use crate::weak_programs::made_up;
@@ -94,7 +94,7 @@ impl Draw {
         if next == Next::Close {
             return self.try_label(alloc, Label::Close(number));
         }
-        match kind_of(next, Loc(self.fresh)) {
+        match kind_with_devices(next, Loc(self.fresh)) {
             Some(kind) => self.try_label(alloc, Label::Free(number, kind)),
             None => Ok(false),
         }

@@ -9,7 +9,8 @@ use Rattle.ame_weak.specs.Straightened.{EndsActive}
 use Rattle.ame_weak.specs.Tries.{HoldsIn, IsTried, AreTried, AreTriesInOrder}
 use Rattle.ame_weak.specs.declared.tries.Try.{Try}
 use Rattle.ame_runner.specs.Labels.{label_location, behind_location, location_above}
-use Rattle.ame_runner.specs.Play.{PlayView, AreWithinBounds, IsPlayedWeakly}
+use Rattle.ame_weak.specs.Bounds.{AreWithinBounds}
+use Rattle.ame_runner.specs.Play.{PlayView, IsPlayedWeakly}
 use Rattle.ame_runner.specs.Notes.{HasChange, AreSetApart, AreSpaced, HoldsAfter, without_cut}
 use Rattle.ame_device.specs.declared.told.Told.{Told}
 use Rattle.ame_shell.specs.Heard.{HaveHeard}

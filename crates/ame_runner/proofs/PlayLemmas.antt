@@ -5,9 +5,9 @@ use Rattle.std.proofs.lemmas.Option.{option_and_then_some}
 use Rattle.ame_term.specs.Tree.{Tree}
 use Rattle.ame_term.specs.declared.semantics.Label.{Label}
 use Rattle.ame_weak.specs.Weak.{Weak, weak_start, weak_after, weak_run, IsWeakRun}
-use Rattle.ame_weak.specs.Bounds.{IsWithinBounds}
+use Rattle.ame_weak.specs.Bounds.{IsWithinBounds, AreWithinBounds}
 use Rattle.ame_runner.specs.Labels.{label_location, behind_location, location_above}
-use Rattle.ame_runner.specs.Play.{PlayView, IsSettledAfter, AreWithinBounds, IsPlayedWeakly, HasMade}
+use Rattle.ame_runner.specs.Play.{PlayView, IsSettledAfter, IsPlayedWeakly, HasMade}
 
 pub run-more : (w v u : Weak) (xs : List Label) (y : Label) → weak_run w xs ≡ Some v → weak_after v y ≡ Some u → weak_run w (xs ++ y ∷ []) ≡ Some u
 run-more w v u [] y e f =

@@ -11,7 +11,7 @@ use Rattle.ame_weak.specs.Straightened.{EndsActive}
 use Rattle.ame_weak.specs.Tries.{AreTried, AreTriesInOrder, straight_with}
 use Rattle.ame_weak.specs.declared.tries.Try.{Try}
 use Rattle.ame_runner.specs.Labels.{location_above}
-use Rattle.ame_runner.specs.Play.{AreWithinBounds}
+use Rattle.ame_weak.specs.Bounds.{AreWithinBounds}
 use Rattle.ame_runner.specs.Notes.{AreSpaced}
 use Rattle.ame_runner.specs.Run.{AreFailedTries, CutAt}
 use Rattle.ame_runner.specs.Stop.{HasWeakCause, FailsBy}

@@ -1,9 +1,9 @@
 -- A weak run under way.
-use Rattle.std.specs.Prelude.{◌≡◌, ℕ, ◌≤◌, List, [], ◌∷◌, ◌++◌, length, max, take, Some, None, is_none, if◌then◌else◌, ⊤}
+use Rattle.std.specs.Prelude.{◌≡◌, ℕ, ◌≤◌, List, [], ◌∷◌, ◌++◌, length, max, take, Some, None, is_none, if◌then◌else◌}
 use Rattle.ame_term.specs.Tree.{Tree}
 use Rattle.ame_term.specs.declared.semantics.Label.{Label}
 use Rattle.ame_weak.specs.Weak.{Weak, weak_start, weak_after, IsWeakRun}
-use Rattle.ame_weak.specs.Bounds.{IsWithinBounds}
+use Rattle.ame_weak.specs.Bounds.{IsWithinBounds, AreWithinBounds}
 use Rattle.ame_runner.specs.Labels.{label_location, behind_location, location_above}
 
 -- The program, the labels so far, the weak state to which they lead, the least location above all that they
@@ -21,11 +21,6 @@ pub record IsSettledAfter (program : Tree) (labels : List Label) (n : ℕ) : Typ
   pub weak : Weak
   pub leads : IsWeakRun program (take n labels) weak
   pub idle : weak.state.active ≡ None
-
--- what makes a step along labels is within the bounds of depth and height
-abbrev pub AreWithinBounds : Weak → List Label → Type 0
-AreWithinBounds w [] = ⊤
-AreWithinBounds w (label ∷ labels) = IsWithinBounds w label × ((v : Weak) → weak_after w label ≡ Some v → AreWithinBounds v labels)
 
 -- the labels are legal, and lead to the weak state
 pub record IsPlayedWeakly (p : PlayView) : Type 0 where

@@ -21,4 +21,4 @@ pub use play::Play;
 pub use running::weak_run;
 pub use stop::{WeakRun, WeakStop};
 pub use theorems::{notes_stand_apart, tried_fragments_hold, turns_are_told};
-pub use trial::{Outcome, TriedOut, note_of, try_member};
+pub use trial::{Outcome, TriedOut, kind_of, note_of, try_member};

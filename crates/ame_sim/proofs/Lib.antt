@@ -6,9 +6,12 @@ pub mod QuestionsLemmas
 pub mod SignLemmas
 pub mod TextLemmas
 pub mod OrderLemmas
+pub mod WovenLemmas
 pub mod PickLemmas
 pub mod BusyLemmas
 pub mod TurnLemmas
 pub mod UnwindLemmas
+pub mod PlainLemmas
 pub mod CrewLemmas
 pub mod PlayLemmas
+pub mod EventLemmas

@@ -4,8 +4,9 @@ use Rattle.std.specs.List.{Contains}
 use Rattle.std.proofs.lemmas.List.{map-append, length-map, length-replicate}
 use Rattle.std.proofs.lemmas.List.Sums.{sum_by-append}
 use Rattle.std.proofs.lemmas.List.Folds.{sum_by-replicate}
-use Rattle.ame_sim.specs.Questions.{Picked, seats_of, idles_of, turns_of, waits_after, waits_along, questions, who_waits, count_of, AreAnswers}
+use Rattle.ame_sim.specs.Questions.{seats_of, idles_of, turns_of, waits_after, waits_along, questions, who_waits, count_of, AreAnswers}
 use Rattle.ame_sim.specs.Strategy.{PicksSeats}
+use Rattle.ame_sim.specs.declared.picked.Picked.{Picked}
 use Rattle.ame_sim.specs.Waits.{may_be_picked}
 use Rattle.ame_sim.proofs.QuestionsLemmas.{waits_along-push, questions_along-push, length-picks, idles-few, idles-bounded}
 use Rattle.ame_sim.proofs.StrategyLemmas.{answers-then}

@@ -43,10 +43,15 @@ turn-less : (left waiting seats : ℕ) → waiting ≤ seats → left * (seats +
 turn-less left waiting seats few = omega arith
 
 module _ {C V M : Type 0} (meaning : Meaning C V M) where
-  plays-push : (mades : List Made) (made : Made) (first last new : ShellView C V M) → Plays meaning mades first last → HasPlayed meaning made last new
-      → Plays meaning (mades ++ made ∷ []) first new
-  plays-push [] made first last new h p = (new, subst (λ (s : ShellView C V M). HasPlayed meaning made s new) h p, refl)
-  plays-push (m ∷ mades) made first last new h p = (h.0, h.1, plays-push mades made h.0 last new h.2 p)
+  plays-push : (mades : List Made) (made : Made) (first last new : ShellView C V M) → Plays meaning mades first last → last.core.stop ≡ None
+      → HasPlayed meaning made last new → Plays meaning (mades ++ made ∷ []) first new
+  plays-push [] made first last new h going p = (
+    new,
+    subst (λ (s : ShellView C V M). s.core.stop ≡ None) h going,
+    subst (λ (s : ShellView C V M). HasPlayed meaning made s new) h p,
+    refl,
+  )
+  plays-push (m ∷ mades) made first last new h going p = (h.0, h.1, h.2, plays-push mades made h.0 last new h.3 going p)
 
   -- nothing was played yet
   pub playing-none : (seats : ℕ) (first : ShellView C V M) → first.core.turns ≡ 0 → first.core.entries ≡ [] → IsPlaying meaning seats first first []
@@ -69,17 +74,20 @@ module _ {C V M : Type 0} (meaning : Meaning C V M) where
     last-is : old ≡ h.last
     last-is = by h.ends
       where
-        by : (old ≡ h.last) ⊎ (old ≡ lacking h.last) → old ≡ h.last
+        by : (old ≡ h.last) ⊎ ((h.last.core.stop ≡ None) × (old ≡ lacking h.last)) → old ≡ h.last
         by (inl is) = is
         by (inr lacks) =
-            absurd (let clash : false ≡ true = sym (ap is_some going) ∙ ap (λ (s : ShellView C V M). is_some s.core.stop) lacks in cc)
+            absurd (let clash : false ≡ true = sym (ap is_some going) ∙ ap (λ (s : ShellView C V M). is_some s.core.stop) lacks.1 in cc)
+
+    last-going : h.last.core.stop ≡ None
+    last-going = subst (λ (s : ShellView C V M). s.core.stop ≡ None) last-is going
 
     -- memory may be lacking
     pub playing-lacks : IsPlaying meaning seats first (lacking old) mades
     playing-lacks = record {
       last = h.last;
       plays = h.plays;
-      ends = inr (ap lacking last-is);
+      ends = inr (last-going, ap lacking last-is);
       told = h.told;
       going = λ left. absurd (let clash : true ≡ false = ap is_some left in cc);
     }
@@ -138,7 +146,7 @@ module _ {C V M : Type 0} (meaning : Meaning C V M) where
           let counts = has-counted in
           record {
             last = new;
-            plays = plays-push mades made first h.last new h.plays (subst (λ (s : ShellView C V M). HasPlayed meaning made s new) last-is p);
+            plays = plays-push mades made first h.last new h.plays last-going (subst (λ (s : ShellView C V M). HasPlayed meaning made s new) last-is p);
             ends = inl refl;
             told = record {
               within = All-push (λ (m : Made). m.seat < seats) mades made h.told.within within;

@@ -7,9 +7,10 @@ use Rattle.std.proofs.lemmas.List.{length-set, length-replicate}
 use Rattle.std.proofs.lemmas.List.Sums.{sum_by-cons, sum_by-set, count_by-le-length}
 use Rattle.std.proofs.lemmas.List.Folds.{sum_by-replicate}
 use Rattle.ame_sim.specs.Strategy.{PicksSeats}
+use Rattle.ame_sim.specs.declared.picked.Picked.{Picked}
 use Rattle.ame_sim.specs.Listed.{picked_as_listed}
 use Rattle.ame_sim.specs.Waits.{may_be_picked}
-use Rattle.ame_sim.specs.Questions.{Picked, seats_of, idles_of, turns_of, waits_after, waits_along, questions_along, count_of, AreAnswers, AllWaited}
+use Rattle.ame_sim.specs.Questions.{seats_of, idles_of, turns_of, waits_after, waits_along, questions_along, count_of, AreAnswers, AllWaited}
 use Rattle.ame_sim.proofs.ListedLemmas.{listed-whole}
 use Rattle.ame_sim.proofs.WaitsLemmas.{free-seat}
 

@@ -72,7 +72,7 @@ module _ {C V M : Type 0} where
   pub idle-waits : (core : Core C V M) → pick_of core ≡ Pick.Idle → oldest core.pool ≡ Oldest.Wait
   idle-waits core met = by-idle (is_some core.stop) (if nat_lt core.turns core.limits.turns then false else true) (oldest core.pool) met
 
-  stopped-met : (core : Core C V M) → pick_of core ≡ Pick.Stopped → is_some core.stop ≡ true
+  pub stopped-met : (core : Core C V M) → pick_of core ≡ Pick.Stopped → is_some core.stop ≡ true
   stopped-met core met = by-stop (is_some core.stop) (if nat_lt core.turns core.limits.turns then false else true) (oldest core.pool) met
 
   -- where a stop is kept that is met

@@ -1,6 +1,6 @@
 -- Who may be picked, where some seats wait.
-use Rattle.std.proofs.Common.{◌≡◌, ℕ, zero, suc, ◌⊎◌, inl, inr, ⊎_elim, true≢false, ◌+◌, ◌<◌, ◌≤◌, Bool, true, false, cond, List, [], ◌∷◌, ◌++◌, length, take, get_or, replicate, refl, sym, ap, ◌∙◌, append-nil, add-zero, arith}
-use Rattle.std.specs.List.{Contains}
+use Rattle.std.proofs.Common.{◌≡◌, ℕ, zero, suc, ◌⊎◌, inl, inr, ⊎_elim, true≢false, ◌+◌, ◌<◌, ◌≤◌, Bool, true, false, cond, List, [], ◌∷◌, ◌++◌, length, take, get_or, set, replicate, refl, sym, ap, ◌∙◌, append-nil, add-zero, arith}
+use Rattle.std.specs.List.{Contains, remove}
 use Rattle.std.proofs.lemmas.List.{take_more, length-take}
 use Rattle.ame_sim.specs.Waits.{seats_from, may_be_picked}
 
@@ -28,6 +28,24 @@ module _ (waits : List Bool) (i : ℕ) (below : i < length waits) where
 
   pub may-same : get_or waits i false ≡ true → may_be_picked (take (i + 1) waits) ≡ may_be_picked (take i waits)
   may-same is = more true is ∙ append-nil (may_be_picked (take i waits))
+
+-- One that waits from now on is left out, behind those before it that don't wait.
+pub left-out : (first i : ℕ) (waits : List Bool) → i < length waits → get_or waits i false ≡ false
+    → remove (seats_from first waits) (length (seats_from first (take i waits))) ≡ seats_from first (set waits i true)
+left-out first i [] below free = absurd (omega arith)
+left-out first zero (true ∷ waits) below free = absurd (true≢false free)
+left-out first zero (false ∷ waits) below free = refl
+left-out first (suc i) (true ∷ waits) below free = left-out (first + 1) i waits (omega arith) free
+left-out first (suc i) (false ∷ waits) below free = ap (λ t. first ∷ t) (left-out (first + 1) i waits (omega arith) free)
+
+-- which are fewer than all
+pub fewer-before : (first i : ℕ) (waits : List Bool) → i < length waits → get_or waits i false ≡ false
+    → length (seats_from first (take i waits)) < length (seats_from first waits)
+fewer-before first i [] below free = absurd (omega arith)
+fewer-before first zero (true ∷ waits) below free = absurd (true≢false free)
+fewer-before first zero (false ∷ waits) below free = omega arith
+fewer-before first (suc i) (true ∷ waits) below free = fewer-before (first + 1) i waits (omega arith) free
+fewer-before first (suc i) (false ∷ waits) below free = let fewer = fewer-before (first + 1) i waits (omega arith) free in omega (arith, fewer)
 
 -- there are as many at most as there are flags
 pub length-seats_from : (seat : ℕ) (waits : List Bool) → length (seats_from seat waits) ≤ length waits

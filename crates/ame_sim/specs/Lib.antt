@@ -6,6 +6,8 @@ pub mod Questions
 pub mod Schedule
 pub mod Places
 pub mod Picks
+pub mod Woven
 pub mod Played
 pub mod Crew
+pub mod Events
 pub mod Run

@@ -1,9 +1,10 @@
 -- What picks did, as far as it tells who may be picked.
 use Rattle.std.specs.Prelude.{ℕ, Bool, true, false, List, map}
-use Rattle.ame_sim.specs.Questions.{Picked, questions, seats_of}
+use Rattle.ame_sim.specs.Questions.{questions, seats_of}
 use Rattle.ame_sim.specs.Strategy.{PicksSeats}
 use Rattle.ame_turn.specs.declared.work.Deed.{Deed}
 use Rattle.ame_sim.specs.declared.made.Made.{Made}
+use Rattle.ame_sim.specs.declared.picked.Picked.{Picked}
 
 -- whether a seat was told to wait
 abbrev pub is_waited : Deed → Bool

@@ -1,5 +1,5 @@
 -- What picks make of a shell.
-use Rattle.std.specs.Prelude.{◌≡◌, List, [], ◌∷◌, length, Option, Some}
+use Rattle.std.specs.Prelude.{◌≡◌, List, [], ◌∷◌, length, Option, Some, None}
 use Rattle.ame_machine.specs.MachineView.{MachineView}
 use Rattle.ame_protocol.specs.Engine.Parts.{task_at, member_of}
 use Rattle.ame_engine.specs.AtWork.{IsOnSeat}
@@ -20,7 +20,7 @@ module _ {C V M : Type 0} (meaning : Meaning C V M) where
     pub member : made.member ≡ member_told (member_of (task_at old.core.tasks made.seat)) (member_of (task_at new.core.tasks made.seat))
     pub place : made.place ≡ place_told made.deed (place_wanted (length old.core.memory.cells) hand)
 
-  -- so it is of one pick after the other
+  -- so it is of one pick after the other, while no stop is kept
   abbrev pub Plays : List Made → ShellView C V M → ShellView C V M → Type 0
   Plays [] old new = new ≡ old
-  Plays (made ∷ mades) old new = (mid : ShellView C V M) × HasPlayed made old mid × Plays mades mid new
+  Plays (made ∷ mades) old new = (mid : ShellView C V M) × (old.core.stop ≡ None) × HasPlayed made old mid × Plays mades mid new

@@ -1,12 +1,8 @@
 -- What is asked in a run: the picks that were made determine who may be picked next.
 use Rattle.std.specs.Prelude.{◌≡◌, ℕ, Bool, true, false, not, if◌then◌else◌, List, [], ◌∷◌, length, map, replicate, slice_set, count_by, All, Contains}
 use Rattle.std.specs.List.{AllZip}
+use Rattle.ame_sim.specs.declared.picked.Picked.{Picked}
 use Rattle.ame_sim.specs.Waits.{may_be_picked}
-
--- a pick: the seat, and whether it had nothing to do and was told to wait
-pub record Picked : Type 0 where
-  pub seat : ℕ
-  pub waited : Bool
 
 -- the seats that were picked
 abbrev pub seats_of : List Picked → List ℕ

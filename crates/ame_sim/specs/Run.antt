@@ -2,12 +2,13 @@
 use Rattle.std.specs.Prelude.{◌≡◌, ℕ, ◌+◌, ◌*◌, ◌<◌, ◌≤◌, ◌⊎◌, false, List, [], ◌∷◌, length, map, replicate, All, None, IsSome}
 use Rattle.ame_sim.specs.Questions.{AreAnswers, idles_of, seats_of, turns_of}
 use Rattle.ame_journal.specs.declared.entry.Entry.{Entry}
-use Rattle.ame_protocol.specs.Engine.Events.{started}
+use Rattle.ame_protocol.specs.Event.State.{started_state}
 use Rattle.ame_engine.specs.Ending.{End}
-use Rattle.ame_engine.specs.Seen.{parts_of}
+use Rattle.ame_engine.specs.Makes.{state_of}
 use Rattle.ame_shell.specs.Shell.{Opening, ShellView, IsShell}
 use Rattle.ame_sim.specs.declared.made.Made.{Made}
 use Rattle.ame_sim.specs.Crew.{lacking}
+use Rattle.ame_sim.specs.Events.{IsRun}
 use Rattle.ame_sim.specs.Picks.{picks_of}
 use Rattle.ame_sim.specs.Played.{Plays}
 use Rattle.ame_machine.specs.Meaning.{Meaning}
@@ -38,18 +39,19 @@ module _ {C V M : Type 0} (meaning : Meaning C V M) where
   pub record IsPlaying (seats : ℕ) (first now : ShellView C V M) (mades : List Made) : Type 0 where
     pub last : ShellView C V M
     pub plays : Plays meaning mades first last
-    pub ends : (now ≡ last) ⊎ (now ≡ lacking last)
+    pub ends : (now ≡ last) ⊎ ((last.core.stop ≡ None) × (now ≡ lacking last))
     pub told : AreTold seats now.core.turns mades now.core.entries
     pub going : now.core.stop ≡ None → turns_of (picks_of mades) ≡ now.core.turns
 
-  -- The picks of a run from its opening on lead to where a stop is kept. Stop, turns, entries and output are those of the end: what is
-  -- undone since tells nothing.
+  -- The picks of a run from its opening on lead to where a stop is kept, by events that follow one another. Stop, turns, entries and
+  -- output are those of the end: what is undone since tells nothing.
   pub record IsPlayed (opening : Opening C) (mades : List Made) (end : End V) : Type 0 where
     pub first : ShellView C V M
     pub opened : IsShell meaning.program opening first
-    pub fresh : parts_of meaning first.core ≡ started (meaning.program opening.code) (meaning.devices opening.code) opening.limits 0
+    pub fresh : state_of meaning first.core ≡ started_state (meaning.program opening.code) (meaning.devices opening.code) opening.limits
     pub now : ShellView C V M
     pub playing : IsPlaying opening.limits.seats first now mades
+    pub run : IsRun meaning opening mades first playing.last now playing.plays
     pub stopped : IsSome now.core.stop
     pub stop : end.stop ≡ now.core.stop
     pub turns : end.turns ≡ now.core.turns

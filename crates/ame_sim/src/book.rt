@@ -1,28 +1,21 @@
 //! The book of a run: what each pick did, and so who may be picked next.
 
-ghost use Rattle.std.specs.Prelude.{◌≡◌, ◌<◌, ◌++◌, ◌∷◌, [], false, length, IfOk, OnOk, replicate, vec_len, vec_capacity};
+ghost use Rattle.std.specs.Prelude.{◌≡◌, ◌<◌, ◌++◌, ◌∷◌, [], false, true, length, IfOk, OnOk, replicate};
 ghost use Rattle.ame_sim.specs.Questions.{waits_after};
-ghost use Rattle.ame_sim.specs.Picks.{is_waited, picked_by};
-ghost use Rattle.ame_turn.specs.declared.work.Deed.{Deed};
+ghost use Rattle.ame_sim.specs.Picks.{picked_by};
+ghost use Rattle.ame_sim.specs.Woven.{IsPlain};
 
 use crate::made::Made;
+use crate::packed::{PackedMades, is_waited};
 use crate::waits::Waits;
 use ame_term::NoMemory;
-use ame_turn::Deed;
 use std::alloc::Global;
 
 /// What each pick did, and which of the seats wait.
 #[derive(Drop)]
 pub struct Book {
     pub waits: Waits,
-    pub mades: Vec<Made>,
-}
-
-/// Whether a seat was told to wait.
-fn is_waited(deed: Deed) -> bool
-    ensures { result ≡ is_waited deed }
-{
-    matches!(deed, Deed::Waited)
+    pub mades: PackedMades,
 }
 
 impl Book {
@@ -33,23 +26,24 @@ impl Book {
     {
         Ok(Book {
             waits: Waits::new(alloc, seats)?,
-            mades: Vec::new(alloc),
+            mades: PackedMades::new(alloc),
         })
     }
 
     /// Makes room for one pick more.
     pub fn make_room(&mut self) -> Result<(), NoMemory>
-        ensures room { OnOk result (vec_len self.new.mades < vec_capacity self.new.mades) }
+        ensures room { OnOk result (self.new.mades.has_room ≡ true) }
         ensures waits { self.new.waits ≡ self.old.waits }
         ensures same { self.new.mades.items ≡ self.old.mades.items }
     {
-        self.mades.reserve(1)?;
-        Ok(())
+        self.mades.make_room()
     }
 
     /// Notes what a pick did, in room that is there.
     pub fn note(&mut self, made: Made)
-        requires room { vec_len self.old.mades < vec_capacity self.old.mades }
+        requires room { self.old.mades.has_room ≡ true }
+        requires byte { made.seat < 256 }
+        requires plain { IsPlain made }
         requires seat { made.seat < length self.old.waits }
         ensures waits { self.new.waits ≡ waits_after self.old.waits (picked_by made) }
         ensures noted { self.new.mades.items ≡ self.old.mades.items ++ made ∷ [] }

@@ -3,10 +3,10 @@
 ghost use Rattle.std.specs.Prelude.{◌≡◌, ◌≢◌, ◌≤◌, ◌<◌, ℕ, [], None, IsSome, IfOk, IfErr, true, false, is_some, vec_len};
 ghost use Rattle.std.specs.Arc.{arc_value};
 ghost use Rattle.ame_engine.specs.Ending.{end_of};
-ghost use Rattle.ame_engine.specs.Seen.{parts_of};
+ghost use Rattle.ame_engine.specs.Makes.{state_of};
 ghost use Rattle.ame_engine.specs.Whole.{AreLimits};
 ghost use Rattle.ame_protocol.specs.declared.types.Task.{Task};
-ghost use Rattle.ame_protocol.specs.Engine.Events.{started};
+ghost use Rattle.ame_protocol.specs.Event.State.{started_state};
 ghost use Rattle.ame_protocol.specs.Engine.Parts.{task_at};
 ghost use Rattle.ame_shell.specs.Ends.{ends_of};
 ghost use Rattle.ame_shell.specs.Over.{IsOverSince};
@@ -77,8 +77,8 @@ where
           base = [];
           ends = ends_of K.written K.faults D.device_heard D.device_faults sink devices.items;
         })) }
-        ensures starts { IfOk result (λ crew. parts_of M.meaning crew.core
-            ≡ started (M.meaning.program (arc_value code)) (M.meaning.devices (arc_value code)) limits 0) }
+        ensures starts { IfOk result (λ crew. state_of M.meaning crew.core
+            ≡ started_state (M.meaning.program (arc_value code)) (M.meaning.devices (arc_value code)) limits) }
         ensures sink { IfErr result (λ back. back.0 ≡ sink) }
         ensures devices { IfErr result (λ back. back.1 ≡ devices) }
     {

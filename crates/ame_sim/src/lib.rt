@@ -10,6 +10,8 @@ mod drawn;
 mod hands;
 mod listed;
 mod made;
+mod packed;
+mod picked;
 mod places;
 mod run;
 mod schedule;
@@ -20,6 +22,8 @@ pub use crew::Crew;
 pub use drawn::Drawn;
 pub use listed::Listed;
 pub use made::Made;
+pub use packed::{MadesIter, PackedMades};
+pub use picked::Picked;
 pub use run::{Played, run_by_chooser};
 pub use schedule::{
     ScheduleFault, Scheduled, read_schedule, schedule_line, schedule_text, sign_of,

@@ -15,7 +15,7 @@ ghost use Rattle.ame_sim.specs.Run.{IsPlaying, IsPlayed};
 use crate::book::Book;
 use crate::chooser::Chooser;
 use crate::crew::Crew;
-use crate::made::Made;
+use crate::packed::PackedMades;
 use ame_device::Device;
 use ame_io::Sink;
 use ame_machine::Runner;
@@ -29,7 +29,7 @@ use std::sync::Arc;
 #[derive(Drop)]
 pub struct Played<V, K, D> {
     pub left: Remains<V, K, D>,
-    pub mades: Vec<Made>,
+    pub mades: PackedMades,
 }
 
 /// One question is asked, and the seat that is picked has its turn. Where memory is lacking nothing was done.

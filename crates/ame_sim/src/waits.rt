@@ -47,8 +47,12 @@ impl Waits {
         requires { seat < length self.old }
         ensures { self.new ≡ slice_set self.old seat true }
     {
-        self.waits[seat as usize] = true;
-        list_seats(&mut self.may, &self.waits);
+        let seat = seat as usize;
+        if !self.waits[seat] {
+            let place = free_among(&self.waits[..seat]);
+            self.may.remove(place);
+            self.waits[seat] = true;
+        }
     }
 
     /// Lets no seat wait any more. It costs nothing where none does.
@@ -60,6 +64,19 @@ impl Waits {
             list_seats(&mut self.may, &self.waits);
         }
     }
+}
+
+/// How many don't wait.
+fn free_among(waits: &[bool]) -> usize
+    ensures { result ≡ length (spec.may_be_picked waits.now) }
+{
+    let mut free = 0;
+    for place in 0..waits.len() {
+        if !waits[place] {
+            free += 1;
+        }
+    }
+    free
 }
 
 /// Lists the seats that don't wait, in room that is there.

@@ -18,3 +18,4 @@ pub mod BoundLemmas
 pub mod TypedRuns
 pub mod NoteLemmas
 pub mod WeakToldLemmas
+pub mod LowValues

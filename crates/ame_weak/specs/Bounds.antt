@@ -1,13 +1,14 @@
 -- The bounds within which a step is made.
-use Rattle.std.specs.Prelude.{◌≡◌, ℕ, zero, suc, ◌+◌, min, Bool, false, ◌||◌, nat_lt, Option, Some, None, is_some, if◌then◌else◌, ⊤}
+use Rattle.std.specs.Prelude.{◌≡◌, ℕ, zero, suc, ◌+◌, min, Bool, false, ◌||◌, nat_lt, List, [], ◌∷◌, Option, Some, None, is_some, if◌then◌else◌, ⊤}
 use Rattle.ame_term.specs.Tree.{Tree, Trees, is_held}
+use Rattle.ame_term.specs.Frame.{Side}
 use Rattle.ame_term.specs.Context.{Focus, focus}
 use Rattle.ame_term.specs.Height.{max_height, height}
 use Rattle.ame_term.specs.Maps.{at}
 use Rattle.ame_term.specs.declared.semantics.Label.{Label}
-use Rattle.ame_journal.specs.Replayed.{value_height}
+use Rattle.ame_journal.specs.Replayed.{value_height, coming_height, has_such}
 use Rattle.ame_strong.specs.Pool.{pool, active_tree}
-use Rattle.ame_weak.specs.Weak.{Weak}
+use Rattle.ame_weak.specs.Weak.{Weak, weak_after}
 
 -- the greatest number of frames in which a redex that is reduced stands
 abbrev pub max_frames : ℕ
@@ -55,3 +56,19 @@ abbrev pub IsWithinBounds : Weak → Label → Type 0
 IsWithinBounds w (Label.Step kind) = IsTermWithinBounds (active_tree w.state)
 IsWithinBounds w (Label.Free i kind) = IsTermWithinBounds (at (pool w.state) i)
 IsWithinBounds w _ = ⊤
+
+-- what makes a step along labels is within the bounds
+abbrev pub AreWithinBounds : Weak → List Label → Type 0
+AreWithinBounds w [] = ⊤
+AreWithinBounds w (label ∷ labels) = IsWithinBounds w label × ((v : Weak) → weak_after w label ≡ Some v → AreWithinBounds v labels)
+
+-- Heights alone
+
+-- whether a term is about to become a value that is too high, on a side
+abbrev pub grows_tall : Side → Tree → Bool
+grows_tall side term = nat_lt max_height (coming_height side (focus term))
+
+-- the same of the active member in protected code, or of a member of the pool under `unprotected`
+abbrev pub is_growing_tall : Weak → Option ℕ → Bool
+is_growing_tall w None = has_such (grows_tall Side.Protected) (active_tree w.state)
+is_growing_tall w (Some i) = has_such (grows_tall Side.Unprotected) (at (pool w.state) i)

@@ -7,3 +7,4 @@ pub mod Straightened
 pub mod WeakRules
 pub mod WeakTold
 pub mod Bounds
+pub mod Low

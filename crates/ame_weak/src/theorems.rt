@@ -1,10 +1,11 @@
 //! Theorems: promises of this crate that nothing above it cites, each the statement of a lemma.
 
-ghost use Rattle.std.specs.Prelude.{◌≡◌, ◌↔◌, ℕ, List, length, map, Some, None};
+ghost use Rattle.std.specs.Prelude.{◌≡◌, ◌↔◌, ℕ, true, List, length, map, Some, None};
+ghost use Rattle.ame_term.specs.Frame.{Side};
 ghost use Rattle.ame_term.specs.Tree.{Tree};
 ghost use Rattle.ame_term.specs.View.{tree_of};
 ghost use Rattle.ame_term.specs.declared.semantics.Label.{Label};
-ghost use Rattle.ame_journal.specs.Replayed.{Replayed};
+ghost use Rattle.ame_journal.specs.Replayed.{Replayed, is_tall};
 ghost use Rattle.ame_journal.specs.Replay.{replay};
 ghost use Rattle.ame_journal.specs.Calls.{device_calls};
 ghost use Rattle.ame_journal.specs.Totals.{without_notes};
@@ -12,6 +13,8 @@ ghost use Rattle.ame_laws.specs.Typed.StoreTyping.{StoreTyping};
 ghost use Rattle.ame_laws.specs.Typed.TypedState.{IsTyped};
 ghost use Rattle.ame_weak.specs.Weak.{Weak, IsWeakRun, holding_none, weak_start, weak_after, weak_run, weak_calls};
 ghost use Rattle.ame_weak.specs.WeakRules.{WeakRule, WeakBegins, WeakRuns};
+ghost use Rattle.ame_weak.specs.Bounds.{AreWithinBounds, is_growing_tall};
+ghost use Rattle.ame_weak.specs.Low.{IsLow};
 ghost use Rattle.ame_weak.specs.Straight.{straight, outset};
 ghost use Rattle.ame_weak.specs.Tries.{AreTried, AreTriesInOrder, notes_of, note_for, straight_with};
 ghost use Rattle.ame_weak.specs.declared.tries.Try.{Try};
@@ -73,4 +76,13 @@ pub fn notes_are_of_the_tries()
 pub fn weak_runs_are_typed(accepted: &Accepted)
     ensures { (labels : List Label) (w : Weak) → IsWeakRun (tree_of accepted.now.program.term) labels w
         → (cells : StoreTyping) × IsTyped accepted.now.devices cells w.state }
+{}
+
+/// Within the bounds no value of a run of an accepted program is more than 1,000 high. So a value that would be higher
+/// would be so by one.
+pub fn values_stay_low(accepted: &Accepted)
+    ensures stay { (labels : List Label) (w : Weak) → IsWeakRun (tree_of accepted.now.program.term) labels w
+        → AreWithinBounds (weak_start (tree_of accepted.now.program.term)) labels → IsLow w }
+    ensures active { (w : Weak) (i : ℕ) → IsLow w → w.state.active ≡ Some i → is_growing_tall w None ≡ true → is_tall Side.Protected i w.state ≡ true }
+    ensures resting { (w : Weak) (i : ℕ) → IsLow w → is_growing_tall w (Some i) ≡ true → is_tall Side.Unprotected i w.state ≡ true }
 {}

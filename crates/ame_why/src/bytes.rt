@@ -14,11 +14,14 @@ pub fn explain_bytes(alloc: Global, text: &[u8], fault: LexFault) -> Result<Vec<
     ensures { IfOk result (λ page. (place : ℕ) → IsFaultAt fault place → IsExplained text.now place page.items) }
 {
     match fault {
-        LexFault::BadByte(place) => explained(alloc, text, place, bad_byte(text, place as usize)),
+        LexFault::BadByte(place) => {
+            let place = place as usize;
+            explained(alloc, text, place, bad_byte(text, place))
+        }
         LexFault::LongNumber(place) => explained(
             alloc,
             text,
-            place,
+            place as usize,
             b"this number has more than 64 bits: the least is -9223372036854775808, the greatest 9223372036854775807\n",
         ),
         LexFault::NoMemory => Err(NoMemory),

@@ -4,7 +4,7 @@ ghost use Rattle.std.specs.Prelude.{ℕ, IfOk};
 ghost use Rattle.ame_why.specs.Placed.{IsExplained};
 
 use crate::page::{append, append_decimal};
-use crate::placed::explained_at;
+use crate::placed::explained;
 use crate::words::{line_from, line_start, start_of, word_at, word_start};
 use ame_check::Reason;
 use ame_machine::Wants;
@@ -32,7 +32,7 @@ pub fn explain_entry(
     append_reason(&mut message, row, why)?;
     append(&mut message, b"\n")?;
     let place = start.saturating_add(place_in(row, why));
-    explained_at(alloc, input, place, &message)
+    explained(alloc, input, place, &message)
 }
 
 /// The place in a line of which a reason tells.

@@ -27,16 +27,24 @@ pub fn forms_of(alloc: Global, text: &[u8], made: &[Made]) -> Result<Vec<u8>, No
     ensures { IfOk result (λ page. page.items
         ≡ spec.form_table (spec.positions text.now (spec.tokens_or_none (tokens_of text.now))) made.now) }
 {
-    let tokens = tokens_in(alloc, text)?;
-    let places = positions(alloc, text, &tokens)?;
+    let places = positions_in(alloc, text)?;
     let mut page = Vec::new(alloc);
     append(&mut page, b"location  ref form\n")?;
     append_forms(&mut page, &places, made)?;
     Ok(page)
 }
 
+/// Where the `ref` forms of a text are; none where it has a fault.
+pub(crate) fn positions_in(alloc: Global, text: &[u8]) -> Result<Vec<Position>, NoMemory>
+    requires { length text.now ≤ max_text }
+    ensures { IfOk result (λ places. places.items ≡ spec.positions text.now (spec.tokens_or_none (tokens_of text.now))) }
+{
+    let tokens = tokens_in(alloc, text)?;
+    positions(alloc, text, &tokens)
+}
+
 /// The tokens of a text; none where it has a fault.
-pub(crate) fn tokens_in(alloc: Global, text: &[u8]) -> Result<Vec<Token>, NoMemory>
+fn tokens_in(alloc: Global, text: &[u8]) -> Result<Vec<Token>, NoMemory>
     requires { length text.now ≤ max_text }
     ensures tokens { IfOk result (λ tokens. tokens.items ≡ spec.tokens_or_none (tokens_of text.now)) }
     ensures within { IfOk result (λ tokens. All (IsWithin text.now) tokens.items) }
@@ -48,12 +56,8 @@ pub(crate) fn tokens_in(alloc: Global, text: &[u8]) -> Result<Vec<Token>, NoMemo
     }
 }
 
-/// Where the `ref` forms are.
-pub(crate) fn positions(
-    alloc: Global,
-    text: &[u8],
-    tokens: &[Token],
-) -> Result<Vec<Position>, NoMemory>
+/// Where those among the tokens of a text are.
+fn positions(alloc: Global, text: &[u8], tokens: &[Token]) -> Result<Vec<Position>, NoMemory>
     requires { All (IsWithin text.now) tokens.now }
     ensures { IfOk result (λ places. places.items ≡ spec.positions text.now tokens.now) }
 {

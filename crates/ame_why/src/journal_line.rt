@@ -3,7 +3,7 @@
 ghost use Rattle.std.specs.Prelude.{ℕ, IfOk};
 ghost use Rattle.ame_why.specs.Placed.{IsExplained};
 
-use crate::placed::explained_at;
+use crate::placed::explained;
 use crate::words::{line_from, line_start};
 use ame_check::split_input;
 use ame_term::NoMemory;
@@ -28,7 +28,7 @@ pub fn explain_line(alloc: Global, input: &[u8], line: u64) -> Result<Vec<u8>, N
 {
     let start = line_start(input, line);
     if split_input(input).is_none() {
-        return explained_at(
+        return explained(
             alloc,
             input,
             start,
@@ -36,7 +36,7 @@ pub fn explain_line(alloc: Global, input: &[u8], line: u64) -> Result<Vec<u8>, N
         );
     }
     let (offset, message) = fault_of(line_from(input, start));
-    explained_at(alloc, input, start.saturating_add(offset), message)
+    explained(alloc, input, start.saturating_add(offset), message)
 }
 
 /// The first word that can't stand where it stands, by its place in the line, and what would have to stand there.

@@ -31,18 +31,6 @@ fn place_of(alloc: Global, text: &[u8], place: usize) -> Result<Vec<u8>, NoMemor
 pub(crate) fn explained(
     alloc: Global,
     text: &[u8],
-    place: u32,
-    message: &[u8],
-) -> Result<Vec<u8>, NoMemory>
-    ensures { IfOk result (λ page. page.items ≡ spec.placed_within text.now place ++ message.now) }
-{
-    explained_at(alloc, text, place as usize, message)
-}
-
-/// The same of a place as an index.
-pub(crate) fn explained_at(
-    alloc: Global,
-    text: &[u8],
     place: usize,
     message: &[u8],
 ) -> Result<Vec<u8>, NoMemory>

@@ -33,7 +33,7 @@ pub fn explain_types(alloc: Global, text: &[u8], fault: &TypeFault) -> Result<Ve
         b"a device below ",
         &fault.wanted,
     )?;
-    explained(alloc, text, fault.place, &message)
+    explained(alloc, text, fault.place as usize, &message)
 }
 
 /// Which rule is broken; where it speaks of a part of a form, of which.
@@ -59,7 +59,7 @@ fn append_binder(
     let Some(binder) = binder_at(alloc, text, &tokens, fault.rule, fault.place)? else {
         return Ok(());
     };
-    let bound = explained(alloc, text, binder.start, b"")?;
+    let bound = explained(alloc, text, binder.start as usize, b"")?;
     append(message, b"its name is bound here:\n")?;
     append(message, &bound)
 }

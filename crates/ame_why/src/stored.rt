@@ -9,7 +9,7 @@ ghost use Rattle.ame_why.specs.Stored as spec;
 ghost use Rattle.ame_why.specs.Stored.{IsFirstOrder, held_words, origin_words, padded, stored_row, stored_rows};
 
 use crate::Position;
-use crate::forms::{append_position, position_at, positions, tokens_in};
+use crate::forms::{append_position, position_at, positions_in};
 use crate::page::{append, append_column, append_spaces};
 use ame_print::print_term;
 use ame_store::{Cell, Store};
@@ -23,8 +23,7 @@ pub fn store_of(alloc: Global, text: &[u8], store: &Store<Val>) -> Result<Vec<u8
     requires { length text.now ≤ max_text }
     ensures { IfOk result (λ page. page.items ≡ spec.store_table (positions text.now (tokens_or_none (tokens_of text.now))) store.now) }
 {
-    let tokens = tokens_in(alloc, text)?;
-    let places = positions(alloc, text, &tokens)?;
+    let places = positions_in(alloc, text)?;
     let mut page = Vec::new(alloc);
     append(&mut page, b"location  sort  ref form  value\n")?;
     append_cells(&mut page, &places, store)?;

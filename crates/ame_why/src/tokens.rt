@@ -28,13 +28,13 @@ pub fn explain_tokens(alloc: Global, text: &[u8], fault: ParseFault) -> Result<V
         ParseFault::TooNested(place) => explained(
             alloc,
             text,
-            place,
+            place as usize,
             b"at most 200 parentheses may be open, and this would be one more\n",
         ),
         ParseFault::Trailing(place) => explained(
             alloc,
             text,
-            place,
+            place as usize,
             b"a program is one term, and ends before this; `(do ..)` puts terms in a row\n",
         ),
         ParseFault::NoMemory => Err(NoMemory),
@@ -57,7 +57,7 @@ fn unexpected(alloc: Global, text: &[u8], place: u32, want: Want) -> Result<Vec<
     if found.is_none() || want == Want::Closing {
         append_open(alloc, &mut message, text, &tokens, place)?;
     }
-    explained(alloc, text, place, &message)
+    explained(alloc, text, place as usize, &message)
 }
 
 /// The name that nothing binds.
@@ -66,11 +66,9 @@ fn unknown(alloc: Global, text: &[u8], place: u32) -> Result<Vec<u8>, NoMemory>
     ensures { IfOk result (λ page. IsExplained text.now place page.items) }
 {
     let tokens = tokens_of(alloc, text)?;
-    let found = token_at(text, &tokens, place);
-    let mut message = Vec::new(alloc);
-    append(&mut message, b"nothing around this place binds the name ")?;
-    append_found(&mut message, text, found)?;
-    explained(alloc, text, place, &message)
+    let mut message = Vec::from_slice(alloc, b"nothing around this place binds the name ")?;
+    append_found(&mut message, text, token_at(text, &tokens, place))?;
+    explained(alloc, text, place as usize, &message)
 }
 
 /// What must stand somewhere, in words.
@@ -132,7 +130,7 @@ fn append_open(
     let Some(at) = places.last() else {
         return Ok(());
     };
-    let page = explained(alloc, text, *at, b"")?;
+    let page = explained(alloc, text, *at as usize, b"")?;
     append(message, b"the parenthesis that is to be closed:\n")?;
     append(message, &page)
 }

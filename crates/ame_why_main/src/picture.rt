@@ -57,18 +57,16 @@ fn is_cut(entries: &[Entry]) -> bool {
 /// One more than the greatest number of a seat.
 fn seats_of(mades: &Mades) -> u32 {
     let mut seats = 1;
-    for made in mades.as_slice() {
-        if made.seat >= seats && made.seat < 32 {
-            seats = made.seat + 1;
-        }
+    for pick in mades.picks() {
+        seats = seats.max(u32::from(pick.seat) + 1);
     }
     seats
 }
 
-/// The picks of a run, as a picture shows them.
+/// The picks of a run, as a picture shows them; of those past the most that are drawn, one.
 fn picks_of(alloc: Global, mades: &Mades, is_cut: bool) -> Result<Vec<Pick>, NoMemory> {
     let mut picks = Vec::new(alloc);
-    for made in mades.as_slice() {
+    for made in mades.iter().take(MOST_PICKS + 1) {
         push(
             &mut picks,
             Pick {

@@ -19,7 +19,9 @@ use std::rt::Files;
 use std::sync::Wait;
 use std::thread::Threads;
 
-/// Runs what the words ask for, and writes what is asked for of it. The answer is the status of the process.
+/// Runs what the words ask for, and writes what is asked for of it. A view stands before the verdict line, which goes to the standard error
+/// where the view is an input of another call; where no run was begun, the verdict line stands first, and then why. The answer is the status of
+/// the process.
 pub fn show<R, S, W>(
     rt: &R,
     words: Vec<String>,
@@ -33,9 +35,26 @@ where
     S: Source + Drop,
     W: io::Write + Send + Drop,
 {
-    match asked.view {
-        View::Why => show_run(rt, words, source, origin, writer),
-        _ => show_view(rt, words, source, asked, origin, writer),
+    if asked.view == View::Why {
+        return show_run(rt, words, source, origin, writer);
+    }
+    let alloc = rt.alloc();
+    let mut source = source;
+    let chosen = chosen_of(alloc, &words);
+    let report = run_process(rt, alloc, Ok(words), &mut source, StdSink::new(io::sink()));
+    let begun = report.ended.is_some();
+    match told(alloc, asked.view, &report, source.bytes(), chosen, origin) {
+        Ok(page) => {
+            if let Some(file) = &asked.same {
+                return compare(rt, file.as_str(), &page, writer);
+            }
+            let number = write(writer, &page, report.status.number());
+            if begun && asked.view.is_input() {
+                let _ = rt.eprint(report.status.line().as_str());
+            }
+            number
+        }
+        Err(NoMemory) => write(writer, b"no memory\n", 9),
     }
 }
 
@@ -79,41 +98,6 @@ fn end_run<K: Sink>(
     sink.release()?;
     let _ = sink.pass(&page);
     Ok(())
-}
-
-/// Writes what is asked for of a run, and then the verdict line, which goes to the standard error where the view is an input of another
-/// call; where no run was begun, the verdict line, and then why.
-fn show_view<R, S, W>(
-    rt: &R,
-    words: Vec<String>,
-    source: Kept<S>,
-    asked: Asked,
-    origin: Origin<'_>,
-    writer: W,
-) -> u8
-where
-    R: AllocGlobal + Threads + Wait + Sync + Eprint + Files,
-    S: Source + Drop,
-    W: io::Write + Send + Drop,
-{
-    let alloc = rt.alloc();
-    let mut source = source;
-    let chosen = chosen_of(alloc, &words);
-    let report = run_process(rt, alloc, Ok(words), &mut source, StdSink::new(io::sink()));
-    let begun = report.ended.is_some();
-    match told(alloc, asked.view, &report, source.bytes(), chosen, origin) {
-        Ok(page) => {
-            if let Some(file) = &asked.same {
-                return compare(rt, file.as_str(), &page, writer);
-            }
-            let number = write(writer, &page, report.status.number());
-            if begun && asked.view.is_input() {
-                let _ = rt.eprint(report.status.line().as_str());
-            }
-            number
-        }
-        Err(NoMemory) => write(writer, b"no memory\n", 9),
-    }
 }
 
 /// What is written of a run.

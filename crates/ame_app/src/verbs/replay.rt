@@ -3,11 +3,8 @@
 ghost use Rattle.std.specs.Prelude.{◌≡◌, ◌≤◌, ◌⊎◌, IfOk, IfErr, length, vec_len};
 ghost use Rattle.std.specs.Arc.{arc_value};
 ghost use Rattle.ame_cli.specs.Ranges.{AreInRange};
-ghost use Rattle.ame_code.specs.Code.{program_of};
-ghost use Rattle.ame_eval.specs.Values.{value_meant};
 ghost use Rattle.ame_shell.specs.Ends.{ends_of};
-ghost use Rattle.ame_shell.specs.Over.{IsOver};
-ghost use Rattle.ame_app.specs.Headline.{limits_of};
+ghost use Rattle.ame_app.specs.Jobs.{IsOverWith};
 ghost use Rattle.ame_app.specs.Verbs.Replay.{TakesScheduled, HasNoSchedule, IsPickedAsListed};
 ghost use Rattle.ame_app.specs.declared.status.Status.{Status as Told};
 
@@ -56,7 +53,7 @@ where
     D: Device,
     requires ranges { AreInRange options }
     requires devices { (arc_value code.now).accepted.devices ≡ vec_len devices }
-    ensures over { IfOk result (λ made. IsOver (program_of (arc_value code.now)) (limits_of options) (value_meant (arc_value code.now))
+    ensures over { IfOk result (λ made. IsOverWith options (arc_value code.now)
         (ends_of K.written K.faults D.device_heard D.device_faults sink devices.items) made.left.ended
         (ends_of K.written K.faults D.device_heard D.device_faults made.left.sink made.left.devices.items)) }
     ensures own { IfOk result (λ made. IsPickedAsListed front.now options.workers made.own made.left.ended) }

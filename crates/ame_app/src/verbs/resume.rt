@@ -1,26 +1,22 @@
 //! `resume`: a run that goes on from a certificate.
 
-ghost use Rattle.std.specs.Prelude.{◌≡◌, All, IfErr, IfOk, List, Some, length, vec_len, ℕ, ℤ};
+ghost use Rattle.std.specs.Prelude.{◌≡◌, All, IfErr, IfOk, List, length, vec_len, ℕ, ℤ};
 ghost use Rattle.std.specs.Arc.{arc_value};
-ghost use Rattle.ame_term.specs.Tree.{Tree};
 ghost use Rattle.ame_journal.specs.JournalView.{IsFit};
-ghost use Rattle.ame_journal.specs.Replay.{replay};
-ghost use Rattle.ame_journal.specs.Replayed.{Replayed};
 ghost use Rattle.ame_journal.specs.Totals.{without_notes};
-ghost use Rattle.ame_check.specs.Judge.{LeadsTo, IsTallAt};
+ghost use Rattle.ame_check.specs.Judge.{IsPlace, LeadsTo, IsTallAt};
 ghost use Rattle.ame_cli.specs.Ranges.{AreInRange};
 ghost use Rattle.ame_cli.specs.declared.command.Command.{Command as Asked};
 ghost use Rattle.ame_code.specs.Code.{program_of};
 ghost use Rattle.ame_code.specs.FlatCode.{FlatCode};
-ghost use Rattle.ame_engine.specs.Resuming.{AreActs, FailsToResume, HasResumed, IsFar};
+ghost use Rattle.ame_engine.specs.Resuming.{AreActs, FailsToResume, IsFar};
 ghost use Rattle.ame_engine.specs.Whole.{AreLimits};
-ghost use Rattle.ame_eval.specs.Values.{value_meant};
 ghost use Rattle.ame_shell.specs.Ends.{ends_of};
-ghost use Rattle.ame_shell.specs.Over.{IsOverSince};
-ghost use Rattle.ame_app.specs.Jobs.{fragments, IsEngineOn, IsOutlook};
+ghost use Rattle.ame_app.specs.Jobs.{HasGoneOn, IsEngineOn, IsOutlook, IsOverFrom, IsReplayable};
 ghost use Rattle.ame_app.specs.Verbs.Check.{entries_before as entries_in};
 ghost use Rattle.ame_app.specs.Verbs.Resume.{TellsResumed};
 
+use crate::limits::limits_of;
 use crate::parts::{Front, Own};
 use crate::status::Status;
 use crate::verbs::check::entries_before;
@@ -33,7 +29,6 @@ use ame_engine::{Engine, ResumeFail};
 use ame_eval::Fragment;
 use ame_io::Sink;
 use ame_journal::{Entry, Journal};
-use ame_protocol::Limits;
 use ame_team::resume_by_workers;
 use ame_term::{Copied, NoMemory};
 use ame_worker::Gate;
@@ -67,7 +62,7 @@ fn acts_among(entries: &[Entry]) -> usize
 /// What is told of a journal whose entry at a place, from 1, passes a form that would become too high a value: its place without the
 /// notes, unless it is one itself. That is want of memory, since no run goes on from it.
 fn tall(alloc: Global, front: &Front, options: Options, place: u64) -> Result<Outlook, NoMemory>
-    requires tall { (program : Tree) × IsTallAt program (entries_in front.now) place }
+    requires place { IsPlace (entries_in front.now) place }
     ensures { IfOk result (λ outlook. (code : FlatCode) → IsTallAt (program_of code) (entries_in front.now) place
         → IsOutlook (Asked.Resume options) front.now code outlook) }
 {
@@ -91,7 +86,7 @@ pub(crate) fn engine_on(
 ) -> Result<Engine<Fragment>, ResumeFail>
     requires ranges { AreInRange options }
     requires acts { AreActs base.entries }
-    requires leads { (led : Replayed) × (replay (program_of (arc_value code.now)) base.entries ≡ Some led) }
+    requires leads { IsReplayable (program_of (arc_value code.now)) base.entries }
     ensures on { IfOk result (IsEngineOn options base.entries (arc_value code.now)) }
     ensures near { IfOk result (λ _. (n : ℕ) → IsFar base.entries n → ⊥) }
     ensures fail { IfErr result (FailsToResume (program_of (arc_value code.now)) base.entries) }
@@ -99,11 +94,7 @@ pub(crate) fn engine_on(
     let Ok(code) = Arc::try_clone(code) else {
         return Err(ResumeFail::NoMemory);
     };
-    let limits = Limits {
-        turns: options.turns,
-        slice: options.slice,
-        seats: options.workers,
-    };
+    let limits = limits_of(options);
     Engine::<Fragment>::resume(alloc, code, limits, base)
 }
 
@@ -171,11 +162,11 @@ where
     K: Sink + Send + Drop,
     D: Device + Send,
     G: Gate + Sync,
-    requires resumed { HasResumed fragments engine.limits engine.base engine }
+    requires resumed { HasGoneOn engine }
     requires limits { AreLimits engine.limits }
     requires code { arc_value code.now ≡ engine.code }
     requires devices { engine.code.accepted.devices ≡ vec_len devices }
-    ensures over { IfOk result (λ made. IsOverSince engine.base (program_of engine.code) engine.limits (value_meant engine.code)
+    ensures over { IfOk result (λ made. IsOverFrom engine
         (ends_of K.written K.faults D.device_heard D.device_faults sink devices.items) made.left.ended
         (ends_of K.written K.faults D.device_heard D.device_faults made.left.sink made.left.devices.items)) }
     ensures own { IfOk result (λ made. TellsResumed made.own made.left.ended) }

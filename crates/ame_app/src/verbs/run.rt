@@ -2,14 +2,12 @@
 
 ghost use Rattle.std.specs.Prelude.{◌≡◌, IfOk, IfErr, vec_len};
 ghost use Rattle.std.specs.Arc.{arc_value};
-ghost use Rattle.ame_app.specs.Headline.{limits_of};
-ghost use Rattle.ame_app.specs.Verbs.Run.{TakesAll, HasNothing};
 ghost use Rattle.ame_cli.specs.Ranges.{AreInRange};
-ghost use Rattle.ame_code.specs.Code.{program_of};
-ghost use Rattle.ame_eval.specs.Values.{value_meant};
 ghost use Rattle.ame_shell.specs.Ends.{ends_of};
-ghost use Rattle.ame_shell.specs.Over.{IsOver};
+ghost use Rattle.ame_app.specs.Jobs.{IsOverWith};
+ghost use Rattle.ame_app.specs.Verbs.Run.{TakesAll, HasNothing};
 
+use crate::limits::limits_of;
 use crate::parts::{Front, Own};
 use crate::verbs::{Made, Taken};
 use ame_cli::Options;
@@ -17,7 +15,6 @@ use ame_code::Code;
 use ame_device::Device;
 use ame_eval::Fragment;
 use ame_io::Sink;
-use ame_protocol::Limits;
 use ame_team::run_by_workers;
 use ame_worker::Gate;
 use std::alloc::Global;
@@ -52,7 +49,7 @@ where
     G: Gate + Sync,
     requires ranges { AreInRange options }
     requires devices { (arc_value code.now).accepted.devices ≡ vec_len devices }
-    ensures over { IfOk result (λ made. IsOver (program_of (arc_value code.now)) (limits_of options) (value_meant (arc_value code.now))
+    ensures over { IfOk result (λ made. IsOverWith options (arc_value code.now)
         (ends_of K.written K.faults D.device_heard D.device_faults sink devices.items) made.left.ended
         (ends_of K.written K.faults D.device_heard D.device_faults made.left.sink made.left.devices.items)) }
     ensures own { IfOk result (λ made. HasNothing made.own) }
@@ -62,11 +59,7 @@ where
     let Ok(code) = Arc::try_clone(code) else {
         return Err((sink, devices));
     };
-    let limits = Limits {
-        turns: options.turns,
-        slice: options.slice,
-        seats: options.workers,
-    };
+    let limits = limits_of(options);
     match run_by_workers::<Fragment, K, D, G, R>(rt, alloc, code, limits, sink, devices, gate) {
         Ok(left) => Ok(Made {
             left,

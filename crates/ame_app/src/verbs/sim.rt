@@ -4,19 +4,17 @@ ghost use Rattle.std.specs.Prelude.{◌≡◌, ◌≤◌, ◌<◌, All, IfOk, If
 ghost use Rattle.std.specs.Arc.{arc_value};
 ghost use Rattle.std.specs.Io.KnownBytes.{Appends};
 ghost use Rattle.ame_cli.specs.Ranges.{AreInRange};
-ghost use Rattle.ame_code.specs.Code.{program_of};
-ghost use Rattle.ame_eval.specs.Values.{value_meant};
 ghost use Rattle.ame_io.specs.Counts.{HasRisen};
 ghost use Rattle.ame_io.specs.Writes.{AppendsFront};
 ghost use Rattle.ame_app.specs.Verbs.Sim.{IsPicked, mades_in, seats_picked, schedule_behind};
 ghost use Rattle.ame_app.specs.declared.parts.Own.{Own as Owned};
-ghost use Rattle.ame_app.specs.Headline.{limits_of};
+ghost use Rattle.ame_app.specs.Jobs.{IsOverWith};
 ghost use Rattle.ame_shell.specs.Ends.{ends_of};
-ghost use Rattle.ame_shell.specs.Over.{IsOver};
 ghost use Rattle.ame_sim.specs.Picks.{picks_of};
 ghost use Rattle.ame_sim.specs.Questions.{seats_of};
 ghost use Rattle.ame_sim.specs.Schedule.{schedule_line, signs};
 
+use crate::limits::limits_of;
 use crate::lists::Mades;
 use crate::parts::Own;
 use crate::status::Status;
@@ -26,8 +24,7 @@ use ame_code::Code;
 use ame_device::Device;
 use ame_eval::Fragment;
 use ame_io::{Sink, WriteFault, write_all};
-use ame_protocol::Limits;
-use ame_sim::{Chooser, Made as Done, run_by_chooser, sign_of};
+use ame_sim::{Chooser, Picked, run_by_chooser, sign_of};
 use arrayvec::ArrayVec;
 use std::alloc::Global;
 use std::sync::Arc;
@@ -50,7 +47,7 @@ where
     H: Chooser,
     requires ranges { AreInRange options }
     requires devices { (arc_value code.now).accepted.devices ≡ vec_len devices }
-    ensures over { IfOk result (λ made. IsOver (program_of (arc_value code.now)) (limits_of options) (value_meant (arc_value code.now))
+    ensures over { IfOk result (λ made. IsOverWith options (arc_value code.now)
         (ends_of K.written K.faults D.device_heard D.device_faults sink devices.items) made.left.ended
         (ends_of K.written K.faults D.device_heard D.device_faults made.left.sink made.left.devices.items)) }
     ensures own { IfOk result (λ made. IsPicked (H.strategy chooser.old) options.workers made.own made.left.ended) }
@@ -60,15 +57,11 @@ where
     let Ok(code) = Arc::try_clone(code) else {
         return Err((sink, devices));
     };
-    let limits = Limits {
-        turns: options.turns,
-        slice: options.slice,
-        seats: options.workers,
-    };
+    let limits = limits_of(options);
     match run_by_chooser::<Fragment, K, D, H>(alloc, code, limits, sink, devices, chooser) {
         Ok(played) => Ok(Made {
             left: played.left,
-            own: Own::Picked(Mades::from_vec(played.mades)),
+            own: Own::Picked(Mades::of_run(played.mades)),
         }),
         Err(back) => Err(back),
     }
@@ -82,13 +75,13 @@ fn has_schedule(told: &Status) -> bool
     !matches!(told, Status::NoMemory | Status::WriteFault)
 }
 
-/// What picks did, where the report has it.
-fn mades_of(own: &Own) -> &[Done]
-    ensures value { result.now ≡ mades_in own.now }
-    ensures low { All (λ made. made.seat < 32) result.now }
+/// The picks, where the report has them.
+fn picks_in(own: &Own) -> &[Picked]
+    ensures value { result.now ≡ picks_of (mades_in own.now) }
+    ensures low { All (λ pick. pick.seat < 32) result.now }
 {
     match own {
-        Own::Picked(mades) => mades.as_slice(),
+        Own::Picked(mades) => mades.picks(),
         Own::Nothing | Own::Unmade(_) | Own::Resumed(_) | Own::Weak(_) => &[],
     }
 }
@@ -107,34 +100,34 @@ pub(crate) fn write_behind<K: Sink>(
     if !has_schedule(told) {
         return Ok(());
     }
-    write_schedule(sink, mades_of(own))
+    write_schedule(sink, picks_in(own))
 }
 
 /// Writes the line of a schedule.
-fn write_schedule<K: Sink>(sink: &mut K, mades: &[Done]) -> Result<(), WriteFault>
-    requires seats { All (λ made. made.seat < 32) mades.now }
-    ensures whole { OnOk result (Appends (K.written sink.old) (K.written sink.new) (schedule_line (seats_of (picks_of mades.now)))) }
+fn write_schedule<K: Sink>(sink: &mut K, picks: &[Picked]) -> Result<(), WriteFault>
+    requires seats { All (λ pick. pick.seat < 32) picks.now }
+    ensures whole { OnOk result (Appends (K.written sink.old) (K.written sink.new) (schedule_line (seats_of picks.now))) }
     ensures stayed { OnOk result (K.faults sink.new ≡ K.faults sink.old) }
-    ensures front { OnErr result (AppendsFront (K.written sink.old) (K.written sink.new) (schedule_line (seats_of (picks_of mades.now)))) }
+    ensures front { OnErr result (AppendsFront (K.written sink.old) (K.written sink.new) (schedule_line (seats_of picks.now))) }
     ensures risen { OnErr result (HasRisen (K.faults sink.old) (K.faults sink.new)) }
 {
     write_all(sink, b"schedule ")?;
-    write_signs(sink, mades)?;
+    write_signs(sink, picks)?;
     write_all(sink, b"\n")
 }
 
 /// Writes a sign for each pick, some at a time.
-fn write_signs<K: Sink>(sink: &mut K, mades: &[Done]) -> Result<(), WriteFault>
-    requires seats { All (λ made. made.seat < 32) mades.now }
-    ensures whole { OnOk result (Appends (K.written sink.old) (K.written sink.new) (signs (seats_of (picks_of mades.now)))) }
+fn write_signs<K: Sink>(sink: &mut K, picks: &[Picked]) -> Result<(), WriteFault>
+    requires seats { All (λ pick. pick.seat < 32) picks.now }
+    ensures whole { OnOk result (Appends (K.written sink.old) (K.written sink.new) (signs (seats_of picks.now))) }
     ensures stayed { OnOk result (K.faults sink.new ≡ K.faults sink.old) }
-    ensures front { OnErr result (AppendsFront (K.written sink.old) (K.written sink.new) (signs (seats_of (picks_of mades.now)))) }
+    ensures front { OnErr result (AppendsFront (K.written sink.old) (K.written sink.new) (signs (seats_of picks.now))) }
     ensures risen { OnErr result (HasRisen (K.faults sink.old) (K.faults sink.new)) }
 {
     let mut gone = 0;
-    'pieces: while gone < mades.len() {
-        let next = mades.len().min(gone + PIECE);
-        let piece = signs_of(&mades[gone..next]);
+    'pieces: while gone < picks.len() {
+        let next = picks.len().min(gone + PIECE);
+        let piece = signs_of(&picks[gone..next]);
         write_all(sink, piece.as_slice())?;
         gone = next;
     }
@@ -142,14 +135,14 @@ fn write_signs<K: Sink>(sink: &mut K, mades: &[Done]) -> Result<(), WriteFault>
 }
 
 /// The signs of some picks.
-fn signs_of(mades: &[Done]) -> ArrayVec<u8, PIECE>
-    requires seats { All (λ made. made.seat < 32) mades.now }
-    requires few { length mades.now ≤ PIECE }
-    ensures { result.items ≡ signs (seats_of (picks_of mades.now)) }
+fn signs_of(picks: &[Picked]) -> ArrayVec<u8, PIECE>
+    requires seats { All (λ pick. pick.seat < 32) picks.now }
+    requires few { length picks.now ≤ PIECE }
+    ensures { result.items ≡ signs (seats_of picks.now) }
 {
     let mut signs = ArrayVec::new();
-    for made in mades {
-        signs.push(sign_of(made.seat));
+    for pick in picks {
+        signs.push(sign_of(u32::from(pick.seat)));
     }
     signs
 }

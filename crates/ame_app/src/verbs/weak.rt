@@ -2,24 +2,16 @@
 
 ghost use Rattle.std.specs.Prelude.{◌≡◌, [], IfErr, IfOk, OnErr, OnOk, List, Some, length, map, vec_len, ℕ};
 ghost use Rattle.std.specs.Arc.{arc_value};
-ghost use Rattle.ame_cli.specs.Items.{bounds_of};
-ghost use Rattle.ame_cli.specs.Ranges.{AreInRange, IsInBounds};
-ghost use Rattle.ame_cli.specs.Verbs.{seeds};
-ghost use Rattle.ame_cli.specs.declared.item.Item.TheVariants.{Turns};
+ghost use Rattle.ame_cli.specs.Ranges.{AreInRange, IsInRange};
+ghost use Rattle.ame_cli.specs.declared.command.Command.{Command as Asked};
 ghost use Rattle.ame_code.specs.Code.{program_of};
-ghost use Rattle.ame_device.specs.Calls.{all_told};
 ghost use Rattle.ame_device.specs.declared.told.Told.{Told};
-ghost use Rattle.ame_eval.specs.Values.{value_meant};
-ghost use Rattle.ame_engine.specs.Resuming.{AreActs, HasResumed};
-ghost use Rattle.ame_journal.specs.Replay.{replay};
-ghost use Rattle.ame_journal.specs.Replayed.{Replayed};
-ghost use Rattle.ame_journal.specs.Totals.{without_notes};
+ghost use Rattle.ame_engine.specs.Resuming.{AreActs};
 ghost use Rattle.ame_term.specs.Tree.{Tree};
 ghost use Rattle.ame_term.specs.View.{tree_of};
 ghost use Rattle.ame_runner.specs.Ended.{IsWeakRunOf, TellsStop};
 ghost use Rattle.ame_shell.specs.Ends.{ends_of};
-ghost use Rattle.ame_app.specs.Headline.{limits_of};
-ghost use Rattle.ame_app.specs.Jobs.{fragments, certificate_told, certificates_told, stop_told, IsEngineOn, IsTakenApart, IsWeakRunMade, TellsWeakly};
+ghost use Rattle.ame_app.specs.Jobs.{certificate_told, certificates_told, stop_told, HasGoneOn, IsEngineBehind, IsEngineOn, IsReplayable, IsTakenFrom, IsWeakRunMade, TellsWeakly};
 ghost use Rattle.ame_app.specs.Verbs.Weak.{alone_with};
 
 use crate::parts::{Own, Weakened};
@@ -92,7 +84,7 @@ fn straightened(
     run: WeakRun,
 ) -> Result<Weakened, NoMemory>
     requires run { IsWeakRunOf (tree_of accepted.now.program.term) limit run.labels.items run.tries.items run.stop }
-    ensures leads { IfOk result (λ weakened. (led : Replayed) × (replay (tree_of accepted.now.program.term) weakened.journal.entries ≡ Some led)) }
+    ensures leads { IfOk result (λ weakened. IsReplayable (tree_of accepted.now.program.term) weakened.journal.entries) }
     ensures tells { IfOk result (λ weakened. (before after : List Told) → length after ≡ length before
         → TellsStop (tree_of accepted.now.program.term) limit run.labels.items run.tries.items run.turns before after run.stop
         → TellsWeakly (tree_of accepted.now.program.term) limit weakened before after) }
@@ -139,9 +131,9 @@ fn engine_at(
     turns: u32,
     base: Journal,
 ) -> Result<Engine<Fragment>, NoMemory>
-    requires turns { IsInBounds (bounds_of Turns) turns }
+    requires ranges { AreInRange (alone_with turns) }
     requires acts { AreActs base.entries }
-    requires leads { (led : Replayed) × (replay (program_of (arc_value code.now)) base.entries ≡ Some led) }
+    requires leads { IsReplayable (program_of (arc_value code.now)) base.entries }
     ensures { IfOk result (IsEngineOn (alone_with turns) base.entries (arc_value code.now)) }
 {
     match engine_on(alloc, code, alone_with(turns), base) {
@@ -157,12 +149,12 @@ fn opened(
     limit: u32,
     run: WeakRun,
 ) -> Result<(Weakened, Engine<Fragment>), NoMemory>
-    requires turns { IsInBounds (bounds_of Turns) limit }
+    requires ranges { AreInRange (alone_with limit) }
     requires run { IsWeakRunOf (program_of (arc_value code.now)) limit run.labels.items run.tries.items run.stop }
     ensures tells { IfOk result (λ opened. (before after : List Told) → length after ≡ length before
         → TellsStop (program_of (arc_value code.now)) limit run.labels.items run.tries.items run.turns before after run.stop
         → TellsWeakly (program_of (arc_value code.now)) limit opened.0 before after) }
-    ensures engine { IfOk result (λ opened. IsEngineOn (alone_with limit) (without_notes opened.0.journal.entries) (arc_value code.now) opened.1) }
+    ensures engine { IfOk result (λ opened. IsEngineBehind opened.0 limit (arc_value code.now) opened.1) }
 {
     let weakened = straightened(alloc, code.accepted(), limit, run)?;
     let base = acts_of(alloc, weakened.journal.entries())?;
@@ -179,13 +171,13 @@ fn opened_or(
     run: WeakRun,
     blank: Engine<Fragment>,
 ) -> (Weakened, Engine<Fragment>)
-    requires turns { IsInBounds (bounds_of Turns) limit }
+    requires ranges { AreInRange (alone_with limit) }
     requires run { IsWeakRunOf (program_of (arc_value code.now)) limit run.labels.items run.tries.items run.stop }
     requires blank { IsEngineOn (alone_with limit) [] (arc_value code.now) blank }
     ensures tells { (before after : List Told) → length after ≡ length before
         → TellsStop (program_of (arc_value code.now)) limit run.labels.items run.tries.items run.turns before after run.stop
         → TellsWeakly (program_of (arc_value code.now)) limit result.0 before after }
-    ensures engine { IsEngineOn (alone_with limit) (without_notes result.0.journal.entries) (arc_value code.now) result.1 }
+    ensures engine { IsEngineBehind result.0 limit (arc_value code.now) result.1 }
 {
     let used = run.turns;
     match opened(alloc, code, limit, run) {
@@ -211,8 +203,8 @@ fn take_apart<K: Sink, D: Drop>(
     sink: K,
     devices: Vec<D>,
 ) -> Remains<Val, K, D>
-    requires resumed { HasResumed fragments engine.limits engine.base engine }
-    ensures apart { (told later : List Told) → IsTakenApart engine.base (program_of engine.code) engine.limits (value_meant engine.code) result.ended
+    requires resumed { HasGoneOn engine }
+    ensures apart { (told later : List Told) → IsTakenFrom engine result.ended
         (record { written = K.written sink; write_faults = K.faults sink; told = told })
         (record { written = K.written result.sink; write_faults = K.faults result.sink; told = later }) }
     ensures devices { result.devices ≡ devices }
@@ -241,8 +233,7 @@ pub(crate) fn run<K, D>(
 where
     K: Sink + Drop,
     D: Device,
-    requires seed { IsInBounds seeds seed }
-    requires turns { IsInBounds (bounds_of Turns) turns }
+    requires range { IsInRange (Asked.Weak seed turns) }
     ensures made { IfOk result (λ made. IsWeakRunMade turns (arc_value code.now)
         (ends_of K.written K.faults D.device_heard D.device_faults sink devices.items) made.own made.left.ended
         (ends_of K.written K.faults D.device_heard D.device_faults made.left.sink made.left.devices.items)) }

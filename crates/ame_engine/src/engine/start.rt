@@ -3,7 +3,8 @@
 ghost use Rattle.std.specs.Prelude.{◌≡◌, IfOk, replicate};
 ghost use Rattle.std.specs.Arc.{arc_value};
 ghost use Rattle.ame_protocol.specs.Engine.Events.{started};
-ghost use Rattle.ame_protocol.specs.Event.Counting.{nothing_counted};
+ghost use Rattle.ame_protocol.specs.Event.State.{started_state};
+ghost use Rattle.ame_engine.specs.Makes.{state_of};
 ghost use Rattle.ame_engine.specs.Seen.{parts_of};
 ghost use Rattle.ame_engine.specs.Whole.{AreLimits};
 
@@ -39,7 +40,8 @@ where
         ensures code { IfOk result (λ engine. engine.code ≡ arc_value code) }
         ensures parts { IfOk result (λ engine. parts_of M.meaning engine
             ≡ started (M.meaning.program (arc_value code)) (M.meaning.devices (arc_value code)) limits 0) }
-        ensures counters { IfOk result (λ engine. engine.counters ≡ nothing_counted) }
+        ensures state { IfOk result (λ engine. state_of M.meaning engine
+            ≡ started_state (M.meaning.program (arc_value code)) (M.meaning.devices (arc_value code)) limits) }
     {
         let machine = M::start(alloc, &code)?;
         let memory = Memory::new(alloc, Store::new(alloc), limits.seats)?;

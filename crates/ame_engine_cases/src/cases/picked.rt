@@ -7,7 +7,7 @@ use ame_engine::Stop;
 use ame_gen::SEED_LIMIT;
 use ame_io::MemSink;
 use ame_protocol::Limits;
-use ame_sim::{Chooser, Drawn, Listed, Made, Played, read_schedule, schedule_line};
+use ame_sim::{Chooser, Drawn, Listed, PackedMades, Played, read_schedule, schedule_line};
 use ame_turn::Deed;
 use ame_value::Val;
 use std::alloc::Global;
@@ -46,11 +46,11 @@ const BANK: &str = "\
 ))))))))))))))";
 
 /// The line of the seats that were picked.
-fn line_of(rt: &impl Abort, alloc: Global, mades: &[Made]) -> Result<Vec<u8>, Fail> {
+fn line_of(rt: &impl Abort, alloc: Global, mades: &PackedMades) -> Result<Vec<u8>, Fail> {
     let mut seats = Vec::new(alloc);
-    for made in mades {
-        assert!(rt; made.seat < 32);
-        seats.push(made.seat)?;
+    for pick in mades.picks() {
+        assert!(rt; pick.seat < 32);
+        seats.push(u32::from(pick.seat))?;
     }
     assert!(rt; seats.iter().all(|seat| *seat < 32));
     Ok(schedule_line(alloc, &seats)?)
@@ -92,7 +92,7 @@ fn tells(
 ) -> Result<(), Fail> {
     let ended = &played.left.ended;
     let line = line_of(rt, alloc, &played.mades)?;
-    let idles = played.mades.iter().filter(|made| made.deed == Deed::Waited);
+    let idles = played.mades.picks().iter().filter(|pick| pick.waited);
     assert_eq!(rt; line.as_slice(), story.schedule.as_bytes());
     assert_eq!(rt;
         text_of(rt, alloc, ended.journal())?.as_slice(),
@@ -158,7 +158,7 @@ const MEETING: &[Told] = &[
     (0, None, Deed::Stopped, None),
 ];
 
-fn are_told(rt: &impl Abort, mades: &[Made], told: &[Told]) {
+fn are_told(rt: &impl Abort, mades: &PackedMades, told: &[Told]) {
     assert_eq!(rt; mades.len(), told.len());
     for (made, told) in mades.iter().zip(told.iter()) {
         assert_eq!(rt; (made.seat, made.member, made.deed, made.place), *told);

@@ -6,7 +6,7 @@ use ame_device::Counter;
 use ame_eval::Fragment;
 use ame_io::MemSink;
 use ame_protocol::Limits;
-use ame_sim::{Chooser, Listed, Made, Played, run_by_chooser};
+use ame_sim::{Chooser, Listed, PackedMades, Played, run_by_chooser};
 use ame_turn::Deed;
 use ame_value::Val;
 use std::alloc::Global;
@@ -55,7 +55,7 @@ fn seats_of(alloc: Global, turns: &[(u32, Deed)]) -> Result<Vec<u32>, Fail> {
 }
 
 /// Each pick did what the turn in its place did.
-fn are_turns(rt: &impl Abort, text: &str, mades: &[Made], turns: &[(u32, Deed)]) {
+fn are_turns(rt: &impl Abort, text: &str, mades: &PackedMades, turns: &[(u32, Deed)]) {
     assert!(rt; mades.len() <= turns.len(), "{text}");
     for (made, turn) in mades.iter().zip(turns.iter()) {
         assert_eq!(rt; (made.seat, made.deed), *turn, "{text}");

@@ -1,6 +1,7 @@
 //! How a visit that called no device ends.
 
 ghost use Rattle.std.specs.Prelude.{◌≡◌, ◌<◌, ◌≤◌, OnOk, OnErr, None, true, []};
+ghost use Rattle.ame_machine.specs.RefSorts.{IsRefForm};
 ghost use Rattle.ame_protocol.specs.Engine.Parts.{task_at};
 ghost use Rattle.ame_engine.specs.Seen.{parts_of};
 ghost use Rattle.ame_engine.specs.Makes.{MakesAt};
@@ -37,7 +38,7 @@ where
         requires visit { IsVisitTo (parts_of M.meaning self.old) attempt.tried.number None (M.meaning.stage self.old.code at)
             (changed_by (M.meaning.value_of self.old.code) change (parts_of M.meaning self.old).memory) }
         requires low { attempt.tried.steps ≤ (M.meaning.stage self.old.code at).steps }
-        requires good { IsGoodChange (M.meaning.is_value self.old.code) change }
+        requires good { IsGoodChange (M.meaning.is_value self.old.code) (IsRefForm (M.meaning.program self.old.code)) change }
         requires fits { CanChange self.old.memory change }
         requires lone { makes_cell change ≡ true → (M.meaning.stage self.old.code at).spawns ≡ [] }
         ensures event { OnOk result (MakesAt M.meaning (M.meaning.stage self.old.code at) None

@@ -5,6 +5,7 @@ use Rattle.std.specs.List.{Contains}
 use Rattle.ame_sim.specs.Crew.{AreResting, left_to_play}
 use Rattle.ame_sim.specs.Run.{IsPlaying}
 use Rattle.ame_sim.proofs.PlayLemmas.{IsNoted, answered-noted, later-is, noted-is, play-less, playing-more, resting-more, seat-within, some-may, waits-long, waits-noted, was-asked, who-asked}
+use Rattle.ame_sim.proofs.PlainLemmas.{played-plain}
 use Rattle.ame_sim.proofs.run.pick.Given as given
 use Rattle.ame_sim.proofs.run.pick.Goals as goal
 
@@ -37,6 +38,20 @@ note-requires-clause-seat g c =
     let is = c.turn-made.ensures.seat in
     let same = ap length c.make_room.ensures.waits in
     omega (arith, its.0, is, same)
+
+pub note-requires-clause-byte : goal.note-requires-clause-byte
+note-requires-clause-byte g c =
+    let waits = c.args.book.now.waits in
+    let seat = c.in_ok-seat.seat in
+    let long = waits-long c.args.crew.now.core.limits.seats waits c.args.book.now.mades.items c.requires.waits in
+    let its = free-seat seat waits
+    (subst (λ may. Contains may seat) (c.may_be_picked.ensures ∙ ap may_be_picked c.make_room.ensures.waits) c.in_ok-seat.ensures.picks) in
+    let is = c.turn-made.ensures.seat in
+    let few = c.requires.limits.seats in
+    omega (arith, its.0, is, long, few)
+
+pub note-requires-clause-plain : goal.note-requires-clause-plain
+note-requires-clause-plain g c = played-plain g.M.Runner.meaning c.turn-made.result _ _ c.turn-made.ensures.played
 
 abbrev One : (g : given.Over) → goal.After-note g → Type 0
 One g c =

@@ -3,11 +3,14 @@ use Rattle.std.specs.Arc.{arc_value}
 use Rattle.ame_sim.specs.Questions.{questions, seats_of}
 use Rattle.ame_sim.specs.Strategy.{PicksSeats}
 use Rattle.ame_engine.specs.Ending.{End}
-use Rattle.ame_protocol.specs.Engine.Parts.{Parts}
+use Rattle.ame_protocol.specs.Event.Sound.{Sound}
+use Rattle.ame_protocol.specs.Event.State.{State}
+use Rattle.ame_protocol.proofs.Event.SoundLemmas.{sound-start}
 use Rattle.ame_shell.specs.Ends.{ends_of}
 use Rattle.ame_shell.specs.Shell.{Opening}
 use Rattle.ame_sim.specs.Picks.{picks_of}
 use Rattle.ame_sim.specs.Run.{IsPlaying}
+use Rattle.ame_sim.proofs.EventLemmas.{picks-run}
 use Rattle.ame_sim.proofs.PlayLemmas.{playing-none}
 use Rattle.ame_sim.proofs.run.run_by_chooser.Goals as goal
 
@@ -27,16 +30,28 @@ returns-clause-played g c =
     let first = c.in-Ok-open.crew in
     let starts = c.in-Ok-open.ensures.starts in
     let seats = first.core.limits.seats in
-    let same : seats ≡ c.args.limits.seats = ap (λ (p : Parts). p.limits.seats) starts in
-    let none = playing-none r seats first (ap (λ (p : Parts). p.turns) starts) (ap (λ (p : Parts). p.entries) starts) in
+    let same : seats ≡ c.args.limits.seats = ap (λ (s : State). s.parts.limits.seats) starts in
+    let none = playing-none r seats first (ap (λ (s : State). s.parts.turns) starts) (ap (λ (s : State). s.parts.entries) starts) in
+    let opening : Opening _ = record {
+      code = arc_value c.args.code;
+      limits = c.args.limits;
+      base = [];
+      ends = ends_of g.K.Sink.written g.K.Sink.faults g.D.Device.device_heard g.D.Device.device_faults c.args.sink c.args.devices.items;
+    } in
+    let accepted = g.met.M.Runner.accepted (arc_value c.args.code) in
+    let sound = sound-start (r.program opening.code) (r.devices opening.code) opening.limits accepted.places accepted.refs accepted.accepts accepted.source
+    c.requires.limits.some_slice in
+    let playing =
+    subst (λ n. IsPlaying r n first c.play.new.crew c.play.new.book.mades.items) same
+    (c.play.ensures.plays first (subst (IsPlaying r seats first first) (sym c.in-Ok.ensures.none) none)) in
     record {
       first = first;
       opened = c.in-Ok-open.ensures.opens;
       fresh = starts;
       now = c.play.new.crew;
-      playing =
-          subst (λ n. IsPlaying r n first c.play.new.crew c.play.new.book.mades.items) same
-          (c.play.ensures.plays first (subst (IsPlaying r seats first first) (sym c.in-Ok.ensures.none) none));
+      playing = playing;
+      run =
+          picks-run r opening c.play.new.book.mades.items first playing.last c.play.new.crew playing.plays starts (subst Sound (sym starts) sound) playing.ends;
       stopped = c.play.ensures.stopped;
       stop = ap (λ (e : End _). e.stop) c.finish.ensures.told ∙ c.unwind_all.ensures.unwound.stop;
       turns = ap (λ (e : End _). e.turns) c.finish.ensures.told ∙ c.unwind_all.ensures.unwound.turns;
@@ -49,7 +64,7 @@ returns-clause-answers g c =
     let before = g.H.Chooser.strategy c.args.chooser.now in
     let after = g.H.Chooser.strategy c.play.new.chooser in
     let seats = c.in-Ok-open.crew.core.limits.seats in
-    let same : seats ≡ c.args.limits.seats = ap (λ (p : Parts). p.limits.seats) c.in-Ok-open.ensures.starts in
+    let same : seats ≡ c.args.limits.seats = ap (λ (s : State). s.parts.limits.seats) c.in-Ok-open.ensures.starts in
     let none = subst (λ mades. PicksSeats before (questions seats (picks_of mades)) (seats_of (picks_of mades)) before) (sym c.in-Ok.ensures.none) (λ rest. refl) in
     let picked = picks_of c.play.new.book.mades.items in
     subst (λ n. PicksSeats before (questions n picked) (seats_of picked) after) same (c.play.ensures.answers before none)

@@ -1,11 +1,10 @@
-use Rattle.std.proofs.Common.{ap, subst}
-use Rattle.ame_code.specs.FlatCode.{FlatCode}
-use Rattle.ame_code.specs.Code.{program_of}
-use Rattle.ame_eval.specs.Values.{value_meant}
+use Rattle.std.proofs.Common.{◌≤◌, ap, subst, sym}
+use Rattle.std.specs.Arc.{arc_value}
+use Rattle.ame_protocol.specs.declared.types.Limits.{Limits}
 use Rattle.ame_shell.specs.Ends.{ends_of}
-use Rattle.ame_shell.specs.Over.{IsOver}
-use Rattle.ame_app.specs.Headline.{limits_of}
 use Rattle.ame_app.specs.declared.parts.Own.{Own}
+use Rattle.ame_app.specs.Verbs.Sim.{IsPicked}
+use Rattle.ame_app.proofs.OverLemmas.{over-with}
 use Rattle.ame_app.proofs.PickLemmas.{played-picked, mades-low}
 use Rattle.ame_app.proofs.verbs.sim.run.Goals as goal
 
@@ -14,15 +13,18 @@ returns-in-Ok-run_by_chooser-clause-over g c =
     let left = c.in-Ok-run_by_chooser.played.left in
     let before = ends_of g.K.Sink.written g.K.Sink.faults g.D.Device.device_heard g.D.Device.device_faults c.args.sink c.args.devices.items in
     let after = ends_of g.K.Sink.written g.K.Sink.faults g.D.Device.device_heard g.D.Device.device_faults left.sink left.devices.items in
-    subst (λ (k : FlatCode). IsOver (program_of k) (limits_of c.args.options) (value_meant k) before left.ended after)
-    c.in-Ok.ensures c.in-Ok-run_by_chooser.ensures.over
+    over-with c.args.options (arc_value c.args.code.now) _ c.limits_of-limits.result before after left.ended
+    c.in-Ok.ensures c.limits_of-limits.ensures c.in-Ok-run_by_chooser.ensures.over
 
 pub returns-in-Ok-run_by_chooser-clause-own : goal.returns-in-Ok-run_by_chooser-clause-own
 returns-in-Ok-run_by_chooser-clause-own g c =
-    played-picked _ _ (g.H.Chooser.strategy c.args.chooser.now) (g.H.Chooser.strategy c.run_by_chooser.new.chooser) _ _ _
-    (ap Own.Picked c.from_vec.ensures) c.in-Ok-run_by_chooser.ensures.played c.in-Ok-run_by_chooser.ensures.answers
+    let strategy = g.H.Chooser.strategy c.args.chooser.now in
+    subst (λ (l : Limits). IsPicked strategy l.seats (Own.Picked c.of_run.result) c.in-Ok-run_by_chooser.played.left.ended) c.limits_of-limits.ensures
+    (played-picked _ _ strategy (g.H.Chooser.strategy c.run_by_chooser.new.chooser) _ _ _
+    (ap Own.Picked c.of_run.ensures) c.in-Ok-run_by_chooser.ensures.played c.in-Ok-run_by_chooser.ensures.answers)
 
-pub from_vec-requires : goal.from_vec-requires
-from_vec-requires g c =
+pub of_run-requires : goal.of_run-requires
+of_run-requires g c =
     let played = c.in-Ok-run_by_chooser.ensures.played in
-    mades-low c.args.options.workers played.now.core.turns _ played.now.core.entries c.requires.ranges.workers.1 played.playing.told
+    mades-low c.limits_of-limits.result.seats played.now.core.turns _ played.now.core.entries
+    (subst (λ (l : Limits). l.seats ≤ 32) (sym c.limits_of-limits.ensures) c.requires.ranges.workers.1) played.playing.told

@@ -16,7 +16,7 @@ invariant_of-self-2 g c =
       whole = whole-allocated g.M.Runner.meaning
           g.M.Value.Copied.same g.met.M.Runner.same_values g.met.M.Runner.value_shown _ c.args.self.now c.self.view_is c.self.invariant.whole c.args.seat c.args.at.now
           c.in-Some-Alloc.sort c.in-Some-Alloc.number c.requires.on c.requires.allocates.outside told
-          (g.met.M.Runner.sound c.args.self.now.code c.args.at.now c.requires.on.machine) c.requires.left
+          (g.met.M.Runner.sound c.args.self.now.code c.args.at.now c.requires.on.machine) (g.met.M.Runner.forms c.args.self.now.code c.args.at.now c.requires.on.machine) c.requires.left
           c.wanted.result.now c.in_ok-value.value c.location_value-input.result good sets c.in_ok-value.ensures
           (c.location_value-input.ensures.good (arc_value c.self.inside.code)) _ (c.location_value-input.ensures.stands (arc_value c.self.inside.code)) place
           c.allocate.new.self c.in_ok-l.ensures.contents c.requires.going c.requires.early;
@@ -33,7 +33,7 @@ returns-clause-event g c =
     makes-allocated g.M.Runner.meaning
     g.M.Value.Copied.same g.met.M.Runner.same_values g.met.M.Runner.value_shown _ c.args.self.now c.self.view_is c.self.invariant.whole c.args.seat c.args.at.now
     c.in-Some-Alloc.sort c.in-Some-Alloc.number c.requires.on c.requires.allocates.outside told
-    (g.met.M.Runner.sound c.args.self.now.code c.args.at.now c.requires.on.machine) c.requires.left
+    (g.met.M.Runner.sound c.args.self.now.code c.args.at.now c.requires.on.machine) (g.met.M.Runner.forms c.args.self.now.code c.args.at.now c.requires.on.machine) c.requires.left
     c.wanted.result.now c.in_ok-value.value c.location_value-input.result good sets c.in_ok-value.ensures
     (c.location_value-input.ensures.good (arc_value c.self.inside.code)) _ (c.location_value-input.ensures.stands (arc_value c.self.inside.code)) place
     c.allocate.new.self c.in_ok-l.ensures.contents c.requires.going c.requires.early
@@ -48,7 +48,7 @@ returns-clause-runs g c =
     runs-allocated g.M.Runner.meaning
     g.M.Value.Copied.same g.met.M.Runner.same_values g.met.M.Runner.value_shown _ c.args.self.now c.self.view_is c.self.invariant.whole c.args.seat c.args.at.now
     c.in-Some-Alloc.sort c.in-Some-Alloc.number c.requires.on c.requires.allocates.outside told
-    (g.met.M.Runner.sound c.args.self.now.code c.args.at.now c.requires.on.machine) c.requires.left
+    (g.met.M.Runner.sound c.args.self.now.code c.args.at.now c.requires.on.machine) (g.met.M.Runner.forms c.args.self.now.code c.args.at.now c.requires.on.machine) c.requires.left
     c.wanted.result.now c.in_ok-value.value c.location_value-input.result good sets c.in_ok-value.ensures
     (c.location_value-input.ensures.good (arc_value c.self.inside.code)) _ (c.location_value-input.ensures.stands (arc_value c.self.inside.code)) place
     c.allocate.new.self c.in_ok-l.ensures.contents c.requires.going c.requires.early

@@ -17,5 +17,5 @@ returns g c =
     served-made g.M.Runner.meaning
     g.M.Value.Copied.same g.met.M.Runner.same_values g.met.M.Runner.value_shown _ c.args.self.now c.self.view_is c.self.invariant.whole c.args.at.now
     c.requires.on c.requires.visits (g.met.M.Runner.sound c.args.self.now.code c.args.at.now c.requires.on.1.machine)
-    c.args.sort c.args.number c.requires.wants c.wanted.result.now c.in_ok-value.value good sets c.in_ok-value.ensures _ place
+    c.args.sort c.args.number c.requires.wants (g.met.M.Runner.forms c.args.self.now.code c.args.at.now c.requires.on.1.machine) c.wanted.result.now c.in_ok-value.value good sets c.in_ok-value.ensures _ place
     c.feed.new.self machine fed

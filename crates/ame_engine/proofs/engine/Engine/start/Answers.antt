@@ -4,7 +4,7 @@ use Rattle.ame_machine.specs.MachineView.{starting_at}
 use Rattle.ame_protocol.specs.declared.types.Task.{Task}
 use Rattle.ame_engine.specs.Places.{HasPlacesFor}
 use Rattle.ame_engine.proofs.PlaceLemmas.{places-idle}
-use Rattle.ame_engine.proofs.StartLemmas.{whole-started, parts-started}
+use Rattle.ame_engine.proofs.StartLemmas.{whole-started, parts-started, state-started}
 use Rattle.ame_engine.proofs.engine.Engine.start.Goals as goal
 
 pub invariant_of-result : goal.invariant_of-result
@@ -38,6 +38,21 @@ returns-clause-parts g c =
     let tried : c.new-8.result.items ≡ [] = search rules in
     let certificates : c.new-9.result.items ≡ [] = search rules in
     parts-started g.M.Runner.meaning
+    code c.args.limits m rests c.requires good (g.met.M.Runner.accepted (arc_value c.args.code))
+    _ _ _ _ _ _ _ _ _ _ _ _ _ c.new-3.ensures c.new-4.ensures c.new.ensures c.in_ok-memory.ensures c.in_ok-tasks.ensures
+    c.new-pool.ensures c.in_ok-room.ensures.ok c.add.ensures output text c.new-7.ensures tried certificates
+
+pub returns-clause-state : goal.returns-clause-state
+returns-clause-state g c =
+    let code = arc_value c.args.code in
+    let m = c.in_ok-machine.machine in
+    let good : g.M.Runner.meaning.is_machine (arc_value c.args.code) m = search rules in
+    let rests : g.M.Runner.meaning.stage (arc_value c.args.code) m ≡ starting_at (g.M.Runner.meaning.program (arc_value c.args.code)) = search rules in
+    let output : c.new-5.result.items ≡ [] = search rules in
+    let text : c.new-6.result.items ≡ [] = search rules in
+    let tried : c.new-8.result.items ≡ [] = search rules in
+    let certificates : c.new-9.result.items ≡ [] = search rules in
+    state-started g.M.Runner.meaning
     code c.args.limits m rests c.requires good (g.met.M.Runner.accepted (arc_value c.args.code))
     _ _ _ _ _ _ _ _ _ _ _ _ _ c.new-3.ensures c.new-4.ensures c.new.ensures c.in_ok-memory.ensures c.in_ok-tasks.ensures
     c.new-pool.ensures c.in_ok-room.ensures.ok c.add.ensures output text c.new-7.ensures tried certificates

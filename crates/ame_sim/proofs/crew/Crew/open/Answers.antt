@@ -1,7 +1,9 @@
 use Rattle.std.proofs.Common.{◌≡◌, ◌≤◌, vec_len, sym, ◌∙◌, subst}
 use Rattle.std.specs.Arc.{arc_value}
+use Rattle.ame_engine.specs.Makes.{state_of}
 use Rattle.ame_engine.specs.Seen.{parts_of}
 use Rattle.ame_protocol.specs.Engine.Events.{started}
+use Rattle.ame_protocol.specs.Event.State.{started_state}
 use Rattle.ame_shell.specs.Ends.{ends_of}
 use Rattle.ame_shell.proofs.OverLemmas.{shell-starts}
 use Rattle.ame_sim.proofs.CrewLemmas.{crew-starts}
@@ -23,3 +25,8 @@ returns-clause-opens g c =
     let starts = subst (λ k. parts_of r c.in-Ok-start.engine ≡ started (r.program k) (r.devices k) c.args.limits 0) c.in-Ok-try_clone.ensures c.in-Ok-start.ensures.parts in
     let ends = ends_of g.K.Sink.written g.K.Sink.faults g.D.Device.device_heard g.D.Device.device_faults c.args.sink c.args.devices.items in
     shell-starts r c.in-Ok-start.engine (arc_value c.args.code) c.args.limits ends code starts
+
+pub returns-clause-starts : goal.returns-clause-starts
+returns-clause-starts g c =
+    let r = g.M.Runner.meaning in
+    subst (λ k. state_of r c.in-Ok-start.engine ≡ started_state (r.program k) (r.devices k) c.args.limits) c.in-Ok-try_clone.ensures c.in-Ok-start.ensures.state

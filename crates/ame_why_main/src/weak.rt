@@ -32,7 +32,7 @@ pub fn order_text(
     if seed > SEED_LIMIT {
         return Ok(Vec::new(alloc));
     }
-    let mut devices = devices(alloc)?;
+    let mut devices = standard_devices(alloc)?;
     let run = weak_run(alloc, code.accepted(), turns, seed, &mut devices);
     let program = program_of(alloc, text)?;
     let count = run.labels.len().min(MOST_LABELS);
@@ -48,7 +48,7 @@ pub fn order_text(
 }
 
 /// The devices of a process, before their first calls.
-fn devices(alloc: Global) -> Result<Vec<StandardDevice>, NoMemory> {
+fn standard_devices(alloc: Global) -> Result<Vec<StandardDevice>, NoMemory> {
     let mut devices = Vec::new(alloc);
     push(&mut devices, StandardDevice::Counter(Counter::new(alloc)))?;
     push(&mut devices, StandardDevice::Adder(Adder::new(alloc)))?;

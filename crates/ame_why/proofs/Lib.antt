@@ -7,3 +7,5 @@ pub mod StoredLemmas
 pub mod FragmentLemmas
 pub mod PrintedLemmas
 pub mod StepperLemmas
+pub mod LedgerLemmas
+pub mod OrderLemmas

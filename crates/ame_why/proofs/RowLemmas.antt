@@ -1,19 +1,39 @@
 -- Rows, one after another.
-use Rattle.std.proofs.Common.{◌≡◌, ℕ, ◌+◌, ◌<◌, ℤ, List, ◌++◌, length, get_or, drop, Option, sym, ap, ◌∙◌, append_assoc}
-use Rattle.std.proofs.lemmas.List.{drop_more}
+use Rattle.std.proofs.Common.{◌≡◌, ℕ, ◌+◌, ◌<◌, ℤ, List, ◌++◌, length, get_or, drop, Option, sym, ap, ◌∙◌, append_assoc, arith}
+use Rattle.std.proofs.lemmas.List.{drop_more, drop_all}
 use Rattle.ame_journal.specs.declared.entry.Entry.{Entry}
 use Rattle.ame_journal.specs.declared.entry.EntryKind.{EntryKind}
 use Rattle.ame_why.specs.Nexts.{kind_of_next}
-use Rattle.ame_why.specs.Table.{entry_row, rows}
+use Rattle.ame_protocol.specs.declared.types.Tried.{Tried}
+use Rattle.ame_why.specs.Table.{entry_row, tried_rows, later_tries, rows}
 
--- a page before which rows are left, and one with the next row
-pub rows_go_on : (told : ℕ → List ℤ) (whole page new : List ℕ) (entries : List Entry) (i : ℕ) (entry : Entry) (next : Option EntryKind) (printed : List ℤ) →
-    i < length entries → page ++ rows (i + 1) (drop i entries) told ≡ whole → next ≡ kind_of_next (get_or entries i entry).number (drop (i + 1) entries) →
-    printed ≡ told (i + 1) → new ≡ page ++ entry_row (i + 1) (get_or entries i entry) next printed → new ++ rows (i + 1 + 1) (drop (i + 1) entries) told ≡ whole
+-- a page before which rows are left, one with the tries that come next, and one with the next row
+pub rows_go_on : (told : ℕ → List ℤ) (whole page noted new : List ℕ) (entries : List Entry) (tries rest : List Tried) (i : ℕ) (entry : Entry) (next : Option EntryKind)
+    (printed : List ℤ) → i < length entries → page ++ rows (i + 1) (drop i entries) tries told ≡ whole → noted ≡ page ++ tried_rows (i + 1) tries
+    → rest ≡ later_tries (i + 1) tries → next ≡ kind_of_next (get_or entries i entry).number (drop (i + 1) entries) → printed ≡ told (i + 1)
+    → new ≡ noted ++ entry_row (i + 1) (get_or entries i entry) next printed → new ++ rows (i + 1 + 1) (drop (i + 1) entries) rest told ≡ whole
 unfolding rows
-rows_go_on told whole page new entries i entry next printed inside left is lines added =
-    let rest = rows (i + 1 + 1) (drop (i + 1) entries) told in
+rows_go_on told whole page noted new entries tries rest i entry next printed inside left marked others is lines added =
     let e = get_or entries i entry in
-    ap (λ t. t ++ rest) (added ∙ ap (λ o. page ++ entry_row (i + 1) e o printed) is ∙ ap (λ xs. page ++ entry_row (i + 1) e (kind_of_next e.number (drop (i + 1) entries)) xs) lines)
-    ∙ append_assoc page (entry_row (i + 1) e (kind_of_next e.number (drop (i + 1) entries)) (told (i + 1))) rest
-    ∙ sym (ap (λ es. page ++ rows (i + 1) es told) (drop_more entries i entry inside)) ∙ left
+    let row = entry_row (i + 1) e (kind_of_next e.number (drop (i + 1) entries)) (told (i + 1)) in
+    let more = rows (i + 1 + 1) (drop (i + 1) entries) (later_tries (i + 1) tries) told in
+    ap (λ us. new ++ rows (i + 1 + 1) (drop (i + 1) entries) us told) others
+    ∙ ap (λ t. t ++ more)
+    (added ∙ ap (λ o. noted ++ entry_row (i + 1) e o printed) is ∙ ap (λ xs. noted ++ entry_row (i + 1) e (kind_of_next e.number (drop (i + 1) entries)) xs) lines
+    ∙ ap (λ t. t ++ row) marked)
+    ∙ append_assoc (page ++ tried_rows (i + 1) tries) row more
+    ∙ append_assoc page (tried_rows (i + 1) tries) (row ++ more)
+    ∙ sym (ap (λ es. page ++ rows (i + 1) es tries told) (drop_more entries i entry inside)) ∙ left
+
+-- behind the last entry
+pub rows_end : (told : ℕ → List ℤ) (whole page new : List ℕ) (entries : List Entry) (tries : List Tried) (i : ℕ) → length entries ≡ i
+    → page ++ rows (i + 1) (drop i entries) tries told ≡ whole → new ≡ page ++ tried_rows (length entries + 1) tries → new ≡ whole
+unfolding rows
+rows_end told whole page new entries tries i all left added =
+    added ∙ ap (λ k. page ++ tried_rows (k + 1) tries) all
+    ∙ sym (ap (λ es. page ++ rows (i + 1) es tries told) (drop_all i entries (omega (arith, all)))) ∙ left
+
+-- Some rows of tries were added, and the rest is to come.
+pub record AreTriesSoFar (n : ℕ) (all rest : List Tried) (old new : List ℕ) : Type 0 where
+  pub added : new ++ tried_rows n rest ≡ old ++ tried_rows n all
+  pub others : later_tries n rest ≡ later_tries n all

@@ -1,5 +1,7 @@
 -- What a run counted, beside what bounds it.
-use Rattle.std.specs.Prelude.{◌≡◌, ℕ, ◌+◌, ◌*◌, ◌≤◌, List, [], ◌++◌, length, Option, Some, None, codes, decimal}
+use Rattle.std.specs.Prelude.{◌≡◌, ℕ, ◌+◌, ◌*◌, ◌≤◌, List, [], ◌++◌, length, count_by, Option, Some, None, codes, decimal}
+use Rattle.ame_journal.specs.declared.entry.Entry.{Entry}
+use Rattle.ame_journal.specs.Totals.{is_note}
 use Rattle.ame_pool.specs.Standings.{max_rollbacks}
 use Rattle.ame_protocol.specs.declared.counters.Counters.{Counters}
 use Rattle.ame_protocol.specs.declared.stop.Stop.{Stop}
@@ -84,6 +86,20 @@ abbrev pub counts : {V : Type 0} → End V → ℕ → Limits → List ℕ
 counts end fragments limits =
     first_rows (length end.entries) fragments end.turns ++ turn_rows end.counters ++ count_row end.counters.invalids (codes "invalid reads")
     ++ bounded_rows end fragments limits
+
+-- how many entries are notes
+abbrev pub note_count : List Entry → ℕ
+note_count entries = count_by (λ entry. is_note entry.kind) entries
+
+-- the turns of a weak run beside what its entries pay
+unfoldable pub weak_turn_row : ℕ → ℕ → List ℕ
+weak_turn_row turns paid_there = bounded_row turns (codes "turns") (codes "3 * " ++ decimal paid_there) (3 * paid_there)
+
+-- the whole page of a weak run: its entries and how many are notes, its fragments, and its turns
+abbrev pub weak_counts : ℕ → List Entry → ℕ → List ℕ
+weak_counts turns entries fragments =
+    count_row (length entries) (codes "entries, of these") ++ count_row (note_count entries) (codes "  tries that were taken back")
+    ++ count_row fragments (codes "fragments") ++ weak_turn_row turns (paid_by_entries entries)
 
 -- Each count that is shown beside a bound is at most that.
 pub record KeepsShownBounds {V : Type 0} (end : End V) (fragments : ℕ) (limits : Limits) : Type 0 where

@@ -16,3 +16,7 @@ pub mod Waits
 pub mod Marked
 pub mod Stepped
 pub mod Steppers
+pub mod EntryNumbers
+pub mod Ledger
+pub mod WeakOrder
+pub mod Orders

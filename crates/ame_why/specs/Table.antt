@@ -1,9 +1,10 @@
 -- A journal as a table that a person can follow.
-use Rattle.std.specs.Prelude.{ℕ, ◌+◌, ◌-◌, ℤ, List, [], ◌∷◌, ◌++◌, length, replicate, slice_index_or, Option, Some, None, codes, decimal}
+use Rattle.std.specs.Prelude.{ℕ, ◌+◌, ◌-◌, ℤ, List, [], ◌∷◌, ◌++◌, length, replicate, slice_index_or, nat_lt, if◌then◌else◌, Option, Some, None, codes, decimal}
 use Rattle.std.specs.Fmt.{signed_decimal}
 use Rattle.std.specs.List.{flat_map}
 use Rattle.ame_journal.specs.declared.entry.Entry.{Entry}
 use Rattle.ame_journal.specs.declared.entry.EntryKind.{EntryKind}
+use Rattle.ame_protocol.specs.declared.types.Tried.{Tried}
 use Rattle.ame_why.specs.Nexts.{kind_of_next}
 
 -- a number in a column of this width, and a space
@@ -68,15 +69,30 @@ deed entry next printed = codes " " ++ kind_words entry.kind next ++ left_words 
 unfoldable pub entry_row : ℕ → Entry → Option EntryKind → List ℤ → List ℕ
 entry_row n entry next printed = counts n entry ++ deed entry next printed
 
--- the rows of entries, the first of which is entry n, where it is told what each entry printed
-unfoldable pub rows : ℕ → List Entry → (ℕ → List ℤ) → List ℕ
-rows n [] told = []
-rows n (entry ∷ entries) told = entry_row n entry (kind_of_next entry.number entries) (told n) ++ rows (n + 1) entries told
+-- the row of a try that left no entry: so many steps were valid where so many entries lead
+unfoldable pub tried_row : Tried → List ℕ
+tried_row t = replicate 12 32 ++ column 7 t.number ++ column 6 t.steps ++ codes " was rolled back; so far it was valid behind entry " ++ decimal t.at ++ codes "\n"
+
+-- the rows of the first tries, as far as these were valid before entry n
+unfoldable pub tried_rows : ℕ → List Tried → List ℕ
+tried_rows n [] = []
+tried_rows n (t ∷ tries) = if nat_lt t.at n then tried_row t ++ tried_rows n tries else []
+
+-- the tries behind those
+abbrev pub later_tries : ℕ → List Tried → List Tried
+later_tries n [] = []
+later_tries n (t ∷ tries) = if nat_lt t.at n then later_tries n tries else t ∷ tries
+
+-- the rows of entries, the first of which is entry n, and of tries between them, where it is told what each entry printed
+unfoldable pub rows : ℕ → List Entry → List Tried → (ℕ → List ℤ) → List ℕ
+rows n [] tries told = tried_rows n tries
+rows n (entry ∷ entries) tries told =
+    tried_rows n tries ++ (entry_row n entry (kind_of_next entry.number entries) (told n) ++ rows (n + 1) entries (later_tries n tries) told)
 
 -- the lines of entry n, counted from 1; none where there are fewer
 abbrev pub lines_at : List (List ℤ) → ℕ → List ℤ
 lines_at lines n = slice_index_or lines (n - 1) []
 
--- a line that names the columns, and a row for each entry, counted from 1, with its lines
-abbrev pub table : List Entry → List (List ℤ) → List ℕ
-table entries lines = codes "entry  seat  member  steps  what it did\n" ++ rows 1 entries (lines_at lines)
+-- a line that names the columns, and a row for each entry, counted from 1, with its lines, and for each try
+abbrev pub table : List Entry → List Tried → List (List ℤ) → List ℕ
+table entries tries lines = codes "entry  seat  member  steps  what it did\n" ++ rows 1 entries tries (lines_at lines)

@@ -45,6 +45,47 @@ pub fn counts_of<V>(
     Ok(page)
 }
 
+/// What a weak run counted: its entries and how many tries are among them, the fragments that there ever were, and its turns beside what its
+/// entries pay. A sum past 2^64 - 1 is told as want of memory.
+pub fn weak_counts_of(
+    alloc: Global,
+    turns: u32,
+    entries: &[Entry],
+    fragments: u64,
+) -> Result<Vec<u8>, NoMemory>
+    ensures { IfOk result (λ page. page.items ≡ spec.weak_counts turns entries.now fragments) }
+{
+    let mut page = Vec::new(alloc);
+    append_count(&mut page, entries.len() as u64, b"entries, of these")?;
+    append_count(
+        &mut page,
+        note_count(entries),
+        b"  tries that were taken back",
+    )?;
+    append_count(&mut page, fragments, b"fragments")?;
+    append_weak_turns(&mut page, turns, paid_by_entries(entries)?)?;
+    Ok(page)
+}
+
+/// Adds the turns of a weak run beside what its entries pay.
+#[tactic(auto, unfolding(crate::specs::Counts::weak_turn_row))]
+fn append_weak_turns(page: &mut Vec<u8>, turns: u32, paid: u64) -> Result<(), NoMemory>
+    ensures { OnOk result (page.new.items ≡ page.old.items ++ spec.weak_turn_row turns paid) }
+{
+    let most = paid.checked_mul(3).ok_or(NoMemory)?;
+    let mut words = Vec::new(*page.allocator());
+    append(&mut words, b"3 * ")?;
+    append_decimal(&mut words, paid)?;
+    append_bounded(page, u64::from(turns), b"turns", &words, most)
+}
+
+/// How many entries are notes.
+fn note_count(entries: &[Entry]) -> u64
+    ensures { result ≡ spec.note_count entries.now }
+{
+    entries.iter().filter(|entry| entry.kind.is_note()).count() as u64
+}
+
 /// Adds a count, and what was counted.
 #[tactic(auto, unfolding(crate::specs::Counts::count_row))]
 fn append_count(page: &mut Vec<u8>, count: u64, what: &[u8]) -> Result<(), NoMemory>

@@ -16,7 +16,7 @@ use ame_term::{Label, Loc, NoMemory, Split, StepKind, Term, Value, copy_value, s
 use std::alloc::Global;
 
 /// The reduction that a label makes.
-fn kind_of(label: Label) -> Option<StepKind>
+pub(crate) fn kind_of(label: Label) -> Option<StepKind>
     ensures { result ≡ spec.kind_of label }
 {
     match label {
@@ -152,7 +152,11 @@ fn append_stored(
 }
 
 /// The text of a value; nothing where there is none.
-fn held_text(alloc: Global, names: &[Vec<u8>], value: Option<&Value>) -> Result<Vec<u8>, NoMemory>
+pub(crate) fn held_text(
+    alloc: Global,
+    names: &[Vec<u8>],
+    value: Option<&Value>,
+) -> Result<Vec<u8>, NoMemory>
     ensures { IfOk result (λ text. text.items ≡ spec.held_text (spelling_of names.now) (option_map (λ v. val_of v.now) value.entry)) }
 {
     match value {

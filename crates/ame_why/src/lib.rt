@@ -1,6 +1,7 @@
 //! Why a text is refused, as a person reads it, and the journal of a run as text.
 #![tactic(auto)]
 
+mod binders;
 mod bytes;
 mod caret;
 mod counts;
@@ -11,9 +12,11 @@ mod heading;
 mod input;
 mod journal_line;
 mod label_row;
+mod ledger;
 mod lines;
 mod marked;
 mod nexts;
+mod numbering;
 mod page;
 mod parts;
 mod placed;
@@ -28,11 +31,13 @@ mod stored;
 mod table;
 mod tokens;
 mod waits;
+mod weak_order;
+mod weak_row;
 mod words;
 
 pub use bytes::explain_bytes;
 pub use caret::excerpt;
-pub use counts::counts_of;
+pub use counts::{counts_of, weak_counts_of};
 pub use entry::explain_entry;
 pub use forms::{Made, forms_of};
 pub use fragments::fragments_of;
@@ -40,6 +45,7 @@ pub use heading::heading_of;
 pub use input::{input_is_of_one_run, input_of, journal_of};
 pub use journal_line::explain_line;
 pub use lines::lines_of;
+pub use numbering::entry_numbers;
 pub use position::{Position, position_of};
 pub use printed::printed_of;
 pub use rule_pages::explain_rule;
@@ -49,3 +55,4 @@ pub use stored::store_of;
 pub use table::table_of;
 pub use tokens::explain_tokens;
 pub use waits::waits_of;
+pub use weak_order::weak_order_of;

@@ -6,6 +6,7 @@ ghost use Rattle.ame_types.specs.Fault.{fault_of, shown_of};
 ghost use Rattle.ame_why.specs.Rules as spec;
 ghost use Rattle.ame_why.specs.Rules.{IsTypeExplained, shown_line};
 
+use crate::binders::binder_at;
 use crate::page::{append, append_decimal};
 use crate::parts::{head_of, part_number};
 use crate::placed::explained;
@@ -23,6 +24,7 @@ pub fn explain_types(alloc: Global, text: &[u8], fault: &TypeFault) -> Result<Ve
     ensures { IfOk result (λ page. IsTypeExplained text.now (fault_of fault.now) page.items) }
 {
     let mut message = rule_text(alloc, text, fault)?;
+    append_binder(alloc, &mut message, text, fault)?;
     append_shown(alloc, &mut message, b"found: ", b"device ", &fault.found)?;
     append_shown(
         alloc,
@@ -41,6 +43,25 @@ fn rule_text(alloc: Global, text: &[u8], fault: &TypeFault) -> Result<Vec<u8>, N
     } else {
         Ok(Vec::from_slice(alloc, rule_words(fault.rule))?)
     }
+}
+
+/// Adds where the function or the location is bound of which a rule speaks, if it is a name.
+fn append_binder(
+    alloc: Global,
+    message: &mut Vec<u8>,
+    text: &[u8],
+    fault: &TypeFault,
+) -> Result<(), NoMemory> {
+    if text.len() > MAX_TEXT {
+        return Ok(());
+    }
+    let tokens = tokens_of(alloc, text)?;
+    let Some(binder) = binder_at(alloc, text, &tokens, fault.rule, fault.place)? else {
+        return Ok(());
+    };
+    let bound = explained(alloc, text, binder.start as usize, b"")?;
+    append(message, b"its name is bound here:\n")?;
+    append(message, &bound)
 }
 
 /// Which part of which form has another type than it wants.

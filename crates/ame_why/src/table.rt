@@ -5,44 +5,84 @@ ghost use Rattle.ame_why.specs.Nexts as spec_nexts;
 ghost use Rattle.ame_why.specs.Table as spec;
 
 use crate::nexts::nexts_of;
-use crate::page::append;
+use crate::page::{append, append_column, append_decimal, append_spaces};
 use crate::row::append_row;
 use ame_journal::{Entry, EntryKind};
+use ame_protocol::Tried;
 use ame_term::NoMemory;
 use std::alloc::Global;
 
-/// A line that names the columns, and a line for each entry with what it printed, as far as that is told.
-pub fn table_of(alloc: Global, entries: &[Entry], lines: &[Vec<i64>]) -> Result<Vec<u8>, NoMemory>
-    ensures { IfOk result (λ page. page.items ≡ spec.table entries.now (map (λ v. v.items) lines.now)) }
+/// A line that names the columns, and a line for each entry with what it printed, as far as that is told. Tries that left no entry stand
+/// between them, in their order, none before the entries behind which it was valid last.
+pub fn table_of(
+    alloc: Global,
+    entries: &[Entry],
+    tries: &[Tried],
+    lines: &[Vec<i64>],
+) -> Result<Vec<u8>, NoMemory>
+    ensures { IfOk result (λ page. page.items ≡ spec.table entries.now tries.now (map (λ v. v.items) lines.now)) }
 {
     let nexts = nexts_of(alloc, entries)?;
     let mut page = Vec::new(alloc);
     append(&mut page, b"entry  seat  member  steps  what it did\n")?;
-    append_rows(&mut page, entries, &nexts, lines)?;
+    append_rows(&mut page, entries, &nexts, tries, lines)?;
     Ok(page)
 }
 
-/// Adds a row for each entry, with the kind of the next one of its member.
+/// Adds a row for each entry, with the kind of the next one of its member, and for each try.
 #[tactic(auto, unfolding(crate::specs::Table::rows))]
 fn append_rows(
     page: &mut Vec<u8>,
     entries: &[Entry],
     nexts: &[Option<EntryKind>],
+    tries: &[Tried],
     lines: &[Vec<i64>],
 ) -> Result<(), NoMemory>
     requires { nexts.now ≡ spec_nexts.nexts entries.now }
-    ensures { OnOk result (page.new.items ≡ page.old.items ++ spec.rows 1 entries.now (spec.lines_at (map (λ v. v.items) lines.now))) }
+    ensures { OnOk result (page.new.items ≡ page.old.items ++ spec.rows 1 entries.now tries.now (spec.lines_at (map (λ v. v.items) lines.now))) }
 {
+    let mut rest = tries;
     for (index, entry) in entries.iter().enumerate() {
-        append_row(
-            page,
-            index as u64 + 1,
-            entry,
-            nexts[index],
-            line_at(lines, index),
-        )?;
+        let number = index as u64 + 1;
+        rest = append_tries(page, rest, number)?;
+        append_row(page, number, entry, nexts[index], line_at(lines, index))?;
     }
+    let _none = append_tries(page, rest, entries.len() as u64 + 1)?;
     Ok(())
+}
+
+/// Adds the rows of the first tries, as far as these were valid before this entry; tells the others.
+#[tactic(auto, unfolding(crate::specs::Table::tried_rows))]
+fn append_tries<'a>(
+    page: &mut Vec<u8>,
+    tries: &'a [Tried],
+    number: u64,
+) -> Result<&'a [Tried], NoMemory>
+    ensures rows { OnOk result (page.new.items ≡ page.old.items ++ spec.tried_rows number tries.now) }
+    ensures later { IfOk result (λ rest. rest.now ≡ spec.later_tries number tries.now) }
+{
+    let mut rest = tries;
+    while let Some((t, others)) = rest.split_first() {
+        if t.at >= number {
+            break;
+        }
+        append_tried(page, *t)?;
+        rest = others;
+    }
+    Ok(rest)
+}
+
+/// Adds the row of a try.
+#[tactic(auto, unfolding(crate::specs::Table::tried_row))]
+fn append_tried(page: &mut Vec<u8>, t: Tried) -> Result<(), NoMemory>
+    ensures { OnOk result (page.new.items ≡ page.old.items ++ spec.tried_row t) }
+{
+    append_spaces(page, 12)?;
+    append_column(page, 7, t.number)?;
+    append_column(page, 6, t.steps)?;
+    append(page, b" was rolled back; so far it was valid behind entry ")?;
+    append_decimal(page, t.at)?;
+    append(page, b"\n")
 }
 
 /// The lines of the entry with this index; none where there are fewer.

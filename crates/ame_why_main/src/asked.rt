@@ -122,15 +122,27 @@ fn is_file(word: &str) -> bool {
     Verb::named(word).is_none() && !word.starts_with('-')
 }
 
-/// The limits for which words ask, where they begin a run.
-pub fn limits_of(alloc: Global, words: &[String]) -> Option<Limits> {
+/// How words choose a run.
+#[derive(Clone, Copy)]
+pub enum Chosen {
+    /// An engine makes it, within these limits.
+    Engine(Limits),
+    /// It is a weak run, by the choices of this seed, with so many turns.
+    Weak(u32, u32),
+    /// They ask for none.
+    Nothing,
+}
+
+/// The run for which words ask, where they begin one.
+pub fn chosen_of(alloc: Global, words: &[String]) -> Chosen {
     let options = match read_words(alloc, words) {
         Ok(Command::Run(options) | Command::Bench(_, _, options)) => options,
         Ok(Command::Sim(_, options) | Command::Replay(options) | Command::Resume(options)) =>
             options,
-        Ok(Command::Check | Command::Weak(_, _)) | Err(_) => return None,
+        Ok(Command::Weak(seed, turns)) => return Chosen::Weak(seed, turns),
+        Ok(Command::Check) | Err(_) => return Chosen::Nothing,
     };
-    Some(Limits {
+    Chosen::Engine(Limits {
         turns: options.turns,
         slice: options.slice,
         seats: options.workers,

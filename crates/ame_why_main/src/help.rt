@@ -9,11 +9,11 @@ const SYNOPSIS: &[u8] =
 ./why --version                 the commit and the kit
 
 FILE is `-` or none for the standard input. The words are those of `ame`: `run`, `bench SEED SIZE`, `sim SEED`, `replay`,
-`check` or `resume`, and `--workers N`, `--turns N`, `--slice N`.
+`check`, `resume` or `weak SEED`, and `--workers N`, `--turns N`, `--slice N`.
 
 Views, one of which may stand anywhere:
   --journal    the journal of the run, and the program
-  --trace      the journal as a table
+  --trace      the journal as a table; of a run of `weak` first its labels, in the order in which they were made
   --schedule   the schedule of a run of `sim` or `replay`, and the program
   --counts     what was counted, beside its bounds
   --store      what the locations hold that are left

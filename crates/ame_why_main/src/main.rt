@@ -11,6 +11,7 @@ mod origin;
 mod picture;
 mod run;
 mod views;
+mod weak;
 
 use crate::asked::{asked_of, calls_of, file_of};
 use crate::given::Unopened;

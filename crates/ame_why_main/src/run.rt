@@ -3,7 +3,7 @@
 ghost use Rattle.std.specs.Prelude.{◌≤◌, vec_len};
 ghost use Rattle.ame_lex.specs.Bytes.{max_text};
 
-use crate::asked::{Asked, View, limits_of};
+use crate::asked::{Asked, Chosen, View, chosen_of};
 use crate::explain::{explain, place_of};
 use crate::kept::Kept;
 use crate::late::Late;
@@ -11,7 +11,6 @@ use crate::origin::Origin;
 use crate::views::page_of;
 use ame_app::{Report, StandardDevice, run_process};
 use ame_io::{Sink, Source, StdSink, StdSource, WriteFault, read_all, write_all};
-use ame_protocol::Limits;
 use ame_term::NoMemory;
 use std::alloc::Global;
 use std::fs;
@@ -41,10 +40,10 @@ where
     }
     let alloc = rt.alloc();
     let mut source = source;
-    let limits = limits_of(alloc, &words);
+    let chosen = chosen_of(alloc, &words);
     let report = run_process(rt, alloc, Ok(words), &mut source, StdSink::new(io::sink()));
     let begun = report.ended.is_some();
-    match told(alloc, asked.view, &report, source.bytes(), limits, origin) {
+    match told(alloc, asked.view, &report, source.bytes(), chosen, origin) {
         Ok(page) => {
             if let Some(file) = &asked.same {
                 return compare(rt, file.as_str(), &page, writer);
@@ -107,7 +106,7 @@ fn told<K>(
     view: View,
     report: &Report<K, StandardDevice>,
     input: &[u8],
-    limits: Option<Limits>,
+    chosen: Chosen,
     origin: Origin<'_>,
 ) -> Result<Vec<u8>, NoMemory>
     requires small { vec_len report.now.text ≤ max_text }
@@ -122,7 +121,7 @@ fn told<K>(
         page.extend_from_slice(&why)?;
         return Ok(page);
     };
-    let mut page = page_of(alloc, view, report, ended, limits, origin.name)?;
+    let mut page = page_of(alloc, view, report, ended, chosen, origin.name)?;
     if !view.is_input() {
         page.extend_from_slice(verdict.as_str().as_bytes())?;
     }

@@ -3,22 +3,22 @@
 ghost use Rattle.std.specs.Prelude.{◌≤◌, length, vec_len};
 ghost use Rattle.ame_lex.specs.Bytes.{max_text};
 
-use crate::asked::View;
+use crate::asked::{Chosen, View};
 use crate::picture::picture_text;
+use crate::weak::order_text;
 use ame_app::{Own, Report, StandardDevice};
 use ame_code::Code;
-use ame_engine::Ended;
+use ame_engine::{Ended, Stop};
 use ame_eval::Fragment;
 use ame_journal::Entry;
 use ame_lex::lex;
 use ame_parse::parse;
-use ame_protocol::Limits;
 use ame_store::Store;
-use ame_term::{Copied, Loc, NoMemory, push};
+use ame_term::{Copied, Loc, NoMemory, Program, push};
 use ame_value::Val;
 use ame_why::{
     Made, counts_of, forms_of, fragments_of, input_of, journal_of, printed_of, steps_of, store_of,
-    table_of,
+    table_of, weak_counts_of,
 };
 use std::alloc::Global;
 use std::sync::Arc;
@@ -39,16 +39,16 @@ pub fn page_of<K>(
     view: View,
     report: &Report<K, StandardDevice>,
     ended: &Ended<Val>,
-    limits: Option<Limits>,
+    chosen: Chosen,
     title: &str,
 ) -> Result<Vec<u8>, NoMemory>
     requires small { vec_len report.now.text ≤ max_text }
 {
     let entries = entries_of(alloc, report)?;
     match view {
-        View::Trace => trace_text(alloc, report, ended, &entries),
+        View::Trace => trace_text(alloc, report, ended, &entries, chosen),
         View::Schedule => schedule_text(alloc, &report.own, &report.text),
-        View::Counts => counts_text(alloc, &report.code, ended, &entries, limits),
+        View::Counts => counts_text(alloc, report, ended, &entries, chosen),
         View::Store => store_of(alloc, &report.text, ended.store()),
         View::Steps => steps_text(alloc, &report.text, &entries),
         View::Picture => {
@@ -72,19 +72,24 @@ fn entries_of<K, D>(alloc: Global, report: &Report<K, D>) -> Result<Vec<Entry>, 
 }
 
 /// What a run counted, beside its bounds.
-fn counts_text(
+fn counts_text<K>(
     alloc: Global,
-    code: &Option<Arc<Code>>,
+    report: &Report<K, StandardDevice>,
     ended: &Ended<Val>,
     entries: &[Entry],
-    limits: Option<Limits>,
+    chosen: Chosen,
 ) -> Result<Vec<u8>, NoMemory> {
-    let (Some(code), Some(limits)) = (code, limits) else {
+    let Some(code) = &report.code else {
         return Ok(Vec::new(alloc));
     };
-    match fragments_of::<Fragment>(alloc, code, entries)? {
-        Some(fragments) => counts_of(alloc, ended, fragments, limits),
-        None => Ok(Vec::new(alloc)),
+    let Some(fragments) = fragments_of::<Fragment>(alloc, code, entries)? else {
+        return Ok(Vec::new(alloc));
+    };
+    match (&report.own, chosen) {
+        (Own::Weak(weakened), _) if matches!(weakened.stop, Stop::NoMemory) => Ok(Vec::new(alloc)),
+        (Own::Weak(weakened), _) => weak_counts_of(alloc, weakened.turns, entries, fragments),
+        (_, Chosen::Engine(limits)) => counts_of(alloc, ended, fragments, limits),
+        _ => Ok(Vec::new(alloc)),
     }
 }
 
@@ -92,12 +97,7 @@ fn counts_text(
 fn steps_text(alloc: Global, text: &[u8], entries: &[Entry]) -> Result<Vec<u8>, NoMemory>
     requires small { length text.now ≤ max_text }
 {
-    let Ok(tokens) = lex(alloc, text) else {
-        return Err(NoMemory);
-    };
-    let Ok(program) = parse(alloc, text, &tokens) else {
-        return Err(NoMemory);
-    };
+    let program = program_of(alloc, text)?;
     let count = shown_entries(entries);
     let shown = steps_of(alloc, program, &entries[..count])?;
     let mut page = shown.unwrap_or(Vec::new(alloc));
@@ -105,6 +105,19 @@ fn steps_text(alloc: Global, text: &[u8], entries: &[Entry]) -> Result<Vec<u8>, 
         page.extend_from_slice(TOO_MANY)?;
     }
     Ok(page)
+}
+
+/// The program that a text is which was read before.
+pub fn program_of(alloc: Global, text: &[u8]) -> Result<Program, NoMemory>
+    requires small { length text.now ≤ max_text }
+{
+    let Ok(tokens) = lex(alloc, text) else {
+        return Err(NoMemory);
+    };
+    match parse(alloc, text, &tokens) {
+        Ok(program) => Ok(program),
+        Err(_) => Err(NoMemory),
+    }
 }
 
 /// How many entries have few enough steps together.
@@ -131,17 +144,25 @@ fn schedule_text(alloc: Global, own: &Own, text: &[u8]) -> Result<Vec<u8>, NoMem
     }
 }
 
-/// The table of a run's journal, and where the locations were made that are left, if there are any.
+/// The table of a run's journal, and where the locations were made that are left, if there are any; of a weak run first the order in which it
+/// was made.
 fn trace_text<K>(
     alloc: Global,
     report: &Report<K, StandardDevice>,
     ended: &Ended<Val>,
     entries: &[Entry],
+    chosen: Chosen,
 ) -> Result<Vec<u8>, NoMemory>
     requires small { vec_len report.now.text ≤ max_text }
 {
     let lines = lines_told(alloc, &report.code, entries)?;
-    let mut page = table_of(alloc, entries, &lines)?;
+    let mut page = match (&report.code, chosen) {
+        (Some(code), Chosen::Weak(seed, turns)) => {
+            order_text(alloc, code, &report.text, seed, turns)?
+        }
+        _ => Vec::new(alloc),
+    };
+    page.extend_from_slice(&table_of(alloc, entries, ended.tried(), &lines)?)?;
     let made = made_in(alloc, ended.store())?;
     if !made.is_empty() {
         page.push(b'\n')?;

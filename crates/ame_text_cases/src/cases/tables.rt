@@ -38,7 +38,7 @@ fn printed(alloc: Global, numbers: &[&[i64]]) -> Result<Vec<Vec<i64>>, Fail> {
 fn a_journal_is_shown_line_by_line(rt: HostRuntime) -> Result<(), Fail> {
     let journal = Journal::from_text(rt.alloc(), JOURNAL)?;
     let lines = printed(rt.alloc(), LINES)?;
-    let table = table_of(rt.alloc(), journal.entries(), &lines)?;
+    let table = table_of(rt.alloc(), journal.entries(), &[], &lines)?;
     assert_eq!(rt; table.as_slice(), TABLE);
     Ok(())
 }

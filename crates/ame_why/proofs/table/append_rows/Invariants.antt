@@ -4,5 +4,5 @@ use Rattle.ame_why.proofs.table.append_rows.Given as goal
 
 abbrev pub invariant-loop-index : goal.invariant-loop-index
 invariant-loop-index l =
-    l.page.items ++ rows (l.index + 1) (drop l.index l.entries) (lines_at (map (λ v. v.items) l.lines))
-    ≡ l.initial.page.items ++ rows 1 l.entries (lines_at (map (λ v. v.items) l.lines))
+    l.page.items ++ rows (l.index + 1) (drop l.index l.entries) l.rest (lines_at (map (λ v. v.items) l.lines))
+    ≡ l.initial.page.items ++ rows 1 l.entries l.tries (lines_at (map (λ v. v.items) l.lines))

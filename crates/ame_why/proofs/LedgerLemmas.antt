@@ -1,5 +1,5 @@
 -- Who is inside, label by label, and how many entries there are.
-use Rattle.std.proofs.Common.{◌≡◌, ℕ, suc, ◌+◌, ◌<◌, ◌≤◌, ◌==◌, ◌++◌, Bool, true, false, not, List, [], ◌∷◌, length, drop, get_or, filter, refl, sym, ap, subst, ◌∙◌, arith, cond, eqb-true}
+use Rattle.std.proofs.Common.{◌≡◌, ℕ, suc, ◌+◌, ◌<◌, ◌≤◌, ◌==◌, ◌++◌, Bool, true, false, not, List, [], ◌∷◌, length, drop, get_or, filter, refl, sym, ap, ◌∙◌, arith, cond, eqb-true}
 use Rattle.std.specs.Prelude.{◌&&◌, ◌||◌, None}
 use Rattle.std.specs.BTreeMap.{is_at}
 use Rattle.std.specs.BTreeSet.{BTreeSet, contains}

@@ -2,7 +2,7 @@ use Rattle.ame_why.proofs.OrderLemmas.{told_none, told_tries, told_one, told_all
 use Rattle.ame_why.proofs.weak_order.Order.tell_all.Goals as goal
 
 pub loop-index-init : goal.loop-index-init
-loop-index-init c = told_none c.args.labels.now c.args.self.now c.requires
+loop-index-init c = told_none c.args.labels.now c.args.self.now c.requires.empty
 
 pub loop-index-preserved : goal.loop-index-preserved
 loop-index-preserved c =

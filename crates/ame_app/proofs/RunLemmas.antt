@@ -252,7 +252,7 @@ module _ (call : Call) (status : Status) (text : Text) (code : FlatCode) (front 
       faults = (subst (λ (o : Stop). HaveFailed (Some o) before.told after.told) is (weak-failed (λ e. let clash : Stop.DeviceFault k ≡ Stop.NoMemory = sym is ∙ e in cc))).risen;
     }
     weak-cause Stop.NoMemory is = tt
-    weak-cause (Stop.Tall number) is = absurd (subst (λ (k : Stop). HasWeakStop k turns weakened tells.final.state) is tells.cause)
+    weak-cause (Stop.Tall number) is = subst (λ (k : Stop). HasWeakStop k turns weakened tells.final.state) is tells.cause
     weak-cause Stop.WriteFault is = absurd (subst (λ (k : Stop). HasWeakStop k turns weakened tells.final.state) is tells.cause)
 
     weak-bounds : HasBounds (program_of code) (limits_of (alone_with turns)) tells.final [] journal weakened.turns left.counters left.tried (Some weakened.stop)

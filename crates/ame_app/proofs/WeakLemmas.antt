@@ -1,6 +1,6 @@
 -- What a weak run tells, once its labels are straightened.
-use Rattle.std.proofs.Common.{◌≡◌, ◌≢◌, ℕ, zero, suc, ◌+◌, ◌*◌, ◌<◌, ◌≤◌, ◌==◌, ◌⊎◌, inl, inr, Bool, true, false, List, [], ◌∷◌, ◌++◌, map, length, drop, cond, All, Option, Some, None, is_some, option_and_then, if◌then◌else◌, refl, sym, ap, ◌∙◌, subst, arith, append_assoc}
-use Rattle.std.specs.Prelude.{Contains, IsSome, ◌↔◌, ◌||◌}
+use Rattle.std.proofs.Common.{◌≡◌, ◌≢◌, ℕ, zero, suc, ◌+◌, ◌*◌, ◌<◌, ◌≤◌, ◌==◌, ◌⊎◌, inl, inr, Bool, true, false, List, [], ◌∷◌, ◌++◌, map, length, drop, cond, All, Option, Some, None, is_some, option_and_then, if◌then◌else◌, refl, sym, ap, ◌∙◌, subst, arith, append_assoc, append-nil, ℤ}
+use Rattle.std.specs.Prelude.{Contains, IsSome, ◌↔◌, ◌||◌, slice_get, option_to_list}
 use Rattle.std.specs.List.{AllByRecursion, list_any}
 use Rattle.std.specs.BTreeMap.{is_at}
 use Rattle.std.specs.Ordering.{nat_cmp}
@@ -22,17 +22,21 @@ use Rattle.ame_laws.proofs.MapLemmas.{is_at-here}
 use Rattle.ame_device.specs.declared.told.Told.{Told}
 use Rattle.ame_journal.specs.declared.entry.Entry.{Entry}
 use Rattle.ame_journal.specs.declared.entry.EntryKind.{EntryKind}
+use Rattle.ame_journal.specs.JournalView.{IsFit}
 use Rattle.ame_journal.specs.Labels.{fresh_of, fragment_labels}
-use Rattle.ame_journal.specs.Replayed.{Replayed, begun_at, has_such, is_failing}
-use Rattle.ame_journal.specs.Replay.{replay, fragment, fails_after}
-use Rattle.ame_journal.specs.Calls.{device_calls}
+use Rattle.ame_journal.specs.Replayed.{Replayed, begun_at, has_such, is_failing, side_at, is_tall}
+use Rattle.ame_journal.specs.Replay.{replay, replay_from, replay_entry, replay_kind, note_where, fragment, attempt, fails_after}
+use Rattle.ame_journal.specs.Calls.{last_call, of_next, device_calls, device_calls_from}
+use Rattle.ame_journal.proofs.CallLemmas.{calls-appended}
+use Rattle.ame_journal.proofs.ReplayLemmas.{replay_from-append}
+use Rattle.ame_protocol.specs.Waits.Once.{HasEntryAt}
 use Rattle.ame_journal.specs.Totals.{total_steps}
 use Rattle.ame_journal.proofs.LabelLemmas.{fragment_run}
 use Rattle.ame_journal.proofs.StepLemmas.{step-keeps}
 use Rattle.ame_protocol.specs.Waits.Certificates.{IsCertificate}
 use Rattle.ame_protocol.specs.declared.certificate.Certificate.{Certificate}
 use Rattle.ame_protocol.specs.declared.stop.Stop.{Stop}
-use Rattle.ame_protocol.specs.Event.Causes.{is_ordinary, AreOrdinary, EndsWith, NotesStop}
+use Rattle.ame_protocol.specs.Event.Causes.{is_ordinary, AreOrdinary, EndsWith, IsTall, NotesStop}
 use Rattle.ame_engine.specs.Ending.{Rise, CertifyAll}
 use Rattle.ame_shell.specs.Ends.{told_at}
 use Rattle.ame_shell.specs.Heard.{answered_all, and_more, added_calls, HaveHeard, HaveFailed}
@@ -52,13 +56,14 @@ use Rattle.ame_weak.specs.declared.tries.Try.{Try}
 use Rattle.ame_weak.proofs.WayLemmas.{activate-found}
 use Rattle.ame_runner.specs.Run.{AreFailedTries, CutAt}
 use Rattle.ame_runner.specs.Stop.{HasWeakCause, IsBlockedBy, StandsAtCall, FailsBy}
-use Rattle.ame_runner.specs.Ended.{EndTries, IsWeakRunOf, IsToldBy, TellsStop}
+use Rattle.ame_runner.specs.Ended.{EndTries, IsWeakRunOf, notes_of_stop, journal_of_run, IsToldBy, TellsStop}
+use Rattle.ame_runner.specs.Tall.{tall_note, IsTallIn}
 use Rattle.ame_runner.specs.declared.stop.WeakStop.{WeakStop}
 use Rattle.ame_runner.specs.Apart.{AreNotedApart}
 use Rattle.ame_runner.proofs.ApartLemmas.{order-behind, notes-apart}
 use Rattle.ame_app.specs.declared.parts.Weakened.{Weakened}
-use Rattle.ame_app.specs.Jobs.{stop_told, certificate_told, certificates_told, HasWeakStop, TellsWeakly}
-use Rattle.ame_app.specs.Verbs.Weak.{IsWeakJournal, StandsAtCallOf}
+use Rattle.ame_app.specs.Jobs.{stop_told, LeavesFit, certificate_told, certificates_told, HasWeakStop, TellsWeakly}
+use Rattle.ame_app.specs.Verbs.Weak.{IsNoteAtEnd, IsWeakJournal, StandsAtCallOf}
 use Rattle.ame_app.proofs.CountLemmas.{here, more, empty, first-or-later}
 
 -- Entries of the labels, with the notes of the tries
@@ -169,6 +174,19 @@ cut-last n m ts t p (label ∷ labels) end order last =
     ∙ ap (λ (es : List Entry). noted_tries n ts ++ es) (sym (append_assoc (entries_of_label p label) rest (note_for t ∷ [])))
     ∙ sym (append_assoc (noted_tries n ts) (entries_of_label p label ++ rest) (note_for t ∷ []))
 
+-- the note of a stop is one of a value that would be too high
+abbrev AreNotesOf : WeakStop → Type 0
+AreNotesOf (WeakStop.Tall entry) = entry ≡ tall_note entry.number entry.steps entry.fresh
+AreNotesOf stop = Unit {0}
+
+stop-seats : (stop : WeakStop) → AreNotesOf stop → All IsFirstSeat (notes_of_stop stop)
+stop-seats (WeakStop.Tall entry) note = one-entry IsFirstSeat entry (subst IsFirstSeat (sym note) (omega arith))
+stop-seats WeakStop.Finished note = All-nil IsFirstSeat
+stop-seats (WeakStop.Blocked certificates) note = All-nil IsFirstSeat
+stop-seats WeakStop.Spent note = All-nil IsFirstSeat
+stop-seats (WeakStop.DeviceFault device) note = All-nil IsFirstSeat
+stop-seats WeakStop.NoMemory note = All-nil IsFirstSeat
+
 module _ (labels : List Label) (tries : List Try) where
   abbrev entries : List Entry
   entries = straight_with 0 tries outset labels
@@ -197,12 +215,25 @@ module _ (labels : List Label) (tries : List Try) where
           (one-entry IsOrdinary (note_for cut.last) (ap is_ordinary (kind true is)))))
       by false is = inr (record { earlier = straight_with 0 cut.front outset labels; note = note_for cut.last; is = parts; its = kind false is; others = before })
 
-  notes-of : (stop : WeakStop) → AreTriesInOrder 0 (length labels) tries → EndTries stop (length labels) tries → NotesStop (Some (stop_told stop)) entries
-  notes-of WeakStop.Finished order last = ordinary last
-  notes-of (WeakStop.Blocked certificates) order last = ordinary last
-  notes-of WeakStop.Spent order last = spent-notes order last
-  notes-of (WeakStop.DeviceFault device) order last = ordinary last
-  notes-of WeakStop.NoMemory order last = ordinary last
+  -- the note of a value that would be too high stands last
+  tall-last : (entry : Entry) → entry ≡ tall_note entry.number entry.steps entry.fresh → AreFailedTries tries → IsTall entry.number (entries ++ entry ∷ [])
+  tall-last entry is failed = record {
+    ends = record { earlier = entries; note = entry; is = refl; its = ap (λ (e : Entry). e.kind) is; others = ordinary failed };
+    its = refl;
+  }
+
+  -- where no note is added
+  as-before : (P : List Entry → Type 0) → P entries → P (entries ++ [])
+  as-before P is = subst P (sym (append-nil entries)) is
+
+  notes-of : (stop : WeakStop) → AreTriesInOrder 0 (length labels) tries → EndTries stop (length labels) tries → AreNotesOf stop
+      → NotesStop (Some (stop_told stop)) (journal_of_run labels tries stop)
+  notes-of WeakStop.Finished order last note = as-before AreOrdinary (ordinary last)
+  notes-of (WeakStop.Blocked certificates) order last note = as-before AreOrdinary (ordinary last)
+  notes-of WeakStop.Spent order last note = as-before (λ es. AreOrdinary es ⊎ EndsWith EntryKind.Cut es) (spent-notes order last)
+  notes-of (WeakStop.DeviceFault device) order last note = as-before AreOrdinary (ordinary last)
+  notes-of (WeakStop.Tall entry) order last note = tall-last entry note last
+  notes-of WeakStop.NoMemory order last note = as-before AreOrdinary (ordinary last)
 
 -- Certificates
 
@@ -332,6 +363,7 @@ fails-too WeakStop.Finished before after fails = fails
 fails-too (WeakStop.Blocked certificates) before after fails = fails
 fails-too WeakStop.Spent before after fails = fails
 fails-too (WeakStop.DeviceFault device) before after fails = fails
+fails-too (WeakStop.Tall entry) before after fails = fails
 fails-too WeakStop.NoMemory before after fails = fails
 
 -- A weak run that was made
@@ -343,6 +375,7 @@ module _ (program : Tree) (limit : ℕ) (labels : List Label) (tries : List Try)
   told-unless (WeakStop.Blocked certificates) tells able = tells
   told-unless WeakStop.Spent tells able = tells
   told-unless (WeakStop.DeviceFault device) tells able = tells
+  told-unless (WeakStop.Tall entry) tells able = tells
   told-unless WeakStop.NoMemory tells able = absurd (able refl)
 
   module _ (weakened : Weakened) (turns_are : weakened.turns ≡ turns) (w : Weak) (leads : IsWeakRun program labels w) (idle : w.state.active ≡ None)
@@ -354,18 +387,155 @@ module _ (program : Tree) (limit : ℕ) (labels : List Label) (tries : List Try)
     none-left none = sym (ap (λ (o : Option ℕ). but o s.members) resting) ∙ none
 
     cause-of : (stop : WeakStop) → TellsStop program limit labels tries turns before after stop → weakened.certificates.items ≡ certificates_told stop
-        → HasWeakStop (stop_told stop) limit weakened s
-    cause-of WeakStop.Finished tells certified = none-left (subst (λ (z : Weak). HasWeakCause WeakStop.Finished z turns limit) is (tells.cause w leads))
-    cause-of (WeakStop.Blocked certificates) tells certified =
+        → NotesStop (Some (stop_told stop)) weakened.journal.entries → HasWeakStop (stop_told stop) limit weakened s
+    cause-of WeakStop.Finished tells certified notes = none-left (subst (λ (z : Weak). HasWeakCause WeakStop.Finished z turns limit) is (tells.cause w leads))
+    cause-of (WeakStop.Blocked certificates) tells certified notes =
         subst (CertifyAll s) (sym certified)
         (certify-all s resting certificates.items (subst (λ (z : Weak). IsBlockedBy z certificates.items) is (tells.cause w leads)))
-    cause-of WeakStop.Spent tells certified =
+    cause-of WeakStop.Spent tells certified notes =
         let cause = subst (λ (z : Weak). HasWeakCause WeakStop.Spent z turns limit) is (tells.cause w leads) in
         (turns_are ∙ cause.0, λ none. cause.1 (ap (λ (o : Option ℕ). but o s.members) resting ∙ none))
-    cause-of (WeakStop.DeviceFault device) tells certified =
+    cause-of (WeakStop.DeviceFault device) tells certified notes =
         stands-so s devices cells (subst (IsTyped devices cells) (ap (λ (z : Weak). z.state) is) typed) device
         (subst (λ (z : Weak). StandsAtCall z device) is (tells.cause w leads))
-    cause-of WeakStop.NoMemory tells certified = tt
+    cause-of (WeakStop.Tall entry) tells certified notes = notes
+    cause-of WeakStop.NoMemory tells certified notes = tt
+
+-- The note of the stop
+
+-- what a stop notes holds at the end
+abbrev HoldsAtEnd : WeakStop → State → Type 0
+HoldsAtEnd (WeakStop.Tall entry) s = IsTallIn s entry
+HoldsAtEnd stop s = Unit {0}
+
+holds-told : (program : Tree) (limit : ℕ) (labels : List Label) (tries : List Try) (turns : ℕ) (before after : List Told) (stop : WeakStop) (w : Weak) → IsWeakRun program labels w
+    → TellsStop program limit labels tries turns before after stop → HoldsAtEnd stop w.state
+holds-told program limit labels tries turns before after (WeakStop.Tall entry) w leads tells = tells.cause w leads
+holds-told program limit labels tries turns before after WeakStop.Finished w leads tells = tt
+holds-told program limit labels tries turns before after (WeakStop.Blocked certificates) w leads tells = tt
+holds-told program limit labels tries turns before after WeakStop.Spent w leads tells = tt
+holds-told program limit labels tries turns before after (WeakStop.DeviceFault device) w leads tells = tt
+holds-told program limit labels tries turns before after WeakStop.NoMemory w leads tells = tt
+
+notes-hold : (stop : WeakStop) (s : State) → HoldsAtEnd stop s → AreNotesOf stop
+notes-hold (WeakStop.Tall entry) s tall = tall.note
+notes-hold WeakStop.Finished s tall = tt
+notes-hold (WeakStop.Blocked certificates) s tall = tt
+notes-hold WeakStop.Spent s tall = tt
+notes-hold (WeakStop.DeviceFault device) s tall = tt
+notes-hold WeakStop.NoMemory s tall = tt
+
+-- so it is one that a journal may have
+stop-fit : (stop : WeakStop) → AreNotesOf stop → LeavesFit stop
+stop-fit (WeakStop.Tall entry) note = subst IsFit (sym note) (record { seat = omega arith; answer = refl })
+stop-fit WeakStop.Finished note = tt
+stop-fit (WeakStop.Blocked certificates) note = tt
+stop-fit WeakStop.Spent note = tt
+stop-fit (WeakStop.DeviceFault device) note = tt
+stop-fit WeakStop.NoMemory note = tt
+
+pub leaves-fit : (program : Tree) (limit : ℕ) (labels : List Label) (tries : List Try) (turns : ℕ) (before after : List Told) (stop : WeakStop)
+    → IsWeakRunOf program limit labels tries stop → TellsStop program limit labels tries turns before after stop → LeavesFit stop
+leaves-fit program limit labels tries turns before after stop made tells =
+    let w = made.ends.weak in
+    stop-fit stop (notes-hold stop w.state (holds-told program limit labels tries turns before after stop w made.ends.leads tells))
+
+noted-where : (b : Bool) (r : Replayed) → b ≡ true → note_where b r ≡ Some r
+noted-where true r e = refl
+noted-where false r e = cc
+
+tall-replays : (r : Replayed) (entry : Entry) → IsTallIn r.state entry → replay_entry r entry ≡ Some r
+unfolding replay_entry
+tall-replays r entry tall =
+    ap (λ (e : Entry). replay_kind e.kind r e.number e.steps e.fresh e.answer) tall.note
+    ∙ noted-where (has_such (is_tall (side_at entry.number r.state) entry.number) (attempt entry.number entry.steps entry.fresh r.state)) r tall.comes
+
+-- a journal leads to the same state with the note of the stop
+stop-replays : (stop : WeakStop) (r t : Replayed) (front : List Entry) → replay_from r front ≡ Some t → HoldsAtEnd stop t.state
+    → replay_from r (front ++ notes_of_stop stop) ≡ Some t
+stop-replays (WeakStop.Tall entry) r t front leads holds =
+    replay_from-append r front (entry ∷ []) ∙ ap (λ (o : Option Replayed). option_and_then (λ u. replay_from u (entry ∷ [])) o) leads
+    ∙ ap (λ (o : Option Replayed). option_and_then (λ u. replay_from u []) o) (tall-replays t entry holds)
+stop-replays WeakStop.Finished r t front leads holds = ap (replay_from r) (append-nil front) ∙ leads
+stop-replays (WeakStop.Blocked certificates) r t front leads holds = ap (replay_from r) (append-nil front) ∙ leads
+stop-replays WeakStop.Spent r t front leads holds = ap (replay_from r) (append-nil front) ∙ leads
+stop-replays (WeakStop.DeviceFault device) r t front leads holds = ap (replay_from r) (append-nil front) ∙ leads
+stop-replays WeakStop.NoMemory r t front leads holds = ap (replay_from r) (append-nil front) ∙ leads
+
+no-call : (k i n : ℕ) (fresh : List ℕ) (s : State) → last_call k i n fresh None s ≡ []
+no-call k i zero fresh s = refl
+no-call k i (suc n) fresh s = refl
+
+tall-calls : (k : ℕ) (r : Replayed) (entry : Entry) → IsTallIn r.state entry → device_calls_from k r (entry ∷ []) ≡ []
+tall-calls k r entry tall =
+    ap (λ (e : Entry). last_call k e.number e.steps e.fresh e.answer r.state ++ of_next (λ t. device_calls_from k t []) (replay_entry r entry)) tall.note
+    ∙ ap (λ (cs : List (ℤ × ℤ)). cs ++ of_next (λ t. device_calls_from k t []) (replay_entry r entry)) (no-call k entry.number entry.steps entry.fresh r.state)
+    ∙ ap (λ (o : Option Replayed). of_next (λ t. device_calls_from k t []) o) (tall-replays r entry tall)
+
+-- and makes the same calls
+stop-calls : (stop : WeakStop) (k : ℕ) (r t : Replayed) (front : List Entry) → replay_from r front ≡ Some t → HoldsAtEnd stop t.state
+    → device_calls_from k r (front ++ notes_of_stop stop) ≡ device_calls_from k r front
+stop-calls (WeakStop.Tall entry) k r t front leads holds =
+    calls-appended k r t front (entry ∷ []) leads ∙ ap (λ (cs : List (ℤ × ℤ)). device_calls_from k r front ++ cs) (tall-calls k t entry holds)
+    ∙ append-nil (device_calls_from k r front)
+stop-calls WeakStop.Finished k r t front leads holds = ap (device_calls_from k r) (append-nil front)
+stop-calls (WeakStop.Blocked certificates) k r t front leads holds = ap (device_calls_from k r) (append-nil front)
+stop-calls WeakStop.Spent k r t front leads holds = ap (device_calls_from k r) (append-nil front)
+stop-calls (WeakStop.DeviceFault device) k r t front leads holds = ap (device_calls_from k r) (append-nil front)
+stop-calls WeakStop.NoMemory k r t front leads holds = ap (device_calls_from k r) (append-nil front)
+
+-- an entry at a place of a list with one more is there before, or is the last
+found-before : (es : List Entry) (e x : Entry) (place : ℕ) → slice_get (es ++ e ∷ []) place ≡ Some x → (slice_get es place ≡ Some x) ⊎ (e ≡ x)
+found-before [] e x zero there = let same : e ≡ x = cc in inr same
+found-before [] e x (suc place) there = absurd (cc)
+found-before (y ∷ es) e x zero there = inl there
+found-before (y ∷ es) e x (suc place) there = found-before es e x place there
+
+found-still : (es : List Entry) (e x : Entry) (place : ℕ) → slice_get es place ≡ Some x → slice_get (es ++ e ∷ []) place ≡ Some x
+found-still [] e x place there = absurd (cc)
+found-still (y ∷ es) e x zero there = there
+found-still (y ∷ es) e x (suc place) there = found-still es e x place there
+
+-- notes of members that wait stand apart still
+apart-last : (es : List Entry) (e : Entry) → e.kind ≡ EntryKind.Tall → AreNotedApart es → AreNotedApart (es ++ e ∷ [])
+apart-last es e kind apart = λ first later note next below one other same.
+    let news = apart first later note next below (back first note one) (back later next other) same in
+    record {
+      place = news.place;
+      behind = news.behind;
+      before = news.before;
+      entry = news.entry;
+      there = found-still es e news.entry news.place news.there;
+      is = news.is;
+    }
+  where
+    back : (place : ℕ) (x : Entry) → HasEntryAt (es ++ e ∷ []) EntryKind.Stuck place x → HasEntryAt es EntryKind.Stuck place x
+    back place x h = elim (found-before es e x place h.there) [
+      | inl there ↦ record { there = there; its = h.its }
+      | inr same ↦ absurd (let clash : EntryKind.Tall ≡ EntryKind.Stuck = sym kind ∙ ap (λ (y : Entry). y.kind) same ∙ h.its in cc)
+    ]
+
+stop-apart : (stop : WeakStop) (es : List Entry) → AreNotesOf stop → AreNotedApart es → AreNotedApart (es ++ notes_of_stop stop)
+stop-apart (WeakStop.Tall entry) es note apart = apart-last es entry (ap (λ (e : Entry). e.kind) note) apart
+stop-apart WeakStop.Finished es note apart = subst AreNotedApart (sym (append-nil es)) apart
+stop-apart (WeakStop.Blocked certificates) es note apart = subst AreNotedApart (sym (append-nil es)) apart
+stop-apart WeakStop.Spent es note apart = subst AreNotedApart (sym (append-nil es)) apart
+stop-apart (WeakStop.DeviceFault device) es note apart = subst AreNotedApart (sym (append-nil es)) apart
+stop-apart WeakStop.NoMemory es note apart = subst AreNotedApart (sym (append-nil es)) apart
+
+-- the note that the stop leaves, if it leaves one
+record IsLastOf (stop : WeakStop) (s : State) : Type 0 where
+  last : Option Entry
+  notes : notes_of_stop stop ≡ option_to_list last
+  grows : IsNoteAtEnd last s
+
+last-of : (stop : WeakStop) (s : State) → HoldsAtEnd stop s → IsLastOf stop s
+last-of (WeakStop.Tall entry) s tall = record { last = Some entry; notes = refl; grows = tall }
+last-of WeakStop.Finished s tall = record { last = None; notes = refl; grows = tt }
+last-of (WeakStop.Blocked certificates) s tall = record { last = None; notes = refl; grows = tt }
+last-of WeakStop.Spent s tall = record { last = None; notes = refl; grows = tt }
+last-of (WeakStop.DeviceFault device) s tall = record { last = None; notes = refl; grows = tt }
+last-of WeakStop.NoMemory s tall = record { last = None; notes = refl; grows = tt }
 
 -- what the theorems of straightening say of a program
 abbrev Straightens : Tree → Type 0
@@ -388,8 +558,21 @@ AreTypedRuns devices program = (labels : List Label) (w : Weak) → IsWeakRun pr
 
 module _ (devices : ℕ) (program : Tree) (straightens : Straightens program) (calls : TellsCalls program) (calls_with : TellsCallsWith program)
     (typed : AreTypedRuns devices program) where
+  -- the journal leads on
+  pub weak-leads : (limit : ℕ) (labels : List Label) (tries : List Try) (turns : ℕ) (stop : WeakStop) (entries : List Entry)
+      → IsWeakRunOf program limit labels tries stop → entries ≡ journal_of_run labels tries stop → (before after : List Told)
+      → TellsStop program limit labels tries turns before after stop → (led : Replayed) × (replay program entries ≡ Some led)
+  weak-leads limit labels tries turns stop entries made entries_are before after tells =
+      let w = made.ends.weak in
+      let s = straightens labels tries w made.tried made.ends.leads made.ends.active in
+      let holds = holds-told program limit labels tries turns before after stop w made.ends.leads tells in (
+        s.0,
+        ap (replay program) entries_are
+            ∙ stop-replays stop (begun_at program) s.0 (straight_with 0 tries outset labels) s.1 (subst (λ (z : Weak). HoldsAtEnd stop z.state) s.2 holds),
+      )
+
   pub weak-tells : (limit : ℕ) (labels : List Label) (tries : List Try) (turns : ℕ) (stop : WeakStop) (weakened : Weakened)
-      → IsWeakRunOf program limit labels tries stop → weakened.journal.entries ≡ straight_with 0 tries outset labels → weakened.turns ≡ turns
+      → IsWeakRunOf program limit labels tries stop → weakened.journal.entries ≡ journal_of_run labels tries stop → weakened.turns ≡ turns
       → weakened.stop ≡ stop_told stop → weakened.certificates.items ≡ certificates_told stop → (before after : List Told) → length after ≡ length before
       → TellsStop program limit labels tries turns before after stop → TellsWeakly program limit weakened before after
   weak-tells limit labels tries turns stop weakened made entries_are turns_are stop_is certified before after count tells =
@@ -398,27 +581,49 @@ module _ (devices : ℕ) (program : Tree) (straightens : Straightens program) (c
       let idle = made.ends.active in
       let s = straightens labels tries w made.tried leads idle in
       let types = typed labels w leads in
+      let straight_entries = straight_with 0 tries outset labels in
+      let holds = holds-told program limit labels tries turns before after stop w leads tells in
+      let note = notes-hold stop w.state holds in
+      let holds_there : HoldsAtEnd stop s.0.state = subst (λ (z : Weak). HoldsAtEnd stop z.state) s.2 holds in
+      let ends = last-of stop w.state holds in
+      let noted : NotesStop (Some (stop_told stop)) weakened.journal.entries =
+      subst (NotesStop (Some (stop_told stop))) (sym entries_are) (notes-of labels tries stop made.order made.last note) in
       let able : weakened.stop ≢ Stop.NoMemory → IsToldBy program limit labels tries turns before after stop =
       λ ne. told-unless program limit labels tries turns before after stop tells (λ e. ne (stop_is ∙ e)) in
       record {
-        straight = record { labels = labels; tries = tries; weak = w; leads = leads; idle = idle; tried = made.tried; entries_are = entries_are };
+        straight = record {
+          labels = labels;
+          tries = tries;
+          weak = w;
+          leads = leads;
+          idle = idle;
+          tried = made.tried;
+          last = ends.last;
+          entries_are = entries_are ∙ ap (λ (es : List Entry). straight_entries ++ es) ends.notes;
+          grows = ends.grows;
+        };
         paid = λ ne.
             subst (λ (k : ℕ). k ≤ 3 * total_steps weakened.journal.entries) (sym turns_are)
             (subst (λ (es : List Entry). turns ≤ 3 * total_steps es) (sym entries_are) (able ne).whole.paid);
         final = s.0;
-        replays = ap (replay program) entries_are ∙ s.1;
-        seats = subst (AreOfSeats 1) (sym entries_are) (every-entry IsFirstSeat label-seat 0 tries outset labels (note-seat tries));
+        replays = ap (replay program) entries_are ∙ stop-replays stop (begun_at program) s.0 straight_entries s.1 holds_there;
+        seats =
+            subst (AreOfSeats 1) (sym entries_are)
+            (All-append IsFirstSeat straight_entries (notes_of_stop stop) (every-entry IsFirstSeat label-seat 0 tries outset labels (note-seat tries))
+            (stop-seats stop note));
         cause =
             subst (λ (k : Stop). HasWeakStop k limit weakened s.0.state) (sym stop_is)
-            (cause-of program limit labels tries turns before after weakened turns_are w leads idle s.0.state s.2 devices types.0 types.1 stop tells certified);
+            (cause-of program limit labels tries turns before after weakened turns_are w leads idle s.0.state s.2 devices types.0 types.1 stop tells certified noted);
         notes =
-            subst (λ (k : Stop). NotesStop (Some k) weakened.journal.entries) (sym stop_is)
-            (subst (NotesStop (Some (stop_told stop))) (sym entries_are) (notes-of labels tries stop made.order made.last));
-        apart = subst AreNotedApart (sym entries_are) (notes-apart program labels w leads tries made.order made.tried made.spaced);
+            subst (λ (k : Stop). NotesStop (Some k) weakened.journal.entries) (sym stop_is) noted;
+        apart =
+            subst AreNotedApart (sym entries_are)
+            (stop-apart stop straight_entries note (notes-apart program labels w leads tries made.order made.tried made.spaced));
         count = count;
         heard = λ ne.
             heard-too program labels weakened.journal.entries
-            (λ k. ap (device_calls k program) entries_are ∙ calls_with k labels tries w made.tried leads ∙ sym (calls k labels w leads))
+            (λ k. ap (device_calls k program) entries_are ∙ stop-calls stop k (begun_at program) s.0 straight_entries s.1 holds_there
+            ∙ calls_with k labels tries w made.tried leads ∙ sym (calls k labels w leads))
             before after (able ne).whole.heard;
         failed = λ ne. subst (λ (k : Stop). HaveFailed (Some k) before after) (sym stop_is) (fails-too stop before after (able ne).fails);
       }
@@ -427,7 +632,7 @@ module _ (devices : ℕ) (program : Tree) (straightens : Straightens program) (c
 pub untold-tells : (program : Tree) (limit : ℕ) (weakened : Weakened) → weakened.journal.entries ≡ [] → weakened.stop ≡ Stop.NoMemory
     → (before after : List Told) → length after ≡ length before → TellsWeakly program limit weakened before after
 untold-tells program limit weakened none stop_is before after count = record {
-  straight = record { labels = []; tries = []; weak = weak_start program; leads = refl; idle = refl; tried = tt; entries_are = none };
+  straight = record { labels = []; tries = []; weak = weak_start program; leads = refl; idle = refl; tried = tt; last = None; entries_are = none; grows = tt };
   paid = λ ne. absurd (ne stop_is);
   final = begun_at program;
   replays = ap (replay program) none;

@@ -21,6 +21,7 @@ use Rattle.ame_cli.specs.declared.command.CliFail.{CliFail}
 use Rattle.ame_cli.specs.declared.command.Options.{Options}
 use Rattle.ame_cli.specs.declared.command.Command.{Command}
 use Rattle.ame_journal.specs.declared.entry.Entry.{Entry}
+use Rattle.ame_journal.specs.JournalView.{IsFit}
 use Rattle.ame_journal.specs.Replayed.{Replayed}
 use Rattle.ame_journal.specs.Replay.{replay}
 use Rattle.ame_journal.specs.Totals.{without_notes, total_steps}
@@ -30,7 +31,7 @@ use Rattle.ame_device.specs.declared.told.Told.{Told}
 use Rattle.ame_protocol.specs.declared.types.Limits.{Limits}
 use Rattle.ame_protocol.specs.declared.certificate.Certificate.{Certificate}
 use Rattle.ame_protocol.specs.declared.stop.Stop.{Stop}
-use Rattle.ame_protocol.specs.Event.Causes.{NotesStop}
+use Rattle.ame_protocol.specs.Event.Causes.{IsTall, NotesStop}
 use Rattle.ame_protocol.specs.Event.Counting.{nothing_counted}
 use Rattle.ame_engine.specs.Ending.{End, IsEnd, CertifyAll}
 use Rattle.ame_engine.specs.Resuming.{HasResumed}
@@ -117,8 +118,8 @@ pub record IsEngineOn (options : Options) (base : List Entry) (code : FlatCode) 
   pub resumed : HasResumed fragments (limits_of options) base engine
 
 -- an engine goes on from its entries, and has done nothing yet
-abbrev pub HasGoneOn : Core FlatCode Val Fragment → Type 0
-HasGoneOn engine = HasResumed fragments engine.limits engine.base engine
+abbrev pub HasJustResumed : Core FlatCode Val Fragment → Type 0
+HasJustResumed engine = HasResumed fragments engine.limits engine.base engine
 
 -- an engine goes on with the code from the entries with which the run of a command begins
 pub record IsOpened (command : Command) (front : Front) (code : FlatCode) (engine : Core FlatCode Val Fragment) : Type 0 where
@@ -127,7 +128,7 @@ pub record IsOpened (command : Command) (front : Front) (code : FlatCode) (engin
   pub begun : BeginsFrom command front (program_of code) engine.base
   pub code_is : engine.code ≡ code
   pub limits_are : engine.limits ≡ limits_of options
-  pub resumed : HasGoneOn engine
+  pub resumed : HasJustResumed engine
 
 -- something is told without a run, or a run goes on from an engine, or one begins with nothing
 abbrev pub IsOutlook : Command → Front → FlatCode → Outlook → Type 0
@@ -160,6 +161,7 @@ HasWeakStop Stop.Finished limit weakened s = s.members ≡ []
 HasWeakStop Stop.Blocked limit weakened s = CertifyAll s weakened.certificates.items
 HasWeakStop Stop.Spent limit weakened s = (weakened.turns ≡ limit) × (s.members ≢ [])
 HasWeakStop (Stop.DeviceFault device) limit weakened s = StandsAtCallOf s device
+HasWeakStop (Stop.Tall number) limit weakened s = IsTall number weakened.journal.entries
 HasWeakStop Stop.NoMemory limit weakened s = ⊤
 HasWeakStop stop limit weakened s = ⊥
 
@@ -221,7 +223,13 @@ stop_told WeakStop.Finished = Stop.Finished
 stop_told (WeakStop.Blocked certificates) = Stop.Blocked
 stop_told WeakStop.Spent = Stop.Spent
 stop_told (WeakStop.DeviceFault device) = Stop.DeviceFault device
+stop_told (WeakStop.Tall entry) = Stop.Tall entry.number
 stop_told WeakStop.NoMemory = Stop.NoMemory
+
+-- the note that a stop leaves is one that a journal may have
+abbrev pub LeavesFit : WeakStop → Type 0
+LeavesFit (WeakStop.Tall entry) = IsFit entry
+LeavesFit stop = ⊤
 
 abbrev pub certificate_told : Failing → Certificate
 certificate_told c = record { number = c.number; steps = c.steps; fresh = c.fresh }

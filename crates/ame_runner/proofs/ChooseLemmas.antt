@@ -35,13 +35,17 @@ use Rattle.ame_runner.specs.Play.{PlayView, HasMade}
 use Rattle.ame_runner.specs.Choices.{candidates}
 use Rattle.ame_runner.specs.Freeing.{FailsFor, HasFreed}
 use Rattle.ame_runner.specs.Run.{RunView, IsRunning, CanBeEnded}
-use Rattle.ame_runner.specs.Stop.{certified_numbers, HearsOn, StopsIfTold, PlaysOn, StandsAtCall, IsBlockedBy, HasStoppedWeakly, MayGoOn, IsFoundInOrder, FoundAtRest, HasCertified}
+use Rattle.ame_runner.specs.Stop.{certified_numbers, HearsOn, StopsIfTold, HasGrown, RunsUntil, PlaysOn, StandsAtCall, IsBlockedBy, HasStoppedWeakly, MayGoOn, IsFoundInOrder, FoundAtRest, HasCertified}
+use Rattle.ame_journal.specs.declared.entry.Entry.{Entry}
+use Rattle.ame_weak.specs.Bounds.{is_growing_tall}
+use Rattle.ame_runner.specs.Tall.{tall_note, IsTallIn}
 use Rattle.ame_runner.specs.declared.freeing.Freed.{Freed}
 use Rattle.ame_runner.specs.declared.stop.WeakStop.{WeakStop}
 use Rattle.ame_runner.proofs.NoteLemmas.{all-more}
 use Rattle.ame_runner.proofs.CountLemmas.{itself, or-there}
 use Rattle.ame_runner.proofs.DeviceLemmas.{none-failed, one-failed, heard-fault}
 use Rattle.ame_runner.proofs.HearLemmas.{hears-free, hears-then}
+use Rattle.ame_runner.proofs.HoldLemmas.{resting_grows_tall}
 
 -- Choices
 
@@ -69,14 +73,50 @@ hears-stop (WeakStop.Blocked certificates) r told found = λ opened running hear
 hears-stop WeakStop.Spent r told found = λ opened running heard. (heard, λ k. refl)
 hears-stop WeakStop.NoMemory r told found = absurd found
 hears-stop (WeakStop.DeviceFault device) r told found = absurd found
+hears-stop (WeakStop.Tall entry) r told found = absurd found
 
-pub goes-stop : (r : RunView) (told : List Told) (stop : WeakStop) → FoundAtRest r (Some stop) → IsRunning r → IsRunning r × HearsOn (Some stop) r r told told × HasStoppedWeakly stop r
-goes-stop r told stop found running = let f = found running in (running, hears-stop stop r told f.1, f.0)
+runs-until : (stop : WeakStop) (r : RunView) → IsFoundInOrder stop r → IsRunning r → RunsUntil (Some stop) r
+runs-until WeakStop.Finished r found running = running
+runs-until (WeakStop.Blocked certificates) r found running = running
+runs-until WeakStop.Spent r found running = running
+runs-until WeakStop.NoMemory r found running = absurd found
+runs-until (WeakStop.DeviceFault device) r found running = absurd found
+runs-until (WeakStop.Tall entry) r found running = absurd found
+
+pub goes-stop : (r : RunView) (told : List Told) (stop : WeakStop) → FoundAtRest r (Some stop) → IsRunning r
+    → RunsUntil (Some stop) r × HearsOn (Some stop) r r told told × HasStoppedWeakly stop r
+goes-stop r told stop found running = let f = found running in (runs-until stop r f.1 running, hears-stop stop r told f.1, f.0)
+
+-- a member grew too tall, and devices hear nothing
+pub goes-tall : (r q : RunView) (told : List Told) (entry : Entry) → (IsRunning r → HasGrown entry q × HasStoppedWeakly (WeakStop.Tall entry) q) → HearsOn None r q told told
+    → IsRunning r → HasGrown entry q × HearsOn (Some (WeakStop.Tall entry)) r q told told × HasStoppedWeakly (WeakStop.Tall entry) q
+goes-tall r q told entry grows hears running = let x = grows running in (x.0, hears, x.1)
+
+-- where a member stands under `unprotected` that is about to become a value that is too high, nothing is active, and no label is left to be made
+pub stops-tall : (r : RunView) (i : ℕ) (entry : Entry) → IsSourceTerm r.play.program → r.left ≡ [] → r.play.weak.state.active ≡ None → is_growing_tall r.play.weak (Some i) ≡ true
+    → entry ≡ tall_note i 0 [] → IsRunning r → HasGrown entry r × HasStoppedWeakly (WeakStop.Tall entry) r
+stops-tall r i entry source none idle grows is running = (
+  record { turns = r.turns; before = running; more = omega arith; within = running.within },
+  record {
+    none = none;
+    idle = idle;
+    cause = resting_grows_tall r.play.program r.play.labels r.play.weak i entry source running.played.leads running.played.within grows is;
+  },
+)
+
+-- a fragment was tried that grew too tall
+pub attempts-tall : (r q : RunView) (entry : Entry) (n : ℕ) → q ≡ record r { turns = n } → n ≤ r.turns + (entry.steps + 1) → n ≤ r.limit → r.left ≡ [] → r.play.weak.state.active ≡ None
+    → IsTallIn r.play.weak.state entry → IsRunning r → HasGrown entry q × HasStoppedWeakly (WeakStop.Tall entry) q
+attempts-tall r q entry n is more within none idle tall running =
+    subst (λ (z : RunView). HasGrown entry z × HasStoppedWeakly (WeakStop.Tall entry) z) (sym is) (
+      record { turns = r.turns; before = running; more = more; within = within },
+      record { none = none; idle = idle; cause = tall },
+    )
 
 -- what a choice came to
-pub goes-as : (r q : RunView) (before after : List Told) (stop told : Option WeakStop) → stop ≡ told → (IsRunning r → IsRunning q × HearsOn stop r q before after × StopsIfTold stop q)
-    → IsRunning r → IsRunning q × HearsOn told r q before after × StopsIfTold told q
-goes-as r q before after stop told is goes = subst (λ (o : Option WeakStop). IsRunning r → IsRunning q × HearsOn o r q before after × StopsIfTold o q) is goes
+pub goes-as : (r q : RunView) (before after : List Told) (stop told : Option WeakStop) → stop ≡ told → (IsRunning r → RunsUntil stop q × HearsOn stop r q before after × StopsIfTold stop q)
+    → IsRunning r → RunsUntil told q × HearsOn told r q before after × StopsIfTold told q
+goes-as r q before after stop told is goes = subst (λ (o : Option WeakStop). IsRunning r → RunsUntil o q × HearsOn o r q before after × StopsIfTold o q) is goes
 
 -- memory was wanted
 pub plays-lost : {E : Type 0} (r q : RunView) (before after : List Told) (a : Result WeakStop E) → IsErr a → (IsRunning r → CanBeEnded q) → PlaysOn r q before after a
@@ -85,8 +125,8 @@ plays-lost r q before after (Ok stop) lost ends = absurd (let clash : false ≡ 
 
 -- choices, and one more or the stop
 module _ (a b q : RunView) (before mid after : List Told) (runs : IsRunning a → IsRunning b) (hears : HearsOn None a b before mid) where
-  pub plays-until : (stop : WeakStop) → (IsRunning b → IsRunning q × HearsOn (Some stop) b q mid after × HasStoppedWeakly stop q)
-      → IsRunning a → IsRunning q × HearsOn (Some stop) a q before after × HasStoppedWeakly stop q
+  pub plays-until : (stop : WeakStop) → (IsRunning b → RunsUntil (Some stop) q × HearsOn (Some stop) b q mid after × HasStoppedWeakly stop q)
+      → IsRunning a → RunsUntil (Some stop) q × HearsOn (Some stop) a q before after × HasStoppedWeakly stop q
   plays-until stop next running = let x = next (runs running) in (x.0, hears-then (Some stop) a b q before mid after hears runs x.1, x.2)
 
   pub plays-runs : (IsRunning b → IsRunning q × HearsOn None b q mid after × ⊤) → IsRunning a → IsRunning q

@@ -212,9 +212,10 @@ runs-begun r q i kinds last x next none own play tries aside left turns within m
     still [] all = tt
     still (t ∷ ts) all = ((λ failing. elim (all.0 failing) [ inl is ↦ inl (aside t.certificate.number ∙ is) | inr change ↦ inr change ]), still ts all.1)
 
--- a fragment without a last label failed or was cut off
-pub how-noted : (o : Outcome) → last_turn o ≡ 0 → (is_failure o ≡ true) ⊎ (o ≡ Outcome.Cut)
-how-noted Outcome.Leaves none = absurd (omega (arith, none))
-how-noted Outcome.Ends none = absurd (omega (arith, none))
-how-noted Outcome.Fails none = inl refl
-how-noted Outcome.Cut none = inr refl
+-- a fragment without a last label, which didn't grow too tall, failed or was cut off
+pub how-noted : (o : Outcome) → last_turn o ≡ 0 → (o ≡ Outcome.Tall → ⊥) → (is_failure o ≡ true) ⊎ (o ≡ Outcome.Cut)
+how-noted Outcome.Leaves none low = absurd (omega (arith, none))
+how-noted Outcome.Ends none low = absurd (omega (arith, none))
+how-noted Outcome.Fails none low = inl refl
+how-noted Outcome.Tall none low = absurd (low refl)
+how-noted Outcome.Cut none low = inr refl

@@ -6,7 +6,7 @@ use Rattle.ame_term.specs.Tree.{Tree}
 use Rattle.ame_term.specs.declared.semantics.Label.{Label}
 use Rattle.ame_weak.specs.Weak.{Weak, weak_start, weak_after, weak_run, IsWeakRun}
 use Rattle.ame_weak.specs.Straightened.{EndsActive}
-use Rattle.ame_weak.specs.Tries.{HoldsIn, IsTried, AreTried, AreTriesInOrder}
+use Rattle.ame_weak.specs.Tries.{HoldsIn, IsTried, AreTried, AreTriesInOrder, straight_with}
 use Rattle.ame_weak.specs.declared.tries.Try.{Try}
 use Rattle.ame_runner.specs.Labels.{label_location, behind_location, location_above}
 use Rattle.ame_weak.specs.Bounds.{AreWithinBounds}
@@ -15,12 +15,14 @@ use Rattle.ame_runner.specs.Notes.{HasChange, AreSetApart, AreSpaced, HoldsAfter
 use Rattle.ame_device.specs.declared.told.Told.{Told}
 use Rattle.ame_shell.specs.Heard.{HaveHeard}
 use Rattle.ame_shell.proofs.HeardLemmas.{heard-nothing}
-use Rattle.ame_weak.specs.Straight.{straight}
-use Rattle.ame_runner.specs.Run.{RunView, AreFailedTries, CutAt, IsRunning, CanBeEnded, IsAtStart, KeepsFrame}
-use Rattle.ame_runner.specs.Stop.{HasWeakCause, FailsBy, HeardSoFar, HasStoppedWeakly}
-use Rattle.ame_runner.specs.Ended.{EndTries, IsWeakRunOf, IsToldBy, TellsStop}
+use Rattle.ame_journal.specs.Totals.{total_steps}
+use Rattle.ame_weak.specs.Straight.{straight, outset}
+use Rattle.ame_runner.specs.Run.{RunView, turns_of_tries, AreFailedTries, CutAt, IsRunning, CanBeEnded, IsAtStart, KeepsFrame}
+use Rattle.ame_runner.specs.Stop.{HasWeakCause, FailsBy, HeardSoFar, HasStoppedWeakly, RunsUntil}
+use Rattle.ame_runner.specs.Ended.{EndTries, IsWeakRunOf, notes_of_stop, IsToldBy, TellsStop}
 use Rattle.ame_runner.specs.declared.stop.WeakStop.{WeakStop}
-use Rattle.ame_runner.proofs.TotalLemmas.{turns-told}
+use Rattle.ame_runner.proofs.RunLemmas.{running-ends}
+use Rattle.ame_runner.proofs.TotalLemmas.{turns-told, both-steps, one-step}
 use Rattle.ame_runner.proofs.NoteLemmas.{all-with}
 use Rattle.ame_runner.proofs.CutLemmas.{without, failed-left, ends-without}
 
@@ -87,11 +89,58 @@ ended-run r stop x few_cut =
 
 -- A run that has stopped
 
-module _ (r : RunView) (x : IsRunning r) (stop : WeakStop) (stopped : HasStoppedWeakly stop r) where
+-- what is so of the turns where it stops
+record IsPaid (stop : WeakStop) (r : RunView) : Type 0 where
+  turns : ℕ
+  before : IsRunning (record r { turns = turns })
+  within : r.turns ≤ r.limit
+  told : r.turns ≤ length r.play.labels + turns_of_tries r.tries + total_steps (notes_of_stop stop)
+
+paid-running : (stop : WeakStop) (r : RunView) → IsRunning r → r.left ≡ [] → IsPaid stop r
+paid-running stop r x none = record {
+  turns = r.turns;
+  before = x;
+  within = x.within;
+  told = let counted = x.counted in let left : length r.left ≡ 0 = ap length none in omega (arith, counted, left);
+}
+
+paid-until : (stop : WeakStop) (r : RunView) → RunsUntil (Some stop) r → r.left ≡ [] → IsPaid stop r
+paid-until WeakStop.Finished r x none = paid-running WeakStop.Finished r x none
+paid-until (WeakStop.Blocked certificates) r x none = paid-running (WeakStop.Blocked certificates) r x none
+paid-until WeakStop.Spent r x none = paid-running WeakStop.Spent r x none
+paid-until (WeakStop.DeviceFault device) r x none = paid-running (WeakStop.DeviceFault device) r x none
+paid-until WeakStop.NoMemory r x none = paid-running WeakStop.NoMemory r x none
+paid-until (WeakStop.Tall entry) r x none = record {
+  turns = x.turns;
+  before = x.before;
+  within = x.within;
+  told =
+      let counted : x.turns ≡ length r.play.labels + length r.left + turns_of_tries r.tries = x.before.counted in
+      let left : length r.left ≡ 0 = ap length none in
+      let note = one-step entry in
+      let more = x.more in
+      omega (arith, counted, left, note, more);
+}
+
+ends-turned : (r : RunView) (n : ℕ) → IsRunning (record r { turns = n }) → CanBeEnded r
+ends-turned r n x = let e = running-ends (record r { turns = n }) x in record { played = e.played; kept = e.kept; settled = e.settled; few = e.few; cut = e.cut }
+
+pub until-ends : (stop : WeakStop) (r : RunView) → RunsUntil (Some stop) r → CanBeEnded r
+until-ends WeakStop.Finished r x = running-ends r x
+until-ends (WeakStop.Blocked certificates) r x = running-ends r x
+until-ends WeakStop.Spent r x = running-ends r x
+until-ends (WeakStop.DeviceFault device) r x = running-ends r x
+until-ends WeakStop.NoMemory r x = running-ends r x
+until-ends (WeakStop.Tall entry) r x = ends-turned r x.turns x.before
+
+module _ (r : RunView) (stop : WeakStop) (y : IsPaid stop r) (stopped : HasStoppedWeakly stop r) where
+  x : IsRunning (record r { turns = y.turns })
+  x = y.before
+
   all-settled : take r.play.settled r.play.labels ≡ r.play.labels
   all-settled = let here = x.played.here stopped.idle in take_all r.play.settled r.play.labels (omega (arith, here))
 
-  pub told-by : (opened now : List Told) → HeardSoFar r opened now → FailsBy (Some stop) opened now
+  told-by : (opened now : List Told) → HeardSoFar r opened now → FailsBy (Some stop) opened now
       → IsToldBy r.play.program r.limit (take r.play.settled r.play.labels) r.tries r.turns opened now stop
   told-by opened now heard fails = subst (λ (ls : List Label). IsToldBy r.play.program r.limit ls r.tries r.turns opened now stop) (sym all-settled) (record {
     cause = λ w leads.
@@ -102,12 +151,12 @@ module _ (r : RunView) (x : IsRunning r) (stop : WeakStop) (stopped : HasStopped
       heard = heard;
       paid =
           let told = turns-told r.play.program r.play.labels r.tries r.play.weak x.played.leads stopped.idle x.kept.order in
-          let counted = x.counted in
-          let none : length r.left ≡ 0 = ap length stopped.none in
-          omega (arith, told, counted, none);
+          let all = both-steps (straight_with 0 r.tries outset r.play.labels) (notes_of_stop stop) in
+          let paid = y.told in
+          omega (arith, told, all, paid);
     };
     fails = fails;
-    within = x.within;
+    within = y.within;
   })
 
 pub stops-as : (program : Tree) (limit : ℕ) (labels : List Label) (tries : List Try) (turns : ℕ) (before after : List Told) (stop : WeakStop)
@@ -116,6 +165,7 @@ stops-as program limit labels tries turns before after WeakStop.Finished told = 
 stops-as program limit labels tries turns before after (WeakStop.Blocked certificates) told = told
 stops-as program limit labels tries turns before after WeakStop.Spent told = told
 stops-as program limit labels tries turns before after (WeakStop.DeviceFault device) told = told
+stops-as program limit labels tries turns before after (WeakStop.Tall entry) told = told
 stops-as program limit labels tries turns before after WeakStop.NoMemory told = tt
 
 all-failed-so : (stop : WeakStop) (n : ℕ) (tries : List Try) → AreFailedTries tries → EndTries stop n tries
@@ -123,6 +173,7 @@ all-failed-so WeakStop.Finished n tries all = all
 all-failed-so (WeakStop.Blocked certificates) n tries all = all
 all-failed-so WeakStop.Spent n tries all = inl all
 all-failed-so (WeakStop.DeviceFault device) n tries all = all
+all-failed-so (WeakStop.Tall entry) n tries all = all
 all-failed-so WeakStop.NoMemory n tries all = all
 
 -- where there was no memory to begin
@@ -171,14 +222,14 @@ module _ (r : RunView) (labels : List Label) (tries : List Try) (stop : WeakStop
       ended-as (without_cut r.tries) same (ended-run (without r) stop (ends-without r x) (all-failed-so stop r.play.settled (without_cut r.tries) (failed-left r x)))
 
   -- where it has stopped
-  pub told-whole : (turns : ℕ) (why : WeakStop) → IsRunning r → HasStoppedWeakly why r → tries ≡ r.tries → turns ≡ r.turns → stop ≡ why → (before now : List Told)
+  pub told-whole : (turns : ℕ) (why : WeakStop) → RunsUntil (Some why) r → HasStoppedWeakly why r → tries ≡ r.tries → turns ≡ r.turns → stop ≡ why → (before now : List Told)
       → HeardSoFar r before now → FailsBy (Some why) before now → TellsStop r.play.program r.limit labels tries turns before now stop
   told-whole turns why x stopped same count is before now heard fails =
       subst (λ (w : WeakStop). TellsStop r.play.program r.limit labels tries turns before now w) (sym is)
       (subst (λ (ls : List Label). TellsStop r.play.program r.limit ls tries turns before now why) (sym are)
       (subst (λ (us : List Try). TellsStop r.play.program r.limit (take r.play.settled r.play.labels) us turns before now why) (sym same)
       (subst (λ (n : ℕ). TellsStop r.play.program r.limit (take r.play.settled r.play.labels) r.tries n before now why) (sym count)
-      (stops-as r.play.program r.limit (take r.play.settled r.play.labels) r.tries r.turns before now why (told-by r x why stopped before now heard fails)))))
+      (stops-as r.play.program r.limit (take r.play.settled r.play.labels) r.tries r.turns before now why (told-by r why (paid-until why r x stopped.none) stopped before now heard fails)))))
 
 -- the program and the limit stay
 module _ (r q : RunView) (frame : KeepsFrame r q) where

@@ -56,6 +56,7 @@ fails-then (Some WeakStop.Finished) a b c first second = none-then a b c first s
 fails-then (Some (WeakStop.Blocked certificates)) a b c first second = none-then a b c first second
 fails-then (Some WeakStop.Spent) a b c first second = none-then a b c first second
 fails-then (Some WeakStop.NoMemory) a b c first second = none-then a b c first second
+fails-then (Some (WeakStop.Tall entry)) a b c first second = none-then a b c first second
 fails-then (Some (WeakStop.DeviceFault device)) a b c first second = record {
   risen = subst (λ n. HasRisen n (told_at c device).faults) (first device) second.risen;
   others = λ other apart. second.others other apart ∙ first other;

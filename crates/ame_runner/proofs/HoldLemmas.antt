@@ -1,17 +1,20 @@
 -- What was tried on a copy could happen here.
-use Rattle.std.proofs.Common.{◌≡◌, ℕ, suc, ◌+◌, ◌++◌, Bool, true, false, List, [], ◌∷◌, length, map, Option, Some, None, is_some, if◌then◌else◌, refl, sym, ap, ◌∙◌, subst, arith, append-nil, append_assoc}
+use Rattle.std.proofs.Common.{◌≡◌, ℕ, suc, ◌+◌, ◌==◌, ◌++◌, Bool, true, false, List, [], ◌∷◌, length, map, Option, Some, None, is_some, if◌then◌else◌, refl, sym, ap, ◌∙◌, subst, arith, append-nil, append_assoc}
 use Rattle.std.proofs.lemmas.Option.{option_and_then_some}
 use Rattle.ame_term.specs.Tree.{Typ, Tree}
-use Rattle.ame_term.specs.Context.{focus}
+use Rattle.ame_term.specs.Context.{Focus, focus}
+use Rattle.ame_term.specs.Height.{max_height}
 use Rattle.ame_term.specs.Maps.{at}
 use Rattle.ame_term.specs.SourceTerm.{IsSourceTerm}
-use Rattle.ame_term.specs.State.{State, after}
+use Rattle.ame_term.specs.State.{State, after, at_unprotected}
 use Rattle.ame_term.specs.Typing.{Accepts}
 use Rattle.ame_term.specs.declared.semantics.StepKind.{StepKind}
 use Rattle.ame_term.specs.declared.semantics.Label.{Label}
 use Rattle.ame_journal.specs.Labels.{fresh_of, made_by}
-use Rattle.ame_journal.specs.Replayed.{Replayed, begun_at, has_such, is_false_condition, is_failing}
-use Rattle.ame_journal.specs.Replay.{fragment, fails_after}
+use Rattle.ame_term.specs.Frame.{Side, side_told}
+use Rattle.ame_journal.specs.declared.entry.Entry.{Entry}
+use Rattle.ame_journal.specs.Replayed.{Replayed, begun_at, has_such, is_false_condition, is_failing, is_at_unprotected, side_at, coming_height, is_tall}
+use Rattle.ame_journal.specs.Replay.{fragment, fails_after, attempt_on, attempt}
 use Rattle.ame_journal.proofs.UnderWayLemmas.{UnderWay-runs}
 use Rattle.ame_journal.proofs.UnfoldLemmas.{fragment-back}
 use Rattle.ame_machine.proofs.Run.ReplayLemmas.{active_run}
@@ -20,14 +23,18 @@ use Rattle.ame_strong.specs.declared.next_label.Next.TheVariants as next
 use Rattle.ame_strong.proofs.ToldLemmas.{tells}
 use Rattle.ame_weak.specs.Weak.{Weak, holding_none, moved, weak_start, weak_after, weak_run}
 use Rattle.ame_weak.specs.Straight.{Place, outset}
+use Rattle.ame_weak.specs.Bounds.{AreWithinBounds, is_growing_tall}
 use Rattle.ame_weak.specs.Tries.{HoldsIn}
 use Rattle.ame_weak.specs.declared.tries.Try.{Try}
 use Rattle.ame_weak.proofs.HeldSteps.{map-gave}
 use Rattle.ame_weak.proofs.LabelLemmas.{step-active}
+use Rattle.ame_weak.proofs.LowValues.{labels_low, start_low, active_tall, resting_tall}
 use Rattle.ame_weak.proofs.WayLemmas.{IsUnderWay, way-begun, way-step}
 use Rattle.ame_weak.proofs.TypedRuns.{way-typed}
 use Rattle.ame_weak.proofs.Follow.{IsFollowed}
 use Rattle.ame_weak.proofs.StraightLemmas.{past_all, follow-labels, ends-strong, begun-followed}
+use Rattle.ame_journal.specs.Labels.{fragment_labels}
+use Rattle.ame_runner.specs.Tall.{tall_note, IsTallIn, IsTallOf}
 use Rattle.ame_runner.specs.Trial.{IsTrial, StandsAs, IsTriedOut, is_failure, IsTryOf}
 use Rattle.ame_runner.specs.declared.trial.Outcome.{Outcome}
 use Rattle.ame_runner.specs.declared.trial.TriedOut.{TriedOut}
@@ -83,6 +90,17 @@ module _ (devices : ℕ) where
         let stands = (told.present i u.place.term u.laid.active u.stands).waits.0 stuck in
         ap (has_such (is_failing i)) f.1 ∙ ap (has_such (λ (term : Tree). is_false_condition (focus term))) (f.2 ∙ u.stands) ∙ ap is_false_condition stands
 
+    -- the member stands in protected code
+    way-side : side_at i s ≡ Side.Protected
+    way-side = ap side_told (ap (has_such (λ (term : Tree). at_unprotected (focus term))) u.member ∙ u.calm)
+
+    way-tall : is_tall Side.Protected i w.state ≡ true → has_such (is_tall (side_at i s) i) (attempt i n fresh s) ≡ true
+    way-tall tall =
+        let f = way-fragment in
+        subst (λ (side : Side). has_such (is_tall side i) (attempt_on side i n fresh s) ≡ true) (sym way-side)
+        (ap (has_such (is_tall Side.Protected i)) f.1
+        ∙ ap (has_such (λ (term : Tree). coming_height Side.Protected (focus term) == max_height + 1)) f.2 ∙ tall)
+
     way-holds : (b : Bool) → (b ≡ true → next_of w.state None ≡ next.Stuck) → (if b then fails_after s i n fresh else is_some (fragment i n fresh s)) ≡ true
     way-holds true stuck = way-fails (stuck refl)
     way-holds false stuck = ap is_some way-fragment.1
@@ -91,6 +109,7 @@ stuck-where : (o : Outcome) (v : Weak) → StandsAs o v → is_failure o ≡ tru
 stuck-where Outcome.Fails v stands e = stands
 stuck-where Outcome.Leaves v stands e = absurd (cc)
 stuck-where Outcome.Ends v stands e = absurd (cc)
+stuck-where Outcome.Tall v stands e = absurd (cc)
 stuck-where Outcome.Cut v stands e = absurd (cc)
 
 module _ (devices : ℕ) (places : List ℕ) (program : Tree) (refs : List Typ) (accepts : Accepts devices places program refs) (source : IsSourceTerm program) where
@@ -107,3 +126,38 @@ module _ (devices : ℕ) (places : List ℕ) (program : Tree) (refs : List Typ) 
             ∙ ap (λ (ls : List ℕ). if t.failing then fails_after w.state i (length a.kinds.items) ls else is_some (fragment i (length a.kinds.items) ls w.state)) is.fresh
             ∙ holds,
       )
+
+  -- a fragment that came to a value that would be too high comes to it here, as its note tells
+  pub tried_grow_tall : (labels : List Label) (w : Weak) (i first turns : ℕ) (a : TriedOut) (entry : Entry) → weak_run (weak_start program) labels ≡ Some w
+      → AreWithinBounds (weak_start program) labels → w.state.active ≡ None → IsTriedOut w i first turns a → a.outcome ≡ Outcome.Tall → IsTallOf i a entry → IsTallIn w.state entry
+  tried_grow_tall labels w i first turns a entry e within idle tried outcome is =
+      let g = follow-labels devices (begun_at program) outset (weak_start program) w labels (begun-followed devices places program refs accepts source) e in
+      let way = way-of devices g.behind (past_all outset labels) w g.follows idle i first tried.behind a.kinds.items a.above tried.is in
+      let low = labels_low w tried.behind (fragment_labels i a.kinds.items) tried.is.leads tried.is.within (labels_low (weak_start program) w labels e within (start_low program source)) in
+      let grows : is_growing_tall tried.behind None ≡ true = subst (λ (o : Outcome). StandsAs o tried.behind) outcome tried.comes in
+      let high = active_tall tried.behind i low way.laid.active grows in
+      subst (IsTallIn w.state) (sym is)
+      (record { note = refl; comes = way-tall devices w.state i (length a.kinds.items) (made_by a.kinds.items) tried.behind way high })
+
+-- a member that is about to become such a value on the unprotected side stands there
+tall-stands : (i : ℕ) (s : State) → is_tall Side.Unprotected i s ≡ true → is_at_unprotected i s ≡ true
+tall-stands i s high = by (at s.members i) high
+  where
+    stands : (f : Focus) → (coming_height Side.Unprotected f == max_height + 1) ≡ true → at_unprotected f ≡ true
+    stands (Focus.AtValue v) high = cc
+    stands (Focus.AtRedex Side.Unprotected redex) high = refl
+    stands (Focus.AtRedex Side.Protected redex) high = cc
+
+    by : (o : Option Tree) → has_such (λ (term : Tree). coming_height Side.Unprotected (focus term) == max_height + 1) o ≡ true
+        → has_such (λ (term : Tree). at_unprotected (focus term)) o ≡ true
+    by None high = cc
+    by (Some term) high = stands (focus term) high
+
+-- under `unprotected` its next step is that
+pub resting_grows_tall : (program : Tree) (labels : List Label) (w : Weak) (i : ℕ) (entry : Entry) → IsSourceTerm program → weak_run (weak_start program) labels ≡ Some w
+    → AreWithinBounds (weak_start program) labels → is_growing_tall w (Some i) ≡ true → entry ≡ tall_note i 0 [] → IsTallIn w.state entry
+resting_grows_tall program labels w i entry source e within grows is =
+    let high = resting_tall w i (labels_low (weak_start program) w labels e within (start_low program source)) grows in
+    let side : side_at i w.state ≡ Side.Unprotected = ap side_told (tall-stands i w.state high) in
+    subst (IsTallIn w.state) (sym is)
+    (record { note = refl; comes = subst (λ (on : Side). has_such (is_tall on i) (attempt_on on i 0 [] w.state) ≡ true) (sym side) high })

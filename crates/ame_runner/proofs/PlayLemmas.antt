@@ -34,7 +34,7 @@ played-begun program labels w none is = record {
   here = λ idle. ap length (sym none);
 }
 
-within-more : (w v : Weak) (xs : List Label) (y : Label) → AreWithinBounds w xs → weak_run w xs ≡ Some v → IsWithinBounds v y → AreWithinBounds w (xs ++ y ∷ [])
+pub within-more : (w v : Weak) (xs : List Label) (y : Label) → AreWithinBounds w xs → weak_run w xs ≡ Some v → IsWithinBounds v y → AreWithinBounds w (xs ++ y ∷ [])
 within-more w v [] y all e within = let same : w ≡ v = cc in (subst (λ z. IsWithinBounds z y) (sym same) within, λ u first. tt)
 within-more w v (x ∷ xs) y all e within = (all.0, λ u first. within-more u v xs y (all.1 u first) (sym (ap (option_and_then (λ z. weak_run z xs)) first) ∙ e) within)
 

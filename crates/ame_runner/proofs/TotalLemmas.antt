@@ -76,10 +76,10 @@ pending-most : (o : Option ℕ) (steps : ℕ) → pending o steps ≤ steps + 1
 pending-most None steps = omega arith
 pending-most (Some i) steps = omega arith
 
-both-steps : (xs ys : List Entry) → total_steps (xs ++ ys) ≡ total_steps xs + total_steps ys
+pub both-steps : (xs ys : List Entry) → total_steps (xs ++ ys) ≡ total_steps xs + total_steps ys
 both-steps xs ys = sum_by-append (λ entry. entry.steps + 1) xs ys
 
-one-step : (entry : Entry) → total_steps (entry ∷ []) ≡ entry.steps + 1
+pub one-step : (entry : Entry) → total_steps (entry ∷ []) ≡ entry.steps + 1
 one-step entry = let is = sum_by-cons (λ (e : Entry). e.steps + 1) entry [] in let none : total_steps [] ≡ 0 = refl in omega (arith, is, none)
 
 label-told : (w x : Weak) (p : Place) (label : Label) → weak_after w label ≡ Some x

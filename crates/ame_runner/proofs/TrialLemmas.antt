@@ -1,14 +1,16 @@
 -- A fragment that is tried goes on by a step.
 use Rattle.std.proofs.Common.{◌≡◌, ℕ, ◌+◌, ◌<◌, ◌≤◌, ◌++◌, List, [], ◌∷◌, length, map, Option, Some, None, option_and_then, refl, sym, ap, ◌∙◌, subst, arith, append-nil, length-append}
 use Rattle.std.proofs.lemmas.List.Concat.{flat_map-append}
+use Rattle.std.specs.Prelude.{Result, Ok, Err, IfOk}
 use Rattle.ame_term.specs.declared.semantics.StepKind.{StepKind}
 use Rattle.ame_term.specs.declared.semantics.Label.{Label}
 use Rattle.ame_journal.specs.Labels.{fresh_of, made_by, fragment_labels}
 use Rattle.ame_weak.specs.Weak.{Weak, weak_after, weak_run}
-use Rattle.ame_runner.specs.Trial.{AreNext, IsTrial, HasTriedOn, StandsAs, IsDecided, last_turn, IsTriedOut}
+use Rattle.ame_weak.specs.Bounds.{AreWithinBounds}
+use Rattle.ame_runner.specs.Trial.{AreNext, IsTrial, HasTriedOn, StandsAs, IsDecided, last_turn, IsEndedAtLast, IsTriedOut}
 use Rattle.ame_runner.specs.declared.trial.Outcome.{Outcome}
 use Rattle.ame_runner.specs.declared.trial.TriedOut.{TriedOut}
-use Rattle.ame_runner.proofs.PlayLemmas.{run-more}
+use Rattle.ame_runner.proofs.PlayLemmas.{run-more, within-more}
 
 next-more : (a : ℕ) (ls ms : List ℕ) (b c : ℕ) → AreNext a ls b → AreNext b ms c → AreNext a (ls ++ ms) c
 next-more a [] ms b c is more = subst (λ n. AreNext n ms c) (sym is) more
@@ -22,7 +24,7 @@ steps-more [] kind = refl
 steps-more (k ∷ kinds) kind = ap (λ ls. Label.Step k ∷ ls) (steps-more kinds kind)
 
 pub trial-begun : (w v : Weak) (i first : ℕ) → weak_after w (Label.Activate i) ≡ Some v → IsTrial w i first v [] first
-trial-begun w v i first e = record { leads = ap (option_and_then (λ z. weak_run z [])) e; made = refl }
+trial-begun w v i first e = record { leads = ap (option_and_then (λ z. weak_run z [])) e; within = (tt, λ u goes. tt); made = refl }
 
 pub trial-more : (w : Weak) (i first : ℕ) (v : Weak) (kinds : List StepKind) (above : ℕ) (later : Weak) (more : List StepKind) (next_above : ℕ)
     → IsTrial w i first v kinds above → HasTriedOn v kinds above later more next_above → IsTrial w i first later more next_above
@@ -30,6 +32,10 @@ trial-more w i first v kinds above later more next_above t g = record {
   leads =
       ap (λ ks. weak_run w (fragment_labels i ks)) g.added ∙ ap (λ ls. weak_run w (Label.Activate i ∷ ls)) (steps-more kinds g.kind)
       ∙ run-more w v later (fragment_labels i kinds) (Label.Step g.kind) t.leads g.legal;
+  within =
+      subst (λ ks. AreWithinBounds w (fragment_labels i ks)) (sym g.added)
+      (subst (λ ls. AreWithinBounds w (Label.Activate i ∷ ls)) (sym (steps-more kinds g.kind))
+      (within-more w v (fragment_labels i kinds) (Label.Step g.kind) t.within t.leads g.within));
   made =
       subst (λ ks. AreNext first (made_by ks) next_above) (sym g.added)
       (subst (λ ls. AreNext first ls next_above) (sym (made-more kinds g.kind)) (next-more first (made_by kinds) (fresh_of g.kind) above next_above t.made g.made));
@@ -43,6 +49,7 @@ one-at-most : (o : Outcome) → last_turn o ≤ 1
 one-at-most Outcome.Leaves = omega arith
 one-at-most Outcome.Ends = omega arith
 one-at-most Outcome.Fails = omega arith
+one-at-most Outcome.Tall = omega arith
 one-at-most Outcome.Cut = omega arith
 
 not-cut : (o : Outcome) → IsDecided o → o ≡ Outcome.Cut → ⊥
@@ -77,3 +84,8 @@ module _ (w : Weak) (i first turns : ℕ) (v : Weak) (kinds : List StepKind) (ab
     within = omega (arith, took);
     used = λ cut. took;
   }
+
+pub ended-last : {E : Type 0} (w : Weak) (i first turns : ℕ) (v : Weak) (kinds : List StepKind) (above : ℕ) (a : Result TriedOut E) → IsTrial w i first v kinds above
+    → length kinds + 1 ≡ turns → IfOk a (IsEndedAtLast v kinds above turns) → IfOk a (IsTriedOut w i first turns)
+ended-last w i first turns v kinds above (Ok a) t all ended = tried-last w i first turns v kinds above a t ended.made ended.up ended.comes ended.last all ended.took
+ended-last w i first turns v kinds above (Err e) t all ended = tt

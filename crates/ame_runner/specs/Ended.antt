@@ -1,8 +1,9 @@
 -- What is told of a run that has ended.
-use Rattle.std.specs.Prelude.{◌≡◌, ℕ, ◌*◌, ◌≤◌, ◌⊎◌, List, length, Some, None, ⊤}
+use Rattle.std.specs.Prelude.{◌≡◌, ℕ, ◌*◌, ◌≤◌, ◌⊎◌, List, [], ◌∷◌, ◌++◌, length, Some, None, ⊤}
 use Rattle.ame_term.specs.Tree.{Tree}
 use Rattle.ame_term.specs.declared.semantics.Label.{Label}
 use Rattle.ame_device.specs.declared.told.Told.{Told}
+use Rattle.ame_journal.specs.declared.entry.Entry.{Entry}
 use Rattle.ame_journal.specs.Totals.{total_steps}
 use Rattle.ame_shell.specs.Heard.{HaveHeard}
 use Rattle.ame_weak.specs.Weak.{Weak, weak_start, IsWeakRun}
@@ -35,18 +36,27 @@ pub record IsWeakRunOf (program : Tree) (limit : ℕ) (labels : List Label) (tri
   pub last : EndTries stop (length labels) tries
   pub spaced : AreSpaced labels tries
 
+-- the note of the member that grew too tall, where the run stopped by that
+abbrev pub notes_of_stop : WeakStop → List Entry
+notes_of_stop (WeakStop.Tall entry) = entry ∷ []
+notes_of_stop _ = []
+
+-- the journal of a run, with the notes of its tries and of its stop
+abbrev pub journal_of_run : List Label → List Try → WeakStop → List Entry
+journal_of_run labels tries stop = straight_with 0 tries outset labels ++ notes_of_stop stop
+
 -- Of a run that ended otherwise than by want of memory: devices have heard the calls of its journal and no others, and its
--- turns are at most three times the steps and entries that the journal tells, with the notes of the tries.
-pub record IsWholeRun (program : Tree) (labels : List Label) (tries : List Try) (turns : ℕ) (before after : List Told) : Type 0 where
+-- turns are at most three times the steps and entries that the journal tells, with its notes.
+pub record IsWholeRun (program : Tree) (labels : List Label) (tries : List Try) (turns : ℕ) (before after : List Told) (stop : WeakStop) : Type 0 where
   pub heard : HaveHeard program (straight labels) before after
-  pub paid : turns ≤ 3 * total_steps (straight_with 0 tries outset labels)
+  pub paid : turns ≤ 3 * total_steps (journal_of_run labels tries stop)
 
 -- What a stop tells of a run: its cause in the state to which the labels lead, what devices heard, and which failed.
 pub record IsToldBy (program : Tree) (limit : ℕ) (labels : List Label) (tries : List Try) (turns : ℕ) (before after : List Told) (stop : WeakStop) :
     Type 0 where
   pub cause : (w : Weak) → IsWeakRun program labels w → HasWeakCause stop w turns limit
   pub within : turns ≤ limit
-  pub whole : IsWholeRun program labels tries turns before after
+  pub whole : IsWholeRun program labels tries turns before after stop
   pub fails : FailsBy (Some stop) before after
 
 -- where memory was wanted, nothing

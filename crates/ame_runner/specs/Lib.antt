@@ -3,6 +3,7 @@ pub mod Play
 pub mod View
 pub mod Choices
 pub mod Trial
+pub mod Tall
 pub mod Notes
 pub mod Run
 pub mod Freeing

@@ -1,8 +1,9 @@
 -- Why a run stops.
-use Rattle.std.specs.Prelude.{◌≡◌, ◌≢◌, ℕ, ◌<◌, ◌==◌, ℤ, ◌⊎◌, true, List, [], ◌∷◌, ◌++◌, map, Option, Some, None, is_some, Result, Ok, Err, ⊤}
+use Rattle.std.specs.Prelude.{◌≡◌, ◌≢◌, ℕ, ◌+◌, ◌<◌, ◌≤◌, ◌==◌, ℤ, ◌⊎◌, true, List, [], ◌∷◌, ◌++◌, map, Option, Some, None, is_some, Result, Ok, Err, ⊤}
 use Rattle.std.specs.List.{AllByRecursion, list_any}
 use Rattle.ame_term.specs.Maps.{at}
 use Rattle.ame_device.specs.declared.told.Told.{Told}
+use Rattle.ame_journal.specs.declared.entry.Entry.{Entry}
 use Rattle.ame_engine.specs.Ending.{Rise}
 use Rattle.ame_journal.specs.Replay.{fails_after}
 use Rattle.ame_strong.specs.Pool.{pool}
@@ -13,6 +14,7 @@ use Rattle.ame_weak.specs.Weak.{Weak}
 use Rattle.ame_weak.specs.Straight.{straight}
 use Rattle.ame_weak.specs.declared.tries.Certificate.{Certificate}
 use Rattle.ame_runner.specs.Choices.{candidates}
+use Rattle.ame_runner.specs.Tall.{IsTallIn}
 use Rattle.ame_runner.specs.Run.{RunView, IsRunning, CanBeEnded}
 use Rattle.ame_runner.specs.declared.stop.WeakStop.{WeakStop}
 
@@ -56,6 +58,7 @@ HasWeakCause WeakStop.Finished w turns limit = pool w.state ≡ []
 HasWeakCause (WeakStop.Blocked certificates) w turns limit = IsBlockedBy w certificates.items
 HasWeakCause WeakStop.Spent w turns limit = (turns ≡ limit) × (pool w.state ≢ [])
 HasWeakCause (WeakStop.DeviceFault device) w turns limit = StandsAtCall w device
+HasWeakCause (WeakStop.Tall entry) w turns limit = IsTallIn w.state entry
 HasWeakCause WeakStop.NoMemory w turns limit = ⊤
 
 -- the run has stopped: nothing is active, no label is left to be made, and the stop has its cause
@@ -78,6 +81,7 @@ IsFoundInOrder WeakStop.Finished r = ⊤
 IsFoundInOrder (WeakStop.Blocked certificates) r = candidates r.play.weak r.aside ≡ []
 IsFoundInOrder WeakStop.Spent r = MayGoOn r
 IsFoundInOrder (WeakStop.DeviceFault device) r = ⊥
+IsFoundInOrder (WeakStop.Tall entry) r = ⊥
 IsFoundInOrder WeakStop.NoMemory r = ⊥
 
 -- what is found while nothing is active: a stop with its cause, or that somebody may go on and turns are left
@@ -94,12 +98,34 @@ pub record HasCertified (r : RunView) (number : ℕ) (old new : List Certificate
   pub others : (i : ℕ) → list_any (λ c. c.number == i) old ≡ true → list_any (λ c. c.number == i) new ≡ true
   pub numbers : (certified_numbers new ≡ certified_numbers old) ⊎ (certified_numbers new ≡ certified_numbers old ++ number ∷ [])
 
+-- A member grew too tall: but for the turns of the try that came to that, if it was in one, the run is under way.
+pub record HasGrown (entry : Entry) (r : RunView) : Type 0 where
+  pub turns : ℕ
+  pub before : IsRunning (record r { turns = turns })
+  pub more : r.turns ≤ turns + (entry.steps + 1)
+  pub within : r.turns ≤ r.limit
+
+-- what is so of the turns where a run stops, or goes on
+abbrev pub RunsUntil : Option WeakStop → RunView → Type 0
+RunsUntil (Some (WeakStop.Tall entry)) r = HasGrown entry r
+RunsUntil _ r = IsRunning r
+
+-- a member grew too tall, by which the run stops, or memory was wanted
+abbrev pub GrowsOrEnds : {E : Type 0} → Result Entry E → RunView → Type 0
+GrowsOrEnds (Ok entry) r = HasGrown entry r × HasStoppedWeakly (WeakStop.Tall entry) r
+GrowsOrEnds (Err e) r = CanBeEnded r
+
+-- so it did, if that is told; else the run goes on
+abbrev pub HasAttempted : Option Entry → RunView → Type 0
+HasAttempted (Some entry) r = HasGrown entry r × HasStoppedWeakly (WeakStop.Tall entry) r
+HasAttempted None r = IsRunning r
+
 -- a choice, or a stop in its place; memory may be wanted
 abbrev pub GoesOrStops : {E : Type 0} → RunView → RunView → List Told → List Told → Result (Option WeakStop) E → Type 0
-GoesOrStops old new before after (Ok stop) = IsRunning old → IsRunning new × HearsOn stop old new before after × StopsIfTold stop new
+GoesOrStops old new before after (Ok stop) = IsRunning old → RunsUntil stop new × HearsOn stop old new before after × StopsIfTold stop new
 GoesOrStops old new before after (Err e) = IsRunning old → CanBeEnded new
 
 -- choices until a stop
 abbrev pub PlaysOn : {E : Type 0} → RunView → RunView → List Told → List Told → Result WeakStop E → Type 0
-PlaysOn old new before after (Ok stop) = IsRunning old → IsRunning new × HearsOn (Some stop) old new before after × HasStoppedWeakly stop new
+PlaysOn old new before after (Ok stop) = IsRunning old → RunsUntil (Some stop) new × HearsOn (Some stop) old new before after × HasStoppedWeakly stop new
 PlaysOn old new before after (Err e) = IsRunning old → CanBeEnded new

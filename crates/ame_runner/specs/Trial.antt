@@ -8,6 +8,7 @@ use Rattle.ame_journal.specs.Labels.{fresh_of, made_by, fragment_labels}
 use Rattle.ame_strong.specs.Next.{next_of}
 use Rattle.ame_strong.specs.declared.next_label.Next.TheVariants as next
 use Rattle.ame_weak.specs.Weak.{Weak, weak_after, weak_run}
+use Rattle.ame_weak.specs.Bounds.{IsWithinBounds, AreWithinBounds, is_growing_tall}
 use Rattle.ame_weak.specs.declared.tries.Try.{Try}
 use Rattle.ame_runner.specs.declared.trial.TriedOut.{TriedOut}
 use Rattle.ame_runner.specs.declared.trial.Outcome.{Outcome}
@@ -17,10 +18,11 @@ abbrev pub AreNext : ℕ → List ℕ → ℕ → Type 0
 AreNext l [] end = l ≡ end
 AreNext l (m ∷ locations) end = (m ≡ l) × AreNext (l + 1) locations end
 
--- Member i is active in v after steps of these kinds from w. Their locations begin at the first that is given,
+-- Member i is active in v after steps of these kinds from w, each within the bounds. Their locations begin at the first that is given,
 -- and the next one would be `above`.
 pub record IsTrial (w : Weak) (i first : ℕ) (v : Weak) (kinds : List StepKind) (above : ℕ) : Type 0 where
   pub leads : weak_run w (fragment_labels i kinds) ≡ Some v
+  pub within : AreWithinBounds w (fragment_labels i kinds)
   pub made : AreNext first (made_by kinds) above
 
 -- a kind of step makes no location but this one
@@ -31,6 +33,7 @@ MakesNext l kind = (m : ℕ) → fresh_location kind ≡ Some m → m ≡ l
 pub record HasTriedOn (v : Weak) (kinds : List StepKind) (above : ℕ) (later : Weak) (more : List StepKind) (next_above : ℕ) : Type 0 where
   pub kind : StepKind
   pub legal : weak_after v (Label.Step kind) ≡ Some later
+  pub within : IsWithinBounds v (Label.Step kind)
   pub added : more ≡ kinds ++ kind ∷ []
   pub made : AreNext above (fresh_of kind) next_above
 
@@ -39,6 +42,7 @@ abbrev pub StandsAs : Outcome → Weak → Type 0
 StandsAs Outcome.Leaves v = is_some (after v.state Label.Leave) ≡ true
 StandsAs Outcome.Ends v = is_some (after v.state Label.End) ≡ true
 StandsAs Outcome.Fails v = next_of v.state None ≡ next.Stuck
+StandsAs Outcome.Tall v = is_growing_tall v None ≡ true
 StandsAs Outcome.Cut v = ⊤
 
 -- the fragment has come to its end, or can't go on
@@ -51,6 +55,7 @@ abbrev pub last_turn : Outcome → ℕ
 last_turn Outcome.Leaves = 1
 last_turn Outcome.Ends = 1
 last_turn Outcome.Fails = 0
+last_turn Outcome.Tall = 0
 last_turn Outcome.Cut = 0
 
 -- Member i was tried from w, with new locations from the first on and so many turns left. Its activation, its steps and
@@ -62,6 +67,14 @@ pub record IsTriedOut (w : Weak) (i first turns : ℕ) (a : TriedOut) : Type 0 w
   pub counted : a.turns ≡ length a.kinds.items + 1 + last_turn a.outcome
   pub within : a.turns ≤ turns
   pub used : a.outcome ≡ Outcome.Cut → a.turns ≡ turns
+
+-- what is told of a fragment once the turns are used up
+pub record IsEndedAtLast (v : Weak) (kinds : List StepKind) (above turns : ℕ) (a : TriedOut) : Type 0 where
+  pub made : a.kinds.items ≡ kinds
+  pub up : a.above ≡ above
+  pub took : a.turns ≡ turns
+  pub comes : StandsAs a.outcome v
+  pub last : last_turn a.outcome ≡ 0
 
 -- Tries
 

@@ -21,8 +21,8 @@ play_of p = record {
 }
 
 -- the tries so far, in order
-abbrev pub noted_tries : Notes → List Try
-noted_tries n = n.tries.items
+abbrev pub tries_made : Notes → List Try
+tries_made n = n.tries.items
 
 -- whether a member is put aside
 abbrev pub aside_of : Notes → ℕ → Bool
@@ -31,7 +31,7 @@ aside_of n = contains nat_cmp n.aside
 abbrev pub run_of : Run → RunView
 run_of r = record {
   play = play_of r.play;
-  tries = noted_tries r.notes;
+  tries = tries_made r.notes;
   aside = aside_of r.notes;
   left = r.left.items;
   above = r.above;

@@ -4,13 +4,16 @@ ghost use Rattle.std.specs.Prelude.{◌≡◌, ◌<◌, ◌%◌, [], true, lengt
 ghost use Rattle.ame_gen.specs.Stream.{next};
 ghost use Rattle.ame_device.specs.Calls.{all_told};
 ghost use Rattle.ame_device.specs.declared.told.Told.{Told};
+ghost use Rattle.ame_weak.specs.Bounds.{is_growing_tall};
 
 use crate::choices::{drawn, goes_free};
 use crate::freeing::{Freed, next_free};
 use crate::run::Run;
 use crate::stop::WeakStop;
+use crate::trial::tall_at;
 use ame_device::Device;
 use ame_gen::Numbers;
+use ame_journal::Entry;
 use ame_strong::Next;
 use ame_term::{Loc, NoMemory};
 use std::alloc::Global;
@@ -18,7 +21,7 @@ use std::alloc::Global;
 impl<'a> Run<'a> {
     ghost use Rattle.ame_runner.specs.Choices.{candidates};
     ghost use Rattle.ame_runner.specs.Run.{IsRunning, RunsOrEnds, KeepsFrame};
-    ghost use Rattle.ame_runner.specs.Stop.{HearsOn, StandsAtCall, HasStoppedWeakly, GoesOrStops, PlaysOn};
+    ghost use Rattle.ame_runner.specs.Stop.{HearsOn, StandsAtCall, HasStoppedWeakly, GrowsOrEnds, GoesOrStops, PlaysOn};
     ghost use Rattle.ame_runner.specs.View.{run_of};
 
     /// Makes choices until the run stops. Who is chosen is read off these numbers.
@@ -101,7 +104,7 @@ impl<'a> Run<'a> {
             self.go_on(alloc)?;
             return Ok(None);
         }
-        self.free_or_fault(alloc, number, devices)
+        self.go_free(alloc, number, devices)
     }
 
     /// A member is chosen while nothing is active.
@@ -120,12 +123,15 @@ impl<'a> Run<'a> {
             (all_told D.device_heard D.device_faults devices.new.items) result }
     {
         if goes_free(self.play.state(), number) {
-            return self.free_or_fault(alloc, number, devices);
+            return self.go_free(alloc, number, devices);
         }
         if self.is_aside(number) {
             return Err(NoMemory);
         }
-        self.attempt(alloc, number)?;
+        let grown = self.attempt(alloc, number)?;
+        if let Some(entry) = grown {
+            return Ok(Some(WeakStop::Tall(entry)));
+        }
         self.activate(alloc)?;
         Ok(None)
     }
@@ -140,6 +146,51 @@ impl<'a> Run<'a> {
             return Ok(());
         }
         self.go_on(alloc)
+    }
+
+    /// A member goes on under `unprotected`, unless it is about to become a value that is too high.
+    fn go_free<D: Device>(
+        &mut self,
+        alloc: Global,
+        number: u64,
+        devices: &mut Vec<D>,
+    ) -> Result<Option<WeakStop>, NoMemory>
+        requires { (run_of self.old).turns < (run_of self.old).limit }
+        ensures frame { KeepsFrame (run_of self.old) (run_of self.new) }
+        ensures count { length devices.new.items ≡ length devices.old.items }
+        ensures goes { GoesOrStops (run_of self.old) (run_of self.new) (all_told D.device_heard D.device_faults devices.old.items)
+            (all_told D.device_heard D.device_faults devices.new.items) result }
+    {
+        let grows = self.is_growing(alloc, number)?;
+        if grows {
+            let entry = self.end_tall(alloc, number)?;
+            return Ok(Some(WeakStop::Tall(entry)));
+        }
+        self.free_or_fault(alloc, number, devices)
+    }
+
+    /// A member is about to become a value that is too high, so that the run stops once the active fragment has run to its end.
+    fn end_tall(&mut self, alloc: Global, number: u64) -> Result<Entry, NoMemory>
+        ensures frame { KeepsFrame (run_of self.old) (run_of self.new) }
+        ensures runs { IsRunning (run_of self.old) → GrowsOrEnds result (run_of self.new) }
+        ensures hears { OnOk result ((told : List Told) → HearsOn None (run_of self.old) (run_of self.new) told told) }
+    {
+        self.run_out(alloc)?;
+        if self.is_busy() {
+            return Err(NoMemory);
+        }
+        let grows = self.is_growing(alloc, number)?;
+        if grows {
+            return Ok(tall_at(alloc, number));
+        }
+        Err(NoMemory)
+    }
+
+    /// Whether a member of the pool is about to become a value that is too high, under `unprotected`.
+    fn is_growing(&self, alloc: Global, number: u64) -> Result<bool, NoMemory>
+        ensures { IfOk result (λ grows. grows ≡ is_growing_tall (run_of self.now).play.weak (Some number)) }
+    {
+        self.play.state().is_growing_tall(alloc, Some(number))
     }
 
     /// A member goes on under `unprotected`, or the device that it calls fails.

@@ -19,11 +19,11 @@ pub struct Notes {
 }
 
 impl Notes {
-    ghost use Rattle.ame_runner.specs.View.{noted_tries, aside_of};
+    ghost use Rattle.ame_runner.specs.View.{tries_made, aside_of};
 
     /// No tries yet, and nobody put aside.
     pub fn new(alloc: Global) -> Notes
-        ensures tries { noted_tries result ≡ [] }
+        ensures tries { tries_made result ≡ [] }
         ensures aside { (i : ℕ) → aside_of result i ≡ false }
     {
         Notes {
@@ -34,7 +34,7 @@ impl Notes {
 
     /// The tries, in order.
     pub fn tries(&self) -> &[Try]
-        ensures { result.now ≡ noted_tries self.now }
+        ensures { result.now ≡ tries_made self.now }
     {
         self.tries.as_slice()
     }
@@ -48,7 +48,7 @@ impl Notes {
 
     /// The tries in order, over their memory.
     pub fn into_tries(self) -> Vec<Try>
-        ensures { result.items ≡ noted_tries self }
+        ensures { result.items ≡ tries_made self }
     {
         let Notes { tries, aside: _ } = self;
         tries
@@ -56,8 +56,8 @@ impl Notes {
 
     /// Lets the last try go, if it was cut off, and tells whether it was.
     pub fn let_cut_go(&mut self) -> bool
-        ensures tries { noted_tries self.new ≡ without_cut (noted_tries self.old) }
-        ensures none { result ≡ false → noted_tries self.new ≡ noted_tries self.old }
+        ensures tries { tries_made self.new ≡ without_cut (tries_made self.old) }
+        ensures none { result ≡ false → tries_made self.new ≡ tries_made self.old }
     {
         let cut = self.ends_cut();
         if cut {
@@ -68,8 +68,8 @@ impl Notes {
 
     /// Whether the last try was cut off.
     fn ends_cut(&self) -> bool
-        ensures yes { result ≡ true → take (length (noted_tries self.now) - 1) (noted_tries self.now) ≡ without_cut (noted_tries self.now) }
-        ensures no { result ≡ false → noted_tries self.now ≡ without_cut (noted_tries self.now) }
+        ensures yes { result ≡ true → take (length (tries_made self.now) - 1) (tries_made self.now) ≡ without_cut (tries_made self.now) }
+        ensures no { result ≡ false → tries_made self.now ≡ without_cut (tries_made self.now) }
     {
         match self.tries.last() {
             Some(t) => !t.failing,
@@ -79,7 +79,7 @@ impl Notes {
 
     /// A label was made. Where a fragment has left or ended or a location is new, nobody is put aside any more.
     pub fn pass(&mut self, label: Label)
-        ensures tries { noted_tries self.new ≡ noted_tries self.old }
+        ensures tries { tries_made self.new ≡ tries_made self.old }
         ensures aside { (i : ℕ) → aside_of self.new i ≡ (if lets_try_again label then false else aside_of self.old i) }
     {
         if lets_try_again(label) {
@@ -89,9 +89,9 @@ impl Notes {
 
     /// A fragment was tried. Where it failed, its member is put aside.
     pub fn add(&mut self, t: Try) -> Result<(), NoMemory>
-        ensures tries { OnOk result (noted_tries self.new ≡ noted_tries self.old ++ t ∷ []) }
+        ensures tries { OnOk result (tries_made self.new ≡ tries_made self.old ++ t ∷ []) }
         ensures aside { OnOk result ((i : ℕ) → aside_of self.new i ≡ (t.failing && (t.certificate.number == i) || aside_of self.old i)) }
-        ensures err { OnErr result (noted_tries self.new ≡ noted_tries self.old) }
+        ensures err { OnErr result (tries_made self.new ≡ tries_made self.old) }
     {
         self.room()?;
         if t.failing {
@@ -103,7 +103,7 @@ impl Notes {
 
     /// Makes a place for one more try.
     fn room(&mut self) -> Result<(), NoMemory>
-        ensures tries { noted_tries self.new ≡ noted_tries self.old }
+        ensures tries { tries_made self.new ≡ tries_made self.old }
         ensures aside { (i : ℕ) → aside_of self.new i ≡ aside_of self.old i }
         ensures place { OnOk result (vec_len self.new.tries < vec_capacity self.new.tries) }
     {

@@ -7,7 +7,8 @@ ghost use Rattle.ame_journal.specs.Labels.{fragment_labels};
 
 use crate::notes::Notes;
 use crate::play::Play;
-use crate::trial::{Outcome, TriedOut, note_of, try_member};
+use crate::trial::{Outcome, TriedOut, note_of, tall_of, try_member};
+use ame_journal::Entry;
 use ame_term::{Accepted, Label, Loc, NoMemory, StepKind};
 use std::alloc::Global;
 use std::collections::VecDeque;
@@ -30,8 +31,8 @@ impl<'a> Run<'a> {
     ghost use Rattle.ame_runner.specs.Play.{HasMade};
     ghost use Rattle.ame_runner.specs.Trial.{last_turn, IsTriedOut};
     ghost use Rattle.ame_runner.specs.Freeing.{MakesOnly};
-    ghost use Rattle.ame_runner.specs.Run.{IsOwn, HasRun, IsRunning, IsAtStart, KeepsFrame, CountsNothing, RunsOrEnds};
-    ghost use Rattle.ame_runner.specs.Stop.{HearsOn};
+    ghost use Rattle.ame_runner.specs.Run.{IsOwn, HasRun, IsRunning, IsAtStart, KeepsFrame, CountsNothing, RunsOrEnds, CanBeEnded};
+    ghost use Rattle.ame_runner.specs.Stop.{HearsOn, GrowsOrEnds, HasAttempted};
     ghost use Rattle.ame_runner.specs.View.{run_of};
 
     /// Before the first label, with this limit of turns.
@@ -106,23 +107,61 @@ impl<'a> Run<'a> {
         Ok(())
     }
 
-    /// Tries a member that may become active. Where it leaves or ends, its labels are to be made; else it is noted.
-    pub(crate) fn attempt(&mut self, alloc: Global, number: u64) -> Result<(), NoMemory>
+    /// Tries a member that may become active. Where it leaves or ends, its labels are to be made; where it grows too
+    /// tall, the note of that is told; else it is noted.
+    pub(crate) fn attempt(&mut self, alloc: Global, number: u64) -> Result<Option<Entry>, NoMemory>
         requires idle { (run_of self.old).play.weak.state.active ≡ None }
         requires turns { (run_of self.old).turns < (run_of self.old).limit }
         requires free { (run_of self.old).aside number ≡ false }
         requires left { (run_of self.old).left ≡ [] }
         ensures frame { KeepsFrame (run_of self.old) (run_of self.new) }
-        ensures runs { IsRunning (run_of self.old) → RunsOrEnds result (run_of self.new) }
+        ensures ok { IfOk result (λ grown. IsRunning (run_of self.old) → HasAttempted grown (run_of self.new)) }
+        ensures err { OnErr result (IsRunning (run_of self.old) → CanBeEnded (run_of self.new)) }
         ensures play { (run_of self.new).play ≡ (run_of self.old).play }
     {
         let turns = self.limit - self.turns;
         let tried = try_member(alloc, self.play.state(), Loc(self.above), number, turns)?;
-        match tried.outcome {
-            Outcome::Leaves => self.begin(number, &tried, Label::Leave),
-            Outcome::Ends => self.begin(number, &tried, Label::End),
-            Outcome::Fails | Outcome::Cut => self.note(alloc, number, &tried),
+        if let Outcome::Tall = tried.outcome {
+            let entry = self.grow(alloc, number, &tried)?;
+            return Ok(Some(entry));
         }
+        self.take(alloc, number, &tried)?;
+        Ok(None)
+    }
+
+    /// A fragment that was tried is to be made, or is noted.
+    fn take(&mut self, alloc: Global, number: u64, tried: &TriedOut) -> Result<(), NoMemory>
+        requires idle { (run_of self.old).play.weak.state.active ≡ None }
+        requires free { (run_of self.old).aside number ≡ false }
+        requires tried { IsTriedOut (run_of self.old).play.weak number (run_of self.old).above ((run_of self.old).limit - (run_of self.old).turns) tried.now }
+        requires low { tried.now.outcome ≡ Outcome.Tall → ⊥ }
+        requires turns { (run_of self.old).turns < (run_of self.old).limit }
+        requires left { (run_of self.old).left ≡ [] }
+        ensures frame { KeepsFrame (run_of self.old) (run_of self.new) }
+        ensures runs { IsRunning (run_of self.old) → RunsOrEnds result (run_of self.new) }
+        ensures play { (run_of self.new).play ≡ (run_of self.old).play }
+    {
+        match tried.outcome {
+            Outcome::Leaves => self.begin(number, tried, Label::Leave),
+            Outcome::Ends => self.begin(number, tried, Label::End),
+            Outcome::Fails | Outcome::Tall | Outcome::Cut => self.note(alloc, number, tried),
+        }
+    }
+
+    /// A fragment that was tried grew too tall, and its turns are counted.
+    fn grow(&mut self, alloc: Global, number: u64, tried: &TriedOut) -> Result<Entry, NoMemory>
+        requires idle { (run_of self.old).play.weak.state.active ≡ None }
+        requires tried { IsTriedOut (run_of self.old).play.weak number (run_of self.old).above ((run_of self.old).limit - (run_of self.old).turns) tried.now }
+        requires tall { tried.now.outcome ≡ Outcome.Tall }
+        requires turns { (run_of self.old).turns < (run_of self.old).limit }
+        requires left { (run_of self.old).left ≡ [] }
+        ensures frame { KeepsFrame (run_of self.old) (run_of self.new) }
+        ensures runs { IsRunning (run_of self.old) → GrowsOrEnds result (run_of self.new) }
+        ensures play { (run_of self.new).play ≡ (run_of self.old).play }
+    {
+        let entry = tall_of(alloc, number, tried)?;
+        self.turns += tried.turns;
+        Ok(entry)
     }
 
     /// The labels of a fragment that was tried are to be made.
@@ -144,6 +183,7 @@ impl<'a> Run<'a> {
 
     /// A fragment that was tried is noted, as one that came to nothing.
     fn note(&mut self, alloc: Global, number: u64, tried: &TriedOut) -> Result<(), NoMemory>
+        requires low { tried.now.outcome ≡ Outcome.Tall → ⊥ }
         requires idle { (run_of self.old).play.weak.state.active ≡ None }
         requires free { (run_of self.old).aside number ≡ false }
         requires tried { IsTriedOut (run_of self.old).play.weak number (run_of self.old).above ((run_of self.old).limit - (run_of self.old).turns) tried.now }

@@ -77,19 +77,22 @@ fn may_be_cut(stop: &WeakStop) -> bool
 {
     match stop {
         WeakStop::Spent => true,
-        WeakStop::Finished | WeakStop::Blocked(_) | WeakStop::DeviceFault(_) | WeakStop::NoMemory =>
-            false,
+        WeakStop::Finished
+        | WeakStop::Blocked(_)
+        | WeakStop::DeviceFault(_)
+        | WeakStop::Tall(_)
+        | WeakStop::NoMemory => false,
     }
 }
 
 impl<'a> Run<'a> {
     ghost use Rattle.ame_runner.specs.Run.{CanBeEnded};
-    ghost use Rattle.ame_runner.specs.Stop.{FailsBy, HasStoppedWeakly};
+    ghost use Rattle.ame_runner.specs.Stop.{FailsBy, HasStoppedWeakly, RunsUntil};
 
     /// What is told of it, where it stops so.
     fn end(self, stop: WeakStop) -> WeakRun
         ensures run { CanBeEnded (run_of self.entry) → IsWeakRunOf (run_of self.entry).play.program (run_of self.entry).limit result.labels.items result.tries.items result.stop }
-        ensures stop { IsRunning (run_of self.entry) → HasStoppedWeakly stop (run_of self.entry) → (before now : List Told)
+        ensures stop { RunsUntil (Some stop) (run_of self.entry) → HasStoppedWeakly stop (run_of self.entry) → (before now : List Told)
             → HeardSoFar (run_of self.entry) before now → FailsBy (Some stop) before now
             → TellsStop (run_of self.entry).play.program (run_of self.entry).limit result.labels.items result.tries.items result.turns before now result.stop }
         ensures kept { (result.stop ≡ stop) ⊎ (result.stop ≡ Stop.NoMemory) }

@@ -1,5 +1,6 @@
 //! Why a run stops, and what is told of it.
 
+use ame_journal::Entry;
 use ame_term::Label;
 use ame_weak::{Certificate, Try};
 
@@ -14,6 +15,8 @@ pub enum WeakStop {
     Spent,
     /// This device failed.
     DeviceFault(u8),
+    /// A member was about to become a value 1,001 high, as this note tells.
+    Tall(Entry),
     NoMemory,
 }
 

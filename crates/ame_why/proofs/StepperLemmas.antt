@@ -6,7 +6,7 @@ use Rattle.ame_term.specs.State.{State, after}
 use Rattle.ame_term.specs.declared.semantics.Label.{Label}
 use Rattle.ame_print.specs.Printer.{spelling_of}
 use Rattle.ame_strong.specs.View.{state_of}
-use Rattle.ame_why.specs.Stepped.{kind_of, label_words, reduced_term, shown_term, changed_at, stored_words, started_words, label_row, entry_heading, Leads}
+use Rattle.ame_why.specs.Stepped.{kind_of, label_words, reduced_term, shown_term, changed_location, stored_words, started_words, label_row, entry_heading, Leads}
 use Rattle.ame_why.specs.Steppers.{LeadsFurther}
 use Rattle.ame_why.specs.declared.steps.Stepper.{Stepper}
 
@@ -45,7 +45,7 @@ headed_on old new n i names state page = record {
 module _ (names : List Text) (s t : State) (label : Label) where
   -- the row by its parts
   row_by : (more : List Text) (before : List ℕ) (changed : Option ℕ) → more ≡ names → before ≡ label_words label ++ shown_term names (reduced_term s label)
-      → changed ≡ changed_at (kind_of label) (reduced_term s label)
+      → changed ≡ changed_location (kind_of label) (reduced_term s label)
       → before ++ stored_words more t changed ++ started_words s.next (kind_of label) ++ codes "\n" ≡ label_row names s label t
   unfolding label_row
   row_by more before changed same shown told =
@@ -57,7 +57,7 @@ module _ (names : List Text) (s t : State) (label : Label) where
 pub stepped_on : (old new : Stepper) (label : Label) (before : List ℕ) (changed : Option ℕ) → spelling_of new.names.items ≡ spelling_of old.names.items
     → after (state_of old.state) label ≡ Some (state_of new.state)
     → before ≡ label_words label ++ shown_term (spelling_of old.names.items) (reduced_term (state_of old.state) label)
-    → changed ≡ changed_at (kind_of label) (reduced_term (state_of old.state) label)
+    → changed ≡ changed_location (kind_of label) (reduced_term (state_of old.state) label)
     → new.page.items ≡ old.page.items ++ (before ++ stored_words (spelling_of new.names.items) (state_of new.state) changed
     ++ started_words (state_of old.state).next (kind_of label) ++ codes "\n")
     → LeadsFurther old new

@@ -59,10 +59,10 @@ target_of None = None
 target_of (Some term) = written_at (focus term)
 
 -- the location whose value a reduction of a term changes
-abbrev pub changed_at : Option StepKind → Option Tree → Option ℕ
-changed_at (Some (StepKind.Alloc l)) term = Some l.0
-changed_at (Some StepKind.Write) term = target_of term
-changed_at _ term = None
+abbrev pub changed_location : Option StepKind → Option Tree → Option ℕ
+changed_location (Some (StepKind.Alloc l)) term = Some l.0
+changed_location (Some StepKind.Write) term = target_of term
+changed_location _ term = None
 
 abbrev pub held_text : List Text → Option Val → List ℕ
 held_text names None = []
@@ -81,7 +81,7 @@ started_words i _ = []
 -- the row of a label that leads from one state to another
 unfoldable pub label_row : List Text → State → Label → State → List ℕ
 label_row names s label t =
-    label_words label ++ shown_term names (reduced_term s label) ++ stored_words names t (changed_at (kind_of label) (reduced_term s label))
+    label_words label ++ shown_term names (reduced_term s label) ++ stored_words names t (changed_location (kind_of label) (reduced_term s label))
     ++ started_words s.next (kind_of label) ++ codes "\n"
 
 -- the line before the rows of entry n, which is one of member i

@@ -12,7 +12,7 @@ use Rattle.ame_term.specs.declared.semantics.Label.{Label}
 use Rattle.ame_weak.specs.Weak.{Weak, weak_after}
 use Rattle.ame_weak.specs.declared.tries.Try.{Try}
 use Rattle.ame_why.specs.Table.{column}
-use Rattle.ame_why.specs.Stepped.{kind_of, reduced_term, changed_at, held_text}
+use Rattle.ame_why.specs.Stepped.{kind_of, reduced_term, changed_location, held_text}
 
 -- Locations
 
@@ -31,7 +31,7 @@ read_location (Some term) = read_at (focus term)
 abbrev pub touched_at : Option StepKind → Option Tree → Option ℕ
 touched_at (Some StepKind.Read) term = read_location term
 touched_at (Some StepKind.Peek) term = read_location term
-touched_at kind term = changed_at kind term
+touched_at kind term = changed_location kind term
 
 -- what a location holds, if one is told
 abbrev pub touched_words : List Text → State → Option ℕ → List ℕ

@@ -58,8 +58,8 @@ pub(crate) fn row_before(
 }
 
 /// The location whose value a label changes.
-pub(crate) fn changed_at(term: Option<&Term>, label: Label) -> Option<Loc>
-    ensures { option_map (λ l. l.0) result ≡ spec.changed_at (spec.kind_of label) (option_map (λ t. tree_of t.now) term.entry) }
+pub(crate) fn changed_location(term: Option<&Term>, label: Label) -> Option<Loc>
+    ensures { option_map (λ l. l.0) result ≡ spec.changed_location (spec.kind_of label) (option_map (λ t. tree_of t.now) term.entry) }
 {
     match kind_of(label) {
         Some(StepKind::Alloc(location)) => Some(location),

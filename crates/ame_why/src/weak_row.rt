@@ -9,7 +9,7 @@ ghost use Rattle.ame_weak.specs.View.{weak_of};
 ghost use Rattle.ame_why.specs.Stepped as stepped;
 ghost use Rattle.ame_why.specs.WeakOrder as spec;
 
-use crate::label_row::{changed_at, held_text, kind_of, reduced_term};
+use crate::label_row::{changed_location, held_text, kind_of, reduced_term};
 use crate::page::{append, append_column, append_decimal, append_spaces, append_told};
 use ame_strong::StrongState;
 use ame_term::{Label, Loc, NoMemory, Split, StepKind, Term, Value, split};
@@ -57,7 +57,7 @@ fn touched_at(term: Option<&Term>, label: Label) -> Option<Loc>
 {
     match kind_of(label) {
         Some(StepKind::Read | StepKind::Peek) => read_location(term),
-        _ => changed_at(term, label),
+        _ => changed_location(term, label),
     }
 }
 

@@ -1,6 +1,6 @@
 -- `weak`: a source that is the text of a program, run under the weak semantics by the choices of a seed. An engine is opened on the journal of that
 -- run without its notes, and is taken apart at once.
-use Rattle.std.specs.Prelude.{◌≡◌, ◌≢◌, ℕ, ℤ, ◌*◌, ◌≤◌, List, [], Some, None}
+use Rattle.std.specs.Prelude.{◌≡◌, ◌≢◌, ℕ, ℤ, ◌*◌, ◌≤◌, List, [], ◌++◌, Option, Some, None, option_to_list, ⊤}
 use Rattle.ame_term.specs.Tree.{Tree}
 use Rattle.ame_term.specs.Frame.{Side}
 use Rattle.ame_term.specs.Context.{Focus, focus}
@@ -20,6 +20,7 @@ use Rattle.ame_weak.specs.Weak.{Weak, IsWeakRun}
 use Rattle.ame_weak.specs.Straight.{outset}
 use Rattle.ame_weak.specs.Tries.{AreTried, straight_with}
 use Rattle.ame_weak.specs.declared.tries.Try.{Try}
+use Rattle.ame_runner.specs.Tall.{IsTallIn}
 use Rattle.ame_cli.specs.Items.{default_of}
 use Rattle.ame_cli.specs.declared.item.Item.TheVariants.{Slice}
 use Rattle.ame_cli.specs.declared.command.Options.{Options}
@@ -32,7 +33,13 @@ use Rattle.ame_app.specs.declared.parts.Weakened.{Weakened}
 abbrev pub alone_with : ℕ → Options
 alone_with turns = record { workers = 1; turns = turns; slice = default_of Slice }
 
--- entries are the journal of the labels of a weak run, at whose end nothing is active, with the notes of tries that hold where they stand
+-- a note at the end of a journal tells of a member that is about to become a value that is too high in this state
+abbrev pub IsNoteAtEnd : Option Entry → State → Type 0
+IsNoteAtEnd None s = ⊤
+IsNoteAtEnd (Some entry) s = IsTallIn s entry
+
+-- Entries are the journal of the labels of a weak run, at whose end nothing is active, with the notes of tries that hold where they stand, and with that
+-- of a value that would be too high, if the run stopped by one.
 pub record IsWeakJournal (program : Tree) (entries : List Entry) : Type 0 where
   pub labels : List Label
   pub tries : List Try
@@ -40,7 +47,9 @@ pub record IsWeakJournal (program : Tree) (entries : List Entry) : Type 0 where
   pub leads : IsWeakRun program labels weak
   pub idle : weak.state.active ≡ None
   pub tried : AreTried program labels tries
-  pub entries_are : entries ≡ straight_with 0 tries outset labels
+  pub last : Option Entry
+  pub entries_are : entries ≡ straight_with 0 tries outset labels ++ option_to_list last
+  pub grows : IsNoteAtEnd last weak.state
 
 -- What is told
 

@@ -12,7 +12,7 @@ ghost use Rattle.ame_code.specs.FlatCode.{FlatCode};
 ghost use Rattle.ame_engine.specs.Resuming.{AreActs, FailsToResume, IsFar};
 ghost use Rattle.ame_engine.specs.Whole.{AreLimits};
 ghost use Rattle.ame_shell.specs.Ends.{ends_of};
-ghost use Rattle.ame_app.specs.Jobs.{HasGoneOn, IsEngineOn, IsOutlook, IsOverFrom, IsReplayable};
+ghost use Rattle.ame_app.specs.Jobs.{HasJustResumed, IsEngineOn, IsOutlook, IsOverFrom, IsReplayable};
 ghost use Rattle.ame_app.specs.Verbs.Check.{entries_before as entries_in};
 ghost use Rattle.ame_app.specs.Verbs.Resume.{TellsResumed};
 
@@ -162,7 +162,7 @@ where
     K: Sink + Send + Drop,
     D: Device + Send,
     G: Gate + Sync,
-    requires resumed { HasGoneOn engine }
+    requires resumed { HasJustResumed engine }
     requires limits { AreLimits engine.limits }
     requires code { arc_value code.now ≡ engine.code }
     requires devices { engine.code.accepted.devices ≡ vec_len devices }

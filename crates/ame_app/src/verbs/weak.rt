@@ -1,17 +1,18 @@
 //! `weak`: a run of the weak semantics, told by the strong run that looks like it.
 
-ghost use Rattle.std.specs.Prelude.{◌≡◌, [], IfErr, IfOk, OnErr, OnOk, List, Some, length, map, vec_len, ℕ};
+ghost use Rattle.std.specs.Prelude.{◌≡◌, ◌++◌, ◌∷◌, [], IfErr, IfOk, OnErr, OnOk, List, Some, length, map, vec_len, ℕ};
 ghost use Rattle.std.specs.Arc.{arc_value};
 ghost use Rattle.ame_cli.specs.Ranges.{AreInRange, IsInRange};
 ghost use Rattle.ame_cli.specs.declared.command.Command.{Command as Asked};
 ghost use Rattle.ame_code.specs.Code.{program_of};
 ghost use Rattle.ame_device.specs.declared.told.Told.{Told};
 ghost use Rattle.ame_engine.specs.Resuming.{AreActs};
+ghost use Rattle.ame_journal.specs.JournalView.{IsFit};
 ghost use Rattle.ame_term.specs.Tree.{Tree};
 ghost use Rattle.ame_term.specs.View.{tree_of};
-ghost use Rattle.ame_runner.specs.Ended.{IsWeakRunOf, TellsStop};
+ghost use Rattle.ame_runner.specs.Ended.{IsWeakRunOf, TellsStop, notes_of_stop};
 ghost use Rattle.ame_shell.specs.Ends.{ends_of};
-ghost use Rattle.ame_app.specs.Jobs.{certificate_told, certificates_told, stop_told, HasGoneOn, IsEngineBehind, IsEngineOn, IsReplayable, IsTakenFrom, IsWeakRunMade, TellsWeakly};
+ghost use Rattle.ame_app.specs.Jobs.{certificate_told, certificates_told, stop_told, HasJustResumed, IsEngineBehind, IsEngineOn, IsReplayable, LeavesFit, IsTakenFrom, IsWeakRunMade, TellsWeakly};
 ghost use Rattle.ame_app.specs.Verbs.Weak.{alone_with};
 
 use crate::parts::{Own, Weakened};
@@ -23,7 +24,7 @@ use ame_device::Device;
 use ame_engine::{Certificate, Engine, Stop};
 use ame_eval::Fragment;
 use ame_io::{Sink, WriteFault, write_all};
-use ame_journal::Journal;
+use ame_journal::{Entry, Journal};
 use ame_runner::{WeakRun, WeakStop, weak_run};
 use ame_shell::Remains;
 use ame_term::{Accepted, NoMemory, push};
@@ -62,21 +63,41 @@ fn certificates_of(alloc: Global, failing: Vec<Failing>) -> Result<Vec<Certifica
     Ok(certificates)
 }
 
-/// Why a weak run stops, as a run of an engine does, and the certificates of members that are blocked.
-fn told_of(alloc: Global, stop: WeakStop) -> Result<(Stop, Vec<Certificate>), NoMemory>
+/// Adds the note of a member that grew too tall to a journal, and tells how the run stops by that.
+fn tall_of(journal: &mut Journal, entry: Entry) -> Result<Stop, NoMemory>
+    requires { IsFit entry }
+    ensures stop { IfOk result (λ stop. stop ≡ Stop.Tall entry.number) }
+    ensures entries { OnOk result (journal.new.entries ≡ journal.old.entries ++ entry ∷ []) }
+{
+    let number = entry.number;
+    journal.room()?;
+    journal.push(entry);
+    Ok(Stop::Tall(number))
+}
+
+/// Why a weak run stops, as a run of an engine does, and the certificates of members that are blocked. The note of the
+/// stop is added to the journal.
+fn told_of(
+    alloc: Global,
+    journal: &mut Journal,
+    stop: WeakStop,
+) -> Result<(Stop, Vec<Certificate>), NoMemory>
+    requires { LeavesFit stop }
     ensures stop { IfOk result (λ told. told.0 ≡ stop_told stop) }
     ensures certificates { IfOk result (λ told. told.1.items ≡ certificates_told stop) }
+    ensures entries { OnOk result (journal.new.entries ≡ journal.old.entries ++ notes_of_stop stop) }
 {
     match stop {
         WeakStop::Finished => Ok((Stop::Finished, Vec::new(alloc))),
         WeakStop::Blocked(failing) => Ok((Stop::Blocked, certificates_of(alloc, failing)?)),
         WeakStop::Spent => Ok((Stop::Spent, Vec::new(alloc))),
         WeakStop::DeviceFault(device) => Ok((Stop::DeviceFault(device), Vec::new(alloc))),
+        WeakStop::Tall(entry) => Ok((tall_of(journal, entry)?, Vec::new(alloc))),
         WeakStop::NoMemory => Ok((Stop::NoMemory, Vec::new(alloc))),
     }
 }
 
-/// What a weak run comes to that was made: the journal that straightens its labels, with the notes of its tries.
+/// What a weak run comes to that was made: the journal that straightens its labels, with the notes of its tries and of its stop.
 fn straightened(
     alloc: Global,
     accepted: &Accepted,
@@ -84,6 +105,8 @@ fn straightened(
     run: WeakRun,
 ) -> Result<Weakened, NoMemory>
     requires run { IsWeakRunOf (tree_of accepted.now.program.term) limit run.labels.items run.tries.items run.stop }
+    requires tells { (before : List Told) × (after : List Told)
+        × TellsStop (tree_of accepted.now.program.term) limit run.labels.items run.tries.items run.turns before after run.stop }
     ensures leads { IfOk result (λ weakened. IsReplayable (tree_of accepted.now.program.term) weakened.journal.entries) }
     ensures tells { IfOk result (λ weakened. (before after : List Told) → length after ≡ length before
         → TellsStop (tree_of accepted.now.program.term) limit run.labels.items run.tries.items run.turns before after run.stop
@@ -102,7 +125,8 @@ fn straightened(
     let Straight::Journal(journal) = straighten(alloc, accepted, &labels, &tries)? else {
         return Err(NoMemory);
     };
-    let (stop, certificates) = told_of(alloc, stop)?;
+    let mut journal = journal;
+    let (stop, certificates) = told_of(alloc, &mut journal, stop)?;
     Ok(Weakened {
         journal,
         turns,
@@ -151,6 +175,8 @@ fn opened(
 ) -> Result<(Weakened, Engine<Fragment>), NoMemory>
     requires ranges { AreInRange (alone_with limit) }
     requires run { IsWeakRunOf (program_of (arc_value code.now)) limit run.labels.items run.tries.items run.stop }
+    requires tells { (before : List Told) × (after : List Told)
+        × TellsStop (program_of (arc_value code.now)) limit run.labels.items run.tries.items run.turns before after run.stop }
     ensures tells { IfOk result (λ opened. (before after : List Told) → length after ≡ length before
         → TellsStop (program_of (arc_value code.now)) limit run.labels.items run.tries.items run.turns before after run.stop
         → TellsWeakly (program_of (arc_value code.now)) limit opened.0 before after) }
@@ -173,6 +199,8 @@ fn opened_or(
 ) -> (Weakened, Engine<Fragment>)
     requires ranges { AreInRange (alone_with limit) }
     requires run { IsWeakRunOf (program_of (arc_value code.now)) limit run.labels.items run.tries.items run.stop }
+    requires tells { (before : List Told) × (after : List Told)
+        × TellsStop (program_of (arc_value code.now)) limit run.labels.items run.tries.items run.turns before after run.stop }
     requires blank { IsEngineOn (alone_with limit) [] (arc_value code.now) blank }
     ensures tells { (before after : List Told) → length after ≡ length before
         → TellsStop (program_of (arc_value code.now)) limit run.labels.items run.tries.items run.turns before after run.stop
@@ -203,7 +231,7 @@ fn take_apart<K: Sink, D: Drop>(
     sink: K,
     devices: Vec<D>,
 ) -> Remains<Val, K, D>
-    requires resumed { HasGoneOn engine }
+    requires resumed { HasJustResumed engine }
     ensures apart { (told later : List Told) → IsTakenFrom engine result.ended
         (record { written = K.written sink; write_faults = K.faults sink; told = told })
         (record { written = K.written result.sink; write_faults = K.faults result.sink; told = later }) }

@@ -2,14 +2,13 @@ use Rattle.std.proofs.Common.{inl, inr}
 use Rattle.ame_device.specs.Calls.{all_told}
 use Rattle.ame_term.specs.View.{tree_of}
 use Rattle.ame_runner.specs.View.{run_of}
-use Rattle.ame_runner.proofs.RunLemmas.{running-ends}
-use Rattle.ame_runner.proofs.EndLemmas.{run-over, tells-over, tells-nothing}
+use Rattle.ame_runner.proofs.EndLemmas.{until-ends, run-over, tells-over, tells-nothing}
 use Rattle.ame_runner.proofs.running.play_out.Goals as goal
 
 pub returns-in-Ok-clause-run : goal.returns-in-Ok-clause-run
 returns-in-Ok-clause-run g c = λ running.
     run-over (run_of c.args.run) (run_of c.play_on.new.self) c.play_on.ensures.frame c.end.result.labels.items c.end.result.tries.items c.end.result.stop
-    (c.end.ensures.run (running-ends (run_of c.play_on.new.self) (c.in-Ok.ensures.plays running).0))
+    (c.end.ensures.run (until-ends c.in-Ok.stop (run_of c.play_on.new.self) (c.in-Ok.ensures.plays running).0))
 
 pub returns-in-Ok-clause-stop : goal.returns-in-Ok-clause-stop
 returns-in-Ok-clause-stop g c = λ running heard.

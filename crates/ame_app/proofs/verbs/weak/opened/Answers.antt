@@ -29,6 +29,15 @@ engine_at-requires-clause-leads c =
           ∙ notes-dropped (begun_at program) c.in_ok-weakened.weakened.journal.entries lead.0 lead.1,
     )
 
+pub straightened-requires-clause-tells : goal.straightened-requires-clause-tells
+straightened-requires-clause-tells c =
+    let same = ap (λ (a : Accepted). tree_of a.program.term) (c.accepted.ensures ∙ ap (λ (k : FlatCode). k.accepted) c.deref.ensures) in
+    let t = c.requires.tells in (
+      t.0,
+      t.1,
+      subst (λ (p : Tree). TellsStop p c.args.limit c.args.run.labels.items c.args.run.tries.items c.args.run.turns t.0 t.1 c.args.run.stop) (sym same) t.2,
+    )
+
 pub returns-clause-tells : goal.returns-clause-tells
 returns-clause-tells c = λ before after count tells.
     let same = ap (λ (a : Accepted). tree_of a.program.term) (c.accepted.ensures ∙ ap (λ (k : FlatCode). k.accepted) c.deref.ensures) in

@@ -22,6 +22,17 @@ pub engine_at-requires-clause-leads : goal.engine_at-requires-clause-leads
 engine_at-requires-clause-leads g c =
     let program = program_of (arc_value c.args.code.now) in (begun_at program, ap (replay program) c.new.ensures)
 
+pub opened_or-weakened-requires-clause-tells : goal.opened_or-weakened-requires-clause-tells
+opened_or-weakened-requires-clause-tells g c =
+    let run = c.weak_run-run.result in
+    let old = all_told g.D.Device.device_heard g.D.Device.device_faults c.args.devices.items in
+    let new = all_told g.D.Device.device_heard g.D.Device.device_faults c.weak_run-run.new.devices.items in
+    let same = ap (λ (a : Accepted). tree_of a.program.term) (c.accepted.ensures ∙ ap (λ (k : FlatCode). k.accepted) c.deref.ensures) in (
+      old,
+      new,
+      subst (λ (p : Tree). TellsStop p c.args.turns run.labels.items run.tries.items run.turns old new run.stop) same c.weak_run-run.ensures.stop,
+    )
+
 pub take_apart-requires : goal.take_apart-requires
 take_apart-requires g c = record { resumed = own-resumed _ _ _ _ c.opened_or-weakened.ensures.engine }
 

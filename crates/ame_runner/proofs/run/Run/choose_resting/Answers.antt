@@ -1,9 +1,20 @@
-use Rattle.std.proofs.Common.{None}
+use Rattle.std.proofs.Common.{Option, None, subst}
 use Rattle.ame_device.specs.Calls.{all_told}
+use Rattle.ame_journal.specs.declared.entry.Entry.{Entry}
+use Rattle.ame_runner.specs.Run.{IsRunning}
+use Rattle.ame_runner.specs.Stop.{HasAttempted}
 use Rattle.ame_runner.specs.View.{run_of}
 use Rattle.ame_runner.proofs.HearLemmas.{hears-still, hears-then}
-use Rattle.ame_runner.proofs.ChooseLemmas.{goes-quiet}
+use Rattle.ame_runner.proofs.ChooseLemmas.{goes-quiet, goes-tall}
 use Rattle.ame_runner.proofs.run.Run.choose_resting.Goals as goal
+
+pub returns-in-Some-clause-goes : goal.returns-in-Some-clause-goes
+returns-in-Some-clause-goes g c =
+    let old = run_of c.args.self.now in
+    let mid = run_of c.attempt.new.self in
+    let told = all_told g.D.Device.device_heard g.D.Device.device_faults c.args.devices.now.items in
+    goes-tall old mid told c.in-Some.entry (λ running. subst (λ (o : Option Entry). HasAttempted o mid) c.in-Some.is (c.in_ok-grown.ensures.ok running))
+    (hears-still old mid told c.attempt.ensures.play)
 
 pub returns-clause-goes : goal.returns-clause-goes
 returns-clause-goes g c =
@@ -11,5 +22,6 @@ returns-clause-goes g c =
     let mid = run_of c.attempt.new.self in
     let new = run_of c.activate.new.self in
     let told = all_told g.D.Device.device_heard g.D.Device.device_faults c.args.devices.now.items in
-    goes-quiet old new told (λ running. c.in_ok-activate.ensures.runs (c.in_ok-attempt.ensures.runs running))
-    (hears-then None old mid new told told told (hears-still old mid told c.attempt.ensures.play) c.in_ok-attempt.ensures.runs (c.in_ok-activate.ensures.hears told))
+    let runs : IsRunning old → IsRunning mid = λ running. subst (λ (o : Option Entry). HasAttempted o mid) c.in_default.is (c.in_ok-grown.ensures.ok running) in
+    goes-quiet old new told (λ running. c.in_ok-activate.ensures.runs (runs running))
+    (hears-then None old mid new told told told (hears-still old mid told c.attempt.ensures.play) runs (c.in_ok-activate.ensures.hears told))

@@ -3,7 +3,7 @@ use Rattle.ame_term.specs.View.{tree_of, typ_of}
 use Rattle.ame_term.specs.Typing.{ref_types}
 use Rattle.ame_laws.proofs.Typed.Started.{accepted}
 use Rattle.ame_runner.specs.Run.{RunView}
-use Rattle.ame_runner.specs.View.{noted_tries, aside_of, run_of}
+use Rattle.ame_runner.specs.View.{tries_made, aside_of, run_of}
 use Rattle.ame_runner.proofs.HoldLemmas.{tried_fragments_hold}
 use Rattle.ame_runner.proofs.CountLemmas.{runs-noted, how-noted}
 use Rattle.ame_runner.proofs.run.Run.note.Goals as goal
@@ -14,7 +14,7 @@ returns-clause-runs c = λ running.
     let tried = c.args.tried.now in
     let t = c.in_ok-t.t in
     let tells = c.in_ok-t.ensures.tells in
-    let q : RunView = record old { tries = noted_tries c.add.new.self; aside = aside_of c.add.new.self; turns = old.turns + tried.turns } in
+    let q : RunView = record old { tries = tries_made c.add.new.self; aside = aside_of c.add.new.self; turns = old.turns + tried.turns } in
     let counted = c.requires.tried.counted in
     let turn = c.requires.turn in
     let most = c.requires.tried.within in
@@ -28,7 +28,7 @@ returns-clause-runs c = λ running.
     tried_fragments_hold a.devices a.program.places.items p (ref_types a.devices a.program.places.items p)
     (accepted a.devices a.program.places.items p (map typ_of a.ref_tys.items) a.typed) a.program.source
     old.play.labels old.play.weak c.args.number old.above _ tried t running.played.leads c.requires.idle c.requires.tried tells in
-    let how : (t.failing ≡ true) ⊎ (q.turns ≡ q.limit) = elim (how-noted tried.outcome turn) [
+    let how : (t.failing ≡ true) ⊎ (q.turns ≡ q.limit) = elim (how-noted tried.outcome turn c.requires.low) [
       | inl fails ↦ inl (tells.failing ∙ fails)
       | inr cut ↦ inr (let all = c.requires.tried.used cut in omega (arith, all, within))
     ] in

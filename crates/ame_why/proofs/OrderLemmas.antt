@@ -2,7 +2,6 @@
 use Rattle.std.proofs.Common.{◌≡◌, ℕ, ◌+◌, ◌<◌, ◌≤◌, ◌++◌, List, [], ◌∷◌, length, take, get_or, Option, Some, refl, sym, ap, subst, ◌∙◌, arith}
 use Rattle.std.proofs.lemmas.List.{append_assoc, take_more, take_all, length-take-le}
 use Rattle.std.specs.Prelude.{codes, decimal}
-use Rattle.ame_lex.specs.Bytes.{Text}
 use Rattle.ame_term.specs.declared.semantics.Label.{Label}
 use Rattle.ame_print.specs.Printer.{spelling_of}
 use Rattle.ame_weak.specs.Weak.{Weak, weak_after}

@@ -1,34 +1,25 @@
 -- The reads of a seat are checked.
-use Rattle.std.proofs.Common.{◌≡◌, ℕ, zero, suc, ◌+◌, ◌<◌, false, List, [], ◌∷◌, ◌++◌, map, get_or, length, Option, Some, None, option_map, IsSomeAnd, IsTrue, refl, sym, ap, ◌∙◌, subst, arith}
-use Rattle.std.specs.Prelude.{slice_get, slice_set, unwrap_or, is_some}
+use Rattle.std.proofs.Common.{◌≡◌, ℕ, zero, suc, ◌+◌, ◌<◌, false, List, [], ◌∷◌, ◌++◌, map, get_or, length, Option, Some, None, option_map, IsSomeAnd, refl, sym, ap, ◌∙◌, subst, arith}
+use Rattle.std.specs.Prelude.{slice_get, slice_set, unwrap_or}
 use Rattle.std.proofs.lemmas.Option.{slice_get-map}
 use Rattle.std.proofs.lemmas.List.Elements.{All-weaker}
-use Rattle.ame_term.specs.Tree.{Val, Tree}
+use Rattle.ame_term.specs.Tree.{Val}
 use Rattle.ame_term.specs.Frame.{Side, side_told}
 use Rattle.ame_store.specs.declared.cell.Cell.{Cell}
-use Rattle.ame_store.specs.Cells.{IsOwnedBy}
 use Rattle.ame_rows.specs.declared.notes.ReadNote.{ReadNote}
 use Rattle.ame_rows.specs.Valid.{IsValidAt, IsValidRead, IsValid}
 use Rattle.ame_journal.specs.declared.entry.Entry.{Entry}
 use Rattle.ame_machine.specs.Run.Local.{LocalState, local}
-use Rattle.ame_pool.specs.declared.member.Member.{Member}
 use Rattle.ame_pool.specs.Members.{find}
-use Rattle.ame_pool.specs.Begin.{is_exhausted}
-use Rattle.ame_pool.specs.Calls.{IsAt}
 use Rattle.ame_rows.specs.MemoryView.{Log, row_at}
-use Rattle.ame_protocol.specs.Row.Heap.{cell_at}
 use Rattle.ame_protocol.specs.Row.Shown.{shown_cell}
 use Rattle.ame_protocol.specs.Row.SeatRun.{HasUsed, AreValid}
 use Rattle.ame_machine.specs.MachineView.{MachineView, running_side}
 use Rattle.ame_protocol.specs.declared.types.Attempt.{Attempt}
 use Rattle.ame_protocol.specs.declared.types.Reason.{Reason}
 use Rattle.ame_protocol.specs.declared.types.Task.{Task}
-use Rattle.ame_protocol.specs.Engine.Parts.{Parts, heap_in, task_at, attempt_of, term_at, run_in, working}
-use Rattle.ame_protocol.specs.Engine.Tasks.{is_busy_as, RunsProtected, MeetsTask}
-use Rattle.ame_protocol.specs.Engine.Alone.{is_of_protected, IsExhausted}
+use Rattle.ame_protocol.specs.Engine.Parts.{Parts, heap_in, task_at, term_at, run_in, working}
 use Rattle.ame_protocol.specs.Engine.Events.{has_checked}
-use Rattle.ame_protocol.proofs.Engine.PoolLemmas.{found-at}
-use Rattle.ame_protocol.proofs.Engine.AloneLemmas.{no-other-owner}
 use Rattle.ame_protocol.proofs.Engine.ShownMemoryLemmas.{row-shown}
 use Rattle.ame_protocol.proofs.Engine.MemoryEvents.{memory-valid, valid-memory}
 use Rattle.ame_protocol.specs.declared.stop.Stop.{Stop}
@@ -40,18 +31,16 @@ use Rattle.ame_protocol.specs.Event.Counting.{Counted, one_counted, one_invalid}
 use Rattle.ame_protocol.specs.Event.Event.{Event, Find, Reverse}
 use Rattle.ame_protocol.specs.Event.After.{counted_find}
 use Rattle.ame_protocol.specs.Event.May.{May}
-use Rattle.ame_engine.specs.Seen.{parts_of, term_shown}
+use Rattle.ame_engine.specs.Seen.{parts_of}
 use Rattle.ame_engine.specs.Makes.{state_of, Makes}
-use Rattle.ame_protocol.specs.Event.Rollbacks.{MayBeRolledBack}
 use Rattle.ame_engine.specs.Whole.{IsSound}
 use Rattle.ame_engine.specs.AtWork.{IsOnSeat, IsOn}
 use Rattle.ame_engine.proofs.MakesLemmas.{made-event}
 use Rattle.ame_engine.proofs.ReadLemmas.{place-by, runs-as}
 use Rattle.ame_protocol.proofs.Event.CauseLemmas.{going-ordinary}
-use Rattle.ame_protocol.proofs.Event.RollbackLemmas.{may-roll}
 use Rattle.ame_protocol.specs.Event.Bounds.{LeavesNoTry}
 use Rattle.ame_machine.specs.Meaning.{Meaning}
-use Rattle.ame_engine.proofs.SoundLemmas.{sound-next, good-pool}
+use Rattle.ame_engine.proofs.SoundLemmas.{sound-next}
 use Rattle.ame_engine.proofs.HaltLemmas.{makes-halted, noted-apart}
 
 -- Valid reads are so at the shown cells.
@@ -141,43 +130,11 @@ module _ {C V M : Type 0} (meaning : Meaning C V M) where
     after-bad counters =
         record core { tasks = slice_set core.tasks seat (Task.Undoing attempt Reason.RolledBack); turns = core.turns + 1; counters = counters }
 
-    -- the member that it has at work is there
-    abbrev pub its-number : ℕ
-    its-number = attempt.tried.number
-
-    there : (x : Member Tree) × (find its-number parts.pool.members ≡ Some x) × IsTrue (is_busy_as false x)
-    there =
-        let runs : RunsProtected parts whole.state.stands.types seat attempt = subst (MeetsTask parts whole.state.stands.types seat) is (whole.state.stands.seats seat) in
-        found-at parts.pool its-number (is_busy_as false) runs.work.busy
-
-    pub still-rolls : (IsAt is_exhausted its-number parts.pool → ⊥) → MayBeRolledBack its-number now.pool
-    still-rolls fresh =
-        subst (λ (x : Core C V M). MayBeRolledBack its-number x.pool) view
-        (may-roll (term_shown meaning.stage core.code) its-number core.pool (good-pool meaning core whole) there.0 there.1 fresh)
-
-    exhausted-there : IsAt is_exhausted its-number parts.pool → IsExhausted parts seat attempt
-    exhausted-there exhausted = record { task = ap is_of_protected is; has = ap attempt_of is; exhausted = exhausted }
-
-    -- an exhausted one meets no cell of another seat
-    pub unexhausted-apart : (l owner : ℕ) → IsOwnedBy owner (cell_at (heap_in parts) l) → (owner ≡ seat → ⊥) → IsAt is_exhausted its-number parts.pool → ⊥
-    unexhausted-apart l owner own apart exhausted = apart (no-other-owner parts whole.state.stands whole.state.alone seat attempt (exhausted-there exhausted) l owner own)
-
     valid-by_parts : AreValid (heap_in parts) seat (row_at parts.memory.rows seat).reads → IsValid core.memory.cells seat (row_at core.memory.rows seat).reads
     valid-by_parts valid =
         shown-valid (meaning.value_of core.code) core.memory.cells seat (row_at core.memory.rows seat).reads
         (subst (IsValid parts.memory.cells seat) (ap (λ (n : Log Val). n.reads) (row-shown (meaning.value_of core.code) core.memory.rows seat))
         (valid-memory parts.memory seat (row_at parts.memory.rows seat).reads valid))
-
-    -- and its reads are valid until a stop is kept
-    pub unexhausted-invalid : (IsValid core.memory.cells seat (row_at core.memory.rows seat).reads → ⊥) → is_some core.stop ≡ false
-        → IsAt is_exhausted its-number parts.pool → ⊥
-    unexhausted-invalid invalid going exhausted = invalid (valid-by_parts (whole.state.alone.valid going seat attempt (exhausted-there exhausted)))
-
-    pub rolls-invalid : (IsValid core.memory.cells seat (row_at core.memory.rows seat).reads → ⊥) → (a : Attempt) → now.stop ≡ None → task_at now.tasks seat ≡ Task.Running a
-        → MayBeRolledBack a.tried.number now.pool
-    rolls-invalid invalid a none e =
-        subst (λ (x : Attempt). MayBeRolledBack x.tried.number now.pool) (its-attempt a e)
-        (still-rolls (unexhausted-invalid invalid (ap (λ (o : Option Stop). is_some o) (subst (λ (x : Core C V M). x.stop ≡ None) (sym view) none))))
 
     -- where one of its reads isn't valid it may turn back, whatever it was asked
     makes-back : (find : Find) → (IsValid core.memory.cells seat (row_at core.memory.rows seat).reads → ⊥) → now.stop ≡ None

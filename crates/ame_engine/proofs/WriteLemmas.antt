@@ -13,8 +13,6 @@ use Rattle.ame_journal.specs.Replay.{redex_act}
 use Rattle.ame_store.specs.declared.cell.Cell.{Cell}
 use Rattle.ame_store.specs.Cells.{IsFree, IsOwnedBy, CanGrow}
 use Rattle.ame_rows.specs.declared.notes.Undo.TheVariants.{Wrote}
-use Rattle.ame_pool.specs.Begin.{is_exhausted}
-use Rattle.ame_pool.specs.Calls.{IsAt}
 use Rattle.ame_machine.specs.Run.Local.{LocalState}
 use Rattle.ame_rows.specs.declared.answer.WriteAnswer.{WriteAnswer}
 use Rattle.ame_rows.specs.declared.answer.WriteAnswer.TheVariants as told
@@ -54,10 +52,8 @@ use Rattle.ame_engine.specs.Makes.{state_of, Makes}
 use Rattle.ame_engine.specs.Whole.{IsGoodUndo, IsGoodLog, IsGoodMemory, IsSound}
 use Rattle.ame_engine.specs.AtWork.{IsOnSeat, IsOn}
 use Rattle.ame_engine.specs.Writing.{answer_to_write, refused_by}
-use Rattle.ame_protocol.specs.Event.Rollbacks.{MayBeRolledBack}
 use Rattle.ame_engine.proofs.MakesLemmas.{made-event}
 use Rattle.ame_engine.proofs.ReadLemmas.{row-good, runs-as, comes-to, has-come, seat-in_rows}
-use Rattle.ame_engine.proofs.CheckLemmas.{unexhausted-apart, still-rolls}
 use Rattle.ame_engine.proofs.RunLemmas.{can-run}
 use Rattle.ame_machine.specs.Meaning.{Meaning}
 use Rattle.ame_machine.specs.RefSorts.{IsRefForm}
@@ -352,18 +348,6 @@ module _ {C V M : Type 0} (meaning : Meaning C V M) (same : V → V → Type 0)
       its-attempt : (a : Attempt) → task_at now.tasks seat ≡ Task.Running a → attempt ≡ a
       its-attempt a e =
           ap (λ (t : Task). unwrap_or (attempt_of t) attempt) (sym runs ∙ subst (λ (x : Core C V M). task_at x.tasks seat ≡ Task.Running a) (sym view) e)
-
-      -- so its member isn't exhausted
-      unexhausted : IsAt is_exhausted attempt.tried.number parts.pool → ⊥
-      unexhausted =
-          let other = conflict-cell seat value found.0 owner refused in
-          unexhausted-apart meaning core now view whole seat m on outside left attempt runs l.0 owner
-          (ap (λ (c : Cell Val). c.owner) found-is ∙ other.0) other.1
-
-      pub rolls-conflict : (a : Attempt) → task_at now.tasks seat ≡ Task.Running a → MayBeRolledBack a.tried.number now.pool
-      rolls-conflict a e =
-          subst (λ (x : Attempt). MayBeRolledBack x.tried.number now.pool) (its-attempt a e)
-          (still-rolls meaning core now view whole seat m on outside left attempt runs unexhausted)
 
       abbrev after-conflict : Core C V M
       after-conflict = record core {

@@ -9,7 +9,6 @@ ghost use Rattle.ame_protocol.specs.Engine.Parts.{task_at};
 ghost use Rattle.ame_protocol.specs.Event.Event.{Event, Find, Reverse};
 ghost use Rattle.ame_engine.specs.Makes.{Makes};
 ghost use Rattle.ame_engine.specs.AtWork.{IsOn};
-ghost use Rattle.ame_protocol.specs.Event.Rollbacks.{MayBeRolledBack};
 
 use super::Engine;
 use crate::answer::Checked;
@@ -47,8 +46,6 @@ where
             → Makes M.meaning (Event.Check seat attempt (M.meaning.stage self.old.code at.now).steps) self.old self.new }
         ensures back { (attempt : Attempt) (bad : Bad) → task_at self.old.tasks seat ≡ Task.Running attempt → result ≡ Checked.Invalid bad
             → Makes M.meaning (Event.TurnBack seat attempt (Reverse.Stale Find.Check)) self.old self.new }
-        ensures rolls { (attempt : Attempt) (bad : Bad) → self.old.stop ≡ None → task_at self.old.tasks seat ≡ Task.Running attempt
-            → result ≡ Checked.Invalid bad → MayBeRolledBack attempt.tried.number self.old.pool }
         ensures exact { (result ≡ Checked.Valid) ↔ IsValid self.old.memory.cells seat (row_at self.old.memory.rows seat).reads }
         ensures bad { (bad : Bad) → result ≡ Checked.Invalid bad → IsFirstBad self.old.memory.cells seat (row_at self.old.memory.rows seat).reads bad }
     {

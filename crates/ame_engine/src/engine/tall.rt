@@ -10,7 +10,6 @@ ghost use Rattle.ame_protocol.specs.Engine.Parts.{task_at, working};
 ghost use Rattle.ame_protocol.specs.Event.Event.{Event, Find, Reverse};
 ghost use Rattle.ame_engine.specs.Makes.{Makes, MakesAt};
 ghost use Rattle.ame_engine.specs.AtWork.{IsOn};
-ghost use Rattle.ame_protocol.specs.Event.Rollbacks.{MayBeRolledBack};
 
 use super::Engine;
 use super::notes::{note_of, told_task};
@@ -64,8 +63,6 @@ where
             → Makes M.meaning (Event.TurnBack seat attempt (Reverse.Stale Find.Tall)) self.old self.new }
         ensures exact { IfOk result (λ noted. (noted ≡ Noted.Noted) ↔ IsValid self.old.memory.cells seat (row_at self.old.memory.rows seat).reads) }
         ensures bad { (bad : Bad) → result ≡ Ok (Noted.Invalid bad) → IsFirstBad self.old.memory.cells seat (row_at self.old.memory.rows seat).reads bad }
-        ensures rolls { (attempt : Attempt) (bad : Bad) → task_at self.old.tasks seat ≡ Task.Running attempt
-            → result ≡ Ok (Noted.Invalid bad) → MayBeRolledBack attempt.tried.number self.old.pool }
         ensures lacks { OnErr result (IsValid self.old.memory.cells seat (row_at self.old.memory.rows seat).reads) }
         ensures err { OnErr result (self.new ≡ self.old) }
     {

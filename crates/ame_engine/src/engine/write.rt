@@ -15,7 +15,6 @@ ghost use Rattle.ame_engine.specs.Seen.{parts_of};
 ghost use Rattle.ame_engine.specs.Makes.{Makes};
 ghost use Rattle.ame_engine.specs.AtWork.{IsOn, IsOnSeat, IsWriting};
 ghost use Rattle.ame_engine.specs.Writing.{answer_to_write, refused_by};
-ghost use Rattle.ame_protocol.specs.Event.Rollbacks.{MayBeRolledBack};
 
 use super::Engine;
 use crate::answer::Wrote;
@@ -55,8 +54,6 @@ where
         ensures back { (l : Loc) (attempt : Attempt) (owner : ℕ) → (M.meaning.stage self.old.code at.now).want ≡ Some (Wants.Write l)
             → task_at self.old.tasks seat ≡ Task.Running attempt → result ≡ Ok (Wrote.Conflict owner)
             → Makes M.meaning (Event.TurnBack seat attempt (Reverse.Met l owner)) self.old self.new }
-        ensures rolls { (attempt : Attempt) (owner : ℕ) → task_at self.old.tasks seat ≡ Task.Running attempt → result ≡ Ok (Wrote.Conflict owner)
-            → MayBeRolledBack attempt.tried.number self.old.pool }
         ensures runs { OnOk result ((s : MachineView) → IsOnSeat (parts_of M.meaning self.new) seat s → s.inside ≡ false → CanRun s) }
         ensures err { OnErr result (self.new ≡ self.old) }
     {

@@ -1,5 +1,5 @@
 -- Members of a pool are rolled back seldom, and this stays so after each call.
-use Rattle.std.proofs.Common.{◌≡◌, ℕ, ◌+◌, ◌<◌, ◌≤◌, ◌==◌, Bool, true, false, List, [], ◌∷◌, map, All, Option, Some, None, IsTrue, IsSomeAnd, option_map, eq-eqb, refl, sym, ap, ◌∙◌, subst, arith}
+use Rattle.std.proofs.Common.{◌≡◌, ℕ, ◌+◌, ◌<◌, ◌≤◌, ◌==◌, Bool, true, false, List, [], ◌∷◌, map, All, Option, Some, None, IsTrue, IsSomeAnd, option_map, eq-eqb, refl, sym, subst, arith}
 use Rattle.std.proofs.Math.Nat.{min-le_left}
 use Rattle.std.proofs.lemmas.Option.{same_Some}
 use Rattle.std.proofs.lemmas.List.Elements.{All-map, All-weaker, All-cons, All-head, All-nil, All-tail}
@@ -16,7 +16,8 @@ use Rattle.ame_pool.proofs.MemberLemmas.{all_after, found_altered, found_placed,
 use Rattle.ame_protocol.specs.Engine.Events.{woken_for}
 use Rattle.ame_protocol.specs.Engine.Shown.{shown_member, shown_pool}
 use Rattle.ame_protocol.proofs.Engine.ShownPoolLemmas.{found-shown}
-use Rattle.ame_protocol.specs.Event.Rollbacks.{IsGoodPool, MayBeRolledBack}
+use Rattle.ame_protocol.specs.Bounds.Rollbacks.{MayTurnBack}
+use Rattle.ame_protocol.specs.Event.Rollbacks.{IsGoodPool}
 
 few-rolled : (b : Bool) (n : ℕ) → n ≤ max_rollbacks → rolled b n ≤ max_rollbacks
 few-rolled true n h = min-le_left max_rollbacks (n + 1)
@@ -87,7 +88,7 @@ module _ {M : Type 0} where
   woken-good (l ∷ ls) pool good = woken-good ls (woken l pool) (good-woken l pool good)
 
   -- one that is there and isn't exhausted may be rolled back once more
-  pub rolls-on : (n : ℕ) (pool : Roster M) → IsGoodPool pool → (m : Member M) → find n pool.members ≡ Some m → (IsAt is_exhausted n pool → ⊥) → MayBeRolledBack n pool
+  pub rolls-on : (n : ℕ) (pool : Roster M) → IsGoodPool pool → (m : Member M) → find n pool.members ≡ Some m → (IsAt is_exhausted n pool → ⊥) → MayTurnBack n pool
   rolls-on n pool good m is fresh =
       subst (λ (o : Option (Member M)). IsSomeAnd o (λ x. x.rollbacks < max_rollbacks)) (sym is) (below m.rollbacks few not-exhausted)
     where
@@ -142,13 +143,3 @@ module _ {M : Type 0} (term : M → Tree) where
           let head : m.rollbacks ≤ max_rollbacks = All-head (λ (x : Member Tree). x.rollbacks ≤ max_rollbacks) (shown_member term m) (map (shown_member term) ms) all in
           let rest = few ms (All-tail (λ (x : Member Tree). x.rollbacks ≤ max_rollbacks) (shown_member term m) (map (shown_member term) ms) all) in
           All-cons (λ (x : Member M). x.rollbacks ≤ max_rollbacks) m ms head rest
-
-  -- one that is there by its term and isn't exhausted may be rolled back once more
-  pub may-roll : (n : ℕ) (pool : Roster M) → IsGoodPool pool → (x : Member Tree) → find n (shown_pool term pool).members ≡ Some x
-      → (IsAt is_exhausted n (shown_pool term pool) → ⊥) → MayBeRolledBack n pool
-  may-roll n pool good x is fresh = by (find n pool.members) refl
-    where
-      by : (o : Option (Member M)) → find n pool.members ≡ o → MayBeRolledBack n pool
-      by None e =
-          absurd (let clash : ◌≡◌ {A = Option (Member Tree)} None (Some x) = sym (found-shown term n pool.members ∙ ap (option_map (shown_member term)) e) ∙ is in cc)
-      by (Some m) e = rolls-on n pool good m e (λ exhausted. fresh (exhausted-same n pool exhausted))

@@ -132,7 +132,8 @@ module _ (s : State) (h : Sound s) (g : HasATurn s) where
     crowded (Reverse.Met l owner) why one = why.1 (no-other parts h.stands one seat attempt (ap attempt_of task) l.0 owner why.0)
     crowded (Reverse.Stale find) why one = why (h.lone.valid one seat attempt task)
 
-    may-turn : (why : Reverse) → IsReversed s seat why → MayTurnBack attempt.tried.number parts.pool
+    -- so it may be rolled back once more
+    pub may-turn : (why : Reverse) → IsReversed s seat why → MayTurnBack attempt.tried.number parts.pool
     may-turn why reversed =
         let m = found-at parts.pool attempt.tried.number (is_busy_as false) busy in
         rolls-on attempt.tried.number parts.pool h.pool m.0 m.1 (unexhausted why reversed)

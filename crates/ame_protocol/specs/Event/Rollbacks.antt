@@ -1,6 +1,6 @@
 -- How often members are rolled back.
-use Rattle.std.specs.Prelude.{ℕ, ◌<◌, ◌≤◌, All, IsSomeAnd}
-use Rattle.ame_pool.specs.Members.{IsRising, find}
+use Rattle.std.specs.Prelude.{◌≤◌, All}
+use Rattle.ame_pool.specs.Members.{IsRising}
 use Rattle.ame_pool.specs.Standings.{max_rollbacks}
 use Rattle.ame_pool.specs.Roster.{Roster}
 
@@ -9,7 +9,3 @@ module _ {M : Type 0} where
   pub record IsGoodPool (pool : Roster M) : Type 0 where
     pub rising : IsRising pool.members
     pub few : All (λ m. m.rollbacks ≤ max_rollbacks) pool.members
-
-  -- the member with this number may be rolled back once more
-  abbrev pub MayBeRolledBack : ℕ → Roster M → Type 0
-  MayBeRolledBack number pool = IsSomeAnd (find number pool.members) (λ m. m.rollbacks < max_rollbacks)

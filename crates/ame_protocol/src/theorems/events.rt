@@ -7,14 +7,15 @@ ghost use Rattle.ame_term.specs.Typing.{Accepts};
 ghost use Rattle.ame_protocol.specs.declared.types.Limits.{Limits};
 ghost use Rattle.ame_protocol.specs.Event.Counting.{turns_in};
 ghost use Rattle.ame_protocol.specs.Event.State.{State, started_state};
-ghost use Rattle.ame_protocol.specs.Event.Event.{Event};
+ghost use Rattle.ame_protocol.specs.Event.Event.{Event, Reverse};
 ghost use Rattle.ame_protocol.specs.Event.After.{after};
 ghost use Rattle.ame_protocol.specs.Event.May.{May};
 ghost use Rattle.ame_protocol.specs.Event.Sound.{Sound};
 ghost use Rattle.ame_protocol.specs.Event.Runs.{Follows, entries_along, entries_told, is_back};
 ghost use Rattle.ame_protocol.specs.Event.Bounds.{refusals};
 ghost use Rattle.ame_protocol.specs.Event.Causes.{is_ordinary};
-ghost use Rattle.ame_protocol.specs.Bounds.Rollbacks.{rollbacks_at};
+ghost use Rattle.ame_protocol.specs.Bounds.Rollbacks.{rollbacks_at, MayTurnBack};
+ghost use Rattle.ame_protocol.specs.declared.types.Attempt.{Attempt};
 ghost use Rattle.ame_pool.specs.Standings.{max_rollbacks};
 
 /// The state that starts a program which the types accept is sound.
@@ -49,6 +50,12 @@ pub fn runs_take_turns()
     ensures going { (es : List Event) (s end : State) → Follows s es end → Sound s → end.stop ≡ None
         → end.parts.turns ≡ s.parts.turns + length es }
     ensures counted { (s : State) → Sound s → turns_in s.counters ≡ s.parts.turns }
+{}
+
+/// A member that turns back may be rolled back once more.
+pub fn exhausted_members_never_turn_back()
+    ensures { (s : State) → Sound s → (seat : ℕ) (attempt : Attempt) (why : Reverse) → May (Event.TurnBack seat attempt why) s
+        → MayTurnBack attempt.tried.number s.parts.pool }
 {}
 
 /// The answers that turned a member back are those events in which a seat turns back; each is counted. There are at most eight

@@ -7,7 +7,7 @@ use Rattle.ame_protocol.specs.declared.types.Task.{Task}
 use Rattle.ame_protocol.specs.Engine.Parts.{task_at, attempt_of}
 use Rattle.ame_engine.proofs.PlaceLemmas.{places-kept}
 use Rattle.ame_engine.proofs.CheckLemmas.{its-task}
-use Rattle.ame_engine.proofs.WriteLemmas.{write-location, write-grows, whole-written, makes-written, runs-written, answer-written, whole-conflict, rolls-conflict, makes-conflict, one-owner, answer-conflict}
+use Rattle.ame_engine.proofs.WriteLemmas.{write-location, write-grows, whole-written, makes-written, runs-written, answer-written, whole-conflict, makes-conflict, one-owner, answer-conflict}
 use Rattle.ame_engine.proofs.engine.Engine.write.Goals as goal
 
 pub write-requires-clause-location : goal.write-requires-clause-location
@@ -127,18 +127,3 @@ returns-in-Some-clause-back g c =
     c.wanted.result.now c.in_ok-value.value c.unit_value.result good sets c.in_ok-value.ensures
     (c.unit_value.ensures.good (arc_value c.self.inside.code)) (c.unit_value.ensures.stands (arc_value c.self.inside.code))
     c.write.new.self c.in_ok-written.ensures.contents c.in_ok-written.written c.in_ok-written.ensures.answer c.refusal.result c.refusal.ensures c.in-Some.owner c.in-Some.is c.in-Running.attempt runs c.requires.going k a w e owner (one-owner c.in-Some.owner owner is))
-
-pub returns-in-Some-clause-rolls : goal.returns-in-Some-clause-rolls
-returns-in-Some-clause-rolls g c =
-    let told : (g.M.Runner.meaning.stage c.args.self.now.code c.args.at.now).want ≡ Some (wants.Write c.in-Some-Write.l) = search rules in
-    let sets : value_to_set (g.M.Runner.meaning.stage (arc_value c.self.inside.code) c.args.at.now)
-    ≡ Some (g.M.Runner.meaning.value_of (arc_value c.self.inside.code) c.wanted.result.now) = search rules in
-    let good : g.M.Runner.meaning.is_value (arc_value c.self.inside.code) c.wanted.result.now = search rules in
-    let runs : task_at c.self.inside.tasks.items c.args.seat ≡ Task.Running c.in-Running.attempt =
-    its-task _ c.args.self.now c.self.view_is c.args.seat c.requires.on.stands.attempt c.requires.on.stands.has _ c.in-Running.attempt c.index.ensures c.in-Running.is in
-    (λ a owner e _. rolls-conflict g.M.Runner.meaning
-    g.M.Value.Copied.same g.met.M.Runner.same_values g.met.M.Runner.value_shown _ c.args.self.now c.self.view_is c.self.invariant.whole c.args.seat c.args.at.now
-    c.in-Some-Write.l c.requires.on c.requires.writes.outside told (g.met.M.Runner.sound c.args.self.now.code c.args.at.now c.requires.on.machine) c.requires.left
-    c.wanted.result.now c.in_ok-value.value c.unit_value.result good sets c.in_ok-value.ensures
-    (c.unit_value.ensures.good (arc_value c.self.inside.code)) (c.unit_value.ensures.stands (arc_value c.self.inside.code))
-    c.write.new.self c.in_ok-written.ensures.contents c.in_ok-written.written c.in_ok-written.ensures.answer c.refusal.result c.refusal.ensures c.in-Some.owner c.in-Some.is c.in-Running.attempt runs a e)

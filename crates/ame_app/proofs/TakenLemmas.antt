@@ -1,6 +1,6 @@
 -- An engine that was opened is taken apart at once.
 use Rattle.std.proofs.Common.{◌≡◌, ℕ, suc, ◌<◌, List, [], ◌∷◌, map, length, Option, Some, Result, Ok, Err, refl, sym, ap, ◌∙◌, subst}
-use Rattle.std.specs.Prelude.{OnOk, OnErr, IfErr, unwrap_or, ℤ}
+use Rattle.std.specs.Prelude.{OnOk, OnErr, IfErr, unwrap_or}
 use Rattle.std.specs.Io.KnownBytes.{Appends}
 use Rattle.ame_io.specs.Counts.{HasRisen}
 use Rattle.ame_io.specs.Lines.{lines}
@@ -23,7 +23,7 @@ use Rattle.ame_engine.specs.Ending.{End, end_of, IsEnd}
 use Rattle.ame_engine.specs.Resuming.{HasResumed}
 use Rattle.ame_engine.specs.Stops.{stopped_by}
 use Rattle.ame_shell.specs.Ends.{Ends}
-use Rattle.ame_shell.specs.Sent.{IsSent, IsSentWhole, IsSentInPart}
+use Rattle.ame_shell.specs.Sent.{IsSent}
 use Rattle.ame_app.specs.Headline.{limits_of}
 use Rattle.ame_app.specs.Jobs.{fragments, IsEngineOn, IsTakenApart}
 

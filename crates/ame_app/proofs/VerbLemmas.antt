@@ -1,5 +1,5 @@
 -- What the tables of the verbs keep: laws with a case a verb.
-use Rattle.std.proofs.Common.{◌≡◌, ◌≢◌, ℕ, List, [], refl, sym, ◌∙◌, subst}
+use Rattle.std.proofs.Common.{◌≡◌, ◌≢◌, ℕ, List, sym, ◌∙◌, subst}
 use Rattle.ame_sim.proofs.TextLemmas.{scheduled-same}
 use Rattle.ame_lex.specs.Bytes.{Text}
 use Rattle.ame_term.specs.Tree.{Tree}

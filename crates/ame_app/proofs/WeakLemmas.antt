@@ -1,17 +1,13 @@
 -- What a weak run tells, once its labels are straightened.
 use Rattle.std.proofs.Common.{◌≡◌, ◌≢◌, ℕ, zero, suc, ◌+◌, ◌*◌, ◌<◌, ◌≤◌, ◌==◌, ◌⊎◌, inl, inr, Bool, true, false, List, [], ◌∷◌, ◌++◌, map, length, drop, cond, All, Option, Some, None, is_some, option_and_then, if◌then◌else◌, refl, sym, ap, ◌∙◌, subst, arith, append_assoc, append-nil, ℤ}
-use Rattle.std.specs.Prelude.{Contains, IsSome, ◌↔◌, ◌||◌, slice_get, option_to_list}
+use Rattle.std.specs.Prelude.{Contains, IsSome, ◌||◌, slice_get, option_to_list}
 use Rattle.std.specs.List.{AllByRecursion, list_any}
-use Rattle.std.specs.BTreeMap.{is_at}
-use Rattle.std.specs.Ordering.{nat_cmp}
 use Rattle.std.proofs.lemmas.Bool.{eqb-true, eq-eqb, ne_eqb}
 use Rattle.std.proofs.lemmas.Option.{option_and_then_some}
 use Rattle.std.proofs.lemmas.List.Elements.{All-nil, All-cons, All-append}
 use Rattle.ame_term.specs.Tree.{Tree, Val as Value}
 use Rattle.ame_term.specs.declared.types.Unary.TheVariants as unary
-use Rattle.ame_term.specs.Frame.{Side}
-use Rattle.ame_term.specs.Context.{Focus, focus}
-use Rattle.ame_term.specs.Act.{Act, act_of, device_answer}
+use Rattle.ame_term.specs.Act.{act_of, device_answer}
 use Rattle.ame_term.specs.Maps.{at}
 use Rattle.ame_term.specs.State.{State, after, run}
 use Rattle.ame_term.specs.declared.semantics.StepKind.{StepKind}
@@ -23,7 +19,7 @@ use Rattle.ame_device.specs.declared.told.Told.{Told}
 use Rattle.ame_journal.specs.declared.entry.Entry.{Entry}
 use Rattle.ame_journal.specs.declared.entry.EntryKind.{EntryKind}
 use Rattle.ame_journal.specs.JournalView.{IsFit}
-use Rattle.ame_journal.specs.Labels.{fresh_of, fragment_labels}
+use Rattle.ame_journal.specs.Labels.{fresh_of}
 use Rattle.ame_journal.specs.Replayed.{Replayed, begun_at, has_such, is_failing, side_at, is_tall}
 use Rattle.ame_journal.specs.Replay.{replay, replay_from, replay_entry, replay_kind, note_where, fragment, attempt, fails_after}
 use Rattle.ame_journal.specs.Calls.{last_call, of_next, device_calls, device_calls_from}
@@ -39,7 +35,7 @@ use Rattle.ame_protocol.specs.declared.stop.Stop.{Stop}
 use Rattle.ame_protocol.specs.Event.Causes.{is_ordinary, AreOrdinary, EndsWith, IsTall, NotesStop}
 use Rattle.ame_engine.specs.Ending.{Rise, CertifyAll}
 use Rattle.ame_shell.specs.Ends.{told_at}
-use Rattle.ame_shell.specs.Heard.{answered_all, and_more, added_calls, HaveHeard, HaveFailed}
+use Rattle.ame_shell.specs.Heard.{answered_all, and_more, HaveHeard, HaveFailed}
 use Rattle.ame_shell.specs.Over.{AreOfSeats}
 use Rattle.ame_strong.specs.Pool.{pool, but}
 use Rattle.ame_strong.specs.Next.{next_of}
@@ -63,7 +59,7 @@ use Rattle.ame_runner.specs.Apart.{AreNotedApart}
 use Rattle.ame_runner.proofs.ApartLemmas.{order-behind, notes-apart}
 use Rattle.ame_app.specs.declared.parts.Weakened.{Weakened}
 use Rattle.ame_app.specs.Jobs.{stop_told, LeavesFit, certificate_told, certificates_told, HasWeakStop, TellsWeakly}
-use Rattle.ame_app.specs.Verbs.Weak.{IsNoteAtEnd, IsWeakJournal, StandsAtCallOf}
+use Rattle.ame_app.specs.Verbs.Weak.{IsNoteAtEnd, StandsAtCallOf}
 use Rattle.ame_app.proofs.CountLemmas.{here, more, empty, first-or-later}
 
 -- Entries of the labels, with the notes of the tries

@@ -1,5 +1,5 @@
 -- What a run counted, beside what bounds it.
-use Rattle.std.specs.Prelude.{◌≡◌, ℕ, ◌+◌, ◌*◌, ◌≤◌, List, [], ◌++◌, length, count_by, Option, Some, None, codes, decimal}
+use Rattle.std.specs.Prelude.{◌≡◌, ℕ, ◌+◌, ◌*◌, ◌≤◌, List, [], ◌++◌, length, count_by, Option, Some, codes, decimal}
 use Rattle.ame_journal.specs.declared.entry.Entry.{Entry}
 use Rattle.ame_journal.specs.Totals.{is_note}
 use Rattle.ame_pool.specs.Standings.{max_rollbacks}

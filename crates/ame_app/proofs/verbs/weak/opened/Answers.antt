@@ -1,4 +1,4 @@
-use Rattle.std.proofs.Common.{◌≡◌, ◌∙◌, List, Some, sym, ap, subst}
+use Rattle.std.proofs.Common.{◌≡◌, ◌∙◌, Some, sym, ap, subst}
 use Rattle.std.specs.Arc.{arc_value}
 use Rattle.ame_term.specs.Tree.{Tree}
 use Rattle.ame_term.specs.View.{tree_of}

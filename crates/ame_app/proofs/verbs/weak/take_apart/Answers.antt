@@ -1,4 +1,3 @@
-use Rattle.std.proofs.Common.{◌∙◌, ap}
 use Rattle.ame_shell.specs.Ends.{Ends}
 use Rattle.ame_app.proofs.TakenLemmas.{sent-by, taken-apart}
 use Rattle.ame_app.proofs.verbs.weak.take_apart.Goals as goal

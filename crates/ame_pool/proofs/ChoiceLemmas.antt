@@ -68,6 +68,10 @@ module _ {M : Type 0} where
               inside_begins w.1 (members_of ms ns) (m ∷ []) w.2 ∙ inside_front ns ∙ ap front (sym same)
         ] refl
 
+  -- where neither a protected nor an exhausted one is busy, whoever is first may begin
+  pub all_begin : (p e : Bool) → (not p && not e) ≡ true → (m : Member M) → may_begin_beside p e false m ≡ true
+  all_begin p e h m = grind (arith, h, cases_Bool p, cases_Bool e, cases_Bool m.inside, cases_Bool (is_exhausted m))
+
 -- ---- the front of a list
 front_none : (ns : List ℕ) → front ns ≡ None → ns ≡ []
 front_none [] e = refl

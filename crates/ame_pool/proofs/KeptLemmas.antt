@@ -1,8 +1,8 @@
 -- What a roll's fields keep after an edit of one member.
-use Rattle.std.proofs.Common.{◌≡◌, ◌<◌, ◌≤◌, ◌+◌, ◌-◌, ◌^◌, ℕ, Bool, true, false, cond, List, [], ◌∷◌, ◌++◌, length, Option, Some, None, option_map, IsSome, IsSomeAnd, IsTrue, refl, sym, ap, subst, ◌∙◌, arith}
+use Rattle.std.proofs.Common.{◌≡◌, ◌<◌, ◌≤◌, ◌+◌, ◌-◌, ◌^◌, ℕ, Bool, true, false, cond, List, [], ◌∷◌, ◌++◌, length, Option, Some, None, option_map, IsSomeAnd, IsTrue, refl, sym, ap, subst, ◌∙◌, arith}
 use Rattle.std.proofs.lemmas.Option.{none-some, same_Some}
 use Rattle.ame_pool.specs.Standings.{max_rollbacks}
-use Rattle.ame_pool.proofs.Words.{IsFoundAfter, Member, Transition, Counts, find, altered, placed, except, is_ready, Register, Roster, Queues, HasPlace, pushed, taken, counted, IsAt, skipping, begun, after_transition, is_readied, is_readied_at, turned_at, IsOrderOf, is_inside_at, IsKept, filter, count_by-le-length, length-filter}
+use Rattle.ame_pool.proofs.Words.{IsFoundAfter, Member, Transition, Counts, find, altered, placed, except, is_ready, Register, Roster, Queues, HasPlace, pushed, taken, counted, IsRecounted, IsAt, skipping, begun, after_transition, is_readied, is_readied_at, turned_at, IsOrderOf, is_inside_at, IsKept, filter, count_by-le-length, length-filter}
 use Rattle.ame_pool.proofs.MemberLemmas.{count_all, find_passes, which, all_after, found_altered, length_altered, found_placed, length_placed, found_except, length_except}
 use Rattle.ame_pool.proofs.OrderLemmas.{filter_push, filter_skipping, absent, unready, order_short, order_shorter, ordered_same, ordered_readied, ordered_held, ordered_placed, ordered_except, inside_at, inside_same, inside_but}
 use Rattle.ame_pool.proofs.CountLemmas.{kinds, counted_altered, counted_placed, counted_except}
@@ -44,11 +44,8 @@ module _ {M : Type 0} where
     pub found_turned : find n (altered n (after_transition to) ms) ≡ Some (after_transition to m)
     found_turned = (found_altered n (after_transition to) (turned_number to) ms).here ∙ ap (option_map (after_transition to)) found
 
-    pub there_turned : IsSome (find n (altered n (after_transition to) ms))
-    there_turned = rw found_turned refl
-
-    pub read_turned : (o : Member M) → Some o ≡ find n (altered n (after_transition to) ms) → o ≡ after_transition to m
-    read_turned o e = let same : Some o ≡ Some (after_transition to m) = e ∙ found_turned in cc
+    pub side_turned : (i : Bool) → Some i ≡ option_map (λ m. (after_transition to m).inside) (find n ms) → i ≡ (after_transition to m).inside
+    side_turned i e = same_Some i (after_transition to m).inside (e ∙ ap (option_map (λ m. (after_transition to m).inside)) found)
 
 module _ {M : Type 0} {reg : Register M} {q : Queues} {c : Counts} (h : IsKept reg q c) where
   -- ---- what there is room for
@@ -119,15 +116,13 @@ module _ {M : Type 0} {reg : Register M} {q : Queues} {c : Counts} (h : IsKept r
           ∙ filter_skipping (is_inside_at new) n q.order m.inside (inside_new ∙ same))
 
     pub kept_turn : is_ready m ≡ false → (to : Transition M) (reg' : Register M) → reg' ≡ record reg { list = altered n (after_transition to) reg.list }
-        → (r : Bool) → Some r ≡ option_map (is_readied to) (find n reg.list) → (d c' : Counts) → c ≡ counted m d → (o : Member M) → Some o ≡ find n reg'.list → c' ≡ counted o d
-        → (q' : Queues) → q' ≡ cond r (pushed n o.inside q) q → IsKept reg' q' c'
-    kept_turn was to reg' new r told d c' leave o read enter q' queue =
-        let same : o ≡ after_transition to m = read_turned n to reg.list m found o (rw new at read) in
+        → (r : Bool) → Some r ≡ option_map (is_readied to) (find n reg.list) → (i : Bool) → Some i ≡ option_map (λ m. (after_transition to m).inside) (find n reg.list)
+        → (c' : Counts) → IsRecounted m (after_transition to m) c c' → (q' : Queues) → q' ≡ cond r (pushed n i q) q → IsKept reg' q' c'
+    kept_turn was to reg' new r told i side c' counts q' queue =
         let readied : Some r ≡ Some (is_readied to m) = told ∙ ap (option_map (is_readied to)) found in
         let is : is_ready (after_transition to m) ≡ r = (turn_is to m).ready was ∙ (let e : is_readied to m ≡ r = cc in e) in
-        let entered = enter ∙ ap (λ x. counted x d) same in
-        let line : q' ≡ cond r (pushed n (after_transition to m).inside q) q = queue ∙ ap (λ (x : Member M). cond r (pushed n x.inside q) q) same in
-        rw (new, line) (kept_unready to d c' leave entered r was is)
+        let line : q' ≡ cond r (pushed n (after_transition to m).inside q) q = queue ∙ ap (λ b. cond r (pushed n b q) q) (side_turned n to reg.list m found i side) in
+        rw (new, line) (kept_unready to counts.others c' counts.left counts.entered r was is)
 
     -- ---- it leaves
     pub kept_except : is_ready m ≡ false → (c' : Counts) → c ≡ counted m c' → IsKept (record reg { list = except n reg.list }) q c'

@@ -1,7 +1,7 @@
 -- The words of the crate that its proofs speak of.
 pub use Rattle.ame_pool.specs.Begin.{first_to_begin, is_protected, is_exhausted, is_exhausted_protected, may_begin, may_begin_beside, members_of, oldest, oldest_or_wait, some_busy}
 pub use Rattle.ame_pool.specs.Calls.{IsAt, at_home, at_rest, begun, held, is_noted, is_running, joined, machine_of, newcomer, noted, noted_on, removed, renewed, skipping, woken}
-pub use Rattle.ame_pool.specs.Counts.{AreCounted, CountsIn, counted, idle, is_busy_protected, is_busy_exhausted}
+pub use Rattle.ame_pool.specs.Counts.{AreCounted, CountsIn, IsRecounted, counted, idle, is_busy_protected, is_busy_exhausted}
 pub use Rattle.ame_pool.specs.Found.{IsFoundAfter}
 pub use Rattle.ame_pool.specs.Index.{IsBetween, IsListedAfter, among, lists, pair_cmp, untouched, waits_for}
 pub use Rattle.ame_pool.specs.Keeps.{IsKept, IsOrderOf, AreInOrder, IsWatched, is_inside_at}

@@ -41,3 +41,9 @@ module _ {M : Type 0} where
     pub protected : c.protected ≡ count_by is_busy_protected ms
     pub exhausted : c.exhausted ≡ count_by is_busy_exhausted ms
     pub parked : c.parked ≡ count_by is_parked ms
+
+  -- the one member was counted, and the other one is counted in its place
+  pub record IsRecounted (m n : Member M) (old new : Counts) : Type 0 where
+    pub others : Counts
+    pub left : old ≡ counted m others
+    pub entered : new ≡ counted n others

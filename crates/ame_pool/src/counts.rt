@@ -1,6 +1,6 @@
 //! How many members are busy or parked.
 
-ghost use Rattle.std.specs.Prelude.{◌≡◌, ◌+◌, ◌<◌, ◌≤◌, ◌^◌, false, nat_lt};
+ghost use Rattle.std.specs.Prelude.{◌≡◌, ◌+◌, ◌<◌, ◌&&◌, ◌^◌, false, nat_lt, not};
 ghost use Rattle.ame_pool.specs.Begin.{is_protected, is_exhausted_protected, may_begin_beside};
 ghost use Rattle.ame_pool.specs.Members.{is_busy, is_parked};
 
@@ -97,6 +97,13 @@ impl Counts {
         } else {
             Oldest::Empty
         }
+    }
+
+    /// Whether no busy member keeps the oldest ready one from beginning, whoever that is.
+    pub fn let_all_begin(&self) -> bool
+        ensures { result ≡ not (nat_lt 0 self.now.protected) && not (nat_lt 0 self.now.exhausted) }
+    {
+        self.protected == 0 && self.exhausted == 0
     }
 
     /// Whether the oldest ready member may begin.

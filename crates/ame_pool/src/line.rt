@@ -1,6 +1,6 @@
 //! A line of numbers, in which one that leaves makes a gap.
 
-ghost use Rattle.std.specs.Prelude.{◌≡◌, ◌+◌, ◌<◌, ◌≤◌, ◌==◌, ◌^◌, [], ◌∷◌, ◌++◌, length, position, count_by, OnOk, IfSome, IfNone};
+ghost use Rattle.std.specs.Prelude.{◌≡◌, ◌+◌, ◌<◌, ◌≤◌, ◌==◌, ◌^◌, true, [], ◌∷◌, ◌++◌, length, position, count_by, OnOk, IfSome, IfNone};
 ghost use Rattle.std.specs.VecDeque.{deque_len, deque_capacity};
 ghost use Rattle.ame_pool.specs.Line.{numbers_in, is_of, starts_with_gap, StartsFull, IsPlaceOf};
 ghost use Rattle.ame_pool.specs.Queues.{front};
@@ -99,11 +99,24 @@ fn place_at(entries: &VecDeque<Entry>, number: u64, ticket: u64) -> Option<usize
     }
 }
 
-/// Where a number stands. With its ticket it is found by a search.
+/// Whether a number stands first.
+fn is_first(entries: &VecDeque<Entry>, number: u64) -> bool
+    ensures { result ≡ true → IsPlaceOf number entries.now.items 0 }
+{
+    if entries.is_empty() {
+        return false;
+    }
+    entries[0].is_of(number)
+}
+
+/// Where a number stands. Mostly it stands first, and else it is found by a search with its ticket.
 fn place_of(entries: &VecDeque<Entry>, number: u64, ticket: u64) -> Option<usize>
     ensures some { IfSome result (IsPlaceOf number entries.now.items) }
     ensures none { IfNone result (count_by (λ n. n == number) (numbers_in entries.now.items) ≡ 0) }
 {
+    if is_first(entries, number) {
+        return Some(0);
+    }
     match place_at(entries, number, ticket) {
         Some(place) => Some(place),
         None => look_through(entries, number),

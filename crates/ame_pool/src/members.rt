@@ -1,10 +1,11 @@
 //! The members, found by their numbers.
 
-ghost use Rattle.std.specs.Prelude.{◌≡◌, ◌-◌, ◌<◌, ◌≤◌, max, Some, None, IsSome, OnOk, OnErr, is_some, option_copied, option_map, vec_len, vec_capacity};
+ghost use Rattle.std.specs.Prelude.{◌≡◌, ◌-◌, ◌<◌, ◌≤◌, ◌^◌, max, Some, None, IsSome, OnOk, OnErr, is_some, option_copied, option_map, vec_len, vec_capacity};
 ghost use Rattle.slab.specs.Slab.{get};
 ghost use Rattle.ame_pool.specs.Members.{find};
 ghost use Rattle.ame_pool.specs.Numbered.{AreRising, IsSlotOf, only, members_at};
 
+use crate::counts::Counts;
 use crate::member::Member;
 use crate::numbers::{Numbered, enter, known_slot, slot_of};
 use crate::turn::Transition;
@@ -17,6 +18,14 @@ use std::marker::Model;
 mod probe;
 #[cfg(test)]
 mod tests;
+
+/// What a member's turn tells: its slot, whether the turn made it ready, and whether it stands inside then.
+#[derive(Clone, Copy)]
+pub struct Turned {
+    pub slot: usize,
+    pub is_readied: bool,
+    pub inside: bool,
+}
 
 /// Members in slots, and for each number an entry that leads to its slot. A member that leaves takes its slot alone, and
 /// its entry is stale from then on.
@@ -86,6 +95,7 @@ fn drop_stale<M>(numbers: &mut Vec<Numbered>, slots: &Slab<Member<M>>)
 }
 
 impl<M: Drop> Members<M> {
+    ghost use Rattle.ame_pool.specs.Counts.{CountsIn, IsRecounted};
     ghost use Rattle.ame_pool.specs.Members.{find, altered, placed, except};
     ghost use Rattle.ame_pool.specs.Turns.{after_transition, is_readied};
     ghost use Rattle.ame_pool.specs.Register.{vacant};
@@ -114,6 +124,13 @@ impl<M: Drop> Members<M> {
         self.numbers.reserve(places)?;
         self.room = places;
         Ok(())
+    }
+
+    /// How many may join without memory.
+    pub fn places(&self) -> usize
+        ensures { result ≡ self.now.room }
+    {
+        self.room
     }
 
     /// The member with a number, if there is one.
@@ -167,13 +184,28 @@ impl<M: Drop> Members<M> {
         self.slots.remove(key)
     }
 
-    /// A member's turn; the answer tells whether this makes it ready.
-    pub fn turn(&mut self, number: u64, to: Transition<M>) -> bool
-        requires { IsSome (find number self.old.list) }
+    /// A member's turn, after which it is counted as it is then. The member is looked for once.
+    pub fn turn(&mut self, number: u64, to: Transition<M>, counts: &mut Counts) -> Turned
+        requires there { IsSome (find number self.old.list) }
+        requires counted { (m : Member M) → find number self.old.list ≡ Some m → CountsIn m counts.old }
+        requires busy { counts.old.busy < 2 ^ 63 }
+        requires protected { counts.old.protected < 2 ^ 63 }
+        requires exhausted { counts.old.exhausted < 2 ^ 63 }
+        requires parked { counts.old.parked < 2 ^ 63 }
         ensures members { self.new ≡ record self.old { list = altered number (after_transition to) self.old.list } }
-        ensures readied { Some result ≡ option_map (is_readied to) (find number self.old.list) }
+        ensures readied { Some result.is_readied ≡ option_map (is_readied to) (find number self.old.list) }
+        ensures inside { Some result.inside ≡ option_map (λ m. (after_transition to m).inside) (find number self.old.list) }
+        ensures counts { (m : Member M) → find number self.old.list ≡ Some m → IsRecounted m (after_transition to m) counts.old counts.new }
     {
         let key = slot_in(&self.slots, &self.numbers, number);
-        self.slots[key].turn(to)
+        let member = &mut self.slots[key];
+        counts.leave(member);
+        let is_readied = member.turn(to);
+        counts.enter(member);
+        Turned {
+            slot: key,
+            is_readied,
+            inside: member.inside,
+        }
     }
 }

@@ -1,7 +1,10 @@
 //! Who is there, and who is ready.
 
-ghost use Rattle.std.specs.Prelude.{◌≡◌, ◌<◌, ℕ, Some, None, IsSome, OnOk, OnErr, IsTrue, option_copied};
+ghost use Rattle.std.specs.Prelude.{◌≡◌, ◌<◌, ℕ, Some, None, IsSome, OnOk, OnErr, IsTrue, false, nat_lt, option_copied};
 ghost use Rattle.std.specs.List.{list_any};
+ghost use Rattle.ame_pool.specs.declared.member.Member.{Member};
+ghost use Rattle.ame_pool.specs.Begin.{may_begin_beside};
+ghost use Rattle.ame_pool.specs.Members.{find};
 
 use crate::counts::Counts;
 use crate::member::{Member, Standing};
@@ -36,8 +39,21 @@ impl<M> Model for Roll<M> {
     ghost invariant = { λ a. IsKept a.members a.ready a.counts };
 }
 
+/// Whether the oldest ready member, which has this number, may begin beside those that are counted. It is looked at only where
+/// some of these could keep it from that.
+fn may_begin<M: Drop>(members: &Members<M>, counts: &Counts, number: u64) -> bool
+    requires { IsSome (find number members.now.list) }
+    ensures { (m : Member M) → find number members.now.list ≡ Some m
+        → result ≡ may_begin_beside (nat_lt 0 counts.now.protected) (nat_lt 0 counts.now.exhausted) false m }
+{
+    if counts.let_all_begin() {
+        return true;
+    }
+    counts.may_begin(members.member(number))
+}
+
 impl<M: Drop> Roll<M> {
-    ghost use Rattle.ame_pool.specs.Members.{find, is_ready, is_busy};
+    ghost use Rattle.ame_pool.specs.Members.{is_ready, is_busy};
     ghost use Rattle.ame_pool.specs.Roster.{nobody};
     ghost use Rattle.ame_pool.specs.Begin.{oldest as oldest_of};
     ghost use Rattle.ame_pool.specs.Keeps.{AreInOrder};
@@ -60,6 +76,9 @@ impl<M: Drop> Roll<M> {
         ensures ok { OnOk result (self.new ≡ with_room places self.old) }
         ensures err { OnErr result (self.new ≡ self.old) }
     {
+        if places <= self.members.places() {
+            return Ok(());
+        }
         let others = self.counts.busy + self.counts.parked;
         let Some(more) = others.checked_add(places) else {
             return Err(NoMemory);
@@ -105,11 +124,10 @@ impl<M: Drop> Roll<M> {
         requires { IsAt is_ready number self.old }
         ensures { self.new ≡ held number self.old }
     {
-        self.members.turn(number, Transition::Begin);
-        let member = self.members.member(number);
-        self.counts.enter(member);
-        self.ready
-            .take(number, self.members.slot(number), member.inside);
+        let turned = self
+            .members
+            .turn(number, Transition::Begin, &mut self.counts);
+        self.ready.take(number, turned.slot, turned.inside);
     }
 
     /// The turn of a member that is busy or parked. Where it is ready then, it is the youngest ready one.
@@ -117,13 +135,9 @@ impl<M: Drop> Roll<M> {
         requires { IsAt is_away number self.old }
         ensures { self.new ≡ turned_at number to self.old }
     {
-        self.counts.leave(self.members.member(number));
-        let is_readied = self.members.turn(number, to);
-        let member = self.members.member(number);
-        self.counts.enter(member);
-        if is_readied {
-            let seat = self.members.slot(number);
-            self.ready.push(number, seat, member.inside);
+        let turned = self.members.turn(number, to, &mut self.counts);
+        if turned.is_readied {
+            self.ready.push(number, turned.slot, turned.inside);
         }
     }
 
@@ -154,7 +168,7 @@ impl<M: Drop> Roll<M> {
         let Some(number) = self.ready.first() else {
             return self.counts.idle();
         };
-        if self.counts.may_begin(self.members.member(number)) {
+        if may_begin(&self.members, &self.counts, number) {
             return Oldest::Member(number);
         }
         match self.ready.first_inside() {

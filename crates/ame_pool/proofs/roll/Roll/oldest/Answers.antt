@@ -5,8 +5,8 @@ use Rattle.ame_pool.proofs.ChoiceLemmas.{idle_is, idle_waits, held_up, inside_re
 use Rattle.ame_pool.proofs.KeptLemmas.{one_there}
 use Rattle.ame_pool.proofs.roll.Roll.oldest.Goals as goal
 
-pub member-requires : goal.member-requires
-member-requires g c =
+pub may_begin-requires : goal.may_begin-requires
+may_begin-requires g c =
     let n = c.in-Some.number in
     rw (one_there (find n c.self.inside.members.list) (λ m. IsTrue (is_ready m))
     (front_ready c.self.inside.members.list c.self.inside.ready.order c.self.invariant.sound n (sym c.in-Some.ensures))).1 refl
@@ -19,7 +19,10 @@ returns-in_default-clause-waits g c e = subst (λ s. IsTrue (list_any is_busy s.
 
 pub returns-then-may_begin-clause-oldest : goal.returns-then-may_begin-clause-oldest
 returns-then-may_begin-clause-oldest g c =
-    front_is c.self.invariant c.in-Some.number (sym c.in-Some.ensures) c.member.result.now (sym c.member.ensures) _ c.self.view_is true c.if-may_begin.ensures
+    let n = c.in-Some.number in
+    let first = one_there (find n c.self.inside.members.list) (λ m. IsTrue (is_ready m))
+    (front_ready c.self.inside.members.list c.self.inside.ready.order c.self.invariant.sound n (sym c.in-Some.ensures)) in
+    front_is c.self.invariant n (sym c.in-Some.ensures) first.0 first.1 _ c.self.view_is true (sym c.if-may_begin.true ∙ c.may_begin.ensures first.0 first.1)
 
 pub returns-then-may_begin-clause-ready : goal.returns-then-may_begin-clause-ready
 returns-then-may_begin-clause-ready g c n e =
@@ -28,8 +31,11 @@ returns-then-may_begin-clause-ready g c n e =
 
 pub returns-in-Some-first_inside-clause-oldest : goal.returns-in-Some-first_inside-clause-oldest
 returns-in-Some-first_inside-clause-oldest g c =
+    let n = c.in-Some.number in
+    let first = one_there (find n c.self.inside.members.list) (λ m. IsTrue (is_ready m))
+    (front_ready c.self.inside.members.list c.self.inside.ready.order c.self.invariant.sound n (sym c.in-Some.ensures)) in
     ap oldest_or_wait c.in-Some-first_inside.ensures
-    ∙ front_is c.self.invariant _ (sym c.in-Some.ensures) c.member.result.now (sym c.member.ensures) _ c.self.view_is false c.if-may_begin.ensures
+    ∙ front_is c.self.invariant n (sym c.in-Some.ensures) first.0 first.1 _ c.self.view_is false (sym c.if-may_begin.false ∙ c.may_begin.ensures first.0 first.1)
 
 pub returns-in-Some-first_inside-clause-ready : goal.returns-in-Some-first_inside-clause-ready
 returns-in-Some-first_inside-clause-ready g c n e =
@@ -38,8 +44,15 @@ returns-in-Some-first_inside-clause-ready g c n e =
 
 pub returns-in-None-clause-oldest : goal.returns-in-None-clause-oldest
 returns-in-None-clause-oldest g c =
+    let n = c.in-Some.number in
+    let first = one_there (find n c.self.inside.members.list) (λ m. IsTrue (is_ready m))
+    (front_ready c.self.inside.members.list c.self.inside.ready.order c.self.invariant.sound n (sym c.in-Some.ensures)) in
     ap oldest_or_wait c.in-None.ensures
-    ∙ front_is c.self.invariant _ (sym c.in-Some.ensures) c.member.result.now (sym c.member.ensures) _ c.self.view_is false c.if-may_begin.ensures
+    ∙ front_is c.self.invariant n (sym c.in-Some.ensures) first.0 first.1 _ c.self.view_is false (sym c.if-may_begin.false ∙ c.may_begin.ensures first.0 first.1)
 
 pub returns-in-None-clause-waits : goal.returns-in-None-clause-waits
-returns-in-None-clause-waits g c e = subst (λ s. IsTrue (list_any is_busy s.members)) c.self.view_is (held_up c.self.invariant c.member.result.now (sym c.if-may_begin.ensures))
+returns-in-None-clause-waits g c e =
+    let n = c.in-Some.number in
+    let first = one_there (find n c.self.inside.members.list) (λ m. IsTrue (is_ready m))
+    (front_ready c.self.inside.members.list c.self.inside.ready.order c.self.invariant.sound n (sym c.in-Some.ensures)) in
+    subst (λ s. IsTrue (list_any is_busy s.members)) c.self.view_is (held_up c.self.invariant first.0 (sym (c.may_begin.ensures first.0 first.1) ∙ c.if-may_begin.false))

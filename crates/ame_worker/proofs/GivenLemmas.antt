@@ -1,22 +1,28 @@
 -- What a seat knows that gave the turn.
-use Rattle.std.proofs.Common.{◌≡◌, ℕ, ◌<◌, List, ◌++◌, length, set, All, Option, Some, slice_get, sym, ap, ◌∙◌, subst}
+use Rattle.std.proofs.Common.{◌≡◌, ℕ, ◌<◌, List, ◌++◌, length, set, All, Option, Some, slice_get, refl, sym, ap, ◌∙◌, subst, arith}
 use Rattle.std.specs.Prelude.{IsSomeAnd}
 use Rattle.std.proofs.lemmas.List.{get_or-set_same}
+use Rattle.std.proofs.lemmas.Option.{slice_get_within}
 use Rattle.ame_journal.specs.declared.entry.Entry.{Entry}
 use Rattle.ame_machine.specs.MachineView.{MachineView}
 use Rattle.ame_protocol.specs.declared.types.Limits.{Limits}
+use Rattle.ame_turn.specs.declared.work.Deed.{Deed}
 use Rattle.ame_turn.specs.declared.work.Work.{Work}
+use Rattle.ame_turn.specs.Work.{stage_at}
 use Rattle.ame_turn.specs.Ready.{CanBePrepared, IsPrepared}
 use Rattle.ame_shell.specs.Shell.{ShellView}
+use Rattle.ame_shell.specs.Turned.{HasTurned}
 use Rattle.ame_baton.specs.declared.view.Knows.{Knows}
 use Rattle.ame_baton.specs.Seats.{MayGive, Gives}
 use Rattle.ame_baton.specs.Keeping.{KeepsSeat}
 use Rattle.ame_baton.proofs.Keeping.{give_leaves}
 use Rattle.ame_baton.proofs.Lookups.{get_set_here}
+use Rattle.ame_worker.specs.declared.gate.Point.{Point}
 use Rattle.ame_worker.specs.declared.shared.Opened.{Opened}
+use Rattle.ame_worker.specs.Points.{member_at, point_of}
 use Rattle.ame_worker.specs.Rows.{Kept, SeatRow, nothing_kept, row_of}
 use Rattle.ame_worker.specs.Shared.{keeping, IsShared}
-use Rattle.ame_worker.specs.Turns.{maker, HasGivenRow}
+use Rattle.ame_worker.specs.Turns.{maker, HasGivenRow, MakesTurn}
 use Rattle.ame_worker.specs.Workers.{IsSeated, IsReadyToTurn}
 use Rattle.ame_worker.proofs.HandLemmas.{some-is, rows-there}
 use Rattle.ame_worker.proofs.WorkLemmas.{prepared-none}
@@ -73,12 +79,6 @@ module _ {C V M : Type 0} (meaning : Meaning C V M) where
           own = left.own;
         }
 
-    pub then-shared : Shares opened new (set places k.number (keeping new.core hand)) (set k.rows k.number after.row) after.seen
-    then-shared =
-        subst (λ (told : List Entry). Shares opened new (set places k.number (keeping new.core hand)) (set k.rows k.number after.row) told)
-        (sym (ap (λ (x : Knows (Opened C) (SeatRow M) Entry). x.seen) gives.1))
-        (subst (λ (row : SeatRow M). Shares opened new (set places k.number (keeping new.core hand)) (set k.rows k.number row) (k.seen ++ gives.0.added)) (sym row-is) it-shared)
-
   -- and a seat may give what is so
   pub may-give-on : {S : Type 0} (shown_of : S → ShellView C V M) (places_of : S → List (Kept M)) (leaves : SeatRow M → Type 0)
       (k : Knows (Opened C) (SeatRow M) Entry) (state : S) (opened : Opened C) → k.fixed ≡ Some opened → (new : ShellView C V M) → shown_of state ≡ new
@@ -124,6 +124,15 @@ ready-again {C} {M} devices is_machine stage code limits before after left hand 
   can = can;
 }
 
+-- a seat is one of a shell that is shared
+pub within-shell : {C V M : Type 0} (meaning : Meaning C V M)
+    (limits : Limits) (code : C) (k : Knows (Opened C) (SeatRow M) Entry) → IsSeated meaning.devices code limits k → (opened : Opened C) → k.fixed ≡ Some opened
+    → (shell : ShellView C V M) (places : List (Kept M)) (rows : List (SeatRow M)) (told : List Entry) → IsShared meaning opened shell places rows told
+    → k.number < shell.core.limits.seats
+within-shell {C} meaning limits code k seated opened is shell places rows told shared =
+    subst (λ (l : Limits). k.number < l.seats)
+    (sym (shared.shell.opened.limits ∙ ap (λ (o : Opened C). o.limits) (some-is opened seated.opened (sym is ∙ seated.is)) ∙ seated.of_limits)) seated.number
+
 -- the limits are those of the shell
 pub same-limits : {C V M : Type 0} (meaning : Meaning C V M)
     (limits : Limits) (code : C) (k : Knows (Opened C) (SeatRow M) Entry) (seated : IsSeated meaning.devices code limits k) (shell : ShellView C V M) (places : List (Kept M))
@@ -132,3 +141,61 @@ pub same-limits : {C V M : Type 0} (meaning : Meaning C V M)
 same-limits {C} meaning limits code k seated shell places rows told stands =
     let was = some-and (λ (o : Opened C). IsShared meaning o shell places rows told) k.fixed seated.opened seated.is stands in
     sym (was.shell.opened.limits ∙ seated.of_limits)
+
+module _ {C V M : Type 0} (meaning : Meaning C V M) where
+  -- what a seat makes of a shell
+  pub makes-turn : (code : C) (hand new : Work M) (k : Knows (Opened C) (SeatRow M) Entry) (taken old now given : ShellView C V M) (places kept : List (Kept M)) (point : Point)
+      (opened : Opened C) → k.fixed ≡ Some opened → old ≡ taken → given ≡ now → kept ≡ set places k.number (keeping now.core new)
+      → IsShared meaning opened old places k.rows k.seen → (deed : Deed) → HasTurned meaning k.number (stage_at meaning.stage code hand) old now deed
+      → (added : List Entry) → All (λ e. maker e ≡ k.number) added
+      → IsShared meaning opened now (set places k.number (keeping now.core new)) (set k.rows k.number (row_of now.core k.number (keeping now.core new))) (k.seen ++ added)
+      → point ≡ point_of deed (member_at old.core k.number) (member_at now.core k.number) → MakesTurn meaning code hand new k taken places given kept point
+  makes-turn code hand new k taken old now given places kept point opened is took gives keeps was deed turned added by_seat on told =
+      subst (λ (s : ShellView C V M). MakesTurn meaning code hand new k s places given kept point) took
+      (subst (λ (s : ShellView C V M). MakesTurn meaning code hand new k old places s kept point) (sym gives)
+      (record {
+        opened = opened;
+        is = is;
+        was = was;
+        deed = deed;
+        turned = turned;
+        keeps = keeps;
+        added = added;
+        by_seat = by_seat;
+        then =
+            subst (λ (ps : List (Kept M)). IsShared meaning opened now ps (set k.rows k.number (row_of now.core k.number (keeping now.core new))) (k.seen ++ added))
+            (sym keeps) on;
+        told = told;
+      }))
+
+  -- what it is at hands and codes that are the same
+  pub makes-turn-of : (at code : C) → at ≡ code → (work hand new : Work M) → work ≡ hand → (k : Knows (Opened C) (SeatRow M) Entry) (taken given : ShellView C V M)
+      (places kept : List (Kept M)) (said point : Point) → said ≡ point → MakesTurn meaning at work new k taken places given kept said
+      → MakesTurn meaning code hand new k taken places given kept point
+  makes-turn-of at code of work hand new same k taken given places kept said point is made =
+      subst (λ (p : Point). MakesTurn meaning code hand new k taken places given kept p) is
+      (subst (λ (w : Work M). MakesTurn meaning code w new k taken places given kept said) same
+      (subst (λ (c : C). MakesTurn meaning c work new k taken places given kept said) of made))
+
+  -- a shell of which a seat made its turn
+  module _ {S : Type 0} (shown_of : S → ShellView C V M) (places_of : S → List (Kept M)) (leaves : SeatRow M → Type 0) (k : Knows (Opened C) (SeatRow M) Entry)
+      (taken given : S) (at : C) (hand new : Work M) (point : Point)
+      (made : MakesTurn meaning at hand new k (shown_of taken) (places_of taken) (shown_of given) (places_of given) point) where
+    abbrev left : SeatRow M
+    left = row_of (shown_of given).core k.number (keeping (shown_of given).core new)
+
+    -- may be given
+    pub may-give : leaves left → MayGive (λ s opened rows told. IsShared meaning opened (shown_of s) (places_of s) rows told) maker leaves k given
+    may-give fine =
+        may-give-on meaning shown_of places_of leaves k given made.opened made.is (shown_of given) refl (places_of given) refl left fine made.added made.by_seat made.then
+
+    -- and then the seat's row is this
+    pub gave-its-row : (limits : Limits) (code : C) → IsSeated meaning.devices code limits k → (row : SeatRow M) → slice_get k.rows k.number ≡ Some row
+        → (after : Knows (Opened C) (SeatRow M) Entry)
+        → Gives (λ s opened rows told. IsShared meaning opened (shown_of s) (places_of s) rows told) maker leaves k given after → HasGivenRow left k after
+    gave-its-row limits code seated row found after gives =
+        let there = within-shell meaning limits code k seated made.opened made.is (shown_of taken) (places_of taken) k.rows k.seen made.was in
+        let count = made.was.count in
+        gave-row meaning shown_of places_of leaves k after given gives made.opened made.is (shown_of given) refl (places_of taken) new made.keeps
+        (slice_get_within k.rows k.number row found) (omega (arith, count, there))
+        (within-shell meaning limits code k seated made.opened made.is (shown_of given) (places_of given) (set k.rows k.number left) (k.seen ++ made.added) made.then)

@@ -23,9 +23,10 @@ use Rattle.ame_baton.specs.declared.view.Knows.{Knows}
 use Rattle.ame_worker.specs.declared.gate.Point.{Point}
 use Rattle.ame_worker.specs.declared.worker.Turned.{Turned}
 use Rattle.ame_worker.specs.declared.shared.Opened.{Opened}
-use Rattle.ame_worker.specs.Rows.{SeatRow}
+use Rattle.ame_worker.specs.Rows.{Kept, SeatRow, row_of}
 use Rattle.ame_worker.specs.Points.{point_of}
-use Rattle.ame_worker.specs.Turns.{MakesTurn}
+use Rattle.ame_worker.specs.Shared.{keeping}
+use Rattle.ame_worker.specs.Turns.{HasGivenRow, MakesTurn}
 use Rattle.ame_worker.specs.Workers.{IsThrough}
 use Rattle.ame_machine.specs.Meaning.{Meaning}
 
@@ -66,25 +67,26 @@ module _ {C V M : Type 0} where
   stops-so certificates (Pick.Member number) old new met is = absurd is
 
 module _ {C V M : Type 0} (meaning : Meaning C V M) where
-  pub is-through : (code : C) (old new : Work M) (holding after : Knows (Opened C) (SeatRow M) Entry) (point : Point)
-      → MakesTurn meaning code old new holding after point → point ≡ Point.Stopped → IsThrough after
-  is-through code old new holding after point m e =
+  pub is-through : (code : C) (old new : Work M) (holding after : Knows (Opened C) (SeatRow M) Entry) (taken : ShellView C V M) (places : List (Kept M))
+      (given : ShellView C V M) (kept : List (Kept M)) (point : Point) → MakesTurn meaning code old new holding taken places given kept point
+      → HasGivenRow (row_of given.core holding.number (keeping given.core new)) holding after → point ≡ Point.Stopped → IsThrough after
+  is-through code old new holding after taken places given kept point m gave e =
       let seat = holding.number in
       let deed : m.deed ≡ Deed.Stopped = point-stopped m.deed _ _ (sym m.told ∙ e) in
-      let turned : HasTurned meaning seat (stage_at meaning.stage code old) m.taken m.given Deed.Stopped =
-      subst (λ (d : Deed). HasTurned meaning seat (stage_at meaning.stage code old) m.taken m.given d) deed m.turned in
-      let event = (rowed meaning seat (stage_at meaning.stage code old) m.taken.core turned.core m.taken.ends.told m.given.ends.told Deed.Stopped turned.done).event in
-      let stops = stops-so (certificates_in (parts_of meaning m.taken.core)) event.0 m.taken.core turned.core event.1.meets event.2 in
-      let core : m.given.core ≡ turned.core = ap (λ (s : ShellView C V M). s.core) (turned.stays refl) in
+      let turned : HasTurned meaning seat (stage_at meaning.stage code old) taken given Deed.Stopped =
+      subst (λ (d : Deed). HasTurned meaning seat (stage_at meaning.stage code old) taken given d) deed m.turned in
+      let event = (rowed meaning seat (stage_at meaning.stage code old) taken.core turned.core taken.ends.told given.ends.told Deed.Stopped turned.done).event in
+      let stops = stops-so (certificates_in (parts_of meaning taken.core)) event.0 taken.core turned.core event.1.meets event.2 in
+      let core : given.core ≡ turned.core = ap (λ (s : ShellView C V M). s.core) (turned.stays refl) in
       record {
-        free = m.gave.free;
+        free = gave.free;
         idle =
-            ap (λ (r : SeatRow M). r.task) m.gave.row
+            ap (λ (r : SeatRow M). r.task) gave.row
             ∙ ap (λ (c : Core C V M). task_at c.tasks seat) core
             ∙ ap (λ (ts : List Task). task_at ts seat) stops.tasks
             ∙ event.1.idle;
         marked =
-            ap (λ (r : SeatRow M). r.marked) m.gave.row
+            ap (λ (r : SeatRow M). r.marked) gave.row
             ∙ ap (λ (c : Core C V M). is_some c.stop) core
             ∙ stops.stop;
       }

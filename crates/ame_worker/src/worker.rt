@@ -5,6 +5,7 @@ ghost use Rattle.std.specs.Arc.{arc_value};
 ghost use Rattle.ame_baton.specs.Batons.{knows, IsSeatOf};
 ghost use Rattle.ame_baton.specs.Keeping.{KeepsSeat};
 ghost use Rattle.ame_baton.specs.Seats.{IsElsewhere};
+ghost use Rattle.ame_shell.specs.Shell.{shown};
 ghost use Rattle.ame_worker.specs.declared.gate.Point.{Point};
 ghost use Rattle.ame_worker.specs.Rows.{empty_row};
 ghost use Rattle.ame_worker.specs.Turns.{HasMadeTurn};
@@ -14,7 +15,7 @@ use crate::gate::{Gate, Point};
 use crate::hand::{Played, hand};
 use crate::pause::pause;
 use crate::shared::{Opened, SeatRow, Shared};
-use ame_baton::{Baton, Seat, SeatAt};
+use ame_baton::{AnyRow, Baton, Seat, SeatAt};
 use ame_device::Device;
 use ame_io::Sink;
 use ame_journal::Entry;
@@ -98,19 +99,21 @@ where
         ensures keeps { KeepsSeat (knows self.old.seat) (knows self.new.seat) }
         ensures busy { result ≡ Turned.Busy → IsElsewhere (knows self.old.seat) }
         ensures same { result ≡ Turned.Busy → knows self.new.seat ≡ knows self.old.seat }
-        ensures did { (point : Point) → result ≡ Turned.Did point → HasMadeTurn M.meaning
-            (arc_value self.old.code) self.old.limits.slice self.old.work self.new.work (knows self.old.seat) (knows self.new.seat) point }
+        ensures did { (point : Point) → result ≡ Turned.Did point → HasMadeTurn M.meaning self.old.seat self.new.seat
+            (λ s. shown K.written K.faults D.device_heard D.device_faults s.shell.value.engine s.shell.value.sent s.shell.value.sink s.shell.value.devices.items)
+            (λ s. s.places.items) (arc_value self.old.code) self.old.limits.slice self.old.work self.new.work point }
         ensures through { result ≡ Turned.Did Point.Stopped → IsThrough (knows self.new.seat) }
         ensures code { self.new.code ≡ self.old.code }
         ensures limits { self.new.limits ≡ self.old.limits }
     {
         let code: &M::Code = &self.code;
         let lacks = prepare(alloc, code, self.limits.slice, &mut self.work).is_err();
-        let Some(shared) = baton.try_take(rt, &mut self.seat) else {
+        let Some(mut shared) = baton.try_take(rt, &mut self.seat) else {
             return Turned::Busy;
         };
         let work = mem::replace(&mut self.work, Work::Idle);
-        let Played { point, work } = hand(rt, baton, &mut self.seat, shared, code, work, lacks);
+        let Played { point, work } = hand(&self.seat, &mut shared, code, work, lacks);
+        baton.give::<AnyRow, R>(rt, &mut self.seat, shared);
         self.work = work;
         gate.pass(self.seat.number(), point);
         Turned::Did(point)

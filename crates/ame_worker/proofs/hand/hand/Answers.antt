@@ -1,5 +1,4 @@
-use Rattle.std.proofs.Common.{◌≢◌, ℕ, ◌<◌, set, sym, ap, refl, ◌∙◌, subst}
-use Rattle.std.proofs.lemmas.Option.{slice_get_within}
+use Rattle.std.proofs.Common.{◌≢◌, ℕ, set, sym, ap, ◌∙◌, subst}
 use Rattle.ame_io.specs.Lines.{lines}
 use Rattle.ame_protocol.specs.declared.types.Limits.{Limits}
 use Rattle.ame_shell.specs.Shell.{shown}
@@ -8,14 +7,13 @@ use Rattle.ame_turn.specs.declared.work.Work.{Work}
 use Rattle.ame_turn.specs.Work.{stage_at, Fits}
 use Rattle.ame_turn.specs.Ready.{CanBePrepared, IsPrepared}
 use Rattle.ame_baton.specs.Batons.{knows}
-use Rattle.ame_worker.specs.Rows.{row_of}
 use Rattle.ame_worker.specs.Shared.{opening_of, keeping, IsShared}
 use Rattle.ame_worker.specs.Workers.{IsSeated}
 use Rattle.ame_worker.specs.Points.{member_at, point_of}
 use Rattle.ame_worker.proofs.SlotLemmas.{turn-slots}
 use Rattle.ame_worker.proofs.EntryLemmas.{turn-extends}
 use Rattle.ame_worker.proofs.HandLemmas.{hand-fits, sent-within, shared-on}
-use Rattle.ame_worker.proofs.GivenLemmas.{some-and, may-give-on, gave-row, then-shared, ready-again}
+use Rattle.ame_worker.proofs.GivenLemmas.{some-and, makes-turn}
 use Rattle.ame_worker.proofs.hand.hand.Goals as goal
 
 pub turn-deed-requires-clause-fits : goal.turn-deed-requires-clause-fits
@@ -28,10 +26,10 @@ turn-deed-requires-clause-fits g c =
     let engine = sh.engine in
     let old = shown g.K.Sink.written g.K.Sink.faults g.D.Device.device_heard g.D.Device.device_faults engine sh.sent sh.sink sh.devices.items in
     let was = subst (λ it. IsShared r seated.opened
-    (shown g.K.Sink.written g.K.Sink.faults g.D.Device.device_heard g.D.Device.device_faults it.engine it.sent it.sink it.devices.items) c.args.shared.places.items k.rows k.seen)
+    (shown g.K.Sink.written g.K.Sink.faults g.D.Device.device_heard g.D.Device.device_faults it.engine it.sent it.sink it.devices.items) c.args.shared.now.places.items k.rows k.seen)
     to_shell (some-and _ k.fixed seated.opened seated.is c.requires.stands) in
     subst (λ n. Fits r engine n c.args.work) (sym c.number-number.ensures)
-    (hand-fits r seated.opened old old c.args.shared.places.items k.rows k.seen was k.number seated.number
+    (hand-fits r seated.opened old old c.args.shared.now.places.items k.rows k.seen was k.number seated.number
     k.row c.requires.found c.args.work
     (subst (λ code. IsPrepared r.is_machine r.stage code engine.limits.slice k.row.hand c.args.work) (sym (was.shell.opened.code ∙ seated.of_code))
     (subst (λ it. IsPrepared r.is_machine r.stage c.args.code.now it.engine.limits.slice k.row.hand c.args.work) to_shell c.requires.prepared)))
@@ -45,43 +43,9 @@ turn-deed-requires-clause-sent g c =
     let seated = subst (λ it. IsSeated r.devices c.args.code.now it.engine.limits k) to_shell c.requires.seated in
     let opened = seated.opened in
     let was = subst (λ it. IsShared r opened
-    (shown g.K.Sink.written g.K.Sink.faults g.D.Device.device_heard g.D.Device.device_faults it.engine it.sent it.sink it.devices.items) c.args.shared.places.items k.rows k.seen)
+    (shown g.K.Sink.written g.K.Sink.faults g.D.Device.device_heard g.D.Device.device_faults it.engine it.sent it.sink it.devices.items) c.args.shared.now.places.items k.rows k.seen)
     to_shell (some-and _ k.fixed opened seated.is c.requires.stands) in
     sent-within sh.engine.stop sh.sent (opening_of opened).ends.write_faults (g.K.Sink.faults sh.sink) (lines sh.engine.output) was.shell.sends.goes
-
-pub give-requires-clause-may : goal.give-requires-clause-may
-give-requires-clause-may g c =
-    let r = g.M.Runner.meaning in
-    let k = knows c.args.seat.now in
-    let sh = c.deref_mut-shell.result.now in
-    let to_shell = sym c.deref_mut-shell.ensures.value in
-    let seated = subst (λ it. IsSeated r.devices c.args.code.now it.engine.limits k) to_shell c.requires.seated in
-    let engine = sh.engine in
-    let old = shown g.K.Sink.written g.K.Sink.faults g.D.Device.device_heard g.D.Device.device_faults engine sh.sent sh.sink sh.devices.items in
-    let s = c.turn-deed.new.self in
-    let new = shown g.K.Sink.written g.K.Sink.faults g.D.Device.device_heard g.D.Device.device_faults s.engine s.sent s.sink s.devices.items in
-    let t = c.turn-deed.ensures in
-    let same = c.number-number.ensures in
-    let opened = seated.opened in
-    let places = c.args.shared.places.items in
-    let work = c.turn-deed.result.work in
-    let was = subst (λ it. IsShared r opened
-    (shown g.K.Sink.written g.K.Sink.faults g.D.Device.device_heard g.D.Device.device_faults it.engine it.sent it.sink it.devices.items) c.args.shared.places.items k.rows k.seen)
-    to_shell (some-and _ k.fixed opened seated.is c.requires.stands) in
-    let turned = subst (λ n. HasTurned r n (stage_at r.stage engine.code c.args.work) old new c.turn-deed.result.deed) same t.turned in
-    let fits = subst (λ n. Fits r s.engine n work) same t.fits in
-    let others = subst (λ n. (other : ℕ) (rest : Work g.row.M.Denot) → other ≢ n → Fits r engine other rest
-    → Fits r s.engine other rest) same t.others in
-    let extends = turn-extends r k.number (stage_at r.stage engine.code c.args.work) old new c.turn-deed.result.deed turned in
-    let stay = turn-slots r k.number (stage_at r.stage engine.code c.args.work) old new c.turn-deed.result.deed c.stands.ensures turned in
-    let on = shared-on r opened old new places k.rows k.seen was k.number seated.number work extends stay fits others
-    (t.keeps (opening_of opened) was.shell) in
-    may-give-on r
-    (λ s. shown g.K.Sink.written g.K.Sink.faults g.D.Device.device_heard g.D.Device.device_faults s.shell.value.engine s.shell.value.sent s.shell.value.sink s.shell.value.devices.items)
-    (λ s. s.places.items) _ k c.keep.new.self opened seated.is new
-    (ap (λ box. shown g.K.Sink.written g.K.Sink.faults g.D.Device.device_heard g.D.Device.device_faults box.value.engine box.value.sent box.value.sink box.value.devices.items) c.keep.ensures.shell)
-    (set places k.number (keeping s.engine work)) (c.keep.ensures.places ∙ ap (λ n. set places n (keeping s.engine work)) same)
-    (row_of s.engine k.number (keeping s.engine work)) tt extends.added extends.by_seat on
 
 pub returns-clause-makes : goal.returns-clause-makes
 returns-clause-makes g c =
@@ -97,51 +61,39 @@ returns-clause-makes g c =
     let t = c.turn-deed.ensures in
     let same = c.number-number.ensures in
     let opened = seated.opened in
-    let places = c.args.shared.places.items in
+    let places = c.args.shared.now.places.items in
     let work = c.turn-deed.result.work in
     let was = subst (λ it. IsShared r opened
-    (shown g.K.Sink.written g.K.Sink.faults g.D.Device.device_heard g.D.Device.device_faults it.engine it.sent it.sink it.devices.items) c.args.shared.places.items k.rows k.seen)
+    (shown g.K.Sink.written g.K.Sink.faults g.D.Device.device_heard g.D.Device.device_faults it.engine it.sent it.sink it.devices.items) places k.rows k.seen)
     to_shell (some-and _ k.fixed opened seated.is c.requires.stands) in
     let turned = subst (λ n. HasTurned r n (stage_at r.stage engine.code c.args.work) old new c.turn-deed.result.deed) same t.turned in
-    let in_rows = slice_get_within k.rows k.number k.row c.requires.found in
-    let in_places = subst (λ n. k.number < n) (sym was.count) seated.number in
-    let within = subst (λ (l : Limits). k.number < l.seats) (sym t.limits) seated.number in
-    let shows = ap (λ box. shown g.K.Sink.written g.K.Sink.faults g.D.Device.device_heard g.D.Device.device_faults box.value.engine box.value.sent box.value.sink box.value.devices.items) c.keep.ensures.shell in
-    let keeps = c.keep.ensures.places ∙ ap (λ n. set places n (keeping s.engine work)) same in
-    let gave = gave-row r
-    (λ s. shown g.K.Sink.written g.K.Sink.faults g.D.Device.device_heard g.D.Device.device_faults s.shell.value.engine s.shell.value.sent s.shell.value.sink s.shell.value.devices.items)
-    (λ s. s.places.items) _ k (knows c.give.new.seat) c.keep.new.self c.give.ensures.given opened seated.is new shows places work keeps in_rows in_places within in
-    record {
-      opened = opened;
-      is = seated.is;
-      taken = old;
-      places = places;
-      was = was;
-      deed = c.turn-deed.result.deed;
-      given = new;
-      turned =
-          subst (λ code. HasTurned r k.number (stage_at r.stage code c.args.work) old new c.turn-deed.result.deed)
-          (was.shell.opened.code ∙ seated.of_code) turned;
-      gave = gave;
-      then = then-shared r
-          (λ s. shown g.K.Sink.written g.K.Sink.faults g.D.Device.device_heard g.D.Device.device_faults s.shell.value.engine s.shell.value.sent s.shell.value.sink s.shell.value.devices.items)
-          (λ s. s.places.items) _ k (knows c.give.new.seat) c.keep.new.self c.give.ensures.given opened seated.is new shows places work keeps in_rows in_places within;
-      told =
-          c.point_of.ensures
-          ∙ ap (λ b. point_of c.turn-deed.result.deed b c.member_at-after.result) (c.member_at-before.ensures ∙ ap (member_at engine) same)
-          ∙ ap (point_of c.turn-deed.result.deed (member_at engine k.number)) (c.member_at-after.ensures ∙ ap (member_at s.engine) same);
-    }
+    let fits = subst (λ n. Fits r s.engine n work) same t.fits in
+    let others = subst (λ n. (other : ℕ) (rest : Work g.row.M.Denot) → other ≢ n → Fits r engine other rest
+    → Fits r s.engine other rest) same t.others in
+    let extends = turn-extends r k.number (stage_at r.stage engine.code c.args.work) old new c.turn-deed.result.deed turned in
+    let stay = turn-slots r k.number (stage_at r.stage engine.code c.args.work) old new c.turn-deed.result.deed c.stands.ensures turned in
+    let on = shared-on r opened old new places k.rows k.seen was k.number seated.number work extends stay fits others
+    (t.keeps (opening_of opened) was.shell) in
+    makes-turn r c.args.code.now c.args.work work k _ old new _ places c.keep.new.self.places.items c.point_of.result
+    opened seated.is
+    (ap (λ it. shown g.K.Sink.written g.K.Sink.faults g.D.Device.device_heard g.D.Device.device_faults it.engine it.sent it.sink it.devices.items) c.deref_mut-shell.ensures.value)
+    (ap (λ box. shown g.K.Sink.written g.K.Sink.faults g.D.Device.device_heard g.D.Device.device_faults box.value.engine box.value.sent box.value.sink box.value.devices.items)
+    c.keep.ensures.shell)
+    (c.keep.ensures.places ∙ ap (λ n. set places n (keeping s.engine work)) same) was c.turn-deed.result.deed
+    (subst (λ code. HasTurned r k.number (stage_at r.stage code c.args.work) old new c.turn-deed.result.deed) (was.shell.opened.code ∙ seated.of_code) turned)
+    extends.added extends.by_seat on
+    (c.point_of.ensures
+    ∙ ap (λ b. point_of c.turn-deed.result.deed b c.member_at-after.result) (c.member_at-before.ensures ∙ ap (member_at engine) same)
+    ∙ ap (point_of c.turn-deed.result.deed (member_at engine k.number)) (c.member_at-after.ensures ∙ ap (member_at s.engine) same))
 
-pub returns-clause-ready : goal.returns-clause-ready
-unfolding returns-clause-makes
-returns-clause-ready g c =
+pub returns-clause-can : goal.returns-clause-can
+returns-clause-can g c =
     let r = g.M.Runner.meaning in
     let k = knows c.args.seat.now in
-    let seated = subst (λ it. IsSeated r.devices c.args.code.now it.engine.limits k) (sym c.deref_mut-shell.ensures.value) c.requires.seated in
-    let made = returns-clause-makes g c in
-    let can = subst (λ code. CanBePrepared r.is_machine r.stage code c.args.shared.shell.value.engine.limits.slice c.turn-deed.result.work)
-    (c.turn-deed.ensures.code ∙ made.was.shell.opened.code ∙ seated.of_code)
+    let to_shell = sym c.deref_mut-shell.ensures.value in
+    let seated = subst (λ it. IsSeated r.devices c.args.code.now it.engine.limits k) to_shell c.requires.seated in
+    let was = some-and _ k.fixed seated.opened seated.is c.requires.stands in
+    subst (λ code. CanBePrepared r.is_machine r.stage code c.args.shared.now.shell.value.engine.limits.slice c.turn-deed.result.work)
+    (c.turn-deed.ensures.code ∙ ap (λ it. it.engine.code) c.deref_mut-shell.ensures.value ∙ was.shell.opened.code ∙ seated.of_code)
     (subst (λ (l : Limits). CanBePrepared r.is_machine r.stage c.turn-deed.new.self.engine.code l.slice c.turn-deed.result.work)
-    (c.turn-deed.ensures.limits ∙ ap (λ it. it.engine.limits) c.deref_mut-shell.ensures.value) c.turn-deed.ensures.can) in
-    ready-again r.devices r.is_machine r.stage c.args.code.now c.args.shared.shell.value.engine.limits k (knows c.give.new.seat)
-    (row_of made.given.core k.number (keeping made.given.core c.turn-deed.result.work)) c.turn-deed.result.work made.gave refl c.requires.seated can
+    (c.turn-deed.ensures.limits ∙ ap (λ it. it.engine.limits) c.deref_mut-shell.ensures.value) c.turn-deed.ensures.can)

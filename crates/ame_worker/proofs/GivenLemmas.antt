@@ -1,5 +1,5 @@
 -- What a seat knows that gave the turn.
-use Rattle.std.proofs.Common.{◌≡◌, ℕ, ◌<◌, List, ◌++◌, length, set, All, Option, Some, slice_get, refl, sym, ap, ◌∙◌, subst, arith}
+use Rattle.std.proofs.Common.{◌≡◌, ℕ, ◌<◌, Bool, true, false, List, ◌++◌, length, set, All, Option, Some, None, slice_get, refl, sym, ap, ◌∙◌, subst, arith}
 use Rattle.std.specs.Prelude.{IsSomeAnd}
 use Rattle.std.proofs.lemmas.List.{get_or-set_same}
 use Rattle.std.proofs.lemmas.Option.{slice_get_within}
@@ -8,6 +8,7 @@ use Rattle.ame_machine.specs.MachineView.{MachineView}
 use Rattle.ame_protocol.specs.declared.types.Limits.{Limits}
 use Rattle.ame_turn.specs.declared.work.Deed.{Deed}
 use Rattle.ame_turn.specs.declared.work.Work.{Work}
+use Rattle.ame_turn.specs.Asked.{LacksWhereDue}
 use Rattle.ame_turn.specs.Work.{stage_at}
 use Rattle.ame_turn.specs.Ready.{CanBePrepared, IsPrepared}
 use Rattle.ame_shell.specs.Shell.{ShellView}
@@ -144,21 +145,24 @@ same-limits {C} meaning limits code k seated shell places rows told stands =
 
 module _ {C V M : Type 0} (meaning : Meaning C V M) where
   -- what a seat makes of a shell
-  pub makes-turn : (code : C) (hand new : Work M) (k : Knows (Opened C) (SeatRow M) Entry) (taken old now given : ShellView C V M) (places kept : List (Kept M)) (point : Point)
+  pub makes-turn : (code : C) (lacks : Bool) (hand new : Work M) (k : Knows (Opened C) (SeatRow M) Entry) (taken old now given : ShellView C V M) (places kept : List (Kept M)) (point : Point)
       (opened : Opened C) → k.fixed ≡ Some opened → old ≡ taken → given ≡ now → kept ≡ set places k.number (keeping now.core new)
       → IsShared meaning opened old places k.rows k.seen → (deed : Deed) → HasTurned meaning k.number (stage_at meaning.stage code hand) old now deed
+      → (lacks ≡ true → old.core.stop ≡ None → deed ≡ Deed.Lacked) → (lacks ≡ false → LacksWhereDue old.core k.number (stage_at meaning.stage code hand) deed)
       → (added : List Entry) → All (λ e. maker e ≡ k.number) added
       → IsShared meaning opened now (set places k.number (keeping now.core new)) (set k.rows k.number (row_of now.core k.number (keeping now.core new))) (k.seen ++ added)
-      → point ≡ point_of deed (member_at old.core k.number) (member_at now.core k.number) → MakesTurn meaning code hand new k taken places given kept point
-  makes-turn code hand new k taken old now given places kept point opened is took gives keeps was deed turned added by_seat on told =
-      subst (λ (s : ShellView C V M). MakesTurn meaning code hand new k s places given kept point) took
-      (subst (λ (s : ShellView C V M). MakesTurn meaning code hand new k old places s kept point) (sym gives)
+      → point ≡ point_of deed (member_at old.core k.number) (member_at now.core k.number) → MakesTurn meaning code lacks hand new k taken places given kept point
+  makes-turn code lacks hand new k taken old now given places kept point opened is took gives keeps was deed turned lacked due added by_seat on told =
+      subst (λ (s : ShellView C V M). MakesTurn meaning code lacks hand new k s places given kept point) took
+      (subst (λ (s : ShellView C V M). MakesTurn meaning code lacks hand new k old places s kept point) (sym gives)
       (record {
         opened = opened;
         is = is;
         was = was;
         deed = deed;
         turned = turned;
+        lacked = lacked;
+        due = due;
         keeps = keeps;
         added = added;
         by_seat = by_seat;
@@ -169,18 +173,18 @@ module _ {C V M : Type 0} (meaning : Meaning C V M) where
       }))
 
   -- what it is at hands and codes that are the same
-  pub makes-turn-of : (at code : C) → at ≡ code → (work hand new : Work M) → work ≡ hand → (k : Knows (Opened C) (SeatRow M) Entry) (taken given : ShellView C V M)
-      (places kept : List (Kept M)) (said point : Point) → said ≡ point → MakesTurn meaning at work new k taken places given kept said
-      → MakesTurn meaning code hand new k taken places given kept point
-  makes-turn-of at code of work hand new same k taken given places kept said point is made =
-      subst (λ (p : Point). MakesTurn meaning code hand new k taken places given kept p) is
-      (subst (λ (w : Work M). MakesTurn meaning code w new k taken places given kept said) same
-      (subst (λ (c : C). MakesTurn meaning c work new k taken places given kept said) of made))
+  pub makes-turn-of : (at code : C) → at ≡ code → (lacks : Bool) (work hand new : Work M) → work ≡ hand → (k : Knows (Opened C) (SeatRow M) Entry) (taken given : ShellView C V M)
+      (places kept : List (Kept M)) (said point : Point) → said ≡ point → MakesTurn meaning at lacks work new k taken places given kept said
+      → MakesTurn meaning code lacks hand new k taken places given kept point
+  makes-turn-of at code of lacks work hand new same k taken given places kept said point is made =
+      subst (λ (p : Point). MakesTurn meaning code lacks hand new k taken places given kept p) is
+      (subst (λ (w : Work M). MakesTurn meaning code lacks w new k taken places given kept said) same
+      (subst (λ (c : C). MakesTurn meaning c lacks work new k taken places given kept said) of made))
 
   -- a shell of which a seat made its turn
   module _ {S : Type 0} (shown_of : S → ShellView C V M) (places_of : S → List (Kept M)) (leaves : SeatRow M → Type 0) (k : Knows (Opened C) (SeatRow M) Entry)
-      (taken given : S) (at : C) (hand new : Work M) (point : Point)
-      (made : MakesTurn meaning at hand new k (shown_of taken) (places_of taken) (shown_of given) (places_of given) point) where
+      (taken given : S) (at : C) (lacks : Bool) (hand new : Work M) (point : Point)
+      (made : MakesTurn meaning at lacks hand new k (shown_of taken) (places_of taken) (shown_of given) (places_of given) point) where
     abbrev left : SeatRow M
     left = row_of (shown_of given).core k.number (keeping (shown_of given).core new)
 

@@ -67,10 +67,10 @@ module _ {C V M : Type 0} where
   stops-so certificates (Pick.Member number) old new met is = absurd is
 
 module _ {C V M : Type 0} (meaning : Meaning C V M) where
-  pub is-through : (code : C) (old new : Work M) (holding after : Knows (Opened C) (SeatRow M) Entry) (taken : ShellView C V M) (places : List (Kept M))
-      (given : ShellView C V M) (kept : List (Kept M)) (point : Point) → MakesTurn meaning code old new holding taken places given kept point
+  pub is-through : (code : C) (lacks : Bool) (old new : Work M) (holding after : Knows (Opened C) (SeatRow M) Entry) (taken : ShellView C V M) (places : List (Kept M))
+      (given : ShellView C V M) (kept : List (Kept M)) (point : Point) → MakesTurn meaning code lacks old new holding taken places given kept point
       → HasGivenRow (row_of given.core holding.number (keeping given.core new)) holding after → point ≡ Point.Stopped → IsThrough after
-  is-through code old new holding after taken places given kept point m gave e =
+  is-through code lacks old new holding after taken places given kept point m gave e =
       let seat = holding.number in
       let deed : m.deed ≡ Deed.Stopped = point-stopped m.deed _ _ (sym m.told ∙ e) in
       let turned : HasTurned meaning seat (stage_at meaning.stage code old) taken given Deed.Stopped =

@@ -41,7 +41,7 @@ where
         shared.old.places.items (knows seat.now).rows (knows seat.now).seen) }
     requires prepared { IsPrepared M.meaning.is_machine M.meaning.stage code.now shared.old.shell.value.engine.limits.slice (knows seat.now).row.hand work }
     requires ready { lacks ≡ false → IsReadyWork M.meaning.stage code.now shared.old.shell.value.engine.limits.slice work }
-    ensures makes { MakesTurn M.meaning code.now work result.work (knows seat.now)
+    ensures makes { MakesTurn M.meaning code.now lacks work result.work (knows seat.now)
         (shown K.written K.faults D.device_heard D.device_faults shared.old.shell.value.engine shared.old.shell.value.sent
         shared.old.shell.value.sink shared.old.shell.value.devices.items)
         shared.old.places.items

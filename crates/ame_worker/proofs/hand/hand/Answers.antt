@@ -4,6 +4,7 @@ use Rattle.ame_protocol.specs.declared.types.Limits.{Limits}
 use Rattle.ame_shell.specs.Shell.{shown}
 use Rattle.ame_shell.specs.Turned.{HasTurned}
 use Rattle.ame_turn.specs.declared.work.Work.{Work}
+use Rattle.ame_turn.specs.Asked.{LacksWhereDue}
 use Rattle.ame_turn.specs.Work.{stage_at, Fits}
 use Rattle.ame_turn.specs.Ready.{CanBePrepared, IsPrepared}
 use Rattle.ame_baton.specs.Batons.{knows}
@@ -74,13 +75,16 @@ returns-clause-makes g c =
     let stay = turn-slots r k.number (stage_at r.stage engine.code c.args.work) old new c.turn-deed.result.deed c.stands.ensures turned in
     let on = shared-on r opened old new places k.rows k.seen was k.number seated.number work extends stay fits others
     (t.keeps (opening_of opened) was.shell) in
-    makes-turn r c.args.code.now c.args.work work k _ old new _ places c.keep.new.self.places.items c.point_of.result
+    makes-turn r c.args.code.now c.args.lacks c.args.work work k _ old new _ places c.keep.new.self.places.items c.point_of.result
     opened seated.is
     (ap (λ it. shown g.K.Sink.written g.K.Sink.faults g.D.Device.device_heard g.D.Device.device_faults it.engine it.sent it.sink it.devices.items) c.deref_mut-shell.ensures.value)
     (ap (λ box. shown g.K.Sink.written g.K.Sink.faults g.D.Device.device_heard g.D.Device.device_faults box.value.engine box.value.sent box.value.sink box.value.devices.items)
     c.keep.ensures.shell)
     (c.keep.ensures.places ∙ ap (λ n. set places n (keeping s.engine work)) same) was c.turn-deed.result.deed
     (subst (λ code. HasTurned r k.number (stage_at r.stage code c.args.work) old new c.turn-deed.result.deed) (was.shell.opened.code ∙ seated.of_code) turned)
+    t.lacks
+    (λ fine. subst (λ code. LacksWhereDue engine k.number (stage_at r.stage code c.args.work) c.turn-deed.result.deed) (was.shell.opened.code ∙ seated.of_code)
+    (subst (λ n. LacksWhereDue engine n (stage_at r.stage engine.code c.args.work) c.turn-deed.result.deed) same (t.due fine)))
     extends.added extends.by_seat on
     (c.point_of.ensures
     ∙ ap (λ b. point_of c.turn-deed.result.deed b c.member_at-after.result) (c.member_at-before.ensures ∙ ap (member_at engine) same)

@@ -9,7 +9,7 @@ use Rattle.ame_worker.specs.declared.gate.Point.{Point}
 use Rattle.ame_worker.specs.Rows.{SeatRow}
 use Rattle.ame_worker.specs.Turns.{maker}
 use Rattle.ame_worker.specs.Workers.{IsSeated, IsReadyToTurn}
-use Rattle.ame_worker.proofs.WorkLemmas.{prepared-twice, prepared-can, ready-unless}
+use Rattle.ame_worker.proofs.WorkLemmas.{prepared-twice, prepared-can, ready-unless, lacks-where}
 use Rattle.ame_worker.proofs.GivenLemmas.{still-seated, ready-again, same-limits, makes-turn-of, may-give, gave-its-row}
 use Rattle.ame_worker.proofs.ThroughLemmas.{did-is, is-through}
 use Rattle.ame_worker.proofs.worker.Worker.turn.Goals as goal
@@ -83,7 +83,7 @@ pub give-requires-clause-may : goal.give-requires-clause-may
 give-requires-clause-may g c =
     may-give g.M.Runner.meaning
     (λ s. shown g.K.Sink.written g.K.Sink.faults g.D.Device.device_heard g.D.Device.device_faults s.shell.value.engine s.shell.value.sent s.shell.value.sink s.shell.value.devices.items)
-    (λ s. s.places.items) _ (knows c.try_take.new.seat) c.in-Some.shared c.hand-point.new.shared c.deref-code.result.now c.replace-work.result c.hand-point.result.work
+    (λ s. s.places.items) _ (knows c.try_take.new.seat) c.in-Some.shared c.hand-point.new.shared c.deref-code.result.now c.is_err-lacks.result c.replace-work.result c.hand-point.result.work
     c.hand-point.result.point c.hand-point.ensures.makes tt
 
 pub returns-clause-did : goal.returns-clause-did
@@ -100,17 +100,22 @@ returns-clause-did g c = λ point e.
       hand = c.prepare.new.work;
       prepared =
           subst (λ code. IsPrepared r.is_machine r.stage code limits.slice c.args.self.now.work c.prepare.new.work) c.deref-code.ensures c.prepare.ensures.prepared;
+      lacks = c.is_err-lacks.result;
+      wants =
+          λ is. subst (λ code. IsReadyWork r.stage code limits.slice c.prepare.new.work → ⊥) c.deref-code.ensures
+          (lacks-where c.prepare.result (IsReadyWork r.stage c.deref-code.result.now limits.slice c.prepare.new.work → ⊥) (sym c.is_err-lacks.ensures.value ∙ is)
+          c.prepare.ensures.lacks);
       taken = shared;
       holding = holding;
       takes = c.in-Some.ensures.taken;
       took = found;
       given = given;
-      made = makes-turn-of r c.deref-code.result.now code c.deref-code.ensures c.replace-work.result c.prepare.new.work c.hand-point.result.work c.replace-work.ensures.value
+      made = makes-turn-of r c.deref-code.result.now code c.deref-code.ensures c.is_err-lacks.result c.replace-work.result c.prepare.new.work c.hand-point.result.work c.replace-work.ensures.value
           holding _ _ _ _ c.hand-point.result.point point (did-is c.hand-point.result.point point e) c.hand-point.ensures.makes;
       gives = c.give.ensures.given;
       gave = gave-its-row r
           (λ s. shown g.K.Sink.written g.K.Sink.faults g.D.Device.device_heard g.D.Device.device_faults s.shell.value.engine s.shell.value.sent s.shell.value.sink s.shell.value.devices.items)
-          (λ s. s.places.items) _ holding shared given c.deref-code.result.now c.replace-work.result c.hand-point.result.work c.hand-point.result.point c.hand-point.ensures.makes
+          (λ s. s.places.items) _ holding shared given c.deref-code.result.now c.is_err-lacks.result c.replace-work.result c.hand-point.result.work c.hand-point.result.point c.hand-point.ensures.makes
           limits code (still-seated r.devices code limits k holding found.keeps c.requires.ready.seated) k.row
           found.found (knows c.give.new.seat) c.give.ensures.given;
     }
@@ -139,5 +144,5 @@ returns-clause-ready g c =
 pub returns-clause-through : goal.returns-clause-through
 returns-clause-through g c = λ e.
     let made = returns-clause-did g c c.hand-point.result.point refl in
-    is-through g.M.Runner.meaning _ made.hand c.hand-point.result.work made.holding (knows c.give.new.seat) _ _ _ _ c.hand-point.result.point made.made made.gave
+    is-through g.M.Runner.meaning _ _ made.hand c.hand-point.result.work made.holding (knows c.give.new.seat) _ _ _ _ c.hand-point.result.point made.made made.gave
     (did-is c.hand-point.result.point Point.Stopped e)

@@ -1,10 +1,9 @@
 -- Moments show each entry and each try once.
-use Rattle.std.proofs.Common.{◌≡◌, ℕ, ◌+◌, List, [], ◌∷◌, ◌++◌, map, refl, sym, ap, ◌∙◌}
+use Rattle.std.proofs.Common.{◌≡◌, ℕ, ◌+◌, List, [], ◌∷◌, ◌++◌, refl, ap, ◌∙◌}
 use Rattle.std.specs.List.{flat_map, prefix_len}
 use Rattle.std.proofs.lemmas.Grind.{flat_map-append}
 use Rattle.std.proofs.lemmas.List.{take-append-drop}
 use Rattle.ame_journal.specs.declared.entry.Entry.{Entry}
-use Rattle.ame_picture.specs.declared.moment.Done.{Done}
 use Rattle.ame_picture.specs.declared.moment.Lost.{Lost}
 use Rattle.ame_picture.specs.declared.moment.Moment.{Moment}
 use Rattle.ame_picture.specs.Moments.{done_of, is_before, tries_before, later_tries, tries_shown, moments, entry_in, try_in, dones, ShowAll}

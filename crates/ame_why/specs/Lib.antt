@@ -1,6 +1,7 @@
 pub mod Excerpt
 pub mod Input
 pub mod Open
+pub mod Binders
 pub mod Placed
 pub mod Position
 pub mod Rules

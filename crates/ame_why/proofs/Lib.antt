@@ -10,3 +10,4 @@ pub mod StepperLemmas
 pub mod LedgerLemmas
 pub mod OrderLemmas
 pub mod BinderLemmas
+pub mod StarterLemmas

@@ -17,8 +17,8 @@ use ame_store::Store;
 use ame_term::{Copied, Loc, NoMemory, Program, push};
 use ame_value::Val;
 use ame_why::{
-    Made, counts_of, forms_of, fragments_of, input_of, journal_of, printed_of, steps_of, store_of,
-    table_of, weak_counts_of,
+    Made, counts_of, forms_of, fragments_of, input_of, journal_of, printed_of, starters_of,
+    steps_of, store_of, table_of, weak_counts_of,
 };
 use std::alloc::Global;
 use std::sync::Arc;
@@ -162,7 +162,8 @@ fn trace_text<K>(
         }
         _ => Vec::new(alloc),
     };
-    page.extend_from_slice(&table_of(alloc, entries, ended.tried(), &lines)?)?;
+    let starters = starters_told(alloc, &report.code, entries)?;
+    page.extend_from_slice(&table_of(alloc, entries, ended.tried(), &starters, &lines)?)?;
     let made = made_in(alloc, ended.store())?;
     if !made.is_empty() {
         page.push(b'\n')?;
@@ -201,6 +202,21 @@ fn lines_told(
     };
     match printed_of::<Fragment>(alloc, code, entries)? {
         Some(lines) => Ok(lines),
+        None => Ok(Vec::new(alloc)),
+    }
+}
+
+/// The entry that started each fragment of a run, from fragment 1 on; none where they aren't told.
+fn starters_told(
+    alloc: Global,
+    code: &Option<Arc<Code>>,
+    entries: &[Entry],
+) -> Result<Vec<u64>, NoMemory> {
+    let Some(code) = code else {
+        return Ok(Vec::new(alloc));
+    };
+    match starters_of::<Fragment>(alloc, code, entries)? {
+        Some(starters) => Ok(starters),
         None => Ok(Vec::new(alloc)),
     }
 }

@@ -4,6 +4,7 @@ ghost use Rattle.std.specs.Prelude.{◌≤◌, length, vec_len};
 ghost use Rattle.ame_lex.specs.Bytes.{max_text};
 
 use crate::asked::{Chosen, View};
+use crate::course::course_text;
 use crate::picture::picture_text;
 use crate::weak::order_text;
 use ame_app::{Own, Report, StandardDevice};
@@ -53,7 +54,14 @@ pub fn page_of<K>(
         View::Steps => steps_text(alloc, &report.text, &entries),
         View::Picture => {
             let lines = lines_told(alloc, &report.code, &entries)?;
-            picture_text(alloc, report, &entries, &lines, title)
+            match &report.own {
+                Own::Picked(mades) => {
+                    picture_text(alloc, report, mades, &entries, &lines, title)
+                }
+                Own::Nothing | Own::Unmade(_) | Own::Resumed(_) | Own::Weak(_) => {
+                    course_text(alloc, report, ended, &entries, &lines, title)
+                }
+            }
         }
         View::Why | View::Journal => journal_text(alloc, &entries, &report.text),
     }
@@ -207,7 +215,7 @@ fn lines_told(
 }
 
 /// The entry that started each fragment of a run, from fragment 1 on; none where they aren't told.
-fn starters_told(
+pub fn starters_told(
     alloc: Global,
     code: &Option<Arc<Code>>,
     entries: &[Entry],
@@ -222,7 +230,7 @@ fn starters_told(
 }
 
 /// The text of these entries, the line `program` and the text.
-fn journal_text(alloc: Global, entries: &[Entry], text: &[u8]) -> Result<Vec<u8>, NoMemory> {
+pub fn journal_text(alloc: Global, entries: &[Entry], text: &[u8]) -> Result<Vec<u8>, NoMemory> {
     match journal_of(alloc, entries)? {
         Some(journal) => input_of(alloc, &journal, text),
         None => Ok(Vec::new(alloc)),

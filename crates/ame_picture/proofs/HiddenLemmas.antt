@@ -8,6 +8,10 @@ use Rattle.ame_picture.specs.Layout.{journal_top}
 use Rattle.ame_picture.specs.Marks.{stamp_mark}
 use Rattle.ame_picture.specs.Picture.{marks_from, picture_head, frame, body, print_marks, legend, hidden_begin, hidden, foot, svg_of, HasHidden}
 use Rattle.ame_picture.specs.Shapes.{words_text}
+use Rattle.ame_picture.specs.declared.course_page.Labels.{Labels}
+use Rattle.ame_picture.specs.declared.moment.Moment.{Moment}
+use Rattle.ame_picture.specs.Courses.{lanes}
+use Rattle.ame_picture.specs.CoursePage.{course_head, course_frame, course_body, course_legend, course_foot, course_svg}
 
 first_hidden : (p w l b t c other e : List ℕ) → p ++ (w ++ l ++ (b ++ t ++ c) ++ other ++ e) ≡ (p ++ (w ++ l)) ++ (b ++ (t ++ (c ++ (other ++ e))))
 first_hidden p w l b t c other e = simp append_assoc
@@ -45,4 +49,26 @@ holds_journal drawing lines captions =
       front = above drawing lines captions ++ (words ++ legend (top + 62) ++ other);
       behind = codes "</svg>\n";
       split = second_hidden (above drawing lines captions) words (legend (top + 62)) other (hidden_begin (codes "journal")) (escaped captions.journal.items) HIDDEN_END.now (codes "</svg>\n");
+    }
+
+one_hidden : (p w l b t c e : List ℕ) → p ++ (w ++ l ++ (b ++ t ++ c) ++ e) ≡ (p ++ (w ++ l)) ++ (b ++ (t ++ (c ++ e)))
+one_hidden p w l b t c e = simp append_assoc
+
+-- what stands above the foot of a picture by fragments
+course_above : List Moment → List ℕ → List (List ℤ) → Labels → List ℕ
+course_above moments starters lines labels =
+    let top = journal_top (lanes moments) 0 in
+    course_head top (length moments) labels ++ course_frame top starters moments ++ course_body top moments lines
+
+pub holds_certificate : (moments : List Moment) (starters : List ℕ) (lines : List (List ℤ)) (labels : Labels) →
+    HasHidden (course_svg moments starters lines labels) (codes "certificate") labels.certificate.items
+unfolding course_above course_svg course_foot hidden
+holds_certificate moments starters lines labels =
+    let top = journal_top (lanes moments) 0 in
+    let words = words_text (codes "lane") 10 (top + 14) (codes "journal") in
+    record {
+      front = course_above moments starters lines labels ++ (words ++ course_legend (top + 62));
+      behind = codes "</svg>\n";
+      split = one_hidden (course_above moments starters lines labels) words (course_legend (top + 62)) (hidden_begin (codes "certificate"))
+          (escaped labels.certificate.items) HIDDEN_END.now (codes "</svg>\n");
     }

@@ -5,3 +5,4 @@ pub mod ArrowLemmas
 pub mod CountLemmas
 pub mod EndLemmas
 pub mod HiddenLemmas
+pub mod MomentLemmas

@@ -9,3 +9,7 @@ pub mod Layout
 pub mod Shapes
 pub mod Marks
 pub mod Picture
+pub mod Moments
+pub mod Courses
+pub mod CourseMarks
+pub mod CoursePage

@@ -38,8 +38,8 @@ fate_class Fate.Cut = codes "crossed"
 
 abbrev pub fate_words : Fate → List ℕ
 fate_words Fate.UnderWay = codes "the run was over before it was"
-fate_words Fate.Ended = codes "committed, and the member ended"
-fate_words Fate.Left = codes "committed, and the member left for unprotected code"
+fate_words Fate.Ended = codes "committed, and the fragment ended"
+fate_words Fate.Left = codes "committed, and the fragment left for unprotected code"
 fate_words Fate.Visited = codes "ran unprotected code"
 fate_words Fate.Failed = codes "a device failed"
 fate_words Fate.RolledBack = codes "rolled back"
@@ -58,7 +58,7 @@ stretch from to = codes ", picks " ++ decimal from ++ codes " to " ++ decimal to
 -- the title of an attempt
 unfoldable pub attempt_title : Attempt → List ℕ
 attempt_title attempt =
-    title_begin (codes "member ") attempt.member ++ stretch attempt.from attempt.to ++ fate_words attempt.fate ++ codes "</title>\n"
+    title_begin (codes "fragment ") attempt.member ++ stretch attempt.from attempt.to ++ fate_words attempt.fate ++ codes "</title>\n"
 
 -- the box of an attempt, from its first pick to its last
 unfoldable pub attempt_box : Attempt → List ℕ
@@ -120,7 +120,7 @@ kind_class EntryKind.Tall = codes "crossed"
 -- the title of entry n
 unfoldable pub stamp_title : ℕ → Stamp → List ℕ
 stamp_title n stamp =
-    title_begin (codes "entry ") n ++ codes ": " ++ kind_word stamp.kind ++ codes ", member " ++ decimal stamp.member ++ codes "</title>\n"
+    title_begin (codes "entry ") n ++ codes ": " ++ kind_word stamp.kind ++ codes ", fragment " ++ decimal stamp.member ++ codes "</title>\n"
 
 -- the tie to the pick that made an entry, and the box of the entry
 unfoldable pub stamp_box : ℕ → Stamp → List ℕ
@@ -163,7 +163,7 @@ outcome_words Outcome.Undone = codes "undone"
 
 -- who owned a location
 unfoldable pub owner_words : ℕ → List ℕ
-owner_words member = codes ", owned by" ++ codes " member " ++ decimal member
+owner_words member = codes ", owned by" ++ codes " fragment " ++ decimal member
 
 -- the title of a span
 unfoldable pub span_title : Span → List ℕ

@@ -38,9 +38,9 @@ enum Sought {
 
 /// A pick that was found.
 #[derive(Clone, Copy)]
-struct Spot {
-    pick: u32,
-    seat: u32,
+pub(crate) struct Spot {
+    pub(crate) pick: u32,
+    pub(crate) seat: u32,
 }
 
 /// The arrows of a run, in the order of the picks that they belong to.

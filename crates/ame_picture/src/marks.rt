@@ -18,7 +18,7 @@ use itoa::Buffer;
 
 /// Adds the beginning of a mark of a member, which has one of eight colours.
 #[tactic(auto, unfolding(crate::specs::Marks::member_begin))]
-fn append_member(page: &mut Vec<u8>, member: u64) -> Result<(), NoMemory>
+pub(crate) fn append_member(page: &mut Vec<u8>, member: u64) -> Result<(), NoMemory>
     ensures { OnOk result (page.new.items ≡ page.old.items ++ spec.member_begin member) }
 {
     append(page, b"<g class=")?;
@@ -29,7 +29,7 @@ fn append_member(page: &mut Vec<u8>, member: u64) -> Result<(), NoMemory>
 
 /// Adds a line of a member from a place to another.
 #[tactic(auto, unfolding(crate::specs::Marks::member_line))]
-fn append_member_line(
+pub(crate) fn append_member_line(
     page: &mut Vec<u8>,
     member: u64,
     class: &[u8],
@@ -86,7 +86,7 @@ fn append_attempt_field(page: &mut Vec<u8>, attempt: &Attempt) -> Result<(), NoM
 
 /// Adds the beginning of the title of what has a number.
 #[tactic(auto, unfolding(crate::specs::Marks::title_begin))]
-fn append_title(page: &mut Vec<u8>, word: &[u8], number: u64) -> Result<(), NoMemory>
+pub(crate) fn append_title(page: &mut Vec<u8>, word: &[u8], number: u64) -> Result<(), NoMemory>
     ensures { OnOk result (page.new.items ≡ page.old.items ++ spec.title_begin word.now number) }
 {
     append(page, b"<title>")?;
@@ -111,7 +111,7 @@ fn append_stretch(page: &mut Vec<u8>, from: u32, to: u32) -> Result<(), NoMemory
 fn append_attempt_title(page: &mut Vec<u8>, attempt: &Attempt) -> Result<(), NoMemory>
     ensures { OnOk result (page.new.items ≡ page.old.items ++ spec.attempt_title attempt.now) }
 {
-    append_title(page, b"member ", attempt.member)?;
+    append_title(page, b"fragment ", attempt.member)?;
     append_stretch(page, attempt.from, attempt.to)?;
     append(page, fate_words(attempt.fate))?;
     append(page, b"</title>\n")
@@ -137,8 +137,8 @@ fn fate_words(fate: Fate) -> &'static [u8]
 {
     match fate {
         Fate::UnderWay => b"the run was over before it was",
-        Fate::Ended => b"committed, and the member ended",
-        Fate::Left => b"committed, and the member left for unprotected code",
+        Fate::Ended => b"committed, and the fragment ended",
+        Fate::Left => b"committed, and the fragment left for unprotected code",
         Fate::Visited => b"ran unprotected code",
         Fate::Failed => b"a device failed",
         Fate::RolledBack => b"rolled back",
@@ -273,13 +273,13 @@ fn append_stamp_title(page: &mut Vec<u8>, number: u64, stamp: &Stamp) -> Result<
     append_title(page, b"entry ", number)?;
     append(page, b": ")?;
     append(page, stamp.kind.word())?;
-    append(page, b", member ")?;
+    append(page, b", fragment ")?;
     append_decimal(page, stamp.member)?;
     append(page, b"</title>\n")
 }
 
 /// How an entry of a kind looks.
-fn kind_class(kind: EntryKind) -> &'static [u8]
+pub(crate) fn kind_class(kind: EntryKind) -> &'static [u8]
     ensures { result.now ≡ spec.kind_class kind }
 {
     match kind {
@@ -356,7 +356,7 @@ fn append_owner(page: &mut Vec<u8>, member: u64) -> Result<(), NoMemory>
     ensures { OnOk result (page.new.items ≡ page.old.items ++ spec.owner_words member) }
 {
     append(page, b", owned by")?;
-    append(page, b" member ")?;
+    append(page, b" fragment ")?;
     append_decimal(page, member)
 }
 

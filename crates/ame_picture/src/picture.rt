@@ -94,7 +94,7 @@ fn append_head(
 
 /// Adds the beginning of a picture that is so wide and so high.
 #[tactic(auto, unfolding(crate::specs::Picture::svg_begin))]
-fn append_begin(page: &mut Vec<u8>, width: u64, height: u64) -> Result<(), NoMemory>
+pub(crate) fn append_begin(page: &mut Vec<u8>, width: u64, height: u64) -> Result<(), NoMemory>
     ensures { OnOk result (page.new.items ≡ page.old.items ++ spec.svg_begin width height) }
 {
     append(page, OPENING)?;
@@ -127,7 +127,7 @@ fn append_frame(page: &mut Vec<u8>, top: u64, picks: u32, drawing: &Drawing) -> 
 }
 
 /// Adds a tick each five picks.
-fn append_ticks(page: &mut Vec<u8>, top: u64, picks: u32) -> Result<(), NoMemory>
+pub(crate) fn append_ticks(page: &mut Vec<u8>, top: u64, picks: u32) -> Result<(), NoMemory>
     ensures { OnOk result (page.new.items ≡ page.old.items ++ spec.marks_below (λ n. marks.tick_mark top (5 * n)) (picks / 5 + 1)) }
 {
     for five in 0..picks / 5 + 1 {
@@ -305,7 +305,7 @@ fn append_legend(page: &mut Vec<u8>, y: u64) -> Result<(), NoMemory>
 
 /// Adds a text that is not shown.
 #[tactic(auto, unfolding(crate::specs::Picture::hidden))]
-fn append_hidden(page: &mut Vec<u8>, name: &[u8], text: &[u8]) -> Result<(), NoMemory>
+pub(crate) fn append_hidden(page: &mut Vec<u8>, name: &[u8], text: &[u8]) -> Result<(), NoMemory>
     ensures { OnOk result (page.new.items ≡ page.old.items ++ spec.hidden name.now text.now) }
 {
     append_hidden_begin(page, name)?;

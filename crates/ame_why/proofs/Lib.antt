@@ -9,3 +9,5 @@ pub mod PrintedLemmas
 pub mod StepperLemmas
 pub mod LedgerLemmas
 pub mod OrderLemmas
+pub mod BinderLemmas
+pub mod StarterLemmas

@@ -1,10 +1,12 @@
 pub mod Excerpt
 pub mod Input
 pub mod Open
+pub mod Binders
 pub mod Placed
 pub mod Position
 pub mod Rules
 pub mod Nexts
+pub mod Starters
 pub mod Table
 pub mod Forms
 pub mod Lines

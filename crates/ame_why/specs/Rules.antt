@@ -4,6 +4,7 @@ use Rattle.ame_term.specs.Shown.{Shown, TypeFault}
 use Rattle.ame_term.specs.declared.types.Sort.{Sort}
 use Rattle.ame_term.specs.declared.types.Effect.{Effect}
 use Rattle.ame_print.specs.Tokens.{type_text}
+use Rattle.ame_why.specs.Binders.{binder_words}
 use Rattle.ame_why.specs.Placed.{placed_within}
 
 -- an effect and a sort in words
@@ -30,7 +31,7 @@ found_line found = shown_line (codes "found: ") (codes "device ") found
 abbrev pub wanted_line : Shown → List ℕ
 wanted_line wanted = shown_line (codes "wanted: ") (codes "a device below ") wanted
 
--- the page shows the place of a fault, the rule in words, and what was found and wanted
+-- The page shows the place of a fault, the rule in words, where the name is bound of which the rule speaks, and what was found and wanted.
 pub record IsTypeExplained (text : List ℕ) (fault : TypeFault) (page : List ℕ) : Type 0 where
   pub words : List ℕ
-  pub shown : page ≡ placed_within text fault.place ++ (words ++ found_line fault.found ++ wanted_line fault.wanted)
+  pub shown : page ≡ placed_within text fault.place ++ (words ++ binder_words text fault ++ found_line fault.found ++ wanted_line fault.wanted)

@@ -6,6 +6,7 @@ use Rattle.ame_journal.specs.declared.entry.Entry.{Entry}
 use Rattle.ame_journal.specs.declared.entry.EntryKind.{EntryKind}
 use Rattle.ame_protocol.specs.declared.types.Tried.{Tried}
 use Rattle.ame_why.specs.Nexts.{kind_of_next}
+use Rattle.ame_why.specs.Starters.{starter_in}
 
 -- a number in a column of this width, and a space
 abbrev pub column : ℕ → ℕ → List ℕ
@@ -48,9 +49,14 @@ abbrev pub answer_shown : Option ℤ → List ℕ
 answer_shown None = []
 answer_shown (Some answer) = codes ", was answered " ++ signed_decimal answer
 
--- the columns of numbers: which entry it is, the seat, the member, and the steps
-unfoldable pub counts : ℕ → Entry → List ℕ
-counts n entry = column 5 n ++ column 5 entry.seat ++ column 7 entry.number ++ column 6 entry.steps
+-- the entry that started a fragment, in a column; the program was started by none
+unfoldable pub starter_column : Option ℕ → List ℕ
+starter_column None = codes "          - "
+starter_column (Some n) = column 11 n
+
+-- the columns of numbers: which entry it is, the seat, the fragment, the entry that started that, and the steps
+unfoldable pub counts : ℕ → Entry → Option ℕ → List ℕ
+counts n entry starter = column 5 n ++ column 5 entry.seat ++ column 9 entry.number ++ starter_column starter ++ column 6 entry.steps
 
 -- which lines were printed, if any were
 abbrev pub printed_words : List ℤ → List ℕ
@@ -65,34 +71,42 @@ left_words entry printed = made_words entry.fresh ++ answer_shown entry.answer +
 unfoldable pub deed : Entry → Option EntryKind → List ℤ → List ℕ
 deed entry next printed = codes " " ++ kind_words entry.kind next ++ left_words entry printed ++ codes "\n"
 
--- the row of entry n
-unfoldable pub entry_row : ℕ → Entry → Option EntryKind → List ℤ → List ℕ
-entry_row n entry next printed = counts n entry ++ deed entry next printed
+-- the row of entry n, whose fragment was started by this entry
+unfoldable pub entry_row : ℕ → Entry → Option ℕ → Option EntryKind → List ℤ → List ℕ
+entry_row n entry starter next printed = counts n entry starter ++ deed entry next printed
 
--- the row of a try that left no entry: so many steps were valid where so many entries lead
-unfoldable pub tried_row : Tried → List ℕ
-tried_row t = replicate 12 32 ++ column 7 t.number ++ column 6 t.steps ++ codes " was rolled back; so far it was valid behind entry " ++ decimal t.at ++ codes "\n"
+-- what a try tells: so far it was valid where so many entries lead
+unfoldable pub tried_words : ℕ → List ℕ
+tried_words at = codes " was rolled back; so far it was valid behind entry " ++ decimal at ++ codes "\n"
+
+-- the row of a try that left no entry: its fragment, the entry that started that, and how many of its steps were valid
+unfoldable pub tried_row : Tried → Option ℕ → List ℕ
+tried_row t starter = replicate 12 32 ++ column 9 t.number ++ starter_column starter ++ column 6 t.steps ++ tried_words t.at
 
 -- the rows of the first tries, as far as these were valid before entry n
-unfoldable pub tried_rows : ℕ → List Tried → List ℕ
-tried_rows n [] = []
-tried_rows n (t ∷ tries) = if nat_lt t.at n then tried_row t ++ tried_rows n tries else []
+unfoldable pub tried_rows : ℕ → List Tried → (ℕ → Option ℕ) → List ℕ
+tried_rows n [] started = []
+tried_rows n (t ∷ tries) started = if nat_lt t.at n then tried_row t (started t.number) ++ tried_rows n tries started else []
 
 -- the tries behind those
 abbrev pub later_tries : ℕ → List Tried → List Tried
 later_tries n [] = []
 later_tries n (t ∷ tries) = if nat_lt t.at n then later_tries n tries else t ∷ tries
 
--- the rows of entries, the first of which is entry n, and of tries between them, where it is told what each entry printed
-unfoldable pub rows : ℕ → List Entry → List Tried → (ℕ → List ℤ) → List ℕ
-rows n [] tries told = tried_rows n tries
-rows n (entry ∷ entries) tries told =
-    tried_rows n tries ++ (entry_row n entry (kind_of_next entry.number entries) (told n) ++ rows (n + 1) entries (later_tries n tries) told)
+-- The rows of entries, the first of which is entry n, and of tries between them, where it is told by which entry each fragment was started, and
+-- what each entry printed.
+unfoldable pub rows : ℕ → List Entry → List Tried → (ℕ → Option ℕ) → (ℕ → List ℤ) → List ℕ
+rows n [] tries started told = tried_rows n tries started
+rows n (entry ∷ entries) tries started told =
+    tried_rows n tries started
+    ++ (entry_row n entry (started entry.number) (kind_of_next entry.number entries) (told n) ++ rows (n + 1) entries (later_tries n tries) started told)
 
 -- the lines of entry n, counted from 1; none where there are fewer
 abbrev pub lines_at : List (List ℤ) → ℕ → List ℤ
 lines_at lines n = slice_index_or lines (n - 1) []
 
--- a line that names the columns, and a row for each entry, counted from 1, with its lines, and for each try
-abbrev pub table : List Entry → List Tried → List (List ℤ) → List ℕ
-table entries tries lines = codes "entry  seat  member  steps  what it did\n" ++ rows 1 entries tries (lines_at lines)
+-- A line that names the columns, and a row for each entry, counted from 1, with its lines, and for each try. The list of starters tells of each
+-- fragment but the program, in the order of their numbers, which entry started it.
+abbrev pub table : List Entry → List Tried → List ℕ → List (List ℤ) → List ℕ
+table entries tries starters lines =
+    codes "entry  seat  fragment  started by  steps  what it did\n" ++ rows 1 entries tries (starter_in starters) (lines_at lines)

@@ -102,7 +102,7 @@ label_deed (Label.Close i) = codes "  close"
 -- which label it is, its entry, whose it is, and what it does
 unfoldable pub columns : ℕ → ℕ → Option ℕ → Label → List ℕ
 columns n entry active label =
-    column 5 n ++ column 6 entry ++ column 7 (label_member active label) ++ replicate (lane_width label) 32 ++ label_deed label
+    column 5 n ++ column 6 entry ++ column 9 (label_member active label) ++ replicate (lane_width label) 32 ++ label_deed label
 
 -- what is known of label n before it is made, which goes into this entry
 unfoldable pub before_label : ℕ → ℕ → Weak → Label → List ℕ
@@ -119,11 +119,11 @@ weak_row names n entry w label v = before_label n entry w label ++ behind_label 
 -- the row of a try, the note of which is this entry
 unfoldable pub taken_back_row : ℕ → Try → List ℕ
 taken_back_row entry t =
-    codes "      " ++ column 6 entry ++ column 7 t.certificate.number ++ codes "  was tried, and taken back behind step " ++ decimal t.certificate.steps ++ codes "\n"
+    codes "      " ++ column 6 entry ++ column 9 t.certificate.number ++ codes "  was tried, and taken back behind step " ++ decimal t.certificate.steps ++ codes "\n"
 
 -- the line that names the columns
 abbrev pub weak_heading : List ℕ
-weak_heading = codes "label  entry  member   fragment              unprotected code\n"
+weak_heading = codes "label  entry  fragment   protected code        unprotected code\n"
 
 -- A page tells labels of a weak run: each of its rows tells the next of them, with its entry by these numbers. It is legal in the weak state to
 -- which those above it lead. Tries stand between them.

@@ -1,14 +1,26 @@
 //! Where a name is bound of which a fault of the types speaks.
 
-ghost use Rattle.std.specs.Prelude.{All, IfOk, IfSome};
-ghost use Rattle.ame_lex.specs.Tokens.{IsWithin};
+ghost use Rattle.std.specs.Prelude.{◌≡◌, ◌++◌, [], All, IfOk, IfSome, if◌then◌else◌, option_to_list};
+ghost use Rattle.std.specs.List.{find};
+ghost use Rattle.ame_lex.specs.Tokens.{IsWithin, spelled};
+ghost use Rattle.ame_why.specs.Binders as spec;
+ghost use Rattle.ame_why.specs.Binders.{spells};
 
-use crate::parts::{head_of, part_number};
+use crate::parts::{part_number, token_behind};
 use crate::spans::{open_before, token_at};
 use ame_lex::Token;
 use ame_term::NoMemory;
 use ame_types::rule;
 use std::alloc::Global;
+
+/// Which form binds a name.
+#[derive(Clone, Copy)]
+enum Binding {
+    Let,
+    Function,
+    Recursive,
+    Nothing,
+}
 
 /// The token that binds the name of a function or of a location where a rule is broken; none where that is no name, or the rule speaks of
 /// neither.
@@ -20,7 +32,7 @@ pub(crate) fn binder_at(
     place: u32,
 ) -> Result<Option<Token>, NoMemory>
     requires { All (IsWithin text.now) tokens.now }
-    ensures { IfOk result (λ binder. IfSome binder (IsWithin text.now)) }
+    ensures { IfOk result (λ binder. binder ≡ spec.binder_at text.now tokens.now number place) }
 {
     let Some(name) = name_at(text, tokens, number, place) else {
         return Ok(None);
@@ -32,16 +44,27 @@ pub(crate) fn binder_at(
 /// The token that may be the name of a function or of a location, where a rule is broken.
 fn name_at(text: &[u8], tokens: &[Token], number: u8, place: u32) -> Option<Token>
     requires { All (IsWithin text.now) tokens.now }
-    ensures { IfSome result (IsWithin text.now) }
+    ensures told { result ≡ spec.name_at text.now tokens.now number place }
+    ensures within { IfSome result (IsWithin text.now) }
 {
-    let head = head_of(text, tokens, place)?;
     match number {
-        rule::WRONG_EFFECT if spelled(text, head) == b"app".as_slice() => token_behind(
-            text, tokens, place, 1,
-        ),
+        rule::WRONG_EFFECT => called_name(text, tokens, place),
         rule::WRONG_SORT => token_behind(text, tokens, place, 1),
         rule::NO_REFERENCE => token_at(text, tokens, place),
         _ => None,
+    }
+}
+
+/// The name of the function, where the form that opens there is a call.
+fn called_name(text: &[u8], tokens: &[Token], place: u32) -> Option<Token>
+    requires { All (IsWithin text.now) tokens.now }
+    ensures told { result ≡ spec.called_name text.now tokens.now place }
+    ensures within { IfSome result (IsWithin text.now) }
+{
+    if word_at(text, tokens, place) == b"app".as_slice() {
+        token_behind(text, tokens, place, 1)
+    } else {
+        None
     }
 }
 
@@ -49,32 +72,87 @@ fn name_at(text: &[u8], tokens: &[Token], number: u8, place: u32) -> Option<Toke
 fn binder_of(text: &[u8], tokens: &[Token], places: &[u32], name: Token) -> Option<Token>
     requires within { All (IsWithin text.now) tokens.now }
     requires name { IsWithin text.now name }
-    ensures { IfSome result (IsWithin text.now) }
+    ensures { result ≡ find (spells text.now name) (spec.bound_within text.now tokens.now name.start places.now) }
 {
-    for open in places.iter().rev() {
-        if let Some(binder) = binder_in(text, tokens, *open, name) {
-            return Some(binder);
+    let mut left = places.len();
+    while left > 0 {
+        left -= 1;
+        match binder_in(text, tokens, places[left], name) {
+            Some(binder) => return Some(binder),
+            None => {}
         }
     }
     None
 }
 
 /// The token that binds a name in a form, if the form does.
-fn binder_in(text: &[u8], tokens: &[Token], open: u32, name: Token) -> Option<Token>
+fn binder_in(text: &[u8], tokens: &[Token], form: u32, name: Token) -> Option<Token>
     requires within { All (IsWithin text.now) tokens.now }
     requires name { IsWithin text.now name }
-    ensures { IfSome result (IsWithin text.now) }
+    ensures { result ≡ find (spells text.now name) (spec.bound_in text.now tokens.now name.start form) }
 {
-    let head = head_of(text, tokens, open)?;
-    let part = part_number(tokens, open, name.start);
-    match (spelled(text, head), part) {
-        (b"let", 3) => same_name(text, token_behind(text, tokens, open, 1), name),
-        (b"fn", 3) => same_name(text, token_behind(text, tokens, open, 3), name),
-        (b"rec", 5) => match same_name(text, token_behind(text, tokens, open, 4), name) {
-            Some(binder) => Some(binder),
-            None => same_name(text, token_behind(text, tokens, open, 2), name),
-        },
-        _ => None,
+    let part = part_number(tokens, form, name.start);
+    match binding_of(word_at(text, tokens, form)) {
+        Binding::Let => same_if(text, part == 3, token_behind(text, tokens, form, 1), name),
+        Binding::Function => same_if(text, part == 3, token_behind(text, tokens, form, 3), name),
+        Binding::Recursive => first_same(
+            text,
+            part == 5,
+            token_behind(text, tokens, form, 4),
+            token_behind(text, tokens, form, 2),
+            name,
+        ),
+        Binding::Nothing => None,
+    }
+}
+
+/// Which form a word begins, as far as it binds names.
+fn binding_of(word: &[u8]) -> Binding
+    ensures { result ≡ spec.binding_of word.now }
+{
+    if word == b"let".as_slice() {
+        Binding::Let
+    } else if word == b"fn".as_slice() {
+        Binding::Function
+    } else if word == b"rec".as_slice() {
+        Binding::Recursive
+    } else {
+        Binding::Nothing
+    }
+}
+
+/// The first of two tokens that spells a name, if they are bound there.
+fn first_same(
+    text: &[u8],
+    is_bound: bool,
+    first: Option<Token>,
+    second: Option<Token>,
+    name: Token,
+) -> Option<Token>
+    requires first { IfSome first (IsWithin text.now) }
+    requires second { IfSome second (IsWithin text.now) }
+    requires name { IsWithin text.now name }
+    ensures { result ≡ find (spells text.now name) (if is_bound then option_to_list first ++ option_to_list second else []) }
+{
+    if !is_bound {
+        return None;
+    }
+    match same_name(text, first, name) {
+        Some(binder) => Some(binder),
+        None => same_name(text, second, name),
+    }
+}
+
+/// A token, if it is bound there and spells a name.
+fn same_if(text: &[u8], is_bound: bool, token: Option<Token>, name: Token) -> Option<Token>
+    requires within { IfSome token (IsWithin text.now) }
+    requires name { IsWithin text.now name }
+    ensures { result ≡ find (spells text.now name) (if is_bound then option_to_list token else []) }
+{
+    if is_bound {
+        same_name(text, token, name)
+    } else {
+        None
     }
 }
 
@@ -82,7 +160,7 @@ fn binder_in(text: &[u8], tokens: &[Token], open: u32, name: Token) -> Option<To
 fn same_name(text: &[u8], token: Option<Token>, name: Token) -> Option<Token>
     requires within { IfSome token (IsWithin text.now) }
     requires name { IsWithin text.now name }
-    ensures { IfSome result (IsWithin text.now) }
+    ensures { result ≡ find (spells text.now name) (option_to_list token) }
 {
     match token {
         Some(token) if spelled(text, token) == spelled(text, name) => Some(token),
@@ -90,26 +168,21 @@ fn same_name(text: &[u8], token: Option<Token>, name: Token) -> Option<Token>
     }
 }
 
-/// The bytes of a token.
-fn spelled(text: &[u8], token: Token) -> &[u8]
-    requires { IsWithin text.now token }
+/// The word of the form that opens at a place.
+fn word_at<'a>(text: &'a [u8], tokens: &[Token], form: u32) -> &'a [u8]
+    requires { All (IsWithin text.now) tokens.now }
+    ensures { result.now ≡ spec.word_at text.now form tokens.now }
 {
-    &text[token.start as usize..token.end as usize]
+    match token_behind(text, tokens, form, 0) {
+        Some(token) => spelled(text, token),
+        None => &[],
+    }
 }
 
-/// The token behind the first one, or behind as many as are told, that follow a place.
-fn token_behind(text: &[u8], tokens: &[Token], place: u32, count: u32) -> Option<Token>
-    requires { All (IsWithin text.now) tokens.now }
-    ensures { IfSome result (IsWithin text.now) }
+/// The bytes of a token.
+pub(crate) fn spelled(text: &[u8], token: Token) -> &[u8]
+    requires { IsWithin text.now token }
+    ensures { result.now ≡ spelled text.now token }
 {
-    let mut left = count;
-    for token in tokens {
-        if token.start > place {
-            if left == 0 {
-                return Some(*token);
-            }
-            left -= 1;
-        }
-    }
-    None
+    &text[token.start as usize..token.end as usize]
 }

@@ -60,15 +60,15 @@ fn append_reason(message: &mut Vec<u8>, row: &[u8], why: &Reason) -> Result<(), 
     match why {
         Reason::NoMember => append(
             message,
-            b"there is no member of this number here: it has ended, or isn't started yet",
+            b"there is no fragment of this number here: it has ended, or isn't started yet",
         ),
         Reason::Inside => append(
             message,
-            b"the member is under `unprotected`, where it goes on by `free` lines, and ends by a `ran` line only behind it",
+            b"the fragment is under `unprotected`, where it goes on by `free` lines, and ends by a `ran` line only behind it",
         ),
         Reason::Outside => append(
             message,
-            b"the member isn't under `unprotected`, where alone it goes on by `free` lines: a `ran` line brings it there",
+            b"the fragment isn't under `unprotected`, where alone it goes on by `free` lines: a `ran` line brings it there",
         ),
         Reason::NoSteps => append(message, b"a `free` line makes at least one step"),
         Reason::Answered => append(
@@ -79,25 +79,25 @@ fn append_reason(message: &mut Vec<u8>, row: &[u8], why: &Reason) -> Result<(), 
             message,
             row,
             *steps,
-            b"the member calls a device, and the line tells no answer",
+            b"the fragment calls a device, and the line tells no answer",
         ),
         Reason::Missing(steps) => append_behind(
             message,
             row,
             *steps,
-            b"the member makes a location, and the line tells no further one",
+            b"the fragment makes a location, and the line tells no further one",
         ),
         Reason::Taken(steps, _) => append_behind(
             message,
             row,
             *steps,
-            b"the member makes a location, and this one has a value already",
+            b"the fragment makes a location, and this one has a value already",
         ),
         Reason::Unused(steps, _) => append_behind(
             message,
             row,
             *steps,
-            b"the member makes no further location, and this one is left",
+            b"the fragment makes no further location, and this one is left",
         ),
         Reason::Stops(steps, want) => {
             append_after(message, row, *steps)?;
@@ -131,18 +131,18 @@ fn append_want(message: &mut Vec<u8>, want: Wants) -> Result<(), NoMemory> {
     match want {
         Wants::Read(location) | Wants::Peek(location) => append_at(
             message,
-            b"the member reads location ",
+            b"the fragment reads location ",
             location,
             b", which has no value",
         ),
         Wants::Write(location) => append_at(
             message,
-            b"the member writes location ",
+            b"the fragment writes location ",
             location,
             b", which has no value",
         ),
         Wants::Device(device, _) => {
-            append(message, b"the member calls device ")?;
+            append(message, b"the fragment calls device ")?;
             append_decimal(message, u64::from(device))?;
             append(
                 message,
@@ -169,13 +169,13 @@ fn append_at(
 fn want_words(want: Wants) -> &'static [u8] {
     match want {
         Wants::Block =>
-            b"the member has come to a condition that is false: only a `stuck` line ends there",
-        Wants::Done => b"the member is a value and makes no further step",
+            b"the fragment has come to a condition that is false: only a `stuck` line ends there",
+        Wants::Done => b"the fragment is a value and makes no further step",
         Wants::Leave =>
-            b"the member has come to `unprotected`, and makes its next step by a `free` line",
+            b"the fragment has come to `unprotected`, and makes its next step by a `free` line",
         Wants::Close =>
-            b"the member is at the end of its `unprotected`, which only the last step of a `free` line closes",
-        Wants::Tall => b"the member has come to a value that would be more than 1000 high",
-        _ => b"the member has further steps to make before this line may end",
+            b"the fragment is at the end of its `unprotected`, which only the last step of a `free` line closes",
+        Wants::Tall => b"the fragment has come to a value that would be more than 1000 high",
+        _ => b"the fragment has further steps to make before this line may end",
     }
 }

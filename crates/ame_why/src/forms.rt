@@ -8,8 +8,8 @@ ghost use Rattle.ame_lex.specs.Tokens.{IsWithin};
 ghost use Rattle.ame_why.specs.Forms as spec;
 
 use crate::page::{append, append_column, append_decimal};
-use crate::{Position, position_of};
-use ame_lex::{LexFault, Token, lex};
+use crate::{Position, position_of, spans};
+use ame_lex::Token;
 use ame_term::{Loc, NoMemory, TyNo, push};
 use std::alloc::Global;
 
@@ -39,21 +39,8 @@ pub(crate) fn positions_in(alloc: Global, text: &[u8]) -> Result<Vec<Position>, 
     requires { length text.now ≤ max_text }
     ensures { IfOk result (λ places. places.items ≡ spec.positions text.now (spec.tokens_or_none (tokens_of text.now))) }
 {
-    let tokens = tokens_in(alloc, text)?;
+    let tokens = spans::tokens_of(alloc, text)?;
     positions(alloc, text, &tokens)
-}
-
-/// The tokens of a text; none where it has a fault.
-fn tokens_in(alloc: Global, text: &[u8]) -> Result<Vec<Token>, NoMemory>
-    requires { length text.now ≤ max_text }
-    ensures tokens { IfOk result (λ tokens. tokens.items ≡ spec.tokens_or_none (tokens_of text.now)) }
-    ensures within { IfOk result (λ tokens. All (IsWithin text.now) tokens.items) }
-{
-    match lex(alloc, text) {
-        Ok(tokens) => Ok(tokens),
-        Err(LexFault::NoMemory) => Err(NoMemory),
-        Err(LexFault::BadByte(_) | LexFault::LongNumber(_)) => Ok(Vec::new(alloc)),
-    }
 }
 
 /// Where those among the tokens of a text are.

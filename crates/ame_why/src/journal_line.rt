@@ -57,7 +57,7 @@ fn fault_of(line: &[u8]) -> (usize, &'static [u8]) {
     }
     (
         line.len(),
-        b"the line isn't whole: it has a kind, a seat, a member, its steps, and its new locations\n",
+        b"the line isn't whole: it has a kind, a seat, a fragment, its steps, and its new locations\n",
     )
 }
 
@@ -127,7 +127,7 @@ fn wanted(part: Part) -> &'static [u8] {
         Part::Kind => b"a line begins with `ran`, `free`, `stuck`, `cut` or `tall`\n",
         Part::Seat => b"this is the seat, which is 0 to 31\n",
         Part::Member =>
-            b"this is the number of the member, which is below 18446744073709551616, without leading zeros\n",
+            b"this is the number of the fragment, which is below 18446744073709551616, without leading zeros\n",
         Part::Steps =>
             b"this is the number of steps, which is below 18446744073709551616, without leading zeros\n",
         Part::Location => {

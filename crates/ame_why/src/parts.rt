@@ -1,42 +1,89 @@
 //! Which part of which form stands at a place.
 
-ghost use Rattle.std.specs.Prelude.{All, IfSome};
+ghost use Rattle.std.specs.Prelude.{◌≡◌, ◌<◌, ◌≤◌, ◌^◌, All, IfSome, length, slice_get};
+ghost use Rattle.std.specs.List.{prefix_len, take_while};
 ghost use Rattle.ame_lex.specs.Tokens.{IsWithin};
+ghost use Rattle.ame_why.specs.Binders as spec;
+ghost use Rattle.ame_why.specs.Binders.{is_up_to};
 
 use ame_lex::{Kind, Token};
 
-/// The first token behind a parenthesis, which says what the form is.
-pub(crate) fn head_of(text: &[u8], tokens: &[Token], open: u32) -> Option<Token>
-    requires { All (IsWithin text.now) tokens.now }
-    ensures { IfSome result (IsWithin text.now) }
-{
-    for token in tokens {
-        if token.start > open {
-            return Some(*token);
-        }
-    }
-    None
+/// How far a form was gone through: how many of its parts have begun, its word among them, and how many parentheses are open in the last one.
+#[derive(Clone, Copy)]
+struct Parts {
+    begun: usize,
+    depth: usize,
 }
 
-/// Which part of the form that opens there begins at a place, counted from 1.
-pub(crate) fn part_number(tokens: &[Token], open: u32, place: u32) -> u64 {
-    let mut depth: u64 = 0;
-    let mut number: u64 = 0;
-    for token in tokens {
-        if open < token.start && token.start < place {
-            if depth == 0 {
-                number = number.saturating_add(1);
-            }
-            depth = depth_after(depth, token.kind);
-        }
+/// The tokens from the first one on that begins behind a place.
+pub(crate) fn tokens_behind<'a>(tokens: &'a [Token], place: u32) -> &'a [Token]
+    ensures { result.now ≡ spec.tokens_behind place tokens.now }
+{
+    tokens.split_at(count_up_to(tokens, place)).1
+}
+
+/// The tokens up to the first one that begins behind a place.
+fn tokens_up_to<'a>(tokens: &'a [Token], place: u32) -> &'a [Token]
+    ensures { result.now ≡ take_while (is_up_to place) tokens.now }
+{
+    tokens.split_at(count_up_to(tokens, place)).0
+}
+
+/// How many tokens stand before the first one that begins behind a place.
+fn count_up_to(tokens: &[Token], place: u32) -> usize
+    ensures value { result ≡ prefix_len (is_up_to place) tokens.now }
+    ensures within { result ≤ length tokens.now }
+{
+    tokens
+        .iter()
+        .take_while(|token| token.start <= place)
+        .count()
+}
+
+/// The token behind a parenthesis with this number, counted from 0. The first one says what the form is.
+pub(crate) fn token_behind(text: &[u8], tokens: &[Token], form: u32, number: usize) -> Option<Token>
+    requires { All (IsWithin text.now) tokens.now }
+    ensures told { result ≡ slice_get (spec.tokens_behind form tokens.now) number }
+    ensures within { IfSome result (IsWithin text.now) }
+{
+    tokens_behind(tokens, form).get(number).copied()
+}
+
+/// In which part of the form that opens there a place is, counted from 1 behind the form's word.
+pub(crate) fn part_number(tokens: &[Token], form: u32, place: u32) -> usize
+    ensures { result ≡ spec.part_at form place tokens.now }
+{
+    let inside = tokens_up_to(tokens_behind(tokens, form), place);
+    let mut parts = Parts { begun: 0, depth: 0 };
+    for token in inside {
+        parts = with_token(parts, token);
     }
-    number
+    parts.begun.saturating_sub(1)
+}
+
+/// What was gone through with one more token.
+fn with_token(parts: Parts, token: &Token) -> Parts
+    requires begun { parts.begun < 2 ^ 63 }
+    requires depth { parts.depth < 2 ^ 63 }
+    ensures { result ≡ spec.with_token parts token.now }
+{
+    Parts {
+        begun: if parts.depth == 0 {
+            parts.begun + 1
+        } else {
+            parts.begun
+        },
+        depth: depth_after(parts.depth, token.kind),
+    }
 }
 
 /// How many parentheses are open after a token.
-fn depth_after(depth: u64, kind: Kind) -> u64 {
+fn depth_after(depth: usize, kind: Kind) -> usize
+    requires { depth < 2 ^ 63 }
+    ensures { result ≡ spec.depth_after depth kind }
+{
     match kind {
-        Kind::Open => depth.saturating_add(1),
+        Kind::Open => depth + 1,
         Kind::Close => depth.saturating_sub(1),
         Kind::Word | Kind::Number(_) | Kind::Symbol(_) => depth,
     }

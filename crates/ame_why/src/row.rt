@@ -10,30 +10,49 @@ use ame_journal::{Entry, EntryKind};
 use ame_term::{Loc, NoMemory};
 use itoa::Buffer;
 
-/// Adds the row of an entry with this number, where its member's next entry is of this kind and these lines were printed.
+/// Adds the row of an entry with this number, where its fragment was started by this entry, the fragment's next entry is of this kind, and
+/// these lines were printed.
 #[tactic(auto, unfolding(crate::specs::Table::entry_row))]
 pub(crate) fn append_row(
     page: &mut Vec<u8>,
     number: u64,
     entry: &Entry,
+    starter: Option<u64>,
     next: Option<EntryKind>,
     printed: &[i64],
 ) -> Result<(), NoMemory>
-    ensures { OnOk result (page.new.items ≡ page.old.items ++ spec.entry_row number entry.now next printed.now) }
+    ensures { OnOk result (page.new.items ≡ page.old.items ++ spec.entry_row number entry.now starter next printed.now) }
 {
-    append_counts(page, number, entry)?;
+    append_counts(page, number, entry, starter)?;
     append_deed(page, entry, next, printed)
 }
 
 /// Adds the columns of numbers.
 #[tactic(auto, unfolding(crate::specs::Table::counts))]
-fn append_counts(page: &mut Vec<u8>, number: u64, entry: &Entry) -> Result<(), NoMemory>
-    ensures { OnOk result (page.new.items ≡ page.old.items ++ spec.counts number entry.now) }
+fn append_counts(
+    page: &mut Vec<u8>,
+    number: u64,
+    entry: &Entry,
+    starter: Option<u64>,
+) -> Result<(), NoMemory>
+    ensures { OnOk result (page.new.items ≡ page.old.items ++ spec.counts number entry.now starter) }
 {
     append_column(page, 5, number)?;
     append_column(page, 5, u64::from(entry.seat))?;
-    append_column(page, 7, entry.number)?;
+    append_column(page, 9, entry.number)?;
+    append_starter(page, starter)?;
     append_column(page, 6, entry.steps)
+}
+
+/// Adds the entry that started a fragment, in a column.
+#[tactic(auto, unfolding(crate::specs::Table::starter_column))]
+pub(crate) fn append_starter(page: &mut Vec<u8>, starter: Option<u64>) -> Result<(), NoMemory>
+    ensures { OnOk result (page.new.items ≡ page.old.items ++ spec.starter_column starter) }
+{
+    match starter {
+        None => append(page, b"          - "),
+        Some(number) => append_column(page, 11, number),
+    }
 }
 
 /// Adds the column of words.

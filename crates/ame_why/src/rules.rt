@@ -1,16 +1,20 @@
 //! Faults of the types.
 
-ghost use Rattle.std.specs.Prelude.{◌≡◌, ◌++◌, ◌≤◌, IfOk, OnOk, codes, length};
+ghost use Rattle.std.specs.Prelude.{◌≡◌, ◌++◌, ◌≤◌, All, IfOk, OnOk, codes, length};
 ghost use Rattle.ame_lex.specs.Bytes.{max_text};
+ghost use Rattle.ame_lex.specs.Tokens.{IsWithin};
 ghost use Rattle.ame_types.specs.Fault.{fault_of, shown_of};
+ghost use Rattle.ame_why.specs.Binders as binders;
+ghost use Rattle.ame_why.specs.Binders.{binder_words};
 ghost use Rattle.ame_why.specs.Rules as spec;
 ghost use Rattle.ame_why.specs.Rules.{IsTypeExplained, shown_line};
 
-use crate::binders::binder_at;
+use crate::binders::{binder_at, spelled};
 use crate::page::{append, append_decimal};
-use crate::parts::{head_of, part_number};
+use crate::parts::{part_number, token_behind};
 use crate::placed::explained;
 use crate::spans::{open_before, tokens_of};
+use ame_lex::Token;
 use ame_print::print_ty;
 use ame_term::{Effect, NoMemory, Sort};
 use ame_types::{Shown, TypeFault, rule};
@@ -46,17 +50,42 @@ fn rule_text(alloc: Global, text: &[u8], fault: &TypeFault) -> Result<Vec<u8>, N
 }
 
 /// Adds where the function or the location is bound of which a rule speaks, if it is a name.
+#[tactic(auto, unfolding(crate::specs::Binders::binder_words))]
 fn append_binder(
     alloc: Global,
     message: &mut Vec<u8>,
     text: &[u8],
     fault: &TypeFault,
-) -> Result<(), NoMemory> {
+) -> Result<(), NoMemory>
+    ensures { OnOk result (message.new.items ≡ message.old.items ++ binder_words text.now (fault_of fault.now)) }
+{
+    let tokens = tokens_known(alloc, text)?;
+    let binder = binder_at(alloc, text, &tokens, fault.rule, fault.place)?;
+    append_bound(alloc, message, text, binder)
+}
+
+/// The tokens of a text that is short enough; none where it has a fault.
+fn tokens_known(alloc: Global, text: &[u8]) -> Result<Vec<Token>, NoMemory>
+    ensures tokens { IfOk result (λ tokens. tokens.items ≡ binders.tokens_known text.now) }
+    ensures within { IfOk result (λ tokens. All (IsWithin text.now) tokens.items) }
+{
     if text.len() > MAX_TEXT {
-        return Ok(());
+        Ok(Vec::new(alloc))
+    } else {
+        tokens_of(alloc, text)
     }
-    let tokens = tokens_of(alloc, text)?;
-    let Some(binder) = binder_at(alloc, text, &tokens, fault.rule, fault.place)? else {
+}
+
+/// Adds where a binder is, if there is one.
+fn append_bound(
+    alloc: Global,
+    message: &mut Vec<u8>,
+    text: &[u8],
+    binder: Option<Token>,
+) -> Result<(), NoMemory>
+    ensures { OnOk result (message.new.items ≡ message.old.items ++ binders.bound_words text.now binder) }
+{
+    let Some(binder) = binder else {
         return Ok(());
     };
     let bound = explained(alloc, text, binder.start as usize, b"")?;
@@ -74,10 +103,10 @@ fn part_text(alloc: Global, text: &[u8], place: u32) -> Result<Vec<u8>, NoMemory
         return Ok(Vec::from_slice(alloc, rule_words(rule::TYPE_MISMATCH))?);
     };
     let mut words = Vec::from_slice(alloc, b"part ")?;
-    append_decimal(&mut words, part_number(&tokens, *open, place))?;
+    append_decimal(&mut words, part_number(&tokens, *open, place) as u64)?;
     append(&mut words, b" of `")?;
-    if let Some(head) = head_of(text, &tokens, *open) {
-        append(&mut words, &text[head.start as usize..head.end as usize])?;
+    if let Some(head) = token_behind(text, &tokens, *open, 0) {
+        append(&mut words, spelled(text, head))?;
     }
     append(&mut words, b"` has another type than the form wants\n")?;
     Ok(words)

@@ -1,8 +1,11 @@
 //! What stands at a place of a text, and what is open there.
 
-ghost use Rattle.std.specs.Prelude.{◌≡◌, ◌≤◌, All, IfOk, IfSome, OnOk, length};
+ghost use Rattle.std.specs.Prelude.{◌≡◌, ◌==◌, ◌≤◌, All, IfOk, IfSome, OnOk, length};
+ghost use Rattle.std.specs.List.{find};
 ghost use Rattle.ame_lex.specs.Bytes.{max_text};
+ghost use Rattle.ame_lex.specs.Reading as reading;
 ghost use Rattle.ame_lex.specs.Tokens.{IsWithin};
+ghost use Rattle.ame_why.specs.Forms.{tokens_or_none};
 ghost use Rattle.ame_why.specs.Open as spec;
 
 use ame_lex::{Kind, LexFault, Token, lex};
@@ -12,7 +15,8 @@ use std::alloc::Global;
 /// The tokens of a text; none where it has none.
 pub(crate) fn tokens_of(alloc: Global, text: &[u8]) -> Result<Vec<Token>, NoMemory>
     requires { length text.now ≤ max_text }
-    ensures { IfOk result (λ tokens. All (IsWithin text.now) tokens.items) }
+    ensures tokens { IfOk result (λ tokens. tokens.items ≡ tokens_or_none (reading.tokens_of text.now)) }
+    ensures within { IfOk result (λ tokens. All (IsWithin text.now) tokens.items) }
 {
     match lex(alloc, text) {
         Ok(tokens) => Ok(tokens),
@@ -21,10 +25,10 @@ pub(crate) fn tokens_of(alloc: Global, text: &[u8]) -> Result<Vec<Token>, NoMemo
     }
 }
 
-/// The token that begins at a place.
+/// The first token that begins at a place.
 pub(crate) fn token_at(text: &[u8], tokens: &[Token], place: u32) -> Option<Token>
     requires { All (IsWithin text.now) tokens.now }
-    ensures at { IfSome result (λ token. token.start ≡ place) }
+    ensures told { result ≡ find (λ token. token.start == place) tokens.now }
     ensures within { IfSome result (IsWithin text.now) }
 {
     for token in tokens {

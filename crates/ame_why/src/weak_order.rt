@@ -61,7 +61,7 @@ fn heading(alloc: Global) -> Result<Vec<u8>, NoMemory>
     let mut page = Vec::new(alloc);
     append(
         &mut page,
-        b"label  entry  member   fragment              unprotected code\n",
+        b"label  entry  fragment   protected code        unprotected code\n",
     )?;
     Ok(page)
 }

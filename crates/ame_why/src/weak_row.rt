@@ -101,7 +101,7 @@ fn append_columns(
 {
     append_column(row, 5, number)?;
     append_column(row, 6, entry)?;
-    append_column(row, 7, label_member(active, label))?;
+    append_column(row, 9, label_member(active, label))?;
     append_spaces(row, lane_width(label))?;
     append(row, label_deed(label))
 }
@@ -239,7 +239,7 @@ pub(crate) fn append_try(page: &mut Vec<u8>, entry: u64, t: &Try) -> Result<(), 
 {
     append(page, b"      ")?;
     append_column(page, 6, entry)?;
-    append_column(page, 7, t.certificate.number)?;
+    append_column(page, 9, t.certificate.number)?;
     append(page, b"  was tried, and taken back behind step ")?;
     append_decimal(page, t.certificate.steps)?;
     append(page, b"\n")

@@ -9,7 +9,8 @@ const SYNOPSIS: &[u8] =
 ./why --version                 the commit and the kit
 
 FILE is `-` or none for the standard input. The words are those of `ame`: `run`, `bench SEED SIZE`, `sim SEED`, `replay`,
-`check`, `resume` or `weak SEED`, and `--workers N`, `--turns N`, `--slice N`.
+`check`, `resume` or `weak SEED`; behind each but `check`, and only there, stand `--workers N`, `--turns N` and `--slice N`
+(behind `weak` `--turns N` alone), as in `./why --trace FILE run --workers 4`.
 
 Views, one of which may stand anywhere:
   --journal    the journal of the run, and the program
@@ -18,7 +19,7 @@ Views, one of which may stand anywhere:
   --counts     what was counted, beside its bounds
   --store      what the locations hold that are left
   --steps      the labels of the run, with the terms that they reduce
-  --picture    the picture of a run of `sim` or `replay`, as SVG
+  --picture    the picture of the run, as SVG: of `sim` and `replay` by what each seat did, else by fragments
 
 `--same FILE` beside a view tells whether the file has just that; `--then` stands between two calls.
 ";

@@ -2,6 +2,7 @@
 #![tactic(auto)]
 
 mod asked;
+mod course;
 mod explain;
 mod given;
 mod help;

@@ -1,6 +1,6 @@
 //! The picture of a run of which it is known what each pick did.
 
-use ame_app::{Mades, Own, Report, StandardDevice};
+use ame_app::{Mades, Report, StandardDevice};
 use ame_journal::{Entry, EntryKind};
 use ame_picture::{Captions, Did, Pick, drawing_of, picture_of};
 use ame_term::{NoMemory, push};
@@ -12,7 +12,7 @@ use std::alloc::Global;
 const MOST_PICKS: usize = 10_000;
 
 /// What is said of a run that has no picture, and of one whose picture would be too wide.
-const NO_PICTURE: &[u8] = b"this run has no picture; those of `sim` and `replay` have one\n";
+const NO_PICTURE: &[u8] = b"this run has no picture\n";
 
 const TOO_WIDE: &[u8] = b"this run has no picture, as it has more than 10,000 turns\n";
 
@@ -20,13 +20,11 @@ const TOO_WIDE: &[u8] = b"this run has no picture, as it has more than 10,000 tu
 pub fn picture_text<K>(
     alloc: Global,
     report: &Report<K, StandardDevice>,
+    mades: &Mades,
     entries: &[Entry],
     lines: &[Vec<i64>],
     title: &str,
 ) -> Result<Vec<u8>, NoMemory> {
-    let Own::Picked(mades) = &report.own else {
-        return Ok(Vec::from_slice(alloc, NO_PICTURE)?);
-    };
     let picks = picks_of(alloc, mades, is_cut(entries))?;
     if picks.len() > MOST_PICKS {
         return Ok(Vec::from_slice(alloc, TOO_WIDE)?);

@@ -4,6 +4,7 @@ ghost use Rattle.std.specs.Prelude.{◌≤◌, length, vec_len};
 ghost use Rattle.ame_lex.specs.Bytes.{max_text};
 
 use crate::asked::{Chosen, View};
+use crate::course::course_text;
 use crate::picture::picture_text;
 use crate::weak::order_text;
 use ame_app::{Own, Report, StandardDevice};
@@ -17,8 +18,8 @@ use ame_store::Store;
 use ame_term::{Copied, Loc, NoMemory, Program, push};
 use ame_value::Val;
 use ame_why::{
-    Made, counts_of, forms_of, fragments_of, input_of, journal_of, printed_of, steps_of, store_of,
-    table_of, weak_counts_of,
+    Made, counts_of, forms_of, fragments_of, input_of, journal_of, printed_of, starters_of,
+    steps_of, store_of, table_of, weak_counts_of,
 };
 use std::alloc::Global;
 use std::sync::Arc;
@@ -53,7 +54,14 @@ pub fn page_of<K>(
         View::Steps => steps_text(alloc, &report.text, &entries),
         View::Picture => {
             let lines = lines_told(alloc, &report.code, &entries)?;
-            picture_text(alloc, report, &entries, &lines, title)
+            match &report.own {
+                Own::Picked(mades) => {
+                    picture_text(alloc, report, mades, &entries, &lines, title)
+                }
+                Own::Nothing | Own::Unmade(_) | Own::Resumed(_) | Own::Weak(_) => {
+                    course_text(alloc, report, ended, &entries, &lines, title)
+                }
+            }
         }
         View::Why | View::Journal => journal_text(alloc, &entries, &report.text),
     }
@@ -162,7 +170,8 @@ fn trace_text<K>(
         }
         _ => Vec::new(alloc),
     };
-    page.extend_from_slice(&table_of(alloc, entries, ended.tried(), &lines)?)?;
+    let starters = starters_told(alloc, &report.code, entries)?;
+    page.extend_from_slice(&table_of(alloc, entries, ended.tried(), &starters, &lines)?)?;
     let made = made_in(alloc, ended.store())?;
     if !made.is_empty() {
         page.push(b'\n')?;
@@ -205,8 +214,23 @@ fn lines_told(
     }
 }
 
+/// The entry that started each fragment of a run, from fragment 1 on; none where they aren't told.
+pub fn starters_told(
+    alloc: Global,
+    code: &Option<Arc<Code>>,
+    entries: &[Entry],
+) -> Result<Vec<u64>, NoMemory> {
+    let Some(code) = code else {
+        return Ok(Vec::new(alloc));
+    };
+    match starters_of::<Fragment>(alloc, code, entries)? {
+        Some(starters) => Ok(starters),
+        None => Ok(Vec::new(alloc)),
+    }
+}
+
 /// The text of these entries, the line `program` and the text.
-fn journal_text(alloc: Global, entries: &[Entry], text: &[u8]) -> Result<Vec<u8>, NoMemory> {
+pub fn journal_text(alloc: Global, entries: &[Entry], text: &[u8]) -> Result<Vec<u8>, NoMemory> {
     match journal_of(alloc, entries)? {
         Some(journal) => input_of(alloc, &journal, text),
         None => Ok(Vec::new(alloc)),

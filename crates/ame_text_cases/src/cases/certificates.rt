@@ -26,7 +26,7 @@ const LINES: &[(&[u8], u64, &[u8])] = &[
     (
         b"ran 0  0 0\nprogram\nunit",
         1,
-        b"line 1, column 7:\n    ran 0  0 0\n          ^\nthis is the number of the member, which is below 18446744073709551616, without leading zeros\n",
+        b"line 1, column 7:\n    ran 0  0 0\n          ^\nthis is the number of the fragment, which is below 18446744073709551616, without leading zeros\n",
     ),
     (
         b"ran 0 0 5 = 1\nprogram\nunit",
@@ -46,7 +46,7 @@ const LINES: &[(&[u8], u64, &[u8])] = &[
     (
         b"ran 0 0\nprogram\nunit",
         1,
-        b"line 1, column 8:\n    ran 0 0\n           ^\nthe line isn't whole: it has a kind, a seat, a member, its steps, and its new locations\n",
+        b"line 1, column 8:\n    ran 0 0\n           ^\nthe line isn't whole: it has a kind, a seat, a fragment, its steps, and its new locations\n",
     ),
     (
         b"ran 0 0 0\r\nprogram\nunit",
@@ -76,7 +76,7 @@ const REASONS: &[(Reason, &[u8], &[u8])] = &[
     (
         Reason::NoMember,
         b"line 2, column 8:\n    free 3 17 5 2 40 = 6\n           ^\n",
-        b"there is no member of this number here: it has ended, or isn't started yet\n",
+        b"there is no fragment of this number here: it has ended, or isn't started yet\n",
     ),
     (
         Reason::NoSteps,
@@ -91,27 +91,27 @@ const REASONS: &[(Reason, &[u8], &[u8])] = &[
     (
         Reason::Missing(4),
         b"line 2, column 21:\n    free 3 17 5 2 40 = 6\n                        ^\n",
-        b"after 4 of 5 steps the member makes a location, and the line tells no further one\n",
+        b"after 4 of 5 steps the fragment makes a location, and the line tells no further one\n",
     ),
     (
         Reason::Taken(1, Loc(2)),
         b"line 2, column 13:\n    free 3 17 5 2 40 = 6\n                ^\n",
-        b"after 1 of 5 steps the member makes a location, and this one has a value already\n",
+        b"after 1 of 5 steps the fragment makes a location, and this one has a value already\n",
     ),
     (
         Reason::Unused(5, Loc(40)),
         b"line 2, column 15:\n    free 3 17 5 2 40 = 6\n                  ^\n",
-        b"after 5 of 5 steps the member makes no further location, and this one is left\n",
+        b"after 5 of 5 steps the fragment makes no further location, and this one is left\n",
     ),
     (
         Reason::Stops(2, Wants::Done),
         b"line 2, column 11:\n    free 3 17 5 2 40 = 6\n              ^\n",
-        b"after 2 of 5 steps the member is a value and makes no further step\n",
+        b"after 2 of 5 steps the fragment is a value and makes no further step\n",
     ),
     (
         Reason::Stops(5, Wants::OutOfFuel),
         b"line 2, column 11:\n    free 3 17 5 2 40 = 6\n              ^\n",
-        b"after 5 of 5 steps the member has further steps to make before this line may end\n",
+        b"after 5 of 5 steps the fragment has further steps to make before this line may end\n",
     ),
 ];
 

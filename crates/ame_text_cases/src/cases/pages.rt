@@ -71,6 +71,38 @@ const TOLD: &[(&[u8], &[u8])] = &[
         b"(unprotected (print (call 9 1)))",
         b"line 1, column 21:\n    (unprotected (print (call 9 1)))\n                        ^\nthere is no device of this number\nfound: device 9\nwanted: a device below 2\n",
     ),
+    (
+        b"(let r (ref p 1) (unprotected (set r 2)))",
+        b"line 1, column 31:\n    (let r (ref p 1) (unprotected (set r 2)))\n                                  ^\nthis location is one of the other code: protected code reads and writes those of sort p, unprotected code those of sort u\nits name is bound here:\nline 1, column 6:\n    (let r (ref p 1) (unprotected (set r 2)))\n         ^\nfound: sort p\nwanted: effect u\n",
+    ),
+    (
+        b"(let x 1 (let x (set x 2) unit))",
+        b"line 1, column 22:\n    (let x 1 (let x (set x 2) unit))\n                         ^\nwhat is read or written is no reference\nits name is bound here:\nline 1, column 6:\n    (let x 1 (let x (set x 2) unit))\n         ^\nfound: Int\n",
+    ),
+    (
+        b"(let x (ref u 1) (let x 1 (do (set x 2) unit)))",
+        b"line 1, column 36:\n    (let x (ref u 1) (let x 1 (do (set x 2) unit)))\n                                       ^\nwhat is read or written is no reference\nits name is bound here:\nline 1, column 23:\n    (let x (ref u 1) (let x 1 (do (set x 2) unit)))\n                          ^\nfound: Int\n",
+    ),
+    (
+        b"(let f (fn u (x Int) (print x)) (app f 1))",
+        b"line 1, column 33:\n    (let f (fn u (x Int) (print x)) (app f 1))\n                                    ^\nthis call doesn't fit the code around it: protected code calls functions of effect p or a, unprotected code those of effect u or a, and `call` and `peek` are for unprotected code\nits name is bound here:\nline 1, column 6:\n    (let f (fn u (x Int) (print x)) (app f 1))\n         ^\nfound: effect u\nwanted: effect p\n",
+    ),
+    (
+        b"(app (fn p (r (Ref u Int)) (print (get r))) (ref u 1))",
+        b"line 1, column 35:\n    (app (fn p (r (Ref u Int)) (print (get r))) (ref u 1))\n                                      ^\nthis location is one of the other code: protected code reads and writes those of sort p, unprotected code those of sort u\nits name is bound here:\nline 1, column 13:\n    (app (fn p (r (Ref u Int)) (print (get r))) (ref u 1))\n                ^\nfound: sort u\nwanted: effect p\n",
+    ),
+    (
+        b"(app (rec p r (r (Ref u Int)) Int (get r)) (ref u 1))",
+        b"line 1, column 35:\n    (app (rec p r (r (Ref u Int)) Int (get r)) (ref u 1))\n                                      ^\nthis location is one of the other code: protected code reads and writes those of sort p, unprotected code those of sort u\nits name is bound here:\nline 1, column 16:\n    (app (rec p r (r (Ref u Int)) Int (get r)) (ref u 1))\n                   ^\nfound: sort u\nwanted: effect p\n",
+    ),
+    (
+        b"(app (rec p f (x Int) Unit (unprotected (app f x))) 1)",
+        b"line 1, column 41:\n    (app (rec p f (x Int) Unit (unprotected (app f x))) 1)\n                                            ^\nthis call doesn't fit the code around it: protected code calls functions of effect p or a, unprotected code those of effect u or a, and `call` and `peek` are for unprotected code\nits name is bound here:\nline 1, column 13:\n    (app (rec p f (x Int) Unit (unprotected (app f x))) 1)\n                ^\nfound: effect p\nwanted: effect u\n",
+    ),
+    (
+        b"(set 1 2)",
+        b"line 1, column 6:\n    (set 1 2)\n         ^\nwhat is read or written is no reference\nfound: Int\n",
+    ),
 ];
 
 #[test]

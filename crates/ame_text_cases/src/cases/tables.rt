@@ -1,6 +1,7 @@
 //! A journal as it is shown.
 
 use ame_journal::Journal;
+use ame_protocol::Tried;
 use ame_term::{Loc, TyNo};
 use ame_why::{Made, forms_of, table_of};
 use std::alloc::Global;
@@ -12,17 +13,36 @@ const JOURNAL: &[u8] =
 /// What the first entries print.
 const LINES: &[&[i64]] = &[&[], &[], &[], &[2], &[], &[-1, 0]];
 
-const TABLE: &[u8] = b"entry  seat  member  steps  what it did
-    1     0       0      5  ran, made 0
-    2     0       1      3  was taken back: a condition is false here
-    3     0       2      3  ran
-    4     0       1     11  ran, printed 2
-    5    31      12      0  ran, and left for unprotected code
-    6     0      12      2  ran unprotected code, made 1 2, was answered -6, printed -1 0
-    7     0      12      1  ran unprotected code, and came back
-    8     0      12      4  ran
-    9     1 100000000 1234567  was cut off, and taken back
-   10     2       3      9  was taken back: a value would be too high
+/// By which entries the first fragments were started.
+const STARTERS: &[u64] = &[1, 1, 3];
+
+/// Two tries, of a fragment whose starter is told, and of one whose starter isn't.
+const TRIES: &[Tried] = &[
+    Tried {
+        number: 2,
+        steps: 3,
+        at: 1,
+    },
+    Tried {
+        number: 12,
+        steps: 40,
+        at: 10,
+    },
+];
+
+const TABLE: &[u8] = b"entry  seat  fragment  started by  steps  what it did
+    1     0         0           -      5  ran, made 0
+                    2           1      3  was rolled back; so far it was valid behind entry 1
+    2     0         1           1      3  was taken back: a condition is false here
+    3     0         2           1      3  ran
+    4     0         1           1     11  ran, printed 2
+    5    31        12           -      0  ran, and left for unprotected code
+    6     0        12           -      2  ran unprotected code, made 1 2, was answered -6, printed -1 0
+    7     0        12           -      1  ran unprotected code, and came back
+    8     0        12           -      4  ran
+    9     1 100000000           - 1234567  was cut off, and taken back
+   10     2         3           3      9  was taken back: a value would be too high
+                   12           -     40  was rolled back; so far it was valid behind entry 10
 ";
 
 /// Lines of numbers.
@@ -38,7 +58,7 @@ fn printed(alloc: Global, numbers: &[&[i64]]) -> Result<Vec<Vec<i64>>, Fail> {
 fn a_journal_is_shown_line_by_line(rt: HostRuntime) -> Result<(), Fail> {
     let journal = Journal::from_text(rt.alloc(), JOURNAL)?;
     let lines = printed(rt.alloc(), LINES)?;
-    let table = table_of(rt.alloc(), journal.entries(), &[], &lines)?;
+    let table = table_of(rt.alloc(), journal.entries(), TRIES, STARTERS, &lines)?;
     assert_eq!(rt; table.as_slice(), TABLE);
     Ok(())
 }

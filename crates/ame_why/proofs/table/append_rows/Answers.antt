@@ -1,4 +1,6 @@
 use Rattle.std.proofs.Common.{◌≡◌, ◌≤◌, ◌+◌, ◌-◌, ◌++◌, [], length, map, get_or, None, ap, ◌∙◌, arith}
+use Rattle.ame_journal.specs.declared.entry.Entry.{Entry}
+use Rattle.ame_why.specs.Starters.{starter_in}
 use Rattle.ame_why.specs.Table.{entry_row, lines_at}
 use Rattle.ame_why.proofs.NextLemmas.{nexts_at, length-nexts}
 use Rattle.ame_why.proofs.RowLemmas.{rows_go_on, rows_end}
@@ -18,17 +20,19 @@ loop-index-preserved c =
     let noted = c.append_tries.new.page.items in
     let lines = map (λ v. v.items) c.args.lines.now in
     let printed = c.line_at.result.now in
+    let starter = c.starter_in.result in
     let same : i ≡ i + 1 - 1 = omega arith in
-    rows_go_on (lines_at lines) _ c.loop-index.page.items noted _ entries c.loop-index.rest.now c.in_ok-rest.rest.now i entry next printed c.loop-index-test.true
-    c.loop-index.invariant c.in_ok-rest.ensures.rows c.in_ok-rest.ensures.later
+    rows_go_on (starter_in c.args.starters.now) (lines_at lines) _ c.loop-index.page.items noted _ entries c.loop-index.rest.now c.in_ok-rest.rest.now i entry
+    starter next printed c.loop-index-test.true c.loop-index.invariant c.in_ok-rest.ensures.rows c.in_ok-rest.ensures.later
+    (c.starter_in.ensures ∙ ap (λ (e : Entry). starter_in c.args.starters.now e.number) c.index-entries-index.is)
     (ap (λ told. get_or told i None) c.requires ∙ nexts_at entries i entry None c.loop-index-test.true)
     (c.line_at.ensures ∙ ap (λ k. get_or lines k []) same)
-    (c.in_ok-append_row.ensures ∙ ap (λ e. noted ++ entry_row (i + 1) e next printed) c.index-entries-index.is)
+    (c.in_ok-append_row.ensures ∙ ap (λ e. noted ++ entry_row (i + 1) e starter next printed) c.index-entries-index.is)
 
 pub returns : goal.returns
 returns c =
     let past : length c.args.entries.now ≤ c.loop-index.index = c.loop-index-test.false in
     let within : c.loop-index.index ≤ length c.args.entries.now = c.loop-index.auto.index-end in
     let all : length c.args.entries.now ≡ c.loop-index.index = omega arith in
-    rows_end (lines_at (map (λ v. v.items) c.args.lines.now)) _ c.loop-index.page.items _ c.args.entries.now c.loop-index.rest.now c.loop-index.index all
-    c.loop-index.invariant c.in_ok-_none.ensures.rows
+    rows_end (starter_in c.args.starters.now) (lines_at (map (λ v. v.items) c.args.lines.now)) _ c.loop-index.page.items _ c.args.entries.now c.loop-index.rest.now
+    c.loop-index.index all c.loop-index.invariant c.in_ok-_none.ensures.rows

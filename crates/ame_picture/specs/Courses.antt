@@ -1,0 +1,46 @@
+-- The lanes of a picture by fragments.
+use Rattle.std.specs.Prelude.{ℕ, ◌+◌, ◌<◌, ◌==◌, min, max, if◌then◌else◌, Bool, false, List, [], ◌∷◌, slice_get, Option, Some, None}
+use Rattle.std.specs.List.{fold}
+use Rattle.ame_picture.specs.declared.arrow.Spot.{Spot}
+use Rattle.ame_picture.specs.declared.course.TheConstants.{LAST}
+use Rattle.ame_picture.specs.declared.moment.Moment.{Moment}
+use Rattle.ame_picture.specs.Layout.{left_of}
+
+abbrev pub fragment_of : Moment → ℕ
+fragment_of (Moment.Entry done) = done.fragment
+fragment_of (Moment.Try lost) = lost.fragment
+
+-- whether a moment is entry n
+abbrev pub is_entry : ℕ → Moment → Bool
+is_entry n (Moment.Entry done) = done.entry == n
+is_entry n (Moment.Try lost) = false
+
+-- the lane of a fragment; those from a number on share the last lane
+abbrev pub lane_of : ℕ → ℕ
+lane_of fragment = min fragment LAST
+
+-- how many lanes there are with that of a moment
+abbrev pub lanes_with : ℕ → Moment → ℕ
+lanes_with n moment = max n (lane_of (fragment_of moment) + 1)
+
+-- how many lanes these moments have
+abbrev pub lanes : List Moment → ℕ
+lanes moments = fold lanes_with 0 moments
+
+-- where entry n is, in which column and in which lane, where the first of these moments is in column k
+abbrev pub entry_spot : ℕ → ℕ → List Moment → Option Spot
+entry_spot n k [] = None
+entry_spot n k (moment ∷ moments) =
+    if is_entry n moment then Some (record { pick = k; seat = lane_of (fragment_of moment) }) else entry_spot n (k + 1) moments
+
+abbrev pub spot_by : List Moment → Option ℕ → Option Spot
+spot_by moments None = None
+spot_by moments (Some n) = entry_spot n 0 moments
+
+-- where the fragment of a lane was started, if it is told by which entry
+abbrev pub birth : List ℕ → List Moment → ℕ → Option Spot
+birth starters moments lane = if lane == LAST then None else spot_by moments (slice_get starters lane)
+
+-- boxes in different columns don't touch
+abbrev pub AreApart : Type 0
+AreApart = (k j : ℕ) → k < j → left_of k + 21 < left_of j + 1

@@ -1,0 +1,67 @@
+//! The lanes of a picture by fragments.
+
+ghost use Rattle.std.specs.Prelude.{◌≡◌, ◌≤◌, ◌<◌, ◌^◌, length};
+ghost use Rattle.ame_picture.specs.Courses as spec;
+ghost use Rattle.ame_picture.specs.declared.course.TheConstants.{LAST};
+
+use crate::arrow::Spot;
+use crate::moment::Moment;
+
+/// The last lane, which the fragments from this number on share.
+pub const LAST: u32 = 199;
+
+/// The lane of a fragment.
+pub(crate) fn lane_of(fragment: u64) -> u32
+    ensures value { result ≡ spec.lane_of fragment }
+    ensures few { result ≤ LAST }
+{
+    fragment.min(u64::from(LAST)) as u32
+}
+
+/// How many lanes these moments have.
+pub(crate) fn lanes_of(moments: &[Moment]) -> u32
+    ensures { result ≡ spec.lanes moments.now }
+{
+    let mut lanes = 0;
+    for moment in moments {
+        lanes = lanes_with(lanes, moment);
+    }
+    lanes
+}
+
+/// How many lanes there are with that of a moment.
+fn lanes_with(lanes: u32, moment: &Moment) -> u32
+    ensures { result ≡ spec.lanes_with lanes moment.now }
+{
+    lanes.max(lane_of(moment.fragment()) + 1)
+}
+
+/// Where the fragment of a lane was started, if it is told by which entry.
+pub(crate) fn birth(starters: &[u64], moments: &[Moment], lane: u32) -> Option<Spot>
+    requires { length moments.now < 2 ^ 32 }
+    ensures { result ≡ spec.birth starters.now moments.now lane }
+{
+    if lane == LAST {
+        return None;
+    }
+    match starters.get(lane as usize) {
+        Some(number) => entry_spot(moments, *number),
+        None => None,
+    }
+}
+
+/// Where an entry is, in which column and in which lane.
+fn entry_spot(moments: &[Moment], number: u64) -> Option<Spot>
+    requires { length moments.now < 2 ^ 32 }
+    ensures { result ≡ spec.entry_spot number 0 moments.now }
+{
+    for (index, moment) in moments.iter().enumerate() {
+        if moment.is_entry(number) {
+            return Some(Spot {
+                pick: index as u32,
+                seat: lane_of(moment.fragment()),
+            });
+        }
+    }
+    None
+}

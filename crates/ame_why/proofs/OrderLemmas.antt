@@ -14,13 +14,13 @@ use Rattle.ame_why.specs.Orders.{TellsOne, TellsTries, TellsAll}
 use Rattle.ame_why.specs.declared.weak_order.Order.{Order}
 
 -- the row of a try, by its parts
-pub try_told : (entry : ℕ) (t : Try) (start a b c d e : List ℕ) → a ≡ start ++ codes "      " → b ≡ a ++ column 6 entry → c ≡ b ++ column 7 t.certificate.number
+pub try_told : (entry : ℕ) (t : Try) (start a b c d e : List ℕ) → a ≡ start ++ codes "      " → b ≡ a ++ column 6 entry → c ≡ b ++ column 9 t.certificate.number
     → d ≡ c ++ codes "  was tried, and taken back behind step " → e ≡ d ++ decimal t.certificate.steps → e ++ codes "\n" ≡ start ++ taken_back_row entry t
 unfolding taken_back_row
 try_told entry t start a b c d e is_a is_b is_c is_d is_e =
     let spaces = codes "      " in
     let first = column 6 entry in
-    let second = column 7 t.certificate.number in
+    let second = column 9 t.certificate.number in
     let words = codes "  was tried, and taken back behind step " in
     let steps = decimal t.certificate.steps in
     let feed = codes "\n" in

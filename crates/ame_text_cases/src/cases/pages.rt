@@ -89,7 +89,7 @@ const TOLD: &[(&[u8], &[u8])] = &[
     ),
     (
         b"(app (fn p (r (Ref u Int)) (print (get r))) (ref u 1))",
-        b"line 1, column 35:\n    (app (fn p (r (Ref u Int)) (print (get r))) (ref u 1))\n                                      ^\nthis location is one of the other code: protected code reads and writes those of sort p, unprotected code those of sort u\nits name is bound here:\nline 1, column 13:\n    (app (fn p (r (Ref u Int)) (print (get r))) (ref u 1))\n                ^\nfound: sort u\nwanted: effect p\n",
+        b"line 1, column 35:\n    (app (fn p (r (Ref u Int)) (print (get r))) (ref u 1))\n                                      ^\nthis location is one of the other code: protected code reads and writes those of sort p, unprotected code those of sort u\nits name is bound here:\nline 1, column 13:\n    (app (fn p (r (Ref u Int)) (print (get r))) (ref ...\n                ^\nfound: sort u\nwanted: effect p\n",
     ),
     (
         b"(app (rec p r (r (Ref u Int)) Int (get r)) (ref u 1))",
@@ -97,7 +97,7 @@ const TOLD: &[(&[u8], &[u8])] = &[
     ),
     (
         b"(app (rec p f (x Int) Unit (unprotected (app f x))) 1)",
-        b"line 1, column 41:\n    (app (rec p f (x Int) Unit (unprotected (app f x))) 1)\n                                            ^\nthis call doesn't fit the code around it: protected code calls functions of effect p or a, unprotected code those of effect u or a, and `call` and `peek` are for unprotected code\nits name is bound here:\nline 1, column 13:\n    (app (rec p f (x Int) Unit (unprotected (app f x))) 1)\n                ^\nfound: effect p\nwanted: effect u\n",
+        b"line 1, column 41:\n    (app (rec p f (x Int) Unit (unprotected (app f x))) 1)\n                                            ^\nthis call doesn't fit the code around it: protected code calls functions of effect p or a, unprotected code those of effect u or a, and `call` and `peek` are for unprotected code\nits name is bound here:\nline 1, column 13:\n    (app (rec p f (x Int) Unit (unprotected (app f x)...\n                ^\nfound: effect p\nwanted: effect u\n",
     ),
     (
         b"(set 1 2)",

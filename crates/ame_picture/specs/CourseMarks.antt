@@ -12,12 +12,12 @@ use Rattle.ame_picture.specs.Marks.{member_begin, member_line, title_begin, kind
 use Rattle.ame_picture.specs.Shapes.{box_text, label_text}
 
 -- what the title of a box says of an entry of a kind
-abbrev pub kind_words : EntryKind → List ℕ
-kind_words EntryKind.Ran = codes "ran"
-kind_words EntryKind.Free = codes "ran unprotected code"
-kind_words EntryKind.Stuck = codes "taken back: a condition is false here"
-kind_words EntryKind.Cut = codes "cut off, and taken back"
-kind_words EntryKind.Tall = codes "taken back: a value would be too high"
+abbrev pub kind_phrase : EntryKind → List ℕ
+kind_phrase EntryKind.Ran = codes "ran"
+kind_phrase EntryKind.Free = codes "ran unprotected code"
+kind_phrase EntryKind.Stuck = codes "taken back: a condition is false here"
+kind_phrase EntryKind.Cut = codes "cut off, and taken back"
+kind_phrase EntryKind.Tall = codes "taken back: a value would be too high"
 
 -- how many steps
 unfoldable pub steps_words : List ℕ → ℕ → List ℕ
@@ -25,7 +25,7 @@ steps_words word n = word ++ decimal n ++ codes " steps"
 
 -- what an entry did, and on which seat
 unfoldable pub done_words : Done → List ℕ
-done_words done = codes ", entry " ++ decimal done.entry ++ codes " on seat " ++ decimal done.seat ++ codes ": " ++ kind_words done.kind ++ steps_words (codes ", ") done.steps
+done_words done = codes ", entry " ++ decimal done.entry ++ codes " on seat " ++ decimal done.seat ++ codes ": " ++ kind_phrase done.kind ++ steps_words (codes ", ") done.steps
 
 -- how far a try was valid
 unfoldable pub valid_words : ℕ → List ℕ

@@ -11,9 +11,9 @@ fragment_of (Moment.Entry done) = done.fragment
 fragment_of (Moment.Try lost) = lost.fragment
 
 -- whether a moment is entry n
-abbrev pub is_entry : ℕ → Moment → Bool
-is_entry n (Moment.Entry done) = done.entry == n
-is_entry n (Moment.Try lost) = false
+abbrev pub has_number : ℕ → Moment → Bool
+has_number n (Moment.Entry done) = done.entry == n
+has_number n (Moment.Try lost) = false
 
 -- the lane of a fragment; those from a number on share the last lane
 abbrev pub lane_of : ℕ → ℕ
@@ -31,7 +31,7 @@ lanes moments = fold lanes_with 0 moments
 abbrev pub entry_spot : ℕ → ℕ → List Moment → Option Spot
 entry_spot n k [] = None
 entry_spot n k (moment ∷ moments) =
-    if is_entry n moment then Some (record { pick = k; seat = lane_of (fragment_of moment) }) else entry_spot n (k + 1) moments
+    if has_number n moment then Some (record { pick = k; seat = lane_of (fragment_of moment) }) else entry_spot n (k + 1) moments
 
 abbrev pub spot_by : List Moment → Option ℕ → Option Spot
 spot_by moments None = None
@@ -42,5 +42,5 @@ abbrev pub birth : List ℕ → List Moment → ℕ → Option Spot
 birth starters moments lane = if lane == LAST then None else spot_by moments (slice_get starters lane)
 
 -- boxes in different columns don't touch
-abbrev pub AreApart : Type 0
-AreApart = (k j : ℕ) → k < j → left_of k + 21 < left_of j + 1
+abbrev pub ColumnsAreApart : Type 0
+ColumnsAreApart = (k j : ℕ) → k < j → left_of k + 21 < left_of j + 1

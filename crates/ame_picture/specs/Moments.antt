@@ -18,8 +18,8 @@ is_before n lost = nat_lt lost.at n
 abbrev pub tries_before : ℕ → List Lost → List Lost
 tries_before n tries = take (prefix_len (is_before n) tries) tries
 
-abbrev pub later_tries : ℕ → List Lost → List Lost
-later_tries n tries = drop (prefix_len (is_before n) tries) tries
+abbrev pub tries_left : ℕ → List Lost → List Lost
+tries_left n tries = drop (prefix_len (is_before n) tries) tries
 
 abbrev pub tries_shown : List Lost → List Moment
 tries_shown tries = map Moment.Try tries
@@ -27,7 +27,7 @@ tries_shown tries = map Moment.Try tries
 -- the moments of entries, the first of which is entry n, and of tries between them, none before the entries behind which it was valid last
 abbrev pub moments : ℕ → List Entry → List Lost → List Moment
 moments n [] tries = tries_shown tries
-moments n (entry ∷ entries) tries = tries_shown (tries_before n tries) ++ Moment.Entry (done_of n entry) ∷ moments (n + 1) entries (later_tries n tries)
+moments n (entry ∷ entries) tries = tries_shown (tries_before n tries) ++ Moment.Entry (done_of n entry) ∷ moments (n + 1) entries (tries_left n tries)
 
 -- the entry that a moment is, or the try
 abbrev pub entry_in : Moment → List Done

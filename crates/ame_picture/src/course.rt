@@ -56,7 +56,7 @@ fn entry_spot(moments: &[Moment], number: u64) -> Option<Spot>
     ensures { result ≡ spec.entry_spot number 0 moments.now }
 {
     for (index, moment) in moments.iter().enumerate() {
-        if moment.is_entry(number) {
+        if moment.has_number(number) {
             return Some(Spot {
                 pick: index as u32,
                 seat: lane_of(moment.fragment()),

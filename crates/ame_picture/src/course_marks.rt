@@ -61,7 +61,7 @@ fn append_done(page: &mut Vec<u8>, done: &Done) -> Result<(), NoMemory>
     append(page, b" on seat ")?;
     append_decimal(page, u64::from(done.seat))?;
     append(page, b": ")?;
-    append(page, kind_words(done.kind))?;
+    append(page, kind_phrase(done.kind))?;
     append_steps(page, b", ", done.steps)
 }
 
@@ -96,8 +96,8 @@ fn append_steps(page: &mut Vec<u8>, word: &[u8], steps: u64) -> Result<(), NoMem
 }
 
 /// What the title of a box says of an entry of a kind.
-fn kind_words(kind: EntryKind) -> &'static [u8]
-    ensures { result.now ≡ spec.kind_words kind }
+fn kind_phrase(kind: EntryKind) -> &'static [u8]
+    ensures { result.now ≡ spec.kind_phrase kind }
 {
     match kind {
         EntryKind::Ran => b"ran",

@@ -4,7 +4,7 @@ ghost use Rattle.std.specs.Prelude.{◌≡◌, ◌++◌, ◌<◌, ◌^◌, IfOk,
 ghost use Rattle.ame_picture.specs.CourseMarks as marks;
 ghost use Rattle.ame_picture.specs.CoursePage as spec;
 ghost use Rattle.ame_picture.specs.Courses as courses;
-ghost use Rattle.ame_picture.specs.Courses.{AreApart};
+ghost use Rattle.ame_picture.specs.Courses.{ColumnsAreApart};
 ghost use Rattle.ame_picture.specs.Picture.{marks_from, marks_below, HasHidden};
 
 use crate::constants::{COURSE_KEYS, HATCHINGS, LEGEND, STYLES};
@@ -39,7 +39,7 @@ pub fn course_picture_of(
 ) -> Result<Vec<u8>, NoMemory>
     requires { length moments.now < 2 ^ 32 }
     ensures told { IfOk result (λ page. page.items ≡ spec.course_svg moments.now starters.now (map (λ v. v.items) lines.now) labels.now) }
-    ensures apart { IfOk result (λ _. AreApart) }
+    ensures apart { IfOk result (λ _. ColumnsAreApart) }
     ensures certificate { IfOk result (λ page. HasHidden page.items (codes "certificate") labels.now.certificate.items) }
 {
     let page = collect(alloc, moments, starters, lines, labels)?;

@@ -49,8 +49,8 @@ impl Moment {
     }
 
     /// Whether it is the entry with this number.
-    pub(crate) fn is_entry(&self, number: u64) -> bool
-        ensures { result ≡ courses.is_entry number self.now }
+    pub(crate) fn has_number(&self, number: u64) -> bool
+        ensures { result ≡ courses.has_number number self.now }
     {
         match self {
             Moment::Entry(done) => done.entry == number,

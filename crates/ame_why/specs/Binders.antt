@@ -29,15 +29,15 @@ depth_after depth Kind.Close = depth - 1
 depth_after depth _ = depth
 
 -- one more token of a form: where none of its parts is open, it begins the next one
-abbrev pub with_token : Parts → Token → Parts
-with_token parts token = record { begun = if parts.depth == 0 then parts.begun + 1 else parts.begun; depth = depth_after parts.depth token.kind }
+abbrev pub parts_after : Parts → Token → Parts
+parts_after parts token = record { begun = if parts.depth == 0 then parts.begun + 1 else parts.begun; depth = depth_after parts.depth token.kind }
 
 abbrev pub no_parts : Parts
 no_parts = record { begun = 0; depth = 0 }
 
 -- in which part a place is of the form that opens there, whose word is part 0
 abbrev pub part_at : ℕ → ℕ → List Token → ℕ
-part_at form place tokens = (fold with_token no_parts (take_while (is_up_to place) (tokens_behind form tokens))).begun - 1
+part_at form place tokens = (fold parts_after no_parts (take_while (is_up_to place) (tokens_behind form tokens))).begun - 1
 
 -- which form a word begins, as far as it binds names
 abbrev pub binding_of : List ℕ → Binding
@@ -88,8 +88,8 @@ abbrev pub called_name : Text → List Token → ℕ → Option Token
 called_name text tokens place = if bytes_eq (word_at text place tokens) (codes "app") then slice_get (tokens_behind place tokens) 1 else None
 
 -- the token that may be the name of a function or of a location, where a rule is broken
-abbrev pub name_at : Text → List Token → ℕ → ℕ → Option Token
-name_at text tokens rule place =
+abbrev pub told_name : Text → List Token → ℕ → ℕ → Option Token
+told_name text tokens rule place =
     if rule == wrong_effect then called_name text tokens place
     else (if rule == wrong_sort then slice_get (tokens_behind place tokens) 1
     else (if rule == no_reference then find (λ token. token.start == place) tokens
@@ -101,7 +101,7 @@ binder_or_none text tokens (Some name) = binder_of text tokens name
 
 -- the token that binds that name
 abbrev pub binder_at : Text → List Token → ℕ → ℕ → Option Token
-binder_at text tokens rule place = binder_or_none text tokens (name_at text tokens rule place)
+binder_at text tokens rule place = binder_or_none text tokens (told_name text tokens rule place)
 
 -- where a binder is, if there is one
 abbrev pub bound_words : Text → Option Token → List ℕ

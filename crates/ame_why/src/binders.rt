@@ -34,7 +34,7 @@ pub(crate) fn binder_at(
     requires { All (IsWithin text.now) tokens.now }
     ensures { IfOk result (λ binder. binder ≡ spec.binder_at text.now tokens.now number place) }
 {
-    let Some(name) = name_at(text, tokens, number, place) else {
+    let Some(name) = told_name(text, tokens, number, place) else {
         return Ok(None);
     };
     let places = open_before(alloc, tokens, name.start)?;
@@ -42,9 +42,9 @@ pub(crate) fn binder_at(
 }
 
 /// The token that may be the name of a function or of a location, where a rule is broken.
-fn name_at(text: &[u8], tokens: &[Token], number: u8, place: u32) -> Option<Token>
+fn told_name(text: &[u8], tokens: &[Token], number: u8, place: u32) -> Option<Token>
     requires { All (IsWithin text.now) tokens.now }
-    ensures told { result ≡ spec.name_at text.now tokens.now number place }
+    ensures told { result ≡ spec.told_name text.now tokens.now number place }
     ensures within { IfSome result (IsWithin text.now) }
 {
     match number {

@@ -56,16 +56,16 @@ pub(crate) fn part_number(tokens: &[Token], form: u32, place: u32) -> usize
     let inside = tokens_up_to(tokens_behind(tokens, form), place);
     let mut parts = Parts { begun: 0, depth: 0 };
     for token in inside {
-        parts = with_token(parts, token);
+        parts = parts_after(parts, token);
     }
     parts.begun.saturating_sub(1)
 }
 
 /// What was gone through with one more token.
-fn with_token(parts: Parts, token: &Token) -> Parts
+fn parts_after(parts: Parts, token: &Token) -> Parts
     requires begun { parts.begun < 2 ^ 63 }
     requires depth { parts.depth < 2 ^ 63 }
-    ensures { result ≡ spec.with_token parts token.now }
+    ensures { result ≡ spec.parts_after parts token.now }
 {
     Parts {
         begun: if parts.depth == 0 {

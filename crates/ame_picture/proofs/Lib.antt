@@ -2,6 +2,7 @@ pub mod LaneLemmas
 pub mod StampLemmas
 pub mod EscapeLemmas
 pub mod ArrowLemmas
+pub mod CauseLemmas
 pub mod CountLemmas
 pub mod EndLemmas
 pub mod HiddenLemmas

@@ -3,6 +3,7 @@ pub mod Lanes
 pub mod Stamps
 pub mod Spans
 pub mod Arrows
+pub mod Causes
 pub mod Drawings
 pub mod Escapes
 pub mod Layout

@@ -3,6 +3,7 @@
 #![tactic(auto)]
 
 mod arrow;
+mod cause;
 mod constants;
 mod course;
 mod course_marks;

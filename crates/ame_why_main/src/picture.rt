@@ -1,5 +1,7 @@
 //! The picture of a run of which it is known what each pick did.
 
+use crate::course::starters_by_number;
+use crate::views::starters_told;
 use ame_app::{Mades, Report, StandardDevice};
 use ame_journal::{Entry, EntryKind};
 use ame_picture::{Captions, Did, Pick, drawing_of, picture_of};
@@ -29,8 +31,9 @@ pub fn picture_text<K>(
     if picks.len() > MOST_PICKS {
         return Ok(Vec::from_slice(alloc, TOO_WIDE)?);
     }
+    let starters = starters_by_number(alloc, &starters_told(alloc, &report.code, entries)?)?;
     let (Some(drawing), Some(journal)) = (
-        drawing_of(alloc, seats_of(mades), &picks, entries)?,
+        drawing_of(alloc, seats_of(mades), &picks, entries, &starters)?,
         journal_of(alloc, entries)?,
     ) else {
         return Ok(Vec::from_slice(alloc, NO_PICTURE)?);

@@ -6,3 +6,4 @@ pub mod CountLemmas
 pub mod EndLemmas
 pub mod HiddenLemmas
 pub mod MomentLemmas
+pub mod EventLemmas

@@ -14,3 +14,8 @@ pub mod Moments
 pub mod Courses
 pub mod CourseMarks
 pub mod CoursePage
+pub mod Events
+pub mod Claims
+pub mod Timelines
+pub mod EventText
+pub mod CourseEvents

@@ -77,3 +77,30 @@ pub const COURSE_KEYS: &[u8] = b"\
 pub const HIDDEN: &[u8] = b"<metadata id=\"";
 
 pub const HIDDEN_END: &[u8] = b"</metadata>\n";
+
+/// What the events of seats begin with.
+pub const EVENTS_BEGIN: &[u8] = b"\
+{\"traceEvents\":[
+{\"name\":\"process_name\",\"ph\":\"M\",\"pid\":1,\"args\":{\"name\":\"a run of ame, a microsecond a pick\"}}";
+
+/// What the events of fragments begin with.
+pub const COURSE_BEGIN: &[u8] = b"\
+{\"traceEvents\":[
+{\"name\":\"process_name\",\"ph\":\"M\",\"pid\":1,\"args\":{\"name\":\"a run of ame, a microsecond an entry or a try\"}}";
+
+/// What they end with.
+pub const EVENTS_END: &[u8] = b"\n]}\n";
+
+/// What stands in front of the number of a track that is named.
+pub const TRACK: &[u8] = b",\n{\"ph\":\"M\",\"pid\":1,\"tid\":";
+
+/// What stands in front of its name.
+pub const TRACK_NAME: &[u8] = b",\"name\":\"thread_name\",\"args\":{\"name\":\"";
+
+/// What stands behind the sort of an event: that it has a beginning and a length.
+pub const PHASE: &[u8] = b"\",\"ph\":\"X\",\"pid\":1";
+
+/// What stands in front of the number behind which a try was valid, and what became of it.
+pub const TRY: &[u8] = b"try behind ";
+
+pub const ROLLED_BACK: &[u8] = b"rolled back";

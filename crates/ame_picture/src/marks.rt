@@ -132,7 +132,7 @@ fn fate_class(fate: Fate) -> &'static [u8]
 }
 
 /// What the title of an attempt says.
-fn fate_words(fate: Fate) -> &'static [u8]
+pub(crate) fn fate_words(fate: Fate) -> &'static [u8]
     ensures { result.now ≡ spec.fate_words fate }
 {
     match fate {

@@ -40,7 +40,7 @@ pub fn course_text<K>(
 }
 
 /// The tries of a run, as a picture shows them.
-fn lost_in(alloc: Global, tries: &[Tried]) -> Result<Vec<Lost>, NoMemory> {
+pub fn lost_in(alloc: Global, tries: &[Tried]) -> Result<Vec<Lost>, NoMemory> {
     let mut lost = Vec::new(alloc);
     for t in tries {
         push(

@@ -45,7 +45,6 @@ stamps_on all (pick ∷ picks) k follows =
 abbrev IsStillOwned : Option Span → Type 0
 IsStillOwned begun = IfSome begun (λ span. span.outcome ≡ Outcome.Owned)
 
-
 left_on : (all : List Pick) (k : ℕ) (begun : Option Span) → IsStillOwned begun → All (IsSpanOn all) (span_left k begun)
 left_on all k None owned = All-nil (IsSpanOn all)
 left_on all k (Some span) owned = All-cons (IsSpanOn all) (record span { to = k }) [] (λ done. absurd (cc)) (All-nil (IsSpanOn all))
@@ -94,7 +93,7 @@ with_on : (all : List Pick) (place since k : ℕ) (first : Option Spot) (span : 
     IfSome first (IsSpotOn all) → IfSome (cond b (Some (sooner (spot_at_end span) first)) first) (IsSpotOn all)
 with_on all place since k first span true is on there =
     let done : span.outcome ≡ Outcome.Committed =
-        committed span.outcome (and_parts (is_committed span.outcome) ((span.place == place) && (nat_lt since span.to && nat_lt span.to k)) is).0 in
+    committed span.outcome (and_parts (is_committed span.outcome) ((span.place == place) && (nat_lt since span.to && nat_lt span.to k)) is).0 in
     sooner_on all (spot_at_end span) first (on done) there
 with_on all place since k first span false is on there = there
 

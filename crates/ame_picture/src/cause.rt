@@ -65,7 +65,15 @@ fn collect(
     let mut arrows = Vec::new(alloc);
     for (index, pick) in picks.iter().enumerate() {
         let earlier = &picks[..index];
-        if let Some(arrow) = cause_of(starters, stamps, places, spans, earlier, index as u32, pick) {
+        if let Some(arrow) = cause_of(
+            starters,
+            stamps,
+            places,
+            spans,
+            earlier,
+            index as u32,
+            pick,
+        ) {
             arrows.push(arrow)?;
         }
     }
@@ -203,13 +211,7 @@ fn sooner(spot: Spot, first: Option<Spot>) -> Spot
 {
     match first {
         None => spot,
-        Some(first) => {
-            if spot.pick < first.pick {
-                spot
-            } else {
-                first
-            }
-        }
+        Some(first) => { if spot.pick < first.pick { spot } else { first } }
     }
 }
 

@@ -13,8 +13,8 @@ use crate::escape::append_escaped;
 use crate::lane::Attempt;
 use crate::layout::{height_of, journal_top, width_of};
 use crate::marks::{
-    append_attempt, append_cause, append_lane, append_on, append_place, append_print, append_sign, append_span,
-    append_stale, append_stamp, append_tick, append_way,
+    append_attempt, append_cause, append_lane, append_on, append_place, append_print, append_sign,
+    append_span, append_stale, append_stamp, append_tick, append_way,
 };
 use crate::page::{append, append_decimal};
 use crate::pick::Pick;

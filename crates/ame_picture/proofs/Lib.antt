@@ -7,3 +7,4 @@ pub mod EndLemmas
 pub mod HiddenLemmas
 pub mod MomentLemmas
 pub mod EventLemmas
+pub mod FateLemmas

@@ -8,3 +8,4 @@ pub mod EndLemmas
 pub mod HiddenLemmas
 pub mod MomentLemmas
 pub mod EventLemmas
+pub mod FateLemmas

@@ -1,9 +1,10 @@
 -- The attempts on a seat as events, with the entries that they made.
-use Rattle.std.specs.Prelude.{ℕ, ◌+◌, if◌then◌else◌, List, [], ◌∷◌, Option, Some, None, option_to_list}
+use Rattle.std.specs.Prelude.{◌≡◌, ℕ, ◌+◌, if◌then◌else◌, List, [], ◌∷◌, Option, Some, None, option_to_list}
 use Rattle.ame_journal.specs.declared.entry.EntryKind.{EntryKind}
 use Rattle.ame_picture.specs.declared.event.Entered.{Entered}
 use Rattle.ame_picture.specs.declared.event.Event.{Event}
 use Rattle.ame_picture.specs.declared.lane.Attempt.{Attempt}
+use Rattle.ame_picture.specs.declared.lane.Fate.{Fate}
 use Rattle.ame_picture.specs.declared.pick.Pick.{Pick}
 use Rattle.ame_picture.specs.Lanes.{grown}
 use Rattle.ame_picture.specs.Picks.{is_work_of, is_last, kind_made}
@@ -38,3 +39,18 @@ events_from seat n k begun (pick ∷ picks) =
 
 abbrev pub seat_events : ℕ → List Pick → List Event
 seat_events seat picks = events_from seat 1 0 None picks
+
+-- the kind of the entry that an attempt looks to have made, where it looks committed or visited
+abbrev pub kind_shown : Fate → Option EntryKind
+kind_shown Fate.Ended = Some EntryKind.Ran
+kind_shown Fate.Left = Some EntryKind.Ran
+kind_shown Fate.Visited = Some EntryKind.Free
+kind_shown _ = None
+
+abbrev pub kind_entered : Option Entered → Option EntryKind
+kind_entered None = None
+kind_entered (Some entry) = Some entry.kind
+
+-- where the attempt of an event looks committed or visited, the event tells such an entry
+abbrev pub FitsFate : Event → Type 0
+FitsFate event = (kind : EntryKind) → kind_shown event.attempt.fate ≡ Some kind → kind_entered event.entry ≡ Some kind

@@ -1,8 +1,8 @@
 //! The attempts on a seat as events, with the entries that they made.
 
-ghost use Rattle.std.specs.Prelude.{◌≡◌, ◌<◌, ◌^◌, IfOk, length, map};
+ghost use Rattle.std.specs.Prelude.{◌≡◌, ◌<◌, ◌^◌, All, IfOk, length, map};
 ghost use Rattle.ame_picture.specs.Events as spec;
-ghost use Rattle.ame_picture.specs.Events.{attempt_in};
+ghost use Rattle.ame_picture.specs.Events.{attempt_in, FitsFate};
 ghost use Rattle.ame_picture.specs.Lanes as lanes;
 
 use crate::lane::{Attempt, grown};
@@ -30,6 +30,7 @@ pub fn seat_events(alloc: Global, picks: &[Pick], seat: u32) -> Result<Vec<Event
     requires { length picks.now < 2 ^ 32 }
     ensures told { IfOk result (λ events. events.items ≡ spec.seat_events seat picks.now) }
     ensures attempts { IfOk result (λ events. map attempt_in events.items ≡ lanes.lane seat picks.now) }
+    ensures fates { IfOk result (λ events. All FitsFate events.items) }
 {
     let events = collect(alloc, picks, seat)?;
     Ok(events)

@@ -1,9 +1,9 @@
 //! The events of a run.
 
-ghost use Rattle.std.specs.Prelude.{◌≡◌, ◌<◌, ◌^◌, IfOk, MatchOption, length, map};
+ghost use Rattle.std.specs.Prelude.{◌≡◌, ◌<◌, ◌^◌, All, IfOk, MatchOption, length, map};
 ghost use Rattle.ame_picture.specs.Claims.{TellEntries};
 ghost use Rattle.ame_picture.specs.Drawings as drawings;
-ghost use Rattle.ame_picture.specs.Events.{attempt_in};
+ghost use Rattle.ame_picture.specs.Events.{attempt_in, FitsFate};
 ghost use Rattle.ame_picture.specs.Timelines as spec;
 ghost use Rattle.ame_picture.specs.Timelines.{IsTimelineOf};
 
@@ -44,6 +44,7 @@ fn events_below(alloc: Global, seats: u32, picks: &[Pick]) -> Result<Vec<Event>,
     requires { length picks.now < 2 ^ 32 }
     ensures told { IfOk result (λ events. events.items ≡ spec.events_below seats picks.now) }
     ensures boxes { IfOk result (λ events. map attempt_in events.items ≡ drawings.attempts seats picks.now) }
+    ensures fates { IfOk result (λ events. All FitsFate events.items) }
 {
     let mut all = Vec::new(alloc);
     for seat in 0..seats {

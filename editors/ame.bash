@@ -76,10 +76,10 @@ _ame() {
     return
   fi
   if [[ $program == why ]]; then
-    views='--journal --trace --schedule --counts --store --steps --picture'
+    views='--journal --trace --schedule --counts --store --steps --picture --events'
     for word in "${words[@]}"; do
       case $word in
-      --journal | --trace | --schedule | --counts | --store | --steps | --picture) views= ;;
+      --journal | --trace | --schedule | --counts | --store | --steps | --picture | --events) views= ;;
       *) rest+=("$word") ;;
       esac
     done

@@ -57,7 +57,7 @@ leads all k pick earlier Did.Began each here =
 leads all k pick earlier (Did.Met owner) each here = hinders_at all k pick owner earlier pick.place each here
 leads all k pick earlier _ each here = _
 
-listed : (all : List Pick) (o : Option Arrow) → IfSome o (LeadsAmong all) → All (LeadsAmong all) (option_to_list o)
+pub listed : (all : List Pick) (o : Option Arrow) → IfSome o (LeadsAmong all) → All (LeadsAmong all) (option_to_list o)
 listed all None is = All-nil (LeadsAmong all)
 listed all (Some arrow) is = All-cons (LeadsAmong all) arrow [] is (All-nil (LeadsAmong all))
 
@@ -72,27 +72,37 @@ earlier_is all k j d below =
     let P : ℕ → Type 0 = λ i. IsPickOn all i (get_or (take k all) j d).seat in
     subst P e (record { within = within; on = λ other. ap seat (get_or_default all j other d within ∙ sym (get_or-take k all j d low)) })
 
-leads_from : (all picks : List Pick) (k : ℕ) → ((j : ℕ) (d : Pick) → j < length picks → (k + j < length all) × (get_or all (k + j) d ≡ get_or picks j d)) →
-    All (LeadsAmong all) (arrows_from all k picks)
-leads_from all [] k each = All-nil (LeadsAmong all)
-leads_from all (pick ∷ picks) k each =
+-- these picks are all from pick k on
+abbrev pub Follows : List Pick → ℕ → List Pick → Type 0
+Follows all k picks = (j : ℕ) (d : Pick) → j < length picks → (k + j < length all) × (get_or all (k + j) d ≡ get_or picks j d)
+
+pub pick_here : (all : List Pick) (k : ℕ) (pick : Pick) (picks : List Pick) → Follows all k (pick ∷ picks) → IsPickOn all k pick.seat
+pick_here all k pick picks follows =
     let first : 0 < length (pick ∷ picks) = omega arith in
     let stays : k + 0 ≡ k = omega arith in
     let seat : Pick → ℕ = λ p. p.seat in
-    let here : IsPickOn all k pick.seat = (let P : ℕ → Type 0 = λ i. IsPickOn all i pick.seat in
-    subst P stays (record { within = (each 0 pick first).0; on = λ d. ap seat (each 0 d first).1 })) in
-    All-append (LeadsAmong all) (option_to_list (arrow_by k pick (take k all) pick.did)) (arrows_from all (k + 1) picks)
-    (listed all (arrow_by k pick (take k all) pick.did) (leads all k pick (take k all) pick.did (earlier_is all k) here))
-    (leads_from all picks (k + 1)
-    (λ j d below.
+    let P : ℕ → Type 0 = λ i. IsPickOn all i pick.seat in
+    subst P stays (record { within = (follows 0 pick first).0; on = λ d. ap seat (follows 0 d first).1 })
+
+pub picks_behind : (all : List Pick) (k : ℕ) (pick : Pick) (picks : List Pick) → Follows all k (pick ∷ picks) → Follows all (k + 1) picks
+picks_behind all k pick picks follows j d below =
     let e : k + suc j ≡ k + 1 + j = omega arith in
     let within : suc j < length (pick ∷ picks) = omega (arith, below) in
     let Q : ℕ → Type 0 = λ i. (i < length all) × (get_or all i d ≡ get_or picks j d) in
-    subst Q e (each (suc j) d within)))
+    subst Q e (follows (suc j) d within)
+
+pub whole_follows : (all : List Pick) → Follows all 0 all
+whole_follows all j d below =
+    let e : j ≡ 0 + j = omega arith in
+    let Q : ℕ → Type 0 = λ i. (i < length all) × (get_or all i d ≡ get_or all j d) in
+    subst Q e (below, refl)
+
+leads_from : (all picks : List Pick) (k : ℕ) → Follows all k picks → All (LeadsAmong all) (arrows_from all k picks)
+leads_from all [] k follows = All-nil (LeadsAmong all)
+leads_from all (pick ∷ picks) k follows =
+    All-append (LeadsAmong all) (option_to_list (arrow_by k pick (take k all) pick.did)) (arrows_from all (k + 1) picks)
+    (listed all (arrow_by k pick (take k all) pick.did) (leads all k pick (take k all) pick.did (earlier_is all k) (pick_here all k pick picks follows)))
+    (leads_from all picks (k + 1) (picks_behind all k pick picks follows))
 
 pub arrows_lead : (picks : List Pick) → All (LeadsAmong picks) (arrows_from picks 0 picks)
-arrows_lead picks = leads_from picks picks 0
-    (λ j d below.
-    let e : j ≡ 0 + j = omega arith in
-    let Q : ℕ → Type 0 = λ i. (i < length picks) × (get_or picks i d ≡ get_or picks j d) in
-    subst Q e (below, refl))
+arrows_lead picks = leads_from picks picks 0 (whole_follows picks)

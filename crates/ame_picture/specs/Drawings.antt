@@ -6,6 +6,7 @@ use Rattle.ame_picture.specs.declared.pick.Pick.{Pick}
 use Rattle.ame_picture.specs.declared.lane.Attempt.{Attempt}
 use Rattle.ame_picture.specs.declared.span.TheConstants.{LANES}
 use Rattle.ame_picture.specs.Arrows.{arrows_from}
+use Rattle.ame_picture.specs.Causes.{causes_from}
 use Rattle.ame_picture.specs.Lanes.{lane}
 use Rattle.ame_picture.specs.Spans.{count_from, spans}
 use Rattle.ame_picture.specs.Stamps.{stamps, made_by_stamp, made_by_entry}
@@ -19,12 +20,14 @@ attempts (suc seats) picks = attempts seats picks ++ lane seats picks
 abbrev pub AreMadeBy : List Entry → List Pick → Type 0
 AreMadeBy entries picks = map made_by_stamp (stamps 0 picks) ≡ map made_by_entry entries
 
--- A drawing shows these picks on so many seats, each attempt on them, and each of these entries at the pick that made it.
-pub record IsDrawingOf (seats : ℕ) (picks : List Pick) (entries : List Entry) (drawing : Drawing) : Type 0 where
+-- A drawing shows these picks on so many seats, each attempt on them, each of these entries at the pick that made it, and which of these
+-- started or woke a member, where it is told which entry started each.
+pub record IsDrawingOf (seats : ℕ) (picks : List Pick) (entries : List Entry) (starters : List ℕ) (drawing : Drawing) : Type 0 where
   pub on : drawing.seats ≡ seats
   pub signs : drawing.picks.items ≡ picks
   pub boxes : drawing.attempts.items ≡ attempts seats picks
   pub leads : drawing.arrows.items ≡ arrows_from picks 0 picks
+  pub caused : drawing.causes.items ≡ causes_from starters drawing.stamps.items drawing.places drawing.spans.items picks 0 picks
   pub lanes : drawing.places ≡ min (count_from 0 picks) LANES
   pub owned : drawing.spans.items ≡ spans drawing.places picks
   pub marks : drawing.stamps.items ≡ stamps 0 picks

@@ -3,6 +3,7 @@ pub mod Lanes
 pub mod Stamps
 pub mod Spans
 pub mod Arrows
+pub mod Causes
 pub mod Drawings
 pub mod Escapes
 pub mod Layout
@@ -13,3 +14,8 @@ pub mod Moments
 pub mod Courses
 pub mod CourseMarks
 pub mod CoursePage
+pub mod Events
+pub mod Claims
+pub mod Timelines
+pub mod EventText
+pub mod CourseEvents

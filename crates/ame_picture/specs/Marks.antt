@@ -188,11 +188,23 @@ way_line arrow =
 
 abbrev pub on_marks : Arrow → ArrowKind → List ℕ
 on_marks arrow ArrowKind.GoesOn = on_line arrow
-on_marks arrow ArrowKind.InTheWay = []
+on_marks arrow _ = []
 
 abbrev pub way_marks : Arrow → ArrowKind → List ℕ
-way_marks arrow ArrowKind.GoesOn = []
 way_marks arrow ArrowKind.InTheWay = way_line arrow
+way_marks arrow _ = []
+
+-- how a cause looks
+abbrev pub cause_class : ArrowKind → List ℕ
+cause_class ArrowKind.Starts = codes "start"
+cause_class ArrowKind.Wakes = codes "wake"
+cause_class ArrowKind.GoesOn = codes "on"
+cause_class ArrowKind.InTheWay = codes "way"
+
+-- what let a member begin, below the boxes
+unfoldable pub cause_mark : Arrow → List ℕ
+cause_mark arrow =
+    member_line arrow.member (cause_class arrow.kind) (left_of arrow.from + 21) (top_of arrow.from_seat + 22) (left_of arrow.to + 1) (top_of arrow.to_seat + 22)
 
 unfoldable pub on_mark : Arrow → List ℕ
 on_mark arrow = on_marks arrow arrow.kind

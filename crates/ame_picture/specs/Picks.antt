@@ -45,6 +45,14 @@ is_place place (Some other) = other == place
 abbrev pub is_write_to : ℕ → Pick → Bool
 is_write_to place pick = is_write pick.did && is_place place pick.place
 
+abbrev pub is_read : Did → Bool
+is_read Did.Read = true
+is_read _ = false
+
+-- whether a pick reads this location
+abbrev pub is_read_of : ℕ → Pick → Bool
+is_read_of place pick = is_read pick.did && is_place place pick.place
+
 -- whether what this seat owns ends with a pick
 abbrev pub is_release_of : ℕ → Pick → Bool
 is_release_of seat pick = pick.seat == seat && is_last pick.did

@@ -8,7 +8,7 @@ use Rattle.ame_picture.specs.Escapes.{escaped}
 use Rattle.ame_picture.specs.Layout.{journal_top, width_of, height_of}
 use Rattle.ame_picture.specs.Shapes.{attribute, words_text}
 use Rattle.ame_picture.specs.declared.constants.TheConstants.{OPENING, VIEW_BOX, STYLES, HATCHINGS, LEGEND, KEYS, HIDDEN, HIDDEN_END}
-use Rattle.ame_picture.specs.Marks.{attempt_mark, sign_mark, stamp_mark, lane_mark, tick_mark, place_mark, print_mark, stale_mark, span_mark, on_mark, way_mark}
+use Rattle.ame_picture.specs.Marks.{attempt_mark, sign_mark, stamp_mark, lane_mark, tick_mark, place_mark, print_mark, stale_mark, span_mark, on_mark, way_mark, cause_mark}
 
 -- marks of the items of a list, of which the first is number k
 abbrev pub marks_from : {X : Type 0} → (ℕ → X → List ℕ) → ℕ → List X → List ℕ
@@ -62,7 +62,7 @@ foot top captions =
 -- the marks of what happened, above the journal
 unfoldable pub body : Drawing → List ℕ
 body drawing =
-    flat_map on_mark drawing.arrows.items ++ flat_map attempt_mark drawing.attempts.items
+    flat_map on_mark drawing.arrows.items ++ flat_map cause_mark drawing.causes.items ++ flat_map attempt_mark drawing.attempts.items
     ++ marks_from sign_mark 0 drawing.picks.items ++ flat_map way_mark drawing.arrows.items
     ++ marks_from (stale_mark drawing.seats drawing.places) 0 drawing.picks.items
     ++ flat_map (span_mark drawing.seats) drawing.spans.items

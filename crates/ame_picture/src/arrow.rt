@@ -14,6 +14,10 @@ pub enum ArrowKind {
     GoesOn,
     /// From a refused write to the one that was in its way.
     InTheWay,
+    /// From the commit that started a member to where it begins first.
+    Starts,
+    /// From the commit that woke a member to where it begins again.
+    Wakes,
 }
 
 /// An arrow of a member, from a pick of a seat to another.
@@ -29,7 +33,7 @@ pub struct Arrow {
 
 /// Which picks are sought.
 #[derive(Clone, Copy)]
-enum Sought {
+pub(crate) enum Sought {
     /// Those with this member at work.
     Member(u64),
     /// The writes of a seat to a location.
@@ -84,7 +88,7 @@ fn arrow_of(earlier: &[Pick], index: u32, pick: &Pick) -> Option<Arrow>
 }
 
 /// Where a pick with this index is.
-fn spot_of(index: u32, pick: &Pick) -> Spot
+pub(crate) fn spot_of(index: u32, pick: &Pick) -> Spot
     ensures { result ≡ spec.spot_of index pick.now }
 {
     Spot {
@@ -94,7 +98,7 @@ fn spot_of(index: u32, pick: &Pick) -> Spot
 }
 
 /// An arrow of a member from a spot to another.
-fn between(kind: ArrowKind, member: u64, from: Spot, to: Spot) -> Arrow
+pub(crate) fn between(kind: ArrowKind, member: u64, from: Spot, to: Spot) -> Arrow
     ensures { result ≡ spec.between kind member from to }
 {
     Arrow {
@@ -122,7 +126,7 @@ fn obstacle(pick: &Pick, write: Option<Spot>, here: Spot) -> Option<Arrow>
 }
 
 /// The last one that is sought.
-fn last_spot(picks: &[Pick], sought: Sought) -> Option<Spot>
+pub(crate) fn last_spot(picks: &[Pick], sought: Sought) -> Option<Spot>
     requires { length picks.now < 2 ^ 32 }
     ensures { result ≡ spec.last_spot sought 0 None picks.now }
 {

@@ -17,6 +17,7 @@ rect{stroke:currentColor;stroke-width:1.6}.floor{fill:#ddd;stroke:none}.grid{str
 .ran{fill:currentColor;fill-opacity:.85}.free{fill:#fff;stroke-dasharray:4 2}.begun{fill:#fff}
 .rolled{fill:url(#rolled)}.stuck{fill:url(#stuck)}.crossed{fill:url(#crossed)}
 .place{fill:#555}.on{stroke:currentColor;stroke-dasharray:2 3}.way,.stale{stroke:#c00;marker-end:url(#point)}.stale{stroke-dasharray:3 2}
+.start{stroke:#999;marker-end:url(#started)}.wake{stroke:#070;stroke-dasharray:5 3;marker-end:url(#woken)}
 .field{fill:#fff;stroke:none}.number{font-weight:700}.tie{stroke:currentColor;stroke-dasharray:1 3}
 .sign,.back,.entry,.below{text-anchor:middle}.below{font-size:8px;fill:#999}.print{text-anchor:middle;font-weight:700}
 .sign,.back{font-size:10px}.sign,.back,.entry{font-weight:700;paint-order:stroke;stroke:#fff;stroke-width:2px}.back{fill:#c00}.idle{fill:#bbb}
@@ -37,6 +38,10 @@ pub const HATCHINGS: &[u8] = b"\
 <path d=\"M0 0h8v8h-8z\" fill=\"#fff\"/><path d=\"M0 8L8 0M0 0L8 8\" stroke=\"#999\"/></pattern>
 <marker id=\"point\" viewBox=\"0 0 8 8\" refX=\"7\" refY=\"4\" markerWidth=\"7\" markerHeight=\"7\" orient=\"auto\">
 <path d=\"M0 0 8 4 0 8z\" fill=\"#c00\"/></marker>
+<marker id=\"started\" viewBox=\"0 0 8 8\" refX=\"7\" refY=\"4\" markerWidth=\"7\" markerHeight=\"7\" orient=\"auto\">
+<path d=\"M0 0 8 4 0 8z\" fill=\"#999\"/></marker>
+<marker id=\"woken\" viewBox=\"0 0 8 8\" refX=\"7\" refY=\"4\" markerWidth=\"7\" markerHeight=\"7\" orient=\"auto\">
+<path d=\"M0 0 8 4 0 8z\" fill=\"#070\"/></marker>
 </defs>
 ";
 
@@ -51,8 +56,8 @@ pub const KEYS: &[u8] = b"\
 <rect class=\"free\" x=\"350\" width=\"22\" height=\"14\" rx=\"3\"/><text x=\"378\" y=\"11\">unprotected</text>
 <rect class=\"crossed\" x=\"470\" width=\"22\" height=\"14\" rx=\"3\"/><text x=\"498\" y=\"11\">cut off, too high</text>
 <text y=\"34\">signs: r reads, w writes, + makes a location, o home again, x turns back, ? false condition, u undoes, - nothing to begin</text>
-<text y=\"50\">dotted: where a fragment goes on; red: what was in the way, and dashed a read that is not valid;
-bars: who owns a location, hatched where undone</text>
+<text y=\"50\">dotted: where a fragment goes on; grey: from the commit that started it, and green from the one that woke it;
+red: what was in the way, and dashed a read that is not valid; bars: who owns a location, hatched where undone</text>
 </g>
 ";
 
@@ -72,3 +77,30 @@ pub const COURSE_KEYS: &[u8] = b"\
 pub const HIDDEN: &[u8] = b"<metadata id=\"";
 
 pub const HIDDEN_END: &[u8] = b"</metadata>\n";
+
+/// What the events of seats begin with.
+pub const EVENTS_BEGIN: &[u8] = b"\
+{\"traceEvents\":[
+{\"name\":\"process_name\",\"ph\":\"M\",\"pid\":1,\"args\":{\"name\":\"a run of ame, a microsecond a pick\"}}";
+
+/// What the events of fragments begin with.
+pub const COURSE_BEGIN: &[u8] = b"\
+{\"traceEvents\":[
+{\"name\":\"process_name\",\"ph\":\"M\",\"pid\":1,\"args\":{\"name\":\"a run of ame, a microsecond an entry or a try\"}}";
+
+/// What they end with.
+pub const EVENTS_END: &[u8] = b"\n]}\n";
+
+/// What stands in front of the number of a track that is named.
+pub const TRACK: &[u8] = b",\n{\"ph\":\"M\",\"pid\":1,\"tid\":";
+
+/// What stands in front of its name.
+pub const TRACK_NAME: &[u8] = b",\"name\":\"thread_name\",\"args\":{\"name\":\"";
+
+/// What stands behind the sort of an event: that it has a beginning and a length.
+pub const PHASE: &[u8] = b"\",\"ph\":\"X\",\"pid\":1";
+
+/// What stands in front of the number behind which a try was valid, and what became of it.
+pub const TRY: &[u8] = b"try behind ";
+
+pub const ROLLED_BACK: &[u8] = b"rolled back";

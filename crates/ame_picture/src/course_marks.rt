@@ -96,7 +96,7 @@ fn append_steps(page: &mut Vec<u8>, word: &[u8], steps: u64) -> Result<(), NoMem
 }
 
 /// What the title of a box says of an entry of a kind.
-fn kind_phrase(kind: EntryKind) -> &'static [u8]
+pub(crate) fn kind_phrase(kind: EntryKind) -> &'static [u8]
     ensures { result.now ≡ spec.kind_phrase kind }
 {
     match kind {

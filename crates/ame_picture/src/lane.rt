@@ -105,7 +105,7 @@ fn collect(alloc: Global, picks: &[Pick], seat: u32) -> Result<Vec<Attempt>, NoM
 }
 
 /// The attempt that has begun, if there is one, with one more pick; else one that begins with this pick.
-fn grown(index: u32, pick: &Pick, begun: Option<Attempt>) -> Attempt
+pub(crate) fn grown(index: u32, pick: &Pick, begun: Option<Attempt>) -> Attempt
     ensures { result ≡ spec.grown index pick.now begun }
 {
     match begun {

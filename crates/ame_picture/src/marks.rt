@@ -132,7 +132,7 @@ fn fate_class(fate: Fate) -> &'static [u8]
 }
 
 /// What the title of an attempt says.
-fn fate_words(fate: Fate) -> &'static [u8]
+pub(crate) fn fate_words(fate: Fate) -> &'static [u8]
     ensures { result.now ≡ spec.fate_words fate }
 {
     match fate {
@@ -389,7 +389,7 @@ pub(crate) fn append_on(page: &mut Vec<u8>, arrow: &Arrow) -> Result<(), NoMemor
 {
     match arrow.kind {
         ArrowKind::GoesOn => append_on_line(page, arrow),
-        ArrowKind::InTheWay => Ok(()),
+        ArrowKind::InTheWay | ArrowKind::Starts | ArrowKind::Wakes => Ok(()),
     }
 }
 
@@ -415,7 +415,7 @@ pub(crate) fn append_way(page: &mut Vec<u8>, arrow: &Arrow) -> Result<(), NoMemo
     ensures { OnOk result (page.new.items ≡ page.old.items ++ spec.way_mark arrow.now) }
 {
     match arrow.kind {
-        ArrowKind::GoesOn => Ok(()),
+        ArrowKind::GoesOn | ArrowKind::Starts | ArrowKind::Wakes => Ok(()),
         ArrowKind::InTheWay => append_way_line(page, arrow),
     }
 }
@@ -434,6 +434,34 @@ fn append_way_line(page: &mut Vec<u8>, arrow: &Arrow) -> Result<(), NoMemory>
         y: top_of(arrow.to_seat) + 17,
     };
     append_member_line(page, arrow.member, b"way", at, to)
+}
+
+/// How a cause looks.
+fn cause_class(kind: ArrowKind) -> &'static [u8]
+    ensures { result.now ≡ spec.cause_class kind }
+{
+    match kind {
+        ArrowKind::Starts => b"start",
+        ArrowKind::Wakes => b"wake",
+        ArrowKind::GoesOn => b"on",
+        ArrowKind::InTheWay => b"way",
+    }
+}
+
+/// Adds what let a member begin.
+#[tactic(auto, unfolding(crate::specs::Marks::cause_mark))]
+pub(crate) fn append_cause(page: &mut Vec<u8>, arrow: &Arrow) -> Result<(), NoMemory>
+    ensures { OnOk result (page.new.items ≡ page.old.items ++ spec.cause_mark arrow.now) }
+{
+    let at = Place {
+        x: left_of(arrow.from) + 21,
+        y: top_of(arrow.from_seat) + 22,
+    };
+    let to = Place {
+        x: left_of(arrow.to) + 1,
+        y: top_of(arrow.to_seat) + 22,
+    };
+    append_member_line(page, arrow.member, cause_class(arrow.kind), at, to)
 }
 
 /// Adds what an entry printed, below its box, if it printed anything.

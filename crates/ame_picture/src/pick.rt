@@ -113,6 +113,16 @@ impl Pick {
         }
     }
 
+    /// Whether it read this location.
+    pub fn is_read_of(&self, place: u32) -> bool
+        ensures { result ≡ spec.is_read_of place self.now }
+    {
+        match self.place {
+            Some(other) => matches!(self.did, Did::Read) && other == place,
+            None => false,
+        }
+    }
+
     /// Whether what this seat owns ends with it.
     pub fn is_release_of(&self, seat: u32) -> bool
         ensures { result ≡ spec.is_release_of seat self.now }

@@ -13,8 +13,8 @@ use crate::escape::append_escaped;
 use crate::lane::Attempt;
 use crate::layout::{height_of, journal_top, width_of};
 use crate::marks::{
-    append_attempt, append_lane, append_on, append_place, append_print, append_sign, append_span,
-    append_stale, append_stamp, append_tick, append_way,
+    append_attempt, append_cause, append_lane, append_on, append_place, append_print, append_sign,
+    append_span, append_stale, append_stamp, append_tick, append_way,
 };
 use crate::page::{append, append_decimal};
 use crate::pick::Pick;
@@ -153,6 +153,7 @@ fn append_body(page: &mut Vec<u8>, drawing: &Drawing) -> Result<(), NoMemory>
     ensures { OnOk result (page.new.items ≡ page.old.items ++ spec.body drawing.now) }
 {
     append_ons(page, drawing.arrows.as_slice())?;
+    append_causes(page, drawing.causes.as_slice())?;
     append_attempts(page, drawing.attempts.as_slice())?;
     append_signs(page, drawing.picks.as_slice())?;
     append_ways(page, drawing.arrows.as_slice())?;
@@ -171,6 +172,16 @@ fn append_ons(page: &mut Vec<u8>, arrows: &[Arrow]) -> Result<(), NoMemory>
 {
     for arrow in arrows {
         append_on(page, arrow)?;
+    }
+    Ok(())
+}
+
+/// Adds what let members begin.
+fn append_causes(page: &mut Vec<u8>, causes: &[Arrow]) -> Result<(), NoMemory>
+    ensures { OnOk result (page.new.items ≡ page.old.items ++ flat_map marks.cause_mark causes.now) }
+{
+    for arrow in causes {
+        append_cause(page, arrow)?;
     }
     Ok(())
 }

@@ -21,6 +21,8 @@ pub enum View {
     Store,
     /// The picture of the run.
     Picture,
+    /// What happened in the run, for a viewer of traces.
+    Events,
     /// The labels of the run, with the terms that they reduce.
     Steps,
 }
@@ -35,6 +37,7 @@ impl View {
             "--counts" => Some(View::Counts),
             "--store" => Some(View::Store),
             "--picture" => Some(View::Picture),
+            "--events" => Some(View::Events),
             "--steps" => Some(View::Steps),
             _ => None,
         }
@@ -42,7 +45,10 @@ impl View {
 
     /// Whether what is shown is a file for another program, so that nothing may stand behind it.
     pub fn is_input(self) -> bool {
-        matches!(self, View::Journal | View::Schedule | View::Picture)
+        matches!(
+            self,
+            View::Journal | View::Schedule | View::Picture | View::Events
+        )
     }
 }
 

@@ -40,7 +40,7 @@ pub fn course_text<K>(
 }
 
 /// The tries of a run, as a picture shows them.
-fn lost_in(alloc: Global, tries: &[Tried]) -> Result<Vec<Lost>, NoMemory> {
+pub fn lost_in(alloc: Global, tries: &[Tried]) -> Result<Vec<Lost>, NoMemory> {
     let mut lost = Vec::new(alloc);
     for t in tries {
         push(
@@ -56,7 +56,7 @@ fn lost_in(alloc: Global, tries: &[Tried]) -> Result<Vec<Lost>, NoMemory> {
 }
 
 /// The starters of all fragments by their numbers; the program has entry 0, which there isn't.
-fn starters_by_number(alloc: Global, starters: &[u64]) -> Result<Vec<u64>, NoMemory> {
+pub fn starters_by_number(alloc: Global, starters: &[u64]) -> Result<Vec<u64>, NoMemory> {
     let mut all = Vec::new(alloc);
     push(&mut all, 0)?;
     for starter in starters {

@@ -20,6 +20,7 @@ Views, one of which may stand anywhere:
   --store      what the locations hold that are left
   --steps      the labels of the run, with the terms that they reduce
   --picture    the picture of the run, as SVG: of `sim` and `replay` by what each seat did, else by fragments
+  --events     what the picture shows, of runs of any length, as JSON for Perfetto (ui.perfetto.dev) or chrome://tracing
 
 `--same FILE` beside a view tells whether the file has just that; `--then` stands between two calls.
 ";

@@ -3,6 +3,7 @@
 
 mod asked;
 mod course;
+mod events;
 mod explain;
 mod given;
 mod help;

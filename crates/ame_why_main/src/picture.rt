@@ -1,5 +1,7 @@
 //! The picture of a run of which it is known what each pick did.
 
+use crate::course::starters_by_number;
+use crate::views::starters_told;
 use ame_app::{Mades, Report, StandardDevice};
 use ame_journal::{Entry, EntryKind};
 use ame_picture::{Captions, Did, Pick, drawing_of, picture_of};
@@ -25,12 +27,13 @@ pub fn picture_text<K>(
     lines: &[Vec<i64>],
     title: &str,
 ) -> Result<Vec<u8>, NoMemory> {
-    let picks = picks_of(alloc, mades, is_cut(entries))?;
+    let picks = picks_of(alloc, mades, is_cut(entries), MOST_PICKS + 1)?;
     if picks.len() > MOST_PICKS {
         return Ok(Vec::from_slice(alloc, TOO_WIDE)?);
     }
+    let starters = starters_by_number(alloc, &starters_told(alloc, &report.code, entries)?)?;
     let (Some(drawing), Some(journal)) = (
-        drawing_of(alloc, seats_of(mades), &picks, entries)?,
+        drawing_of(alloc, seats_of(mades), &picks, entries, &starters)?,
         journal_of(alloc, entries)?,
     ) else {
         return Ok(Vec::from_slice(alloc, NO_PICTURE)?);
@@ -45,7 +48,7 @@ pub fn picture_text<K>(
 }
 
 /// Whether the journal tells where a member was cut off.
-fn is_cut(entries: &[Entry]) -> bool {
+pub fn is_cut(entries: &[Entry]) -> bool {
     match entries.last() {
         Some(entry) => entry.kind == EntryKind::Cut,
         None => false,
@@ -53,7 +56,7 @@ fn is_cut(entries: &[Entry]) -> bool {
 }
 
 /// One more than the greatest number of a seat.
-fn seats_of(mades: &Mades) -> u32 {
+pub fn seats_of(mades: &Mades) -> u32 {
     let mut seats = 1;
     for pick in mades.picks() {
         seats = seats.max(u32::from(pick.seat) + 1);
@@ -61,10 +64,15 @@ fn seats_of(mades: &Mades) -> u32 {
     seats
 }
 
-/// The picks of a run, as a picture shows them; of those past the most that are drawn, one.
-fn picks_of(alloc: Global, mades: &Mades, is_cut: bool) -> Result<Vec<Pick>, NoMemory> {
+/// The picks of a run, as a picture shows them, so many at most.
+pub fn picks_of(
+    alloc: Global,
+    mades: &Mades,
+    is_cut: bool,
+    most: usize,
+) -> Result<Vec<Pick>, NoMemory> {
     let mut picks = Vec::new(alloc);
-    for made in mades.iter().take(MOST_PICKS + 1) {
+    for made in mades.iter().take(most) {
         push(
             &mut picks,
             Pick {

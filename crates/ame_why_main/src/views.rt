@@ -5,6 +5,7 @@ ghost use Rattle.ame_lex.specs.Bytes.{max_text};
 
 use crate::asked::{Chosen, View};
 use crate::course::course_text;
+use crate::events::{course_events_text, events_text};
 use crate::picture::picture_text;
 use crate::weak::order_text;
 use ame_app::{Own, Report, StandardDevice};
@@ -63,6 +64,12 @@ pub fn page_of<K>(
                 }
             }
         }
+        View::Events => match &report.own {
+            Own::Picked(mades) => events_text(alloc, mades, &entries),
+            Own::Nothing | Own::Unmade(_) | Own::Resumed(_) | Own::Weak(_) => {
+                course_events_text(alloc, ended, &entries)
+            }
+        },
         View::Why | View::Journal => journal_text(alloc, &entries, &report.text),
     }
 }

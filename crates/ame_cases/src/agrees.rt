@@ -26,10 +26,12 @@ pub fn agrees(
     let program = copy_term(alloc, &code.accepted().program.term)?;
     let entries = without_tall(report.journal());
     match replayed(alloc, program, report.base(), entries)? {
-        Some(state) => Ok(state.output() == ended.output()
-            && are_same_cells(ended.store(), &state)
-            && are_left(&report.status, state.pool_len() as u64)
-            && answers_told(entries) == calls_heard(&report.devices)),
+        Some(state) => Ok(
+            state.output() == ended.output()
+                && are_same_cells(ended.store(), &state)
+                && are_left(&report.status, state.pool_len() as u64)
+                && answers_told(entries) == calls_heard(&report.devices),
+        ),
         None => Ok(false),
     }
 }
@@ -71,7 +73,10 @@ fn are_left(status: &Status, members: u64) -> bool {
 
 /// How many answers of devices entries tell.
 fn answers_told(entries: &[Entry]) -> usize {
-    entries.iter().filter(|entry| entry.answer.is_some()).count()
+    entries
+        .iter()
+        .filter(|entry| entry.answer.is_some())
+        .count()
 }
 
 /// How many calls devices answered.

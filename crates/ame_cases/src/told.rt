@@ -39,7 +39,14 @@ pub fn told(
         Field::Picks => picks(alloc, &report.own),
         Field::Certificates => certificates(alloc, report.blocked()),
         Field::Replay => replay(alloc, case, report),
-        Field::Agrees => word(alloc, if does_agree(alloc, report)? { "yes" } else { "no" }),
+        Field::Agrees => word(
+            alloc,
+            if does_agree(alloc, report)? {
+                "yes"
+            } else {
+                "no"
+            },
+        ),
         Field::Names | Field::Types => match &report.code {
             Some(code) => sizes(alloc, code, field),
             None => word(alloc, "none"),

@@ -49,7 +49,12 @@ const ROWS: &[(&[u8], &[u8], u64, Reason)] = &[
     ),
     (TWO_CELLS, b"ran 0 0 4 7\n", 1, Reason::Missing(2)),
     (TWO_CELLS, b"ran 0 0 4 7 7\n", 1, Reason::Taken(2, Loc(7))),
-    (TWO_CELLS, b"ran 0 0 4 7 8 9\n", 1, Reason::Unused(4, Loc(9))),
+    (
+        TWO_CELLS,
+        b"ran 0 0 4 7 8 9\n",
+        1,
+        Reason::Unused(4, Loc(9)),
+    ),
 ];
 
 /// The judgment of the text of a journal.

@@ -137,12 +137,7 @@ fn born(memory: &mut Memory<i64>, value: i64) -> Result<Told, NoMemory> {
 }
 
 /// A new cell of a seat.
-fn allocate(
-    memory: &mut Memory<i64>,
-    seat: u32,
-    value: i64,
-    input: i64,
-) -> Result<Told, NoMemory>
+fn allocate(memory: &mut Memory<i64>, seat: u32, value: i64, input: i64) -> Result<Told, NoMemory>
     requires { seat < length memory.old.rows }
 {
     if memory.cells().len() == u32::MAX {

@@ -26,6 +26,9 @@ fn each_entry_has_its_lines(rt: HostRuntime) -> Result<(), Fail> {
     for (line, expected) in lines.iter().zip(LINES) {
         assert_eq!(rt; line.as_slice(), *expected);
     }
-    assert!(rt; told(rt.alloc(), b"ran 0 0 9\n")?.is_none(), "a journal of another program");
+    assert!(rt;
+        told(rt.alloc(), b"ran 0 0 9\n")?.is_none(),
+        "a journal of another program"
+    );
     Ok(())
 }

@@ -12,9 +12,18 @@ const PUT_IN: &[(&[u8], &[u8])] = &[
     (b"(let x 0 (let x x x))", b"(let x 3 x)"),
     (b"(let x 0 (fn p (x Int) x))", b"(fn p (x Int) x)"),
     (b"(let x 0 (fn p (y Int) x))", b"(fn p (y Int) 3)"),
-    (b"(let x 0 (rec p x (y Int) Int x))", b"(rec p x (y Int) Int x)"),
-    (b"(let x 0 (rec p y (y Int) Int x))", b"(rec p y (y Int) Int 3)"),
-    (b"(let x 0 (do (async (print x)) (print x)))", b"(do (async (print 3)) (print 3))"),
+    (
+        b"(let x 0 (rec p x (y Int) Int x))",
+        b"(rec p x (y Int) Int x)",
+    ),
+    (
+        b"(let x 0 (rec p y (y Int) Int x))",
+        b"(rec p y (y Int) Int 3)",
+    ),
+    (
+        b"(let x 0 (do (async (print x)) (print x)))",
+        b"(do (async (print 3)) (print 3))",
+    ),
 ];
 
 /// The body of a text that binds its first name, with three put in for that name.
@@ -47,7 +56,11 @@ const REDEXES: &[(&[u8], &[u8], &[u8])] = &[
     (b"(set 1 (+ 1 1))", b"(+ 1 1)", b"(set 1 2)"),
     (b"(async (+ 1 1))", b"(async (+ 1 1))", b"2"),
     (b"(blockUntil (= 1 1))", b"(= 1 1)", b"(blockUntil 2)"),
-    (b"(unprotected (do (* 2 3) unit))", b"(* 2 3)", b"(unprotected (do 2 unit))"),
+    (
+        b"(unprotected (do (* 2 3) unit))",
+        b"(* 2 3)",
+        b"(unprotected (do 2 unit))",
+    ),
     (b"(print (+ 1 1))", b"(+ 1 1)", b"(print 2)"),
     (b"(call 0 (+ 1 1))", b"(+ 1 1)", b"(call 0 2)"),
     (b"(pair (+ 1 1) 3)", b"(+ 1 1)", b"(pair 2 3)"),
@@ -56,8 +69,16 @@ const REDEXES: &[(&[u8], &[u8], &[u8])] = &[
     (b"(snd (pair 1 1))", b"(pair 1 1)", b"(snd 2)"),
     (b"(let x (+ 1 1) x)", b"(+ 1 1)", b"(let x 2 x)"),
     (b"(if (= 1 1) (+ 1 1) 3)", b"(= 1 1)", b"(if 2 (+ 1 1) 3)"),
-    (b"(do (print 1) (print 2))", b"(print 1)", b"(do 2 (print 2))"),
-    (b"(app (fn p (x Int) x) (+ 1 1))", b"(fn p (x Int) x)", b"(app 2 (+ 1 1))"),
+    (
+        b"(do (print 1) (print 2))",
+        b"(print 1)",
+        b"(do 2 (print 2))",
+    ),
+    (
+        b"(app (fn p (x Int) x) (+ 1 1))",
+        b"(fn p (x Int) x)",
+        b"(app 2 (+ 1 1))",
+    ),
     (b"(fn p (x Int) (+ 1 1))", b"(fn p (x Int) (+ 1 1))", b"2"),
 ];
 

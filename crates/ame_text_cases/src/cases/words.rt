@@ -25,24 +25,134 @@ const SHORT: Options = Options {
 const SPELLED: &[(&str, Command)] = &[
     ("", Command::Run(DEFAULTS)),
     ("run", Command::Run(DEFAULTS)),
-    ("run --workers 2", Command::Run(Options { workers: 2, ..DEFAULTS })),
-    ("run --workers=2", Command::Run(Options { workers: 2, ..DEFAULTS })),
-    ("run --turns 9", Command::Run(Options { turns: 9, ..DEFAULTS })),
-    ("run --turns=9", Command::Run(Options { turns: 9, ..DEFAULTS })),
-    ("run --slice 7", Command::Run(Options { slice: 7, ..DEFAULTS })),
-    ("run --slice=7", Command::Run(Options { slice: 7, ..DEFAULTS })),
-    ("run --slice=007 --turns 9", Command::Run(Options { turns: 9, slice: 7, ..DEFAULTS })),
-    ("run --turns 9 --slice=007", Command::Run(Options { turns: 9, slice: 7, ..DEFAULTS })),
-    ("run --turns=9 --workers 3", Command::Run(Options { workers: 3, turns: 9, ..DEFAULTS })),
-    ("run --workers=1 --turns=1 --slice=1", Command::Run(Options { turns: 1, slice: 1, ..DEFAULTS })),
-    ("run --slice 1 --turns 2 --workers 3", Command::Run(Options { workers: 3, turns: 2, slice: 1 })),
-    ("run --turns 2 --slice=1 --workers 3", Command::Run(Options { workers: 3, turns: 2, slice: 1 })),
-    ("run --workers 3 --slice 1 --turns=2", Command::Run(Options { workers: 3, turns: 2, slice: 1 })),
-    ("run --workers=32 --turns=4000000 --slice=1000", Command::Run(Options { workers: 32, turns: 4_000_000, ..DEFAULTS })),
-    ("run --workers=0000000032", Command::Run(Options { workers: 32, ..DEFAULTS })),
+    (
+        "run --workers 2",
+        Command::Run(Options {
+            workers: 2,
+            ..DEFAULTS
+        }),
+    ),
+    (
+        "run --workers=2",
+        Command::Run(Options {
+            workers: 2,
+            ..DEFAULTS
+        }),
+    ),
+    (
+        "run --turns 9",
+        Command::Run(Options {
+            turns: 9,
+            ..DEFAULTS
+        }),
+    ),
+    (
+        "run --turns=9",
+        Command::Run(Options {
+            turns: 9,
+            ..DEFAULTS
+        }),
+    ),
+    (
+        "run --slice 7",
+        Command::Run(Options {
+            slice: 7,
+            ..DEFAULTS
+        }),
+    ),
+    (
+        "run --slice=7",
+        Command::Run(Options {
+            slice: 7,
+            ..DEFAULTS
+        }),
+    ),
+    (
+        "run --slice=007 --turns 9",
+        Command::Run(Options {
+            turns: 9,
+            slice: 7,
+            ..DEFAULTS
+        }),
+    ),
+    (
+        "run --turns 9 --slice=007",
+        Command::Run(Options {
+            turns: 9,
+            slice: 7,
+            ..DEFAULTS
+        }),
+    ),
+    (
+        "run --turns=9 --workers 3",
+        Command::Run(Options {
+            workers: 3,
+            turns: 9,
+            ..DEFAULTS
+        }),
+    ),
+    (
+        "run --workers=1 --turns=1 --slice=1",
+        Command::Run(Options {
+            turns: 1,
+            slice: 1,
+            ..DEFAULTS
+        }),
+    ),
+    (
+        "run --slice 1 --turns 2 --workers 3",
+        Command::Run(Options {
+            workers: 3,
+            turns: 2,
+            slice: 1,
+        }),
+    ),
+    (
+        "run --turns 2 --slice=1 --workers 3",
+        Command::Run(Options {
+            workers: 3,
+            turns: 2,
+            slice: 1,
+        }),
+    ),
+    (
+        "run --workers 3 --slice 1 --turns=2",
+        Command::Run(Options {
+            workers: 3,
+            turns: 2,
+            slice: 1,
+        }),
+    ),
+    (
+        "run --workers=32 --turns=4000000 --slice=1000",
+        Command::Run(Options {
+            workers: 32,
+            turns: 4_000_000,
+            ..DEFAULTS
+        }),
+    ),
+    (
+        "run --workers=0000000032",
+        Command::Run(Options {
+            workers: 32,
+            ..DEFAULTS
+        }),
+    ),
     ("run --workers 0000000001", Command::Run(DEFAULTS)),
-    ("run --turns 0004000000", Command::Run(Options { turns: 4_000_000, ..DEFAULTS })),
-    ("run --slice 01", Command::Run(Options { slice: 1, ..DEFAULTS })),
+    (
+        "run --turns 0004000000",
+        Command::Run(Options {
+            turns: 4_000_000,
+            ..DEFAULTS
+        }),
+    ),
+    (
+        "run --slice 01",
+        Command::Run(Options {
+            slice: 1,
+            ..DEFAULTS
+        }),
+    ),
     ("bench 1 2", Command::Bench(1, 2, DEFAULTS)),
     ("bench --workers 4 1 2", Command::Bench(1, 2, FOUR_WORKERS)),
     ("bench 1 --workers 4 2", Command::Bench(1, 2, FOUR_WORKERS)),
@@ -55,8 +165,14 @@ const SPELLED: &[(&str, Command)] = &[
     ("bench 0 1", Command::Bench(0, 1, DEFAULTS)),
     ("bench 00001 0000000002", Command::Bench(1, 2, DEFAULTS)),
     ("bench --slice 3 4 --turns=2 5", Command::Bench(4, 5, SHORT)),
-    ("bench --workers 1 --turns 2 --slice 3 4 5", Command::Bench(4, 5, SHORT)),
-    ("bench 4 5 --slice=3 --turns=2 --workers=1", Command::Bench(4, 5, SHORT)),
+    (
+        "bench --workers 1 --turns 2 --slice 3 4 5",
+        Command::Bench(4, 5, SHORT),
+    ),
+    (
+        "bench 4 5 --slice=3 --turns=2 --workers=1",
+        Command::Bench(4, 5, SHORT),
+    ),
     ("sim 1", Command::Sim(1, DEFAULTS)),
     ("sim 65536 --workers=4", Command::Sim(65_536, FOUR_WORKERS)),
     ("sim --workers 4 0", Command::Sim(0, FOUR_WORKERS)),

@@ -74,7 +74,9 @@ impl Case {
 impl Case {
     /// Whether a journal of it is replayed.
     pub fn is_replayed(&self) -> bool {
-        self.facts.iter().any(|fact| fact.field == Field::Replay)
+        self.facts
+            .iter()
+            .any(|fact| matches!(fact.field, Field::Replay | Field::Agrees))
     }
 }
 

@@ -16,6 +16,8 @@ pub enum Field {
     Journal,
     /// What the strong semantics comes to by the journal.
     Replay,
+    /// Whether the run left what the strong semantics comes to by the journal.
+    Agrees,
     /// What was printed by what was committed.
     Output,
     /// The events that counted, where no seat was in another's way.
@@ -28,6 +30,8 @@ pub enum Field {
     Cells,
     /// What each device was asked, and answered.
     Heard,
+    /// What each pick of a run on one thread did.
+    Picks,
     /// How many names the program has.
     Names,
     /// How many types of locations the program has.
@@ -43,12 +47,14 @@ const KEYS: &[(&str, Field)] = &[
     ("resumed", Field::Resumed),
     ("journal", Field::Journal),
     ("replay", Field::Replay),
+    ("agrees", Field::Agrees),
     ("output", Field::Output),
     ("turns", Field::Turns),
     ("unwound", Field::Unwound),
     ("certificates", Field::Certificates),
     ("cells", Field::Cells),
     ("heard", Field::Heard),
+    ("picks", Field::Picks),
     ("names", Field::Names),
     ("types", Field::Types),
 ];

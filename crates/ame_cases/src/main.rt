@@ -1,6 +1,7 @@
 //! Runs the cases of the files and the folders that are named, and tells of each whether all came as it must.
 #![tactic(auto)]
 
+mod agrees;
 mod call;
 mod case;
 mod device;
@@ -13,6 +14,7 @@ mod held;
 mod item;
 mod judge;
 mod left;
+mod picks;
 mod replay;
 mod tally;
 mod text;

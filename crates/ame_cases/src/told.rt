@@ -1,10 +1,12 @@
 //! What a report tells, field by field, in the form of a case's lines. Reports and their statuses are read here alone.
 
+use crate::agrees::agrees;
 use crate::case::Case;
 use crate::device::Boxed;
 use crate::fault::Fault;
 use crate::field::Field;
 use crate::left::left;
+use crate::picks::picks;
 use crate::replay::replayed;
 use ame_app::{Own, Report};
 use ame_code::Code;
@@ -34,8 +36,17 @@ pub fn told(
         Field::Run => begun(alloc, report),
         Field::Resumed => resumed(alloc, &report.own),
         Field::Heard => heard(alloc, &report.devices),
+        Field::Picks => picks(alloc, &report.own),
         Field::Certificates => certificates(alloc, report.blocked()),
         Field::Replay => replay(alloc, case, report),
+        Field::Agrees => word(
+            alloc,
+            if does_agree(alloc, report)? {
+                "yes"
+            } else {
+                "no"
+            },
+        ),
         Field::Names | Field::Types => match &report.code {
             Some(code) => sizes(alloc, code, field),
             None => word(alloc, "none"),
@@ -135,6 +146,14 @@ fn replay(alloc: Global, case: &Case, report: &CaseReport) -> Result<String, Fau
     match state {
         Some(state) => come_to(alloc, &state),
         None => word(alloc, "none"),
+    }
+}
+
+/// Whether a run was begun, and left what its journal comes to.
+fn does_agree(alloc: Global, report: &CaseReport) -> Result<bool, Fault> {
+    match (&report.code, &report.ended) {
+        (Some(code), Some(ended)) => agrees(alloc, report, code, ended),
+        _ => Ok(false),
     }
 }
 

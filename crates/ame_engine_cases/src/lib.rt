@@ -1,5 +1,4 @@
-//! Tests of an engine with its seats, and of what it stands on. Texts are read, typed and compiled, and the seats run them in turns
-//! that a table or a seed tells.
+//! Tests of what an engine stands on, of which whole calls show too little.
 #![tactic(auto)]
 
 #[cfg(test)]

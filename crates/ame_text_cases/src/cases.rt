@@ -3,13 +3,12 @@
 mod certificates;
 mod code;
 mod generated;
-mod labels;
+mod lines;
 mod pages;
 mod printed;
 mod programs;
 mod tables;
+mod terms;
 mod texts;
 mod tokens;
-mod types;
 mod words;
-mod workload;

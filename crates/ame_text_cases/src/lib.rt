@@ -1,5 +1,5 @@
-//! Tests of texts: tokens, programs, types, flat code, canonical forms, pages on faults and on certificates, tables of runs, words and generated programs;
-//! and of labels that the strong semantics refuses. The text of the generated program is read as a term that is written down here, and that term is accepted.
+//! Tests of texts: tokens, programs, terms, flat code, canonical forms, pages on faults and on certificates, tables of runs, words and a generated program.
+//! The text of the generated program is read as a term that is written down here, and that term is accepted.
 #![tactic(auto)]
 
 mod accept;

@@ -1,11 +1,9 @@
-//! Two seats at one memory, as rows of calls, at integers and at a value that takes memory.
+//! Two seats at one memory, as rows of calls.
 
 ghost use Rattle.std.specs.Prelude.{◌≡◌, ◌<◌, IsTrue, All, length, slice_get};
 ghost use Rattle.std.specs.Option.{ForSome};
 ghost use Rattle.ame_store.specs.Cells.{CanGrow};
 
-use crate::cases::sample::{Kept, Sample};
-use crate::cases::stores::{State, state};
 use Step::*;
 use ame_rows::{Memory, WriteAnswer};
 use ame_store::Store;
@@ -51,6 +49,9 @@ enum Told {
     Count(usize),
     More(bool),
 }
+
+/// A cell's value, number and owner, and whether it is live.
+type State = (i64, u64, Option<u32>, bool);
 
 /// Calls in a row, each with a seat and a location, what it tells, and the cell there afterwards.
 const STEPS: &[(u32, u32, Step, Told, Option<State>)] = &[
@@ -114,7 +115,7 @@ const STEPS: &[(u32, u32, Step, Told, Option<State>)] = &[
 ];
 
 /// Whether each cell's number is far from the last one.
-fn may_grow<V>(memory: &Memory<V>) -> bool
+fn may_grow(memory: &Memory<i64>) -> bool
     ensures { IsTrue result → All CanGrow memory.now.cells }
 {
     let cells = memory.cells();
@@ -127,7 +128,7 @@ fn may_grow<V>(memory: &Memory<V>) -> bool
 }
 
 /// A new cell that no seat owns.
-fn born<V: Sample>(memory: &mut Memory<V>, value: V) -> Result<Told, NoMemory> {
+fn born(memory: &mut Memory<i64>, value: i64) -> Result<Told, NoMemory> {
     if memory.cells().len() == u32::MAX {
         return Ok(Told::Unmet);
     }
@@ -136,12 +137,7 @@ fn born<V: Sample>(memory: &mut Memory<V>, value: V) -> Result<Told, NoMemory> {
 }
 
 /// A new cell of a seat.
-fn allocate<V: Sample>(
-    memory: &mut Memory<V>,
-    seat: u32,
-    value: V,
-    input: V,
-) -> Result<Told, NoMemory>
+fn allocate(memory: &mut Memory<i64>, seat: u32, value: i64, input: i64) -> Result<Told, NoMemory>
     requires { seat < length memory.old.rows }
 {
     if memory.cells().len() == u32::MAX {
@@ -152,46 +148,39 @@ fn allocate<V: Sample>(
 }
 
 /// A write by a seat.
-fn write<V: Sample>(
-    global: Global,
-    memory: &mut Memory<V>,
-    call: Call,
-    n: i64,
-) -> Result<Told, NoMemory>
+fn write(memory: &mut Memory<i64>, call: Call, n: i64) -> Result<Told, NoMemory>
     requires seat { call.seat < length memory.old.rows }
     requires location { call.l.0 < length memory.old.cells }
     requires can_grow { ForSome (slice_get memory.old.cells call.l.0) CanGrow }
 {
-    let value = V::of(global, n)?;
-    let input = V::of(global, 0)?;
-    match memory.write(call.seat, call.l, value, input)? {
+    match memory.write(call.seat, call.l, n, 0)? {
         WriteAnswer::Done => Ok(Told::Done),
-        WriteAnswer::Conflict(owner, back) => Ok(Told::Conflict(owner, back.number())),
+        WriteAnswer::Conflict(owner, back) => Ok(Told::Conflict(owner, back)),
     }
 }
 
 /// The committed value of a location.
-fn peek<V: Sample>(memory: &Memory<V>, l: Loc) -> Result<Told, NoMemory> {
+fn peek(memory: &Memory<i64>, l: Loc) -> Result<Told, NoMemory> {
     if memory.committed(l).is_none() {
         return Ok(Told::NotLive);
     }
     let value = memory.peek(l)?;
-    Ok(Told::Value(value.number()))
+    Ok(Told::Value(value))
 }
 
 /// A write of unprotected code, where no seat owns the cell.
-fn put<V: Sample>(memory: &mut Memory<V>, l: Loc, value: V) -> Told
+fn put(memory: &mut Memory<i64>, l: Loc, value: i64) -> Told
     requires location { l.0 < length memory.old.cells }
     requires can_grow { ForSome (slice_get memory.old.cells l.0) CanGrow }
 {
     if memory.cells().cell(l).owner.is_some() {
         return Told::Unmet;
     }
-    Told::Value(memory.put(l, value).number())
+    Told::Value(memory.put(l, value))
 }
 
 /// Whether there is a cell at the location, and its number is far from the last one.
-fn can_grow<V>(cells: &Store<V>, l: Loc) -> bool
+fn can_grow(cells: &Store<i64>, l: Loc) -> bool
     ensures location { IsTrue result → l.0 < length cells.now }
     ensures can_grow { IsTrue result → ForSome (slice_get cells.now l.0) CanGrow }
 {
@@ -199,22 +188,22 @@ fn can_grow<V>(cells: &Store<V>, l: Loc) -> bool
 }
 
 /// A call at a location, where what it needs holds.
-fn make_at<V: Sample>(global: Global, memory: &mut Memory<V>, call: Call) -> Result<Told, NoMemory>
+fn make_at(memory: &mut Memory<i64>, call: Call) -> Result<Told, NoMemory>
     requires { call.seat < length memory.old.rows }
 {
     if !can_grow(memory.cells(), call.l) {
         return Ok(Told::Unmet);
     }
     match call.step {
-        Step::Read => Ok(Told::Value(memory.read(call.seat, call.l)?.number())),
-        Step::Write(n) => write(global, memory, call, n),
-        Step::Put(n) => Ok(put(memory, call.l, V::of(global, n)?)),
+        Step::Read => Ok(Told::Value(memory.read(call.seat, call.l)?)),
+        Step::Write(n) => write(memory, call, n),
+        Step::Put(n) => Ok(put(memory, call.l, n)),
         _ => Ok(Told::Unmet),
     }
 }
 
 /// A call of a seat that is there.
-fn make_by<V: Sample>(global: Global, memory: &mut Memory<V>, call: Call) -> Result<Told, NoMemory>
+fn make_by(global: Global, memory: &mut Memory<i64>, call: Call) -> Result<Told, NoMemory>
     requires { call.seat < length memory.old.rows }
 {
     let seat = call.seat;
@@ -230,25 +219,34 @@ fn make_by<V: Sample>(global: Global, memory: &mut Memory<V>, call: Call) -> Res
             memory.release_all(seat);
             Ok(Told::Done)
         }
-        _ => make_at(global, memory, call),
+        _ => make_at(memory, call),
     }
 }
 
 /// Makes the call, where what it needs holds.
-fn make<V: Sample>(global: Global, memory: &mut Memory<V>, call: Call) -> Result<Told, NoMemory> {
+fn make(global: Global, memory: &mut Memory<i64>, call: Call) -> Result<Told, NoMemory> {
     if call.seat as usize >= memory.seats() {
         return Ok(Told::Unmet);
     }
     match call.step {
-        Step::Born(n) => born(memory, V::of(global, n)?),
-        Step::Allocate(n) => allocate(memory, call.seat, V::of(global, n)?, V::of(global, 0)?),
+        Step::Born(n) => born(memory, n),
+        Step::Allocate(n) => allocate(memory, call.seat, n, 0),
         Step::Peek => peek(memory, call.l),
         _ => make_by(global, memory, call),
     }
 }
 
+/// The cell at a location, where there is one.
+fn state(cells: &Store<i64>, l: Loc) -> Option<State> {
+    if l.0 >= cells.len() {
+        return None;
+    }
+    let cell = cells.cell(l);
+    Some((cell.value, cell.number, cell.owner, cell.live))
+}
+
 /// Makes the calls, and answers how many of them told and left what the table says.
-fn as_told<V: Sample>(global: Global, memory: &mut Memory<V>) -> Result<usize, NoMemory> {
+fn as_told(global: Global, memory: &mut Memory<i64>) -> Result<usize, NoMemory> {
     for (count, &(seat, l, step, told, after)) in STEPS.iter().enumerate() {
         let l = Loc(l);
         let call = Call { seat, l, step };
@@ -260,25 +258,10 @@ fn as_told<V: Sample>(global: Global, memory: &mut Memory<V>) -> Result<usize, N
 }
 
 #[test]
-fn two_seats_at_integers(rt: HostRuntime) -> Result<(), Fail> {
+fn two_seats_at_one_memory(rt: HostRuntime) -> Result<(), Fail> {
     let mut memory = Memory::<i64>::new(rt.alloc(), Store::new(rt.alloc()), 2)?;
     assert_eq!(rt; as_told(rt.alloc(), &mut memory)?, STEPS.len());
     let cells = memory.into_cells();
     assert_eq!(rt; state(&cells, Loc(0)), Some((14, 4, None, true)));
     Ok(())
-}
-
-#[test]
-fn two_seats_at_a_value_that_takes_memory(rt: HostRuntime) -> Result<(), Fail> {
-    let mut memory = Memory::<Kept>::new(rt.alloc(), Store::new(rt.alloc()), 2)?;
-    assert_eq!(rt; as_told(rt.alloc(), &mut memory)?, STEPS.len());
-    Ok(())
-}
-
-fn crosses_threads<T: Send>(_: &T) {}
-
-/// Whatever a shared memory holds, it may be sent where its values may.
-fn all_cross_threads<V: Send>(memory: &Memory<V>, answer: &WriteAnswer<V>) {
-    crosses_threads(memory);
-    crosses_threads(answer);
 }

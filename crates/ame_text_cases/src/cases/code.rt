@@ -127,11 +127,3 @@ fn texts_have_their_nodes(rt: HostRuntime) -> Result<(), Fail> {
     }
     Ok(())
 }
-
-#[test]
-fn code_crosses_threads(rt: HostRuntime) -> Result<(), Fail> {
-    is_shared(code_of(rt.alloc(), b"(print 1)")?);
-    Ok(())
-}
-
-fn is_shared<T: Send + Sync + Drop>(_code: T) {}

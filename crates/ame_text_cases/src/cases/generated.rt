@@ -1,6 +1,6 @@
-//! Generated texts.
+//! A generated text.
 
-use ame_gen::{Numbers, SEED_LIMIT, generate};
+use ame_gen::generate;
 use std::test::Fail;
 
 /// The text for seed 1 and two transfers, written by hand.
@@ -25,19 +25,4 @@ fn two_transfers(rt: HostRuntime) -> Result<(), Fail> {
     let text = generate(rt.alloc(), 1, 2)?;
     assert!(rt; text.as_slice() == SMALL);
     Ok(())
-}
-
-/// Each number is 75 times the one before and 74 more, modulo 65,537. The greatest seed is followed by itself.
-#[test]
-fn numbers_are_drawn_in_order(rt: HostRuntime) {
-    for (seed, drawn) in [
-        (0, [74, 5624, 28652]),
-        (1, [149, 11_249, 57_305]),
-        (SEED_LIMIT, [65_536, 65_536, 65_536]),
-    ] {
-        let mut numbers = Numbers::new(seed);
-        for number in drawn {
-            assert_eq!(rt; numbers.draw(), number);
-        }
-    }
 }

@@ -4,12 +4,11 @@ ghost use Rattle.std.specs.Prelude.{◌≡◌, ◌≤◌, length, Ok};
 ghost use Rattle.ame_lex.specs.Bytes.{max_text};
 ghost use Rattle.ame_lex.specs.Reading.{tokens_of};
 
-use ame_journal::{Entry, EntryKind};
 use ame_lex::{LexFault, Token, lex};
 use ame_parse::{ParseFault, parse};
-use ame_term::{Locs, NoMemory, Program};
+use ame_term::{NoMemory, Program};
 use ame_types::{TypesFail, check};
-use ame_why::{explain_bytes, explain_tokens, explain_types, input_of, journal_of};
+use ame_why::{explain_bytes, explain_tokens, explain_types};
 use std::alloc::Global;
 use std::test::Fail;
 
@@ -127,36 +126,5 @@ fn characters_and_long_lines_keep_the_caret_in_its_column(rt: HostRuntime) -> Re
     let shown =
         b"line 1, column 101:\n    ...xxxxxxxxxxxxxxxxxxxxxxxxxxxxxxxxxxxxxxxxxxxxxxxxxxxxxxxxxxxxxxxxxxxxxxxxxxxxxxxxxxxxxxxxxxxxxx...\n                                                                ^\n";
     assert!(rt; page.as_slice().starts_with(shown));
-    Ok(())
-}
-
-/// Two steps of unprotected code, the last of which was answered 6.
-fn answered(alloc: Global) -> Entry {
-    Entry {
-        kind: EntryKind::Free,
-        seat: 0,
-        number: 0,
-        steps: 2,
-        fresh: Locs::from_vec(Vec::new(alloc)),
-        answer: Some(6),
-    }
-}
-
-/// A journal of these entries and the program `unit`, as one text.
-fn input_of_unit(alloc: Global, entries: &[Entry]) -> Result<Vec<u8>, Fail> {
-    match journal_of(alloc, entries)? {
-        None => Err("no journal".into()),
-        Some(journal) => Ok(input_of(alloc, &journal, b"unit")?),
-    }
-}
-
-#[test]
-fn a_run_as_one_text(rt: HostRuntime) -> Result<(), Fail> {
-    let entries = vec![in rt.alloc(); answered(rt.alloc())]?;
-    let input = input_of_unit(rt.alloc(), &entries)?;
-    assert_eq!(rt;
-        input.as_slice(),
-        b"free 0 0 2 = 6\nprogram\nunit".as_slice()
-    );
     Ok(())
 }

@@ -1,9 +1,8 @@
 //! Texts and their canonical form, and what no text has.
 
 use crate::cases::texts::read;
-use ame_gen::generate;
-use ame_print::{print_program, print_term, print_ty};
-use ame_term::{Effect, Function, Loc, Name, Sort, Term, Ty, Value, boxed};
+use ame_print::{print_program, print_term};
+use ame_term::{Loc, Name, Term, Value};
 use std::alloc::Global;
 use std::test::Fail;
 
@@ -72,82 +71,13 @@ fn canonical_texts(rt: HostRuntime) -> Result<(), Fail> {
     Ok(())
 }
 
-/// The greatest generated program.
 #[test]
-fn printing_a_long_text_again_changes_nothing(rt: HostRuntime) -> Result<(), Fail> {
-    let text = generate(rt.alloc(), 7, 4000)?;
-    let once = reprinted(rt.alloc(), &text)?;
-    let twice = reprinted(rt.alloc(), &once)?;
-    assert!(rt; once.len() > 400_000);
-    assert!(rt; once == twice);
-    Ok(())
-}
-
-/// The function of no use, with this body.
-fn function(alloc: Global, body: Term) -> Result<Value, Fail> {
-    let function = Function {
-        effect: Effect::Either,
-        own: None,
-        param: Name(0),
-        param_ty: Ty::Unit,
-        body,
-    };
-    Ok(Value::Fun(boxed(alloc, function)?))
-}
-
-fn pair(alloc: Global, first: Value, second: Value) -> Result<Value, Fail> {
-    let first = boxed(alloc, first)?;
-    Ok(Value::Pair(first, boxed(alloc, second)?))
-}
-
-/// A function whose body is a location, and one whose body is a name that isn't known.
-fn functions(alloc: Global) -> Result<Value, Fail> {
-    let location = function(alloc, Term::Held(Value::Loc(Loc(3))))?;
-    pair(alloc, location, function(alloc, Term::Var(Name(7)))?)
-}
-
-/// A term as it is printed where only the name `x` is known.
-fn printed_term(alloc: Global, term: &Term) -> Result<Vec<u8>, Fail> {
-    let mut names = Vec::new(alloc);
-    names.push(Vec::from_slice(alloc, b"x")?)?;
-    Ok(print_term(alloc, names.as_slice(), term)?)
-}
-
-/// A pair of those functions and a number.
-fn functions_and_number(alloc: Global) -> Result<Term, Fail> {
-    Ok(Term::Held(pair(alloc, functions(alloc)?, Value::Int(-5))?))
-}
-
-#[test]
-fn values_of_a_run(rt: HostRuntime) -> Result<(), Fail> {
-    let term = functions_and_number(rt.alloc())?;
-    let text = printed_term(rt.alloc(), &term)?;
-    let expected = b"(pair (pair (fn a (x Unit) @3) (fn a (x Unit) ?7)) -5)";
-    assert_eq!(rt; text.as_slice(), expected.as_slice());
-    Ok(())
-}
-
-/// The type of protected references to truth values.
-fn reference_type(alloc: Global) -> Result<Ty, Fail> {
-    Ok(Ty::Ref(Sort::Protected, boxed(alloc, Ty::Bool)?))
-}
-
-/// The type of functions from unit to unit.
-fn function_type(alloc: Global) -> Result<Ty, Fail> {
-    let param = boxed(alloc, Ty::Unit)?;
-    Ok(Ty::Fun(Effect::Either, param, boxed(alloc, Ty::Unit)?))
-}
-
-/// The type of pairs of such a reference and such a function.
-fn pair_type(alloc: Global) -> Result<Ty, Fail> {
-    let first = boxed(alloc, reference_type(alloc)?)?;
-    Ok(Ty::Pair(first, boxed(alloc, function_type(alloc)?)?))
-}
-
-#[test]
-fn types(rt: HostRuntime) -> Result<(), Fail> {
-    let text = print_ty(rt.alloc(), &pair_type(rt.alloc())?)?;
-    let expected = b"(Pair (Ref p Bool) (Fun a Unit Unit))";
-    assert_eq!(rt; text.as_slice(), expected.as_slice());
+fn what_no_text_has(rt: HostRuntime) -> Result<(), Fail> {
+    let location = Term::Held(Value::Loc(Loc(3)));
+    let page = print_term(rt.alloc(), &[], &location)?;
+    assert_eq!(rt; page.as_slice(), b"@3".as_slice());
+    let unknown = Term::Var(Name(7));
+    let page = print_term(rt.alloc(), &[], &unknown)?;
+    assert_eq!(rt; page.as_slice(), b"?7".as_slice());
     Ok(())
 }

@@ -1,4 +1,5 @@
-//! Lists of words, with what they spell.
+//! Lines of words, with the commands that they spell.
+
 use ame_cli::{CliFail, Command, Options, read_words};
 use std::alloc::Global;
 use std::test::Fail;
@@ -11,8 +12,7 @@ const DEFAULTS: Options = Options {
 
 const FOUR_WORKERS: Options = Options {
     workers: 4,
-    turns: 1_000_000,
-    slice: 1_000,
+    ..DEFAULTS
 };
 
 const SHORT: Options = Options {
@@ -21,232 +21,189 @@ const SHORT: Options = Options {
     slice: 3,
 };
 
-fn read(alloc: Global, words: &[&str]) -> Result<Result<Command, CliFail>, Fail> {
-    let mut list = Vec::new(alloc);
-    for word in words {
-        list.push(String::from_str(alloc, word)?)?;
-    }
-    Ok(read_words(alloc, &list))
-}
-
-/// Whether this is answered to the words.
-fn is_read_as(
-    alloc: Global,
-    words: &[&str],
-    answer: Result<Command, CliFail>,
-) -> Result<bool, Fail> {
-    Ok(read(alloc, words)? == answer)
-}
-
-/// Words, and the workers, turns and slice that they spell.
-const RUNS: &[(&[&str], u32, u32, u32)] = &[
-    (&[], 1, 1_000_000, 1_000),
-    (&["run"], 1, 1_000_000, 1_000),
-    (&["run", "--workers", "2"], 2, 1_000_000, 1_000),
-    (&["run", "--workers=2"], 2, 1_000_000, 1_000),
-    (&["run", "--turns", "9"], 1, 9, 1_000),
-    (&["run", "--turns=9"], 1, 9, 1_000),
-    (&["run", "--slice", "7"], 1, 1_000_000, 7),
-    (&["run", "--slice=7"], 1, 1_000_000, 7),
-    (&["run", "--slice=007", "--turns", "9"], 1, 9, 7),
-    (&["run", "--turns", "9", "--slice=007"], 1, 9, 7),
-    (&["run", "--turns=9", "--workers", "3"], 3, 9, 1_000),
-    (&["run", "--workers=1", "--turns=1", "--slice=1"], 1, 1, 1),
+/// Words, with a space between two, and the command that they spell.
+const SPELLED: &[(&str, Command)] = &[
+    ("", Command::Run(DEFAULTS)),
+    ("run", Command::Run(DEFAULTS)),
     (
-        &["run", "--slice", "1", "--turns", "2", "--workers", "3"],
-        3,
-        2,
-        1,
+        "run --workers 2",
+        Command::Run(Options {
+            workers: 2,
+            ..DEFAULTS
+        }),
     ),
     (
-        &["run", "--turns", "2", "--slice=1", "--workers", "3"],
-        3,
-        2,
-        1,
+        "run --workers=2",
+        Command::Run(Options {
+            workers: 2,
+            ..DEFAULTS
+        }),
     ),
     (
-        &["run", "--workers", "3", "--slice", "1", "--turns=2"],
-        3,
-        2,
-        1,
+        "run --turns 9",
+        Command::Run(Options {
+            turns: 9,
+            ..DEFAULTS
+        }),
     ),
     (
-        &["run", "--workers=32", "--turns=4000000", "--slice=1000"],
-        32,
-        4_000_000,
-        1_000,
+        "run --turns=9",
+        Command::Run(Options {
+            turns: 9,
+            ..DEFAULTS
+        }),
     ),
-    (&["run", "--workers=0000000032"], 32, 1_000_000, 1_000),
-    (&["run", "--workers", "0000000001"], 1, 1_000_000, 1_000),
-    (&["run", "--turns", "0004000000"], 1, 4_000_000, 1_000),
-    (&["run", "--slice", "01"], 1, 1_000_000, 1),
+    (
+        "run --slice 7",
+        Command::Run(Options {
+            slice: 7,
+            ..DEFAULTS
+        }),
+    ),
+    (
+        "run --slice=7",
+        Command::Run(Options {
+            slice: 7,
+            ..DEFAULTS
+        }),
+    ),
+    (
+        "run --slice=007 --turns 9",
+        Command::Run(Options {
+            turns: 9,
+            slice: 7,
+            ..DEFAULTS
+        }),
+    ),
+    (
+        "run --turns 9 --slice=007",
+        Command::Run(Options {
+            turns: 9,
+            slice: 7,
+            ..DEFAULTS
+        }),
+    ),
+    (
+        "run --turns=9 --workers 3",
+        Command::Run(Options {
+            workers: 3,
+            turns: 9,
+            ..DEFAULTS
+        }),
+    ),
+    (
+        "run --workers=1 --turns=1 --slice=1",
+        Command::Run(Options {
+            turns: 1,
+            slice: 1,
+            ..DEFAULTS
+        }),
+    ),
+    (
+        "run --slice 1 --turns 2 --workers 3",
+        Command::Run(Options {
+            workers: 3,
+            turns: 2,
+            slice: 1,
+        }),
+    ),
+    (
+        "run --turns 2 --slice=1 --workers 3",
+        Command::Run(Options {
+            workers: 3,
+            turns: 2,
+            slice: 1,
+        }),
+    ),
+    (
+        "run --workers 3 --slice 1 --turns=2",
+        Command::Run(Options {
+            workers: 3,
+            turns: 2,
+            slice: 1,
+        }),
+    ),
+    (
+        "run --workers=32 --turns=4000000 --slice=1000",
+        Command::Run(Options {
+            workers: 32,
+            turns: 4_000_000,
+            ..DEFAULTS
+        }),
+    ),
+    (
+        "run --workers=0000000032",
+        Command::Run(Options {
+            workers: 32,
+            ..DEFAULTS
+        }),
+    ),
+    ("run --workers 0000000001", Command::Run(DEFAULTS)),
+    (
+        "run --turns 0004000000",
+        Command::Run(Options {
+            turns: 4_000_000,
+            ..DEFAULTS
+        }),
+    ),
+    (
+        "run --slice 01",
+        Command::Run(Options {
+            slice: 1,
+            ..DEFAULTS
+        }),
+    ),
+    ("bench 1 2", Command::Bench(1, 2, DEFAULTS)),
+    ("bench --workers 4 1 2", Command::Bench(1, 2, FOUR_WORKERS)),
+    ("bench 1 --workers 4 2", Command::Bench(1, 2, FOUR_WORKERS)),
+    ("bench 1 2 --workers 4", Command::Bench(1, 2, FOUR_WORKERS)),
+    ("bench --workers=4 1 2", Command::Bench(1, 2, FOUR_WORKERS)),
+    ("bench 1 --workers=4 2", Command::Bench(1, 2, FOUR_WORKERS)),
+    ("bench 1 2 --workers=4", Command::Bench(1, 2, FOUR_WORKERS)),
+    ("bench 2 1", Command::Bench(2, 1, DEFAULTS)),
+    ("bench 65536 4000", Command::Bench(65_536, 4_000, DEFAULTS)),
+    ("bench 0 1", Command::Bench(0, 1, DEFAULTS)),
+    ("bench 00001 0000000002", Command::Bench(1, 2, DEFAULTS)),
+    ("bench --slice 3 4 --turns=2 5", Command::Bench(4, 5, SHORT)),
+    (
+        "bench --workers 1 --turns 2 --slice 3 4 5",
+        Command::Bench(4, 5, SHORT),
+    ),
+    (
+        "bench 4 5 --slice=3 --turns=2 --workers=1",
+        Command::Bench(4, 5, SHORT),
+    ),
+    ("sim 1", Command::Sim(1, DEFAULTS)),
+    ("sim 65536 --workers=4", Command::Sim(65_536, FOUR_WORKERS)),
+    ("sim --workers 4 0", Command::Sim(0, FOUR_WORKERS)),
+    ("sim --slice 3 009 --turns=2", Command::Sim(9, SHORT)),
+    ("replay", Command::Replay(DEFAULTS)),
+    ("replay --workers 4", Command::Replay(FOUR_WORKERS)),
+    ("replay --slice=3 --turns 2", Command::Replay(SHORT)),
+    ("resume", Command::Resume(DEFAULTS)),
+    ("resume --workers=4", Command::Resume(FOUR_WORKERS)),
+    ("resume --turns 2 --slice 3", Command::Resume(SHORT)),
+    ("weak 1", Command::Weak(1, 1_000_000)),
+    ("weak --turns 2 65536", Command::Weak(65_536, 2)),
+    ("weak 0 --turns=4000000", Command::Weak(0, 4_000_000)),
+    ("check", Command::Check),
 ];
 
-#[test]
-fn run_with_its_options(rt: HostRuntime) -> Result<(), Fail> {
-    for &(words, workers, turns, slice) in RUNS {
-        let options = Options {
-            workers,
-            turns,
-            slice,
-        };
-        assert!(rt;
-            is_read_as(rt.alloc(), words, Ok(Command::Run(options)))?,
-            "{words:?}"
-        );
+/// What is read from the words of a line.
+fn read(alloc: Global, line: &str) -> Result<Result<Command, CliFail>, Fail> {
+    let mut words = Vec::new(alloc);
+    for word in line.split(' ') {
+        if !word.is_empty() {
+            words.push(String::from_str(alloc, word)?)?;
+        }
     }
-    Ok(())
-}
-
-/// Words, with the seed, the size and the options that they spell.
-const BENCHES: &[(&[&str], u32, u32, Options)] = &[
-    (&["bench", "1", "2"], 1, 2, DEFAULTS),
-    (&["bench", "--workers", "4", "1", "2"], 1, 2, FOUR_WORKERS),
-    (&["bench", "1", "--workers", "4", "2"], 1, 2, FOUR_WORKERS),
-    (&["bench", "1", "2", "--workers", "4"], 1, 2, FOUR_WORKERS),
-    (&["bench", "--workers=4", "1", "2"], 1, 2, FOUR_WORKERS),
-    (&["bench", "1", "--workers=4", "2"], 1, 2, FOUR_WORKERS),
-    (&["bench", "1", "2", "--workers=4"], 1, 2, FOUR_WORKERS),
-    (&["bench", "2", "1"], 2, 1, DEFAULTS),
-    (&["bench", "65536", "4000"], 65_536, 4_000, DEFAULTS),
-    (&["bench", "0", "1"], 0, 1, DEFAULTS),
-    (&["bench", "00001", "0000000002"], 1, 2, DEFAULTS),
-    (
-        &["bench", "--slice", "3", "4", "--turns=2", "5"],
-        4,
-        5,
-        SHORT,
-    ),
-    (
-        &[
-            "bench",
-            "--workers",
-            "1",
-            "--turns",
-            "2",
-            "--slice",
-            "3",
-            "4",
-            "5",
-        ],
-        4,
-        5,
-        SHORT,
-    ),
-    (
-        &["bench", "4", "5", "--slice=3", "--turns=2", "--workers=1"],
-        4,
-        5,
-        SHORT,
-    ),
-];
-
-#[test]
-fn bench_with_its_numbers_in_any_places(rt: HostRuntime) -> Result<(), Fail> {
-    for &(words, seed, size, options) in BENCHES {
-        let command = Command::Bench(seed, size, options);
-        assert!(rt; is_read_as(rt.alloc(), words, Ok(command))?, "{words:?}");
-    }
-    Ok(())
-}
-
-/// Words, with the seed and the options that they spell.
-const SIMS: &[(&[&str], u32, Options)] = &[
-    (&["sim", "1"], 1, DEFAULTS),
-    (&["sim", "65536", "--workers=4"], 65_536, FOUR_WORKERS),
-    (&["sim", "--workers", "4", "0"], 0, FOUR_WORKERS),
-    (&["sim", "--slice", "3", "009", "--turns=2"], 9, SHORT),
-];
-
-#[test]
-fn sim_with_its_seed_in_any_place(rt: HostRuntime) -> Result<(), Fail> {
-    for &(words, seed, options) in SIMS {
-        let command = Command::Sim(seed, options);
-        assert!(rt; is_read_as(rt.alloc(), words, Ok(command))?, "{words:?}");
-    }
-    Ok(())
-}
-
-/// Words, with the options that they spell.
-const REPLAYS: &[(&[&str], Options)] = &[
-    (&["replay"], DEFAULTS),
-    (&["replay", "--workers", "4"], FOUR_WORKERS),
-    (&["replay", "--slice=3", "--turns", "2"], SHORT),
-];
-
-#[test]
-fn replay_with_its_options(rt: HostRuntime) -> Result<(), Fail> {
-    for &(words, options) in REPLAYS {
-        let command = Command::Replay(options);
-        assert!(rt; is_read_as(rt.alloc(), words, Ok(command))?, "{words:?}");
-    }
-    Ok(())
-}
-
-/// Words, with the options that they spell.
-const RESUMES: &[(&[&str], Options)] = &[
-    (&["resume"], DEFAULTS),
-    (&["resume", "--workers=4"], FOUR_WORKERS),
-    (&["resume", "--turns", "2", "--slice", "3"], SHORT),
-];
-
-#[test]
-fn resume_with_its_options(rt: HostRuntime) -> Result<(), Fail> {
-    for &(words, options) in RESUMES {
-        let command = Command::Resume(options);
-        assert!(rt; is_read_as(rt.alloc(), words, Ok(command))?, "{words:?}");
-    }
-    assert!(rt; is_read_as(rt.alloc(), &["resume", "1"], Err(CliFail::Usage))?);
-    Ok(())
-}
-
-/// Words, with the seed and the turns that they spell.
-const WEAKS: &[(&[&str], u32, u32)] = &[
-    (&["weak", "1"], 1, 1_000_000),
-    (&["weak", "--turns", "2", "65536"], 65_536, 2),
-    (&["weak", "0", "--turns=4000000"], 0, 4_000_000),
-];
-
-#[test]
-fn weak_with_its_turns(rt: HostRuntime) -> Result<(), Fail> {
-    for &(words, seed, turns) in WEAKS {
-        let command = Command::Weak(seed, turns);
-        assert!(rt; is_read_as(rt.alloc(), words, Ok(command))?, "{words:?}");
-    }
-    let none: &[&[&str]] = &[
-        &["weak"],
-        &["weak", "65537"],
-        &["weak", "1", "2"],
-        &["weak", "1", "--workers", "2"],
-        &["weak", "1", "--slice=1"],
-        &["weak", "1", "--turns", "0"],
-        &["weak", "1", "--turns", "1", "--turns", "1"],
-    ];
-    for words in none {
-        assert!(rt;
-            is_read_as(rt.alloc(), words, Err(CliFail::Usage))?,
-            "{words:?}"
-        );
-    }
-    Ok(())
+    Ok(read_words(alloc, &words))
 }
 
 #[test]
-fn check_stands_alone(rt: HostRuntime) -> Result<(), Fail> {
-    assert!(rt; is_read_as(rt.alloc(), &["check"], Ok(Command::Check))?);
-    let more: &[&[&str]] = &[
-        &["check", "1"],
-        &["check", "--workers", "2"],
-        &["check", "--turns=2"],
-        &["check", "check"],
-        &["Check"],
-        &["checks"],
-    ];
-    for &words in more {
-        assert!(rt;
-            is_read_as(rt.alloc(), words, Err(CliFail::Usage))?,
-            "{words:?}"
-        );
+fn words_spell_commands(rt: HostRuntime) -> Result<(), Fail> {
+    for &(line, command) in SPELLED {
+        assert!(rt; read(rt.alloc(), line)? == Ok(command), "{line}");
     }
     Ok(())
 }

@@ -4,4 +4,4 @@ use Rattle.ame_store.specs.Cells.{CanGrow}
 use Rattle.ame_engine_cases.proofs.cases.memories.may_grow.Given as goal
 
 abbrev pub invariant-loop-l : goal.invariant-loop-l
-invariant-loop-l g l = All CanGrow (take l.l l.cells)
+invariant-loop-l l = All CanGrow (take l.l l.cells)

@@ -1,6 +1,6 @@
 //! The lines of a small program's entries.
 
-use crate::texts::read;
+use crate::cases::texts::read;
 use ame_journal::Journal;
 use ame_why::lines_of;
 use std::alloc::Global;
@@ -13,25 +13,22 @@ const JOURNAL: &[u8] = b"ran 0 0 2\nran 0 1 1\nfree 0 0 2\nran 0 0 2\n";
 const LINES: &[&[i64]] = &[&[], &[2], &[3], &[1]];
 
 /// The lines of each entry of a journal of the program.
-fn told(alloc: Global, journal: &Journal) -> Result<Option<Vec<Vec<i64>>>, Fail> {
+fn told(alloc: Global, journal: &[u8]) -> Result<Option<Vec<Vec<i64>>>, Fail> {
+    let journal = Journal::from_text(alloc, journal).map_err(|_| "a journal")?;
     let program = read(alloc, PROGRAM)?;
     Ok(lines_of(alloc, program.term, journal.entries())?)
 }
 
 #[test]
 fn each_entry_has_its_lines(rt: HostRuntime) -> Result<(), Fail> {
-    let journal = Journal::from_text(rt.alloc(), JOURNAL).map_err(|_| "a journal")?;
-    let lines = told(rt.alloc(), &journal)?.ok_or("a run")?;
-    assert_eq!(rt; lines.len(), 4);
+    let lines = told(rt.alloc(), JOURNAL)?.ok_or("a run")?;
+    assert_eq!(rt; lines.len(), LINES.len());
     for (line, expected) in lines.iter().zip(LINES) {
         assert_eq!(rt; line.as_slice(), *expected);
     }
-    Ok(())
-}
-
-#[test]
-fn a_journal_of_another_program_has_none(rt: HostRuntime) -> Result<(), Fail> {
-    let journal = Journal::from_text(rt.alloc(), b"ran 0 0 9\n").map_err(|_| "a journal")?;
-    assert!(rt; told(rt.alloc(), &journal)?.is_none());
+    assert!(rt;
+        told(rt.alloc(), b"ran 0 0 9\n")?.is_none(),
+        "a journal of another program"
+    );
     Ok(())
 }

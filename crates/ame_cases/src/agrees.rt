@@ -1,0 +1,89 @@
+//! Whether a run left what its journal comes to on the strong semantics as a program.
+
+use crate::device::Boxed;
+use crate::fault::Fault;
+use crate::replay::replayed;
+use crate::told::CaseReport;
+use ame_app::Status;
+use ame_code::Code;
+use ame_device::Device;
+use ame_engine::Ended;
+use ame_journal::{Entry, EntryKind};
+use ame_store::Store;
+use ame_strong::StrongState;
+use ame_term::{Loc, Value, copy_term};
+use ame_value::Val;
+use std::alloc::Global;
+
+/// Whether a run's journal can be made, and the run left the output, the integers in the cells and the members to which it leads. The devices
+/// heard as many calls as it tells. A note of a value that is too high isn't replayed.
+pub fn agrees(
+    alloc: Global,
+    report: &CaseReport,
+    code: &Code,
+    ended: &Ended<Val>,
+) -> Result<bool, Fault> {
+    let program = copy_term(alloc, &code.accepted().program.term)?;
+    let entries = without_tall(report.journal());
+    match replayed(alloc, program, report.base(), entries)? {
+        Some(state) => Ok(
+            state.output() == ended.output()
+                && are_same_cells(ended.store(), &state)
+                && are_left(&report.status, state.pool_len() as u64)
+                && answers_told(entries) == calls_heard(&report.devices),
+        ),
+        None => Ok(false),
+    }
+}
+
+/// The entries before a last note of a value that is too high.
+fn without_tall(entries: &[Entry]) -> &[Entry] {
+    match entries.split_last() {
+        Some((last, before)) if last.kind == EntryKind::Tall => before,
+        _ => entries,
+    }
+}
+
+/// Whether each live cell with an integer has it in the state as well, and no other cell is live.
+fn are_same_cells(store: &Store<Val>, state: &StrongState) -> bool {
+    for location in 0..store.len() {
+        let cell = store.cell(Loc(location));
+        let is_same = match (cell.live, &cell.value, state.stored(Loc(location))) {
+            (false, _, None) => true,
+            (true, Val::Int(here), Some(Value::Int(there))) => *here == *there,
+            (true, Val::Int(_), _) => false,
+            (is_live, _, found) => is_live == found.is_some(),
+        };
+        if !is_same {
+            return false;
+        }
+    }
+    true
+}
+
+/// Whether so many members may be left where a call ended so.
+fn are_left(status: &Status, members: u64) -> bool {
+    match status {
+        Status::Finished => members == 0,
+        Status::Blocked(blocked) => members > 0 && *blocked == members,
+        Status::Spent | Status::Tall(_) => members > 0,
+        _ => true,
+    }
+}
+
+/// How many answers of devices entries tell.
+fn answers_told(entries: &[Entry]) -> usize {
+    entries
+        .iter()
+        .filter(|entry| entry.answer.is_some())
+        .count()
+}
+
+/// How many calls devices answered.
+fn calls_heard(devices: &[Boxed]) -> usize {
+    let mut calls = 0usize;
+    for device in devices {
+        calls = calls.saturating_add(device.heard().unwrap_or(&[]).len());
+    }
+    calls
+}

@@ -1,4 +1,0 @@
-use Rattle.ame_machine_cases.proofs.weak_programs.+put_form.Given as goal
-
-abbrev pub decreases-put_form : goal.decreases-put_form
-decreases-put_form l = l.depth

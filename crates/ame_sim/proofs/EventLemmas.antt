@@ -28,7 +28,7 @@ use Rattle.ame_turn.specs.Deeds.{IsDeedOf, IsMade}
 use Rattle.ame_turn.proofs.DeedRows.{rowed}
 use Rattle.ame_sim.specs.declared.made.Made.{Made}
 use Rattle.ame_sim.specs.Crew.{lacking}
-use Rattle.ame_sim.specs.Events.{AreHalts, AreEventsOfPicks, IsRun}
+use Rattle.ame_sim.specs.Events.{AreHalts, AreEventsOfPicks, IsRunOfPicks}
 use Rattle.ame_sim.specs.Picks.{is_waited}
 use Rattle.ame_sim.specs.Played.{HasPlayed, Plays}
 use Rattle.ame_sim.proofs.TurnLemmas.{stopped-met}
@@ -169,7 +169,7 @@ module _ {C V M : Type 0} (meaning : Meaning C V M) where
 
     -- where no stop is kept there was no halt
     run-lacks : (run : HasRun mades first last plays) → last.core.stop ≡ None → now ≡ lacking last → run.halts ≡ []
-        → IsRun meaning opening mades first last now plays
+        → IsRunOfPicks meaning opening mades first last now plays
     run-lacks run going is none =
         let all : Follows (state first) run.events (state last) =
         subst (λ (es : List Event). Follows (state first) es (state last)) (ap (λ (hs : List Event). run.events ++ hs) none ∙ append-nil run.events) run.follows in
@@ -184,11 +184,11 @@ module _ {C V M : Type 0} (meaning : Meaning C V M) where
               (follows-then run.events (Event.Halt Stop.NoMemory ∷ []) (state first) (state last) (state now) all (halts.may, ap state is ∙ halts.state));
         }
 
-    pub picks-run : (now ≡ last) ⊎ ((last.core.stop ≡ None) × (now ≡ lacking last)) → IsRun meaning opening mades first last now plays
+    pub picks-run : (now ≡ last) ⊎ ((last.core.stop ≡ None) × (now ≡ lacking last)) → IsRunOfPicks meaning opening mades first last now plays
     picks-run ends = by (plays-run mades first last plays sound) ends
       where
         halted : (run : HasRun mades first last plays) → last.core.stop ≡ None → now ≡ lacking last → AreHalts run.halts
-            → IsRun meaning opening mades first last now plays
+            → IsRunOfPicks meaning opening mades first last now plays
         halted run going is (inl none) = run-lacks run going is none
         halted run going is (inr halt) =
             absurd (some-none last.core.stop halt.0
@@ -196,7 +196,7 @@ module _ {C V M : Type 0} (meaning : Meaning C V M) where
             (subst (λ (hs : List Event). Follows (state first) (run.events ++ hs) (state last)) halt.2 run.follows)) going)
 
         by : (run : HasRun mades first last plays) → (now ≡ last) ⊎ ((last.core.stop ≡ None) × (now ≡ lacking last))
-            → IsRun meaning opening mades first last now plays
+            → IsRunOfPicks meaning opening mades first last now plays
         by run (inl same) = record {
           events = run.events;
           its = run.its;

@@ -11,7 +11,7 @@ use Rattle.ame_sim.specs.declared.made.Made.{Made}
 use Rattle.ame_sim.specs.Picks.{is_waited}
 use Rattle.ame_sim.specs.Places.{member_told, place_wanted, place_told}
 use Rattle.ame_sim.specs.Played.{HasPlayed}
-use Rattle.ame_sim.specs.Woven.{IsPlain, waited_at}
+use Rattle.ame_sim.specs.Woven.{WaitsPlainly, waited_at}
 use Rattle.ame_sim.proofs.TurnLemmas.{turn-waits}
 
 waited-is : (deed : Deed) → is_waited deed ≡ true → deed ≡ Deed.Waited
@@ -25,7 +25,7 @@ made-is seat member place deed nobody waits nowhere =
     ∙ ap (λ (d : Deed). let made : Made = record { seat = seat; member = None; deed = d; place = place } in made) waits
     ∙ ap (λ (p : Option ℕ). let made : Made = record { seat = seat; member = None; deed = Deed.Waited; place = p } in made) nowhere
 
-pub played-plain : {C V M : Type 0} (meaning : Meaning C V M) (made : Made) (old new : ShellView C V M) → HasPlayed meaning made old new → IsPlain made
+pub played-plain : {C V M : Type 0} (meaning : Meaning C V M) (made : Made) (old new : ShellView C V M) → HasPlayed meaning made old new → WaitsPlainly made
 played-plain {C} {V} {M} meaning made old new p waits =
     let w = turn-waits meaning made.seat p.hand old new made.deed p.turned waits in
     let deed = waited-is made.deed waits in

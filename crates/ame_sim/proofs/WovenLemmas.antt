@@ -6,7 +6,7 @@ use Rattle.ame_sim.specs.declared.made.Made.{Made}
 use Rattle.ame_sim.specs.declared.picked.Picked.{Picked}
 use Rattle.ame_sim.specs.Questions.{turns_of}
 use Rattle.ame_sim.specs.Picks.{is_waited, picked_by, picks_of}
-use Rattle.ame_sim.specs.Woven.{waited_at, woven, AreOfPicks, IsPlain}
+use Rattle.ame_sim.specs.Woven.{waited_at, woven, AreOfPicks, WaitsPlainly}
 
 -- what a pick in front did that waited
 woven-waited : (seat : ℕ) (picks : List Picked) (mades : List Made)
@@ -71,7 +71,7 @@ module _ (picks more : List Picked) (mades : List Made) (made : Made) (waited : 
   one-more : picks ++ picked_by made ∷ [] ≡ more
   one-more = ap (λ (w : Bool). picks ++ record { seat = made.seat; waited = w } ∷ []) (sym is) ∙ sym pushed
 
-  pub grown-waited : IsPlain made → waited ≡ true → HasGrown picks mades made more mades
+  pub grown-waited : WaitsPlainly made → waited ≡ true → HasGrown picks mades made more mades
   grown-waited plain waits =
       let told : is_waited made.deed ≡ true = sym is ∙ waits in
       let one : woven (picked_by made ∷ []) [] ≡ made ∷ [] =

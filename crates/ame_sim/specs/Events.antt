@@ -37,7 +37,7 @@ module _ {C V M : Type 0} (meaning : Meaning C V M) where
 
   -- The events of a run follow one another from the start of the program: those of its picks, in order, and at the end a halt where
   -- the sink failed or memory was lacking.
-  pub record IsRun (opening : Opening C) (mades : List Made) (first last now : ShellView C V M) (plays : Plays meaning mades first last) : Type 0 where
+  pub record IsRunOfPicks (opening : Opening C) (mades : List Made) (first last now : ShellView C V M) (plays : Plays meaning mades first last) : Type 0 where
     pub events : List Event
     pub its : AreEventsOfPicks mades first last plays events
     pub halts : List Event

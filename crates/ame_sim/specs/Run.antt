@@ -8,7 +8,7 @@ use Rattle.ame_engine.specs.Makes.{state_of}
 use Rattle.ame_shell.specs.Shell.{Opening, ShellView, IsShell}
 use Rattle.ame_sim.specs.declared.made.Made.{Made}
 use Rattle.ame_sim.specs.Crew.{lacking}
-use Rattle.ame_sim.specs.Events.{IsRun}
+use Rattle.ame_sim.specs.Events.{IsRunOfPicks}
 use Rattle.ame_sim.specs.Picks.{picks_of}
 use Rattle.ame_sim.specs.Played.{Plays}
 use Rattle.ame_machine.specs.Meaning.{Meaning}
@@ -51,7 +51,7 @@ module _ {C V M : Type 0} (meaning : Meaning C V M) where
     pub fresh : state_of meaning first.core ≡ started_state (meaning.program opening.code) (meaning.devices opening.code) opening.limits
     pub now : ShellView C V M
     pub playing : IsPlaying opening.limits.seats first now mades
-    pub run : IsRun meaning opening mades first playing.last now playing.plays
+    pub run : IsRunOfPicks meaning opening mades first playing.last now playing.plays
     pub stopped : IsSome now.core.stop
     pub stop : end.stop ≡ now.core.stop
     pub turns : end.turns ≡ now.core.turns

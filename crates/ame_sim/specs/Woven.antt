@@ -22,8 +22,8 @@ pub record AreOfPicks (picks : List Picked) (mades : List Made) : Type 0 where
   pub all : turns_of picks ≡ length mades
 
 -- who waited did nothing else
-abbrev pub IsPlain : Made → Type 0
-IsPlain made = is_waited made.deed ≡ true → made ≡ waited_at made.seat
+abbrev pub WaitsPlainly : Made → Type 0
+WaitsPlainly made = is_waited made.deed ≡ true → made ≡ waited_at made.seat
 
 -- a list of mades, and whether there is room for one more, whatever it is
 pub record MadesView : Type 0 where

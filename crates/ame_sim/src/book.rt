@@ -3,7 +3,7 @@
 ghost use Rattle.std.specs.Prelude.{◌≡◌, ◌<◌, ◌++◌, ◌∷◌, [], false, true, length, IfOk, OnOk, replicate};
 ghost use Rattle.ame_sim.specs.Questions.{waits_after};
 ghost use Rattle.ame_sim.specs.Picks.{picked_by};
-ghost use Rattle.ame_sim.specs.Woven.{IsPlain};
+ghost use Rattle.ame_sim.specs.Woven.{WaitsPlainly};
 
 use crate::made::Made;
 use crate::packed::{PackedMades, is_waited};
@@ -43,7 +43,7 @@ impl Book {
     pub fn note(&mut self, made: Made)
         requires room { self.old.mades.has_room ≡ true }
         requires byte { made.seat < 256 }
-        requires plain { IsPlain made }
+        requires plain { WaitsPlainly made }
         requires seat { made.seat < length self.old.waits }
         ensures waits { self.new.waits ≡ waits_after self.old.waits (picked_by made) }
         ensures noted { self.new.mades.items ≡ self.old.mades.items ++ made ∷ [] }

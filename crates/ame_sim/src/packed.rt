@@ -3,7 +3,7 @@
 ghost use Rattle.std.specs.Prelude.{◌≡◌, ◌<◌, ◌++◌, ◌∷◌, [], true, length, OnOk};
 ghost use Rattle.std.specs.Iterator.{YieldsFirst, item_count};
 ghost use Rattle.ame_sim.specs.Picks.{is_waited as has_waited, picks_of};
-ghost use Rattle.ame_sim.specs.Woven.{IsPlain, waited_at};
+ghost use Rattle.ame_sim.specs.Woven.{WaitsPlainly, waited_at};
 ghost use Rattle.ame_turn.specs.declared.work.Deed.{Deed as Done};
 
 use crate::made::Made;
@@ -79,7 +79,7 @@ impl PackedMades {
     pub(crate) fn push_reserved(&mut self, made: Made)
         requires room { self.old.has_room ≡ true }
         requires seat { made.seat < 256 }
-        requires plain { IsPlain made }
+        requires plain { WaitsPlainly made }
         ensures { self.new.items ≡ self.old.items ++ made ∷ [] }
     {
         let waited = is_waited(made.deed);

@@ -18,6 +18,7 @@ use Rattle.ame_check.specs.Shows.{ReplayView, ShowsMember, StandsForEntries}
 use Rattle.ame_check.specs.Walk.{steps_on, begun_on, StaysLow}
 use Rattle.ame_check.specs.Walked.{place_with, IsAtStep, RunsAlong}
 use Rattle.ame_check.specs.Entries.{BeginsSteps, MeetsTall, MeetsNoTall, is_confirmed}
+use Rattle.ame_check.specs.Standing.{StandsAt}
 use Rattle.ame_check.specs.Reasons.{MeetsReason, IsMet, entry_side, is_shut}
 use Rattle.ame_check.specs.declared.reason.Reason.{Reason}
 use Rattle.ame_check.specs.declared.reason.Reason.TheVariants as reason
@@ -29,7 +30,7 @@ use Rattle.ame_check.proofs.ReasonLemmas.{FailsBy, met-on, note-side, shut-apart
 use Rattle.ame_check.proofs.SortLemmas.{all-front}
 use Rattle.ame_check.proofs.WalkLemmas.{can-run}
 use Rattle.ame_check.proofs.RanLemmas.{undefined-there}
-use Rattle.ame_check.proofs.NoteLemmas.{note-undefined, stuck-standing, note-is, note-absent, note-answered, side-tall, none-made, settled-flag, meets-unbegun, meets-apart, meets-nobody, meets-low}
+use Rattle.ame_check.proofs.NoteLemmas.{attempt-is, note-undefined, stuck-standing, note-is, note-absent, note-answered, side-tall, none-made, settled-flag, meets-unbegun, meets-apart, meets-nobody, meets-low}
 use Rattle.ame_check.proofs.WantLemmas.{walked-low}
 use Rattle.ame_check.specs.declared.stored.Stored.{Stored}
 
@@ -182,6 +183,17 @@ module _ {C V M : Type 0} (meaning : Meaning C V M) (code : C) (accepted : IsAcc
 
             has-low : MeetsNoTall (meaning.program code) entries entry
             has-low = low-so (walked-low meaning code sound st.led.state entry.number entry.fresh place.cells later m (side_at entry.number st.led.state) entry.steps whole.0)
+
+            pub stands-there : StandsAt meaning code entries entry m next
+            stands-there = record {
+              led = st.led;
+              replayed = st.replayed;
+              now = whole.0.walking.going.now;
+              leads = attempt-is st.led.state entry.number entry.steps entry.fresh (meaning.stage code machine).term calm.idle term ∙ leads;
+              good = whole.0.walking.machine;
+              member = whole.0.walking.going.member;
+              wants = whole.2;
+            }
 
             pub noted-so : is_confirmed entry.kind next ≡ true → MeetsNoTall (meaning.program code) entries entry × StandsForEntries meaning code (entries ++ entry ∷ []) place
             noted-so so = (

@@ -6,3 +6,4 @@ pub mod Visit
 pub mod Judge
 pub mod Input
 pub mod Reasons
+pub mod Standing

@@ -22,3 +22,4 @@ pub mod JudgeLemmas
 pub mod OnceLemmas
 pub mod InputLemmas
 pub mod ReasonLemmas
+pub mod StandingLemmas

@@ -18,7 +18,7 @@ use Rattle.ame_check.specs.Shows.{ReplayView, ShowsMember, StandsForEntries}
 use Rattle.ame_check.specs.Walk.{steps_on, begun_on, StaysLow}
 use Rattle.ame_check.specs.Walked.{place_with, IsAtStep, RunsAlong}
 use Rattle.ame_check.specs.Entries.{BeginsSteps, MeetsTall, MeetsNoTall, is_confirmed}
-use Rattle.ame_check.specs.Standing.{StandsAt}
+use Rattle.ame_check.specs.Standing.{TellsReads, StandsAt}
 use Rattle.ame_check.specs.Reasons.{MeetsReason, IsMet, entry_side, is_shut}
 use Rattle.ame_check.specs.declared.reason.Reason.{Reason}
 use Rattle.ame_check.specs.declared.reason.Reason.TheVariants as reason
@@ -184,8 +184,9 @@ module _ {C V M : Type 0} (meaning : Meaning C V M) (code : C) (accepted : IsAcc
             has-low : MeetsNoTall (meaning.program code) entries entry
             has-low = low-so (walked-low meaning code sound st.led.state entry.number entry.fresh place.cells later m (side_at entry.number st.led.state) entry.steps whole.0)
 
-            pub stands-there : StandsAt meaning code entries entry m next
-            stands-there = record {
+            pub stands-there : (reads : List (ℕ × ℕ)) → TellsReads (side_at entry.number st.led.state) st.led.state entry.number entry.fresh entry.steps reads
+                → StandsAt meaning code entries entry m next reads
+            stands-there reads told = record {
               led = st.led;
               replayed = st.replayed;
               now = whole.0.walking.going.now;
@@ -193,6 +194,7 @@ module _ {C V M : Type 0} (meaning : Meaning C V M) (code : C) (accepted : IsAcc
               good = whole.0.walking.machine;
               member = whole.0.walking.going.member;
               wants = whole.2;
+              told = told;
             }
 
             pub noted-so : is_confirmed entry.kind next ≡ true → MeetsNoTall (meaning.program code) entries entry × StandsForEntries meaning code (entries ++ entry ∷ []) place

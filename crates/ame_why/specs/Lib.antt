@@ -22,3 +22,4 @@ pub mod EntryNumbers
 pub mod Ledger
 pub mod WeakOrder
 pub mod Orders
+pub mod Standings

@@ -1,4 +1,4 @@
-use Rattle.std.proofs.Common.{◌≡◌, map, sym, ◌∙◌, refl, subst, arith}
+use Rattle.std.proofs.Common.{map, subst, arith}
 use Rattle.ame_check.specs.Walked.{WalksAlong}
 use Rattle.ame_check.proofs.StandingLemmas.{watching-begins, watched-there, watched-few, watching-ends, watching-goes-on}
 use Rattle.ame_check.proofs.standing.watch.Goals as goal

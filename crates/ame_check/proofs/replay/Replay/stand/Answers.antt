@@ -1,4 +1,4 @@
-use Rattle.std.proofs.Common.{◌≡◌, ℕ, ◌≤◌, List, map, refl, sym, ap, ◌∙◌, subst, arith}
+use Rattle.std.proofs.Common.{◌≡◌, ℕ, ◌≤◌, List, map, sym, ap, ◌∙◌, subst, arith}
 use Rattle.ame_journal.specs.Replayed.{side_at}
 use Rattle.ame_journal.specs.Totals.{is_note}
 use Rattle.ame_journal.specs.declared.entry.EntryKind.{EntryKind}

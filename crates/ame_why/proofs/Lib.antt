@@ -11,3 +11,4 @@ pub mod LedgerLemmas
 pub mod OrderLemmas
 pub mod BinderLemmas
 pub mod StarterLemmas
+pub mod StandingsLemmas

@@ -73,7 +73,12 @@ where
     ghost use Rattle.ame_check.specs.Shows.{StandsForEntries};
 
     /// Where the member of a `Cut` note stands, on a copy of its machine; none where the note can't be made. Nothing changes.
-    pub fn stand(&self, alloc: Global, code: &M::Code, entry: &Entry) -> Result<Option<Standing<M>>, NoMemory>
+    pub fn stand(
+        &self,
+        alloc: Global,
+        code: &M::Code,
+        entry: &Entry,
+    ) -> Result<Option<Standing<M>>, NoMemory>
         requires kind { entry.now.kind ≡ EntryKind.Cut }
         requires stands { (entries : List Entry) × StandsForEntries M.meaning code.now entries
             (record { cells = self.now.cells.entries; members = self.now.members.entries; output = self.now.output.items; next = self.now.next }) }

@@ -18,7 +18,9 @@ use Rattle.ame_eval.specs.Places.{fragment_node, StandsAtForm}
 use Rattle.ame_eval.specs.declared.fragment.Fragment.{Fragment}
 use Rattle.ame_why.specs.declared.position.Position.{Position}
 use Rattle.ame_why.specs.Forms.{positions, tokens_or_none}
-use Rattle.ame_why.specs.Standings.{fragment_meaning, cut_note, read_line, standing_line, StandsThere, TellsStanding, TellEach, TellStandings}
+use Rattle.ame_why.specs.FragmentMeaning.{fragment_meaning}
+use Rattle.ame_why.specs.NodePlaces.{StandsThere}
+use Rattle.ame_why.specs.Standings.{cut_note, read_line, standing_line, TellsStanding, TellEach}
 
 module _ (text : Text) (code : FlatCode) (entries : List Entry) where
   -- what a walk of a note found, as the lines of its certificate

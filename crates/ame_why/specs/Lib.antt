@@ -22,4 +22,6 @@ pub mod EntryNumbers
 pub mod Ledger
 pub mod WeakOrder
 pub mod Orders
+pub mod FragmentMeaning
+pub mod NodePlaces
 pub mod Standings

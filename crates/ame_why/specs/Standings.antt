@@ -1,5 +1,5 @@
 -- Where the members stand that are left, where all are blocked, and what they read on the way.
-use Rattle.std.specs.Prelude.{◌≡◌, ℕ, List, [], ◌∷◌, ◌++◌, Option, Some, None, slice_get, option_and_then, codes, decimal}
+use Rattle.std.specs.Prelude.{◌≡◌, ℕ, List, [], ◌∷◌, ◌++◌, Option, Some, None, slice_get, codes, decimal}
 use Rattle.std.specs.List.{flat_map}
 use Rattle.ame_lex.specs.Bytes.{Text}
 use Rattle.ame_lex.specs.Reading.{tokens_of}
@@ -7,52 +7,25 @@ use Rattle.ame_term.specs.Maps.{at}
 use Rattle.ame_term.specs.declared.types.Unary.TheVariants as unary
 use Rattle.ame_journal.specs.declared.entry.Entry.{Entry}
 use Rattle.ame_journal.specs.declared.entry.EntryKind.{EntryKind}
-use Rattle.ame_machine.specs.Meaning.{Meaning}
 use Rattle.ame_machine.specs.declared.wants.Wants.TheVariants as wants
 use Rattle.ame_check.specs.Shows.{ReplayView, StandsForEntries}
 use Rattle.ame_check.specs.Standing.{StandsAt}
 use Rattle.ame_check.specs.declared.stored.Stored.{Stored}
 use Rattle.ame_protocol.specs.declared.certificate.Certificate.{Certificate}
 use Rattle.ame_code.specs.FlatCode.{FlatCode}
-use Rattle.ame_code.specs.Code.{program_of}
-use Rattle.ame_code.specs.ReadNumbers.{read_numbers}
-use Rattle.ame_code.specs.declared.node.NodeNo.{NodeNo}
 use Rattle.ame_value.specs.View.{flat_value}
 use Rattle.ame_value.specs.declared.val.Val.{Val}
-use Rattle.ame_eval.specs.Values.{value_meant, IsMadeValue}
-use Rattle.ame_eval.specs.Fragments.{stage_of, IsFragmentOf}
 use Rattle.ame_eval.specs.Places.{fragment_node, IsFormThere}
 use Rattle.ame_eval.specs.declared.fragment.Fragment.{Fragment}
 use Rattle.ame_why.specs.declared.position.Position.{Position}
-use Rattle.ame_why.specs.Forms.{position, position_words, positions, tokens_or_none}
+use Rattle.ame_why.specs.FragmentMeaning.{fragment_meaning}
+use Rattle.ame_why.specs.NodePlaces.{StandsThere}
+use Rattle.ame_why.specs.Forms.{position_words, positions, tokens_or_none}
 use Rattle.ame_why.specs.Stored.{held_words}
-
--- what code, values and fragments mean
-abbrev pub fragment_meaning : Meaning FlatCode Val Fragment
-fragment_meaning = record {
-  program = λ code. program_of code;
-  devices = λ code. code.accepted.devices;
-  is_value = λ code v. IsMadeValue code v;
-  value_of = λ code v. value_meant code v;
-  is_machine = λ code m. IsFragmentOf code m;
-  stage = λ code m. stage_of code m;
-}
 
 -- the steps of a certificate as a note
 abbrev pub cut_note : Certificate → Entry
 cut_note c = record { kind = EntryKind.Cut; seat = 0; number = c.number; steps = c.steps; fresh = c.fresh; answer = None }
-
--- the place in the program's text of the form of a node
-abbrev pub node_place : FlatCode → ℕ → Option ℕ
-node_place code n = option_and_then (slice_get code.accepted.program.places.items) (slice_get (read_numbers 0 (program_of code)) n)
-
--- a fragment stands at the form that is at this position of the text
-pub record StandsThere (text : Text) (code : FlatCode) (fragment : Fragment) (there : Position) : Type 0 where
-  pub node : NodeNo
-  pub stands : fragment_node fragment ≡ Some node
-  pub place : ℕ
-  pub placed : node_place code node.0 ≡ Some place
-  pub is : there ≡ position text place
 
 -- what a location holds that a member read, with the place of its `ref` form; nothing of one that the member made itself
 abbrev pub held_line : List Position → ℕ → Option (Stored Val) → List ℕ

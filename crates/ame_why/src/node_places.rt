@@ -5,7 +5,8 @@ ghost use Rattle.ame_code.specs.Code.{program_of};
 ghost use Rattle.ame_code.specs.ReadNumbers.{read_numbers};
 ghost use Rattle.ame_eval.specs.Fragments.{stage_of, IsFragmentOf};
 ghost use Rattle.ame_eval.specs.Places.{fragment_node, StandsAtForm};
-ghost use Rattle.ame_why.specs.Standings as spec;
+ghost use Rattle.ame_why.specs.NodePlaces as spec;
+ghost use Rattle.ame_why.specs.Forms.{position};
 
 use crate::{Position, position_of};
 use ame_code::{Code, NodeNo};
@@ -23,12 +24,23 @@ fn number_at(numbers: &[u32], place: u32) -> Option<u32>
 }
 
 /// The place of the form of a node, by the numbers of nodes in reading order.
-fn node_place(code: &Code, numbers: &[u32], node: NodeNo) -> Option<u32>
+pub(crate) fn node_place(code: &Code, numbers: &[u32], node: NodeNo) -> Option<u32>
     requires { numbers.now ≡ read_numbers 0 (program_of code.now) }
     ensures { result ≡ spec.node_place code.now node.0 }
 {
     let number = number_at(numbers, node.0)?;
     number_at(code.accepted().program.places.as_slice(), number)
+}
+
+/// The line and the column of a place, if it is in the text.
+pub(crate) fn position_in(text: &[u8], place: u32) -> Option<Position>
+    ensures { IfSome result (λ there. there ≡ position text.now place) }
+{
+    if place as usize <= text.len() {
+        Some(position_of(text, place as usize))
+    } else {
+        None
+    }
 }
 
 /// Where the form is at which a fragment stands, if it stands at one.
@@ -44,9 +56,5 @@ pub(crate) fn standing_position(
 {
     let node = fragment.place();
     let place = node_place(code, numbers, node?)?;
-    if place as usize <= text.len() {
-        Some(position_of(text, place as usize))
-    } else {
-        None
-    }
+    position_in(text, place)
 }

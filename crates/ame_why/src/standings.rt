@@ -9,7 +9,7 @@ ghost use Rattle.ame_code.specs.Code.{program_of};
 ghost use Rattle.ame_code.specs.ReadNumbers as numbering;
 ghost use Rattle.ame_why.specs.Forms.{positions, tokens_or_none};
 ghost use Rattle.ame_why.specs.Standings as spec;
-ghost use Rattle.ame_why.specs.Standings.{fragment_meaning};
+ghost use Rattle.ame_why.specs.FragmentMeaning.{fragment_meaning};
 
 use crate::Position;
 use crate::forms::positions_in;
@@ -38,9 +38,8 @@ pub fn standings_of(
     requires { length text.now ≤ max_text }
     ensures { IfOk result (λ told. IfSome told (λ page. spec.TellStandings text.now code.now entries.now certificates.now page.items)) }
 {
-    let replay: Replay<Fragment> = match Replay::along(alloc, code, entries) {
-        Ok(replay) => replay,
-        Err(_) => return Ok(None),
+    let Ok(replay) = Replay::<Fragment>::along(alloc, code, entries) else {
+        return Ok(None);
     };
     let numbers = read_numbers(alloc, &code.accepted().program.term)?;
     let forms = positions_in(alloc, text)?;

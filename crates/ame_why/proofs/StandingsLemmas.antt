@@ -1,5 +1,5 @@
 -- Certificates, one after another, with where their members stand.
-use Rattle.std.proofs.Common.{◌≡◌, ℕ, ◌+◌, ◌<◌, ◌≤◌, List, [], ◌∷◌, ◌++◌, length, get_or, take, Option, Some, IfSome, refl, sym, ap, ◌∙◌, subst, arith}
+use Rattle.std.proofs.Common.{◌≡◌, ℕ, ◌+◌, ◌<◌, ◌≤◌, List, [], ◌∷◌, ◌++◌, length, get_or, take, Option, Some, IfSome, refl, sym, ap, ◌∙◌, subst, arith, append_assoc}
 use Rattle.std.specs.List.{flat_map}
 use Rattle.std.proofs.lemmas.List.{take_more, take_all}
 use Rattle.ame_lex.specs.Bytes.{Text}
@@ -20,6 +20,7 @@ use Rattle.ame_why.specs.declared.position.Position.{Position}
 use Rattle.ame_why.specs.Forms.{positions, tokens_or_none}
 use Rattle.ame_why.specs.FragmentMeaning.{fragment_meaning}
 use Rattle.ame_why.specs.NodePlaces.{StandsThere}
+use Rattle.ame_why.specs.Begun.{IsStartedAt}
 use Rattle.ame_why.specs.Standings.{cut_note, read_line, standing_line, TellsStanding, TellEach}
 
 module _ (text : Text) (code : FlatCode) (entries : List Entry) where
@@ -27,10 +28,11 @@ module _ (text : Text) (code : FlatCode) (entries : List Entry) where
   pub tells-standing : (cells : List (ℕ × Stored Val)) (c : Certificate) (note : Entry) (fragment : Fragment) (want : Wants) (reads : List (ℕ × ℕ))
       → note ≡ cut_note c → want ≡ wants.Block → StandsAt fragment_meaning code entries note fragment want reads
       → (IsFragmentOf code fragment → StandsAtForm code (stage_of code fragment).want (fragment_node fragment))
+      → (started : Option Position) → IfSome started (IsStartedAt text code entries c.number)
       → (there : Position) → StandsThere text code fragment there → (part : List ℕ)
-      → part ≡ standing_line c there ++ flat_map (read_line (positions text (tokens_or_none (tokens_of text))) cells) reads
+      → part ≡ standing_line c started there ++ flat_map (read_line (positions text (tokens_or_none (tokens_of text))) cells) reads
       → TellsStanding text code entries cells c part
-  tells-standing cells c note fragment want reads as_note blocks stands form there shown part is =
+  tells-standing cells c note fragment want reads as_note blocks stands form started starts there shown part is =
       let there_stands : StandsAt fragment_meaning code entries (cut_note c) fragment wants.Block reads =
       subst (λ (w : Wants). StandsAt fragment_meaning code entries (cut_note c) fragment w reads) blocks
       (subst (λ (e : Entry). StandsAt fragment_meaning code entries e fragment want reads) as_note stands) in
@@ -39,6 +41,8 @@ module _ (text : Text) (code : FlatCode) (entries : List Entry) where
         reads = reads;
         stands = there_stands;
         form = subst (λ (w : Option Wants). StandsAtForm code w (fragment_node fragment)) there_stands.wants (form there_stands.good);
+        started = started;
+        starts = starts;
         there = there;
         shown = shown;
         is = is;
@@ -59,8 +63,17 @@ module _ (text : Text) (code : FlatCode) (entries : List Entry) where
 
     pub tell-ends : (i : ℕ) → length certificates ≤ i → (page : List ℕ) → TellEach text code entries cells (take i certificates) page
         → TellEach text code entries cells certificates page
-    tell-ends i past page told = subst (λ (cs : List Certificate). TellEach text code entries cells cs page) (take_all certificates i past) told
+    tell-ends i past page told = subst (λ (cs : List Certificate). TellEach text code entries cells cs page) (take_all i certificates past) told
 
 -- what is so of what is there
 pub told-some : {A : Type 0} (P : A → Type 0) (o : Option A) (x : A) → o ≡ Some x → IfSome o P → P x
 told-some P o x is h = subst (λ (z : Option _). IfSome z P) is h
+
+-- what is added in turn is added whole
+pub added-three : (old p q r a b c : List ℕ) → p ≡ old ++ a → q ≡ p ++ b → r ≡ q ++ c → r ≡ old ++ (a ++ b ++ c)
+added-three old p q r a b c e f g =
+    g ∙ ap (λ (xs : List ℕ). xs ++ c) (f ∙ ap (λ (xs : List ℕ). xs ++ b) e ∙ append_assoc old a b) ∙ append_assoc old (a ++ b) c
+
+pub added-four : (old p q r s a b c d : List ℕ) → p ≡ old ++ a → q ≡ p ++ b → r ≡ q ++ c → s ≡ r ++ d → s ≡ old ++ (a ++ b ++ c ++ d)
+added-four old p q r s a b c d e f g h =
+    h ∙ ap (λ (xs : List ℕ). xs ++ d) (added-three old p q r a b c e f g) ∙ append_assoc old (a ++ b ++ c) d

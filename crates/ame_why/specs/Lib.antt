@@ -24,4 +24,5 @@ pub mod WeakOrder
 pub mod Orders
 pub mod FragmentMeaning
 pub mod NodePlaces
+pub mod Begun
 pub mod Standings

@@ -1,6 +1,7 @@
 //! Why a text is refused, as a person reads it, and the journal of a run as text.
 #![tactic(auto)]
 
+mod begun;
 mod binders;
 mod bytes;
 mod caret;

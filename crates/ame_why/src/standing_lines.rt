@@ -114,12 +114,7 @@ fn append_held(
 
 /// Adds a location, and where its `ref` form is.
 #[tactic(auto, unfolding(crate::specs::Standings::made_words))]
-fn append_made(
-    page: &mut Vec<u8>,
-    forms: &[Position],
-    l: u32,
-    form: TyNo,
-) -> Result<(), NoMemory>
+fn append_made(page: &mut Vec<u8>, forms: &[Position], l: u32, form: TyNo) -> Result<(), NoMemory>
     ensures { OnOk result (page.new.items ≡ page.old.items ++ spec.made_words forms.now l form.0) }
 {
     append(page, b"  it read location ")?;

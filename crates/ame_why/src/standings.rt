@@ -49,8 +49,16 @@ pub fn standings_of(
     let mut page = Vec::new(alloc);
     for certificate in certificates {
         let started = started_position(text, code, &numbers, &begun, certificate.number);
-        let Some(part) =
-            part_of(alloc, text, code, &replay, &numbers, &forms, certificate, started)?
+        let Some(part) = part_of(
+            alloc,
+            text,
+            code,
+            &replay,
+            &numbers,
+            &forms,
+            certificate,
+            started,
+        )?
         else {
             return Ok(None);
         };

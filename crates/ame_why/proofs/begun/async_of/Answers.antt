@@ -1,4 +1,4 @@
-use Rattle.std.proofs.Common.{◌≡◌, ℕ, Some, sym, ap, ◌∙◌}
+use Rattle.std.proofs.Common.{ℕ, Some, sym, ap, ◌∙◌}
 use Rattle.ame_why.proofs.begun.async_of.Goals as goal
 
 pub returns-then-inner-body : goal.returns-then-inner-body

@@ -11,3 +11,5 @@ pub mod LedgerLemmas
 pub mod OrderLemmas
 pub mod BinderLemmas
 pub mod StarterLemmas
+pub mod BegunLemmas
+pub mod StandingsLemmas

@@ -22,3 +22,7 @@ pub mod EntryNumbers
 pub mod Ledger
 pub mod WeakOrder
 pub mod Orders
+pub mod FragmentMeaning
+pub mod NodePlaces
+pub mod Begun
+pub mod Standings

@@ -1,6 +1,7 @@
 //! Why a text is refused, as a person reads it, and the journal of a run as text.
 #![tactic(auto)]
 
+mod begun;
 mod binders;
 mod bytes;
 mod caret;
@@ -16,6 +17,7 @@ mod ledger;
 mod lines;
 mod marked;
 mod nexts;
+mod node_places;
 mod numbering;
 mod page;
 mod parts;
@@ -26,6 +28,8 @@ mod row;
 mod rule_pages;
 mod rules;
 mod spans;
+mod standing_lines;
+mod standings;
 mod starters;
 mod steps;
 mod stored;
@@ -51,6 +55,7 @@ pub use position::{Position, position_of};
 pub use printed::printed_of;
 pub use rule_pages::explain_rule;
 pub use rules::explain_types;
+pub use standings::standings_of;
 pub use starters::starters_of;
 pub use steps::steps_of;
 pub use stored::store_of;

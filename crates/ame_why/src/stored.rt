@@ -104,7 +104,7 @@ fn sort_column(sort: Sort) -> &'static [u8]
 
 /// The canonical text of a value, unless a function is in it.
 #[tactic(auto, unfolding(crate::specs::Stored::held_words))]
-fn held_text(alloc: Global, value: &Val) -> Result<Vec<u8>, NoMemory>
+pub(crate) fn held_text(alloc: Global, value: &Val) -> Result<Vec<u8>, NoMemory>
     ensures { IfOk result (λ words. words.items ≡ held_words (flat_value value.now)) }
 {
     match plain(alloc, value)? {

@@ -4,12 +4,14 @@ ghost use Rattle.std.specs.Prelude.{◌≤◌, vec_len};
 ghost use Rattle.ame_lex.specs.Bytes.{max_text};
 
 use crate::origin::Origin;
+use crate::views::entries_of;
 use ame_app::{Own, Report, StandardDevice, Status, TextFault};
 use ame_lex::LexFault;
 use ame_parse::ParseFault;
 use ame_term::NoMemory;
 use ame_why::{
-    explain_bytes, explain_entry, explain_line, explain_tokens, explain_types, heading_of, waits_of,
+    explain_bytes, explain_entry, explain_line, explain_tokens, explain_types, heading_of,
+    standings_of, waits_of,
 };
 use std::alloc::Global;
 
@@ -80,14 +82,31 @@ fn reason<K>(
     }
 }
 
-/// That nobody will go on, and after how many steps each fragment waits.
-fn blocked<K>(alloc: Global, report: &Report<K, StandardDevice>) -> Result<Vec<u8>, NoMemory> {
+/// That nobody will go on, and where each fragment waits.
+fn blocked<K>(alloc: Global, report: &Report<K, StandardDevice>) -> Result<Vec<u8>, NoMemory>
+    requires small { vec_len report.now.text ≤ max_text }
+{
     let mut page = Vec::from_slice(
         alloc,
         b"each fragment that is left waits for a condition that nobody will make true\n",
     )?;
-    page.extend_from_slice(&waits_of(alloc, report.blocked())?)?;
+    page.extend_from_slice(&waiting(alloc, report)?)?;
     Ok(page)
+}
+
+/// Where each fragment waits, and what it read; where that isn't found, behind how many steps.
+fn waiting<K>(alloc: Global, report: &Report<K, StandardDevice>) -> Result<Vec<u8>, NoMemory>
+    requires small { vec_len report.now.text ≤ max_text }
+{
+    let certificates = report.blocked();
+    if let Some(code) = &report.code {
+        let entries = entries_of(alloc, report)?;
+        let told = standings_of(alloc, &report.text, code, &entries, certificates)?;
+        if let Some(lines) = told {
+            return Ok(lines);
+        }
+    }
+    waits_of(alloc, certificates)
 }
 
 /// Which file can't be read, and why.

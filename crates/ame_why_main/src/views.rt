@@ -75,7 +75,7 @@ pub fn page_of<K>(
 }
 
 /// The entries of a whole run: those from which it went on, and those that it added.
-fn entries_of<K, D>(alloc: Global, report: &Report<K, D>) -> Result<Vec<Entry>, NoMemory> {
+pub fn entries_of<K, D>(alloc: Global, report: &Report<K, D>) -> Result<Vec<Entry>, NoMemory> {
     let mut entries = Vec::new(alloc);
     for entry in report.base() {
         push(&mut entries, entry.copy(alloc)?)?;

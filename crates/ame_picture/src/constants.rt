@@ -56,8 +56,7 @@ pub const KEYS: &[u8] = b"\
 <rect class=\"free\" x=\"350\" width=\"22\" height=\"14\" rx=\"3\"/><text x=\"378\" y=\"11\">unprotected</text>
 <rect class=\"crossed\" x=\"470\" width=\"22\" height=\"14\" rx=\"3\"/><text x=\"498\" y=\"11\">cut off, too high</text>
 <text y=\"34\">signs: r reads, w writes, + makes a location, o home again, x turns back, ? false condition, u undoes, - nothing to begin</text>
-<text y=\"50\">dotted: where a fragment goes on; grey: from the commit that started it, and green from the one that woke it;
-red: what was in the way, and dashed a read that is not valid; bars: who owns a location, hatched where undone</text>
+<text y=\"50\">dotted: goes on; grey: started by; green: woken by; red: in the way, dashed: a read that is not valid; bars: owners, hatched: undone</text>
 </g>
 ";
 

@@ -14,6 +14,9 @@ const LINES: &[&[i64]] = &[&[], &[2], &[3], &[1]];
 
 /// The lines of each entry of a journal of the program.
 fn told(alloc: Global, journal: &[u8]) -> Result<Option<Vec<Vec<i64>>>, Fail> {
+    if journal.len() > 10_000 {
+        return Err("too long".into());
+    }
     let journal = Journal::from_text(alloc, journal).map_err(|_| "a journal")?;
     let program = read(alloc, PROGRAM)?;
     Ok(lines_of(alloc, program.term, journal.entries())?)

@@ -2,7 +2,7 @@
 
 use crate::cases::texts::read;
 use ame_print::print_term;
-use ame_term::{Name, Split, Term, Value, refill, split, substitute};
+use ame_term::{Name, Program, Split, Term, Value, refill, split, substitute};
 use std::alloc::Global;
 use std::test::Fail;
 
@@ -93,9 +93,13 @@ fn redex_of(alloc: Global, text: &[u8]) -> Result<Vec<u8>, Fail> {
 
 /// A text with two in place of its redex.
 fn with_two(alloc: Global, text: &[u8]) -> Result<Vec<u8>, Fail> {
-    let mut program = read(alloc, text)?;
-    refill(&mut program.term, Term::Held(Value::Int(2)));
-    Ok(print_term(alloc, program.names.as_slice(), &program.term)?)
+    let Program {
+        names,
+        places: _,
+        mut term,
+    } = read(alloc, text)?;
+    refill(&mut term, Term::Held(Value::Int(2)));
+    Ok(print_term(alloc, names.as_slice(), &term)?)
 }
 
 #[test]

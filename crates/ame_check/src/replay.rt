@@ -17,7 +17,7 @@ ghost use Rattle.ame_check.specs.Shows.{ShowsMembers, Adopts};
 use crate::halt::Halt;
 use crate::reason::Reason;
 use crate::stored::Stored;
-use crate::visit::{Visited, visit};
+use crate::visit::Visited;
 use crate::walk::{Walked, run};
 use ame_journal::{Entry, EntryKind};
 use ame_machine::{Runner, Wants};
@@ -230,7 +230,7 @@ where
             return Ok(Made::Undefined(Reason::Outside));
         }
         let mut overlay = BTreeMap::new(alloc);
-        match visit(alloc, code, &self.cells, entry, &mut overlay, &mut machine)? {
+        match self.visit(alloc, code, entry, &mut overlay, &mut machine)? {
             Visited::Stays | Visited::Closes => {
                 self.keep(alloc, code, &mut overlay, &mut machine)?;
                 machine.settle();

@@ -39,38 +39,38 @@ fn note_read(reads: &mut BTreeMap<u32, u64>, want: Wants, made: u64) -> Result<(
     }
 }
 
-/// Makes fewer steps than so many, one after another, and tells what they read. None where they can't be made.
-fn watch<M: Runner>(
-    alloc: Global,
-    code: &M::Code,
-    cells: &BTreeMap<u32, Stored<M::Value>>,
-    fresh: &[Loc],
-    overlay: &mut BTreeMap<u32, Stored<M::Value>>,
-    machine: &mut M,
-    steps: u64,
-) -> Result<Option<BTreeMap<u32, u64>>, NoMemory>
-    requires walking { (s : State) × (i : ℕ)
-        × IsWalking M.meaning code.now s i (map (λ l. l.0) fresh.now) cells.now.entries overlay.old.entries machine.old }
-    requires none { (M.meaning.stage code.now machine.old).steps ≡ 0 }
-    ensures { IfOk result (λ told. IfSome told (λ reads. (s : State) (i : ℕ) (side : Side) (n : ℕ)
-        → IsAtStep M.meaning code.now s i (map (λ l. l.0) fresh.now) cells.now.entries overlay.old.entries machine.old side n
-        → WatchedSteps M.meaning code.now s i (map (λ l. l.0) fresh.now) cells.now.entries overlay.new.entries machine.new side steps steps reads.entries)) }
-{
-    let mut reads = BTreeMap::new(alloc);
-    for made in 0..steps {
-        match walk(alloc, code, cells, fresh, overlay, machine, made)? {
-            Walked::Whole(want) => note_read(&mut reads, want, made)?,
-            Walked::Undefined(_) | Walked::Tall => return Ok(None),
-        }
-    }
-    Ok(Some(reads))
-}
-
 impl<M: Runner> Replay<M>
 where
     M::Code: Drop,
 {
     ghost use Rattle.ame_check.specs.Shows.{StandsForEntries};
+
+    /// Makes fewer steps than so many over the cells, one after another, and tells what they read. None where they can't be made.
+    fn watch(
+        &self,
+        alloc: Global,
+        code: &M::Code,
+        fresh: &[Loc],
+        overlay: &mut BTreeMap<u32, Stored<M::Value>>,
+        machine: &mut M,
+        steps: u64,
+    ) -> Result<Option<BTreeMap<u32, u64>>, NoMemory>
+        requires walking { (s : State) × (i : ℕ)
+            × IsWalking M.meaning code.now s i (map (λ l. l.0) fresh.now) self.now.cells.entries overlay.old.entries machine.old }
+        requires none { (M.meaning.stage code.now machine.old).steps ≡ 0 }
+        ensures { IfOk result (λ told. IfSome told (λ reads. (s : State) (i : ℕ) (side : Side) (n : ℕ)
+            → IsAtStep M.meaning code.now s i (map (λ l. l.0) fresh.now) self.now.cells.entries overlay.old.entries machine.old side n
+            → WatchedSteps M.meaning code.now s i (map (λ l. l.0) fresh.now) self.now.cells.entries overlay.new.entries machine.new side steps steps reads.entries)) }
+    {
+        let mut reads = BTreeMap::new(alloc);
+        for made in 0..steps {
+            match walk(alloc, code, &self.cells, fresh, overlay, machine, made)? {
+                Walked::Whole(want) => note_read(&mut reads, want, made)?,
+                Walked::Undefined(_) | Walked::Tall => return Ok(None),
+            }
+        }
+        Ok(Some(reads))
+    }
 
     /// Where the member of a `Cut` note stands, on a copy of its machine; none where the note can't be made. Nothing changes.
     pub fn stand(
@@ -96,16 +96,9 @@ where
         let _next = machine.advance(alloc, code, 0)?;
         machine.settle();
         let mut overlay = BTreeMap::new(alloc);
-        let Some(reads) = watch(
-            alloc,
-            code,
-            &self.cells,
-            entry.fresh.as_slice(),
-            &mut overlay,
-            &mut machine,
-            entry.steps,
-        )?
-        else {
+        let fresh = entry.fresh.as_slice();
+        let steps = entry.steps;
+        let Some(reads) = self.watch(alloc, code, fresh, &mut overlay, &mut machine, steps)? else {
             return Ok(None);
         };
         match run(alloc, code, &self.cells, entry, &mut overlay, &mut machine)? {

@@ -9,6 +9,7 @@ ghost use Rattle.ame_check.specs.Visit.{ComesOfVisit};
 ghost use Rattle.ame_check.specs.declared.stored.Stored.{Stored};
 
 use crate::reason::Reason;
+use crate::replay::Replay;
 use crate::stored::Stored;
 use crate::walk::{Walked, run, walk};
 use ame_journal::Entry;
@@ -72,87 +73,92 @@ fn close<M: Runner>(code: &M::Code, entry: &Entry, machine: &mut M) -> Visited
     Visited::Closes
 }
 
-/// The last step is any other.
-fn go_on<M: Runner>(
-    alloc: Global,
-    code: &M::Code,
-    cells: &BTreeMap<u32, Stored<M::Value>>,
-    entry: &Entry,
-    overlay: &mut BTreeMap<u32, Stored<M::Value>>,
-    machine: &mut M,
-    want: Wants,
-) -> Result<Visited, NoMemory>
-    requires walking { (s : State) × (i : ℕ) × IsWalking M.meaning code.now s i entry.now.fresh cells.now.entries overlay.old.entries machine.old }
-    requires told { (M.meaning.stage code.now machine.old).want ≡ Some want }
-    requires other { is_plain want ≡ true }
-    requires count { (M.meaning.stage code.now machine.old).steps + 1 ≡ entry.now.steps }
-    ensures { IfOk result (λ visited. (s : State) (i : ℕ) (n : ℕ)
-        → IsAtStep M.meaning code.now s i entry.now.fresh cells.now.entries overlay.old.entries machine.old Side.Unprotected n
-        → ComesOfVisit M.meaning code.now s i entry.now.fresh entry.now.answer cells.now.entries overlay.new.entries machine.new n visited) }
+impl<M: Runner> Replay<M>
+where
+    M::Code: Drop,
 {
-    if entry.answer.is_some() {
-        return Ok(Visited::Undefined(Reason::Answered));
+    /// The last step is any other.
+    fn go_on(
+        &self,
+        alloc: Global,
+        code: &M::Code,
+        entry: &Entry,
+        overlay: &mut BTreeMap<u32, Stored<M::Value>>,
+        machine: &mut M,
+        want: Wants,
+    ) -> Result<Visited, NoMemory>
+        requires walking { (s : State) × (i : ℕ) × IsWalking M.meaning code.now s i entry.now.fresh self.now.cells.entries overlay.old.entries machine.old }
+        requires told { (M.meaning.stage code.now machine.old).want ≡ Some want }
+        requires other { is_plain want ≡ true }
+        requires count { (M.meaning.stage code.now machine.old).steps + 1 ≡ entry.now.steps }
+        ensures { IfOk result (λ visited. (s : State) (i : ℕ) (n : ℕ)
+            → IsAtStep M.meaning code.now s i entry.now.fresh self.now.cells.entries overlay.old.entries machine.old Side.Unprotected n
+            → ComesOfVisit M.meaning code.now s i entry.now.fresh entry.now.answer self.now.cells.entries overlay.new.entries machine.new n visited) }
+    {
+        if entry.answer.is_some() {
+            return Ok(Visited::Undefined(Reason::Answered));
+        }
+        match run(alloc, code, &self.cells, entry, overlay, machine)? {
+            Walked::Whole(_) => Ok(Visited::Stays),
+            Walked::Undefined(why) => Ok(Visited::Undefined(why)),
+            Walked::Tall => Ok(Visited::Tall),
+        }
     }
-    match run(alloc, code, cells, entry, overlay, machine)? {
-        Walked::Whole(_) => Ok(Visited::Stays),
-        Walked::Undefined(why) => Ok(Visited::Undefined(why)),
-        Walked::Tall => Ok(Visited::Tall),
-    }
-}
 
-/// The last step, of a machine that has made all others and told what it wants.
-fn last<M: Runner>(
-    alloc: Global,
-    code: &M::Code,
-    cells: &BTreeMap<u32, Stored<M::Value>>,
-    entry: &Entry,
-    overlay: &mut BTreeMap<u32, Stored<M::Value>>,
-    machine: &mut M,
-    want: Wants,
-) -> Result<Visited, NoMemory>
-    requires walking { (s : State) × (i : ℕ) × IsWalking M.meaning code.now s i entry.now.fresh cells.now.entries overlay.old.entries machine.old }
-    requires told { (M.meaning.stage code.now machine.old).want ≡ Some want }
-    requires count { (M.meaning.stage code.now machine.old).steps + 1 ≡ entry.now.steps }
-    requires fits { entry.now.steps < 2 ^ 64 }
-    ensures { IfOk result (λ visited. (s : State) (i : ℕ) (n : ℕ)
-        → IsAtStep M.meaning code.now s i entry.now.fresh cells.now.entries overlay.old.entries machine.old Side.Unprotected n
-        → ComesOfVisit M.meaning code.now s i entry.now.fresh entry.now.answer cells.now.entries overlay.new.entries machine.new n visited) }
-{
-    match want {
-        Wants::Device(_, _) => Ok(hear(code, entry, machine)),
-        Wants::Close => Ok(close(code, entry, machine)),
-        Wants::Tall => Ok(Visited::Tall),
-        _ => go_on(alloc, code, cells, entry, overlay, machine, want),
+    /// The last step, of a machine that has made all others and told what it wants.
+    fn last(
+        &self,
+        alloc: Global,
+        code: &M::Code,
+        entry: &Entry,
+        overlay: &mut BTreeMap<u32, Stored<M::Value>>,
+        machine: &mut M,
+        want: Wants,
+    ) -> Result<Visited, NoMemory>
+        requires walking { (s : State) × (i : ℕ) × IsWalking M.meaning code.now s i entry.now.fresh self.now.cells.entries overlay.old.entries machine.old }
+        requires told { (M.meaning.stage code.now machine.old).want ≡ Some want }
+        requires count { (M.meaning.stage code.now machine.old).steps + 1 ≡ entry.now.steps }
+        requires fits { entry.now.steps < 2 ^ 64 }
+        ensures { IfOk result (λ visited. (s : State) (i : ℕ) (n : ℕ)
+            → IsAtStep M.meaning code.now s i entry.now.fresh self.now.cells.entries overlay.old.entries machine.old Side.Unprotected n
+            → ComesOfVisit M.meaning code.now s i entry.now.fresh entry.now.answer self.now.cells.entries overlay.new.entries machine.new n visited) }
+    {
+        match want {
+            Wants::Device(_, _) => Ok(hear(code, entry, machine)),
+            Wants::Close => Ok(close(code, entry, machine)),
+            Wants::Tall => Ok(Visited::Tall),
+            _ => self.go_on(alloc, code, entry, overlay, machine, want),
+        }
     }
-}
 
-/// Makes the steps of an entry, of which there is at least one. It is the last one that may call a device or close.
-pub fn visit<M: Runner>(
-    alloc: Global,
-    code: &M::Code,
-    cells: &BTreeMap<u32, Stored<M::Value>>,
-    entry: &Entry,
-    overlay: &mut BTreeMap<u32, Stored<M::Value>>,
-    machine: &mut M,
-) -> Result<Visited, NoMemory>
-    requires walking { (s : State) × (i : ℕ) × IsWalking M.meaning code.now s i entry.now.fresh cells.now.entries overlay.old.entries machine.old }
-    requires none { (M.meaning.stage code.now machine.old).steps ≡ 0 }
-    requires some { 0 < entry.now.steps }
-    ensures { IfOk result (λ visited. (s : State) (i : ℕ) (n : ℕ) → n + 1 ≡ entry.now.steps
-        → IsAtStep M.meaning code.now s i entry.now.fresh cells.now.entries overlay.old.entries machine.old Side.Unprotected 0
-        → ComesOfVisit M.meaning code.now s i entry.now.fresh entry.now.answer cells.now.entries overlay.new.entries machine.new n visited) }
-{
-    match walk(
-        alloc,
-        code,
-        cells,
-        entry.fresh.as_slice(),
-        overlay,
-        machine,
-        entry.steps - 1,
-    )? {
-        Walked::Whole(want) => last(alloc, code, cells, entry, overlay, machine, want),
-        Walked::Undefined(why) => Ok(Visited::Undefined(why)),
-        Walked::Tall => Ok(Visited::Tall),
+    /// Makes the steps of an entry, of which there is at least one. It is the last one that may call a device or close.
+    pub(crate) fn visit(
+        &self,
+        alloc: Global,
+        code: &M::Code,
+        entry: &Entry,
+        overlay: &mut BTreeMap<u32, Stored<M::Value>>,
+        machine: &mut M,
+    ) -> Result<Visited, NoMemory>
+        requires walking { (s : State) × (i : ℕ) × IsWalking M.meaning code.now s i entry.now.fresh self.now.cells.entries overlay.old.entries machine.old }
+        requires none { (M.meaning.stage code.now machine.old).steps ≡ 0 }
+        requires some { 0 < entry.now.steps }
+        ensures { IfOk result (λ visited. (s : State) (i : ℕ) (n : ℕ) → n + 1 ≡ entry.now.steps
+            → IsAtStep M.meaning code.now s i entry.now.fresh self.now.cells.entries overlay.old.entries machine.old Side.Unprotected 0
+            → ComesOfVisit M.meaning code.now s i entry.now.fresh entry.now.answer self.now.cells.entries overlay.new.entries machine.new n visited) }
+    {
+        match walk(
+            alloc,
+            code,
+            &self.cells,
+            entry.fresh.as_slice(),
+            overlay,
+            machine,
+            entry.steps - 1,
+        )? {
+            Walked::Whole(want) => self.last(alloc, code, entry, overlay, machine, want),
+            Walked::Undefined(why) => Ok(Visited::Undefined(why)),
+            Walked::Tall => Ok(Visited::Tall),
+        }
     }
 }

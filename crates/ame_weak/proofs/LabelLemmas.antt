@@ -235,17 +235,8 @@ module _ (w : Weak) where
   mapped-some f None there = cc
   mapped-some f (Some x) there = refl
 
-  pub none-left : is_some (after w.state Label.Leave) ≡ false → weak_after w Label.Leave ≡ None
-  unfolding weak_after
-  none-left gone = ap (option_map (λ s. with_held_released (moved w s))) (none-of (after w.state Label.Leave) gone)
-    where
-      none-of : (o : Option State) → is_some o ≡ false → o ≡ None
-      none-of None e = refl
-      none-of (Some x) e = cc
-
-  pub none-ended : is_some (after w.state Label.End) ≡ false → weak_after w Label.End ≡ None
-  unfolding weak_after
-  none-ended gone = ap (option_map (λ s. with_held_released (moved w s))) (none-of (after w.state Label.End) gone)
+  pub goes-nowhere : (label : Label) → is_some (after w.state label) ≡ false → option_map (λ s. with_held_released (moved w s)) (after w.state label) ≡ None
+  goes-nowhere label none = ap (option_map (λ s. with_held_released (moved w s))) (none-of (after w.state label) none)
     where
       none-of : (o : Option State) → is_some o ≡ false → o ≡ None
       none-of None e = refl

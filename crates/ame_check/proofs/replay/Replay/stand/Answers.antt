@@ -33,7 +33,7 @@ watch-requires-clause-walking g c = (
   c.requires.stands.1.led.state,
   c.args.entry.now.number,
   subst (λ (xs : List ℕ). IsWalking g.M.Runner.meaning c.args.code.now c.requires.stands.1.led.state c.args.entry.now.number xs c.args.self.now.cells.entries c.new-overlay.result.entries c.settle.new.self)
-      c.as_slice.ensures
+      c.as_slice-fresh.ensures
       (begins-note g.M.Runner.meaning c.args.code.now (g.met.M.Runner.accepted c.args.code.now) (g.met.M.Runner.sound c.args.code.now) c.args.entry.now (ap is_note c.requires.kind) _ c.requires.stands.0 c.requires.stands.1 (quiet-of c.args.entry.now.answer (sym c.is_some.ensures ∙ c.if-is_some.false))
       c.in-Some.member.now c.in-Some.ensures.value c.in_ok-machine.machine (g.met.M.Runner.same_machines c.args.code.now c.in-Some.member.now c.in_ok-machine.machine c.in_ok-machine.ensures)
       (g.met.M.Runner.stage_shown c.args.code.now c.in-Some.member.now c.in_ok-machine.machine c.in_ok-machine.ensures)
@@ -49,7 +49,7 @@ run-requires-clause-walking g c =
     c.advance.new.self c.advance.ensures.machine c.advance.ensures.ran c.in_ok-_next._next c.in_ok-_next.ensures.told c.settle.new.self
     (c.settle.ensures.machine c.args.code.now c.advance.ensures.machine) (c.settle.ensures.stage c.args.code.now) c.new-overlay.result.entries c.new-overlay.ensures.empty in
     let watched = watching-told g.M.Runner.meaning c.args.code.now c.args.self.now.cells.entries c.new-overlay.result.entries c.watch.new.overlay.entries c.settle.new.self c.watch.new.machine c.args.entry.now.steps
-    (λ z. z.entries) c.in_ok-reads.field-0 c.in-Some-2.reads c.args.entry.now.fresh (map (λ z. z.0) c.as_slice.result.now) c.in-Some-2.is c.as_slice.ensures c.in_ok-reads.ensures in
+    (λ z. z.entries) c.in_ok-reads.field-0 c.in-Some-2.reads c.args.entry.now.fresh (map (λ z. z.0) c.as_slice-fresh.result.now) c.in-Some-2.is c.as_slice-fresh.ensures c.in_ok-reads.ensures in
     (c.requires.stands.1.led.state, c.args.entry.now.number, (watched c.requires.stands.1.led.state c.args.entry.now.number _ 0 begun).stands.walking)
 
 pub run-requires-clause-below : goal.run-requires-clause-below
@@ -60,7 +60,7 @@ run-requires-clause-below g c =
     c.advance.new.self c.advance.ensures.machine c.advance.ensures.ran c.in_ok-_next._next c.in_ok-_next.ensures.told c.settle.new.self
     (c.settle.ensures.machine c.args.code.now c.advance.ensures.machine) (c.settle.ensures.stage c.args.code.now) c.new-overlay.result.entries c.new-overlay.ensures.empty in
     let watched = watching-told g.M.Runner.meaning c.args.code.now c.args.self.now.cells.entries c.new-overlay.result.entries c.watch.new.overlay.entries c.settle.new.self c.watch.new.machine c.args.entry.now.steps
-    (λ z. z.entries) c.in_ok-reads.field-0 c.in-Some-2.reads c.args.entry.now.fresh (map (λ z. z.0) c.as_slice.result.now) c.in-Some-2.is c.as_slice.ensures c.in_ok-reads.ensures in
+    (λ z. z.entries) c.in_ok-reads.field-0 c.in-Some-2.reads c.args.entry.now.fresh (map (λ z. z.0) c.as_slice-fresh.result.now) c.in-Some-2.is c.as_slice-fresh.ensures c.in_ok-reads.ensures in
     let here = watched c.requires.stands.1.led.state c.args.entry.now.number _ 0 begun in
     let few : here.made ≤ c.args.entry.now.steps = here.few in
     let counted : (g.M.Runner.meaning.stage c.args.code.now c.watch.new.machine).steps ≡ here.made = here.stands.counted in
@@ -74,7 +74,7 @@ returns-in-Whole g c = λ entries st.
     c.advance.new.self c.advance.ensures.machine c.advance.ensures.ran c.in_ok-_next._next c.in_ok-_next.ensures.told c.settle.new.self
     (c.settle.ensures.machine c.args.code.now c.advance.ensures.machine) (c.settle.ensures.stage c.args.code.now) c.new-overlay.result.entries c.new-overlay.ensures.empty in
     let watched = watching-told g.M.Runner.meaning c.args.code.now c.args.self.now.cells.entries c.new-overlay.result.entries c.watch.new.overlay.entries c.settle.new.self c.watch.new.machine c.args.entry.now.steps
-    (λ z. z.entries) c.in_ok-reads.field-0 c.in-Some-2.reads c.args.entry.now.fresh (map (λ z. z.0) c.as_slice.result.now) c.in-Some-2.is c.as_slice.ensures c.in_ok-reads.ensures in
+    (λ z. z.entries) c.in_ok-reads.field-0 c.in-Some-2.reads c.args.entry.now.fresh (map (λ z. z.0) c.as_slice-fresh.result.now) c.in-Some-2.is c.as_slice-fresh.ensures c.in_ok-reads.ensures in
     stands-there g.M.Runner.meaning c.args.code.now (g.met.M.Runner.accepted c.args.code.now) (g.met.M.Runner.sound c.args.code.now) c.args.entry.now (ap is_note c.requires.kind) _ entries st (quiet-of c.args.entry.now.answer (sym c.is_some.ensures ∙ c.if-is_some.false))
     c.in-Some.member.now c.in-Some.ensures.value c.in_ok-machine.machine (g.met.M.Runner.same_machines c.args.code.now c.in-Some.member.now c.in_ok-machine.machine c.in_ok-machine.ensures)
     (g.met.M.Runner.stage_shown c.args.code.now c.in-Some.member.now c.in_ok-machine.machine c.in_ok-machine.ensures)

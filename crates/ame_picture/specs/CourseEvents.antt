@@ -1,6 +1,5 @@
 -- The events of a run by its fragments, as text.
-use Rattle.std.specs.Prelude.{ℕ, ◌+◌, min, max, List, ◌++◌, codes}
-use Rattle.std.specs.List.{fold}
+use Rattle.std.specs.Prelude.{ℕ, List, ◌++◌, codes}
 use Rattle.ame_journal.specs.Kinds.{kind_word}
 use Rattle.ame_picture.specs.declared.constants.TheConstants.{COURSE_BEGIN, EVENTS_END, TRY, ROLLED_BACK}
 use Rattle.ame_picture.specs.declared.course_events.TheConstants.{LAST_TRACK}
@@ -8,21 +7,17 @@ use Rattle.ame_picture.specs.declared.moment.Done.{Done}
 use Rattle.ame_picture.specs.declared.moment.Lost.{Lost}
 use Rattle.ame_picture.specs.declared.moment.Moment.{Moment}
 use Rattle.ame_picture.specs.CourseMarks.{kind_phrase}
-use Rattle.ame_picture.specs.Courses.{fragment_of}
+use Rattle.ame_picture.specs.Courses.{lane_up_to, lanes_up_to}
 use Rattle.ame_picture.specs.EventText.{track_mark, event_begin, event_span, event_end, number_text}
 use Rattle.ame_picture.specs.Picture.{marks_from, marks_below}
 
 -- the track of a fragment; those from a number on share the last track
 abbrev pub track_of : ℕ → ℕ
-track_of fragment = min fragment LAST_TRACK
-
--- how many tracks there are with that of a moment
-abbrev pub tracks_with : ℕ → Moment → ℕ
-tracks_with n moment = max n (track_of (fragment_of moment) + 1)
+track_of fragment = lane_up_to LAST_TRACK fragment
 
 -- how many tracks these moments have
 abbrev pub tracks : List Moment → ℕ
-tracks moments = fold tracks_with 0 moments
+tracks moments = lanes_up_to LAST_TRACK moments
 
 -- which fragment it is, and how many steps
 unfoldable pub moment_numbers : ℕ → ℕ → List ℕ

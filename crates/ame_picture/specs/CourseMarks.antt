@@ -2,14 +2,15 @@
 use Rattle.std.specs.Prelude.{ℕ, ◌+◌, ◌-◌, ◌*◌, ℤ, List, [], ◌++◌, slice_index_or, Option, Some, None, codes, decimal}
 use Rattle.ame_journal.specs.declared.entry.EntryKind.{EntryKind}
 use Rattle.ame_picture.specs.declared.arrow.Spot.{Spot}
+use Rattle.ame_picture.specs.declared.course_marks.Layer.{Layer}
 use Rattle.ame_picture.specs.declared.moment.Done.{Done}
 use Rattle.ame_picture.specs.declared.moment.Lost.{Lost}
 use Rattle.ame_picture.specs.declared.moment.Moment.{Moment}
 use Rattle.ame_picture.specs.declared.stamp.Stamp.{Stamp}
 use Rattle.ame_picture.specs.Courses.{fragment_of, lane_of}
 use Rattle.ame_picture.specs.Layout.{left_of, middle_of, top_of}
-use Rattle.ame_picture.specs.Marks.{member_begin, member_line, title_begin, kind_class, stamp_mark, print_mark}
-use Rattle.ame_picture.specs.Shapes.{box_text, label_text}
+use Rattle.ame_picture.specs.Marks.{member_begin, member_line, lane_name, title_begin, kind_class, stamp_mark, print_mark}
+use Rattle.ame_picture.specs.Shapes.{box_text}
 
 -- what the title of a box says of an entry of a kind
 abbrev pub kind_phrase : EntryKind → List ℕ
@@ -68,6 +69,12 @@ abbrev pub printed_mark : ℕ → List (List ℤ) → ℕ → Moment → List �
 printed_mark top lines k (Moment.Entry done) = print_mark top (stamp_in k done) (slice_index_or lines (done.entry - 1) [])
 printed_mark top lines k (Moment.Try lost) = []
 
+-- the marks of a moment in a layer
+abbrev pub layer_mark : Layer → ℕ → List (List ℤ) → ℕ → Moment → List ℕ
+layer_mark Layer.Entries top lines k moment = entry_mark top k moment
+layer_mark Layer.Boxes top lines k moment = moment_mark k moment
+layer_mark Layer.Prints top lines k moment = printed_mark top lines k moment
+
 -- the floor of a lane, from a column on to the last of so many
 unfoldable pub floor_mark : ℕ → ℕ → ℕ → List ℕ
 floor_mark columns lane k = box_text (codes "floor") (left_of k) (top_of lane + 33) (22 * (columns - k)) 1
@@ -83,4 +90,4 @@ life_text columns lane (Some spot) = floor_mark columns lane spot.pick ++ start_
 
 -- the lane of a fragment: its name, and that
 unfoldable pub life_mark : ℕ → ℕ → Option Spot → List ℕ
-life_mark columns lane spot = label_text (codes "lane") 10 (top_of lane + 20) (codes "fragment ") lane ++ life_text columns lane spot
+life_mark columns lane spot = lane_name (codes "fragment ") lane ++ life_text columns lane spot

@@ -15,17 +15,23 @@ abbrev pub has_number : ℕ → Moment → Bool
 has_number n (Moment.Entry done) = done.entry == n
 has_number n (Moment.Try lost) = false
 
--- the lane of a fragment; those from a number on share the last lane
+-- the lane of a fragment, where those from the last lane's number on share it
+abbrev pub lane_up_to : ℕ → ℕ → ℕ
+lane_up_to last fragment = min fragment last
+
 abbrev pub lane_of : ℕ → ℕ
-lane_of fragment = min fragment LAST
+lane_of fragment = lane_up_to LAST fragment
 
 -- how many lanes there are with that of a moment
-abbrev pub lanes_with : ℕ → Moment → ℕ
-lanes_with n moment = max n (lane_of (fragment_of moment) + 1)
+abbrev pub lanes_with : ℕ → ℕ → Moment → ℕ
+lanes_with last n moment = max n (lane_up_to last (fragment_of moment) + 1)
 
 -- how many lanes these moments have
+abbrev pub lanes_up_to : ℕ → List Moment → ℕ
+lanes_up_to last moments = fold (lanes_with last) 0 moments
+
 abbrev pub lanes : List Moment → ℕ
-lanes moments = fold lanes_with 0 moments
+lanes moments = lanes_up_to LAST moments
 
 -- where entry n is, in which column and in which lane, where the first of these moments is in column k
 abbrev pub entry_spot : ℕ → ℕ → List Moment → Option Spot

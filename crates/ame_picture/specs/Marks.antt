@@ -11,6 +11,7 @@ use Rattle.ame_picture.specs.declared.lane.Attempt.{Attempt}
 use Rattle.ame_picture.specs.declared.stamp.Stamp.{Stamp}
 use Rattle.ame_picture.specs.declared.arrow.Arrow.{Arrow}
 use Rattle.ame_picture.specs.declared.arrow.ArrowKind.{ArrowKind}
+use Rattle.ame_picture.specs.declared.arrow.Layer.{Layer}
 use Rattle.ame_picture.specs.declared.span.Outcome.{Outcome}
 use Rattle.ame_picture.specs.declared.span.Span.{Span}
 use Rattle.ame_picture.specs.Layout.{left_of, middle_of, top_of, place_top}
@@ -137,10 +138,13 @@ stamp_numbers y n stamp =
 unfoldable pub stamp_mark : ℕ → ℕ → Stamp → List ℕ
 stamp_mark y n stamp = member_begin stamp.member ++ stamp_title n stamp ++ stamp_box y stamp ++ stamp_numbers y n stamp ++ codes "</g>\n"
 
+-- the name of a lane
+unfoldable pub lane_name : List ℕ → ℕ → List ℕ
+lane_name word lane = label_text (codes "lane") 10 (top_of lane + 20) word lane
+
 -- the lane of a seat of so many picks: its name, and a floor
 unfoldable pub lane_mark : ℕ → ℕ → List ℕ
-lane_mark picks seat =
-    label_text (codes "lane") 10 (top_of seat + 20) (codes "seat ") seat ++ box_text (codes "floor") 96 (top_of seat + 33) (22 * picks) 1
+lane_mark picks seat = lane_name (codes "seat ") seat ++ box_text (codes "floor") 96 (top_of seat + 33) (22 * picks) 1
 
 -- a line at pick k, down to the journal
 unfoldable pub tick_mark : ℕ → ℕ → List ℕ
@@ -176,18 +180,19 @@ span_mark seats span =
     member_begin span.member ++ span_title span
     ++ box_text (outcome_class span.outcome) (middle_of span.from) (place_top seats span.place) (22 * (span.to - span.from)) 12 ++ codes "</g>\n"
 
--- where a member goes on, below the boxes
-unfoldable pub on_line : Arrow → List ℕ
-on_line arrow =
-    member_line arrow.member (codes "on") (left_of arrow.from + 21) (top_of arrow.from_seat + 6) (left_of arrow.to + 1) (top_of arrow.to_seat + 6)
+-- a line along an arrow, from the right edge of a box to the left edge of another, so far below their upper edges
+unfoldable pub edge_line : ℕ → List ℕ → Arrow → List ℕ
+edge_line low class arrow =
+    member_line arrow.member class (left_of arrow.from + 21) (top_of arrow.from_seat + low) (left_of arrow.to + 1) (top_of arrow.to_seat + low)
 
 -- what was in the way, above the boxes
 unfoldable pub way_line : Arrow → List ℕ
 way_line arrow =
     member_line arrow.member (codes "way") (middle_of arrow.from) (top_of arrow.from_seat + 17) (middle_of arrow.to) (top_of arrow.to_seat + 17)
 
+-- where a member goes on, below the boxes
 abbrev pub on_marks : Arrow → ArrowKind → List ℕ
-on_marks arrow ArrowKind.GoesOn = on_line arrow
+on_marks arrow ArrowKind.GoesOn = edge_line 6 (codes "on") arrow
 on_marks arrow _ = []
 
 abbrev pub way_marks : Arrow → ArrowKind → List ℕ
@@ -202,15 +207,20 @@ cause_class ArrowKind.GoesOn = codes "on"
 cause_class ArrowKind.InTheWay = codes "way"
 
 -- what let a member begin, below the boxes
-unfoldable pub cause_mark : Arrow → List ℕ
-cause_mark arrow =
-    member_line arrow.member (cause_class arrow.kind) (left_of arrow.from + 21) (top_of arrow.from_seat + 22) (left_of arrow.to + 1) (top_of arrow.to_seat + 22)
+abbrev pub cause_mark : Arrow → List ℕ
+cause_mark arrow = edge_line 22 (cause_class arrow.kind) arrow
 
 unfoldable pub on_mark : Arrow → List ℕ
 on_mark arrow = on_marks arrow arrow.kind
 
 unfoldable pub way_mark : Arrow → List ℕ
 way_mark arrow = way_marks arrow arrow.kind
+
+-- the marks of an arrow in a layer
+abbrev pub arrow_mark : Layer → Arrow → List ℕ
+arrow_mark Layer.On arrow = on_mark arrow
+arrow_mark Layer.Cause arrow = cause_mark arrow
+arrow_mark Layer.Way arrow = way_mark arrow
 
 -- an integer behind a space
 abbrev pub integer_text : ℤ → List ℕ

@@ -31,6 +31,17 @@ pub struct Arrow {
     pub to_seat: u32,
 }
 
+/// A layer of the marks of arrows.
+#[derive(Clone, Copy)]
+pub(crate) enum Layer {
+    /// Where members go on.
+    On,
+    /// What let members begin.
+    Cause,
+    /// What was in the way.
+    Way,
+}
+
 /// Which picks are sought.
 #[derive(Clone, Copy)]
 pub(crate) enum Sought {

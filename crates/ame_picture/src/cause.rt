@@ -1,6 +1,6 @@
 //! Which commit let a member begin: the one that started it, or the one that woke it.
 
-ghost use Rattle.std.specs.Prelude.{◌≡◌, ◌<◌, ◌^◌, All, IfOk, Some, length};
+ghost use Rattle.std.specs.Prelude.{◌≡◌, ◌++◌, ◌<◌, ◌^◌, All, IfOk, OnOk, Some, length};
 ghost use Rattle.ame_picture.specs.Arrows.{LeadsAmong};
 ghost use Rattle.ame_picture.specs.Causes as spec;
 ghost use Rattle.ame_picture.specs.Spans as spec_spans;
@@ -46,23 +46,24 @@ pub(crate) fn causes_of(
     ensures among { stamps.now ≡ spec_stamps.stamps 0 picks.now → spans.now ≡ spec_spans.spans places picks.now
         → IfOk result (λ arrows. All (LeadsAmong picks.now) arrows.items) }
 {
-    let arrows = collect(alloc, starters, stamps, places, spans, picks)?;
+    let mut arrows = Vec::new(alloc);
+    add_causes(&mut arrows, starters, stamps, places, spans, picks)?;
     Ok(arrows)
 }
 
-/// Collects the causes.
-fn collect(
-    alloc: Global,
+/// Adds the causes.
+fn add_causes(
+    arrows: &mut Vec<Arrow>,
     starters: &[u64],
     stamps: &[Stamp],
     places: u32,
     spans: &[Span],
     picks: &[Pick],
-) -> Result<Vec<Arrow>, NoMemory>
+) -> Result<(), NoMemory>
     requires { length picks.now < 2 ^ 32 }
-    ensures { IfOk result (λ arrows. arrows.items ≡ spec.causes_from starters.now stamps.now places spans.now picks.now 0 picks.now) }
+    ensures { OnOk result (arrows.new.items
+        ≡ arrows.old.items ++ spec.causes_from starters.now stamps.now places spans.now picks.now 0 picks.now) }
 {
-    let mut arrows = Vec::new(alloc);
     for (index, pick) in picks.iter().enumerate() {
         let earlier = &picks[..index];
         if let Some(arrow) = cause_of(
@@ -77,7 +78,7 @@ fn collect(
             arrows.push(arrow)?;
         }
     }
-    Ok(arrows)
+    Ok(())
 }
 
 /// What led to a pick, where these were made before it.

@@ -48,25 +48,25 @@ pub const HATCHINGS: &[u8] = b"\
 /// What the legend begins with.
 pub const LEGEND: &[u8] = b"<g class=\"key\" transform=\"translate(96,";
 
-/// What boxes and signs mean.
-pub const KEYS: &[u8] = b"\
+/// What stands behind its height, and what boxes mean.
+pub const BOX_KEYS: &[u8] = b"\
+)\">
 <rect class=\"ran\" width=\"22\" height=\"14\" rx=\"3\"/><text x=\"28\" y=\"11\">committed</text>
 <rect class=\"rolled\" x=\"110\" width=\"22\" height=\"14\" rx=\"3\"/><text x=\"138\" y=\"11\">rolled back</text>
 <rect class=\"stuck\" x=\"220\" width=\"22\" height=\"14\" rx=\"3\"/><text x=\"248\" y=\"11\">false condition</text>
 <rect class=\"free\" x=\"350\" width=\"22\" height=\"14\" rx=\"3\"/><text x=\"378\" y=\"11\">unprotected</text>
 <rect class=\"crossed\" x=\"470\" width=\"22\" height=\"14\" rx=\"3\"/><text x=\"498\" y=\"11\">cut off, too high</text>
+";
+
+/// What signs and lines mean.
+pub const KEYS: &[u8] = b"\
 <text y=\"34\">signs: r reads, w writes, + makes a location, o home again, x turns back, ? false condition, u undoes, - nothing to begin</text>
 <text y=\"50\">dotted: goes on; grey: started by; green: woken by; red: in the way, dashed: a read that is not valid; bars: owners, hatched: undone</text>
 </g>
 ";
 
-/// What boxes and lines mean in a picture by fragments.
+/// What columns and lines mean in a picture by fragments.
 pub const COURSE_KEYS: &[u8] = b"\
-<rect class=\"ran\" width=\"22\" height=\"14\" rx=\"3\"/><text x=\"28\" y=\"11\">committed</text>
-<rect class=\"rolled\" x=\"110\" width=\"22\" height=\"14\" rx=\"3\"/><text x=\"138\" y=\"11\">rolled back</text>
-<rect class=\"stuck\" x=\"220\" width=\"22\" height=\"14\" rx=\"3\"/><text x=\"248\" y=\"11\">false condition</text>
-<rect class=\"free\" x=\"350\" width=\"22\" height=\"14\" rx=\"3\"/><text x=\"378\" y=\"11\">unprotected</text>
-<rect class=\"crossed\" x=\"470\" width=\"22\" height=\"14\" rx=\"3\"/><text x=\"498\" y=\"11\">cut off, too high</text>
 <text y=\"34\">a column an entry of the journal, or a try that left none, behind the entries where it was valid last</text>
 <text y=\"50\">dotted: from the entry that started a fragment down to its lane</text>
 </g>

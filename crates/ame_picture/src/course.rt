@@ -15,25 +15,42 @@ pub(crate) fn lane_of(fragment: u64) -> u32
     ensures value { result ≡ spec.lane_of fragment }
     ensures few { result ≤ LAST }
 {
-    fragment.min(u64::from(LAST)) as u32
+    lane_up_to(LAST, fragment)
+}
+
+/// The lane of a fragment, where those from the last lane's number on share it.
+pub(crate) fn lane_up_to(last: u32, fragment: u64) -> u32
+    ensures value { result ≡ spec.lane_up_to last fragment }
+    ensures few { result ≤ last }
+{
+    fragment.min(u64::from(last)) as u32
 }
 
 /// How many lanes these moments have.
 pub(crate) fn lanes_of(moments: &[Moment]) -> u32
     ensures { result ≡ spec.lanes moments.now }
 {
+    lanes_up_to(LAST, moments)
+}
+
+/// How many lanes these moments have, where the fragments from the last lane's number on share it.
+pub(crate) fn lanes_up_to(last: u32, moments: &[Moment]) -> u32
+    requires { last < 2 ^ 20 }
+    ensures { result ≡ spec.lanes_up_to last moments.now }
+{
     let mut lanes = 0;
     for moment in moments {
-        lanes = lanes_with(lanes, moment);
+        lanes = lanes_with(last, lanes, moment);
     }
     lanes
 }
 
 /// How many lanes there are with that of a moment.
-fn lanes_with(lanes: u32, moment: &Moment) -> u32
-    ensures { result ≡ spec.lanes_with lanes moment.now }
+fn lanes_with(last: u32, lanes: u32, moment: &Moment) -> u32
+    requires { last < 2 ^ 20 }
+    ensures { result ≡ spec.lanes_with last lanes moment.now }
 {
-    lanes.max(lane_of(moment.fragment()) + 1)
+    lanes.max(lane_up_to(last, moment.fragment()) + 1)
 }
 
 /// Where the fragment of a lane was started, if it is told by which entry.

@@ -1,14 +1,14 @@
 //! The events of a run by its fragments, as text.
 
-ghost use Rattle.std.specs.Prelude.{◌≡◌, ◌≤◌, ◌++◌, IfOk, OnOk, codes};
+ghost use Rattle.std.specs.Prelude.{◌≡◌, ◌≤◌, ◌++◌, IfOk, OnOk};
 ghost use Rattle.ame_picture.specs.CourseEvents as spec;
-ghost use Rattle.ame_picture.specs.EventText.{track_mark};
-ghost use Rattle.ame_picture.specs.Picture.{marks_from, marks_below};
+ghost use Rattle.ame_picture.specs.Picture.{marks_from};
 
 use crate::constants::{COURSE_BEGIN, EVENTS_END, ROLLED_BACK, TRY};
+use crate::course::{lane_up_to, lanes_up_to};
 use crate::course_marks::kind_phrase;
 use crate::event_text::{
-    append_event_begin, append_event_end, append_event_span, append_number, append_track,
+    append_event_begin, append_event_end, append_event_span, append_number, append_tracks,
 };
 use crate::moment::{Done, Lost, Moment};
 use crate::page::append;
@@ -26,7 +26,7 @@ pub fn course_events_of(alloc: Global, moments: &[Moment]) -> Result<Vec<u8>, No
 {
     let mut page = Vec::new(alloc);
     append(&mut page, COURSE_BEGIN)?;
-    append_tracks(&mut page, tracks_of(moments))?;
+    append_tracks(&mut page, b"fragment ", tracks_of(moments))?;
     append_moments(&mut page, moments)?;
     append(&mut page, EVENTS_END)?;
     Ok(page)
@@ -37,35 +37,14 @@ fn track_of(fragment: u64) -> u32
     ensures value { result ≡ spec.track_of fragment }
     ensures few { result ≤ LAST_TRACK }
 {
-    fragment.min(u64::from(LAST_TRACK)) as u32
+    lane_up_to(LAST_TRACK, fragment)
 }
 
 /// How many tracks these moments have.
 fn tracks_of(moments: &[Moment]) -> u32
     ensures { result ≡ spec.tracks moments.now }
 {
-    let mut tracks = 0;
-    for moment in moments {
-        tracks = tracks_with(tracks, moment);
-    }
-    tracks
-}
-
-/// How many tracks there are with that of a moment.
-fn tracks_with(tracks: u32, moment: &Moment) -> u32
-    ensures { result ≡ spec.tracks_with tracks moment.now }
-{
-    tracks.max(track_of(moment.fragment()) + 1)
-}
-
-/// Adds the name of each fragment's track.
-fn append_tracks(page: &mut Vec<u8>, tracks: u32) -> Result<(), NoMemory>
-    ensures { OnOk result (page.new.items ≡ page.old.items ++ marks_below (track_mark (codes "fragment ")) tracks) }
-{
-    for track in 0..tracks {
-        append_track(page, b"fragment ", track)?;
-    }
-    Ok(())
+    lanes_up_to(LAST_TRACK, moments)
 }
 
 /// Adds the moments.

@@ -7,22 +7,49 @@ use crate::arrow::Spot;
 use crate::course::lane_of;
 use crate::layout::{left_of, middle_of, top_of};
 use crate::marks::{
-    append_member, append_member_line, append_print, append_stamp, append_title, kind_class,
+    append_lane_name, append_member, append_member_line, append_print, append_stamp, append_title,
+    kind_class,
 };
 use crate::moment::{Done, Lost, Moment};
 use crate::page::{append, append_decimal};
-use crate::shapes::{Place, append_box, append_label};
+use crate::shapes::{Place, append_box};
 use crate::stamp::Stamp;
 use ame_journal::EntryKind;
 use ame_term::NoMemory;
 
-/// Adds the box of a moment in a column, in the lane of its fragment.
-#[tactic(auto, unfolding(crate::specs::CourseMarks::moment_mark))]
-pub(crate) fn append_moment(
+/// A layer of the marks of moments.
+#[derive(Clone, Copy)]
+pub(crate) enum Layer {
+    /// The entries in the journal.
+    Entries,
+    /// The boxes in the lanes.
+    Boxes,
+    /// What was printed.
+    Prints,
+}
+
+/// Adds the marks of a moment in a layer.
+pub(crate) fn append_in_layer(
     page: &mut Vec<u8>,
+    layer: Layer,
+    top: u64,
     column: u32,
     moment: &Moment,
+    lines: &[Vec<i64>],
 ) -> Result<(), NoMemory>
+    requires { top < 2 ^ 40 }
+    ensures { OnOk result (page.new.items ≡ page.old.items ++ spec.layer_mark layer top (map (λ v. v.items) lines.now) column moment.now) }
+{
+    match layer {
+        Layer::Entries => append_entry(page, top, column, moment),
+        Layer::Boxes => append_moment(page, column, moment),
+        Layer::Prints => append_printed(page, top, lines, column, moment),
+    }
+}
+
+/// Adds the box of a moment in a column, in the lane of its fragment.
+#[tactic(auto, unfolding(crate::specs::CourseMarks::moment_mark))]
+fn append_moment(page: &mut Vec<u8>, column: u32, moment: &Moment) -> Result<(), NoMemory>
     ensures { OnOk result (page.new.items ≡ page.old.items ++ spec.moment_mark column moment.now) }
 {
     append_member(page, moment.fragment())?;
@@ -143,12 +170,7 @@ fn stamp_in(column: u32, done: &Done) -> Stamp
 }
 
 /// Adds an entry to the journal, which is there.
-pub(crate) fn append_entry(
-    page: &mut Vec<u8>,
-    top: u64,
-    column: u32,
-    moment: &Moment,
-) -> Result<(), NoMemory>
+fn append_entry(page: &mut Vec<u8>, top: u64, column: u32, moment: &Moment) -> Result<(), NoMemory>
     requires { top < 2 ^ 40 }
     ensures { OnOk result (page.new.items ≡ page.old.items ++ spec.entry_mark top column moment.now) }
 {
@@ -159,7 +181,7 @@ pub(crate) fn append_entry(
 }
 
 /// Adds what an entry printed, where the lines are told from entry 1 on.
-pub(crate) fn append_printed(
+fn append_printed(
     page: &mut Vec<u8>,
     top: u64,
     lines: &[Vec<i64>],
@@ -189,8 +211,8 @@ fn line_at(lines: &[Vec<i64>], index: u64) -> &[i64]
     }
 }
 
-/// Adds the lane of a fragment: its name, its floor, and where the fragment was started.
-#[tactic(auto, unfolding(crate::specs::CourseMarks::life_mark))]
+/// Adds the lane of a fragment: its name, its floor from where the fragment was started on, and a line down to there from the entry that started it.
+#[tactic(auto, unfolding(crate::specs::CourseMarks::life_mark, crate::specs::CourseMarks::life_text))]
 pub(crate) fn append_life(
     page: &mut Vec<u8>,
     columns: u32,
@@ -199,24 +221,7 @@ pub(crate) fn append_life(
 ) -> Result<(), NoMemory>
     ensures { OnOk result (page.new.items ≡ page.old.items ++ spec.life_mark columns lane spot) }
 {
-    let name = Place {
-        x: 10,
-        y: top_of(lane) + 20,
-    };
-    append_label(page, b"lane", name, b"fragment ", u64::from(lane))?;
-    append_life_text(page, columns, lane, spot)
-}
-
-/// Adds the floor, from where the fragment was started on, and a line down to there from the entry that started it.
-#[tactic(auto, unfolding(crate::specs::CourseMarks::life_text))]
-fn append_life_text(
-    page: &mut Vec<u8>,
-    columns: u32,
-    lane: u32,
-    spot: Option<Spot>,
-) -> Result<(), NoMemory>
-    ensures { OnOk result (page.new.items ≡ page.old.items ++ spec.life_text columns lane spot) }
-{
+    append_lane_name(page, b"fragment ", lane)?;
     match spot {
         None => append_floor(page, columns, lane, 0),
         Some(spot) => {

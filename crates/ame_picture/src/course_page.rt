@@ -7,14 +7,13 @@ ghost use Rattle.ame_picture.specs.Courses as courses;
 ghost use Rattle.ame_picture.specs.Courses.{ColumnsAreApart};
 ghost use Rattle.ame_picture.specs.Picture.{marks_from, marks_below, HasHidden};
 
-use crate::constants::{COURSE_KEYS, HATCHINGS, LEGEND, STYLES};
+use crate::constants::COURSE_KEYS;
 use crate::course::{birth, lanes_of};
-use crate::course_marks::{append_entry, append_life, append_moment, append_printed};
-use crate::layout::{height_of, journal_top, width_of};
+use crate::course_marks::{Layer, append_in_layer, append_life};
+use crate::layout::journal_top;
 use crate::moment::Moment;
-use crate::page::{append, append_decimal};
-use crate::picture::{append_begin, append_hidden, append_ticks};
-use crate::shapes::{Place, append_words};
+use crate::page::append;
+use crate::picture::{append_foot_begin, append_head, append_hidden, append_ticks};
 use ame_term::NoMemory;
 use std::alloc::Global;
 
@@ -42,52 +41,36 @@ pub fn course_picture_of(
     ensures apart { IfOk result (λ _. ColumnsAreApart) }
     ensures certificate { IfOk result (λ page. HasHidden page.items (codes "certificate") labels.now.certificate.items) }
 {
-    let page = collect(alloc, moments, starters, lines, labels)?;
+    let mut page = Vec::new(alloc);
+    append_picture(&mut page, moments, starters, lines, labels)?;
     Ok(page)
 }
 
-/// Collects the picture.
+/// Adds the picture.
 #[tactic(auto, unfolding(crate::specs::CoursePage::course_svg))]
-fn collect(
-    alloc: Global,
+fn append_picture(
+    page: &mut Vec<u8>,
     moments: &[Moment],
     starters: &[u64],
     lines: &[Vec<i64>],
     labels: &Labels,
-) -> Result<Vec<u8>, NoMemory>
+) -> Result<(), NoMemory>
     requires { length moments.now < 2 ^ 32 }
-    ensures { IfOk result (λ page. page.items ≡ spec.course_svg moments.now starters.now (map (λ v. v.items) lines.now) labels.now) }
+    ensures { OnOk result (page.new.items ≡ page.old.items ++ spec.course_svg moments.now starters.now (map (λ v. v.items) lines.now) labels.now) }
 {
-    let mut page = Vec::new(alloc);
     let top = journal_top(lanes_of(moments), 0);
-    append_head(&mut page, top, moments.len() as u32, labels)?;
-    append_frame(&mut page, top, starters, moments)?;
-    append_body(&mut page, top, moments, lines)?;
-    append_foot(&mut page, top, labels)?;
-    Ok(page)
-}
-
-/// Adds what stands above the lanes.
-#[tactic(auto, unfolding(crate::specs::CoursePage::course_head))]
-fn append_head(page: &mut Vec<u8>, top: u64, columns: u32, labels: &Labels) -> Result<(), NoMemory>
-    requires { top < 2 ^ 40 }
-    ensures { OnOk result (page.new.items ≡ page.old.items ++ spec.course_head top columns labels.now) }
-{
-    append_begin(page, width_of(columns), height_of(top))?;
-    append(page, STYLES)?;
-    append(page, HATCHINGS)?;
-    append_words(
+    append_head(
         page,
-        b"title",
-        Place { x: 96, y: 22 },
+        top,
+        moments.len() as u32,
         labels.title.as_slice(),
-    )?;
-    append_words(
-        page,
-        b"told",
-        Place { x: 96, y: 40 },
         labels.verdict.as_slice(),
-    )
+    )?;
+    append_frame(page, top, starters, moments)?;
+    append_body(page, top, moments, lines)?;
+    append_foot_begin(page, top, COURSE_KEYS)?;
+    append_hidden(page, b"certificate", labels.certificate.as_slice())?;
+    append(page, b"</svg>\n")
 }
 
 /// Adds a tick each five columns, and the lanes of the fragments.
@@ -130,70 +113,26 @@ fn append_body(
     requires few { length moments.now < 2 ^ 32 }
     ensures { OnOk result (page.new.items ≡ page.old.items ++ spec.course_body top moments.now (map (λ v. v.items) lines.now)) }
 {
-    append_entries(page, top, moments)?;
-    append_moments(page, moments)?;
-    append_prints(page, top, moments, lines)
+    append_layer(page, Layer::Entries, moments, top, lines)?;
+    append_layer(page, Layer::Boxes, moments, top, lines)?;
+    append_layer(page, Layer::Prints, moments, top, lines)
 }
 
-/// Adds the entries to the journal.
-fn append_entries(page: &mut Vec<u8>, top: u64, moments: &[Moment]) -> Result<(), NoMemory>
-    requires top { top < 2 ^ 40 }
-    requires few { length moments.now < 2 ^ 32 }
-    ensures { OnOk result (page.new.items ≡ page.old.items ++ marks_from (marks.entry_mark top) 0 moments.now) }
-{
-    for (index, moment) in moments.iter().enumerate() {
-        append_entry(page, top, index as u32, moment)?;
-    }
-    Ok(())
-}
-
-/// Adds the boxes to their lanes.
-fn append_moments(page: &mut Vec<u8>, moments: &[Moment]) -> Result<(), NoMemory>
-    requires { length moments.now < 2 ^ 32 }
-    ensures { OnOk result (page.new.items ≡ page.old.items ++ marks_from marks.moment_mark 0 moments.now) }
-{
-    for (index, moment) in moments.iter().enumerate() {
-        append_moment(page, index as u32, moment)?;
-    }
-    Ok(())
-}
-
-/// Adds what was printed.
-fn append_prints(
+/// Adds the marks of moments in a layer.
+fn append_layer(
     page: &mut Vec<u8>,
-    top: u64,
+    layer: Layer,
     moments: &[Moment],
+    top: u64,
     lines: &[Vec<i64>],
 ) -> Result<(), NoMemory>
     requires top { top < 2 ^ 40 }
     requires few { length moments.now < 2 ^ 32 }
-    ensures { OnOk result (page.new.items ≡ page.old.items ++ marks_from (marks.printed_mark top (map (λ v. v.items) lines.now)) 0 moments.now) }
+    ensures { OnOk result (page.new.items
+        ≡ page.old.items ++ marks_from (marks.layer_mark layer top (map (λ v. v.items) lines.now)) 0 moments.now) }
 {
     for (index, moment) in moments.iter().enumerate() {
-        append_printed(page, top, lines, index as u32, moment)?;
+        append_in_layer(page, layer, top, index as u32, moment, lines)?;
     }
     Ok(())
-}
-
-/// Adds what stands below the lanes beside the entries.
-#[tactic(auto, unfolding(crate::specs::CoursePage::course_foot))]
-fn append_foot(page: &mut Vec<u8>, top: u64, labels: &Labels) -> Result<(), NoMemory>
-    requires { top < 2 ^ 40 }
-    ensures { OnOk result (page.new.items ≡ page.old.items ++ spec.course_foot top labels.now) }
-{
-    append_words(page, b"lane", Place { x: 10, y: top + 14 }, b"journal")?;
-    append_legend(page, top + 62)?;
-    append_hidden(page, b"certificate", labels.certificate.as_slice())?;
-    append(page, b"</svg>\n")
-}
-
-/// Adds the legend at this height.
-#[tactic(auto, unfolding(crate::specs::CoursePage::course_legend))]
-fn append_legend(page: &mut Vec<u8>, y: u64) -> Result<(), NoMemory>
-    ensures { OnOk result (page.new.items ≡ page.old.items ++ spec.course_legend y) }
-{
-    append(page, LEGEND)?;
-    append_decimal(page, y)?;
-    append(page, b")\">\n")?;
-    append(page, COURSE_KEYS)
 }

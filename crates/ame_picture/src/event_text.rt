@@ -1,6 +1,6 @@
 //! The events of a run as text, in the format of traces that browsers show.
 
-ghost use Rattle.std.specs.Prelude.{◌≡◌, ◌++◌, IfOk, OnOk, codes};
+ghost use Rattle.std.specs.Prelude.{◌≡◌, ◌++◌, IfOk, OnOk};
 ghost use Rattle.std.specs.List.{flat_map};
 ghost use Rattle.ame_picture.specs.EventText as spec;
 ghost use Rattle.ame_picture.specs.Picture.{marks_below};
@@ -22,20 +22,10 @@ pub fn events_page_of(alloc: Global, timeline: &Timeline) -> Result<Vec<u8>, NoM
 {
     let mut page = Vec::new(alloc);
     append(&mut page, EVENTS_BEGIN)?;
-    append_seats(&mut page, timeline.seats)?;
+    append_tracks(&mut page, b"seat ", timeline.seats)?;
     append_events(&mut page, timeline.events.as_slice())?;
     append(&mut page, EVENTS_END)?;
     Ok(page)
-}
-
-/// Adds the name of each seat's track.
-fn append_seats(page: &mut Vec<u8>, seats: u32) -> Result<(), NoMemory>
-    ensures { OnOk result (page.new.items ≡ page.old.items ++ marks_below (spec.track_mark (codes "seat ")) seats) }
-{
-    for seat in 0..seats {
-        append_track(page, b"seat ", seat)?;
-    }
-    Ok(())
 }
 
 /// Adds the events.
@@ -91,9 +81,19 @@ fn append_entry(page: &mut Vec<u8>, entry: Option<Entered>) -> Result<(), NoMemo
     }
 }
 
+/// Adds the name of each track.
+pub(crate) fn append_tracks(page: &mut Vec<u8>, word: &[u8], tracks: u32) -> Result<(), NoMemory>
+    ensures { OnOk result (page.new.items ≡ page.old.items ++ marks_below (spec.track_mark word.now) tracks) }
+{
+    for track in 0..tracks {
+        append_track(page, word, track)?;
+    }
+    Ok(())
+}
+
 /// Adds the name of a track.
 #[tactic(auto, unfolding(crate::specs::EventText::track_mark))]
-pub(crate) fn append_track(page: &mut Vec<u8>, word: &[u8], track: u32) -> Result<(), NoMemory>
+fn append_track(page: &mut Vec<u8>, word: &[u8], track: u32) -> Result<(), NoMemory>
     ensures { OnOk result (page.new.items ≡ page.old.items ++ spec.track_mark word.now track) }
 {
     append(page, TRACK)?;

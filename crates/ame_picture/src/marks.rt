@@ -4,7 +4,7 @@ ghost use Rattle.std.specs.Prelude.{◌≡◌, ◌++◌, ◌+◌, ◌<◌, ◌^�
 ghost use Rattle.std.specs.List.{flat_map};
 ghost use Rattle.ame_picture.specs.Marks as spec;
 
-use crate::arrow::{Arrow, ArrowKind};
+use crate::arrow::{Arrow, ArrowKind, Layer};
 use crate::lane::{Attempt, Fate};
 use crate::layout::{left_of, middle_of, place_top, top_of};
 use crate::page::{append, append_decimal};
@@ -295,11 +295,24 @@ pub(crate) fn kind_class(kind: EntryKind) -> &'static [u8]
 pub(crate) fn append_lane(page: &mut Vec<u8>, picks: u32, seat: u32) -> Result<(), NoMemory>
     ensures { OnOk result (page.new.items ≡ page.old.items ++ spec.lane_mark picks seat) }
 {
-    let y = top_of(seat);
-    let name = Place { x: 10, y: y + 20 };
-    let floor = Place { x: 96, y: y + 33 };
-    append_label(page, b"lane", name, b"seat ", u64::from(seat))?;
+    append_lane_name(page, b"seat ", seat)?;
+    let floor = Place {
+        x: 96,
+        y: top_of(seat) + 33,
+    };
     append_box(page, b"floor", floor, 22 * u64::from(picks), 1)
+}
+
+/// Adds the name of a lane.
+#[tactic(auto, unfolding(crate::specs::Marks::lane_name))]
+pub(crate) fn append_lane_name(page: &mut Vec<u8>, word: &[u8], lane: u32) -> Result<(), NoMemory>
+    ensures { OnOk result (page.new.items ≡ page.old.items ++ spec.lane_name word.now lane) }
+{
+    let at = Place {
+        x: 10,
+        y: top_of(lane) + 20,
+    };
+    append_label(page, b"lane", at, word, u64::from(lane))
 }
 
 /// Adds a line at a pick, down to the journal.
@@ -382,36 +395,53 @@ fn outcome_words(outcome: Outcome) -> &'static [u8]
     }
 }
 
+/// Adds the marks of an arrow in a layer.
+pub(crate) fn append_arrow(page: &mut Vec<u8>, layer: Layer, arrow: &Arrow) -> Result<(), NoMemory>
+    ensures { OnOk result (page.new.items ≡ page.old.items ++ spec.arrow_mark layer arrow.now) }
+{
+    match layer {
+        Layer::On => append_on(page, arrow),
+        Layer::Cause => append_edge_line(page, 22, cause_class(arrow.kind), arrow),
+        Layer::Way => append_way(page, arrow),
+    }
+}
+
 /// Adds where a member goes on, if the arrow tells it.
 #[tactic(auto, unfolding(crate::specs::Marks::on_mark))]
-pub(crate) fn append_on(page: &mut Vec<u8>, arrow: &Arrow) -> Result<(), NoMemory>
+fn append_on(page: &mut Vec<u8>, arrow: &Arrow) -> Result<(), NoMemory>
     ensures { OnOk result (page.new.items ≡ page.old.items ++ spec.on_mark arrow.now) }
 {
     match arrow.kind {
-        ArrowKind::GoesOn => append_on_line(page, arrow),
+        ArrowKind::GoesOn => append_edge_line(page, 6, b"on", arrow),
         ArrowKind::InTheWay | ArrowKind::Starts | ArrowKind::Wakes => Ok(()),
     }
 }
 
-/// Adds where a member goes on.
-#[tactic(auto, unfolding(crate::specs::Marks::on_line))]
-fn append_on_line(page: &mut Vec<u8>, arrow: &Arrow) -> Result<(), NoMemory>
-    ensures { OnOk result (page.new.items ≡ page.old.items ++ spec.on_line arrow.now) }
+/// Adds a line along an arrow, from the right edge of a box to the left edge of another, so far below their upper edges.
+#[tactic(auto, unfolding(crate::specs::Marks::edge_line))]
+fn append_edge_line(
+    page: &mut Vec<u8>,
+    low: u64,
+    class: &[u8],
+    arrow: &Arrow,
+) -> Result<(), NoMemory>
+    requires { low < 2 ^ 8 }
+    ensures { OnOk result (page.new.items ≡ page.old.items ++ spec.edge_line low class.now arrow.now) }
 {
     let at = Place {
         x: left_of(arrow.from) + 21,
-        y: top_of(arrow.from_seat) + 6,
+        y: top_of(arrow.from_seat) + low,
     };
     let to = Place {
         x: left_of(arrow.to) + 1,
-        y: top_of(arrow.to_seat) + 6,
+        y: top_of(arrow.to_seat) + low,
     };
-    append_member_line(page, arrow.member, b"on", at, to)
+    append_member_line(page, arrow.member, class, at, to)
 }
 
 /// Adds what was in the way, if the arrow tells it.
 #[tactic(auto, unfolding(crate::specs::Marks::way_mark))]
-pub(crate) fn append_way(page: &mut Vec<u8>, arrow: &Arrow) -> Result<(), NoMemory>
+fn append_way(page: &mut Vec<u8>, arrow: &Arrow) -> Result<(), NoMemory>
     ensures { OnOk result (page.new.items ≡ page.old.items ++ spec.way_mark arrow.now) }
 {
     match arrow.kind {
@@ -446,22 +476,6 @@ fn cause_class(kind: ArrowKind) -> &'static [u8]
         ArrowKind::GoesOn => b"on",
         ArrowKind::InTheWay => b"way",
     }
-}
-
-/// Adds what let a member begin.
-#[tactic(auto, unfolding(crate::specs::Marks::cause_mark))]
-pub(crate) fn append_cause(page: &mut Vec<u8>, arrow: &Arrow) -> Result<(), NoMemory>
-    ensures { OnOk result (page.new.items ≡ page.old.items ++ spec.cause_mark arrow.now) }
-{
-    let at = Place {
-        x: left_of(arrow.from) + 21,
-        y: top_of(arrow.from_seat) + 22,
-    };
-    let to = Place {
-        x: left_of(arrow.to) + 1,
-        y: top_of(arrow.to_seat) + 22,
-    };
-    append_member_line(page, arrow.member, cause_class(arrow.kind), at, to)
 }
 
 /// Adds what an entry printed, below its box, if it printed anything.

@@ -6,15 +6,17 @@ ghost use Rattle.ame_picture.specs.Marks as marks;
 ghost use Rattle.ame_picture.specs.Picture as spec;
 ghost use Rattle.ame_picture.specs.Picture.{marks_from, HasHidden};
 
-use crate::arrow::Arrow;
-use crate::constants::{HATCHINGS, HIDDEN, HIDDEN_END, KEYS, LEGEND, OPENING, STYLES, VIEW_BOX};
+use crate::arrow::{Arrow, Layer};
+use crate::constants::{
+    BOX_KEYS, HATCHINGS, HIDDEN, HIDDEN_END, KEYS, LEGEND, OPENING, STYLES, VIEW_BOX,
+};
 use crate::drawing::{Captions, Drawing};
 use crate::escape::append_escaped;
 use crate::lane::Attempt;
 use crate::layout::{height_of, journal_top, width_of};
 use crate::marks::{
-    append_attempt, append_cause, append_lane, append_on, append_place, append_print, append_sign,
-    append_span, append_stale, append_stamp, append_tick, append_way,
+    append_arrow, append_attempt, append_lane, append_place, append_print, append_sign,
+    append_span, append_stale, append_stamp, append_tick,
 };
 use crate::page::{append, append_decimal};
 use crate::pick::Pick;
@@ -37,64 +39,60 @@ pub fn picture_of(
     ensures replay { IfOk result (λ page. HasHidden page.items (codes "replay") captions.now.replay.items) }
     ensures journal { IfOk result (λ page. HasHidden page.items (codes "journal") captions.now.journal.items) }
 {
-    let page = collect(alloc, drawing, lines, captions)?;
+    let mut page = Vec::new(alloc);
+    append_picture(&mut page, drawing, lines, captions)?;
     Ok(page)
 }
 
-/// Collects the picture.
+/// Adds the picture.
 #[tactic(auto, unfolding(crate::specs::Picture::svg_of))]
-fn collect(
-    alloc: Global,
+fn append_picture(
+    page: &mut Vec<u8>,
     drawing: &Drawing,
     lines: &[Vec<i64>],
     captions: &Captions,
-) -> Result<Vec<u8>, NoMemory>
+) -> Result<(), NoMemory>
     requires { length drawing.now.picks.items < 2 ^ 32 }
-    ensures { IfOk result (λ page. page.items ≡ spec.svg_of drawing.now (map (λ v. v.items) lines.now) captions.now) }
+    ensures { OnOk result (page.new.items ≡ page.old.items ++ spec.svg_of drawing.now (map (λ v. v.items) lines.now) captions.now) }
 {
-    let mut page = Vec::new(alloc);
     let picks = drawing.picks.as_slice().len() as u32;
     let top = journal_top(drawing.seats, drawing.places);
-    append_head(&mut page, top, picks, captions)?;
-    append_frame(&mut page, top, picks, drawing)?;
-    append_stamps(&mut page, top, drawing.stamps.as_slice())?;
-    append_body(&mut page, drawing)?;
-    append_prints(&mut page, top, lines, drawing.stamps.as_slice())?;
-    append_foot(&mut page, top, captions)?;
-    Ok(page)
+    append_head(
+        page,
+        top,
+        picks,
+        captions.title.as_slice(),
+        captions.verdict.as_slice(),
+    )?;
+    append_frame(page, top, picks, drawing)?;
+    append_stamps(page, top, drawing.stamps.as_slice())?;
+    append_body(page, drawing)?;
+    append_prints(page, top, lines, drawing.stamps.as_slice())?;
+    append_foot(page, top, captions)
 }
 
-/// Adds what stands above the lanes of a picture whose journal is there.
+/// Adds what stands above the lanes of a picture with so many columns whose journal is there.
 #[tactic(auto, unfolding(crate::specs::Picture::picture_head))]
-fn append_head(
+pub(crate) fn append_head(
     page: &mut Vec<u8>,
     top: u64,
-    picks: u32,
-    captions: &Captions,
+    columns: u32,
+    title: &[u8],
+    verdict: &[u8],
 ) -> Result<(), NoMemory>
     requires { top < 2 ^ 40 }
-    ensures { OnOk result (page.new.items ≡ page.old.items ++ spec.picture_head top picks captions.now) }
+    ensures { OnOk result (page.new.items ≡ page.old.items ++ spec.picture_head top columns title.now verdict.now) }
 {
-    append_begin(page, width_of(picks), height_of(top))?;
+    append_begin(page, width_of(columns), height_of(top))?;
     append(page, STYLES)?;
     append(page, HATCHINGS)?;
-    append_words(
-        page,
-        b"title",
-        Place { x: 96, y: 22 },
-        captions.title.as_slice(),
-    )?;
-    append_words(
-        page,
-        b"told",
-        Place { x: 96, y: 40 },
-        captions.verdict.as_slice(),
-    )
+    append_words(page, b"title", Place { x: 96, y: 22 }, title)?;
+    append_words(page, b"told", Place { x: 96, y: 40 }, verdict)
 }
 
 /// Adds the beginning of a picture that is so wide and so high.
 #[tactic(auto, unfolding(crate::specs::Picture::svg_begin))]
-pub(crate) fn append_begin(page: &mut Vec<u8>, width: u64, height: u64) -> Result<(), NoMemory>
+fn append_begin(page: &mut Vec<u8>, width: u64, height: u64) -> Result<(), NoMemory>
     ensures { OnOk result (page.new.items ≡ page.old.items ++ spec.svg_begin width height) }
 {
     append(page, OPENING)?;
@@ -126,6 +124,16 @@ fn append_frame(page: &mut Vec<u8>, top: u64, picks: u32, drawing: &Drawing) -> 
     append_places(page, drawing.seats, drawing.places)
 }
 
+/// Adds a lane for each seat.
+fn append_lanes(page: &mut Vec<u8>, seats: u32, picks: u32) -> Result<(), NoMemory>
+    ensures { OnOk result (page.new.items ≡ page.old.items ++ spec.marks_below (marks.lane_mark picks) seats) }
+{
+    for seat in 0..seats {
+        append_lane(page, picks, seat)?;
+    }
+    Ok(())
+}
+
 /// Adds a tick each five picks.
 pub(crate) fn append_ticks(page: &mut Vec<u8>, top: u64, picks: u32) -> Result<(), NoMemory>
     ensures { OnOk result (page.new.items ≡ page.old.items ++ spec.marks_below (λ n. marks.tick_mark top (5 * n)) (picks / 5 + 1)) }
@@ -152,11 +160,11 @@ fn append_body(page: &mut Vec<u8>, drawing: &Drawing) -> Result<(), NoMemory>
     requires { length drawing.now.picks.items < 2 ^ 32 }
     ensures { OnOk result (page.new.items ≡ page.old.items ++ spec.body drawing.now) }
 {
-    append_ons(page, drawing.arrows.as_slice())?;
-    append_causes(page, drawing.causes.as_slice())?;
+    append_arrows(page, Layer::On, drawing.arrows.as_slice())?;
+    append_arrows(page, Layer::Cause, drawing.causes.as_slice())?;
     append_attempts(page, drawing.attempts.as_slice())?;
     append_signs(page, drawing.picks.as_slice())?;
-    append_ways(page, drawing.arrows.as_slice())?;
+    append_arrows(page, Layer::Way, drawing.arrows.as_slice())?;
     append_stales(
         page,
         drawing.seats,
@@ -166,32 +174,12 @@ fn append_body(page: &mut Vec<u8>, drawing: &Drawing) -> Result<(), NoMemory>
     append_spans(page, drawing.seats, drawing.spans.as_slice())
 }
 
-/// Adds where members go on.
-fn append_ons(page: &mut Vec<u8>, arrows: &[Arrow]) -> Result<(), NoMemory>
-    ensures { OnOk result (page.new.items ≡ page.old.items ++ flat_map marks.on_mark arrows.now) }
+/// Adds the marks of arrows in a layer.
+fn append_arrows(page: &mut Vec<u8>, layer: Layer, arrows: &[Arrow]) -> Result<(), NoMemory>
+    ensures { OnOk result (page.new.items ≡ page.old.items ++ flat_map (marks.arrow_mark layer) arrows.now) }
 {
     for arrow in arrows {
-        append_on(page, arrow)?;
-    }
-    Ok(())
-}
-
-/// Adds what let members begin.
-fn append_causes(page: &mut Vec<u8>, causes: &[Arrow]) -> Result<(), NoMemory>
-    ensures { OnOk result (page.new.items ≡ page.old.items ++ flat_map marks.cause_mark causes.now) }
-{
-    for arrow in causes {
-        append_cause(page, arrow)?;
-    }
-    Ok(())
-}
-
-/// Adds what was in the way.
-fn append_ways(page: &mut Vec<u8>, arrows: &[Arrow]) -> Result<(), NoMemory>
-    ensures { OnOk result (page.new.items ≡ page.old.items ++ flat_map marks.way_mark arrows.now) }
-{
-    for arrow in arrows {
-        append_way(page, arrow)?;
+        append_arrow(page, layer, arrow)?;
     }
     Ok(())
 }
@@ -218,16 +206,6 @@ fn append_spans(page: &mut Vec<u8>, seats: u32, spans: &[Span]) -> Result<(), No
 {
     for span in spans {
         append_span(page, seats, span)?;
-    }
-    Ok(())
-}
-
-/// Adds a lane for each seat.
-fn append_lanes(page: &mut Vec<u8>, seats: u32, picks: u32) -> Result<(), NoMemory>
-    ensures { OnOk result (page.new.items ≡ page.old.items ++ spec.marks_below (marks.lane_mark picks) seats) }
-{
-    for seat in 0..seats {
-        append_lane(page, picks, seat)?;
     }
     Ok(())
 }
@@ -296,22 +274,31 @@ fn append_foot(page: &mut Vec<u8>, top: u64, captions: &Captions) -> Result<(), 
     requires { top < 2 ^ 40 }
     ensures { OnOk result (page.new.items ≡ page.old.items ++ spec.foot top captions.now) }
 {
-    append_words(page, b"lane", Place { x: 10, y: top + 14 }, b"journal")?;
-    append_legend(page, top + 62)?;
+    append_foot_begin(page, top, KEYS)?;
     append_hidden(page, b"replay", captions.replay.as_slice())?;
     append_hidden(page, b"journal", captions.journal.as_slice())?;
     append(page, b"</svg>\n")
 }
 
-/// Adds the legend at this height.
+/// Adds what stands there above the hidden texts, with these keys.
+#[tactic(auto, unfolding(crate::specs::Picture::foot_begin))]
+pub(crate) fn append_foot_begin(page: &mut Vec<u8>, top: u64, keys: &[u8]) -> Result<(), NoMemory>
+    requires { top < 2 ^ 40 }
+    ensures { OnOk result (page.new.items ≡ page.old.items ++ spec.foot_begin top keys.now) }
+{
+    append_words(page, b"lane", Place { x: 10, y: top + 14 }, b"journal")?;
+    append_legend(page, top + 62, keys)
+}
+
+/// Adds the legend at this height: what boxes mean, and these keys.
 #[tactic(auto, unfolding(crate::specs::Picture::legend))]
-fn append_legend(page: &mut Vec<u8>, y: u64) -> Result<(), NoMemory>
-    ensures { OnOk result (page.new.items ≡ page.old.items ++ spec.legend y) }
+fn append_legend(page: &mut Vec<u8>, y: u64, keys: &[u8]) -> Result<(), NoMemory>
+    ensures { OnOk result (page.new.items ≡ page.old.items ++ spec.legend y keys.now) }
 {
     append(page, LEGEND)?;
     append_decimal(page, y)?;
-    append(page, b")\">\n")?;
-    append(page, KEYS)
+    append(page, BOX_KEYS)?;
+    append(page, keys)
 }
 
 /// Adds a text that is not shown.

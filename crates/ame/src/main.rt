@@ -9,5 +9,5 @@ use std::process::ExitCode;
 fn main(rt: HostRuntime) -> ExitCode {
     let (mut source, sink) = (StdSource::new(rt.reader()), StdSink::new(io::writer(&rt)));
     let report = run_process(&rt, rt.alloc(), process_words(&rt), &mut source, sink);
-    ExitCode::from(report.status.number())
+    ExitCode::from(report.into_number())
 }

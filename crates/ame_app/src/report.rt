@@ -27,7 +27,18 @@ pub struct Report<K, D> {
 impl<K, D> Report<K, D> {
     ghost use Rattle.std.specs.Prelude.{◌≡◌, ◌≢◌, ℕ, [], IfSome, None};
     ghost use Rattle.ame_app.specs.declared.status.Status.{Status};
+    ghost use Rattle.ame_app.specs.Verdict.{number_of};
     ghost use Rattle.ame_app.specs.Verbs.Weak.{told_by};
+
+    /// The number of the status, with which a process ends. All else is let go.
+    pub fn into_number(self) -> u8
+    where
+        K: Drop,
+        D: Drop,
+        ensures { result ≡ number_of self.status }
+    {
+        self.status.number()
+    }
 
     /// A certificate for each member that is left, in order of their numbers, where all are blocked.
     pub fn blocked(&self) -> &[Certificate]

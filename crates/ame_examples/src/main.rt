@@ -34,7 +34,7 @@ where
     let mut source = StdSource::new(fs::open(rt, file)?);
     let sink = StdSink::new(writer);
     let report = run_process(rt, rt.alloc(), Ok(words(rt, workers)?), &mut source, sink);
-    Ok(report.status.number())
+    Ok(report.into_number())
 }
 
 fn main(rt: HostRuntime) -> io::Result<()> {

@@ -15,8 +15,9 @@ use std::test::Fail;
 /// A call of a pool whose machines are numbers.
 #[derive(Clone, Copy)]
 enum Step {
-    /// A number, and whether it stands inside.
-    Add(u64, bool),
+    Add(u64),
+    /// Added inside.
+    AddInside(u64),
     Hold(u64),
     Home(u64),
     RollBack(u64),
@@ -91,6 +92,12 @@ fn list(alloc: Global, locs: &[u32]) -> Result<Vec<Loc>, Fail> {
     Ok(watch)
 }
 
+fn add(rt: &impl Abort, pool: &mut Pool<u64>, number: u64, inside: bool) {
+    assert!(rt; pool.has_room());
+    assert!(rt; lacks(pool, number));
+    pool.add(number, number, inside);
+}
+
 fn hold(rt: &impl Abort, pool: &mut Pool<u64>, number: u64) {
     assert!(rt; is_ready(pool, number));
     let machine = *pool.hold(number);
@@ -118,11 +125,8 @@ fn note(
 
 fn make(rt: &impl Abort, alloc: Global, pool: &mut Pool<u64>, step: &Step) -> Result<(), Fail> {
     match *step {
-        Step::Add(number, inside) => {
-            assert!(rt; pool.has_room());
-            assert!(rt; lacks(pool, number));
-            pool.add(number, number, inside);
-        }
+        Step::Add(number) => add(rt, pool, number, false),
+        Step::AddInside(number) => add(rt, pool, number, true),
         Step::Hold(number) => hold(rt, pool, number),
         Step::Home(number) => home(rt, pool, number, false),
         Step::RollBack(number) => home(rt, pool, number, true),
@@ -163,16 +167,13 @@ fn run(rt: &impl Abort, alloc: Global, steps: &[Step]) -> Result<Pool<u64>, Fail
     Ok(pool)
 }
 
-fn expect(
-    rt: &impl Abort,
-    alloc: Global,
-    steps: &[Step],
-    order: &[u64],
-    oldest: Oldest,
-) -> Result<(), Fail> {
-    let pool = run(rt, alloc, steps)?;
-    assert!(rt; pool.has_order(order));
-    assert!(rt; pool.oldest() == oldest);
+/// After each of these rows of calls, whose turn it is in which order, and who is the oldest.
+fn expect(rt: &impl Abort, alloc: Global, rows: &[(&[Step], &[u64], Oldest)]) -> Result<(), Fail> {
+    for (steps, order, oldest) in rows {
+        let pool = run(rt, alloc, steps)?;
+        assert!(rt; pool.has_order(order));
+        assert!(rt; pool.oldest() == *oldest);
+    }
     Ok(())
 }
 
@@ -181,9 +182,9 @@ fn a_write_wakes_who_waits_for_it(rt: HostRuntime) -> Result<(), Fail> {
     use Step::*;
     let alloc = rt.alloc();
     let parked = [
-        Add(1, false),
-        Add(2, false),
-        Add(3, false),
+        Add(1),
+        Add(2),
+        Add(3),
         Hold(1),
         Hold(2),
         Hold(3),
@@ -194,7 +195,7 @@ fn a_write_wakes_who_waits_for_it(rt: HostRuntime) -> Result<(), Fail> {
         Park(2),
         Park(1),
     ];
-    expect(&rt, alloc, &parked, &[], Oldest::Parked)?;
+    expect(&rt, alloc, &[(&parked, &[], Oldest::Parked)])?;
     let mut pool = run(&rt, alloc, &parked)?;
     pool.wake(Loc(1));
     assert!(&rt; pool.has_order(&[1, 2]));
@@ -215,47 +216,24 @@ fn a_write_wakes_who_waits_for_it(rt: HostRuntime) -> Result<(), Fail> {
 
 #[test]
 fn ready_members_have_an_order(rt: HostRuntime) -> Result<(), Fail> {
+    use Oldest::*;
     use Step::*;
-    let alloc = rt.alloc();
     expect(
         &rt,
-        alloc,
-        &[Add(5, false), Add(3, false), Add(4, true)],
-        &[5, 3, 4],
-        Oldest::Member(5),
-    )?;
-    expect(
-        &rt,
-        alloc,
-        &[Add(1, false), Add(2, false), Hold(1), Home(1)],
-        &[2, 1],
-        Oldest::Member(2),
-    )?;
-    expect(
-        &rt,
-        alloc,
-        &[Add(1, false), Add(2, false), Hold(1), Replace(1)],
-        &[2, 1],
-        Oldest::Member(2),
-    )?;
-    expect(
-        &rt,
-        alloc,
-        &[Add(1, false), Add(2, false), Add(3, false), Hold(2)],
-        &[1, 3],
-        Oldest::Member(1),
-    )?;
-    Ok(())
+        rt.alloc(),
+        &[
+            (&[Add(5), Add(3), AddInside(4)], &[5, 3, 4], Member(5)),
+            (&[Add(1), Add(2), Hold(1), Home(1)], &[2, 1], Member(2)),
+            (&[Add(1), Add(2), Hold(1), Replace(1)], &[2, 1], Member(2)),
+            (&[Add(1), Add(2), Add(3), Hold(2)], &[1, 3], Member(1)),
+        ],
+    )
 }
 
 #[test]
 fn a_held_member_is_found_at_once(rt: HostRuntime) -> Result<(), Fail> {
     use Step::*;
-    let mut pool = run(
-        &rt,
-        rt.alloc(),
-        &[Add(1, false), Add(2, true), Add(3, false)],
-    )?;
+    let mut pool = run(&rt, rt.alloc(), &[Add(1), AddInside(2), Add(3)])?;
     for _ in 0..300u16 {
         for number in [2u64, 3] {
             assert!(&rt; pool.is_at_ticket(number));
@@ -271,194 +249,130 @@ fn a_held_member_is_found_at_once(rt: HostRuntime) -> Result<(), Fail> {
 
 #[test]
 fn where_none_is_ready_it_is_told_why(rt: HostRuntime) -> Result<(), Fail> {
+    use Oldest::*;
     use Step::*;
-    let alloc = rt.alloc();
-    expect(&rt, alloc, &[], &[], Oldest::Empty)?;
-    expect(&rt, alloc, &[Add(1, false), Hold(1)], &[], Oldest::Wait)?;
     expect(
         &rt,
-        alloc,
-        &[Add(1, false), Hold(1), Remove(1)],
-        &[],
-        Oldest::Empty,
-    )?;
-    expect(
-        &rt,
-        alloc,
-        &[Add(1, false), Hold(1), Note(1, 4), Park(1)],
-        &[],
-        Oldest::Parked,
-    )?;
-    expect(
-        &rt,
-        alloc,
+        rt.alloc(),
         &[
-            Add(1, false),
-            Add(2, false),
-            Hold(1),
-            Note(1, 4),
-            Park(1),
-            Wake(5),
-            Hold(2),
+            (&[], &[], Empty),
+            (&[Add(1), Hold(1)], &[], Wait),
+            (&[Add(1), Hold(1), Remove(1)], &[], Empty),
+            (&[Add(1), Hold(1), Note(1, 4), Park(1)], &[], Parked),
+            (
+                &[
+                    Add(1),
+                    Add(2),
+                    Hold(1),
+                    Note(1, 4),
+                    Park(1),
+                    Wake(5),
+                    Hold(2),
+                ],
+                &[],
+                Wait,
+            ),
         ],
-        &[],
-        Oldest::Wait,
-    )?;
-    Ok(())
+    )
 }
 
 #[test]
 fn a_touched_member_is_ready(rt: HostRuntime) -> Result<(), Fail> {
+    use Oldest::*;
     use Step::*;
-    let alloc = rt.alloc();
     expect(
         &rt,
-        alloc,
+        rt.alloc(),
         &[
-            Add(1, false),
-            Add(2, false),
-            Hold(1),
-            Note(1, 4),
-            Wake(4),
-            Park(1),
+            (
+                &[Add(1), Add(2), Hold(1), Note(1, 4), Wake(4), Park(1)],
+                &[2, 1],
+                Member(2),
+            ),
+            (
+                &[Add(1), Add(2), Hold(1), Note(1, 4), Wake(5), Park(1)],
+                &[2],
+                Member(2),
+            ),
+            (&[Add(1), Hold(1), Note(1, 4), Replace(1)], &[1], Member(1)),
         ],
-        &[2, 1],
-        Oldest::Member(2),
-    )?;
-    expect(
-        &rt,
-        alloc,
-        &[
-            Add(1, false),
-            Add(2, false),
-            Hold(1),
-            Note(1, 4),
-            Wake(5),
-            Park(1),
-        ],
-        &[2],
-        Oldest::Member(2),
-    )?;
-    expect(
-        &rt,
-        alloc,
-        &[Add(1, false), Hold(1), Note(1, 4), Replace(1)],
-        &[1],
-        Oldest::Member(1),
-    )?;
-    Ok(())
+    )
 }
 
 #[test]
 fn a_exhausted_member_begins_alone(rt: HostRuntime) -> Result<(), Fail> {
+    use Oldest::*;
     use Step::*;
-    let alloc = rt.alloc();
     expect(
         &rt,
-        alloc,
-        &[Add(1, false), Wear(1), Add(2, false)],
-        &[1, 2],
-        Oldest::Member(1),
-    )?;
-    expect(
-        &rt,
-        alloc,
-        &[Add(1, false), Wear(1), Add(2, false), Hold(1)],
-        &[2],
-        Oldest::Wait,
-    )?;
-    expect(
-        &rt,
-        alloc,
-        &[Add(1, false), Wear(1), Add(2, false), Hold(2)],
-        &[1],
-        Oldest::Wait,
-    )?;
-    expect(
-        &rt,
-        alloc,
+        rt.alloc(),
         &[
-            Add(1, false),
-            Wear(1),
-            Hold(1),
-            Replace(1),
-            Add(2, false),
-            Hold(1),
+            (&[Add(1), Wear(1), Add(2)], &[1, 2], Member(1)),
+            (&[Add(1), Wear(1), Add(2), Hold(1)], &[2], Wait),
+            (&[Add(1), Wear(1), Add(2), Hold(2)], &[1], Wait),
+            (
+                &[Add(1), Wear(1), Hold(1), Replace(1), Add(2), Hold(1)],
+                &[2],
+                Member(2),
+            ),
         ],
-        &[2],
-        Oldest::Member(2),
-    )?;
-    Ok(())
+    )
 }
 
 #[test]
 fn a_exhausted_member_is_passed_by_no_protected_one(rt: HostRuntime) -> Result<(), Fail> {
+    use Oldest::*;
     use Step::*;
-    let alloc = rt.alloc();
     expect(
         &rt,
-        alloc,
+        rt.alloc(),
         &[
-            Add(1, false),
-            Wear(1),
-            Add(2, false),
-            Add(3, false),
-            Hold(2),
+            (&[Add(1), Wear(1), Add(2), Add(3), Hold(2)], &[1, 3], Wait),
+            (
+                &[Add(1), Add(2), Wear(1), Add(3), Hold(3)],
+                &[2, 1],
+                Member(2),
+            ),
         ],
-        &[1, 3],
-        Oldest::Wait,
-    )?;
-    expect(
-        &rt,
-        alloc,
-        &[
-            Add(1, false),
-            Add(2, false),
-            Wear(1),
-            Add(3, false),
-            Hold(3),
-        ],
-        &[2, 1],
-        Oldest::Member(2),
-    )?;
-    Ok(())
+    )
 }
 
 #[test]
 fn a_exhausted_member_is_passed_from_inside(rt: HostRuntime) -> Result<(), Fail> {
+    use Oldest::*;
     use Step::*;
-    let alloc = rt.alloc();
-    let begun = [Add(1, false), Wear(1), Add(2, true), Hold(1)];
-    expect(&rt, alloc, &begun, &[2], Oldest::Member(2))?;
-    let passed = [Add(1, false), Wear(1), Add(2, true), Hold(2)];
-    expect(&rt, alloc, &passed, &[1], Oldest::Member(1))?;
     expect(
         &rt,
-        alloc,
+        rt.alloc(),
         &[
-            Add(1, false),
-            Wear(1),
-            Add(2, false),
-            Hold(2),
-            Add(3, true),
-            Add(4, true),
-            Add(5, false),
-            Hold(3),
-            Home(3),
+            (&[Add(1), Wear(1), AddInside(2), Hold(1)], &[2], Member(2)),
+            (&[Add(1), Wear(1), AddInside(2), Hold(2)], &[1], Member(1)),
+            (
+                &[
+                    Add(1),
+                    Wear(1),
+                    Add(2),
+                    Hold(2),
+                    AddInside(3),
+                    AddInside(4),
+                    Add(5),
+                    Hold(3),
+                    Home(3),
+                ],
+                &[1, 4, 5, 3],
+                Member(4),
+            ),
         ],
-        &[1, 4, 5, 3],
-        Oldest::Member(4),
-    )?;
-    Ok(())
+    )
 }
 
 #[test]
 fn rollbacks_end_at_eight(rt: HostRuntime) -> Result<(), Fail> {
     use Step::*;
     let alloc = rt.alloc();
-    let exhausted = run(&rt, alloc, &[Add(1, false), Wear(1)])?;
+    let exhausted = run(&rt, alloc, &[Add(1), Wear(1)])?;
     assert!(&rt; rollbacks(&exhausted, 1) == Some(8));
-    let noted = run(&rt, alloc, &[Add(1, false), Wear(1), Hold(1), Note(1, 0)])?;
+    let noted = run(&rt, alloc, &[Add(1), Wear(1), Hold(1), Note(1, 0)])?;
     assert!(&rt; rollbacks(&noted, 1) == Some(0));
     Ok(())
 }

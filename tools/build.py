@@ -214,11 +214,9 @@ class Crates:
 def note_start(crates):
     """Writes out/made-from, by which tools/start sees that nothing was changed since; unless something just was."""
     program, folder = crates.program, f"{folder_of(crates.program)}/out"
-    folders = [f"crates/{crate}" for crate in crates.row]
-    parts = [part for part in (f"{it}/{name}" for it in folders for name in PARTS) if os.path.isdir(f"{TOP}/{part}")]
-    files = ["crates.txt", f"crates/{program}/{crates.made(program)}"]
+    parts = ["crates.txt", *(f"crates/{crate}" for crate in crates.row), f"crates/{program}/{crates.made(program)}"]
     with contextlib.suppress(OSError):
-        write(f"{folder}/made-from.new", f"{' '.join(folders)}\n{' '.join(files + parts)}\n")
+        write(f"{folder}/made-from.new", " ".join(parts) + "\n")
         time.sleep(TICK)
         now = Crates(program, crates.kit)
         if now.sums == crates.sums and now.is_built(program):

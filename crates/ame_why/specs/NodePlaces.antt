@@ -1,5 +1,5 @@
 -- Where the forms of nodes are in a program's text.
-use Rattle.std.specs.Prelude.{◌≡◌, ℕ, Option, Some, slice_get, option_and_then}
+use Rattle.std.specs.Prelude.{◌≡◌, ℕ, ◌<◌, Option, Some, None, length, slice_get, option_and_then}
 use Rattle.ame_lex.specs.Bytes.{Text}
 use Rattle.ame_code.specs.FlatCode.{FlatCode}
 use Rattle.ame_code.specs.Code.{program_of}
@@ -21,3 +21,13 @@ pub record StandsThere (text : Text) (code : FlatCode) (fragment : Fragment) (th
   pub place : ℕ
   pub placed : node_place code node.0 ≡ Some place
   pub is : there ≡ position text place
+
+-- it stands at no form whose place is known, and in the text
+abbrev pub StandsNowhere : Text → FlatCode → Fragment → Type 0
+StandsNowhere text code fragment =
+    (node : NodeNo) → fragment_node fragment ≡ Some node → (place : ℕ) → node_place code node.0 ≡ Some place → length text < place
+
+-- so it is of the position that is told, if one is
+abbrev pub ShowsPlace : Text → FlatCode → Fragment → Option Position → Type 0
+ShowsPlace text code fragment None = StandsNowhere text code fragment
+ShowsPlace text code fragment (Some there) = StandsThere text code fragment there

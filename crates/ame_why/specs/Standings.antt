@@ -1,13 +1,14 @@
--- Where the members stand that are left, where all are blocked, and what they read on the way.
-use Rattle.std.specs.Prelude.{◌≡◌, ℕ, List, [], ◌∷◌, ◌++◌, Option, Some, None, IfSome, slice_get, codes, decimal}
+-- Where members stand behind the steps of notes, and what they read on the way.
+use Rattle.std.specs.Prelude.{◌≡◌, ℕ, List, [], ◌∷◌, ◌++◌, true, Option, Some, None, IfSome, slice_get, codes, decimal}
 use Rattle.std.specs.List.{flat_map}
 use Rattle.ame_lex.specs.Bytes.{Text}
 use Rattle.ame_lex.specs.Reading.{tokens_of}
 use Rattle.ame_term.specs.Maps.{at}
-use Rattle.ame_term.specs.declared.types.Unary.TheVariants as unary
 use Rattle.ame_journal.specs.declared.entry.Entry.{Entry}
 use Rattle.ame_journal.specs.declared.entry.EntryKind.{EntryKind}
+use Rattle.ame_machine.specs.declared.wants.Wants.{Wants}
 use Rattle.ame_machine.specs.declared.wants.Wants.TheVariants as wants
+use Rattle.ame_check.specs.Entries.{is_confirmed}
 use Rattle.ame_check.specs.Shows.{ReplayView, StandsForEntries}
 use Rattle.ame_check.specs.Standing.{StandsAt}
 use Rattle.ame_check.specs.declared.stored.Stored.{Stored}
@@ -15,18 +16,18 @@ use Rattle.ame_protocol.specs.declared.certificate.Certificate.{Certificate}
 use Rattle.ame_code.specs.FlatCode.{FlatCode}
 use Rattle.ame_value.specs.View.{flat_value}
 use Rattle.ame_value.specs.declared.val.Val.{Val}
-use Rattle.ame_eval.specs.Places.{fragment_node, IsFormThere}
+use Rattle.ame_eval.specs.Places.{fragment_node, StandsAtForm}
 use Rattle.ame_eval.specs.declared.fragment.Fragment.{Fragment}
 use Rattle.ame_why.specs.declared.position.Position.{Position}
 use Rattle.ame_why.specs.FragmentMeaning.{fragment_meaning}
-use Rattle.ame_why.specs.NodePlaces.{StandsThere}
+use Rattle.ame_why.specs.NodePlaces.{ShowsPlace}
 use Rattle.ame_why.specs.Begun.{IsStartedAt}
 use Rattle.ame_why.specs.Forms.{position_words, positions, tokens_or_none}
 use Rattle.ame_why.specs.Stored.{held_words}
 
--- the steps of a certificate as a note
-abbrev pub cut_note : Certificate → Entry
-cut_note c = record { kind = EntryKind.Cut; seat = 0; number = c.number; steps = c.steps; fresh = c.fresh; answer = None }
+-- the note that a certificate was
+abbrev pub stuck_note : Certificate → Entry
+stuck_note c = record { kind = EntryKind.Stuck; seat = 0; number = c.number; steps = c.steps; fresh = c.fresh; answer = None }
 
 -- a location, and the place of its `ref` form
 unfoldable pub made_words : List Position → ℕ → ℕ → List ℕ
@@ -51,30 +52,53 @@ start_words None = []
 start_words (Some started) = codes ", started at " ++ position_words (Some started) ++ codes ","
 
 -- a member, and where it was started
-unfoldable pub member_words : Certificate → Option Position → List ℕ
-member_words c started = codes "fragment " ++ decimal c.number ++ start_words started
+unfoldable pub member_words : ℕ → Option Position → List ℕ
+member_words number started = codes "fragment " ++ decimal number ++ start_words started
+
+-- the place at which a member stands, if that is known
+abbrev pub place_words : Option Position → List ℕ
+place_words None = []
+place_words (Some there) = codes " at " ++ position_words (Some there)
+
+-- what a note of a kind tells of its member there
+abbrev pub ending : EntryKind → List ℕ
+ending EntryKind.Stuck = codes ", where its condition is false\n"
+ending EntryKind.Tall = codes ", where a value would be too high\n"
+ending _ = codes ", where it was cut off\n"
 
 -- where it stands after so many steps
-unfoldable pub stands_words : ℕ → Position → List ℕ
-stands_words steps there =
-    codes " stands after " ++ decimal steps ++ codes " steps at " ++ position_words (Some there) ++ codes ", where its condition is false\n"
+unfoldable pub stands_words : Entry → Option Position → List ℕ
+stands_words note there = codes " stands after " ++ decimal note.steps ++ codes " steps" ++ place_words there ++ ending note.kind
 
--- the line of a certificate
-unfoldable pub standing_line : Certificate → Option Position → Position → List ℕ
-standing_line c started there = member_words c started ++ stands_words c.steps there
+-- the line of a note
+unfoldable pub standing_line : Entry → Option Position → Option Position → List ℕ
+standing_line note started there = member_words note.number started ++ stands_words note there
 
--- The lines of a certificate: behind the entries its steps lead to a `blockUntil` form whose condition is false, and that is at the position
--- that is told; by these steps the locations were read; and its member began as the body of the `async` form that is told.
-pub record TellsStanding (text : Text) (code : FlatCode) (entries : List Entry) (cells : List (ℕ × Stored Val)) (c : Certificate) (part : List ℕ) : Type 0 where
+-- that line, and those of the locations that were read
+abbrev pub note_lines : List Position → List (ℕ × Stored Val) → Entry → Option Position → Option Position → List (ℕ × ℕ) → List ℕ
+note_lines forms cells note started there reads = standing_line note started there ++ flat_map (read_line forms cells) reads
+
+-- Behind the entries the steps of a note lead its member to a machine that wants this, and read these locations; and the form at which that
+-- stands is at the position that is told.
+pub record ComesTo (text : Text) (code : FlatCode) (entries : List Entry) (note : Entry) (want : Wants) (reads : List (ℕ × ℕ)) (there : Option Position) : Type 0 where
   pub fragment : Fragment
+  pub stands : StandsAt fragment_meaning code entries note fragment want reads
+  pub form : StandsAtForm code (Some want) (fragment_node fragment)
+  pub shown : ShowsPlace text code fragment there
+
+-- The lines of a note: its member comes to what is told, and began as the body of the `async` form that is told; the locations that are told
+-- were read on the way.
+pub record TellsNote (text : Text) (code : FlatCode) (entries : List Entry) (cells : List (ℕ × Stored Val)) (note : Entry) (want : Wants) (there : Option Position) (part : List ℕ) : Type 0 where
   pub reads : List (ℕ × ℕ)
-  pub stands : StandsAt fragment_meaning code entries (cut_note c) fragment wants.Block reads
-  pub form : IsFormThere code unary.Block (fragment_node fragment)
+  pub comes : ComesTo text code entries note want reads there
   pub started : Option Position
-  pub starts : IfSome started (IsStartedAt text code entries c.number)
+  pub starts : IfSome started (IsStartedAt text code entries note.number)
+  pub is : part ≡ note_lines (positions text (tokens_or_none (tokens_of text))) cells note started there reads
+
+-- The lines of a certificate: its member comes to a `blockUntil` form whose condition is false, and the place of that is told.
+pub record TellsStanding (text : Text) (code : FlatCode) (entries : List Entry) (cells : List (ℕ × Stored Val)) (c : Certificate) (part : List ℕ) : Type 0 where
   pub there : Position
-  pub shown : StandsThere text code fragment there
-  pub is : part ≡ standing_line c started there ++ flat_map (read_line (positions text (tokens_or_none (tokens_of text))) cells) reads
+  pub told : TellsNote text code entries cells (stuck_note c) wants.Block (Some there) part
 
 -- the lines of certificates, one after another
 pub data TellEach (text : Text) (code : FlatCode) (entries : List Entry) (cells : List (ℕ × Stored Val)) : List Certificate → List ℕ → Type 0 where
@@ -87,3 +111,12 @@ pub record TellStandings (text : Text) (code : FlatCode) (entries : List Entry) 
   pub place : ReplayView Val Fragment
   pub stands : StandsForEntries fragment_meaning code entries place
   pub told : TellEach text code entries place.cells certificates page
+
+-- The lines of the note with which a run ends, with what the locations hold behind the entries: its member comes to what the note tells.
+pub record TellsHalted (text : Text) (code : FlatCode) (entries : List Entry) (note : Entry) (page : List ℕ) : Type 0 where
+  pub place : ReplayView Val Fragment
+  pub stands : StandsForEntries fragment_meaning code entries place
+  pub want : Wants
+  pub confirmed : is_confirmed note.kind want ≡ true
+  pub there : Option Position
+  pub told : TellsNote text code entries place.cells note want there page

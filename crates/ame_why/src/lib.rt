@@ -55,7 +55,7 @@ pub use position::{Position, position_of};
 pub use printed::printed_of;
 pub use rule_pages::explain_rule;
 pub use rules::explain_types;
-pub use standings::standings_of;
+pub use standings::{halted_of, standings_of};
 pub use starters::starters_of;
 pub use steps::steps_of;
 pub use stored::store_of;

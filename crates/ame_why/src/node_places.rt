@@ -1,6 +1,6 @@
 //! Where the forms of nodes are in a program's text.
 
-ghost use Rattle.std.specs.Prelude.{◌≡◌, IfSome, slice_get};
+ghost use Rattle.std.specs.Prelude.{◌≡◌, ◌<◌, IfSome, length, slice_get};
 ghost use Rattle.ame_code.specs.Code.{program_of};
 ghost use Rattle.ame_code.specs.ReadNumbers.{read_numbers};
 ghost use Rattle.ame_eval.specs.Fragments.{stage_of, IsFragmentOf};
@@ -34,7 +34,8 @@ pub(crate) fn node_place(code: &Code, numbers: &[u32], node: NodeNo) -> Option<u
 
 /// The line and the column of a place, if it is in the text.
 pub(crate) fn position_in(text: &[u8], place: u32) -> Option<Position>
-    ensures { IfSome result (λ there. there ≡ position text.now place) }
+    ensures there { IfSome result (λ there. there ≡ position text.now place) }
+    ensures outside { result ≡ None → length text.now < place }
 {
     if place as usize <= text.len() {
         Some(position_of(text, place as usize))
@@ -51,7 +52,7 @@ pub(crate) fn standing_position(
     fragment: &Fragment,
 ) -> Option<Position>
     requires { numbers.now ≡ read_numbers 0 (program_of code.now) }
-    ensures there { IfSome result (spec.StandsThere text.now code.now fragment.now) }
+    ensures there { spec.ShowsPlace text.now code.now fragment.now result }
     ensures form { IsFragmentOf code.now fragment.now → StandsAtForm code.now (stage_of code.now fragment.now).want (fragment_node fragment.now) }
 {
     let node = fragment.place();

@@ -9,49 +9,67 @@ use crate::forms::{append_position, position_at};
 use crate::page::{append, append_decimal};
 use crate::stored::held_text;
 use ame_check::Stored;
-use ame_engine::Certificate;
+use ame_journal::{Entry, EntryKind};
 use ame_term::{NoMemory, TyNo};
 use ame_value::Val;
 use std::collections::BTreeMap;
 
-/// Adds which member it is, where it was started, and where it stands.
+/// Adds the line of a note: which member it is, where it was started, and where it stands.
 #[tactic(auto, unfolding(crate::specs::Standings::standing_line))]
 pub(crate) fn append_standing(
     page: &mut Vec<u8>,
-    certificate: &Certificate,
+    note: &Entry,
     started: Option<Position>,
-    there: Position,
+    there: Option<Position>,
 ) -> Result<(), NoMemory>
-    ensures { OnOk result (page.new.items ≡ page.old.items ++ spec.standing_line certificate.now started there) }
+    ensures { OnOk result (page.new.items ≡ page.old.items ++ spec.standing_line note.now started there) }
 {
-    append_member(page, certificate, started)?;
-    append_place(page, certificate.steps, there)
+    append_member(page, note.number, started)?;
+    append_stance(page, note, there)
 }
 
 /// Adds a member, and where it was started.
 #[tactic(auto, unfolding(crate::specs::Standings::member_words))]
-fn append_member(
-    page: &mut Vec<u8>,
-    certificate: &Certificate,
-    started: Option<Position>,
-) -> Result<(), NoMemory>
-    ensures { OnOk result (page.new.items ≡ page.old.items ++ spec.member_words certificate.now started) }
+fn append_member(page: &mut Vec<u8>, number: u64, started: Option<Position>) -> Result<(), NoMemory>
+    ensures { OnOk result (page.new.items ≡ page.old.items ++ spec.member_words number started) }
 {
     append(page, b"fragment ")?;
-    append_decimal(page, certificate.number)?;
+    append_decimal(page, number)?;
     append_start(page, started)
 }
 
-/// Adds where it stands after so many steps.
+/// Adds where a member stands after a note's steps.
 #[tactic(auto, unfolding(crate::specs::Standings::stands_words))]
-fn append_place(page: &mut Vec<u8>, steps: u64, there: Position) -> Result<(), NoMemory>
-    ensures { OnOk result (page.new.items ≡ page.old.items ++ spec.stands_words steps there) }
+fn append_stance(page: &mut Vec<u8>, note: &Entry, there: Option<Position>) -> Result<(), NoMemory>
+    ensures { OnOk result (page.new.items ≡ page.old.items ++ spec.stands_words note.now there) }
 {
     append(page, b" stands after ")?;
-    append_decimal(page, steps)?;
-    append(page, b" steps at ")?;
-    append_position(page, Some(there))?;
-    append(page, b", where its condition is false\n")
+    append_decimal(page, note.steps)?;
+    append(page, b" steps")?;
+    append_place(page, there)?;
+    append(page, ending(note.kind))
+}
+
+/// Adds the place at which it stands, if that is known.
+fn append_place(page: &mut Vec<u8>, there: Option<Position>) -> Result<(), NoMemory>
+    ensures { OnOk result (page.new.items ≡ page.old.items ++ spec.place_words there) }
+{
+    if there.is_none() {
+        return Ok(());
+    }
+    append(page, b" at ")?;
+    append_position(page, there)
+}
+
+/// What a note of a kind tells of its member there.
+fn ending(kind: EntryKind) -> &'static [u8]
+    ensures { result.now ≡ spec.ending kind }
+{
+    match kind {
+        EntryKind::Stuck => b", where its condition is false\n",
+        EntryKind::Tall => b", where a value would be too high\n",
+        EntryKind::Ran | EntryKind::Free | EntryKind::Cut => b", where it was cut off\n",
+    }
 }
 
 /// Adds where the form is that started a member, if that is known.

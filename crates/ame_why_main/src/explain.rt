@@ -6,14 +6,22 @@ ghost use Rattle.ame_lex.specs.Bytes.{max_text};
 use crate::origin::Origin;
 use crate::views::entries_of;
 use ame_app::{Own, Report, StandardDevice, Status, TextFault};
+use ame_journal::EntryKind;
 use ame_lex::LexFault;
 use ame_parse::ParseFault;
 use ame_term::NoMemory;
 use ame_why::{
-    explain_bytes, explain_entry, explain_line, explain_tokens, explain_types, heading_of,
-    standings_of, waits_of,
+    explain_bytes, explain_entry, explain_line, explain_tokens, explain_types, halted_of,
+    heading_of, standings_of, waits_of,
 };
 use std::alloc::Global;
+
+/// The most steps of a fragment that are made once more, to find where it stands.
+const MOST_STEPS: u64 = 10_000_000;
+
+/// What is said of one with more.
+const TOO_MANY: &[u8] =
+    b"where the fragment stands that was at work isn't looked for, since it made more than 10,000,000 steps\n";
 
 /// Why a call ended as it did: of a text that is refused its name with the line, the column and the verdict; and then the place in the text,
 /// or in the bytes that it was given where they are a certificate.
@@ -78,6 +86,7 @@ fn reason<K>(
         (Status::Invalid(entry), Own::Unmade(why)) => explain_entry(alloc, input, *entry, why),
         (Status::ReadFault, _) => unread(alloc, origin),
         (Status::Blocked(_), _) => blocked(alloc, report),
+        (Status::Spent | Status::Tall(_), _) => halted(alloc, report),
         (status, _) => Ok(Vec::from_slice(alloc, remark(status))?),
     }
 }
@@ -107,6 +116,39 @@ fn waiting<K>(alloc: Global, report: &Report<K, StandardDevice>) -> Result<Vec<u
         }
     }
     waits_of(alloc, certificates)
+}
+
+/// Why a run ended before its fragments did, and where the one stands that was cut off, or came to a value that is too high.
+fn halted<K>(alloc: Global, report: &Report<K, StandardDevice>) -> Result<Vec<u8>, NoMemory>
+    requires small { vec_len report.now.text ≤ max_text }
+{
+    let mut page = Vec::from_slice(alloc, remark(&report.status))?;
+    page.extend_from_slice(&halting(alloc, report)?)?;
+    Ok(page)
+}
+
+/// Where the fragment of the last note stands, and what it read; nothing where no fragment was cut off, or that isn't found.
+fn halting<K>(alloc: Global, report: &Report<K, StandardDevice>) -> Result<Vec<u8>, NoMemory>
+    requires small { vec_len report.now.text ≤ max_text }
+{
+    let Some(code) = &report.code else {
+        return Ok(Vec::new(alloc));
+    };
+    let mut entries = entries_of(alloc, report)?;
+    let Some(note) = entries.pop() else {
+        return Ok(Vec::new(alloc));
+    };
+    if matches!(
+        note.kind,
+        EntryKind::Ran | EntryKind::Free | EntryKind::Stuck
+    ) {
+        return Ok(Vec::new(alloc));
+    }
+    if note.steps > MOST_STEPS {
+        return Ok(Vec::from_slice(alloc, TOO_MANY)?);
+    }
+    let told = halted_of(alloc, &report.text, code, &entries, &note)?;
+    Ok(told.unwrap_or(Vec::new(alloc)))
 }
 
 /// Which file can't be read, and why.

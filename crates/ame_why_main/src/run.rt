@@ -43,19 +43,20 @@ where
     let chosen = chosen_of(alloc, &words);
     let report = run_process(rt, alloc, Ok(words), &mut source, StdSink::new(io::sink()));
     let begun = report.ended.is_some();
-    match told(alloc, asked.view, &report, source.bytes(), chosen, origin) {
-        Ok(page) => {
-            if let Some(file) = &asked.same {
-                return compare(rt, file.as_str(), &page, writer);
-            }
-            let number = write(writer, &page, report.status.number());
-            if begun && asked.view.is_input() {
-                let _ = rt.eprint(report.status.line().as_str());
-            }
-            number
-        }
-        Err(NoMemory) => write(writer, b"no memory\n", 9),
+    let page = told(alloc, asked.view, &report, source.bytes(), chosen, origin);
+    let verdict = report.status.line();
+    let number = report.into_number();
+    let Ok(page) = page else {
+        return write(writer, b"no memory\n", 9);
+    };
+    if let Some(file) = &asked.same {
+        return compare(rt, file.as_str(), &page, writer);
     }
+    let number = write(writer, &page, number);
+    if begun && asked.view.is_input() {
+        let _ = rt.eprint(verdict.as_str());
+    }
+    number
 }
 
 /// Writes what `ame` writes, and then why. Of a text that is refused at a place the first line tells that too.
@@ -77,8 +78,10 @@ where
     let mut report = run_process(rt, alloc, Ok(words), &mut source, sink);
     let page = explain(alloc, &report, source.bytes(), origin);
     let is_placed = place_of(&report.status).is_some();
-    match end_run(&mut report.sink, page, is_placed) {
-        Ok(()) => report.status.number(),
+    let shown = end_run(&mut report.sink, page, is_placed);
+    let number = report.into_number();
+    match shown {
+        Ok(()) => number,
         Err(_) => 7,
     }
 }

@@ -5,7 +5,8 @@ ghost use Rattle.std.specs.Prelude.{◌≡◌, None};
 use ame_io::{Failed, Sink, WriteFault, write_all};
 use std::alloc::Global;
 
-/// Writes to another sink, but keeps back what begins with a letter, as a verdict line does, as far as there is memory for it.
+/// Writes to another sink, but keeps back what begins with a letter, as a verdict line does, and what comes behind it, as far as there is
+/// memory for it.
 #[derive(Drop)]
 pub struct Late<K> {
     sink: K,
@@ -37,7 +38,7 @@ impl<K: Sink> Sink for Late<K> {
     ghost faults = { λ s. K.faults s.sink };
 
     fn write(&mut self, piece: &[u8]) -> Result<usize, Failed> {
-        let is_kept = matches!(piece.first(), Some(b'a'..=b'z'));
+        let is_kept = !self.held.is_empty() || matches!(piece.first(), Some(b'a'..=b'z'));
         if is_kept && self.held.extend_from_slice(piece).is_ok() {
             return Ok(piece.len());
         }

@@ -1,4 +1,5 @@
-//! Runs the cases of the files and the folders that are named, and tells of each whether all came as it must.
+//! Runs the cases of the files and the folders that are named, and tells of each whether all came as it must. An example that is named is
+//! run, and what it writes is printed.
 #![tactic(auto)]
 
 mod agrees;
@@ -6,7 +7,9 @@ mod call;
 mod case;
 mod device;
 mod dropped;
+mod embedded;
 mod ends;
+mod example;
 mod fault;
 mod field;
 mod files;
@@ -14,6 +17,7 @@ mod held;
 mod item;
 mod judge;
 mod left;
+mod own_ends;
 mod picks;
 mod replay;
 mod tally;
@@ -22,16 +26,18 @@ mod told;
 
 use crate::case::{Case, cases_of};
 use crate::dropped::devices_are_dropped_once;
+use crate::embedded::run_embedded;
+use crate::example::run_example;
 use crate::fault::Fault;
 use crate::files::{files_of, text_of};
 use crate::held::two_are_inside;
 use crate::judge::is_as_told;
 use crate::tally::Tally;
-use std::env::{self, Env};
 use std::process::ExitCode;
 use std::rt::Files;
 use std::sync::Wait;
 use std::thread::Threads;
+use std::{env, io};
 
 /// Runs a case, and prints how it came out.
 fn run_case<R>(rt: &R, file: &str, case: &Case) -> Result<bool, Fault>
@@ -99,25 +105,31 @@ fn run_check<R: Print>(rt: &R, name: &str, is_right: bool) -> Result<Tally, Faul
     Ok(Tally::of(is_right))
 }
 
-/// Does what a word asks for.
-fn run_word<R>(rt: &R, word: &str) -> Result<Tally, Fault>
-where
-    R: Files + Print + AllocGlobal + Threads + Wait + Sync + Clone + Drop,
-{
+/// Does what a word asks for. A number says how many workers run the examples behind it.
+fn run_word(rt: &HostRuntime, word: &str, workers: &mut u32) -> Result<Tally, Fault> {
+    if let Ok(number) = word.parse::<u32>() {
+        *workers = number;
+        return Ok(Tally::new());
+    }
+    if word.ends_with(".ame") {
+        run_example(rt, word, *workers, io::writer(rt))?;
+        return Ok(Tally::new());
+    }
     match word {
         "held" => run_check(rt, word, two_are_inside(rt)?),
         "dropped" => run_check(rt, word, devices_are_dropped_once(rt)?),
+        "embedded" => {
+            run_embedded(rt)?;
+            Ok(Tally::new())
+        }
         _ => run_files(rt, word),
     }
 }
 
-fn run<R>(rt: &R) -> Result<Tally, Fault>
-where
-    R: Files + Env + Print + AllocGlobal + Threads + Wait + Sync + Clone + Drop,
-{
-    let mut tally = Tally::new();
+fn run(rt: &HostRuntime) -> Result<Tally, Fault> {
+    let (mut tally, mut workers) = (Tally::new(), 1);
     for word in env::args(rt)?.skip(1) {
-        tally.add(run_word(rt, word.as_str())?);
+        tally.add(run_word(rt, word.as_str(), &mut workers)?);
     }
     Ok(tally)
 }

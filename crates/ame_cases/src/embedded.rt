@@ -1,6 +1,6 @@
 //! A text of the program's own, run with a source, a sink, a device and a gate of its own.
 
-use crate::ends::{Doubler, Page, Text, Watch};
+use crate::own_ends::{Doubler, Page, Text, Watch};
 use ame_app::run_words;
 use ame_device::Device;
 use std::io::{self, Print};

@@ -1,0 +1,32 @@
+//! An example that is run as `ame` runs it.
+
+use ame_app::run_process;
+use ame_io::{StdSink, StdSource};
+use std::alloc::AllocError;
+use std::rt::Files;
+use std::sync::Wait;
+use std::thread::Threads;
+use std::{fs, io};
+
+/// The words with which an example is run: few turns, so that a loop without an end stops soon.
+fn words<R: AllocGlobal>(rt: &R, workers: u32) -> Result<Vec<String>, AllocError> {
+    let mut words = Vec::new(rt.alloc());
+    for word in ["run", "--turns", "10000", "--workers"] {
+        words.push(String::from_str(rt.alloc(), word)?)?;
+    }
+    words.push(format!(in rt.alloc(); "{workers}")?)?;
+    Ok(words)
+}
+
+/// Prints the name of a file, what the writer is given of the run of its text, and the status of the process.
+pub fn run_example<R, W>(rt: &R, file: &str, workers: u32, writer: W) -> io::Result<()>
+where
+    R: Files + Print + AllocGlobal + Threads + Wait + Sync,
+    W: io::Write + Send + Drop,
+{
+    println!(rt; "{file}:")?;
+    let mut source = StdSource::new(fs::open(rt, file)?);
+    let sink = StdSink::new(writer);
+    let report = run_process(rt, rt.alloc(), Ok(words(rt, workers)?), &mut source, sink);
+    println!(rt; "status {}", report.into_number())
+}

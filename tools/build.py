@@ -3,8 +3,9 @@
 
 build.py PROGRAM tells on standard error how far it is. It calls the compiler as `rt` does, crate by crate, each as soon as
 those that it uses are there. A crate that is done keeps in out/ the checksum of its sources and of those below it, so
-a later run goes on with what is left. The file tools/weights has how long each crate takes one processor; from these
-come the order, the number of jobs of each crate, and the time that is told.
+a later run goes on with what is left. What `rt ci` proved of the same files on this machine is taken over (tools/kept.py).
+The file tools/weights has how long each crate takes one processor; from these come the order, the number of jobs of each
+crate, and the time that is told.
 """
 import contextlib
 import fcntl
@@ -29,6 +30,8 @@ MOST_JOBS = 8
 LEAST_IDLE = 0.5
 # How many seconds of work the first guess of this machine's pace counts for.
 FIRST_GUESS = 60
+# How many seconds the search for what `rt ci` kept may take.
+SEARCH = 120
 # Longer than the clock of the files' times stands still.
 TICK = 0.02
 
@@ -316,6 +319,8 @@ class Build:
 
     def tell_start(self):
         count, left = len(self.crates.row), len(self.crates.row) - len(self.done)
+        if not left:
+            return
         what = f"{left} of {count} crates are left" if self.done else f"{count} crates"
         self.screen.say(f"{self.crates.program} is proved first: {what}, {self.minutes_left()} on this machine")
 
@@ -389,6 +394,20 @@ class Build:
             it.process.wait()
 
 
+def take_kept(crates, screen):
+    """Takes over what `rt ci` proved and built of the same files on this machine."""
+    words = [sys.executable, f"{TOP}/tools/kept.py", crates.program, *crates.built()]
+    how = {"stdin": subprocess.DEVNULL, "stdout": subprocess.PIPE, "stderr": subprocess.DEVNULL}
+    with contextlib.suppress(OSError, subprocess.TimeoutExpired):
+        found = subprocess.run(words, text=True, timeout=SEARCH, **how)
+        names = [] if found.returncode else found.stdout.split()
+        for crate in names:
+            if crates.own_sum(crate) == crates.own[crate]:
+                write(crates.stamp(crate), crates.stamp_text(crate))
+        if names:
+            screen.say(f"`rt ci` proved {len(names)} of the {len(crates.row)} crates of {crates.program} on this machine")
+
+
 def hold(crates, screen):
     """Keeps `rt` and other builds out of the crates until this process and all that it started have ended."""
     held = [os.open(folder, os.O_RDONLY) for folder in sorted(map(folder_of, crates.row))]
@@ -423,6 +442,7 @@ def make(program, screen):
         # (what was waited for may have built it, of other sources too)
         crates = Crates(program, kit)
         if not crates.is_built(program):
+            take_kept(crates, screen)
             build = Build(crates, screen, held)
             try:
                 build.run()

@@ -72,7 +72,7 @@ pub fn standings_of(
 }
 
 /// The same of the member of a note with which a run ends: one that was cut off, or came to a value that is too high. The place at which it
-/// stands isn't told where it is at a value for which no form with one part waits. None where the entries aren't those of a run, or the note can't be made behind
+/// stands isn't told where it is at a value for which nothing waits. None where the entries aren't those of a run, or the note can't be made behind
 /// them. Costs what the run did.
 pub fn halted_of(
     alloc: Global,

@@ -22,7 +22,7 @@ use Rattle.ame_why.specs.Forms.{positions, tokens_or_none}
 use Rattle.ame_why.specs.FragmentMeaning.{fragment_meaning}
 use Rattle.ame_why.specs.NodePlaces.{ShowsPlace}
 use Rattle.ame_why.specs.Begun.{IsStartedAt}
-use Rattle.ame_why.specs.Standings.{stuck_note, note_lines, ComesTo, TellsStanding, TellEach, TellsHalted}
+use Rattle.ame_why.specs.Standings.{stuck_note, note_lines, LeadsNoteTo, TellsStanding, TellEach, TellsHalted}
 
 -- the steps of a note lead to the same machine, of whatever kind it is
 stands-as : (code : FlatCode) (entries : List Entry) (note : Entry) (kind : EntryKind) (fragment : Fragment) (want : Wants) (reads : List (ℕ × ℕ))
@@ -43,7 +43,7 @@ module _ (text : Text) (code : FlatCode) (entries : List Entry) where
   pub comes-to : (note cut : Entry) → cut ≡ record note { kind = EntryKind.Cut } → (fragment : Fragment) (want : Wants) (reads : List (ℕ × ℕ))
       → StandsAt fragment_meaning code entries cut fragment want reads
       → (IsFragmentOf code fragment → StandsAtForm code (stage_of code fragment).want (fragment_node fragment))
-      → (there : Option Position) → ShowsPlace text code fragment there → ComesTo text code entries note want reads there
+      → (there : Option Position) → ShowsPlace text code fragment there → LeadsNoteTo text code entries note want reads there
   comes-to note cut as_cut fragment want reads stands form there shown =
       let found : StandsAt fragment_meaning code entries note fragment want reads =
       stands-as code entries note EntryKind.Cut fragment want reads
@@ -57,15 +57,15 @@ module _ (text : Text) (code : FlatCode) (entries : List Entry) where
 
   -- what the member of a certificate comes to, as its lines
   pub tells-standing : (cells : List (ℕ × Stored Val)) (c : Certificate) (note : Entry) (want : Wants) (reads : List (ℕ × ℕ)) (o : Option Position) (there : Position)
-      → note ≡ stuck_note c → want ≡ wants.Block → o ≡ Some there → ComesTo text code entries note want reads o
+      → note ≡ stuck_note c → want ≡ wants.Block → o ≡ Some there → LeadsNoteTo text code entries note want reads o
       → (started : Option Position) → IfSome started (IsStartedAt text code entries c.number) → (part : List ℕ)
       → part ≡ note_lines (positions text (tokens_or_none (tokens_of text))) cells note started (Some there) reads
       → TellsStanding text code entries cells c part
   tells-standing cells c note want reads o there as_note blocks known comes started starts part is =
-      let there_comes : ComesTo text code entries (stuck_note c) wants.Block reads (Some there) =
-      subst (λ (p : Option Position). ComesTo text code entries (stuck_note c) wants.Block reads p) known
-      (subst (λ (w : Wants). ComesTo text code entries (stuck_note c) w reads o) blocks
-      (subst (λ (e : Entry). ComesTo text code entries e want reads o) as_note comes)) in
+      let there_comes : LeadsNoteTo text code entries (stuck_note c) wants.Block reads (Some there) =
+      subst (λ (p : Option Position). LeadsNoteTo text code entries (stuck_note c) wants.Block reads p) known
+      (subst (λ (w : Wants). LeadsNoteTo text code entries (stuck_note c) w reads o) blocks
+      (subst (λ (e : Entry). LeadsNoteTo text code entries e want reads o) as_note comes)) in
       let lines : part ≡ note_lines (positions text (tokens_or_none (tokens_of text))) cells (stuck_note c) started (Some there) reads =
       subst (λ (e : Entry). part ≡ note_lines (positions text (tokens_or_none (tokens_of text))) cells e started (Some there) reads) as_note is in
       record {
@@ -81,7 +81,7 @@ module _ (text : Text) (code : FlatCode) (entries : List Entry) where
 
   -- what the member of the note comes to with which a run ends
   pub tells-halted : (note : Entry) (place : ReplayView Val Fragment) (want : Wants) (reads : List (ℕ × ℕ)) (there : Option Position)
-      → StandsForEntries fragment_meaning code entries place → is_confirmed note.kind want ≡ true → ComesTo text code entries note want reads there
+      → StandsForEntries fragment_meaning code entries place → is_confirmed note.kind want ≡ true → LeadsNoteTo text code entries note want reads there
       → (started : Option Position) → IfSome started (IsStartedAt text code entries note.number) → (page : List ℕ)
       → page ≡ note_lines (positions text (tokens_or_none (tokens_of text))) place.cells note started there reads → TellsHalted text code entries note page
   tells-halted note place want reads there stands confirmed comes started starts page is = record {

@@ -1,5 +1,6 @@
 -- Where the name is bound of which a rule of the types speaks, by the tokens of a program.
-use Rattle.std.specs.Prelude.{ℕ, ◌+◌, ◌-◌, ◌==◌, Bool, nat_le, if◌then◌else◌, List, [], ◌++◌, drop, length, reverse, slice_get, Option, Some, None, option_to_list, codes}
+use Rattle.std.specs.Prelude.{ℕ, ◌+◌, ◌-◌, ◌==◌, Bool, nat_le, if◌then◌else◌, List, [], ◌++◌, drop, length, reverse, slice_get}
+use Rattle.std.specs.Prelude.{Option, Some, None, option_to_list, codes}
 use Rattle.std.specs.List.{find, flat_map, fold, prefix_len, take_while}
 use Rattle.std.specs.Str.{bytes_eq}
 use Rattle.ame_lex.specs.declared.tokens.Kind.{Kind}

@@ -1,10 +1,14 @@
 -- What a fault of the types shows.
-use Rattle.std.specs.Prelude.{◌≡◌, ◌++◌, ℕ, List, [], codes, decimal}
-use Rattle.ame_term.specs.Shown.{Shown, TypeFault}
+use Rattle.std.specs.Prelude.{◌++◌, ◌-◌, ◌==◌, ℕ, List, [], Option, Some, None, if◌then◌else◌, length, slice_get, codes, decimal}
+use Rattle.ame_lex.specs.Bytes.{Text}
+use Rattle.ame_lex.specs.declared.tokens.Token.{Token}
+use Rattle.ame_term.specs.Shown.{Shown, TypeFault, type_mismatch, no_function, wrong_effect, wrong_sort, no_reference, misplaced_block}
+use Rattle.ame_term.specs.Shown.{misplaced_unprotected, no_device, not_unit, no_pair}
 use Rattle.ame_term.specs.declared.types.Sort.{Sort}
 use Rattle.ame_term.specs.declared.types.Effect.{Effect}
 use Rattle.ame_print.specs.Tokens.{type_text}
-use Rattle.ame_why.specs.Binders.{binder_words}
+use Rattle.ame_why.specs.Binders.{part_at, word_at, tokens_known, binder_words}
+use Rattle.ame_why.specs.Open.{open_before}
 use Rattle.ame_why.specs.Placed.{placed_within}
 
 -- an effect and a sort in words
@@ -31,7 +35,48 @@ found_line found = shown_line (codes "found: ") (codes "device ") found
 abbrev pub wanted_line : Shown → List ℕ
 wanted_line wanted = shown_line (codes "wanted: ") (codes "a device below ") wanted
 
--- The page shows the place of a fault, the rule in words, where the name is bound of which the rule speaks, and what was found and wanted.
-pub record IsTypeExplained (text : List ℕ) (fault : TypeFault) (page : List ℕ) : Type 0 where
-  pub words : List ℕ
-  pub shown : page ≡ placed_within text fault.place ++ (words ++ binder_words text fault ++ found_line fault.found ++ wanted_line fault.wanted)
+-- the rule of effects, and that of sorts
+abbrev pub effect_rule : List ℕ
+effect_rule =
+    codes "this call doesn't fit the code around it: protected code calls functions of effect p or a, "
+    ++ codes "unprotected code those of effect u or a, and `call` and `peek` are for unprotected code\n"
+
+abbrev pub sort_rule : List ℕ
+sort_rule =
+    codes "this location is one of the other code: protected code reads and writes those of sort p, unprotected code those of sort u\n"
+
+-- a rule in words
+abbrev pub rule_words : ℕ → List ℕ
+rule_words rule =
+    if rule == type_mismatch then codes "this part has another type than its form wants\n"
+    else (if rule == no_function then codes "what is called is no function\n"
+    else (if rule == wrong_effect then effect_rule
+    else (if rule == wrong_sort then sort_rule
+    else (if rule == no_reference then codes "what is read or written is no reference\n"
+    else (if rule == misplaced_block then codes "`blockUntil` is for protected code, since only a fragment is taken back\n"
+    else (if rule == misplaced_unprotected then codes "the code around this is unprotected already\n"
+    else (if rule == no_device then codes "there is no device of this number\n"
+    else (if rule == not_unit then codes "nobody takes what this gives, so it must give Unit\n"
+    else (if rule == no_pair then codes "what is taken apart is no pair\n"
+    else codes "\n")))))))))
+
+-- which part of the form that opens there has another type than it wants, and the form's word; where none does, only that a part has
+abbrev pub part_words : Text → List Token → ℕ → Option ℕ → List ℕ
+part_words text tokens place None = rule_words type_mismatch
+part_words text tokens place (Some form) =
+    codes "part " ++ decimal (part_at form place tokens) ++ codes " of `" ++ word_at text form tokens ++ codes "` has another type than the form wants\n"
+
+-- the innermost of some forms, the innermost of which stands last
+abbrev pub innermost : List ℕ → Option ℕ
+innermost forms = slice_get forms (length forms - 1)
+
+-- the rule that a fault breaks; of a part with another type, which part it is of which form: the innermost that is open at its place
+unfoldable pub fault_words : Text → TypeFault → List ℕ
+fault_words text fault =
+    let tokens = tokens_known text in
+    if fault.rule == type_mismatch then part_words text tokens fault.place (innermost (open_before fault.place tokens)) else rule_words fault.rule
+
+-- the place of a fault, the rule in words, where the name is bound of which the rule speaks, and what was found and wanted
+abbrev pub fault_page : Text → TypeFault → List ℕ
+fault_page text fault =
+    placed_within text fault.place ++ (fault_words text fault ++ binder_words text fault ++ found_line fault.found ++ wanted_line fault.wanted)

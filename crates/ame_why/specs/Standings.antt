@@ -80,7 +80,8 @@ note_lines forms cells note started there reads = standing_line note started the
 
 -- Behind the entries the steps of a note lead its member to a machine that wants this, and read these locations; and the form at which that
 -- stands is at the position that is told.
-pub record ComesTo (text : Text) (code : FlatCode) (entries : List Entry) (note : Entry) (want : Wants) (reads : List (ℕ × ℕ)) (there : Option Position) : Type 0 where
+pub record LeadsNoteTo (text : Text) (code : FlatCode) (entries : List Entry) (note : Entry)
+    (want : Wants) (reads : List (ℕ × ℕ)) (there : Option Position) : Type 0 where
   pub fragment : Fragment
   pub stands : StandsAt fragment_meaning code entries note fragment want reads
   pub form : StandsAtForm code (Some want) (fragment_node fragment)
@@ -88,9 +89,10 @@ pub record ComesTo (text : Text) (code : FlatCode) (entries : List Entry) (note 
 
 -- The lines of a note: its member comes to what is told, and began as the body of the `async` form that is told; the locations that are told
 -- were read on the way.
-pub record TellsNote (text : Text) (code : FlatCode) (entries : List Entry) (cells : List (ℕ × Stored Val)) (note : Entry) (want : Wants) (there : Option Position) (part : List ℕ) : Type 0 where
+pub record TellsNote (text : Text) (code : FlatCode) (entries : List Entry) (cells : List (ℕ × Stored Val)) (note : Entry)
+    (want : Wants) (there : Option Position) (part : List ℕ) : Type 0 where
   pub reads : List (ℕ × ℕ)
-  pub comes : ComesTo text code entries note want reads there
+  pub comes : LeadsNoteTo text code entries note want reads there
   pub started : Option Position
   pub starts : IfSome started (IsStartedAt text code entries note.number)
   pub is : part ≡ note_lines (positions text (tokens_or_none (tokens_of text))) cells note started there reads

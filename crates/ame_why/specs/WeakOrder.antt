@@ -1,5 +1,5 @@
 -- The labels of a weak run as rows, in the order in which they were made.
-use Rattle.std.specs.Prelude.{◌≡◌, ℕ, ◌+◌, List, [], ◌∷◌, ◌++◌, length, get_or, replicate, Option, Some, None, codes, decimal}
+use Rattle.std.specs.Prelude.{◌≡◌, ◌≢◌, ⊤, ℕ, ◌+◌, List, [], ◌∷◌, ◌++◌, length, get_or, replicate, Option, Some, None, codes, decimal}
 use Rattle.std.specs.Fmt.{signed_decimal}
 use Rattle.ame_lex.specs.Bytes.{Text}
 use Rattle.ame_term.specs.Tree.{Val, Tree}
@@ -119,17 +119,43 @@ weak_row names n entry w label v = before_label n entry w label ++ behind_label 
 -- the row of a try, the note of which is this entry
 unfoldable pub taken_back_row : ℕ → Try → List ℕ
 taken_back_row entry t =
-    codes "      " ++ column 6 entry ++ column 9 t.certificate.number ++ codes "  was tried, and taken back behind step " ++ decimal t.certificate.steps ++ codes "\n"
+    codes "      " ++ column 6 entry ++ column 9 t.certificate.number ++ codes "  was tried, and taken back behind step "
+    ++ decimal t.certificate.steps ++ codes "\n"
 
 -- the line that names the columns
 abbrev pub weak_heading : List ℕ
 weak_heading = codes "label  entry  fragment   protected code        unprotected code\n"
 
--- A page tells labels of a weak run: each of its rows tells the next of them, with its entry by these numbers. It is legal in the weak state to
--- which those above it lead. Tries stand between them.
-pub data TellsLabels (names : List Text) (numbers : List ℕ) (w : Weak) : List ℕ → List Label → Weak → Type 0 where
-  none : TellsLabels names numbers w weak_heading [] w
-  told : (page : List ℕ) (labels : List Label) (v u : Weak) (label : Label) → TellsLabels names numbers w page labels v → weak_after v label ≡ Some u →
-      TellsLabels names numbers w (page ++ weak_row names (length labels + 1) (get_or numbers (length labels) 0) v label u) (labels ++ label ∷ []) u
-  tried : (page : List ℕ) (labels : List Label) (v : Weak) (entry : ℕ) (t : Try) → TellsLabels names numbers w page labels v →
-      TellsLabels names numbers w (page ++ taken_back_row entry t) labels v
+-- how many entries there are behind a label, which goes into this entry: what a fragment does goes into the entry of its end
+abbrev pub entries_after : Label → ℕ → ℕ → ℕ
+entries_after (Label.Activate i) entry entries = entries
+entries_after (Label.Step kind) entry entries = entries
+entries_after _ entry entries = entry
+
+-- of the tries that aren't told yet, which come in this order, none stands behind n labels
+abbrev pub NoneIsNext : ℕ → List Try → Type 0
+NoneIsNext n [] = ⊤
+NoneIsNext n (t ∷ later) = t.after ≢ n
+
+-- A page tells labels of a weak run and the tries between them. Each row tells the next label, with its entry by these numbers, which is legal in the
+-- weak state to which the labels above it lead; or the next try, which was made after exactly the labels above it, with the entry behind those so far.
+-- A label is told once no such try is left. Behind the page and its labels stand the tries that are left, how many entries there are, and the weak state.
+pub data TellsLabels (names : List Text) (numbers : List ℕ) (w : Weak) (tries : List Try) : List ℕ → List Label → List Try → ℕ → Weak → Type 0 where
+  none : TellsLabels names numbers w tries weak_heading [] tries 0 w
+  told : (page : List ℕ) (labels : List Label) (rest : List Try) (entries : ℕ) (v u : Weak) (label : Label)
+      → TellsLabels names numbers w tries page labels rest entries v → NoneIsNext (length labels) rest → weak_after v label ≡ Some u
+      → TellsLabels names numbers w tries
+      (page ++ weak_row names (length labels + 1) (get_or numbers (length labels) 0) v label u)
+      (labels ++ label ∷ []) rest (entries_after label (get_or numbers (length labels) 0) entries) u
+  tried : (page : List ℕ) (labels : List Label) (t : Try) (rest : List Try) (entries : ℕ) (v : Weak)
+      → TellsLabels names numbers w tries page labels (t ∷ rest) entries v → t.after ≡ length labels
+      → TellsLabels names numbers w tries (page ++ taken_back_row (entries + 1) t) labels rest (entries + 1) v
+
+-- The page tells all these labels, and the tries in order, each where it belongs; none that is left stands behind the last label. Where the list has
+-- the tries in the order in which they were made, those that are left were made after more labels (`left_behind` of `proofs/OrderLemmas`).
+pub record TellsOrder (names : List Text) (numbers : List ℕ) (w : Weak) (tries : List Try) (labels : List Label) (page : List ℕ) : Type 0 where
+  pub behind : Weak
+  pub entries : ℕ
+  pub later : List Try
+  pub told : TellsLabels names numbers w tries page labels later entries behind
+  pub complete : NoneIsNext (length labels) later

@@ -169,7 +169,7 @@ fn same_name(text: &[u8], token: Option<Token>, name: Token) -> Option<Token>
 }
 
 /// The word of the form that opens at a place.
-fn word_at<'a>(text: &'a [u8], tokens: &[Token], form: u32) -> &'a [u8]
+pub(crate) fn word_at<'a>(text: &'a [u8], tokens: &[Token], form: u32) -> &'a [u8]
     requires { All (IsWithin text.now) tokens.now }
     ensures { result.now ≡ spec.word_at text.now form tokens.now }
 {
@@ -180,7 +180,7 @@ fn word_at<'a>(text: &'a [u8], tokens: &[Token], form: u32) -> &'a [u8]
 }
 
 /// The bytes of a token.
-pub(crate) fn spelled(text: &[u8], token: Token) -> &[u8]
+fn spelled(text: &[u8], token: Token) -> &[u8]
     requires { IsWithin text.now token }
     ensures { result.now ≡ spelled text.now token }
 {

@@ -1,17 +1,16 @@
 //! Faults of the types.
 
-ghost use Rattle.std.specs.Prelude.{◌≡◌, ◌++◌, ◌≤◌, All, IfOk, OnOk, codes, length};
-ghost use Rattle.ame_lex.specs.Bytes.{max_text};
+ghost use Rattle.std.specs.Prelude.{◌≡◌, ◌++◌, All, IfOk, OnOk, codes};
 ghost use Rattle.ame_lex.specs.Tokens.{IsWithin};
 ghost use Rattle.ame_types.specs.Fault.{fault_of, shown_of};
 ghost use Rattle.ame_why.specs.Binders as binders;
 ghost use Rattle.ame_why.specs.Binders.{binder_words};
 ghost use Rattle.ame_why.specs.Rules as spec;
-ghost use Rattle.ame_why.specs.Rules.{IsTypeExplained, shown_line};
+ghost use Rattle.ame_why.specs.Rules.{fault_page, fault_words, shown_line};
 
-use crate::binders::{binder_at, spelled};
+use crate::binders::{binder_at, word_at};
 use crate::page::{append, append_decimal};
-use crate::parts::{part_number, token_behind};
+use crate::parts::part_number;
 use crate::placed::explained;
 use crate::spans::{open_before, tokens_of};
 use ame_lex::Token;
@@ -25,7 +24,7 @@ const MAX_TEXT: usize = 1_048_576;
 
 /// Which rule a program breaks and where, and what was found and wanted there.
 pub fn explain_types(alloc: Global, text: &[u8], fault: &TypeFault) -> Result<Vec<u8>, NoMemory>
-    ensures { IfOk result (λ page. IsTypeExplained text.now (fault_of fault.now) page.items) }
+    ensures { IfOk result (λ page. page.items ≡ fault_page text.now (fault_of fault.now)) }
 {
     let mut message = rule_text(alloc, text, fault)?;
     append_binder(alloc, &mut message, text, fault)?;
@@ -41,12 +40,16 @@ pub fn explain_types(alloc: Global, text: &[u8], fault: &TypeFault) -> Result<Ve
 }
 
 /// Which rule is broken; where it speaks of a part of a form, of which.
-fn rule_text(alloc: Global, text: &[u8], fault: &TypeFault) -> Result<Vec<u8>, NoMemory> {
-    if fault.rule == rule::TYPE_MISMATCH && text.len() <= MAX_TEXT {
-        part_text(alloc, text, fault.place)
-    } else {
-        Ok(Vec::from_slice(alloc, rule_words(fault.rule))?)
+#[tactic(auto, unfolding(crate::specs::Rules::fault_words))]
+fn rule_text(alloc: Global, text: &[u8], fault: &TypeFault) -> Result<Vec<u8>, NoMemory>
+    ensures { IfOk result (λ words. words.items ≡ fault_words text.now (fault_of fault.now)) }
+{
+    if fault.rule != rule::TYPE_MISMATCH {
+        return Ok(Vec::from_slice(alloc, rule_words(fault.rule))?);
     }
+    let tokens = tokens_known(alloc, text)?;
+    let places = open_before(alloc, &tokens, fault.place)?;
+    part_text(alloc, text, &tokens, places.last().copied(), fault.place)
 }
 
 /// Adds where the function or the location is bound of which a rule speaks, if it is a name.
@@ -93,27 +96,32 @@ fn append_bound(
     append(message, &bound)
 }
 
-/// Which part of which form has another type than it wants.
-fn part_text(alloc: Global, text: &[u8], place: u32) -> Result<Vec<u8>, NoMemory>
-    requires small { length text.now ≤ max_text }
+/// Which part of the form that opens there has another type than it wants.
+fn part_text(
+    alloc: Global,
+    text: &[u8],
+    tokens: &[Token],
+    form: Option<u32>,
+    place: u32,
+) -> Result<Vec<u8>, NoMemory>
+    requires { All (IsWithin text.now) tokens.now }
+    ensures { IfOk result (λ words. words.items ≡ spec.part_words text.now tokens.now place form) }
 {
-    let tokens = tokens_of(alloc, text)?;
-    let places = open_before(alloc, &tokens, place)?;
-    let Some(open) = places.last() else {
+    let Some(open) = form else {
         return Ok(Vec::from_slice(alloc, rule_words(rule::TYPE_MISMATCH))?);
     };
     let mut words = Vec::from_slice(alloc, b"part ")?;
-    append_decimal(&mut words, part_number(&tokens, *open, place) as u64)?;
+    append_decimal(&mut words, part_number(tokens, open, place) as u64)?;
     append(&mut words, b" of `")?;
-    if let Some(head) = token_behind(text, &tokens, *open, 0) {
-        append(&mut words, spelled(text, head))?;
-    }
+    append(&mut words, word_at(text, tokens, open))?;
     append(&mut words, b"` has another type than the form wants\n")?;
     Ok(words)
 }
 
 /// A rule in words.
-fn rule_words(number: u8) -> &'static [u8] {
+fn rule_words(number: u8) -> &'static [u8]
+    ensures { result.now ≡ spec.rule_words number }
+{
     match number {
         rule::TYPE_MISMATCH => b"this part has another type than its form wants\n",
         rule::NO_FUNCTION => b"what is called is no function\n",

@@ -167,7 +167,7 @@ fn stance_of(
         (record { cells = replay.now.cells.entries; members = replay.now.members.entries; output = replay.now.output.items; next = replay.now.next }) }
     ensures { IfOk result (λ told. IfSome told (λ stance. (entries : List Entry) → StandsForEntries fragment_meaning code.now entries
         (record { cells = replay.now.cells.entries; members = replay.now.members.entries; output = replay.now.output.items; next = replay.now.next })
-        → spec.ComesTo text.now code.now entries note.now stance.want stance.reads.entries stance.there)) }
+        → spec.LeadsNoteTo text.now code.now entries note.now stance.want stance.reads.entries stance.there)) }
 {
     let cut = cut_of(alloc, note)?;
     let Some(standing) = replay.stand(alloc, code, &cut)? else {

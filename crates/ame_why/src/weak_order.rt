@@ -1,11 +1,12 @@
 //! The labels of a weak run, in the order in which they were made.
 
-ghost use Rattle.std.specs.Prelude.{◌≡◌, ◌<◌, ◌+◌, ◌^◌, IfOk, IfSome, OnOk, get_or};
+ghost use Rattle.std.specs.Prelude.{◌≡◌, ◌<◌, ◌+◌, ◌^◌, IfOk, IfSome, IfNone, OnOk, Err, None, get_or};
 ghost use Rattle.ame_term.specs.View.{tree_of};
 ghost use Rattle.ame_print.specs.Printer.{spelling_of};
-ghost use Rattle.ame_weak.specs.Weak.{Weak, weak_start};
+ghost use Rattle.ame_weak.specs.Weak.{weak_after, weak_run, weak_start};
 ghost use Rattle.ame_weak.specs.View.{weak_of};
-ghost use Rattle.ame_why.specs.WeakOrder.{weak_heading, TellsLabels};
+ghost use Rattle.ame_why.specs.WeakOrder as spec;
+ghost use Rattle.ame_why.specs.WeakOrder.{weak_heading, NoneIsNext, TellsOrder};
 ghost use Rattle.ame_why.specs.Orders.{TellsOne, TellsTries, TellsAll};
 
 use crate::page::append;
@@ -28,8 +29,8 @@ pub(crate) struct Order {
 }
 
 /// Labels from the beginning of a weak run of a program, a row each: the entry into which it goes by these numbers, its member, and what it
-/// does, with the location that it touches and what that holds then. Tries stand between them. None where the labels aren't legal. Costs
-/// what the labels' steps cost.
+/// does, with the location that it touches and what that holds then. Tries stand between them, each behind as many labels as it was made
+/// after; the list has them in that order. None where the labels aren't legal. Costs what the labels' steps cost.
 pub fn weak_order_of(
     alloc: Global,
     program: Program,
@@ -37,8 +38,9 @@ pub fn weak_order_of(
     numbers: Vec<u64>,
     tries: &[Try],
 ) -> Result<Option<Vec<u8>>, NoMemory>
-    ensures { IfOk result (λ told. IfSome told (λ page. (w : Weak) × TellsLabels (spelling_of program.names.items) numbers.items
-        (weak_start (tree_of program.term)) page.items labels.now w)) }
+    ensures told { IfOk result (λ told. IfSome told (λ page. TellsOrder (spelling_of program.names.items) numbers.items
+        (weak_start (tree_of program.term)) tries.now labels.now page.items)) }
+    ensures illegal { IfOk result (λ told. IfNone told (weak_run (weak_start (tree_of program.term)) labels.now ≡ None)) }
 {
     let mut order = Order {
         state: WeakState::start(alloc, program.term)?,
@@ -70,7 +72,9 @@ impl Order {
     /// Makes labels and adds their rows, with those of tries.
     fn tell_all(&mut self, alloc: Global, labels: &[Label], tries: &[Try]) -> Result<(), StepFail>
         requires empty { self.old.page.items ≡ weak_heading }
-        ensures { OnOk result (TellsAll labels.now self.old self.new) }
+        requires none { self.old.entries ≡ 0 }
+        ensures told { OnOk result (TellsAll labels.now tries.now self.old self.new) }
+        ensures illegal { result ≡ Err StepFail.Illegal → weak_run (weak_of self.old.state) labels.now ≡ None }
     {
         let mut rest = tries;
         for (index, label) in labels.iter().enumerate() {
@@ -84,7 +88,8 @@ impl Order {
     /// Adds the rows of the tries that were made after n labels; tells the later tries.
     #[tactic(auto, using(crate::proofs::OrderLemmas::no_tries))]
     fn tell_tries<'a>(&mut self, tries: &'a [Try], n: u64) -> Result<&'a [Try], NoMemory>
-        ensures { OnOk result (TellsTries self.old self.new) }
+        ensures told { IfOk result (λ rest. TellsTries n tries.now rest.now self.old self.new) }
+        ensures later { IfOk result (λ rest. NoneIsNext n rest.now) }
     {
         let mut rest = tries;
         while let Some((t, others)) = rest.split_first() {
@@ -102,7 +107,8 @@ impl Order {
     #[tactic(auto, using(crate::proofs::OrderLemmas::told_row))]
     fn tell(&mut self, alloc: Global, index: usize, label: Label) -> Result<(), StepFail>
         requires { index + 1 < 2 ^ 64 }
-        ensures { OnOk result (TellsOne index label self.old self.new) }
+        ensures told { OnOk result (TellsOne index label self.old self.new) }
+        ensures illegal { result ≡ Err StepFail.Illegal → weak_after (weak_of self.old.state) label ≡ None }
     {
         if !self.state.has_room() {
             return Err(StepFail::NoMemory);
@@ -128,7 +134,9 @@ fn number_at(numbers: &[u64], index: usize) -> u64
 }
 
 /// How many entries there are behind a label, which goes into this entry.
-fn entries_after(label: Label, entry: u64, entries: u64) -> u64 {
+fn entries_after(label: Label, entry: u64, entries: u64) -> u64
+    ensures { result ≡ spec.entries_after label entry entries }
+{
     match label {
         Label::Activate(_) | Label::Step(_) => entries,
         _ => entry,

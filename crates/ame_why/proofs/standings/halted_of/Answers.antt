@@ -4,7 +4,7 @@ use Rattle.ame_check.specs.Shows.{StandsForEntries}
 use Rattle.ame_why.specs.declared.position.Position.{Position}
 use Rattle.ame_why.specs.FragmentMeaning.{fragment_meaning}
 use Rattle.ame_why.specs.Begun.{TellsBegun, IsStartedAt}
-use Rattle.ame_why.specs.Standings.{note_lines, ComesTo}
+use Rattle.ame_why.specs.Standings.{note_lines, LeadsNoteTo}
 use Rattle.ame_why.proofs.BegunLemmas.{started-there}
 use Rattle.ame_why.proofs.StandingsLemmas.{tells-halted, told-some}
 use Rattle.ame_why.proofs.standings.halted_of.Goals as goal
@@ -31,7 +31,7 @@ returns c =
       members = c.in-Some.led.replay.members.entries;
       output = c.in-Some.led.replay.output.items;
       next = c.in-Some.led.replay.next;
-    }) → ComesTo c.args.text.now c.args.code.now es c.args.note.now s.want s.reads.entries s.there)
+    }) → LeadsNoteTo c.args.text.now c.args.code.now es c.args.note.now s.want s.reads.entries s.there)
     c.in_ok-stance.field-0 c.in-Some-2.stance c.in-Some-2.is c.in_ok-stance.ensures c.args.entries.now stands in
     tells-halted c.args.text.now c.args.code.now c.args.entries.now c.args.note.now
     (record {

@@ -18,15 +18,14 @@ fn words<R: AllocGlobal>(rt: &R, workers: u32) -> Result<Vec<String>, AllocError
     Ok(words)
 }
 
-/// Prints the name of a file, what the writer is given of the run of its text, and the status of the process.
-pub fn run_example<R, W>(rt: &R, file: &str, workers: u32, writer: W) -> io::Result<()>
+/// Prints the name of a file, the lines of the run of its text, and the status of the process.
+pub fn run_example<R>(rt: &R, file: &str, workers: u32) -> io::Result<()>
 where
     R: Files + Print + AllocGlobal + Threads + Wait + Sync,
-    W: io::Write + Send + Drop,
 {
     println!(rt; "{file}:")?;
     let mut source = StdSource::new(fs::open(rt, file)?);
-    let sink = StdSink::new(writer);
+    let sink = StdSink::new(io::writer(rt));
     let report = run_process(rt, rt.alloc(), Ok(words(rt, workers)?), &mut source, sink);
     println!(rt; "status {}", report.into_number())
 }

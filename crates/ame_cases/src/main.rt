@@ -33,11 +33,11 @@ use crate::files::{files_of, text_of};
 use crate::held::two_are_inside;
 use crate::judge::is_as_told;
 use crate::tally::Tally;
+use std::env::{self, Env};
 use std::process::ExitCode;
 use std::rt::Files;
 use std::sync::Wait;
 use std::thread::Threads;
-use std::{env, io};
 
 /// Runs a case, and prints how it came out.
 fn run_case<R>(rt: &R, file: &str, case: &Case) -> Result<bool, Fault>
@@ -106,13 +106,16 @@ fn run_check<R: Print>(rt: &R, name: &str, is_right: bool) -> Result<Tally, Faul
 }
 
 /// Does what a word asks for. A number says how many workers run the examples behind it.
-fn run_word(rt: &HostRuntime, word: &str, workers: &mut u32) -> Result<Tally, Fault> {
+fn run_word<R>(rt: &R, word: &str, workers: &mut u32) -> Result<Tally, Fault>
+where
+    R: Files + Print + AllocGlobal + Threads + Wait + Sync + Clone + Drop,
+{
     if let Ok(number) = word.parse::<u32>() {
         *workers = number;
         return Ok(Tally::new());
     }
     if word.ends_with(".ame") {
-        run_example(rt, word, *workers, io::writer(rt))?;
+        run_example(rt, word, *workers)?;
         return Ok(Tally::new());
     }
     match word {
@@ -126,7 +129,10 @@ fn run_word(rt: &HostRuntime, word: &str, workers: &mut u32) -> Result<Tally, Fa
     }
 }
 
-fn run(rt: &HostRuntime) -> Result<Tally, Fault> {
+fn run<R>(rt: &R) -> Result<Tally, Fault>
+where
+    R: Files + Env + Print + AllocGlobal + Threads + Wait + Sync + Clone + Drop,
+{
     let (mut tally, mut workers) = (Tally::new(), 1);
     for word in env::args(rt)?.skip(1) {
         tally.add(run_word(rt, word.as_str(), &mut workers)?);

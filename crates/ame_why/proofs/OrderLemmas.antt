@@ -1,7 +1,7 @@
 -- Rows of labels, one after another.
-use Rattle.std.proofs.Common.{◌≡◌, ◌≢◌, ℕ, ◌+◌, ◌<◌, ◌≤◌, ◌++◌, List, [], ◌∷◌, length, take, drop, get_or, Option, Some, None, refl, sym, ap, subst, ◌∙◌, arith}
+use Rattle.std.proofs.Common.{◌≡◌, ℕ, ◌+◌, ◌<◌, ◌≤◌, ◌++◌, List, [], ◌∷◌, length, take, drop, get_or, Option, Some, None, refl, sym, ap, subst, ◌∙◌, arith}
 use Rattle.std.proofs.lemmas.List.{append_assoc, length_push, take_more, take_all, drop_more, take-append-drop, length-take-le}
-use Rattle.std.specs.Prelude.{⊤, codes, decimal, option_and_then}
+use Rattle.std.specs.Prelude.{codes, decimal, option_and_then}
 use Rattle.ame_term.specs.declared.semantics.Label.{Label}
 use Rattle.ame_print.specs.Printer.{spelling_of}
 use Rattle.ame_weak.specs.Weak.{Weak, weak_after, weak_run}
@@ -75,13 +75,6 @@ tries_more n tries rest others t first old new a parts after names numbers state
       (subst (λ (m : ℕ). TellsLabels ns ms start all (old.page.items ++ taken_back_row (old.entries + 1) t) labels others m w) (sym entries)
       (TellsLabels.tried old.page.items labels t others old.entries w before (after ∙ sym size)));
 }
-
--- none is next where none is left, or the first of them was made after more or fewer labels
-pub none_left : (n : ℕ) (tries : List Try) → tries ≡ [] → NoneIsNext n tries
-none_left n tries empty = subst (NoneIsNext n) (sym empty) tt
-
-pub other_first : (n : ℕ) (tries others : List Try) (t : Try) → tries ≡ t ∷ others → t.after ≢ n → NoneIsNext n tries
-other_first n tries others t parts other = subst (NoneIsNext n) (sym parts) other
 
 -- Labels behind others are made in the weak state to which those lead.
 run_from : (o : Option Weak) (front rest : List Label) → ((v : Weak) → weak_run v (front ++ rest) ≡ option_and_then (λ u. weak_run u rest) (weak_run v front))

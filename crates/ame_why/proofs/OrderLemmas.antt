@@ -7,7 +7,7 @@ use Rattle.ame_print.specs.Printer.{spelling_of}
 use Rattle.ame_weak.specs.Weak.{Weak, weak_after}
 use Rattle.ame_weak.specs.View.{weak_of}
 use Rattle.ame_weak.specs.declared.tries.Try.{Try}
-use Rattle.ame_why.specs.Table.{column}
+use Rattle.ame_why.specs.Page.{column}
 use Rattle.ame_why.specs.Stepped.{kind_of, reduced_term}
 use Rattle.ame_why.specs.WeakOrder.{touched_at, before_label, behind_label, weak_row, taken_back_row, weak_heading, TellsLabels}
 use Rattle.ame_why.specs.Orders.{TellsOne, TellsTries, TellsAll}

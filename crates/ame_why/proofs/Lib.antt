@@ -12,4 +12,5 @@ pub mod OrderLemmas
 pub mod BinderLemmas
 pub mod StarterLemmas
 pub mod BegunLemmas
+pub mod FormLemmas
 pub mod StandingsLemmas

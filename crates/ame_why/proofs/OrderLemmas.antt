@@ -8,7 +8,7 @@ use Rattle.ame_weak.specs.Weak.{Weak, weak_after, weak_run}
 use Rattle.ame_weak.specs.View.{weak_of}
 use Rattle.ame_weak.specs.Tries.{AreTriesInOrder}
 use Rattle.ame_weak.specs.declared.tries.Try.{Try}
-use Rattle.ame_why.specs.Table.{column}
+use Rattle.ame_why.specs.Page.{column}
 use Rattle.ame_why.specs.Stepped.{kind_of, reduced_term}
 use Rattle.ame_why.specs.WeakOrder.{touched_at, before_label, behind_label, weak_row, taken_back_row, weak_heading, entries_after, NoneIsNext, TellsLabels, TellsOrder}
 use Rattle.ame_why.specs.Orders.{TellsOne, TellsTries, TellsAll}

@@ -1,5 +1,5 @@
 -- Where fragments began.
-use Rattle.std.specs.Prelude.{◌≡◌, ◌⊎◌, ℕ, List, take, slice_get, Option, Some, None}
+use Rattle.std.specs.Prelude.{◌≡◌, ◌⊎◌, ℕ, List, take, slice_get, Option, Some, None, IfSome}
 use Rattle.ame_lex.specs.Bytes.{Text}
 use Rattle.ame_term.specs.Maps.{at}
 use Rattle.ame_journal.specs.declared.entry.Entry.{Entry}
@@ -14,9 +14,11 @@ use Rattle.ame_eval.specs.Fragments.{stage_of, IsFragmentOf}
 use Rattle.ame_eval.specs.Places.{BeginsAt}
 use Rattle.ame_eval.specs.declared.fragment.Fragment.{Fragment}
 use Rattle.ame_why.specs.declared.position.Position.{Position}
+use Rattle.ame_why.specs.declared.starters.Starter.{Starter}
 use Rattle.ame_why.specs.Forms.{position}
 use Rattle.ame_why.specs.FragmentMeaning.{fragment_meaning}
 use Rattle.ame_why.specs.NodePlaces.{node_place}
+use Rattle.ame_why.specs.Starters.{starter_in}
 
 -- one of these members begins at a node
 pub record SeenBegun (members : List (ℕ × Fragment)) (i : ℕ) (node : NodeNo) : Type 0 where
@@ -61,3 +63,8 @@ pub record IsStartedAt (text : Text) (code : FlatCode) (entries : List Entry) (i
   pub place : ℕ
   pub placed : node_place code form.0 ≡ Some place
   pub is : there ≡ position text place
+
+-- a form that is told is the one that started the fragment
+abbrev pub TellsForms : Text → FlatCode → List Entry → List Starter → Type 0
+TellsForms text code entries starters =
+    (fragment : ℕ) (starter : Starter) → starter_in starters fragment ≡ Some starter → IfSome starter.form (IsStartedAt text code entries fragment)

@@ -6,10 +6,10 @@ use Rattle.ame_pool.specs.Standings.{max_rollbacks}
 use Rattle.ame_protocol.specs.declared.counters.Counters.{Counters}
 use Rattle.ame_protocol.specs.declared.stop.Stop.{Stop}
 use Rattle.ame_protocol.specs.declared.types.Limits.{Limits}
-use Rattle.ame_protocol.specs.Bounds.Spent.{paid, paid_by_entries, paid_by_tries}
+use Rattle.ame_protocol.specs.Bounds.Spent.{paid_by_entries, paid_by_tries}
 use Rattle.ame_protocol.specs.Event.Bounds.{refusals}
 use Rattle.ame_engine.specs.Ending.{End}
-use Rattle.ame_why.specs.Table.{column}
+use Rattle.ame_why.specs.Page.{column}
 
 -- a count, and what was counted
 unfoldable pub count_row : ℕ → List ℕ → List ℕ

@@ -9,7 +9,7 @@ use Rattle.ame_lex.specs.Tokens.{spelled}
 use Rattle.ame_why.specs.declared.position.Position.{Position}
 use Rattle.ame_why.specs.Position.{line_number, column_of}
 use Rattle.ame_why.specs.declared.forms.Made.{Made}
-use Rattle.ame_why.specs.Table.{column}
+use Rattle.ame_why.specs.Page.{column}
 
 -- whether a token is the word of a `ref` form
 abbrev pub is_form : Text → Token → Bool

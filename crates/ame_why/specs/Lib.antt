@@ -6,6 +6,7 @@ pub mod Placed
 pub mod Position
 pub mod Rules
 pub mod Nexts
+pub mod Page
 pub mod Starters
 pub mod Table
 pub mod Forms

@@ -20,7 +20,7 @@ abbrev pub starter_of : Tree → List Entry → ℕ → Option ℕ
 starter_of program entries fragment = if fragment == 0 then None else starter_from 1 (begun_at program) fragment entries
 
 -- the starter of a fragment, where they are told by number from fragment 1 on
-abbrev pub starter_in : List ℕ → ℕ → Option ℕ
+abbrev pub starter_in : {A : Type 0} → List A → ℕ → Option A
 starter_in starters fragment = if fragment == 0 then None else slice_get starters (fragment - 1)
 
 -- the same with entry n for each fragment below this number that has none

@@ -1,6 +1,6 @@
 -- What the locations hold that are left.
-use Rattle.std.specs.Prelude.{◌≡◌, ℕ, ◌+◌, ◌-◌, List, [], ◌∷◌, ◌++◌, Bool, true, false, ◌||◌, if◌then◌else◌, Option, Some, None}
-use Rattle.std.specs.Prelude.{length, replicate, codes, slice_get}
+use Rattle.std.specs.Prelude.{◌≡◌, ℕ, ◌+◌, List, [], ◌∷◌, ◌++◌, Bool, true, false, ◌||◌, if◌then◌else◌, Option, Some, None}
+use Rattle.std.specs.Prelude.{codes, slice_get}
 use Rattle.ame_term.specs.Tree.{Tree}
 use Rattle.ame_term.specs.View.{val_of}
 use Rattle.ame_term.specs.declared.term.Value.{Value}
@@ -13,7 +13,7 @@ use Rattle.ame_value.specs.declared.val.Val.{Val}
 use Rattle.ame_print.specs.Tokens.{term_text}
 use Rattle.ame_why.specs.declared.position.Position.{Position}
 use Rattle.ame_why.specs.Forms.{position_words}
-use Rattle.ame_why.specs.Table.{column}
+use Rattle.ame_why.specs.Page.{column, padded}
 
 -- whether a function is in a value
 abbrev pub has_function : FlatValue → Bool
@@ -29,10 +29,6 @@ IsFirstOrder v (Some value) = (has_function v ≡ false) × (val_of value ≡ me
 -- the value's canonical text, unless a function is in it
 unfoldable pub held_words : FlatValue → List ℕ
 held_words v = if has_function v then codes "has a function" else term_text [] (Tree.Held (meant [] v))
-
--- words in a column
-abbrev pub padded : ℕ → List ℕ → List ℕ
-padded width words = words ++ replicate (width - length words) 32
 
 abbrev pub sort_column : Sort → List ℕ
 sort_column Sort.Protected = codes " p     "

@@ -1,16 +1,16 @@
 -- A journal as a table that a person can follow.
-use Rattle.std.specs.Prelude.{ℕ, ◌+◌, ◌-◌, ℤ, List, [], ◌∷◌, ◌++◌, length, replicate, slice_index_or, nat_lt, if◌then◌else◌, Option, Some, None, codes, decimal}
+use Rattle.std.specs.Prelude.{ℕ, ◌+◌, ◌-◌, ℤ, List, [], ◌∷◌, ◌++◌, replicate, slice_index_or, nat_lt, if◌then◌else◌, Option, Some, None, codes, decimal}
 use Rattle.std.specs.Fmt.{signed_decimal}
 use Rattle.std.specs.List.{flat_map}
 use Rattle.ame_journal.specs.declared.entry.Entry.{Entry}
 use Rattle.ame_journal.specs.declared.entry.EntryKind.{EntryKind}
 use Rattle.ame_protocol.specs.declared.types.Tried.{Tried}
+use Rattle.ame_why.specs.declared.position.Position.{Position}
+use Rattle.ame_why.specs.declared.starters.Starter.{Starter}
+use Rattle.ame_why.specs.Forms.{position_words}
 use Rattle.ame_why.specs.Nexts.{kind_of_next}
+use Rattle.ame_why.specs.Page.{column, padded}
 use Rattle.ame_why.specs.Starters.{starter_in}
-
--- a number in a column of this width, and a space
-abbrev pub column : ℕ → ℕ → List ℕ
-column width n = replicate (width - length (decimal n)) 32 ++ decimal n ++ codes " "
 
 -- what steps of unprotected code tell, where the member's next entry is of this kind: a fragment that begins shows that they were over
 abbrev pub outside_words : Option EntryKind → List ℕ
@@ -49,13 +49,22 @@ abbrev pub answer_shown : Option ℤ → List ℕ
 answer_shown None = []
 answer_shown (Some answer) = codes ", was answered " ++ signed_decimal answer
 
--- the entry that started a fragment, in a column; the program was started by none
-unfoldable pub starter_column : Option ℕ → List ℕ
-starter_column None = codes "          - "
-starter_column (Some n) = column 11 n
+-- where the form is that started a fragment, if that is known
+abbrev pub form_words : Option Position → List ℕ
+form_words None = []
+form_words (Some there) = codes "at " ++ position_words (Some there)
 
--- the columns of numbers: which entry it is, the seat, the fragment, the entry that started that, and the steps
-unfoldable pub counts : ℕ → Entry → Option ℕ → List ℕ
+-- the entry that started a fragment, and where the form is; the program was started by none
+abbrev pub starter_words : Option Starter → List ℕ
+starter_words None = codes "    -"
+starter_words (Some starter) = column 5 starter.entry ++ form_words starter.form
+
+-- the same in a column, and a space
+unfoldable pub starter_column : Option Starter → List ℕ
+starter_column starter = padded 15 (starter_words starter) ++ codes " "
+
+-- the columns before the words: which entry it is, the seat, the fragment, what started that, and the steps
+unfoldable pub counts : ℕ → Entry → Option Starter → List ℕ
 counts n entry starter = column 5 n ++ column 5 entry.seat ++ column 9 entry.number ++ starter_column starter ++ column 6 entry.steps
 
 -- which lines were printed, if any were
@@ -71,20 +80,20 @@ left_words entry printed = made_words entry.fresh ++ answer_shown entry.answer +
 unfoldable pub deed : Entry → Option EntryKind → List ℤ → List ℕ
 deed entry next printed = codes " " ++ kind_words entry.kind next ++ left_words entry printed ++ codes "\n"
 
--- the row of entry n, whose fragment was started by this entry
-unfoldable pub entry_row : ℕ → Entry → Option ℕ → Option EntryKind → List ℤ → List ℕ
+-- the row of entry n, whose fragment was started so
+unfoldable pub entry_row : ℕ → Entry → Option Starter → Option EntryKind → List ℤ → List ℕ
 entry_row n entry starter next printed = counts n entry starter ++ deed entry next printed
 
 -- what a try tells: so far it was valid where so many entries lead
 unfoldable pub tried_words : ℕ → List ℕ
 tried_words at = codes " was rolled back; so far it was valid behind entry " ++ decimal at ++ codes "\n"
 
--- the row of a try that left no entry: its fragment, the entry that started that, and how many of its steps were valid
-unfoldable pub tried_row : Tried → Option ℕ → List ℕ
+-- the row of a try that left no entry: its fragment, what started that, and how many of its steps were valid
+unfoldable pub tried_row : Tried → Option Starter → List ℕ
 tried_row t starter = replicate 12 32 ++ column 9 t.number ++ starter_column starter ++ column 6 t.steps ++ tried_words t.at
 
 -- the rows of the first tries, as far as these were valid before entry n
-unfoldable pub tried_rows : ℕ → List Tried → (ℕ → Option ℕ) → List ℕ
+unfoldable pub tried_rows : ℕ → List Tried → (ℕ → Option Starter) → List ℕ
 tried_rows n [] started = []
 tried_rows n (t ∷ tries) started = if nat_lt t.at n then tried_row t (started t.number) ++ tried_rows n tries started else []
 
@@ -93,9 +102,9 @@ abbrev pub later_tries : ℕ → List Tried → List Tried
 later_tries n [] = []
 later_tries n (t ∷ tries) = if nat_lt t.at n then later_tries n tries else t ∷ tries
 
--- The rows of entries, the first of which is entry n, and of tries between them, where it is told by which entry each fragment was started, and
--- what each entry printed.
-unfoldable pub rows : ℕ → List Entry → List Tried → (ℕ → Option ℕ) → (ℕ → List ℤ) → List ℕ
+-- The rows of entries, the first of which is entry n, and of tries between them, where it is told what started each fragment, and what each entry
+-- printed.
+unfoldable pub rows : ℕ → List Entry → List Tried → (ℕ → Option Starter) → (ℕ → List ℤ) → List ℕ
 rows n [] tries started told = tried_rows n tries started
 rows n (entry ∷ entries) tries started told =
     tried_rows n tries started
@@ -106,7 +115,7 @@ abbrev pub lines_at : List (List ℤ) → ℕ → List ℤ
 lines_at lines n = slice_index_or lines (n - 1) []
 
 -- A line that names the columns, and a row for each entry, counted from 1, with its lines, and for each try. The list of starters tells of each
--- fragment but the program, in the order of their numbers, which entry started it.
-abbrev pub table : List Entry → List Tried → List ℕ → List (List ℤ) → List ℕ
+-- fragment but the program, in the order of their numbers, what started it.
+abbrev pub table : List Entry → List Tried → List Starter → List (List ℤ) → List ℕ
 table entries tries starters lines =
-    codes "entry  seat  fragment  started by  steps  what it did\n" ++ rows 1 entries tries (starter_in starters) (lines_at lines)
+    codes "entry  seat  fragment  started by      steps  what it did\n" ++ rows 1 entries tries (starter_in starters) (lines_at lines)

@@ -1,12 +1,13 @@
-//! Where fragments began.
+//! Where fragments began, and behind which entries.
 
-ghost use Rattle.std.specs.Prelude.{◌≡◌, List, IfOk, IfSome, OnOk};
+ghost use Rattle.std.specs.Prelude.{◌≡◌, ℕ, List, IfOk, IfSome, OnOk};
 ghost use Rattle.ame_journal.specs.declared.entry.Entry.{Entry};
 ghost use Rattle.ame_check.specs.Shows.{StandsForEntries};
 ghost use Rattle.ame_code.specs.Code.{program_of};
 ghost use Rattle.ame_code.specs.ReadNumbers.{read_numbers};
 ghost use Rattle.ame_why.specs.Begun as spec;
 ghost use Rattle.ame_why.specs.FragmentMeaning.{fragment_meaning};
+ghost use Rattle.ame_why.specs.Starters.{starter_in, starter_of, with_starter};
 
 use crate::Position;
 use crate::node_places::{node_place, position_in};
@@ -18,30 +19,52 @@ use ame_term::NoMemory;
 use std::alloc::Global;
 use std::collections::BTreeMap;
 
-/// The end of a replay, and by their numbers the nodes at which fragments began.
+/// The end of a replay, by their numbers the nodes at which fragments began, and which entry started each of them, from fragment 1 on.
 #[derive(Drop)]
 pub(crate) struct Led {
     pub(crate) replay: Replay<Fragment>,
     pub(crate) begun: BTreeMap<u64, NodeNo>,
+    pub(crate) starters: Vec<u64>,
 }
 
-/// Where entries lead, and where the fragments began that they started. None where they aren't those of a run, or pass a form whose value
-/// would be too high.
+/// Where entries lead, where the fragments began that they started, and which of them started each, counted from 1. None where they aren't
+/// those of a run, or pass a form whose value would be too high.
 pub(crate) fn led_by(alloc: Global, code: &Code, entries: &[Entry]) -> Result<Option<Led>, NoMemory>
     ensures stands { IfOk result (λ told. IfSome told (λ led. StandsForEntries fragment_meaning code.now entries.now
         (record { cells = led.replay.cells.entries; members = led.replay.members.entries; output = led.replay.output.items; next = led.replay.next }))) }
     ensures begun { IfOk result (λ told. IfSome told (λ led. spec.TellsBegun code.now entries.now led.begun.entries)) }
+    ensures starters { IfOk result (λ told. IfSome told (λ led. (fragment : ℕ)
+        → starter_in led.starters.items fragment ≡ starter_of (program_of code.now) entries.now fragment)) }
 {
     let mut replay: Replay<Fragment> = Replay::start(alloc, code)?;
     let mut begun = BTreeMap::new(alloc);
-    for entry in entries {
+    let mut starters = Vec::new(alloc);
+    for (index, entry) in entries.iter().enumerate() {
         let first = replay.next;
         match replay.make(alloc, code, entry)? {
-            Made::Made => note_begun(&mut begun, &replay, first)?,
+            Made::Made => {
+                note_begun(&mut begun, &replay, first)?;
+                note_started(&mut starters, replay.next, index as u64 + 1)?;
+            }
             Made::Undefined(_) | Made::Tall => return Ok(None),
         }
     }
-    Ok(Some(Led { replay, begun }))
+    Ok(Some(Led {
+        replay,
+        begun,
+        starters,
+    }))
+}
+
+/// Adds an entry for each fragment below a number that has none.
+fn note_started(starters: &mut Vec<u64>, next: u64, number: u64) -> Result<(), NoMemory>
+    ensures { OnOk result (starters.new.items ≡ with_starter number next starters.old.items) }
+{
+    let known = starters.len() as u64 + 1;
+    for _ in 0..next.saturating_sub(known) {
+        starters.push(number)?;
+    }
+    Ok(())
 }
 
 /// Notes where the fragments begin that have the numbers from this one on.

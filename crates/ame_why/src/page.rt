@@ -2,7 +2,7 @@
 
 ghost use Rattle.std.specs.Prelude.{◌≡◌, ◌++◌, ◌-◌, OnOk, decimal, length, replicate};
 ghost use Rattle.std.specs.Fmt.{signed_decimal};
-ghost use Rattle.ame_why.specs.Table.{column};
+ghost use Rattle.ame_why.specs.Page.{column, padded};
 
 use ame_term::NoMemory;
 use itoa::Buffer;
@@ -34,6 +34,14 @@ pub(crate) fn append_spaces(page: &mut Vec<u8>, count: usize) -> Result<(), NoMe
         page.push(b' ')?;
     }
     Ok(())
+}
+
+/// Adds words in a column.
+pub(crate) fn append_padded(page: &mut Vec<u8>, width: usize, words: &[u8]) -> Result<(), NoMemory>
+    ensures { OnOk result (page.new.items ≡ page.old.items ++ padded width words.now) }
+{
+    append(page, words)?;
+    append_spaces(page, width.saturating_sub(words.len()))
 }
 
 /// Adds words and an integer behind them.

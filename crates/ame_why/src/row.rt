@@ -6,18 +6,20 @@ ghost use Rattle.ame_why.specs.Table as spec;
 ghost use Rattle.ame_why.specs.Table.{listed, listed_line, made_words, answer_shown, printed_words};
 
 use crate::page::{append, append_column, append_told};
+use crate::starter_column::append_starter;
+use crate::starters::Starter;
 use ame_journal::{Entry, EntryKind};
 use ame_term::{Loc, NoMemory};
 use itoa::Buffer;
 
-/// Adds the row of an entry with this number, where its fragment was started by this entry, the fragment's next entry is of this kind, and
-/// these lines were printed.
+/// Adds the row of an entry with this number, where its fragment was started so, the fragment's next entry is of this kind, and these lines
+/// were printed.
 #[tactic(auto, unfolding(crate::specs::Table::entry_row))]
 pub(crate) fn append_row(
     page: &mut Vec<u8>,
     number: u64,
     entry: &Entry,
-    starter: Option<u64>,
+    starter: Option<Starter>,
     next: Option<EntryKind>,
     printed: &[i64],
 ) -> Result<(), NoMemory>
@@ -27,13 +29,13 @@ pub(crate) fn append_row(
     append_deed(page, entry, next, printed)
 }
 
-/// Adds the columns of numbers.
+/// Adds the columns before the words.
 #[tactic(auto, unfolding(crate::specs::Table::counts))]
 fn append_counts(
     page: &mut Vec<u8>,
     number: u64,
     entry: &Entry,
-    starter: Option<u64>,
+    starter: Option<Starter>,
 ) -> Result<(), NoMemory>
     ensures { OnOk result (page.new.items ≡ page.old.items ++ spec.counts number entry.now starter) }
 {
@@ -42,17 +44,6 @@ fn append_counts(
     append_column(page, 9, entry.number)?;
     append_starter(page, starter)?;
     append_column(page, 6, entry.steps)
-}
-
-/// Adds the entry that started a fragment, in a column.
-#[tactic(auto, unfolding(crate::specs::Table::starter_column))]
-pub(crate) fn append_starter(page: &mut Vec<u8>, starter: Option<u64>) -> Result<(), NoMemory>
-    ensures { OnOk result (page.new.items ≡ page.old.items ++ spec.starter_column starter) }
-{
-    match starter {
-        None => append(page, b"          - "),
-        Some(number) => append_column(page, 11, number),
-    }
 }
 
 /// Adds the column of words.

@@ -47,7 +47,7 @@ pub fn standings_of(
     let Some(led) = led_by(alloc, code, entries)? else {
         return Ok(None);
     };
-    let Led { replay, begun } = led;
+    let Led { replay, begun, .. } = led;
     let numbers = read_numbers(alloc, &code.accepted().program.term)?;
     let forms = positions_in(alloc, text)?;
     let mut page = Vec::new(alloc);
@@ -87,7 +87,7 @@ pub fn halted_of(
     let Some(led) = led_by(alloc, code, entries)? else {
         return Ok(None);
     };
-    let Led { replay, begun } = led;
+    let Led { replay, begun, .. } = led;
     let numbers = read_numbers(alloc, &code.accepted().program.term)?;
     let Some(stance) = stance_of(alloc, text, code, &replay, &numbers, note)? else {
         return Ok(None);

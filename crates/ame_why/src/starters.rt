@@ -1,50 +1,75 @@
-//! By which entry each fragment was started.
+//! What started each fragment.
 
-ghost use Rattle.std.specs.Prelude.{◌≡◌, ℕ, IfOk, IfSome, OnOk};
+ghost use Rattle.std.specs.Prelude.{◌≡◌, ℕ, List, IfOk, IfSome, map};
+ghost use Rattle.ame_journal.specs.declared.entry.Entry.{Entry};
+ghost use Rattle.ame_code.specs.Code.{program_of};
+ghost use Rattle.ame_code.specs.ReadNumbers as numbering;
+ghost use Rattle.ame_why.specs.Begun.{TellsBegun, TellsForms};
 ghost use Rattle.ame_why.specs.Starters as spec;
 
-use ame_check::{Made, Replay};
+use crate::Position;
+use crate::begun::{Led, led_by, started_position};
+use ame_code::{Code, read_numbers};
 use ame_journal::Entry;
-use ame_machine::Runner;
-use ame_term::NoMemory;
+use ame_term::{NoMemory, push};
 use std::alloc::Global;
 
-/// Of each fragment but the program, in the order of their numbers, which entry of a journal of the program started it, counted from 1; found
-/// on machines. None where the entries aren't those of a run, or pass a form whose value would be too high. Costs what the run did.
-pub fn starters_of<M: Runner>(
+/// The entry that started a fragment, counted from 1, and the line and the column of the `async` form, where that is known.
+#[derive(Clone, Copy, PartialEq, Eq, Debug)]
+pub struct Starter {
+    pub entry: u64,
+    pub form: Option<Position>,
+}
+
+/// What started each fragment but the program, in the order of their numbers, by a journal of the program. None where the entries aren't those
+/// of a run, or pass a form whose value would be too high. Costs what the run did, and time linear in the text for each fragment.
+pub fn starters_of(
     alloc: Global,
-    code: &M::Code,
+    text: &[u8],
+    code: &Code,
     entries: &[Entry],
-) -> Result<Option<Vec<u64>>, NoMemory>
-where
-    M::Code: Drop,
-    ensures { IfOk result (λ told. IfSome told (λ starters. (fragment : ℕ)
-        → spec.starter_in starters.items fragment ≡ spec.starter_of (M.meaning.program code.now) entries.now fragment)) }
+) -> Result<Option<Vec<Starter>>, NoMemory>
+    ensures entries { IfOk result (λ told. IfSome told (λ starters. (fragment : ℕ)
+        → spec.starter_in (map (λ s. s.entry) starters.items) fragment ≡ spec.starter_of (program_of code.now) entries.now fragment)) }
+    ensures forms { IfOk result (λ told. IfSome told (λ starters. TellsForms text.now code.now entries.now starters.items)) }
 {
-    let mut replay: Replay<M> = Replay::start(alloc, code)?;
-    let mut starters = Vec::new(alloc);
-    for (index, entry) in entries.iter().enumerate() {
-        match replay.make(alloc, code, entry)? {
-            Made::Made => note_started(&mut starters, replay.next, index as u64 + 1)?,
-            Made::Undefined(_) | Made::Tall => return Ok(None),
-        }
-    }
+    let Some(led) = led_by(alloc, code, entries)? else {
+        return Ok(None);
+    };
+    let numbers = read_numbers(alloc, &code.accepted().program.term)?;
+    let starters = with_forms(alloc, text, code, &numbers, &led)?;
     Ok(Some(starters))
 }
 
-/// Adds an entry for each fragment below a number that has none.
-fn note_started(starters: &mut Vec<u64>, next: u64, number: u64) -> Result<(), NoMemory>
-    ensures { OnOk result (starters.new.items ≡ spec.with_starter number next starters.old.items) }
+/// The entries that started fragments, with their forms.
+fn with_forms(
+    alloc: Global,
+    text: &[u8],
+    code: &Code,
+    numbers: &[u32],
+    led: &Led,
+) -> Result<Vec<Starter>, NoMemory>
+    requires { numbers.now ≡ numbering.read_numbers 0 (program_of code.now) }
+    ensures entries { IfOk result (λ starters. map (λ s. s.entry) starters.items ≡ led.now.starters.items) }
+    ensures forms { IfOk result (λ starters. (entries : List Entry) → TellsBegun code.now entries led.now.begun.entries
+        → TellsForms text.now code.now entries starters.items) }
 {
-    let known = starters.len() as u64 + 1;
-    for _ in 0..next.saturating_sub(known) {
-        starters.push(number)?;
+    let mut starters = Vec::new(alloc);
+    for (index, entry) in led.starters.iter().enumerate() {
+        let form = started_position(text, code, numbers, &led.begun, index as u64 + 1);
+        push(
+            &mut starters,
+            Starter {
+                entry: *entry,
+                form,
+            },
+        )?;
     }
-    Ok(())
+    Ok(starters)
 }
 
-/// The entry that started a fragment, if one did.
-pub(crate) fn starter_in(starters: &[u64], fragment: u64) -> Option<u64>
+/// What started a fragment, if that is told.
+pub(crate) fn starter_in(starters: &[Starter], fragment: u64) -> Option<Starter>
     ensures { result ≡ spec.starter_in starters.now fragment }
 {
     if fragment == 0 {

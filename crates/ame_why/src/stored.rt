@@ -6,11 +6,11 @@ ghost use Rattle.ame_lex.specs.Reading.{tokens_of};
 ghost use Rattle.ame_value.specs.View.{flat_value};
 ghost use Rattle.ame_why.specs.Forms.{position_words, positions, tokens_or_none};
 ghost use Rattle.ame_why.specs.Stored as spec;
-ghost use Rattle.ame_why.specs.Stored.{IsFirstOrder, held_words, origin_words, padded, stored_row, stored_rows};
+ghost use Rattle.ame_why.specs.Stored.{IsFirstOrder, held_words, origin_words, stored_row, stored_rows};
 
 use crate::Position;
 use crate::forms::{append_position, position_at, positions_in};
-use crate::page::{append, append_column, append_spaces};
+use crate::page::{append, append_column, append_padded};
 use ame_print::print_term;
 use ame_store::{Cell, Store};
 use ame_term::{Loc, NoMemory, Sort, Term, Value, boxed};
@@ -83,14 +83,6 @@ fn position_text(alloc: Global, at: Option<Position>) -> Result<Vec<u8>, NoMemor
     let mut words = Vec::new(alloc);
     append_position(&mut words, at)?;
     Ok(words)
-}
-
-/// Adds words in a column.
-fn append_padded(page: &mut Vec<u8>, width: usize, words: &[u8]) -> Result<(), NoMemory>
-    ensures { OnOk result (page.new.items ≡ page.old.items ++ padded width words.now) }
-{
-    append(page, words)?;
-    append_spaces(page, width.saturating_sub(words.len()))
 }
 
 fn sort_column(sort: Sort) -> &'static [u8]

@@ -7,20 +7,21 @@ ghost use Rattle.ame_why.specs.Table as spec;
 
 use crate::nexts::nexts_of;
 use crate::page::{append, append_column, append_decimal, append_spaces};
-use crate::row::{append_row, append_starter};
-use crate::starters::starter_in;
+use crate::row::append_row;
+use crate::starter_column::append_starter;
+use crate::starters::{Starter, starter_in};
 use ame_journal::{Entry, EntryKind};
 use ame_protocol::Tried;
 use ame_term::NoMemory;
 use std::alloc::Global;
 
-/// A line that names the columns, and a line for each entry, with the entry that started its fragment and with what it printed, as far as these
-/// are told. Tries that left no entry stand between them, in their order, none before the entries behind which it was valid last.
+/// A line that names the columns, and a line for each entry, with what started its fragment and with what it printed, as far as these are
+/// told. Tries that left no entry stand between them, in their order, none before the entries behind which it was valid last.
 pub fn table_of(
     alloc: Global,
     entries: &[Entry],
     tries: &[Tried],
-    starters: &[u64],
+    starters: &[Starter],
     lines: &[Vec<i64>],
 ) -> Result<Vec<u8>, NoMemory>
     ensures { IfOk result (λ page. page.items ≡ spec.table entries.now tries.now starters.now (map (λ v. v.items) lines.now)) }
@@ -29,7 +30,7 @@ pub fn table_of(
     let mut page = Vec::new(alloc);
     append(
         &mut page,
-        b"entry  seat  fragment  started by  steps  what it did\n",
+        b"entry  seat  fragment  started by      steps  what it did\n",
     )?;
     append_rows(&mut page, entries, &nexts, tries, starters, lines)?;
     Ok(page)
@@ -42,7 +43,7 @@ fn append_rows(
     entries: &[Entry],
     nexts: &[Option<EntryKind>],
     tries: &[Tried],
-    starters: &[u64],
+    starters: &[Starter],
     lines: &[Vec<i64>],
 ) -> Result<(), NoMemory>
     requires { nexts.now ≡ spec_nexts.nexts entries.now }
@@ -72,7 +73,7 @@ fn append_tries<'a>(
     page: &mut Vec<u8>,
     tries: &'a [Tried],
     number: u64,
-    starters: &[u64],
+    starters: &[Starter],
 ) -> Result<&'a [Tried], NoMemory>
     ensures rows { OnOk result (page.new.items ≡ page.old.items ++ spec.tried_rows number tries.now (starter_in starters.now)) }
     ensures later { IfOk result (λ rest. rest.now ≡ spec.later_tries number tries.now) }
@@ -88,9 +89,9 @@ fn append_tries<'a>(
     Ok(rest)
 }
 
-/// Adds the row of a try, whose fragment was started by this entry.
+/// Adds the row of a try, whose fragment was started so.
 #[tactic(auto, unfolding(crate::specs::Table::tried_row))]
-fn append_tried(page: &mut Vec<u8>, t: Tried, starter: Option<u64>) -> Result<(), NoMemory>
+fn append_tried(page: &mut Vec<u8>, t: Tried, starter: Option<Starter>) -> Result<(), NoMemory>
     ensures { OnOk result (page.new.items ≡ page.old.items ++ spec.tried_row t starter) }
 {
     append_spaces(page, 12)?;

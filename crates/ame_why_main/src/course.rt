@@ -8,6 +8,7 @@ use ame_picture::{Labels, Lost, course_picture_of, moments_of};
 use ame_protocol::Tried;
 use ame_term::{NoMemory, push};
 use ame_value::Val;
+use ame_why::Starter;
 use std::alloc::Global;
 
 /// The most entries and tries that are drawn.
@@ -30,7 +31,8 @@ pub fn course_text<K>(
     if moments.len() > MOST_COLUMNS {
         return Ok(Vec::from_slice(alloc, TOO_WIDE)?);
     }
-    let starters = starters_by_number(alloc, &starters_told(alloc, &report.code, entries)?)?;
+    let told = starters_told(alloc, &report.text, &report.code, entries)?;
+    let starters = starters_by_number(alloc, &told)?;
     let labels = Labels {
         title: Vec::from_slice(alloc, title.as_bytes())?,
         verdict: Vec::from_slice(alloc, report.status.line().as_str().as_bytes())?,
@@ -55,12 +57,12 @@ pub fn lost_in(alloc: Global, tries: &[Tried]) -> Result<Vec<Lost>, NoMemory> {
     Ok(lost)
 }
 
-/// The starters of all fragments by their numbers; the program has entry 0, which there isn't.
-pub fn starters_by_number(alloc: Global, starters: &[u64]) -> Result<Vec<u64>, NoMemory> {
+/// The entries that started all fragments, by their numbers; the program has entry 0, which there isn't.
+pub fn starters_by_number(alloc: Global, starters: &[Starter]) -> Result<Vec<u64>, NoMemory> {
     let mut all = Vec::new(alloc);
     push(&mut all, 0)?;
     for starter in starters {
-        push(&mut all, *starter)?;
+        push(&mut all, starter.entry)?;
     }
     Ok(all)
 }

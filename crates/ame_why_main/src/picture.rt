@@ -31,7 +31,8 @@ pub fn picture_text<K>(
     if picks.len() > MOST_PICKS {
         return Ok(Vec::from_slice(alloc, TOO_WIDE)?);
     }
-    let starters = starters_by_number(alloc, &starters_told(alloc, &report.code, entries)?)?;
+    let told = starters_told(alloc, &report.text, &report.code, entries)?;
+    let starters = starters_by_number(alloc, &told)?;
     let (Some(drawing), Some(journal)) = (
         drawing_of(alloc, seats_of(mades), &picks, entries, &starters)?,
         journal_of(alloc, entries)?,

@@ -19,8 +19,8 @@ use ame_store::Store;
 use ame_term::{Copied, Loc, NoMemory, Program, push};
 use ame_value::Val;
 use ame_why::{
-    Made, counts_of, forms_of, fragments_of, input_of, journal_of, printed_of, starters_of,
-    steps_of, store_of, table_of, weak_counts_of,
+    Made, Starter, counts_of, forms_of, fragments_of, input_of, journal_of, printed_of,
+    starters_of, steps_of, store_of, table_of, weak_counts_of,
 };
 use std::alloc::Global;
 use std::sync::Arc;
@@ -177,7 +177,7 @@ fn trace_text<K>(
         }
         _ => Vec::new(alloc),
     };
-    let starters = starters_told(alloc, &report.code, entries)?;
+    let starters = starters_told(alloc, &report.text, &report.code, entries)?;
     page.extend_from_slice(&table_of(alloc, entries, ended.tried(), &starters, &lines)?)?;
     let made = made_in(alloc, ended.store())?;
     if !made.is_empty() {
@@ -221,16 +221,17 @@ fn lines_told(
     }
 }
 
-/// The entry that started each fragment of a run, from fragment 1 on; none where they aren't told.
+/// What started each fragment of a run, from fragment 1 on; none where that isn't told.
 pub fn starters_told(
     alloc: Global,
+    text: &[u8],
     code: &Option<Arc<Code>>,
     entries: &[Entry],
-) -> Result<Vec<u64>, NoMemory> {
+) -> Result<Vec<Starter>, NoMemory> {
     let Some(code) = code else {
         return Ok(Vec::new(alloc));
     };
-    match starters_of::<Fragment>(alloc, code, entries)? {
+    match starters_of(alloc, text, code, entries)? {
         Some(starters) => Ok(starters),
         None => Ok(Vec::new(alloc)),
     }

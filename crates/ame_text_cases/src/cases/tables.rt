@@ -3,7 +3,7 @@
 use ame_journal::Journal;
 use ame_protocol::Tried;
 use ame_term::{Loc, TyNo};
-use ame_why::{Made, forms_of, table_of};
+use ame_why::{Made, Position, Starter, forms_of, table_of};
 use std::alloc::Global;
 use std::test::Fail;
 
@@ -13,8 +13,24 @@ const JOURNAL: &[u8] =
 /// What the first entries print.
 const LINES: &[&[i64]] = &[&[], &[], &[], &[2], &[], &[-1, 0]];
 
-/// By which entries the first fragments were started.
-const STARTERS: &[u64] = &[1, 1, 3];
+/// What started the first fragments: the form of the second isn't told.
+const STARTERS: &[Starter] = &[
+    Starter {
+        entry: 1,
+        form: Some(Position { line: 3, column: 7 }),
+    },
+    Starter {
+        entry: 1,
+        form: None,
+    },
+    Starter {
+        entry: 3,
+        form: Some(Position {
+            line: 104,
+            column: 17,
+        }),
+    },
+];
 
 /// Two tries, of a fragment whose starter is told, and of one whose starter isn't.
 const TRIES: &[Tried] = &[
@@ -30,19 +46,19 @@ const TRIES: &[Tried] = &[
     },
 ];
 
-const TABLE: &[u8] = b"entry  seat  fragment  started by  steps  what it did
-    1     0         0           -      5  ran, made 0
-                    2           1      3  was rolled back; so far it was valid behind entry 1
-    2     0         1           1      3  was taken back: a condition is false here
-    3     0         2           1      3  ran
-    4     0         1           1     11  ran, printed 2
-    5    31        12           -      0  ran, and left for unprotected code
-    6     0        12           -      2  ran unprotected code, made 1 2, was answered -6, printed -1 0
-    7     0        12           -      1  ran unprotected code, and came back
-    8     0        12           -      4  ran
-    9     1 100000000           - 1234567  was cut off, and taken back
-   10     2         3           3      9  was taken back: a value would be too high
-                   12           -     40  was rolled back; so far it was valid behind entry 10
+const TABLE: &[u8] = b"entry  seat  fragment  started by      steps  what it did
+    1     0         0     -                5  ran, made 0
+                    2     1                3  was rolled back; so far it was valid behind entry 1
+    2     0         1     1 at 3:7         3  was taken back: a condition is false here
+    3     0         2     1                3  ran
+    4     0         1     1 at 3:7        11  ran, printed 2
+    5    31        12     -                0  ran, and left for unprotected code
+    6     0        12     -                2  ran unprotected code, made 1 2, was answered -6, printed -1 0
+    7     0        12     -                1  ran unprotected code, and came back
+    8     0        12     -                4  ran
+    9     1 100000000     -           1234567  was cut off, and taken back
+   10     2         3     3 at 104:17      9  was taken back: a value would be too high
+                   12     -               40  was rolled back; so far it was valid behind entry 10
 ";
 
 /// Lines of numbers.

@@ -1,4 +1,4 @@
-use Rattle.std.proofs.Common.{◌≡◌, ◌+◌, ◌++◌, ℤ, List, [], ◌∷◌, map, drop, take, length, Vec, Global, ap, ◌∙◌, subst}
+use Rattle.std.proofs.Common.{◌≡◌, ℤ, List, [], ◌∷◌, map, drop, take, length, Vec, Global, ap, ◌∙◌, subst}
 use Rattle.std.proofs.lemmas.List.{map-append}
 use Rattle.ame_check.specs.Entries.{CameOf}
 use Rattle.ame_why.proofs.PrintedLemmas.{printing-begins, printing-goes-on, printing-ends}

@@ -46,7 +46,7 @@ pub fn explain<K>(
         }
         None => Vec::new(alloc),
     };
-    page.extend_from_slice(&reason(alloc, report, input, origin)?)?;
+    append_reason(&mut page, report, input, origin)?;
     Ok(page)
 }
 
@@ -67,16 +67,17 @@ pub fn place_of(status: &Status) -> Option<u32> {
     }
 }
 
-/// Why a call ended as it did.
-fn reason<K>(
-    alloc: Global,
+/// Adds why a call ended as it did.
+fn append_reason<K>(
+    page: &mut Vec<u8>,
     report: &Report<K, StandardDevice>,
     input: &[u8],
     origin: Origin<'_>,
-) -> Result<Vec<u8>, NoMemory>
+) -> Result<(), NoMemory>
     requires small { vec_len report.now.text ≤ max_text }
 {
-    match (&report.status, &report.own) {
+    let alloc = *page.allocator();
+    let reason = match (&report.status, &report.own) {
         (Status::Text(TextFault::Lexical(fault)), _) => explain_bytes(alloc, &report.text, *fault),
         (Status::Text(TextFault::Syntactic(fault)), _) => {
             explain_tokens(alloc, &report.text, *fault)
@@ -88,7 +89,9 @@ fn reason<K>(
         (Status::Blocked(_), _) => blocked(alloc, report),
         (Status::Spent | Status::Tall(_), _) => halted(alloc, report),
         (status, _) => Ok(Vec::from_slice(alloc, remark(status))?),
-    }
+    }?;
+    page.extend_from_slice(&reason)?;
+    Ok(())
 }
 
 /// That nobody will go on, and where each fragment waits.

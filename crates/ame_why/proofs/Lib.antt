@@ -2,6 +2,7 @@ pub mod InputLemmas
 pub mod NextLemmas
 pub mod RowLemmas
 pub mod LineLemmas
+pub mod LineIndexLemmas
 pub mod CountLemmas
 pub mod StoredLemmas
 pub mod FragmentLemmas

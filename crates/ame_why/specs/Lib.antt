@@ -4,6 +4,7 @@ pub mod Open
 pub mod Binders
 pub mod Placed
 pub mod Position
+pub mod LineIndex
 pub mod Rules
 pub mod Nexts
 pub mod Page

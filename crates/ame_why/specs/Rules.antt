@@ -61,9 +61,9 @@ rule_words rule =
     else codes "\n")))))))))
 
 -- which part of the form that opens there has another type than it wants, and the form's word; where none does, only that a part has
-abbrev pub part_words : Text → List Token → ℕ → Option ℕ → List ℕ
-part_words text tokens place None = rule_words type_mismatch
-part_words text tokens place (Some form) =
+abbrev pub mismatch_words : Text → List Token → ℕ → Option ℕ → List ℕ
+mismatch_words text tokens place None = rule_words type_mismatch
+mismatch_words text tokens place (Some form) =
     codes "part " ++ decimal (part_at form place tokens) ++ codes " of `" ++ word_at text form tokens ++ codes "` has another type than the form wants\n"
 
 -- the innermost of some forms, the innermost of which stands last
@@ -74,7 +74,7 @@ innermost forms = slice_get forms (length forms - 1)
 unfoldable pub fault_words : Text → TypeFault → List ℕ
 fault_words text fault =
     let tokens = tokens_known text in
-    if fault.rule == type_mismatch then part_words text tokens fault.place (innermost (open_before fault.place tokens)) else rule_words fault.rule
+    if fault.rule == type_mismatch then mismatch_words text tokens fault.place (innermost (open_before fault.place tokens)) else rule_words fault.rule
 
 -- the place of a fault, the rule in words, where the name is bound of which the rule speaks, and what was found and wanted
 abbrev pub fault_page : Text → TypeFault → List ℕ

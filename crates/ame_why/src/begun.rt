@@ -10,6 +10,7 @@ ghost use Rattle.ame_why.specs.FragmentMeaning.{fragment_meaning};
 ghost use Rattle.ame_why.specs.Starters.{starter_in, starter_of, with_starter};
 
 use crate::Position;
+use crate::line_index::LineIndex;
 use crate::node_places::{node_place, position_in};
 use ame_check::{Made, Replay};
 use ame_code::{Code, Node, NodeNo, Shape};
@@ -133,7 +134,7 @@ fn async_of(code: &Code, body: NodeNo) -> Option<NodeNo>
 
 /// Where the `async` form is that started a fragment, if that is known.
 pub(crate) fn started_position(
-    text: &[u8],
+    lines: &LineIndex,
     code: &Code,
     numbers: &[u32],
     begun: &BTreeMap<u64, NodeNo>,
@@ -141,10 +142,10 @@ pub(crate) fn started_position(
 ) -> Option<Position>
     requires { numbers.now ≡ read_numbers 0 (program_of code.now) }
     ensures { IfSome result (λ there. (entries : List Entry) → spec.TellsBegun code.now entries begun.now.entries
-        → spec.IsStartedAt text.now code.now entries number there) }
+        → spec.IsStartedAt lines.now.text.now code.now entries number there) }
 {
     let body = *begun.get(&number)?;
     let form = async_of(code, body)?;
     let place = node_place(code, numbers, form)?;
-    position_in(text, place)
+    position_in(lines, place)
 }

@@ -7,8 +7,9 @@ ghost use Rattle.ame_lex.specs.Reading.{tokens_of};
 ghost use Rattle.ame_lex.specs.Tokens.{IsWithin};
 ghost use Rattle.ame_why.specs.Forms as spec;
 
+use crate::line_index::LineIndex;
 use crate::page::{append, append_column, append_decimal};
-use crate::{Position, position_of, spans};
+use crate::{Position, spans};
 use ame_lex::Token;
 use ame_term::{Loc, NoMemory, TyNo, push};
 use std::alloc::Global;
@@ -21,13 +22,15 @@ pub struct Made {
 }
 
 /// A line that names the columns, and a line for each location: the line and the column of the word of the `ref` form that made it.
-/// Forms are counted from 0 in the order of the text. Time is linear in the locations, and in the text for each form.
+/// Forms are counted from 0 in the order of the text. Time is linear in the text and in the locations, and logarithmic in the lines for
+/// each form.
 pub fn forms_of(alloc: Global, text: &[u8], made: &[Made]) -> Result<Vec<u8>, NoMemory>
     requires { length text.now ≤ max_text }
     ensures { IfOk result (λ page. page.items
         ≡ spec.form_table (spec.positions text.now (spec.tokens_or_none (tokens_of text.now))) made.now) }
 {
-    let places = positions_in(alloc, text)?;
+    let lines = LineIndex::of(alloc, text)?;
+    let places = positions_in(alloc, &lines)?;
     let mut page = Vec::new(alloc);
     append(&mut page, b"location  ref form\n")?;
     append_forms(&mut page, &places, made)?;
@@ -35,34 +38,35 @@ pub fn forms_of(alloc: Global, text: &[u8], made: &[Made]) -> Result<Vec<u8>, No
 }
 
 /// Where the `ref` forms of a text are; none where it has a fault.
-pub(crate) fn positions_in(alloc: Global, text: &[u8]) -> Result<Vec<Position>, NoMemory>
-    requires { length text.now ≤ max_text }
-    ensures { IfOk result (λ places. places.items ≡ spec.positions text.now (spec.tokens_or_none (tokens_of text.now))) }
+pub(crate) fn positions_in(alloc: Global, lines: &LineIndex) -> Result<Vec<Position>, NoMemory>
+    requires { length lines.now.text.now ≤ max_text }
+    ensures { IfOk result (λ places. places.items
+        ≡ spec.positions lines.now.text.now (spec.tokens_or_none (tokens_of lines.now.text.now))) }
 {
-    let tokens = spans::tokens_of(alloc, text)?;
-    positions(alloc, text, &tokens)
+    let tokens = spans::tokens_of(alloc, lines.text)?;
+    positions(alloc, lines, &tokens)
 }
 
 /// Where those among the tokens of a text are.
-fn positions(alloc: Global, text: &[u8], tokens: &[Token]) -> Result<Vec<Position>, NoMemory>
-    requires { All (IsWithin text.now) tokens.now }
-    ensures { IfOk result (λ places. places.items ≡ spec.positions text.now tokens.now) }
+fn positions(alloc: Global, lines: &LineIndex, tokens: &[Token]) -> Result<Vec<Position>, NoMemory>
+    requires { All (IsWithin lines.now.text.now) tokens.now }
+    ensures { IfOk result (λ places. places.items ≡ spec.positions lines.now.text.now tokens.now) }
 {
     let mut places = Vec::new(alloc);
     for token in tokens {
-        note_form(&mut places, text, token)?;
+        note_form(&mut places, lines, token)?;
     }
     Ok(places)
 }
 
 /// Adds where a token is, if it is the word of a `ref` form.
 #[tactic(auto, unfolding(crate::specs::Forms::form_position))]
-fn note_form(places: &mut Vec<Position>, text: &[u8], token: &Token) -> Result<(), NoMemory>
-    requires { IsWithin text.now token.now }
-    ensures { OnOk result (places.new.items ≡ places.old.items ++ spec.form_position text.now token.now) }
+fn note_form(places: &mut Vec<Position>, lines: &LineIndex, token: &Token) -> Result<(), NoMemory>
+    requires { IsWithin lines.now.text.now token.now }
+    ensures { OnOk result (places.new.items ≡ places.old.items ++ spec.form_position lines.now.text.now token.now) }
 {
-    if is_form(text, token) {
-        push(places, position_of(text, token.start as usize))?;
+    if is_form(lines.text, token) {
+        push(places, lines.position(token.start as usize))?;
     }
     Ok(())
 }

@@ -14,6 +14,7 @@ mod input;
 mod journal_line;
 mod label_row;
 mod ledger;
+mod line_index;
 mod lines;
 mod marked;
 mod nexts;

@@ -8,7 +8,8 @@ ghost use Rattle.ame_eval.specs.Places.{fragment_node, StandsAtForm};
 ghost use Rattle.ame_why.specs.NodePlaces as spec;
 ghost use Rattle.ame_why.specs.Forms.{position};
 
-use crate::{Position, position_of};
+use crate::Position;
+use crate::line_index::LineIndex;
 use ame_code::{Code, NodeNo};
 use ame_eval::Fragment;
 
@@ -33,12 +34,12 @@ pub(crate) fn node_place(code: &Code, numbers: &[u32], node: NodeNo) -> Option<u
 }
 
 /// The line and the column of a place, if it is in the text.
-pub(crate) fn position_in(text: &[u8], place: u32) -> Option<Position>
-    ensures there { IfSome result (λ there. there ≡ position text.now place) }
-    ensures outside { result ≡ None → length text.now < place }
+pub(crate) fn position_in(lines: &LineIndex, place: u32) -> Option<Position>
+    ensures there { IfSome result (λ there. there ≡ position lines.now.text.now place) }
+    ensures outside { result ≡ None → length lines.now.text.now < place }
 {
-    if place as usize <= text.len() {
-        Some(position_of(text, place as usize))
+    if place as usize <= lines.text.len() {
+        Some(lines.position(place as usize))
     } else {
         None
     }
@@ -46,16 +47,16 @@ pub(crate) fn position_in(text: &[u8], place: u32) -> Option<Position>
 
 /// Where the form is at which a fragment stands, if it stands at one.
 pub(crate) fn standing_position(
-    text: &[u8],
+    lines: &LineIndex,
     code: &Code,
     numbers: &[u32],
     fragment: &Fragment,
 ) -> Option<Position>
     requires { numbers.now ≡ read_numbers 0 (program_of code.now) }
-    ensures there { spec.ShowsPlace text.now code.now fragment.now result }
+    ensures there { spec.ShowsPlace lines.now.text.now code.now fragment.now result }
     ensures form { IsFragmentOf code.now fragment.now → StandsAtForm code.now (stage_of code.now fragment.now).want (fragment_node fragment.now) }
 {
     let node = fragment.place();
     let place = node_place(code, numbers, node?)?;
-    position_in(text, place)
+    position_in(lines, place)
 }

@@ -105,7 +105,7 @@ fn part_text(
     place: u32,
 ) -> Result<Vec<u8>, NoMemory>
     requires { All (IsWithin text.now) tokens.now }
-    ensures { IfOk result (λ words. words.items ≡ spec.part_words text.now tokens.now place form) }
+    ensures { IfOk result (λ words. words.items ≡ spec.mismatch_words text.now tokens.now place form) }
 {
     let Some(open) = form else {
         return Ok(Vec::from_slice(alloc, rule_words(rule::TYPE_MISMATCH))?);

@@ -17,6 +17,7 @@ ghost use Rattle.ame_why.specs.FragmentMeaning.{fragment_meaning};
 use crate::Position;
 use crate::begun::{Led, led_by, started_position};
 use crate::forms::positions_in;
+use crate::line_index::LineIndex;
 use crate::node_places::standing_position;
 use crate::page::append;
 use crate::standing_lines::{append_reads, append_standing};
@@ -49,13 +50,14 @@ pub fn standings_of(
     };
     let Led { replay, begun, .. } = led;
     let numbers = read_numbers(alloc, &code.accepted().program.term)?;
-    let forms = positions_in(alloc, text)?;
+    let lines = LineIndex::of(alloc, text)?;
+    let forms = positions_in(alloc, &lines)?;
     let mut page = Vec::new(alloc);
     for certificate in certificates {
-        let started = started_position(text, code, &numbers, &begun, certificate.number);
+        let started = started_position(&lines, code, &numbers, &begun, certificate.number);
         let Some(part) = part_of(
             alloc,
-            text,
+            &lines,
             code,
             &replay,
             &numbers,
@@ -89,15 +91,16 @@ pub fn halted_of(
     };
     let Led { replay, begun, .. } = led;
     let numbers = read_numbers(alloc, &code.accepted().program.term)?;
-    let Some(stance) = stance_of(alloc, text, code, &replay, &numbers, note)? else {
+    let lines = LineIndex::of(alloc, text)?;
+    let Some(stance) = stance_of(alloc, &lines, code, &replay, &numbers, note)? else {
         return Ok(None);
     };
     let Stance { want, reads, there } = stance;
     if !confirms(note.kind, want) {
         return Ok(None);
     }
-    let forms = positions_in(alloc, text)?;
-    let started = started_position(text, code, &numbers, &begun, note.number);
+    let forms = positions_in(alloc, &lines)?;
+    let started = started_position(&lines, code, &numbers, &begun, note.number);
     let page = note_lines(alloc, &forms, &replay.cells, note, started, there, reads)?;
     Ok(Some(page))
 }
@@ -156,7 +159,7 @@ struct Stance {
 /// What the member of a note comes to; none where its steps can't be made.
 fn stance_of(
     alloc: Global,
-    text: &[u8],
+    lines: &LineIndex,
     code: &Code,
     replay: &Replay<Fragment>,
     numbers: &[u32],
@@ -167,7 +170,7 @@ fn stance_of(
         (record { cells = replay.now.cells.entries; members = replay.now.members.entries; output = replay.now.output.items; next = replay.now.next }) }
     ensures { IfOk result (λ told. IfSome told (λ stance. (entries : List Entry) → StandsForEntries fragment_meaning code.now entries
         (record { cells = replay.now.cells.entries; members = replay.now.members.entries; output = replay.now.output.items; next = replay.now.next })
-        → spec.LeadsNoteTo text.now code.now entries note.now stance.want stance.reads.entries stance.there)) }
+        → spec.LeadsNoteTo lines.now.text.now code.now entries note.now stance.want stance.reads.entries stance.there)) }
 {
     let cut = cut_of(alloc, note)?;
     let Some(standing) = replay.stand(alloc, code, &cut)? else {
@@ -178,7 +181,7 @@ fn stance_of(
         want,
         reads,
     } = standing;
-    let there = standing_position(text, code, numbers, &machine);
+    let there = standing_position(lines, code, numbers, &machine);
     Ok(Some(Stance { want, reads, there }))
 }
 
@@ -203,7 +206,7 @@ fn note_lines(
 /// The lines of a certificate; none where its member doesn't come to a condition that is false.
 fn part_of(
     alloc: Global,
-    text: &[u8],
+    lines: &LineIndex,
     code: &Code,
     replay: &Replay<Fragment>,
     numbers: &[u32],
@@ -212,16 +215,16 @@ fn part_of(
     started: Option<Position>,
 ) -> Result<Option<Vec<u8>>, NoMemory>
     requires numbers { numbers.now ≡ numbering.read_numbers 0 (program_of code.now) }
-    requires forms { forms.now ≡ positions text.now (tokens_or_none (tokens_of text.now)) }
+    requires forms { forms.now ≡ positions lines.now.text.now (tokens_or_none (tokens_of lines.now.text.now)) }
     requires stands { (entries : List Entry) × StandsForEntries fragment_meaning code.now entries
         (record { cells = replay.now.cells.entries; members = replay.now.members.entries; output = replay.now.output.items; next = replay.now.next }) }
     ensures { IfOk result (λ told. IfSome told (λ part. (entries : List Entry) → StandsForEntries fragment_meaning code.now entries
         (record { cells = replay.now.cells.entries; members = replay.now.members.entries; output = replay.now.output.items; next = replay.now.next })
-        → IfSome started (IsStartedAt text.now code.now entries certificate.now.number)
-        → spec.TellsStanding text.now code.now entries replay.now.cells.entries certificate.now part.items)) }
+        → IfSome started (IsStartedAt lines.now.text.now code.now entries certificate.now.number)
+        → spec.TellsStanding lines.now.text.now code.now entries replay.now.cells.entries certificate.now part.items)) }
 {
     let note = note_of(alloc, certificate)?;
-    let Some(stance) = stance_of(alloc, text, code, replay, numbers, &note)? else {
+    let Some(stance) = stance_of(alloc, lines, code, replay, numbers, &note)? else {
         return Ok(None);
     };
     let Stance { want, reads, there } = stance;

@@ -9,6 +9,7 @@ ghost use Rattle.ame_why.specs.Starters as spec;
 
 use crate::Position;
 use crate::begun::{Led, led_by, started_position};
+use crate::line_index::LineIndex;
 use ame_code::{Code, read_numbers};
 use ame_journal::Entry;
 use ame_term::{NoMemory, push};
@@ -22,7 +23,8 @@ pub struct Starter {
 }
 
 /// What started each fragment but the program, in the order of their numbers, by a journal of the program. None where the entries aren't those
-/// of a run, or pass a form whose value would be too high. Costs what the run did, and time linear in the text for each fragment.
+/// of a run, or pass a form whose value would be too high. Costs what the run did, time linear in the text, and time logarithmic in
+/// its lines for each fragment.
 pub fn starters_of(
     alloc: Global,
     text: &[u8],
@@ -37,14 +39,15 @@ pub fn starters_of(
         return Ok(None);
     };
     let numbers = read_numbers(alloc, &code.accepted().program.term)?;
-    let starters = with_forms(alloc, text, code, &numbers, &led)?;
+    let lines = LineIndex::of(alloc, text)?;
+    let starters = with_forms(alloc, &lines, code, &numbers, &led)?;
     Ok(Some(starters))
 }
 
 /// The entries that started fragments, with their forms.
 fn with_forms(
     alloc: Global,
-    text: &[u8],
+    lines: &LineIndex,
     code: &Code,
     numbers: &[u32],
     led: &Led,
@@ -52,11 +55,11 @@ fn with_forms(
     requires { numbers.now ≡ numbering.read_numbers 0 (program_of code.now) }
     ensures entries { IfOk result (λ starters. map (λ s. s.entry) starters.items ≡ led.now.starters.items) }
     ensures forms { IfOk result (λ starters. (entries : List Entry) → TellsBegun code.now entries led.now.begun.entries
-        → TellsForms text.now code.now entries starters.items) }
+        → TellsForms lines.now.text.now code.now entries starters.items) }
 {
     let mut starters = Vec::new(alloc);
     for (index, entry) in led.starters.iter().enumerate() {
-        let form = started_position(text, code, numbers, &led.begun, index as u64 + 1);
+        let form = started_position(lines, code, numbers, &led.begun, index as u64 + 1);
         push(
             &mut starters,
             Starter {

@@ -10,6 +10,7 @@ ghost use Rattle.ame_why.specs.Stored.{IsFirstOrder, held_words, origin_words, s
 
 use crate::Position;
 use crate::forms::{append_position, position_at, positions_in};
+use crate::line_index::LineIndex;
 use crate::page::{append, append_column, append_padded};
 use ame_print::print_term;
 use ame_store::{Cell, Store};
@@ -23,7 +24,8 @@ pub fn store_of(alloc: Global, text: &[u8], store: &Store<Val>) -> Result<Vec<u8
     requires { length text.now ≤ max_text }
     ensures { IfOk result (λ page. page.items ≡ spec.store_table (positions text.now (tokens_or_none (tokens_of text.now))) store.now) }
 {
-    let places = positions_in(alloc, text)?;
+    let lines = LineIndex::of(alloc, text)?;
+    let places = positions_in(alloc, &lines)?;
     let mut page = Vec::new(alloc);
     append(&mut page, b"location  sort  ref form  value\n")?;
     append_cells(&mut page, &places, store)?;

@@ -17,9 +17,9 @@ returns c = λ entries st starts.
       members = c.args.replay.now.members.entries;
       output = c.args.replay.now.output.items;
       next = c.args.replay.now.next;
-    }) → LeadsNoteTo c.args.text.now c.args.code.now es c.in_ok-note.note s.want s.reads.entries s.there)
+    }) → LeadsNoteTo c.args.lines.now.text.now c.args.code.now es c.in_ok-note.note s.want s.reads.entries s.there)
     c.in_ok-stance.field-0 c.in-Some.stance c.in-Some.is c.in_ok-stance.ensures entries st in
-    tells-standing c.args.text.now c.args.code.now entries c.args.replay.now.cells.entries c.args.certificate.now c.in_ok-note.note c.in-Some.stance.want
+    tells-standing c.args.lines.now.text.now c.args.code.now entries c.args.replay.now.cells.entries c.args.certificate.now c.in_ok-note.note c.in-Some.stance.want
     c.in-Some.stance.reads.entries c.in-Some.stance.there c.in-Some-there.place c.in_ok-note.ensures c.in-Block.is c.in-Some-there.is comes c.args.started starts
     c.in_ok-part.part.items
     (c.in_ok-part.ensures

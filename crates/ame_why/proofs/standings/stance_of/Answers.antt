@@ -17,5 +17,5 @@ returns c = λ entries st.
       next = c.args.replay.now.next;
     }) → StandsAt fragment_meaning c.args.code.now es c.in_ok-cut.cut s.machine s.want s.reads.entries)
     c.in_ok-standing.field-0 c.in-Some.standing c.in-Some.is c.in_ok-standing.ensures entries st in
-    comes-to c.args.text.now c.args.code.now entries c.args.note.now c.in_ok-cut.cut c.in_ok-cut.ensures c.in-Some.standing.machine c.in-Some.standing.want
+    comes-to c.args.lines.now.text.now c.args.code.now entries c.args.note.now c.in_ok-cut.cut c.in_ok-cut.ensures c.in-Some.standing.machine c.in-Some.standing.want
     c.in-Some.standing.reads.entries found c.standing_position-there.ensures.form c.standing_position-there.result c.standing_position-there.ensures.there

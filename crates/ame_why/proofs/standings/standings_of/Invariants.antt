@@ -5,4 +5,4 @@ use Rattle.ame_why.proofs.standings.standings_of.Given as goal
 
 abbrev pub invariant-loop-certificate : goal.invariant-loop-certificate
 invariant-loop-certificate l =
-    TellEach l.text l.code l.entries l.replay.cells.entries (take l.certificate-index l.certificates) l.page.items
+    TellEach l.lines.text.now l.code l.entries l.replay.cells.entries (take l.certificate-index l.certificates) l.page.items

@@ -1,6 +1,6 @@
-use Rattle.std.proofs.Common.{◌≡◌, ℕ, List, ap, ◌∙◌}
+use Rattle.std.proofs.Common.{◌≡◌, ℕ, List, ap, ◌∙◌, subst}
 use Rattle.ame_code.specs.Code.{program_of}
-use Rattle.ame_why.specs.Begun.{TellsBegun}
+use Rattle.ame_why.specs.Begun.{TellsBegun, TellsForms}
 use Rattle.ame_why.specs.Starters.{starter_in, starter_of}
 use Rattle.ame_why.proofs.StandingsLemmas.{told-some}
 use Rattle.ame_why.proofs.starters.starters_of.Goals as goal
@@ -14,5 +14,6 @@ returns-clause-entries c = λ fragment.
 
 pub returns-clause-forms : goal.returns-clause-forms
 returns-clause-forms c =
-    c.in_ok-starters.ensures.forms c.args.entries.now
-    (told-some (λ (l : _). TellsBegun c.args.code.now c.args.entries.now l.begun.entries) c.in_ok-led.field-0 c.in-Some.led c.in-Some.is c.in_ok-led.ensures.begun)
+    subst (λ (text : List ℕ). TellsForms text c.args.code.now c.args.entries.now c.in_ok-starters.starters.items) c.in_ok-lines.ensures
+    (c.in_ok-starters.ensures.forms c.args.entries.now
+    (told-some (λ (l : _). TellsBegun c.args.code.now c.args.entries.now l.begun.entries) c.in_ok-led.field-0 c.in-Some.led c.in-Some.is c.in_ok-led.ensures.begun))

@@ -10,13 +10,13 @@ pub loop-index-init : goal.loop-index-init
 loop-index-init c = record {
   count = ap length c.new-starters.ensures.items;
   entries = ap (λ (ss : List Starter). map (λ (s : Starter). s.entry) ss) c.new-starters.ensures.items;
-  forms = λ entries begun. forms-begin (IsStartedAt c.args.text.now c.args.code.now entries) _ c.new-starters.ensures.items;
+  forms = λ entries begun. forms-begin (IsStartedAt c.args.lines.now.text.now c.args.code.now entries) _ c.new-starters.ensures.items;
 }
 
 pub loop-index-preserved : goal.loop-index-preserved
 loop-index-preserved c =
     let i = c.loop-index.index in
-    let text = c.args.text.now in
+    let text = c.args.lines.now.text.now in
     let code = c.args.code.now in
     let told = c.args.led.now.starters.items in
     let old = c.loop-index.starters.items in
@@ -42,4 +42,4 @@ returns-clause-entries c =
 
 pub returns-clause-forms : goal.returns-clause-forms
 returns-clause-forms c = λ entries begun.
-    forms-told (IsStartedAt c.args.text.now c.args.code.now entries) _ (c.loop-index.invariant.forms entries begun)
+    forms-told (IsStartedAt c.args.lines.now.text.now c.args.code.now entries) _ (c.loop-index.invariant.forms entries begun)

@@ -9,5 +9,5 @@ abbrev pub invariant-loop-index : goal.invariant-loop-index
 invariant-loop-index l = record {
   count : length l.starters.items ≡ l.index;
   entries : map (λ s. s.entry) l.starters.items ≡ take l.index l.led.starters.items;
-  forms : (entries : List Entry) → TellsBegun l.code entries l.led.begun.entries → AreForms (IsStartedAt l.text l.code entries) l.starters.items;
+  forms : (entries : List Entry) → TellsBegun l.code entries l.led.begun.entries → AreForms (IsStartedAt l.lines.text.now l.code entries) l.starters.items;
 }

@@ -1,6 +1,6 @@
 //! A machine that runs alone.
 
-ghost use Rattle.std.specs.Prelude.{◌≡◌, ◌≤◌, ◌+◌, ◌<◌, ◌^◌, true, Some, IfOk, IfSome};
+ghost use Rattle.std.specs.Prelude.{◌≡◌, ◌≤◌, ◌<◌, true, Some, IfOk, IfSome};
 ghost use Rattle.ame_code.specs.FlatCode.{FlatCode};
 ghost use Rattle.ame_eval.specs.Machines.{stage_by};
 

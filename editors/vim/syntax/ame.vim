@@ -1,4 +1,5 @@
 " Vim syntax file for ame, a language for Automatic Mutual Exclusion. docs/LANGUAGE.md has the table of words.
+" To use it: `set runtimepath^=PATH/editors/vim`.
 if exists('b:current_syntax')
   finish
 endif

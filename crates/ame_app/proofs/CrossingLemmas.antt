@@ -36,8 +36,13 @@ code_send = search (sendable, crosses, accepted_send, node_send) depth 20 fits 4
 
 ruleset parts_sync = (binary.the_sync, binary.the_field_sync, sort.the_sync, sort.the_field_sync, place.the_sync, place.the_field_sync, unary.the_sync, unary.the_field_sync, number.the_sync, number.the_field_sync, const.the_sync, const.the_field_sync)
 
+ruleset term_parts = (sendable, crosses, sort.the_sync, sort.the_field_sync, place.the_sync, place.the_field_sync, types.crosses, types.crosses_both)
+
 term_sync : IsSync Term.the_field.row
-term_sync = search (sendable, crosses, types.crosses, types.crosses_both, terms.crosses, terms.crosses_both) depth 20 fits 4000
+term_sync =
+    terms.sync-Term (search term_parts depth 20) (search term_parts depth 20) (search term_parts depth 20) (search term_parts depth 20) (search term_parts depth 20)
+    (search term_parts depth 20) (search term_parts depth 20) (search term_parts depth 20) (search term_parts depth 20) (search term_parts depth 20)
+    (search term_parts depth 20) (search term_parts depth 20) (search term_parts depth 20)
 
 program_sync : IsSync Program.the_field.row
 program_sync = search (sendable, crosses, term_sync) depth 20 fits 4000

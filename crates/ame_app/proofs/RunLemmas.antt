@@ -1,14 +1,14 @@
 -- What a run that is over tells of its call.
-use Rattle.std.proofs.Common.{◌≡◌, ◌≢◌, ℕ, List, [], ◌++◌, length, Option, Some, None, Ok, refl, sym, ap, ◌∙◌, subst, arith, append-nil}
+use Rattle.std.proofs.Common.{◌≡◌, ◌≢◌, ℕ, List, [], ◌++◌, map, length, Option, Some, None, refl, sym, ap, ◌∙◌, subst, arith, append-nil}
 use Rattle.std.proofs.lemmas.List.Elements.{All-nil}
 use Rattle.ame_io.specs.Counts.{HasRisen}
 use Rattle.ame_io.specs.Lines.{lines}
-use Rattle.ame_term.specs.Tree.{Typ, Tree}
-use Rattle.ame_term.specs.State.{State}
-use Rattle.ame_term.specs.Typing.{typing, ref_types}
-use Rattle.ame_term.specs.SourceTerm.{IsSourceTerm}
+use Rattle.ame_term.specs.Tree.{Tree}
+use Rattle.ame_term.specs.State.{start}
+use Rattle.ame_term.specs.View.{typ_of}
 use Rattle.ame_laws.specs.Orderly.{IsOrderly}
-use Rattle.ame_laws.proofs.Typed.Started.{reached}
+use Rattle.ame_laws.specs.Typed.Listed.{signature_of}
+use Rattle.ame_laws.proofs.OrderlyLemmas.{run-goes, start-orderly}
 use Rattle.ame_journal.specs.declared.entry.Entry.{Entry}
 use Rattle.ame_journal.specs.Replayed.{Replayed, begun_at}
 use Rattle.ame_journal.specs.Replay.{replay}
@@ -46,7 +46,6 @@ use Rattle.ame_app.specs.Calls.{Call}
 use Rattle.ame_app.specs.Causes.{status_at, status_of, RunCause, CommandCause}
 use Rattle.ame_app.specs.Headline.{limits_of, reported, Headline, IsStore, IsTypedState, DevicesTell, DevicesTellOf, IsNotedOnceBy, journal_of, verdict_of, IsWritten}
 use Rattle.ame_app.specs.Jobs.{IsJobOf, HasWeakStop, TellsWeakly, IsTakenApart, IsEngineRunMade, IsRunMade, SpeaksBehind}
-use Rattle.ame_app.specs.Texts.{IsProgramOf}
 use Rattle.ame_app.specs.Verbs.{BeginsFrom, written_behind}
 use Rattle.ame_app.specs.Verbs.Weak.{alone_with, told_by}
 use Rattle.ame_app.proofs.WrittenLemmas.{after-lines, tells-fault, spoken-is}
@@ -54,18 +53,11 @@ use Rattle.ame_app.proofs.CountLemmas.{certified-count}
 
 -- States that a journal leads to
 
--- they are typed and orderly
-record IsReached (devices : ℕ) (s : State) : Type 0 where
-  typed : IsTypedState devices s
-  orderly : IsOrderly s
-
-replayed-reached : (devices : ℕ) (places : List ℕ) (program : Tree) → typing devices places program ≡ Ok Typ.Unit → IsSourceTerm program
-    → (entries : List Entry) (r : Replayed) → replay program entries ≡ Some r → IsReached devices r.state
-replayed-reached devices places program typed source entries r replays =
+-- they are orderly
+replayed-orderly : (program : Tree) (entries : List Entry) (r : Replayed) → replay program entries ≡ Some r → IsOrderly r.state
+replayed-orderly program entries r replays =
     let all = unfold-all (begun_at program) entries r replays in
-    let ran = unfolds_all-run (begun_at program) entries all.0 r all.1 in
-    let there = reached devices places program (ref_types devices places program) all.0 r.state (typed, refl) source ran in
-    record { typed = record { cells = there.0; typed = there.1 }; orderly = there.2 }
+    (run-goes (start program) all.0 r.state (unfolds_all-run (begun_at program) entries all.0 r all.1)).orderly (start-orderly program)
 
 -- Causes
 
@@ -124,11 +116,6 @@ module _ (call : Call) (status : Status) (text : Text) (code : FlatCode) (front 
       SpeaksBehind left.stop (status_of end) (verdict_of end ++ written_behind command had (status_of end)) status mid.written mid.write_faults after.written
       after.write_faults
 
-  reached-by : (final : Replayed) (entries : List Entry) → IsProgramOf text call.devices code.accepted → replay (program_of code) entries ≡ Some final
-      → IsReached call.devices final.state
-  reached-by final entries program replays =
-      replayed-reached call.devices code.accepted.program.places.items (program_of code) program.typed code.accepted.program.source entries final replays
-
   module _ (command : Command) (job : IsJobOf call text code command front) (made : IsEngineRunMade command front code before own left mid)
       (plain : IsPlain code command own left before after) (speaks : Spoken command own left) where
     text-written : IsWritten status (lines made.over.ends.r.state.output ++ (verdict_of left ++ written_behind command own (status_of left))) before after
@@ -136,8 +123,8 @@ module _ (call : Call) (status : Status) (text : Text) (code : FlatCode) (front 
         after-lines left.stop (status_of left) before mid after status (lines made.over.ends.r.state.output)
         (verdict_of left ++ written_behind command own (status_of left)) (stop-told left.stop left.certificates) speaks made.over.sent
 
-    is-reached : IsReached call.devices made.over.ends.r.state
-    is-reached = reached-by made.over.ends.r (journal_of left) job.program made.over.ends.replays
+    is-orderly : IsOrderly made.over.ends.r.state
+    is-orderly = replayed-orderly (program_of code) (journal_of left) made.over.ends.r made.over.ends.replays
 
     have-failed : HaveFailed left.stop before.told after.told
     have-failed = subst (λ (t : List Told). HaveFailed left.stop before.told t) (sym kept) made.over.failed
@@ -145,7 +132,7 @@ module _ (call : Call) (status : Status) (text : Text) (code : FlatCode) (front 
     has-causes : Causes (limits_of made.options) made.options made.over.ends.r left before after status
     has-causes = record {
       turns = refl;
-      orderly = is-reached.orderly;
+      orderly = is-orderly;
       stopped = made.over.ends.stopped;
       failed = have-failed;
       written = λ e. (text-written.front e).1;
@@ -173,7 +160,7 @@ module _ (call : Call) (status : Status) (text : Text) (code : FlatCode) (front 
       output = text-written;
       printed = sym made.over.ends.printed;
       store = record { stored = made.over.ends.store; free = made.over.ends.free; forms = made.over.ends.forms };
-      typed = is-reached.typed;
+      typed = made.over.ends.typed (map typ_of code.accepted.ref_tys.items) refl;
       as_many = ap length kept ∙ made.over.heard.count;
       devices = plain.devices (record {
         heard = subst (λ (b : List Entry). HaveHeardSince (program_of code) b left.entries before.told after.told) (sym made.over.base)
@@ -205,7 +192,7 @@ module _ (call : Call) (status : Status) (text : Text) (code : FlatCode) (front 
   -- a weak run
   module _ (seed turns : ℕ) (weakened : Weakened) (job : IsJobOf call text code (Command.Weak seed turns) front)
       (tells : TellsWeakly (program_of code) turns weakened before.told mid.told)
-      (apart : IsTakenApart (without_notes weakened.journal.entries) (program_of code) (limits_of (alone_with turns)) (value_meant code) left before mid)
+      (apart : IsTakenApart (without_notes weakened.journal.entries) (program_of code) (signature_of code.accepted) (limits_of (alone_with turns)) (value_meant code) left before mid)
       (speaks : Spoken (Command.Weak seed turns) (Own.Weak weakened) (told_by (Own.Weak weakened) left)) where
     abbrev end : End Val
     end = told_by (Own.Weak weakened) left
@@ -222,8 +209,8 @@ module _ (call : Call) (status : Status) (text : Text) (code : FlatCode) (front 
         sym apart.ends.replays ∙ ap (replay (program_of code)) acts ∙ notes-dropped (begun_at (program_of code)) journal tells.final tells.replays in
         cc
 
-    there : IsReached call.devices tells.final.state
-    there = reached-by tells.final journal job.program tells.replays
+    there : IsOrderly tells.final.state
+    there = replayed-orderly (program_of code) journal tells.final tells.replays
 
     no-fault : (stop : Stop) → HasWeakStop stop turns weakened tells.final.state → (cs : List Certificate) → status_at (Some stop) cs ≢ Status.WriteFault
     no-fault Stop.WriteFault cause cs = absurd cause
@@ -243,7 +230,7 @@ module _ (call : Call) (status : Status) (text : Text) (code : FlatCode) (front 
     weak-cause Stop.Finished is = subst (λ (k : Stop). HasWeakStop k turns weakened tells.final.state) is tells.cause
     weak-cause Stop.Blocked is =
         let certified = subst (λ (k : Stop). HasWeakStop k turns weakened tells.final.state) is tells.cause in
-        record { certified = certified; number_is = certified-count tells.final.state there.orderly weakened.certificates.items certified }
+        record { certified = certified; number_is = certified-count tells.final.state there weakened.certificates.items certified }
     weak-cause Stop.Spent is =
         let spent = subst (λ (k : Stop). HasWeakStop k turns weakened tells.final.state) is tells.cause in
         record { turns_are = spent.0; left = spent.1 }
@@ -289,7 +276,7 @@ module _ (call : Call) (status : Status) (text : Text) (code : FlatCode) (front 
       output = weak-written;
       printed = sym apart.ends.printed ∙ ap (λ (r : Replayed). r.state.output) same-state;
       store = subst (λ (r : Replayed). IsStore code left.cells r.state) same-state (record { stored = apart.ends.store; free = apart.ends.free; forms = apart.ends.forms });
-      typed = there.typed;
+      typed = subst (λ (r : Replayed). IsTypedState code left.cells r.state) same-state (apart.ends.typed (map typ_of code.accepted.ref_tys.items) refl);
       as_many = ap length kept ∙ tells.count;
       devices = record {
         able = λ able.

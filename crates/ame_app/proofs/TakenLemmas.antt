@@ -11,6 +11,7 @@ use Rattle.ame_code.specs.FlatCode.{FlatCode}
 use Rattle.ame_value.specs.declared.val.Val.{Val}
 use Rattle.ame_eval.specs.Values.{value_meant}
 use Rattle.ame_eval.specs.declared.fragment.Fragment.{Fragment}
+use Rattle.ame_laws.specs.Typed.Listed.{signature_of}
 use Rattle.ame_journal.specs.declared.entry.Entry.{Entry}
 use Rattle.ame_device.specs.declared.told.Heard.{Heard}
 use Rattle.ame_device.specs.Calls.{told, all_told}
@@ -39,19 +40,19 @@ sent-by (Err e) why text before after lacks fails whole stayed gone short risen 
 
 module _ (engine new : Core FlatCode Val Fragment) (why : Stop) (end : End Val) (before after : Ends) (text : List ℕ)
     (resumed : HasResumed fragments engine.limits engine.base engine) (stops : new ≡ stopped_by why engine) (tells : end ≡ end_of new)
-    (ends : IsEnd (program_of new.code) new.limits (value_meant new.code) end) (text_is : text ≡ lines engine.output) (sent : IsSent (Some why) text before after) where
+    (ends : IsEnd (program_of new.code) (signature_of new.code.accepted) new.limits (value_meant new.code) end) (text_is : text ≡ lines engine.output) (sent : IsSent (Some why) text before after) where
   stop-is : end.stop ≡ Some why
   stop-is =
       ap (λ (e : End Val). e.stop) tells ∙ ap (λ (c : Core FlatCode Val Fragment). c.stop) stops
       ∙ ap (λ (o : Option Stop). Some (unwrap_or o why)) (ap (λ (s : State). s.stop) resumed.state)
 
-  own-end : IsEnd (program_of engine.code) engine.limits (value_meant engine.code) end
-  own-end = subst (λ (c : Core FlatCode Val Fragment). IsEnd (program_of c.code) c.limits (value_meant c.code) end) stops ends
+  own-end : IsEnd (program_of engine.code) (signature_of engine.code.accepted) engine.limits (value_meant engine.code) end
+  own-end = subst (λ (c : Core FlatCode Val Fragment). IsEnd (program_of c.code) (signature_of c.code.accepted) c.limits (value_meant c.code) end) stops ends
 
   output-is : own-end.r.state.output ≡ engine.output
   output-is = own-end.printed ∙ ap (λ (e : End Val). e.output) tells ∙ ap (λ (c : Core FlatCode Val Fragment). c.output) stops
 
-  pub taken-apart : IsTakenApart engine.base (program_of engine.code) engine.limits (value_meant engine.code) end before after
+  pub taken-apart : IsTakenApart engine.base (program_of engine.code) (signature_of engine.code.accepted) engine.limits (value_meant engine.code) end before after
   taken-apart = record {
     ends = own-end;
     base_is = ap (λ (e : End Val). e.base) tells ∙ ap (λ (c : Core FlatCode Val Fragment). c.base) stops;
@@ -68,14 +69,14 @@ module _ (engine new : Core FlatCode Val Fragment) (why : Stop) (end : End Val) 
 -- so it is of an engine that was opened on entries
 pub apart-on : (options : Options) (base : List Entry) (code : FlatCode) (engine : Core FlatCode Val Fragment) (end : End Val) (before after : Ends)
     → IsEngineOn options base code engine
-    → IsTakenApart engine.base (program_of engine.code) engine.limits (value_meant engine.code) end before after
-    → IsTakenApart base (program_of code) (limits_of options) (value_meant code) end before after
+    → IsTakenApart engine.base (program_of engine.code) (signature_of engine.code.accepted) engine.limits (value_meant engine.code) end before after
+    → IsTakenApart base (program_of code) (signature_of code.accepted) (limits_of options) (value_meant code) end before after
 apart-on options base code engine end before after on apart =
     let same_limits : engine.limits ≡ limits_of options = ap (λ (s : State). s.parts.limits) on.resumed.state in
     let same_base : engine.base ≡ base = ap (λ (s : State). s.parts.base) on.resumed.state in
-    subst (λ (k : FlatCode). IsTakenApart base (program_of k) (limits_of options) (value_meant k) end before after) on.code_is
-    (subst (λ (l : Limits). IsTakenApart base (program_of engine.code) l (value_meant engine.code) end before after) same_limits
-    (subst (λ (es : List Entry). IsTakenApart es (program_of engine.code) engine.limits (value_meant engine.code) end before after) same_base apart))
+    subst (λ (k : FlatCode). IsTakenApart base (program_of k) (signature_of k.accepted) (limits_of options) (value_meant k) end before after) on.code_is
+    (subst (λ (l : Limits). IsTakenApart base (program_of engine.code) (signature_of engine.code.accepted) l (value_meant engine.code) end before after) same_limits
+    (subst (λ (es : List Entry). IsTakenApart es (program_of engine.code) (signature_of engine.code.accepted) engine.limits (value_meant engine.code) end before after) same_base apart))
 
 length-told : {X Y : Type 0} (f : X → Y) (xs : List X) → length (map f xs) ≡ length xs
 length-told f [] = refl

@@ -6,6 +6,7 @@ use Rattle.std.proofs.lemmas.Bool.{eqb-true, eq-eqb, ne_eqb}
 use Rattle.std.proofs.lemmas.Option.{option_and_then_some}
 use Rattle.std.proofs.lemmas.List.Elements.{All-nil, All-cons, All-append}
 use Rattle.ame_term.specs.Tree.{Tree, Val as Value}
+use Rattle.ame_term.specs.Signature.{Signature}
 use Rattle.ame_term.specs.declared.types.Unary.TheVariants as unary
 use Rattle.ame_term.specs.Act.{act_of, device_answer}
 use Rattle.ame_term.specs.Maps.{at}
@@ -330,10 +331,10 @@ none-or : {X : Type 0} (o : Option X) (P : Type 0) → (o ≡ None → P) → ((
 none-or None P none some = none refl
 none-or (Some x) P none some = some x refl
 
-stands-so : (s : State) (devices : ℕ) (cells : StoreTyping) → IsTyped devices cells s → (device : ℕ) → StandsAtCall (holding_none s) device → StandsAtCallOf s device
+stands-so : (s : State) (signature : Signature) (cells : StoreTyping) → IsTyped signature cells s → (device : ℕ) → StandsAtCall (holding_none s) device → StandsAtCallOf s device
 unfolding act_of
-stands-so s devices cells typed device stands =
-    let told : TellsOfMember s stands.number (next_of s (Some stands.number)) = tells s devices cells typed (Some stands.number) (next_of s (Some stands.number)) refl in
+stands-so s signature cells typed device stands =
+    let told : TellsOfMember s stands.number (next_of s (Some stands.number)) = tells s signature cells typed (Some stands.number) (next_of s (Some stands.number)) refl in
     none-or (at (pool s) stands.number) (StandsAtCallOf s device)
     (λ none. absurd (let clash : ◌≡◌ {A = Next} (next.Device device stands.argument) next.Nothing = sym stands.stands ∙ told.absent.1 none in cc))
     (λ term is. record {
@@ -375,7 +376,7 @@ module _ (program : Tree) (limit : ℕ) (labels : List Label) (tries : List Try)
   told-unless WeakStop.NoMemory tells able = absurd (able refl)
 
   module _ (weakened : Weakened) (turns_are : weakened.turns ≡ turns) (w : Weak) (leads : IsWeakRun program labels w) (idle : w.state.active ≡ None)
-      (s : State) (is : w ≡ holding_none s) (devices : ℕ) (cells : StoreTyping) (typed : IsTyped devices cells w.state) where
+      (s : State) (is : w ≡ holding_none s) (signature : Signature) (cells : StoreTyping) (typed : IsTyped signature cells w.state) where
     resting : s.active ≡ None
     resting = sym (ap (λ (z : Weak). z.state.active) is) ∙ idle
 
@@ -392,7 +393,7 @@ module _ (program : Tree) (limit : ℕ) (labels : List Label) (tries : List Try)
         let cause = subst (λ (z : Weak). HasWeakCause WeakStop.Spent z turns limit) is (tells.cause w leads) in
         (turns_are ∙ cause.0, λ none. cause.1 (ap (λ (o : Option ℕ). but o s.members) resting ∙ none))
     cause-of (WeakStop.DeviceFault device) tells certified notes =
-        stands-so s devices cells (subst (IsTyped devices cells) (ap (λ (z : Weak). z.state) is) typed) device
+        stands-so s signature cells (subst (IsTyped signature cells) (ap (λ (z : Weak). z.state) is) typed) device
         (subst (λ (z : Weak). StandsAtCall z device) is (tells.cause w leads))
     cause-of (WeakStop.Tall entry) tells certified notes = notes
     cause-of WeakStop.NoMemory tells certified notes = tt
@@ -549,11 +550,11 @@ TellsCallsWith program =
     (device : ℕ) (labels : List Label) (tries : List Try) (w : Weak) → AreTried program labels tries → IsWeakRun program labels w
     → device_calls device program (straight_with 0 tries outset labels) ≡ weak_calls device (weak_start program) labels
 
-abbrev AreTypedRuns : ℕ → Tree → Type 0
-AreTypedRuns devices program = (labels : List Label) (w : Weak) → IsWeakRun program labels w → (cells : StoreTyping) × IsTyped devices cells w.state
+abbrev AreTypedRuns : Signature → Tree → Type 0
+AreTypedRuns signature program = (labels : List Label) (w : Weak) → IsWeakRun program labels w → (cells : StoreTyping) × IsTyped signature cells w.state
 
-module _ (devices : ℕ) (program : Tree) (straightens : Straightens program) (calls : TellsCalls program) (calls_with : TellsCallsWith program)
-    (typed : AreTypedRuns devices program) where
+module _ (signature : Signature) (program : Tree) (straightens : Straightens program) (calls : TellsCalls program) (calls_with : TellsCallsWith program)
+    (typed : AreTypedRuns signature program) where
   -- the journal leads on
   pub weak-leads : (limit : ℕ) (labels : List Label) (tries : List Try) (turns : ℕ) (stop : WeakStop) (entries : List Entry)
       → IsWeakRunOf program limit labels tries stop → entries ≡ journal_of_run labels tries stop → (before after : List Told)
@@ -609,7 +610,7 @@ module _ (devices : ℕ) (program : Tree) (straightens : Straightens program) (c
             (stop-seats stop note));
         cause =
             subst (λ (k : Stop). HasWeakStop k limit weakened s.0.state) (sym stop_is)
-            (cause-of program limit labels tries turns before after weakened turns_are w leads idle s.0.state s.2 devices types.0 types.1 stop tells certified noted);
+            (cause-of program limit labels tries turns before after weakened turns_are w leads idle s.0.state s.2 signature types.0 types.1 stop tells certified noted);
         notes =
             subst (λ (k : Stop). NotesStop (Some k) weakened.journal.entries) (sym stop_is) noted;
         apart =

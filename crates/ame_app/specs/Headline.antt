@@ -5,9 +5,10 @@ use Rattle.ame_io.specs.Counts.{HasRisen}
 use Rattle.ame_io.specs.Lines.{lines}
 use Rattle.ame_io.specs.Writes.{AppendsFront}
 use Rattle.ame_lex.specs.Bytes.{Text}
+use Rattle.ame_term.specs.View.{typ_of}
 use Rattle.ame_term.specs.Maps.{at}
 use Rattle.ame_term.specs.State.{State}
-use Rattle.ame_laws.specs.Typed.StoreTyping.{StoreTyping}
+use Rattle.ame_laws.specs.Typed.Listed.{signature_of}
 use Rattle.ame_laws.specs.Typed.TypedState.{IsTyped}
 use Rattle.ame_store.specs.declared.cell.Cell.{Cell}
 use Rattle.ame_store.specs.Cells.{IsFree}
@@ -28,7 +29,7 @@ use Rattle.ame_protocol.specs.declared.types.Limits.{Limits}
 use Rattle.ame_protocol.specs.Event.Bounds.{HasBounds}
 use Rattle.ame_protocol.specs.Event.Causes.{NotesStop}
 use Rattle.ame_protocol.specs.declared.stop.Stop.{Stop}
-use Rattle.ame_engine.specs.Ending.{End, ShowsCounts}
+use Rattle.ame_engine.specs.Ending.{End, types_in, ShowsCounts}
 use Rattle.ame_runner.specs.Apart.{AreNotedApart}
 use Rattle.ame_shell.specs.Ends.{Ends}
 use Rattle.ame_shell.specs.Heard.{HaveHeardSince, HaveFailed}
@@ -63,10 +64,11 @@ pub record IsStore (code : FlatCode) (cells : List (Cell Val)) (s : State) : Typ
   pub free : All IsFree cells
   pub forms : All (λ cell. IsRefForm (program_of code) cell.sort cell.ty.0) cells
 
--- the values stored and the members are typed, for some types of the locations
-pub record IsTypedState (devices : ℕ) (s : State) : Type 0 where
-  pub cells : StoreTyping
-  pub typed : IsTyped devices cells s
+-- The values stored and the members are typed, where each location has the sort of its cell, and the type of what the `ref` form with
+-- the cell's number stores.
+abbrev pub IsTypedState : FlatCode → List (Cell Val) → State → Type 0
+IsTypedState code cells s =
+    IsTyped (signature_of code.accepted) (types_in (map typ_of code.accepted.ref_tys.items) (map (shown_cell (value_meant code)) cells)) s
 
 -- each device has heard what the journal tells behind the entries from which the run was opened; none failed, but for the one that the stop tells
 pub record DevicesTell (code : FlatCode) (end : End Val) (before after : Ends) : Type 0 where
@@ -123,7 +125,7 @@ pub record Headline (call : Call) (report : Reported) (left end : End Val) (befo
   pub output : IsWritten report.status (lines final.state.output ++ (verdict_of end ++ written_behind command report.own (status_of end))) before after
   pub printed : end.output ≡ final.state.output
   pub store : IsStore compiled end.cells final.state
-  pub typed : IsTypedState call.devices final.state
+  pub typed : IsTypedState compiled end.cells final.state
   pub as_many : length after.told ≡ length before.told
   pub devices : DevicesTellOf command compiled end before after
   -- The verdict is that of the stop, and has its cause; it is the status, unless the sink failed.

@@ -10,6 +10,8 @@ use Rattle.ame_lex.specs.declared.tokens.LexFault.{LexFault}
 use Rattle.ame_parse.specs.declared.fault.ParseFault.{ParseFault}
 use Rattle.ame_types.specs.declared.fault.TypesFail.{TypesFail}
 use Rattle.ame_term.specs.Tree.{Tree, Val as Value}
+use Rattle.ame_term.specs.Signature.{Signature}
+use Rattle.ame_laws.specs.Typed.Listed.{signature_of}
 use Rattle.ame_term.specs.State.{State}
 use Rattle.ame_code.specs.FlatCode.{FlatCode}
 use Rattle.ame_code.specs.Code.{program_of}
@@ -101,7 +103,7 @@ IsTextStatus text devices _ = ⊥
 abbrev pub fragments : Meaning FlatCode Val Fragment
 fragments = record {
   program = λ code. program_of code;
-  devices = λ code. code.accepted.devices;
+  signature = λ code. signature_of code.accepted;
   is_value = λ code v. IsMadeValue code v;
   value_of = λ code v. value_meant code v;
   is_machine = λ code m. IsFragmentOf code m;
@@ -140,11 +142,11 @@ IsOutlook command front code Outlook.Begins = ⊤
 
 -- a run of code from its beginning, with these options, is over
 abbrev pub IsOverWith : Options → FlatCode → Ends → End Val → Ends → Type 0
-IsOverWith options code before end after = IsOver (program_of code) (limits_of options) (value_meant code) before end after
+IsOverWith options code before end after = IsOver (program_of code) (signature_of code.accepted) (limits_of options) (value_meant code) before end after
 
 -- a run that went on from an engine is over
 abbrev pub IsOverFrom : Core FlatCode Val Fragment → Ends → End Val → Ends → Type 0
-IsOverFrom engine before end after = IsOverSince engine.base (program_of engine.code) engine.limits (value_meant engine.code) before end after
+IsOverFrom engine before end after = IsOverSince engine.base (program_of engine.code) (signature_of engine.code.accepted) engine.limits (value_meant engine.code) before end after
 
 -- a run that a command makes by an engine is over, and has kept what the command promises
 pub record IsEngineRunMade (command : Command) (front : Front) (code : FlatCode) (before : Ends) (own : Own) (end : End Val) (after : Ends) : Type 0 where
@@ -152,7 +154,7 @@ pub record IsEngineRunMade (command : Command) (front : Front) (code : FlatCode)
   pub with_options : options_of command ≡ Some options
   pub base : List Entry
   pub begun : BeginsFrom command front (program_of code) base
-  pub over : IsOverSince base (program_of code) (limits_of options) (value_meant code) before end after
+  pub over : IsOverSince base (program_of code) (signature_of code.accepted) (limits_of options) (value_meant code) before end after
   pub own_is : Promises command front (program_of code) options own end
 
 -- the cause of the stop of a weak run, with its limit and its turns, in the state that is left
@@ -180,8 +182,8 @@ pub record TellsWeakly (program : Tree) (limit : ℕ) (weakened : Weakened) (bef
   pub failed : weakened.stop ≢ Stop.NoMemory → HaveFailed (Some weakened.stop) before after
 
 -- an engine was opened on entries and taken apart at once, and its lines were sent
-pub record IsTakenApart (base : List Entry) (program : Tree) (limits : Limits) (value : Val → Value) (end : End Val) (before after : Ends) : Type 0 where
-  pub ends : IsEnd program limits value end
+pub record IsTakenApart (base : List Entry) (program : Tree) (signature : Signature) (limits : Limits) (value : Val → Value) (end : End Val) (before after : Ends) : Type 0 where
+  pub ends : IsEnd program signature limits value end
   pub base_is : end.base ≡ base
   pub nothing : end.entries ≡ []
   pub untried : end.tried ≡ []
@@ -190,7 +192,7 @@ pub record IsTakenApart (base : List Entry) (program : Tree) (limits : Limits) (
 
 -- so it was with this engine
 abbrev pub IsTakenFrom : Core FlatCode Val Fragment → End Val → Ends → Ends → Type 0
-IsTakenFrom engine end before after = IsTakenApart engine.base (program_of engine.code) engine.limits (value_meant engine.code) end before after
+IsTakenFrom engine end before after = IsTakenApart engine.base (program_of engine.code) (signature_of engine.code.accepted) engine.limits (value_meant engine.code) end before after
 
 -- an engine goes on with the code from the journal of a weak run without its notes
 abbrev pub IsEngineBehind : Weakened → ℕ → FlatCode → Core FlatCode Val Fragment → Type 0
@@ -201,7 +203,7 @@ pub record IsWeakRunMade (turns : ℕ) (code : FlatCode) (before : Ends) (own : 
   pub weakened : Weakened
   pub own_is : own ≡ Own.Weak weakened
   pub tells : TellsWeakly (program_of code) turns weakened before.told after.told
-  pub apart : IsTakenApart (without_notes weakened.journal.entries) (program_of code) (limits_of (alone_with turns)) (value_meant code) left before after
+  pub apart : IsTakenApart (without_notes weakened.journal.entries) (program_of code) (signature_of code.accepted) (limits_of (alone_with turns)) (value_meant code) left before after
 
 -- the run of a command is over
 abbrev pub IsRunMade : Command → Front → FlatCode → Ends → Own → End Val → Ends → Type 0

@@ -2,6 +2,7 @@
 use Rattle.std.proofs.Common.{◌≡◌, ℕ, zero, suc, ◌+◌, ℤ, Bool, true, false, List, [], ◌∷◌, ◌++◌, Option, Some, None, is_none, refl, sym, ap, ◌∙◌, arith, append-nil, if◌then◌else◌}
 use Rattle.std.specs.Option.{option_and_then, option_map}
 use Rattle.ame_term.specs.Tree.{Tree}
+use Rattle.ame_term.specs.Signature.{Signature}
 use Rattle.ame_term.specs.Frame.{Side}
 use Rattle.ame_term.specs.Context.{focus}
 use Rattle.ame_term.specs.Maps.{at, without}
@@ -139,13 +140,13 @@ module _ (r : Replayed) (i : ℕ) (idle : r.state.active ≡ None) where
       ∙ ran-is term entry.steps entry.fresh member
 
 -- where nothing is left to use, the steps lead to where the walk stands; where something is, they can't be made
-pub whole-leads : {types : StoreTyping} (devices : ℕ) (s : State) (i : ℕ) (side : Side) (p : _) (n : ℕ) (g : IsStepping devices types s i side p n) → steps_on side i n p.fresh None (begun_on side i s) ≡ Some g.now
-whole-leads devices s i side p n g =
+pub whole-leads : {types : StoreTyping} (signature : Signature) (s : State) (i : ℕ) (side : Side) (p : _) (n : ℕ) (g : IsStepping signature types s i side p n) → steps_on side i n p.fresh None (begun_on side i s) ≡ Some g.now
+whole-leads signature s i side p n g =
     let none : n ≡ n + 0 = omega arith in
     ap (λ (k : ℕ). steps_on side i k p.fresh None (begun_on side i s)) none ∙ ap (λ (xs : List ℕ). steps_on side i (n + 0) xs None (begun_on side i s)) (sym (append-nil p.fresh)) ∙ g.goes 0 [] None
 
-pub left-over : {types : StoreTyping} (devices : ℕ) (s : State) (i : ℕ) (side : Side) (p : _) (n : ℕ) (g : IsStepping devices types s i side p n) (l : ℕ) (rest : List ℕ) (answer : Option ℤ)
+pub left-over : {types : StoreTyping} (signature : Signature) (s : State) (i : ℕ) (side : Side) (p : _) (n : ℕ) (g : IsStepping signature types s i side p n) (l : ℕ) (rest : List ℕ) (answer : Option ℤ)
     → steps_on side i n (p.fresh ++ l ∷ rest) answer (begun_on side i s) ≡ None
-left-over devices s i side p n g l rest answer =
+left-over signature s i side p n g l rest answer =
     let none : n ≡ n + 0 = omega arith in
     ap (λ (k : ℕ). steps_on side i k (p.fresh ++ l ∷ rest) answer (begun_on side i s)) none ∙ g.goes 0 (l ∷ rest) answer

@@ -1,12 +1,14 @@
 -- What a step that was wanted makes of a walk.
 use Rattle.std.proofs.Common.{◌≡◌, ℕ, ◌+◌, ◌⊎◌, inl, inr, ℤ, Bool, true, List, [], ◌∷◌, ◌++◌, Option, Some, None, is_some, refl, sym, ap, ◌∙◌, subst}
 use Rattle.ame_term.specs.Tree.{Val, Tree, unit_tree}
+use Rattle.ame_term.specs.Signature.{Signature}
 use Rattle.ame_term.specs.Frame.{Side, side_told}
 use Rattle.ame_term.specs.Context.{fill}
 use Rattle.ame_term.specs.Act.{Act, act_of}
 use Rattle.ame_term.specs.Maps.{at, put}
 use Rattle.ame_term.specs.State.{State}
 use Rattle.ame_term.specs.declared.types.Sort.{Sort}
+use Rattle.ame_term.specs.declared.types.TyNo.{TyNo}
 use Rattle.ame_laws.proofs.MapLemmas.{at-put, at-put_same}
 use Rattle.ame_laws.specs.Typed.StoreTyping.{StoreTyping, Grows}
 use Rattle.ame_journal.specs.Replay.{or_else}
@@ -23,32 +25,33 @@ use Rattle.ame_check.specs.Shows.{IsMadeCell, ShowsValue, ShowsCells}
 use Rattle.ame_check.specs.Walk.{active_on, IsStepping}
 use Rattle.ame_check.specs.Walked.{place_with}
 use Rattle.ame_check.proofs.GoingLemmas.{bare, Chosen, any-types, going-on, going-as}
-use Rattle.ame_check.proofs.SortLemmas.{HasSort, allocated-typed}
+use Rattle.ame_check.proofs.FormLemmas.{allocated-typed}
+use Rattle.ame_check.specs.Shows.{HasForm}
 use Rattle.ame_check.specs.declared.stored.Stored.{Stored}
 
-module _ (devices : ℕ) (s : State) (i : ℕ) where
+module _ (signature : Signature) (s : State) (i : ℕ) where
   -- where the machine stands then, and how far the walk has come
   pub record IsFedOn (types : StoreTyping) (P : StoreTyping → Type 0) (sets : List (ℕ × Val)) (m o : MachineView) (plain : Tree × LocalState) : Type 0 where
     pub is : stepped_to m (refilled_in m.term plain) ≡ o
     pub later : StoreTyping
     pub grows : Grows types later
     pub has : P later
-    pub going : IsStepping devices later s i (running_side o) (place_with sets o) o.steps
+    pub going : IsStepping signature later s i (running_side o) (place_with sets o) o.steps
 
   pub fed-going : {types : StoreTyping} (P : StoreTyping → Type 0) (sets later : List (ℕ × Val)) (m o : MachineView) (act : Act) (v : Val) (made plain : Tree × LocalState) → HasNextAct m act
       → fed act (running_side m) v (place_with sets m) ≡ Some made → fed act (running_side m) v (place_shown m) ≡ Some plain → fed_stage v m ≡ Some o
       → AgreesWith s.store made.1 → made.1.answer ≡ None
       → bare made.1.sets (refilled_in m.term made) ≡ place_with later (stepped_to m (refilled_in m.term plain))
-      → (g : IsStepping devices types s i (running_side m) (place_with sets m) m.steps)
-      → Chosen devices s i (running_side m) (place_with sets m) m.steps g P (refilled_in m.term made) → (is_tall (running_side m) i g.now ≡ true → ⊥) → IsFedOn types P later m o plain
+      → (g : IsStepping signature types s i (running_side m) (place_with sets m) m.steps)
+      → Chosen signature s i (running_side m) (place_with sets m) m.steps g P (refilled_in m.term made) → (is_tall (running_side m) i g.now ≡ true → ⊥) → IsFedOn types P later m o plain
   fed-going P sets later m o act v made plain there gives gives_plain e agrees quiet same g chosen calm =
       let side = running_side m in
       let p = place_with sets m in
       let x = stepped_to m (refilled_in m.term plain) in
       let step : one_step side (given_more (v ∷ []) p) ≡ Some (refilled_in m.term made) =
       step-of side (given_more (v ∷ []) p) there.0 made refl there.1 (acted-more side p (act_of there.0) v made refl (ap (λ (a : Act). fed a side v p) there.2 ∙ gives)) in
-      let h = going-on devices s i side p m.steps g P (v ∷ []) (refilled_in m.term made) chosen step (record { seen = agrees.seen; own = agrees.own; made = agrees.made }) quiet calm in
-      let at_x : IsStepping devices h.later s i (running_side x) (place_with later x) x.steps = going-as devices s i side (refilled_in m.term made) (place_with later x) (m.steps + 1) x.steps same refl h.going in
+      let h = going-on signature s i side p m.steps g P (v ∷ []) (refilled_in m.term made) chosen step (record { seen = agrees.seen; own = agrees.own; made = agrees.made }) quiet calm in
+      let at_x : IsStepping signature h.later s i (running_side x) (place_with later x) x.steps = going-as signature s i side (refilled_in m.term made) (place_with later x) (m.steps + 1) x.steps same refl h.going in
       let both : ◌≡◌ {A = Option MachineView} (Some x) (Some o) = sym (fed-is v m act plain there gives_plain) ∙ e in
       let one : x ≡ o = cc in
       record {
@@ -56,7 +59,7 @@ module _ (devices : ℕ) (s : State) (i : ℕ) where
         later = h.later;
         grows = h.grows;
         has = h.has;
-        going = subst (λ (z : MachineView). IsStepping devices h.later s i (running_side z) (place_with later z) z.steps) one at_x;
+        going = subst (λ (z : MachineView). IsStepping signature h.later s i (running_side z) (place_with later z) z.steps) one at_x;
       }
 
   -- A value that is taken
@@ -79,13 +82,13 @@ module _ (devices : ℕ) (s : State) (i : ℕ) where
       → place_with sets (record m { term = t }) ≡ place_with sets (stepped_to m (record (took l v (place_shown m)) { term = t }))
   took-shown l v m sets t = refl
 
-  module _ {types : StoreTyping} (sets : List (ℕ × Val)) (m o : MachineView) (g : IsStepping devices types s i (running_side m) (place_with sets m) m.steps)
+  module _ {types : StoreTyping} (sets : List (ℕ × Val)) (m o : MachineView) (g : IsStepping signature types s i (running_side m) (place_with sets m) m.steps)
       (calm : is_tall (running_side m) i g.now ≡ true → ⊥) where
     abbrev pub Feeds : List (ℕ × Val) → Tree × LocalState → Type 0
     Feeds later plain = IsFedOn types (λ z. Unit {0}) later m o plain
 
-    any : (made : Tree × LocalState) → Chosen devices s i (running_side m) (place_with sets m) m.steps g (λ z. Unit {0}) (refilled_in m.term made)
-    any made = any-types devices s i (running_side m) (place_with sets m) m.steps g (refilled_in m.term made)
+    any : (made : Tree × LocalState) → Chosen signature s i (running_side m) (place_with sets m) m.steps g (λ z. Unit {0}) (refilled_in m.term made)
+    any made = any-types signature s i (running_side m) (place_with sets m) m.steps g (refilled_in m.term made)
 
     taken : (act : Act) (l : ℕ) (v : Val) → HasNextAct m act → fed act (running_side m) v (place_with sets m) ≡ Some (Tree.Held v, took l v (place_with sets m))
         → fed act (running_side m) v (place_shown m) ≡ Some (Tree.Held v, took l v (place_shown m)) → fed_stage v m ≡ Some o
@@ -117,21 +120,21 @@ module _ (devices : ℕ) (s : State) (i : ℕ) where
         by (inr a) = ap (λ (z : Option Val). is_some (or_else z o)) a.1 ∙ some
 
     -- the types with that of a new location
-    chosen-new : (sort : Sort) (l : ℕ) (v : Val) → HasNextAct m (Act.Allocates sort v) → at sets l ≡ None → at s.store l ≡ None
-        → Chosen devices s i (running_side m) (place_with sets m) m.steps g (λ z. HasSort z l sort) (refilled_in m.term (Tree.Held (Val.Loc l), made_at l v (place_with sets m)))
-    chosen-new sort l v there unset unstored kind t legal run used =
-        let a = allocated-typed devices types g.now t i (running_side m) kind m.term there.0 l sort v g.typed legal g.member
+    chosen-new : (sort : Sort) (number : TyNo) (l : ℕ) (v : Val) → HasNextAct m (Act.Allocates sort number v) → at sets l ≡ None → at s.store l ≡ None
+        → Chosen signature s i (running_side m) (place_with sets m) m.steps g (λ z. HasForm signature z l sort number) (refilled_in m.term (Tree.Held (Val.Loc l), made_at l v (place_with sets m)))
+    chosen-new sort number l v there unset unstored kind t legal run used =
+        let a = allocated-typed signature types g.now t i (running_side m) kind m.term there.0 l sort number v g.typed legal g.member
         (λ on. g.active ∙ ap (λ (z : Side). active_on z i) on) there.1 there.2
         (g.after_run.stored l ∙ ap (λ (o : Option Val). or_else o (at s.store l)) unset ∙ unstored) m.fresh used
         (λ k some. ap is_some (run.stored k) ∙ some-put l k v (at s.store k) (sym (ap is_some (g.after_run.stored k)) ∙ some))
         (ap is_some (run.stored l) ∙ ap (λ (o : Option Val). is_some (or_else o (at s.store l))) (at-put_same sets l v)) in
         (a.later, a.grows, a.typed, a.has)
 
-    pub fed-alloc : (sort : Sort) (l : ℕ) (v : Val) → HasNextAct m (Act.Allocates sort v) → fed_stage (Val.Loc l) m ≡ Some o → at sets l ≡ None → at s.store l ≡ None
-        → IsFedOn types (λ z. HasSort z l sort) (put sets l v) m o (Tree.Held (Val.Loc l), made_at l v (place_shown m))
-    fed-alloc sort l v there e unset unstored =
-        fed-going (λ z. HasSort z l sort) sets (put sets l v) m o (Act.Allocates sort v) (Val.Loc l) (Tree.Held (Val.Loc l), made_at l v (place_with sets m)) (Tree.Held (Val.Loc l), made_at l v (place_shown m)) there refl refl e
-        (record { seen = tt; own = tt; made = ((unstored, unset), tt) }) refl refl g (chosen-new sort l v there unset unstored) calm
+    pub fed-alloc : (sort : Sort) (number : TyNo) (l : ℕ) (v : Val) → HasNextAct m (Act.Allocates sort number v) → fed_stage (Val.Loc l) m ≡ Some o → at sets l ≡ None → at s.store l ≡ None
+        → IsFedOn types (λ z. HasForm signature z l sort number) (put sets l v) m o (Tree.Held (Val.Loc l), made_at l v (place_shown m))
+    fed-alloc sort number l v there e unset unstored =
+        fed-going (λ z. HasForm signature z l sort number) sets (put sets l v) m o (Act.Allocates sort number v) (Val.Loc l) (Tree.Held (Val.Loc l), made_at l v (place_with sets m)) (Tree.Held (Val.Loc l), made_at l v (place_shown m)) there refl refl e
+        (record { seen = tt; own = tt; made = ((unstored, unset), tt) }) refl refl g (chosen-new sort number l v there unset unstored) calm
 
     pub fed-spawn : (body : Tree) → m.inside ≡ true → HasNextAct m (Act.Spawns body) → fed_stage Val.Unit m ≡ Some o
         → Feeds sets (unit_tree, record (place_shown m) { spawns = m.spawns ++ body ∷ [] })

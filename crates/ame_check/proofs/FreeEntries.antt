@@ -25,7 +25,7 @@ use Rattle.ame_check.specs.Entries.{BeginsSteps, MeetsTall, MeetsNoTall}
 use Rattle.ame_check.specs.declared.visit.Visited.{Visited}
 use Rattle.ame_check.specs.declared.visit.Visited.TheVariants as visited
 use Rattle.ame_check.proofs.EntryLemmas.{behind-journal}
-use Rattle.ame_check.proofs.SortLemmas.{sorts-merged, below-merged}
+use Rattle.ame_check.proofs.FormLemmas.{forms-merged, below-merged}
 use Rattle.ame_check.proofs.FreeLemmas.{free-outside, free-empty, free-stays, free-closes, free-neither}
 use Rattle.ame_check.proofs.MadeLemmas.{rest_of, shows-rest, outside-next, shows-store, shows-output, shows-next, shows-back, leaving-other, leaving-own}
 use Rattle.ame_check.proofs.NoteLemmas.{side-tall, meets-unbegun, meets-nobody, meets-low}
@@ -34,7 +34,7 @@ use Rattle.ame_check.proofs.ReasonLemmas.{FailsBy, visit-met}
 use Rattle.ame_check.proofs.StartLemmas.{its-term, its-rest, its-machine, is-early, walk-begins}
 use Rattle.ame_check.specs.declared.stored.Stored.{Stored}
 
-module _ {C V M : Type 0} (meaning : Meaning C V M) (code : C) (accepted : IsAccepted (meaning.devices code) (meaning.program code)) (entry : Entry) (kind : entry.kind ≡ EntryKind.Free)
+module _ {C V M : Type 0} (meaning : Meaning C V M) (code : C) (accepted : IsAccepted (meaning.signature code) (meaning.program code)) (entry : Entry) (kind : entry.kind ≡ EntryKind.Free)
     (place : ReplayView V M) (entries : List Entry) (st : StandsForEntries meaning code entries place) where
   calm : IsCalm st.led
   calm = calm-replayed (meaning.program code) entries st.led st.replayed
@@ -88,7 +88,7 @@ module _ {C V M : Type 0} (meaning : Meaning C V M) (code : C) (accepted : IsAcc
 
       pub begins-free : IsAtStep meaning code st.led.state entry.number entry.fresh place.cells overlay machine Side.Unprotected 0
       begins-free =
-          walk-begins meaning code entries place st.led st.replayed st.shows entry.number machine found st.types st.typed st.sorts machine overlay entry.fresh true
+          walk-begins meaning code entries place st.led st.replayed st.shows entry.number machine found st.types st.typed st.forms machine overlay entry.fresh true
           (its-machine meaning code entries place st.led st.replayed st.shows entry.number machine found) empty refl (ap (λ (z : MachineView). z.prints) rest) (ap (λ (z : MachineView). z.spawns) rest)
           (ap (λ (z : MachineView). z.fresh) rest) (ap (λ (z : MachineView). z.steps) rest) flag (λ e. calm.standing entry.number inside)
 
@@ -153,7 +153,7 @@ module _ {C V M : Type 0} (meaning : Meaning C V M) (code : C) (accepted : IsAcc
                 replayed = behind-journal (meaning.program code) entries entry st.led st.replayed ∙ leads;
                 types = h.types;
                 typed = h.typed;
-                sorts = sorts-merged h.types later place.cells cells h.sorts_set h.sorts merged;
+                forms = forms-merged (meaning.signature code) h.types later place.cells cells h.forms_set h.forms merged;
                 below = below-merged entries entry later place.cells cells h.below st.below merged;
                 shows =
                     let view : ReplayView V M = record { cells = cells; members = members; output = output; next = number } in

@@ -3,6 +3,7 @@ use Rattle.std.proofs.Common.{◌≡◌, ℕ, zero, suc, ◌+◌, ◌<◌, ◌==
 use Rattle.std.specs.Option.{option_and_then}
 use Rattle.std.proofs.lemmas.Option.{option_and_then_some}
 use Rattle.ame_term.specs.Tree.{Val, Tree}
+use Rattle.ame_term.specs.Signature.{Signature}
 use Rattle.ame_term.specs.Frame.{Side, side_told}
 use Rattle.ame_term.specs.Context.{focus}
 use Rattle.ame_term.specs.Height.{max_height}
@@ -33,7 +34,7 @@ use Rattle.ame_machine.proofs.Run.EffectLemmas.{step-made, unfed}
 use Rattle.ame_check.specs.Walk.{label_by, active_on, begun_on, steps_on, LeadsOnTo, StaysLow, IsStepping}
 use Rattle.ame_check.specs.Walked.{place_with}
 use Rattle.ame_check.proofs.HaltLemmas.{reduced-on}
-use Rattle.ame_check.proofs.SortLemmas.{grows-through}
+use Rattle.ame_check.proofs.FormLemmas.{grows-through}
 use Rattle.ame_check.proofs.TallLemmas.{low-more}
 
 -- a place without inputs, answer and footprint, with these values set
@@ -46,7 +47,7 @@ unfolding after
 legal-on Side.Protected i kind t is = ap (λ (o : Option ℕ). option_and_then (λ (j : ℕ). reduce Side.Protected kind j t) o) is
 legal-on Side.Unprotected i kind t is = ap (λ (o : Option ℕ). if is_none o then reduce Side.Unprotected kind i t else None) is
 
-module _ (devices : ℕ) (s : State) (i : ℕ) where
+module _ (signature : Signature) (s : State) (i : ℕ) where
   -- it stands under `unprotected` still
   stands-on : (side : Side) (kind : StepKind) (t u : State) → IsOrderly t → after t (label_by side i kind) ≡ Some u → (side ≡ Side.Unprotected → is_at_unprotected i t ≡ true)
       → side ≡ Side.Unprotected → is_at_unprotected i u ≡ true
@@ -59,9 +60,9 @@ module _ (devices : ℕ) (s : State) (i : ℕ) where
     pub later : StoreTyping
     pub grows : Grows types later
     pub has : P later
-    pub going : IsStepping devices later s i side p n
+    pub going : IsStepping signature later s i side p n
 
-  module _ {types : StoreTyping} (side : Side) (p : LocalState) (n : ℕ) (g : IsStepping devices types s i side p n) where
+  module _ {types : StoreTyping} (side : Side) (p : LocalState) (n : ℕ) (g : IsStepping signature types s i side p n) where
     goes-more : (kind : StepKind) (behind : State) (q : LocalState) → after g.now (label_by side i kind) ≡ Some behind → device_answer kind ≡ None → q.fresh ≡ p.fresh ++ fresh_of kind
         → LeadsOnTo side i (n + 1) q.fresh (begun_on side i s) behind
     goes-more kind behind q legal quiet used left rest answer =
@@ -79,7 +80,7 @@ module _ (devices : ℕ) (s : State) (i : ℕ) where
     low-next : (q : LocalState) (used : List ℕ) → q.fresh ≡ p.fresh ++ used → (is_tall side i g.now ≡ true → ⊥) → (more : List ℕ) → StaysLow side i (n + 1) (q.fresh ++ more) s
     low-next q used is calm more =
         subst (λ (xs : List ℕ). StaysLow side i (n + 1) xs s) (sym (ap (λ (xs : List ℕ). xs ++ more) is ∙ append_assoc p.fresh used more))
-        (low-more devices s i side p n g calm (used ++ more))
+        (low-more signature s i side p n g calm (used ++ more))
 
     -- a form at which the place stands is one at which the member does
     pub place-calm : (IsTooHigh side p → ⊥) → is_tall side i g.now ≡ true → ⊥
@@ -89,10 +90,10 @@ module _ (devices : ℕ) (s : State) (i : ℕ) where
     -- how the types grow by a step to a place
     abbrev pub Chosen : (StoreTyping → Type 0) → LocalState → Type 0
     Chosen P q = (kind : StepKind) (t : State) → after g.now (label_by side i kind) ≡ Some t → IsAfterRun s i q t → q.fresh ≡ p.fresh ++ fresh_of kind
-        → (later : StoreTyping) × Grows types later × IsTyped devices later t × P later
+        → (later : StoreTyping) × Grows types later × IsTyped signature later t × P later
 
     pub any-types : (q : LocalState) → Chosen (λ later. Unit {0}) q
-    any-types q kind t legal run used = let later = kept devices types g.now (label_by side i kind) t g.typed legal in (later.0, later.1, later.2, tt)
+    any-types q kind t legal run used = let later = kept signature types g.now (label_by side i kind) t g.typed legal in (later.0, later.1, later.2, tt)
 
     -- one step, for which there may be an input
     pub going-on : (P : StoreTyping → Type 0) (inputs : List Val) (q : LocalState) → Chosen P q → one_step side (with_inputs inputs p) ≡ Some q → AgreesWith s.store q
@@ -119,11 +120,11 @@ module _ (devices : ℕ) (s : State) (i : ℕ) where
         }
 
   -- what is going is so at each place with the same term, prints, new members, new locations and values set
-  pub going-as : {types : StoreTyping} (side : Side) (p q : LocalState) (m n : ℕ) → bare p.sets p ≡ bare q.sets q → m ≡ n → IsStepping devices types s i side p m
-      → IsStepping devices types s i side q n
-  going-as {types} side p q m n same count g = subst (IsStepping devices types s i side q) count (back q (subst (λ (z : LocalState). IsStepping devices types s i side z m) same (front p g)))
+  pub going-as : {types : StoreTyping} (side : Side) (p q : LocalState) (m n : ℕ) → bare p.sets p ≡ bare q.sets q → m ≡ n → IsStepping signature types s i side p m
+      → IsStepping signature types s i side q n
+  going-as {types} side p q m n same count g = subst (IsStepping signature types s i side q) count (back q (subst (λ (z : LocalState). IsStepping signature types s i side z m) same (front p g)))
     where
-      front : (z : LocalState) → IsStepping devices types s i side z m → IsStepping devices types s i side (bare z.sets z) m
+      front : (z : LocalState) → IsStepping signature types s i side z m → IsStepping signature types s i side (bare z.sets z) m
       front z h = record {
         now = h.now;
         after_run = record { stored = h.after_run.stored; output = h.after_run.output; others = h.after_run.others; next = h.after_run.next };
@@ -136,7 +137,7 @@ module _ (devices : ℕ) (s : State) (i : ℕ) where
         low = h.low;
       }
 
-      back : (z : LocalState) → IsStepping devices types s i side (bare z.sets z) m → IsStepping devices types s i side z m
+      back : (z : LocalState) → IsStepping signature types s i side (bare z.sets z) m → IsStepping signature types s i side z m
       back z h = record {
         now = h.now;
         after_run = record { stored = h.after_run.stored; output = h.after_run.output; others = h.after_run.others; next = h.after_run.next };
@@ -166,7 +167,7 @@ module _ (devices : ℕ) (s : State) (i : ℕ) where
 
   -- steps alone
   pub going-alone : {types : StoreTyping} (side : Side) (sets : List (ℕ × Val)) (p : LocalState) (k : ℕ) (q : LocalState) (n : ℕ) → goes side p k ≡ Some q → p.inputs ≡ []
-      → GoesLow side p k → IsStepping devices types s i side (bare sets p) n → GoesOn types (λ later. Unit {0}) side (bare sets q) (n + k)
+      → GoesLow side p k → IsStepping signature types s i side (bare sets p) n → GoesOn types (λ later. Unit {0}) side (bare sets q) (n + k)
   going-alone {types} side sets p zero q n e empty low g =
       let same : p ≡ q = cc in
       let count : n ≡ n + zero = omega arith in
@@ -174,7 +175,7 @@ module _ (devices : ℕ) (s : State) (i : ℕ) where
         later = types;
         grows = λ l cell is. is;
         has = tt;
-        going = subst (λ (k : ℕ). IsStepping devices types s i side (bare sets q) k) count (subst (λ (z : LocalState). IsStepping devices types s i side (bare sets z) n) same g);
+        going = subst (λ (k : ℕ). IsStepping signature types s i side (bare sets q) k) count (subst (λ (z : LocalState). IsStepping signature types s i side (bare sets z) n) same g);
       }
   going-alone {types} side sets p (suc k) q n e empty low g =
       option_and_then_some _ _ _ e (λ r first second.
@@ -188,11 +189,11 @@ module _ (devices : ℕ) (s : State) (i : ℕ) where
         later = on.later;
         grows = grows-through before.grows on.grows;
         has = tt;
-        going = subst (λ (z : ℕ). IsStepping devices on.later s i side (bare sets q) z) count on.going;
+        going = subst (λ (z : ℕ). IsStepping signature on.later s i side (bare sets q) z) count on.going;
       })
 
   pub going-advanced : {types : StoreTyping} (sets : List (ℕ × Val)) (m o : MachineView) (k : ℕ) → Advances k m o → GoesLow (running_side m) (place_shown m) k
-      → IsStepping devices types s i (running_side m) (place_with sets m) m.steps → GoesOn types (λ later. Unit {0}) (running_side o) (place_with sets o) o.steps
+      → IsStepping signature types s i (running_side m) (place_with sets m) m.steps → GoesOn types (λ later. Unit {0}) (running_side o) (place_with sets o) o.steps
   going-advanced {types} sets m o k a low g =
       let h = going-alone (running_side m) sets (place_shown m) k (place_shown o) m.steps a.run refl low g in
       subst (λ (b : Bool). GoesOn types (λ later. Unit {0}) (side_told b) (place_with sets o) o.steps) (sym a.inside)

@@ -4,11 +4,13 @@ use Rattle.std.specs.Option.{option_and_then, option_map}
 use Rattle.std.proofs.lemmas.Bool.{eqb-true, cases_lt}
 use Rattle.std.proofs.lemmas.List.{append_cancel_left}
 use Rattle.ame_term.specs.Tree.{Val, Tree}
+use Rattle.ame_term.specs.Signature.{Signature}
 use Rattle.ame_term.specs.Frame.{Side}
 use Rattle.ame_term.specs.Context.{Focus, focus}
 use Rattle.ame_term.specs.Act.{Act, act_of, StepName, makes}
 use Rattle.ame_term.specs.Maps.{at, put}
 use Rattle.ame_term.specs.State.{State, after, at_value, at_unprotected, closed_value, performed}
+use Rattle.ame_term.specs.declared.types.TyNo.{TyNo}
 use Rattle.ame_term.specs.declared.types.Unary.TheVariants as unary
 use Rattle.ame_term.specs.declared.semantics.StepKind.{StepKind}
 use Rattle.ame_laws.specs.Typed.StoreTyping.{StoreTyping}
@@ -83,18 +85,18 @@ module _ (side : Side) (i : ℕ) (t : State) where
       let clash : None ≡ Some next = sym none ∙ e in cc))))
 
   -- without a location to use, none is allocated
-  pub halts-out : (sort : _) (v : Val) → member_act i t ≡ Some (Act.Allocates sort v) → Halts side i t []
-  halts-out sort v is = halts-by [] (λ k answer cond. first-none k (record { fresh = []; answer = answer }) (Act.Allocates sort v) is refl)
+  pub halts-out : (sort : _) (number : TyNo) (v : Val) → member_act i t ≡ Some (Act.Allocates sort number v) → Halts side i t []
+  halts-out sort number v is = halts-by [] (λ k answer cond. first-none k (record { fresh = []; answer = answer }) (Act.Allocates sort number v) is refl)
 
   -- nor is one that is in the store
-  pub halts-taken : (sort : _) (v w : Val) (l : ℕ) (rest : List ℕ) → t.active ≡ active_on side i → member_act i t ≡ Some (Act.Allocates sort v) → at t.store l ≡ Some w → Halts side i t (l ∷ rest)
-  halts-taken sort v w l rest active is there =
-      halts-by (l ∷ rest) (λ k answer cond. first-none k (record { fresh = l ∷ rest; answer = answer }) (Act.Allocates sort v) is
+  pub halts-taken : (sort : _) (number : TyNo) (v w : Val) (l : ℕ) (rest : List ℕ) → t.active ≡ active_on side i → member_act i t ≡ Some (Act.Allocates sort number v) → at t.store l ≡ Some w → Halts side i t (l ∷ rest)
+  halts-taken sort number v w l rest active is there =
+      halts-by (l ∷ rest) (λ k answer cond. first-none k (record { fresh = l ∷ rest; answer = answer }) (Act.Allocates sort number v) is
       (ap (option_and_then (λ u. steps (label_by side i) i k (record { fresh = rest; answer = answer }) u)) (illegal (none-or-some (after t (label_by side i (StepKind.Alloc (record { 0 = l }))))))))
     where
-      taken : (act : Act) (result : Tree × State) → Act.Allocates sort v ≡ act → performed (StepKind.Alloc (record { 0 = l })) act t ≡ Some result → ⊥
+      taken : (act : Act) (result : Tree × State) → Act.Allocates sort number v ≡ act → performed (StepKind.Alloc (record { 0 = l })) act t ≡ Some result → ⊥
       taken act result same made =
-          let here : performed (StepKind.Alloc (record { 0 = l })) (Act.Allocates sort v) t ≡ Some result = ap (λ (a : Act). performed (StepKind.Alloc (record { 0 = l })) a t) same ∙ made in
+          let here : performed (StepKind.Alloc (record { 0 = l })) (Act.Allocates sort number v) t ≡ Some result = ap (λ (a : Act). performed (StepKind.Alloc (record { 0 = l })) a t) same ∙ made in
           let clash : None ≡ Some result = sym (ap (λ (o : Option Val). if is_some o then None else Some (Tree.Held (Val.Loc l), record t { store = put t.store l v })) there) ∙ here in
           cc
 
@@ -103,7 +105,7 @@ module _ (side : Side) (i : ℕ) (t : State) where
       illegal (inl none) = none
       illegal (inr (u, e)) =
           let x = reduced-on side (StepKind.Alloc (record { 0 = l })) i t u active e in
-          absurd (taken x.act x.result (let both : Some (Act.Allocates sort v) ≡ Some x.act = sym is ∙ x.is_act in cc) x.made)
+          absurd (taken x.act x.result (let both : Some (Act.Allocates sort number v) ≡ Some x.act = sym is ∙ x.is_act in cc) x.made)
 
 -- What stands where no label is legal
 
@@ -184,20 +186,20 @@ abbrev pub HaltsBy : Side → ℕ → State → List ℕ → Type 0
 HaltsBy side i t rest = (used more : List ℕ) → rest ≡ used ++ more → Halts side i t used
 
 -- nor is one made where none is left, or the first is in the store
-pub halts-by_taken : (side : Side) (i : ℕ) (t : State) (sort : _) (v w : Val) (l : ℕ) (rest : List ℕ) → t.active ≡ active_on side i → member_act i t ≡ Some (Act.Allocates sort v) → at t.store l ≡ Some w
+pub halts-by_taken : (side : Side) (i : ℕ) (t : State) (sort : _) (number : TyNo) (v w : Val) (l : ℕ) (rest : List ℕ) → t.active ≡ active_on side i → member_act i t ≡ Some (Act.Allocates sort number v) → at t.store l ≡ Some w
     → HaltsBy side i t (l ∷ rest)
-halts-by_taken side i t sort v w l rest active is there [] more e = halts-out side i t sort v is
-halts-by_taken side i t sort v w l rest active is there (k ∷ used) more e =
+halts-by_taken side i t sort number v w l rest active is there [] more e = halts-out side i t sort number v is
+halts-by_taken side i t sort number v w l rest active is there (k ∷ used) more e =
     let same : l ≡ k = cc in
-    subst (λ (z : ℕ). Halts side i t (z ∷ used)) same (halts-taken side i t sort v w l used active is there)
+    subst (λ (z : ℕ). Halts side i t (z ∷ used)) same (halts-taken side i t sort number v w l used active is there)
 
-pub halts-by_out : (side : Side) (i : ℕ) (t : State) (sort : _) (v : Val) → member_act i t ≡ Some (Act.Allocates sort v) → HaltsBy side i t []
-halts-by_out side i t sort v is [] more e = halts-out side i t sort v is
-halts-by_out side i t sort v is (k ∷ used) more e = cc
+pub halts-by_out : (side : Side) (i : ℕ) (t : State) (sort : _) (number : TyNo) (v : Val) → member_act i t ≡ Some (Act.Allocates sort number v) → HaltsBy side i t []
+halts-by_out side i t sort number v is [] more e = halts-out side i t sort number v is
+halts-by_out side i t sort number v is (k ∷ used) more e = cc
 
 -- Where a walk can't go on, there is none of more steps, and no tall form is passed
 
-module _ {types : StoreTyping} (devices : ℕ) (s : State) (i : ℕ) (side : Side) (p : LocalState) (n : ℕ) (g : IsStepping devices types s i side p n) (fresh rest : List ℕ) (front : fresh ≡ p.fresh ++ rest)
+module _ {types : StoreTyping} (signature : Signature) (s : State) (i : ℕ) (side : Side) (p : LocalState) (n : ℕ) (g : IsStepping signature types s i side p n) (fresh rest : List ℕ) (front : fresh ≡ p.fresh ++ rest)
     (calm : is_tall side i g.now ≡ true → ⊥) (halts : HaltsBy side i g.now rest) (total : ℕ) (below : n < total) where
   never-walks : (k : ℕ) (answer : Option ℤ) → total ≤ k → (k ≡ total → answer ≡ None) → steps_on side i k fresh answer (begun_on side i s) ≡ None
   never-walks k answer far cond =
@@ -214,7 +216,7 @@ module _ {types : StoreTyping} (devices : ℕ) (s : State) (i : ℕ) (side : Sid
       let count : c.made ≡ n + (left + 1) = omega arith in
       let h = steps-split (label_by side i) i n (left + 1) c.used (begun_on side i s) c.there (ap (λ (k : ℕ). steps_on side i k c.used None (begun_on side i s)) (sym count) ∙ c.leads) in
       let front = c.front ∙ ap (λ (xs : List ℕ). xs ++ c.rest) h.are ∙ append_assoc h.first h.others c.rest in
-      let same = same-there devices s i side p n g rest h.first (h.others ++ c.rest) h.between front h.before in
+      let same = same-there signature s i side p n g rest h.first (h.others ++ c.rest) h.between front h.before in
       let left_over = append_cancel_left p.fresh rest (h.others ++ c.rest) (front ∙ ap (λ (xs : List ℕ). xs ++ (h.others ++ c.rest)) (sym same.0)) in
       let clash : None ≡ Some c.there = sym (halts h.others c.rest left_over left None (λ e. refl)) ∙ ap (steps_on side i (left + 1) h.others None) same.1 ∙ h.behind in
       cc
@@ -224,7 +226,7 @@ module _ {types : StoreTyping} (devices : ℕ) (s : State) (i : ℕ) (side : Sid
     never = never-walks;
     low = λ k c. elim (cases_lt n c.made) [
       | inl far ↦ beyond k (moved k c) far
-      | inr near ↦ low-more devices s i side p n g calm rest (record { made = c.made; below = omega (arith, near); used = c.used; rest = c.rest; front = sym front ∙ c.front; there = c.there; leads = c.leads; tall = c.tall })
+      | inr near ↦ low-more signature s i side p n g calm rest (record { made = c.made; below = omega (arith, near); used = c.used; rest = c.rest; front = sym front ∙ c.front; there = c.there; leads = c.leads; tall = c.tall })
     ];
   }
     where

@@ -1,5 +1,5 @@
 pub mod ListLemmas
-pub mod SortLemmas
+pub mod FormLemmas
 pub mod HaltLemmas
 pub mod TallLemmas
 pub mod GoingLemmas

@@ -27,7 +27,7 @@ use Rattle.ame_check.specs.declared.walk.Walked.TheVariants as walked
 use Rattle.ame_check.proofs.EntryLemmas.{behind-journal, stands-as, whole-leads}
 use Rattle.ame_check.proofs.StartLemmas.{its-term, its-rest, its-machine, walk-begins}
 use Rattle.ame_check.proofs.ReasonLemmas.{FailsBy, met-on, note-side, shut-apart, stops-met}
-use Rattle.ame_check.proofs.SortLemmas.{all-front}
+use Rattle.ame_check.proofs.FormLemmas.{all-front}
 use Rattle.ame_check.proofs.WalkLemmas.{can-run}
 use Rattle.ame_check.proofs.RanLemmas.{undefined-there}
 use Rattle.ame_check.proofs.NoteLemmas.{attempt-is, note-undefined, stuck-standing, note-is, note-absent, note-answered, side-tall, none-made, settled-flag, meets-unbegun, meets-apart, meets-nobody, meets-low}
@@ -44,7 +44,7 @@ begins-note_so EntryKind.Ran note inside answer quiet = cc
 begins-note_so EntryKind.Free note inside answer quiet = cc
 begins-note_so _ note inside answer quiet = quiet
 
-module _ {C V M : Type 0} (meaning : Meaning C V M) (code : C) (accepted : IsAccepted (meaning.devices code) (meaning.program code))
+module _ {C V M : Type 0} (meaning : Meaning C V M) (code : C) (accepted : IsAccepted (meaning.signature code) (meaning.program code))
     (sound : (m : M) → meaning.is_machine code m → IsSoundStage (meaning.stage code m)) (entry : Entry) (note : is_note entry.kind ≡ true)
     (place : ReplayView V M) (entries : List Entry) (st : StandsForEntries meaning code entries place) where
   calm : IsCalm st.led
@@ -98,7 +98,7 @@ module _ {C V M : Type 0} (meaning : Meaning C V M) (code : C) (accepted : IsAcc
       pub copy-runs : CanRun (meaning.stage code copy)
       copy-runs =
           can-run meaning code st.led.state entry.number entry.fresh place.cells [] copy
-          (walk-begins meaning code entries place st.led st.replayed st.shows entry.number machine found st.types st.typed st.sorts copy [] entry.fresh (is_inside st.led entry.number) copy-good refl
+          (walk-begins meaning code entries place st.led st.replayed st.shows entry.number machine found st.types st.typed st.forms copy [] entry.fresh (is_inside st.led entry.number) copy-good refl
           (ap (λ (z : MachineView). z.term) rest) (ap (λ (z : MachineView). z.prints) rest) (ap (λ (z : MachineView). z.spawns) rest) (ap (λ (z : MachineView). z.fresh) rest) copy-steps (ap (λ (z : MachineView). z.inside) rest)
           (calm.standing entry.number)).walking
 
@@ -118,7 +118,7 @@ module _ {C V M : Type 0} (meaning : Meaning C V M) (code : C) (accepted : IsAcc
 
         pub begins-note : IsAtStep meaning code st.led.state entry.number entry.fresh place.cells overlay settled (side_at entry.number st.led.state) 0
         begins-note =
-            walk-begins meaning code entries place st.led st.replayed st.shows entry.number machine found st.types st.typed st.sorts settled overlay entry.fresh (is_at_unprotected entry.number st.led.state) good_settled empty
+            walk-begins meaning code entries place st.led st.replayed st.shows entry.number machine found st.types st.typed st.forms settled overlay entry.fresh (is_at_unprotected entry.number st.led.state) good_settled empty
             (ap (λ (z : MachineView). z.term) settles ∙ ready-term) (ap (λ (z : MachineView). z.prints) settles) (ap (λ (z : MachineView). z.spawns) settles) (ap (λ (z : MachineView). z.fresh) settles)
             (ap (λ (z : MachineView). z.steps) settles) flag (λ e. e)
 
@@ -174,7 +174,7 @@ module _ {C V M : Type 0} (meaning : Meaning C V M) (code : C) (accepted : IsAcc
                 ap (λ (xs : List ℕ). steps_on (side_at entry.number st.led.state) entry.number entry.steps xs None (begun_on (side_at entry.number st.led.state) entry.number st.led.state)) (sym whole.1)
                 ∙ ap (λ (k : ℕ). steps_on (side_at entry.number st.led.state) entry.number k (meaning.stage code m).fresh None (begun_on (side_at entry.number st.led.state) entry.number st.led.state)) (sym whole.0.counted)
                 ∙ ap (λ (z : Side). steps_on z entry.number (meaning.stage code m).steps (meaning.stage code m).fresh None (begun_on z entry.number st.led.state)) (sym whole.0.runs_on)
-                ∙ whole-leads (meaning.devices code) st.led.state entry.number (running_side (meaning.stage code m)) (place_with whole.0.walking.sets (meaning.stage code m)) (meaning.stage code m).steps g
+                ∙ whole-leads (meaning.signature code) st.led.state entry.number (running_side (meaning.stage code m)) (place_with whole.0.walking.sets (meaning.stage code m)) (meaning.stage code m).steps g
 
             tells : replay_entry st.led entry ≡ note_where (is_confirmed entry.kind next) st.led
             tells =
@@ -206,7 +206,7 @@ module _ {C V M : Type 0} (meaning : Meaning C V M) (code : C) (accepted : IsAcc
                 shows = st.shows;
                 types = st.types;
                 typed = st.typed;
-                sorts = st.sorts;
+                forms = st.forms;
                 below = λ most told. st.below most (all-front (λ (e : Entry). All (λ l. l < most) e.fresh) entries (entry ∷ []) told);
               },
             )

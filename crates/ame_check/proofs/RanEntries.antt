@@ -30,7 +30,7 @@ use Rattle.ame_check.proofs.StartLemmas.{its-term, its-rest, its-machine, is-ear
 use Rattle.ame_check.proofs.RanLemmas.{AdoptsAll, undefined-there, ran-undefined, ran-neither, ran-ended, ran-left, ran-answered, ran-inside, ran-absent, protected-tall}
 use Rattle.ame_check.specs.declared.stored.Stored.{Stored}
 
-module _ {C V M : Type 0} (meaning : Meaning C V M) (code : C) (accepted : IsAccepted (meaning.devices code) (meaning.program code))
+module _ {C V M : Type 0} (meaning : Meaning C V M) (code : C) (accepted : IsAccepted (meaning.signature code) (meaning.program code))
     (sound : (m : M) → meaning.is_machine code m → IsSoundStage (meaning.stage code m)) (entry : Entry) (kind : entry.kind ≡ EntryKind.Ran)
     (place : ReplayView V M) (entries : List Entry) (st : StandsForEntries meaning code entries place) where
   calm : IsCalm st.led
@@ -81,7 +81,7 @@ module _ {C V M : Type 0} (meaning : Meaning C V M) (code : C) (accepted : IsAcc
     module _ (flag : (meaning.stage code machine).inside ≡ false) (overlay : List (ℕ × Stored V)) (empty : overlay ≡ []) where
       pub begins-ran : IsAtStep meaning code st.led.state entry.number entry.fresh place.cells overlay machine Side.Protected 0
       begins-ran =
-          walk-begins meaning code entries place st.led st.replayed st.shows entry.number machine found st.types st.typed st.sorts machine overlay entry.fresh false
+          walk-begins meaning code entries place st.led st.replayed st.shows entry.number machine found st.types st.typed st.forms machine overlay entry.fresh false
           (its-machine meaning code entries place st.led st.replayed st.shows entry.number machine found) empty refl (ap (λ (z : MachineView). z.prints) rest) (ap (λ (z : MachineView). z.spawns) rest)
           (ap (λ (z : MachineView). z.fresh) rest) (ap (λ (z : MachineView). z.steps) rest) flag (λ e. absurd (cc))
 

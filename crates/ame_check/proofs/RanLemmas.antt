@@ -25,8 +25,8 @@ use Rattle.ame_machine.specs.declared.wants.Wants.TheVariants as wants
 use Rattle.ame_machine.proofs.NeedLemmas.{comes_as}
 use Rattle.ame_laws.specs.Typed.StoreTyping.{StoreTyping, Grows}
 use Rattle.ame_laws.proofs.Typed.Preserved.{kept as kept_typed}
-use Rattle.ame_check.proofs.SortLemmas.{sorts-grow, sorts-merged, below-merged}
-use Rattle.ame_check.specs.Shows.{HaveSorts, AreBelow, TellBelow, ReplayView, Shows, ShowsMembers, StandsForEntries, Adopts}
+use Rattle.ame_check.proofs.FormLemmas.{forms-grow, forms-merged, below-merged}
+use Rattle.ame_check.specs.Shows.{HaveForms, AreBelow, TellBelow, ReplayView, Shows, ShowsMembers, StandsForEntries, Adopts}
 use Rattle.ame_check.specs.Walk.{active_on, begun_on, steps_on, IsStepping, ComesToTall}
 use Rattle.ame_check.specs.Walked.{place_with, IsAtStep}
 use Rattle.ame_check.specs.Entries.{BeginsSteps, MeetsTall}
@@ -116,7 +116,7 @@ module _ {C V M : Type 0} (meaning : Meaning C V M) (code : C) (entries : List E
 
     module _ (overlay : List (ℕ × Stored V)) (m : M) (a : IsAtStep meaning code r.state entry.number entry.fresh place.cells overlay m Side.Protected entry.steps) (used : (meaning.stage code m).fresh ≡ entry.fresh)
         (sound : IsSoundStage (meaning.stage code m)) where
-      g : IsStepping (meaning.devices code) a.walking.types r.state entry.number (running_side (meaning.stage code m)) (place_with a.walking.sets (meaning.stage code m)) (meaning.stage code m).steps
+      g : IsStepping (meaning.signature code) a.walking.types r.state entry.number (running_side (meaning.stage code m)) (place_with a.walking.sets (meaning.stage code m)) (meaning.stage code m).steps
       g = a.walking.going
 
       leads-now : replay_entry r entry ≡ left_or_ended r entry.number g.now
@@ -125,7 +125,7 @@ module _ {C V M : Type 0} (meaning : Meaning C V M) (code : C) (entries : List E
           (ap (λ (xs : List ℕ). steps_on Side.Protected entry.number entry.steps xs None (begun_on Side.Protected entry.number r.state)) (sym used)
           ∙ ap (λ (k : ℕ). steps_on Side.Protected entry.number k (meaning.stage code m).fresh None (begun_on Side.Protected entry.number r.state)) (sym a.counted)
           ∙ ap (λ (z : Side). steps_on z entry.number (meaning.stage code m).steps (meaning.stage code m).fresh None (begun_on z entry.number r.state)) (sym a.runs_on)
-          ∙ whole-leads (meaning.devices code) r.state entry.number (running_side (meaning.stage code m)) (place_with a.walking.sets (meaning.stage code m)) (meaning.stage code m).steps g)
+          ∙ whole-leads (meaning.signature code) r.state entry.number (running_side (meaning.stage code m)) (place_with a.walking.sets (meaning.stage code m)) (meaning.stage code m).steps g)
 
       now-active : g.now.active ≡ Some entry.number
       now-active = g.active ∙ ap (λ (z : Side). active_on z entry.number) a.runs_on
@@ -145,9 +145,9 @@ module _ {C V M : Type 0} (meaning : Meaning C V M) (code : C) (entries : List E
       module _ (machines : List (ℕ × M)) (gone : at machines entry.number ≡ None) (others : (k : ℕ) → (k ≡ entry.number → ⊥) → at machines k ≡ at place.members k)
           (cells : List (ℕ × Stored V)) (merged : (l : ℕ) → at cells l ≡ or_else (at overlay l) (at place.cells l)) (output : List ℤ) (printed : output ≡ place.output ++ (meaning.stage code m).prints)
           (kept : M) (number : ℕ) (last : List (ℕ × M)) (adopts : AdoptsAll meaning code machines place.next m last number kept) where
-        later-sorts : (types : StoreTyping) → Grows a.walking.types types → HaveSorts types cells
-        later-sorts types grows =
-            sorts-merged types overlay place.cells cells (sorts-grow a.walking.types types overlay grows a.walking.sorts_set) (sorts-grow a.walking.types types place.cells grows a.walking.sorts) merged
+        later-forms : (types : StoreTyping) → Grows a.walking.types types → HaveForms (meaning.signature code) types cells
+        later-forms types grows =
+            forms-merged (meaning.signature code) types overlay place.cells cells (forms-grow (meaning.signature code) a.walking.types types overlay grows a.walking.forms_set) (forms-grow (meaning.signature code) a.walking.types types place.cells grows a.walking.forms) merged
 
         pub ran-ended : (meaning.stage code m).want ≡ Some wants.Done → StandsForEntries meaning code (entries ++ entry ∷ []) (record { cells = cells; members = last; output = output; next = number })
         ran-ended told =
@@ -158,13 +158,13 @@ module _ {C V M : Type 0} (meaning : Meaning C V M) (code : C) (entries : List E
             let adopted = adopts (rest_of meaning code r i place calm early shows machines gone others inside (λ k apart. refl)) inside a.walking.machine
             (shows-rest meaning code r i place calm early shows machines gone others inside (λ k apart. refl))
             (λ k far. outside-next meaning code r i place calm early shows machines gone others inside (λ k apart. refl) k (subst (λ (n : ℕ). n ≤ k) shows.next far)) in
-            let typed = kept_typed (meaning.devices code) a.walking.types g.now Label.End u g.typed
+            let typed = kept_typed (meaning.signature code) a.walking.types g.now Label.End u g.typed
             (can-end r.state i calm.idle g.now (meaning.stage code m).term now-active g.member comes.1) in
             record {
               led = staying r u;
               types = typed.0;
               typed = typed.2;
-              sorts = later-sorts typed.0 typed.1;
+              forms = later-forms typed.0 typed.1;
               below = below-merged entries entry overlay place.cells cells a.walking.below below merged;
               replayed = behind-journal (meaning.program code) entries entry r replayed ∙ leads-now ∙ ended-is r i calm.idle g.now (meaning.stage code m).term now-active g.member comes.1;
               shows =
@@ -202,13 +202,13 @@ module _ {C V M : Type 0} (meaning : Meaning C V M) (code : C) (entries : List E
             (shows-rest meaning code r i place calm early shows machines gone others inside flags)
             (λ k far. outside-next meaning code r i place calm early shows machines gone others inside flags k (subst (λ (n : ℕ). n ≤ k) shows.next far)) in
             let is : meaning.stage code back ≡ settled_stage (record (meaning.stage code m) { spawns = [] }) = settled ∙ ap settled_stage adopted.stays in
-            let typed = kept_typed (meaning.devices code) a.walking.types g.now Label.Leave u g.typed
+            let typed = kept_typed (meaning.signature code) a.walking.types g.now Label.Leave u g.typed
             (can-leave r.state i calm.idle g.now (meaning.stage code m).term now-active g.member comes.1) in
             record {
               led = entering r i u;
               types = typed.0;
               typed = typed.2;
-              sorts = later-sorts typed.0 typed.1;
+              forms = later-forms typed.0 typed.1;
               below = below-merged entries entry overlay place.cells cells a.walking.below below merged;
               replayed = behind-journal (meaning.program code) entries entry r replayed ∙ leads-now ∙ left-is r i calm.idle g.now (meaning.stage code m).term now-active g.member comes.1;
               shows =

@@ -43,7 +43,7 @@ module _ {C V M : Type 0} (meaning : Meaning C V M) (code : C) (sound : (m : M) 
       few = let counted : view.steps ≡ n = a.counted in omega arith;
       used = view.fresh;
       front = a.walking.front;
-      leads = whole-leads (meaning.devices code) s i (running_side view) (place_with a.walking.sets view) view.steps a.walking.going;
+      leads = whole-leads (meaning.signature code) s i (running_side view) (place_with a.walking.sets view) view.steps a.walking.going;
       term = view.term;
       member = a.walking.going.member;
       wants = (sound m a.walking.machine).told want told ∙ ap (λ (b : Bool). need_of_focus b (focus view.term)) (under-is view.inside);

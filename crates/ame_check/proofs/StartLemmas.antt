@@ -3,7 +3,8 @@ use Rattle.std.proofs.Common.{◌≡◌, ℕ, ◌+◌, ◌<◌, ℤ, Bool, true,
 use Rattle.std.specs.BTreeMap.{is_at}
 use Rattle.std.specs.Ordering.{nat_cmp}
 use Rattle.std.specs.Option.{IsSome}
-use Rattle.ame_term.specs.Tree.{Tree}
+use Rattle.ame_term.specs.Tree.{Typ, Tree}
+use Rattle.ame_term.specs.Signature.{Signature}
 use Rattle.ame_term.specs.Frame.{Side, side_told}
 use Rattle.ame_term.specs.Maps.{at, put}
 use Rattle.ame_term.specs.State.{State, start}
@@ -20,15 +21,15 @@ use Rattle.ame_machine.specs.Run.AgreesWith.{with_members}
 use Rattle.ame_machine.specs.Meaning.{Meaning}
 use Rattle.ame_machine.specs.Sound.{IsAccepted}
 use Rattle.ame_machine.specs.MachineView.{MachineView, starting_at, running_side}
-use Rattle.ame_check.proofs.SortLemmas.{sorts-none, below-none}
-use Rattle.ame_check.specs.Shows.{HaveSorts, ReplayView, ShowsValue, ShowsMember, Shows, StandsForEntries, IsResting}
+use Rattle.ame_check.proofs.FormLemmas.{forms-none, below-none}
+use Rattle.ame_check.specs.Shows.{HaveForms, ReplayView, ShowsValue, ShowsMember, Shows, StandsForEntries, IsResting}
 use Rattle.ame_check.specs.Walk.{begun_on, steps_on, IsStepping}
 use Rattle.ame_check.specs.Walked.{place_with, IsAtStep}
 use Rattle.ame_check.specs.declared.stored.Stored.{Stored}
 
 -- with another member active, or none
-active-typed : (devices : ℕ) (types : StoreTyping) (s : State) (side : Side) (i : ℕ) → is_some (at s.members i) ≡ true → IsTyped devices types s → IsTyped devices types (begun_on side i s)
-active-typed devices types s Side.Protected i there h = record {
+active-typed : (signature : Signature) (types : StoreTyping) (s : State) (side : Side) (i : ℕ) → is_some (at s.members i) ≡ true → IsTyped signature types s → IsTyped signature types (begun_on side i s)
+active-typed signature types s Side.Protected i there h = record {
   typed = record {
     stored = h.typed.stored;
     members = h.typed.members;
@@ -36,7 +37,7 @@ active-typed devices types s Side.Protected i there h = record {
   };
   located = h.located;
 }
-active-typed devices types s Side.Unprotected i there h = record {
+active-typed signature types s Side.Unprotected i there h = record {
   typed = record { stored = h.typed.stored; members = h.typed.members; present = λ j is. cc };
   located = h.located;
 }
@@ -56,10 +57,10 @@ active-orderly s Side.Unprotected i there o = record {
 }
 
 -- where nothing was made yet
-going-begins : (devices : ℕ) (types : StoreTyping) (s : State) (i : ℕ) (side : Side) (term : Tree) → at s.members i ≡ Some term → IsTyped devices types s → IsOrderly s
+going-begins : (signature : Signature) (types : StoreTyping) (s : State) (i : ℕ) (side : Side) (term : Tree) → at s.members i ≡ Some term → IsTyped signature types s → IsOrderly s
     → (side ≡ Side.Unprotected → is_at_unprotected i s ≡ true) → (m : MachineView) → m.term ≡ term → m.prints ≡ [] → m.spawns ≡ [] → m.fresh ≡ []
-    → IsStepping devices types s i side (place_with [] m) 0
-going-begins devices types s i side term member typed orderly standing m at_term prints spawns fresh = record {
+    → IsStepping signature types s i side (place_with [] m) 0
+going-begins signature types s i side term member typed orderly standing m at_term prints spawns fresh = record {
   now = begun_on side i s;
   after_run = record {
     stored = λ l. refl;
@@ -70,7 +71,7 @@ going-begins devices types s i side term member typed orderly standing m at_term
   member = member ∙ ap (λ (t : Tree). Some t) (sym at_term);
   active = refl;
   orderly = active-orderly s side i (ap is_some member) orderly;
-  typed = active-typed devices types s side i (ap is_some member) typed;
+  typed = active-typed signature types s side i (ap is_some member) typed;
   standing = standing;
   goes = λ left rest answer.
       let none : 0 + left ≡ left = omega arith in
@@ -80,15 +81,15 @@ going-begins devices types s i side term member typed orderly standing m at_term
 }
 
 module _ {C V M : Type 0} (meaning : Meaning C V M) (code : C) where
-  pub starts : (accepted : IsAccepted (meaning.devices code) (meaning.program code)) (machine : M) (cells : List (ℕ × Stored V)) (members none : List (ℕ × M)) (output : List ℤ) → meaning.is_machine code machine → meaning.stage code machine ≡ starting_at (meaning.program code)
+  pub starts : (accepted : IsAccepted (meaning.signature code) (meaning.program code)) (machine : M) (cells : List (ℕ × Stored V)) (members none : List (ℕ × M)) (output : List ℤ) → meaning.is_machine code machine → meaning.stage code machine ≡ starting_at (meaning.program code)
       → cells ≡ [] → none ≡ [] → members ≡ put none 0 machine → output ≡ [] → StandsForEntries meaning code [] (record { cells = cells; members = members; output = output; next = 1 })
   starts accepted machine cells members none output good is no_cells no_members put_one no_output =
-      let typed = typed-replayed (meaning.devices code) accepted.places (meaning.program code) accepted.refs [] (begun_at (meaning.program code)) accepted.accepts accepted.source refl in record {
+      let typed = typed-replayed (meaning.signature code).devices accepted.places (meaning.program code) accepted.refs [] (begun_at (meaning.program code)) accepted.accepts accepted.source accepted.numbered refl in record {
         led = begun_at (meaning.program code);
         replayed = refl;
         types = typed.0;
-        typed = typed.1;
-        sorts = sorts-none typed.0 cells no_cells;
+        typed = subst (λ (refs : Option (List Typ)). IsTyped (record { devices = (meaning.signature code).devices; refs = refs }) typed.0 (begun_at (meaning.program code)).state) (sym accepted.listed) typed.1;
+        forms = forms-none (meaning.signature code) typed.0 cells no_cells;
         below = λ most told. below-none most cells no_cells;
         shows = record {
           store = λ l. subst (λ (es : List (ℕ × Stored V)). ShowsValue meaning code (at es l) None) (sym no_cells) refl;
@@ -126,11 +127,11 @@ module _ {C V M : Type 0} (meaning : Meaning C V M) (code : C) where
     is-early = numbers-at (λ j. j < r.state.next) r.state.members i (ap is_some its-term) calm.orderly.members_below
 
     -- a machine at its term alone, on a side on which it may be
-    pub walk-begins : (types : StoreTyping) → IsTyped (meaning.devices code) types r.state → HaveSorts types place.cells → (m : M) (overlay : List (ℕ × Stored V)) (fresh : List ℕ) (inside : Bool) → meaning.is_machine code m → overlay ≡ []
+    pub walk-begins : (types : StoreTyping) → IsTyped (meaning.signature code) types r.state → HaveForms (meaning.signature code) types place.cells → (m : M) (overlay : List (ℕ × Stored V)) (fresh : List ℕ) (inside : Bool) → meaning.is_machine code m → overlay ≡ []
         → (meaning.stage code m).term ≡ (meaning.stage code machine).term → (meaning.stage code m).prints ≡ [] → (meaning.stage code m).spawns ≡ [] → (meaning.stage code m).fresh ≡ []
         → (meaning.stage code m).steps ≡ 0 → (meaning.stage code m).inside ≡ inside
         → (inside ≡ true → is_at_unprotected i r.state ≡ true) → IsAtStep meaning code r.state i fresh place.cells overlay m (side_told inside) 0
-    walk-begins types typed sorts m overlay fresh inside good empty term prints spawns none zero flag standing =
+    walk-begins types typed forms m overlay fresh inside good empty term prints spawns none zero flag standing =
         let on : running_side (meaning.stage code m) ≡ side_told inside = ap side_told flag in
         record {
           walking = record {
@@ -140,12 +141,12 @@ module _ {C V M : Type 0} (meaning : Meaning C V M) (code : C) where
             sets = [];
             laid = λ l. subst (λ (es : List (ℕ × Stored V)). ShowsValue meaning code (at es l) None) (sym empty) refl;
             types = types;
-            sorts = sorts;
-            sorts_set = sorts-none types overlay empty;
+            forms = forms;
+            forms_set = forms-none (meaning.signature code) types overlay empty;
             below = λ most told under. below-none most overlay empty;
             going =
-                subst (λ (k : ℕ). IsStepping (meaning.devices code) types r.state i (running_side (meaning.stage code m)) (place_with [] (meaning.stage code m)) k) (sym zero)
-                (going-begins (meaning.devices code) types r.state i (running_side (meaning.stage code m)) (meaning.stage code machine).term its-term typed calm.orderly
+                subst (λ (k : ℕ). IsStepping (meaning.signature code) types r.state i (running_side (meaning.stage code m)) (place_with [] (meaning.stage code m)) k) (sym zero)
+                (going-begins (meaning.signature code) types r.state i (running_side (meaning.stage code m)) (meaning.stage code machine).term its-term typed calm.orderly
                 (λ un. standing (side-inside inside (sym on ∙ un))) (meaning.stage code m) term prints spawns none);
             rest = fresh;
             front = ap (λ (xs : List ℕ). xs ++ fresh) (sym none);

@@ -15,6 +15,7 @@ use Rattle.ame_journal.proofs.SupplyLemmas.{taken, none_left}
 use Rattle.ame_journal.proofs.ReplayLemmas.{steps-behind}
 use Rattle.ame_machine.specs.Run.Local.{LocalState}
 use Rattle.ame_check.specs.Walk.{label_by, begun_on, steps_on, StaysLow, IsStepping}
+use Rattle.ame_term.specs.Signature.{Signature}
 
 -- Steps and locations behind those that they use
 
@@ -99,7 +100,7 @@ module _ (label : StepKind → Label) (i : ℕ) where
 below-or-same : (m n : ℕ) → m < n + 1 → (m < n) ⊎ (m ≡ n)
 below-or-same m n under = grind arith
 
-module _ {types : StoreTyping} (devices : ℕ) (s : State) (i : ℕ) (side : Side) (p : LocalState) (n : ℕ) (g : IsStepping devices types s i side p n) where
+module _ {types : StoreTyping} (signature : Signature) (s : State) (i : ℕ) (side : Side) (p : LocalState) (n : ℕ) (g : IsStepping signature types s i side p n) where
   from-here : (x : List ℕ) → steps_on side i n (p.fresh ++ x) None (begun_on side i s) ≡ (if is_nothing x None then Some g.now else None)
   from-here x =
       let none : n ≡ n + 0 = omega arith in

@@ -38,7 +38,7 @@ use Rattle.ame_check.specs.Walked.{place_with, WantsAnswer, is_plain, IsWalking,
 use Rattle.ame_check.specs.declared.walk.Walked.{Walked}
 use Rattle.ame_check.specs.declared.walk.Walked.TheVariants as walked
 use Rattle.ame_check.proofs.EntryLemmas.{whole-leads}
-use Rattle.ame_check.proofs.SortLemmas.{sorts-grow}
+use Rattle.ame_check.proofs.FormLemmas.{forms-grow}
 use Rattle.ame_check.proofs.GoingLemmas.{legal-on}
 use Rattle.ame_check.proofs.HaltLemmas.{reduced-on, halts-closing, halts-device}
 use Rattle.ame_check.proofs.LastLemmas.{no-answer, no-location, calls-none, closes-none, told-inside}
@@ -72,10 +72,10 @@ plain-other _ a b c = refl
 module _ {C V M : Type 0} (meaning : Meaning C V M) (code : C) where
   -- a walk under `unprotected`, by the steps that are counted
   pub stepping : (s : State) (i : ℕ) (fresh : List ℕ) (cells overlay : List (ℕ × Stored V)) (m : M) (n : ℕ) (a : IsAtStep meaning code s i fresh cells overlay m Side.Unprotected n)
-      → IsStepping (meaning.devices code) a.walking.types s i Side.Unprotected (place_with a.walking.sets (meaning.stage code m)) n
+      → IsStepping (meaning.signature code) a.walking.types s i Side.Unprotected (place_with a.walking.sets (meaning.stage code m)) n
   stepping s i fresh cells overlay m n a =
-      subst (λ (k : ℕ). IsStepping (meaning.devices code) a.walking.types s i Side.Unprotected (place_with a.walking.sets (meaning.stage code m)) k) a.counted
-      (subst (λ (z : Side). IsStepping (meaning.devices code) a.walking.types s i z (place_with a.walking.sets (meaning.stage code m)) (meaning.stage code m).steps) a.runs_on a.walking.going)
+      subst (λ (k : ℕ). IsStepping (meaning.signature code) a.walking.types s i Side.Unprotected (place_with a.walking.sets (meaning.stage code m)) k) a.counted
+      (subst (λ (z : Side). IsStepping (meaning.signature code) a.walking.types s i z (place_with a.walking.sets (meaning.stage code m)) (meaning.stage code m).steps) a.runs_on a.walking.going)
 
   module _ (sound : (m : M) → meaning.is_machine code m → IsSoundStage (meaning.stage code m))
       (s : State) (i : ℕ) (fresh : List ℕ) (cells overlay : List (ℕ × Stored V)) (m : M) (n : ℕ) (a : IsAtStep meaning code s i fresh cells overlay m Side.Unprotected n) where
@@ -85,7 +85,7 @@ module _ {C V M : Type 0} (meaning : Meaning C V M) (code : C) where
     abbrev view : MachineView
     view = meaning.stage code m
 
-    here : IsStepping (meaning.devices code) a.walking.types s i Side.Unprotected (place_with sets view) n
+    here : IsStepping (meaning.signature code) a.walking.types s i Side.Unprotected (place_with sets view) n
     here = stepping s i fresh cells overlay m n a
 
     inside : view.inside ≡ true
@@ -228,15 +228,15 @@ module _ {C V M : Type 0} (meaning : Meaning C V M) (code : C) where
             let r = does.after_run in
             record { stored = r.stored; output = r.output; others = r.others; next = r.next }
 
-        typed-behind : IsTypedLater (meaning.devices code) a.walking.types does.behind
-        typed-behind = kept (meaning.devices code) a.walking.types here.now (label_by Side.Unprotected i does.kind) does.behind here.typed legal
+        typed-behind : IsTypedLater (meaning.signature code) a.walking.types does.behind
+        typed-behind = kept (meaning.signature code) a.walking.types here.now (label_by Side.Unprotected i does.kind) does.behind here.typed legal
 
         pub heard : HasCome meaning code s i fresh cells overlay o true (visiting i (n + 1) fresh answer s)
         heard = record {
           types = typed-behind.0;
           typed = typed-behind.2;
-          sorts = sorts-grow a.walking.types typed-behind.0 cells typed-behind.1 a.walking.sorts;
-          sorts_set = sorts-grow a.walking.types typed-behind.0 overlay typed-behind.1 a.walking.sorts_set;
+          forms = forms-grow (meaning.signature code) a.walking.types typed-behind.0 cells typed-behind.1 a.walking.forms;
+          forms_set = forms-grow (meaning.signature code) a.walking.types typed-behind.0 overlay typed-behind.1 a.walking.forms_set;
           below = a.walking.below;
           machine = good;
           sets = sets;
@@ -287,15 +287,15 @@ module _ {C V M : Type 0} (meaning : Meaning C V M) (code : C) where
           next = here.after_run.next;
         }
 
-        typed-closed : IsTypedLater (meaning.devices code) a.walking.types later
-        typed-closed = kept (meaning.devices code) a.walking.types here.now (Label.Close i) later here.typed (close-by (Some closes.0) closes.1)
+        typed-closed : IsTypedLater (meaning.signature code) a.walking.types later
+        typed-closed = kept (meaning.signature code) a.walking.types here.now (Label.Close i) later here.typed (close-by (Some closes.0) closes.1)
 
         has-closed : HasCome meaning code s i fresh cells overlay o false (closing i n fresh answer s)
         has-closed = record {
           types = typed-closed.0;
           typed = typed-closed.2;
-          sorts = sorts-grow a.walking.types typed-closed.0 cells typed-closed.1 a.walking.sorts;
-          sorts_set = sorts-grow a.walking.types typed-closed.0 overlay typed-closed.1 a.walking.sorts_set;
+          forms = forms-grow (meaning.signature code) a.walking.types typed-closed.0 cells typed-closed.1 a.walking.forms;
+          forms_set = forms-grow (meaning.signature code) a.walking.types typed-closed.0 overlay typed-closed.1 a.walking.forms_set;
           below = a.walking.below;
           machine = good;
           sets = sets;
@@ -341,15 +341,15 @@ module _ {C V M : Type 0} (meaning : Meaning C V M) (code : C) (s : State) (i : 
         machine = a.walking.machine;
         types = a.walking.types;
         typed = g.typed;
-        sorts = a.walking.sorts;
-        sorts_set = a.walking.sorts_set;
+        forms = a.walking.forms;
+        forms_set = a.walking.forms_set;
         below = a.walking.below;
         sets = a.walking.sets;
         laid = a.walking.laid;
         now = g.now;
         led =
             as-visit ∙ ap (λ (xs : List ℕ). visiting i total xs None s) (sym used)
-            ∙ whole-leads (meaning.devices code) s i Side.Unprotected (place_with a.walking.sets (meaning.stage code m)) total g;
+            ∙ whole-leads (meaning.signature code) s i Side.Unprotected (place_with a.walking.sets (meaning.stage code m)) total g;
         after_run = g.after_run;
         member = g.member;
         settles = ap (λ (b : Bool). tells_leave (meaning.stage code m).want || b) (told-inside (meaning.stage code m).inside a.runs_on) ∙ or-true (tells_leave (meaning.stage code m).want);

@@ -25,7 +25,7 @@ use Rattle.ame_check.proofs.ListLemmas.{rest-some, rest-none}
 use Rattle.ame_check.proofs.EntryLemmas.{left-over}
 use Rattle.ame_check.specs.Walked.{place_with, IsWalking, IsAtStep}
 use Rattle.ame_check.proofs.GoingLemmas.{going-advanced}
-use Rattle.ame_check.proofs.SortLemmas.{sorts-grow}
+use Rattle.ame_check.proofs.FormLemmas.{forms-grow}
 use Rattle.ame_check.specs.declared.stored.Stored.{Stored}
 
 -- new members leave those before them
@@ -62,12 +62,12 @@ module _ {C V M : Type 0} (meaning : Meaning C V M) (code : C) (s : State) (i : 
   can-run m w =
       let g = w.going in
       let early : i < s.next = w.early in (
-        meaning.devices code,
+        meaning.signature code,
         w.types,
         record {
-          member = each-at (λ t. IsMember (meaning.devices code) w.types t) g.now.members i (meaning.stage code m).term g.member g.typed.typed.members;
+          member = each-at (λ t. IsMember (meaning.signature code) w.types t) g.now.members i (meaning.stage code m).term g.member g.typed.typed.members;
           members =
-              spawns-all (λ t. IsMember (meaning.devices code) w.types t) s.members g.now.members s.next (meaning.stage code m).spawns
+              spawns-all (λ t. IsMember (meaning.signature code) w.types t) s.members g.now.members s.next (meaning.stage code m).spawns
               (λ k above. g.after_run.others k (λ same. let far : s.next ≤ k = above in let one : k ≡ i = same in absurd (omega arith))) g.typed.typed.members;
           standing = λ in_it. sym (ap (has_such (λ (t : Tree). at_unprotected (focus t))) g.member) ∙ g.standing (ap side_told in_it);
         },
@@ -79,7 +79,7 @@ module _ {C V M : Type 0} (meaning : Meaning C V M) (code : C) (s : State) (i : 
       let w = a.walking in
       let v = within.advances in
       let on : running_side (meaning.stage code o) ≡ running_side (meaning.stage code m) = ap side_told v.inside in
-      let gone = going-advanced (meaning.devices code) s i w.sets (meaning.stage code m) (meaning.stage code o) within.made v within.low w.going in
+      let gone = going-advanced (meaning.signature code) s i w.sets (meaning.stage code m) (meaning.stage code o) within.made v within.low w.going in
       record {
         walking = record {
           machine = good;
@@ -89,8 +89,8 @@ module _ {C V M : Type 0} (meaning : Meaning C V M) (code : C) (s : State) (i : 
           laid = w.laid;
           types = gone.later;
           going = gone.going;
-          sorts = sorts-grow w.types gone.later cells gone.grows w.sorts;
-          sorts_set = sorts-grow w.types gone.later overlay gone.grows w.sorts_set;
+          forms = forms-grow (meaning.signature code) w.types gone.later cells gone.grows w.forms;
+          forms_set = forms-grow (meaning.signature code) w.types gone.later overlay gone.grows w.forms_set;
           below = w.below;
           rest = w.rest;
           front = w.front ∙ ap (λ (z : List ℕ). z ++ w.rest) (sym (fresh-kept (running_side (meaning.stage code m)) (place_shown (meaning.stage code m)) within.made (place_shown (meaning.stage code o)) v.run refl));
@@ -176,4 +176,4 @@ module _ {C V M : Type 0} (meaning : Meaning C V M) (code : C) (s : State) (i : 
       (subst (λ (k : ℕ). steps_on (running_side (meaning.stage code m)) i k told None (begun_on (running_side (meaning.stage code m)) i s) ≡ None) a.counted
       (ap (λ (xs : List ℕ). steps_on (running_side (meaning.stage code m)) i (meaning.stage code m).steps xs None (begun_on (running_side (meaning.stage code m)) i s))
       (as_told ∙ a.walking.front ∙ ap (λ (xs : List ℕ). (meaning.stage code m).fresh ++ xs) more.1)
-      ∙ left-over (meaning.devices code) s i (running_side (meaning.stage code m)) (place_with a.walking.sets (meaning.stage code m)) (meaning.stage code m).steps g _ more.0 None))
+      ∙ left-over (meaning.signature code) s i (running_side (meaning.stage code m)) (place_with a.walking.sets (meaning.stage code m)) (meaning.stage code m).steps g _ more.0 None))

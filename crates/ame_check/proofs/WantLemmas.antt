@@ -33,13 +33,13 @@ use Rattle.ame_machine.specs.declared.wants.Wants.{Wants}
 use Rattle.ame_machine.specs.declared.wants.Wants.TheVariants as wants
 use Rattle.ame_machine.proofs.NeedLemmas.{comes_as}
 use Rattle.ame_laws.specs.Typed.StoreTyping.{StoreTyping}
-use Rattle.ame_check.specs.Shows.{ShowsCells, HaveSorts, AreBelow}
+use Rattle.ame_check.specs.Shows.{ShowsCells, HaveForms, AreBelow}
 use Rattle.ame_check.specs.Walk.{IsNoWalk, ComesToTall, StaysLow, steps_on, begun_on}
 use Rattle.ame_check.specs.Walked.{place_with, Looks, Allocates, IsWalking, IsAtStep}
 use Rattle.ame_check.proofs.FedLemmas.{IsFedOn, fed-read, fed-peek, fed-write, fed-alloc, fed-spawn, fed-print, shows-put, shown-some, shown-none}
 use Rattle.ame_check.proofs.TallLemmas.{low-more}
 use Rattle.ame_check.proofs.NoteLemmas.{height-is, untall}
-use Rattle.ame_check.proofs.SortLemmas.{member-act, sort-found, sorts-grow, sorts-put, below-found, below-put, all-behind}
+use Rattle.ame_check.proofs.FormLemmas.{member-act, form-found, forms-grow, forms-put, below-found, below-put, all-behind}
 use Rattle.ame_check.proofs.HaltLemmas.{HaltsBy, halts-no_walk, halts-absent, halts-by_out, halts-by_taken, halts-value, halts-unprotected, halts-failing, halts-closing, halts-device}
 use Rattle.ame_check.specs.declared.stored.Stored.{Stored}
 
@@ -89,16 +89,16 @@ module _ {C V M : Type 0} (meaning : Meaning C V M) (code : C) (sound : (m : M) 
       let count : (meaning.stage code m).steps ≡ n = a.counted in
       let under : (meaning.stage code m).steps < total = omega arith in
       subst (λ (z : Side). IsNoWalk z i total fresh s) a.runs_on
-      (halts-no_walk (meaning.devices code) s i (running_side (meaning.stage code m)) (place_with w.sets (meaning.stage code m)) (meaning.stage code m).steps w.going fresh w.rest w.front
+      (halts-no_walk (meaning.signature code) s i (running_side (meaning.stage code m)) (place_with w.sets (meaning.stage code m)) (meaning.stage code m).steps w.going fresh w.rest w.front
       (low-at want told other) halts total under)
 
   -- the walk after a step
   next : (P : StoreTyping → Type 0) (later : List (ℕ × Val)) (laid_later : List (ℕ × Stored V)) (o : M) (plain : Tree × LocalState)
-      → (f : IsFedOn (meaning.devices code) s i w.types P later (meaning.stage code m) (meaning.stage code o) plain)
-      → meaning.is_machine code o → ShowsCells meaning code laid_later later → HaveSorts f.later laid_later
+      → (f : IsFedOn (meaning.signature code) s i w.types P later (meaning.stage code m) (meaning.stage code o) plain)
+      → meaning.is_machine code o → ShowsCells meaning code laid_later later → HaveForms (meaning.signature code) f.later laid_later
       → ((most : ℕ) → All (λ l. l < most) fresh → AreBelow most cells → AreBelow most laid_later)
       → (rest : List ℕ) → fresh ≡ plain.1.fresh ++ rest → IsAtStep meaning code s i fresh cells laid_later o side (n + 1)
-  next P later laid_later o plain f good laid sorts below rest front = record {
+  next P later laid_later o plain f good laid forms below rest front = record {
     walking = record {
       machine = good;
       early = w.early;
@@ -107,8 +107,8 @@ module _ {C V M : Type 0} (meaning : Meaning C V M) (code : C) (sound : (m : M) 
       laid = laid;
       types = f.later;
       going = f.going;
-      sorts = sorts-grow w.types f.later cells f.grows w.sorts;
-      sorts_set = sorts;
+      forms = forms-grow (meaning.signature code) w.types f.later cells f.grows w.forms;
+      forms_set = forms;
       below = below;
       rest = rest;
       front = front ∙ ap (λ (z : MachineView). z.fresh ++ rest) f.is;
@@ -118,9 +118,9 @@ module _ {C V M : Type 0} (meaning : Meaning C V M) (code : C) (sound : (m : M) 
   }
 
   -- the same where nothing is set
-  unset : (P : StoreTyping → Type 0) (o : M) (plain : Tree × LocalState) → IsFedOn (meaning.devices code) s i w.types P w.sets (meaning.stage code m) (meaning.stage code o) plain
+  unset : (P : StoreTyping → Type 0) (o : M) (plain : Tree × LocalState) → IsFedOn (meaning.signature code) s i w.types P w.sets (meaning.stage code m) (meaning.stage code o) plain
       → meaning.is_machine code o → fresh ≡ plain.1.fresh ++ w.rest → IsAtStep meaning code s i fresh cells overlay o side (n + 1)
-  unset P o plain f good front = next P w.sets overlay o plain f good w.laid (sorts-grow w.types f.later overlay f.grows w.sorts_set) w.below w.rest front
+  unset P o plain f good front = next P w.sets overlay o plain f good w.laid (forms-grow (meaning.signature code) w.types f.later overlay f.grows w.forms_set) w.below w.rest front
 
   -- A value that is taken
 
@@ -132,12 +132,12 @@ module _ {C V M : Type 0} (meaning : Meaning C V M) (code : C) (sound : (m : M) 
       → meaning.is_machine code o → after_input (meaning.stage code m).want shown (meaning.stage code m) ≡ Some (meaning.stage code o) → IsAtStep meaning code s i fresh cells overlay o side (n + 1)
   look-taken l v shown o (inl told) is same good e =
       let has = (shown-some meaning code (at overlay l.0) (at cells l.0) (at w.sets l.0) (at s.store l.0) v (w.laid l.0) (w.store l.0) is).1 ∙ ap (λ (z : Val). Some z) same in
-      unset _ o _ (fed-read (meaning.devices code) s i w.sets (meaning.stage code m) (meaning.stage code o) w.going (low-at (wants.Read l) told (λ e. cc)) l.0 shown (coming (wants.Read l) told) (at_want o (wants.Read l) shown told e) has)
+      unset _ o _ (fed-read (meaning.signature code) s i w.sets (meaning.stage code m) (meaning.stage code o) w.going (low-at (wants.Read l) told (λ e. cc)) l.0 shown (coming (wants.Read l) told) (at_want o (wants.Read l) shown told e) has)
       good w.front
   look-taken l v shown o (inr told) is same good e =
       let has = (shown-some meaning code (at overlay l.0) (at cells l.0) (at w.sets l.0) (at s.store l.0) v (w.laid l.0) (w.store l.0) is).1 ∙ ap (λ (z : Val). Some z) same in
       let comes = coming (wants.Peek l) told in
-      unset _ o _ (fed-peek (meaning.devices code) s i w.sets (meaning.stage code m) (meaning.stage code o) w.going (low-at (wants.Peek l) told (λ e. cc)) l.0 shown comes.0 comes.1 (at_want o (wants.Peek l) shown told e) has)
+      unset _ o _ (fed-peek (meaning.signature code) s i w.sets (meaning.stage code m) (meaning.stage code o) w.going (low-at (wants.Peek l) told (λ e. cc)) l.0 shown comes.0 comes.1 (at_want o (wants.Peek l) shown told e) has)
       good w.front
 
   -- what the state has at a location where nothing was set and nothing is
@@ -162,10 +162,10 @@ module _ {C V M : Type 0} (meaning : Meaning C V M) (code : C) (sound : (m : M) 
   pub write-absent : (l : Loc) → (meaning.stage code m).want ≡ Some (wants.Write l) → None ≡ or_else (at overlay l.0) (at cells l.0) → ⊥
   write-absent l told none =
       let comes = coming (wants.Write l) told in
-      let member = each-at (λ t. IsMember (meaning.devices code) w.types t) w.going.now.members i (meaning.stage code m).term w.going.member w.going.typed.typed.members in
-      let act = member-act (meaning.devices code) w.types (meaning.stage code m).term comes.1.0 (running_side (meaning.stage code m)) comes.1.1 member in
-      let its : IsTypedAct (meaning.devices code) w.types (effect_at (running_side (meaning.stage code m)) Effect.Protected) act.0 (Act.Writes l.0 comes.0) =
-      subst (IsTypedAct (meaning.devices code) w.types (effect_at (running_side (meaning.stage code m)) Effect.Protected) act.0) comes.1.2 act.1 in
+      let member = each-at (λ t. IsMember (meaning.signature code) w.types t) w.going.now.members i (meaning.stage code m).term w.going.member w.going.typed.typed.members in
+      let act = member-act (meaning.signature code) w.types (meaning.stage code m).term comes.1.0 (running_side (meaning.stage code m)) comes.1.1 member in
+      let its : IsTypedAct (meaning.signature code) w.types (effect_at (running_side (meaning.stage code m)) Effect.Protected) act.0 (Act.Writes l.0 comes.0) =
+      subst (IsTypedAct (meaning.signature code) w.types (effect_at (running_side (meaning.stage code m)) Effect.Protected) act.0) comes.1.2 act.1 in
       let there : is_some (at w.going.now.store l.0) ≡ true = w.going.typed.located l.0 (its.0, its.1) its.2 in
       let clash : false ≡ true = sym (ap is_some (nothing_there l.0 none).2) ∙ there in
       cc
@@ -179,14 +179,14 @@ module _ {C V M : Type 0} (meaning : Meaning C V M) (code : C) (sound : (m : M) 
       let comes = coming (wants.Write l) told in
       let lends = set-of (Act.Writes l.0 comes.0) comes.1 ∙ refl in
       let one : comes.0 ≡ meaning.value_of code v = (let both : ◌≡◌ {A = Option Val} (Some comes.0) (Some (meaning.value_of code v)) = sym lends ∙ lent in cc) in
-      let f = fed-write (meaning.devices code) s i w.sets (meaning.stage code m) (meaning.stage code o) w.going (low-at (wants.Write l) told (λ e. cc)) l.0 comes.0 comes.1 (at_want o (wants.Write l) Val.Unit told e) in
+      let f = fed-write (meaning.signature code) s i w.sets (meaning.stage code m) (meaning.stage code o) w.going (low-at (wants.Write l) told (λ e. cc)) l.0 comes.0 comes.1 (at_want o (wants.Write l) Val.Unit told e) in
       let cell = record at_place { value = c } in
       let made = (shown-some meaning code (at overlay l.0) (at cells l.0) (at w.sets l.0) (at s.store l.0) at_place (w.laid l.0) (w.store l.0) is_there).0.1 in
-      let has = sort-found w.types overlay cells l.0 at_place w.sorts_set w.sorts is_there in
+      let has = form-found (meaning.signature code) w.types overlay cells l.0 at_place w.forms_set w.forms is_there in
       next _ (put w.sets l.0 comes.0) laid_later o _ f
       good (subst (λ (z : List (ℕ × Stored V)). ShowsCells meaning code z (put w.sets l.0 comes.0)) (sym is) (shows-put meaning code overlay w.sets l.0 cell comes.0 w.laid (good_value, made) (sym same ∙ sym one)))
-      (subst (λ (z : List (ℕ × Stored V)). HaveSorts f.later z) (sym is)
-      (sorts-put f.later overlay l.0 cell (has.0, f.grows l.0 (at_place.sort, has.0) has.1) (sorts-grow w.types f.later overlay f.grows w.sorts_set)))
+      (subst (λ (z : List (ℕ × Stored V)). HaveForms (meaning.signature code) f.later z) (sym is)
+      (forms-put (meaning.signature code) f.later overlay l.0 cell (has.0, f.grows l.0 (at_place.sort, has.0) has.1, has.2) (forms-grow (meaning.signature code) w.types f.later overlay f.grows w.forms_set)))
       (λ most told under. subst (λ (z : List (ℕ × Stored V)). AreBelow most z) (sym is)
       (below-put most overlay l.0 cell (below-found most overlay cells l.0 at_place (w.below most told under) under is_there) (w.below most told under))) w.rest w.front
     where
@@ -203,7 +203,7 @@ module _ {C V M : Type 0} (meaning : Meaning C V M) (code : C) (sound : (m : M) 
   allocate-out (sort, number, told) none =
       let comes = coming (wants.Alloc sort number) told in
       stopped (wants.Alloc sort number) told (λ e. cc) (subst (λ (z : List ℕ). HaltsBy (running_side (meaning.stage code m)) i w.going.now z) (sym none)
-      (halts-by_out (running_side (meaning.stage code m)) i w.going.now sort comes.0 (act-there (Act.Allocates sort comes.0) comes.1)))
+      (halts-by_out (running_side (meaning.stage code m)) i w.going.now sort number comes.0 (act-there (Act.Allocates sort number comes.0) comes.1)))
 
   pub allocate-taken_place : (l : ℕ) (more : List ℕ) (v : Stored V) → Allocates (meaning.stage code m).want → w.rest ≡ l ∷ more → Some v ≡ or_else (at overlay l) (at cells l)
       → (total : ℕ) → n < total → IsNoWalk side i total fresh s
@@ -211,7 +211,7 @@ module _ {C V M : Type 0} (meaning : Meaning C V M) (code : C) (sound : (m : M) 
       let comes = coming (wants.Alloc sort number) told in
       let has = (shown-some meaning code (at overlay l) (at cells l) (at w.sets l) (at s.store l) v (w.laid l) (w.store l) is).1 in
       stopped (wants.Alloc sort number) told (λ e. cc) (subst (λ (z : List ℕ). HaltsBy (running_side (meaning.stage code m)) i w.going.now z) (sym front)
-      (halts-by_taken (running_side (meaning.stage code m)) i w.going.now sort comes.0 (meaning.value_of code v.value) l more w.going.active (act-there (Act.Allocates sort comes.0) comes.1)
+      (halts-by_taken (running_side (meaning.stage code m)) i w.going.now sort number comes.0 (meaning.value_of code v.value) l more w.going.active (act-there (Act.Allocates sort number comes.0) comes.1)
       (w.going.after_run.stored l ∙ has)))
 
   pub allocate-made : (sort : Sort) (number : TyNo) (l : Loc) (more : List ℕ) (v c : V) (o : M) → (meaning.stage code m).want ≡ Some (wants.Alloc sort number) → w.rest ≡ l.0 ∷ more → None ≡ or_else (at overlay l.0) (at cells l.0)
@@ -220,15 +220,15 @@ module _ {C V M : Type 0} (meaning : Meaning C V M) (code : C) (sound : (m : M) 
       → IsAtStep meaning code s i fresh cells laid_later o side (n + 1)
   allocate-made sort number l more v c o told front none lent good_value form same good e laid_later is =
       let comes = coming (wants.Alloc sort number) told in
-      let lends = set-of (Act.Allocates sort comes.0) comes.1 ∙ refl in
+      let lends = set-of (Act.Allocates sort number comes.0) comes.1 ∙ refl in
       let one : comes.0 ≡ meaning.value_of code v = (let both : ◌≡◌ {A = Option Val} (Some comes.0) (Some (meaning.value_of code v)) = sym lends ∙ lent in cc) in
       let free = nothing_there l.0 none in
-      let f = fed-alloc (meaning.devices code) s i w.sets (meaning.stage code m) (meaning.stage code o) w.going (low-at (wants.Alloc sort number) told (λ e. cc)) sort l.0 comes.0 comes.1 (at_want o (wants.Alloc sort number) (Val.Loc l.0) told e) free.0 free.1 in
+      let f = fed-alloc (meaning.signature code) s i w.sets (meaning.stage code m) (meaning.stage code o) w.going (low-at (wants.Alloc sort number) told (λ e. cc)) sort number l.0 comes.0 comes.1 (at_want o (wants.Alloc sort number) (Val.Loc l.0) told e) free.0 free.1 in
       let cell : Stored V = record { sort = sort; number = number; value = c } in
       next _ (put w.sets l.0 comes.0) laid_later o _ f
       good (subst (λ (z : List (ℕ × Stored V)). ShowsCells meaning code z (put w.sets l.0 comes.0)) (sym is) (shows-put meaning code overlay w.sets l.0 cell comes.0 w.laid (good_value, form) (sym same ∙ sym one)))
-      (subst (λ (z : List (ℕ × Stored V)). HaveSorts f.later z) (sym is)
-      (sorts-put f.later overlay l.0 cell f.has (sorts-grow w.types f.later overlay f.grows w.sorts_set)))
+      (subst (λ (z : List (ℕ × Stored V)). HaveForms (meaning.signature code) f.later z) (sym is)
+      (forms-put (meaning.signature code) f.later overlay l.0 cell f.has (forms-grow (meaning.signature code) w.types f.later overlay f.grows w.forms_set)))
       (λ most told under. subst (λ (z : List (ℕ × Stored V)). AreBelow most z) (sym is)
       (below-put most overlay l.0 cell (all-behind (λ (k : ℕ). k < most) (meaning.stage code m).fresh l.0 more (subst (λ (xs : List ℕ). All (λ k. k < most) xs)
       (w.front ∙ ap (λ (z : List ℕ). (meaning.stage code m).fresh ++ z) front) told)) (w.below most told under))) more
@@ -243,13 +243,13 @@ module _ {C V M : Type 0} (meaning : Meaning C V M) (code : C) (sound : (m : M) 
       → after_input (meaning.stage code m).want Val.Unit (meaning.stage code m) ≡ Some (meaning.stage code o) → IsAtStep meaning code s i fresh cells overlay o side (n + 1)
   accepted-spawn o told good e =
       let comes = coming wants.Spawn told in
-      unset _ o _ (fed-spawn (meaning.devices code) s i w.sets (meaning.stage code m) (meaning.stage code o) w.going (low-at wants.Spawn told (λ e. cc)) comes.1.0 comes.0 comes.1.1 (at_want o wants.Spawn Val.Unit told e)) good w.front
+      unset _ o _ (fed-spawn (meaning.signature code) s i w.sets (meaning.stage code m) (meaning.stage code o) w.going (low-at wants.Spawn told (λ e. cc)) comes.1.0 comes.0 comes.1.1 (at_want o wants.Spawn Val.Unit told e)) good w.front
 
   pub accepted-print : (number : ℤ) (o : M) → (meaning.stage code m).want ≡ Some (wants.Print number) → meaning.is_machine code o
       → after_input (meaning.stage code m).want Val.Unit (meaning.stage code m) ≡ Some (meaning.stage code o) → IsAtStep meaning code s i fresh cells overlay o side (n + 1)
   accepted-print number o told good e =
       let comes = coming (wants.Print number) told in
-      unset _ o _ (fed-print (meaning.devices code) s i w.sets (meaning.stage code m) (meaning.stage code o) w.going (low-at (wants.Print number) told (λ e. cc)) number comes.0 comes.1 (at_want o (wants.Print number) Val.Unit told e)) good w.front
+      unset _ o _ (fed-print (meaning.signature code) s i w.sets (meaning.stage code m) (meaning.stage code o) w.going (low-at (wants.Print number) told (λ e. cc)) number comes.0 comes.1 (at_want o (wants.Print number) Val.Unit told e)) good w.front
 
   -- What ends a walk
 
@@ -286,7 +286,7 @@ module _ {C V M : Type 0} (meaning : Meaning C V M) (code : C) (sound : (m : M) 
       subst (λ (z : Side). StaysLow z i (n + 1) fresh s) a.runs_on
       (subst (λ (k : ℕ). StaysLow (running_side (meaning.stage code m)) i (k + 1) fresh s) a.counted
       (subst (λ (xs : List ℕ). StaysLow (running_side (meaning.stage code m)) i ((meaning.stage code m).steps + 1) xs s) (sym w.front)
-      (low-more (meaning.devices code) s i (running_side (meaning.stage code m)) (place_with w.sets (meaning.stage code m)) (meaning.stage code m).steps w.going (low-at want told other) w.rest)))
+      (low-more (meaning.signature code) s i (running_side (meaning.stage code m)) (place_with w.sets (meaning.stage code m)) (meaning.stage code m).steps w.going (low-at want told other) w.rest)))
 
   pub tall-there : (meaning.stage code m).want ≡ Some wants.Tall → (total : ℕ) → n < total → ComesToTall side i total fresh s
   tall-there told total below =

@@ -1,7 +1,10 @@
 -- What the cells and members of a replay on machines show of a replayed state.
 use Rattle.std.specs.Prelude.{◌≡◌, ◌<◌, ◌+◌, [], All, length, ℕ, ℤ, Bool, List, Option, Some, None}
 use Rattle.ame_term.specs.Tree.{Typ, Val, Tree}
+use Rattle.ame_term.specs.Signature.{Signature, MayStore}
 use Rattle.ame_term.specs.Maps.{at}
+use Rattle.ame_term.specs.declared.types.Sort.{Sort}
+use Rattle.ame_term.specs.declared.types.TyNo.{TyNo}
 use Rattle.ame_laws.specs.Typed.StoreTyping.{StoreTyping}
 use Rattle.ame_laws.specs.Typed.TypedState.{IsTyped}
 use Rattle.ame_journal.specs.Replayed.{Replayed, is_inside}
@@ -20,9 +23,13 @@ pub record ReplayView (V M : Type 0) : Type 0 where
   pub output : List ℤ
   pub next : ℕ
 
--- the type of each location that has a cell is of the cell's sort
-abbrev pub HaveSorts : {V : Type 0} → StoreTyping → List (ℕ × Stored V) → Type 0
-HaveSorts {V} types cells = (l : ℕ) (cell : Stored V) → at cells l ≡ Some cell → (content : Typ) × (types l ≡ Some (cell.sort, content))
+-- a location has this sort and a type, of which the `ref` form with this number may store values
+abbrev pub HasForm : Signature → StoreTyping → ℕ → Sort → TyNo → Type 0
+HasForm signature types l sort number = (content : Typ) × (types l ≡ Some (sort, content)) × MayStore signature.refs number.0 content
+
+-- each location that has a cell has the cell's sort, and a type of which the cell's `ref` form may store values
+abbrev pub HaveForms : {V : Type 0} → Signature → StoreTyping → List (ℕ × Stored V) → Type 0
+HaveForms {V} signature types cells = (l : ℕ) (cell : Stored V) → at cells l ≡ Some cell → HasForm signature types l cell.sort cell.number
 
 -- each location that has a cell is below a bound
 abbrev pub AreBelow : {V : Type 0} → ℕ → List (ℕ × Stored V) → Type 0
@@ -67,14 +74,14 @@ module _ {C V M : Type 0} (meaning : Meaning C V M) (code : C) where
     pub next : place.next ≡ r.state.next
 
   -- The entries can be replayed, and the state to which they lead is shown. Some types of locations type it, by which each
-  -- cell has its sort; and each cell is at a new location of an entry.
+  -- cell has its sort, and a type of which its `ref` form may store values; and each cell is at a new location of an entry.
   pub record StandsForEntries (entries : List Entry) (place : ReplayView V M) : Type 0 where
     pub led : Replayed
     pub replayed : replay (meaning.program code) entries ≡ Some led
     pub shows : Shows place led
     pub types : StoreTyping
-    pub typed : IsTyped (meaning.devices code) types led.state
-    pub sorts : HaveSorts types place.cells
+    pub typed : IsTyped (meaning.signature code) types led.state
+    pub forms : HaveForms (meaning.signature code) types place.cells
     pub below : (most : ℕ) → TellBelow most entries → AreBelow most place.cells
 
   -- after the new members of a machine took the next numbers: it has none, and is otherwise as it was

@@ -10,7 +10,7 @@ use Rattle.ame_laws.specs.Typed.TypedState.{IsTyped}
 use Rattle.ame_machine.specs.Meaning.{Meaning}
 use Rattle.ame_machine.specs.Move.{settled_stage}
 use Rattle.ame_machine.specs.Run.AgreesWith.{IsAfterRun}
-use Rattle.ame_check.specs.Shows.{ShowsCells, HaveSorts, AreBelow}
+use Rattle.ame_check.specs.Shows.{ShowsCells, HaveForms, AreBelow}
 use Rattle.ame_check.specs.Walk.{begun_on, steps_on, ComesToTall, StaysLow}
 use Rattle.ame_check.specs.Walked.{place_with}
 use Rattle.ame_check.specs.Reasons.{MeetsReason}
@@ -45,9 +45,9 @@ module _ {C V M : Type 0} (meaning : Meaning C V M) (code : C) where
     pub after_run : IsAfterRun s i (place_with sets (meaning.stage code m)) now
     pub member : at now.members i ≡ Some (meaning.stage code m).term
     pub types : StoreTyping
-    pub typed : IsTyped (meaning.devices code) types now
-    pub sorts : HaveSorts types cells
-    pub sorts_set : HaveSorts types overlay
+    pub typed : IsTyped (meaning.signature code) types now
+    pub forms : HaveForms (meaning.signature code) types cells
+    pub forms_set : HaveForms (meaning.signature code) types overlay
     pub below : (most : ℕ) → All (λ l. l < most) fresh → AreBelow most cells → AreBelow most overlay
     pub settles : (settled_stage (meaning.stage code m)).inside ≡ inside
 

@@ -13,6 +13,7 @@ use Rattle.ame_journal.specs.Replayed.{is_at_unprotected, is_tall}
 use Rattle.ame_journal.specs.Replay.{steps}
 use Rattle.ame_machine.specs.Run.Local.{LocalState}
 use Rattle.ame_machine.specs.Run.AgreesWith.{IsAfterRun}
+use Rattle.ame_term.specs.Signature.{Signature}
 
 -- the labels of a member's steps on a side
 abbrev pub label_by : Side → ℕ → StepKind → Label
@@ -58,13 +59,13 @@ StaysLow side i n fresh s = ComesToTall side i n fresh s → ⊥
 
 -- From a state n steps of a member, and a place p of its run: the state that is reached is the one after that run, typed by these types. None of the
 -- steps is at a form that would become a value that is too high, whatever locations are behind those of the run.
-pub record IsStepping (devices : ℕ) (types : StoreTyping) (s : State) (i : ℕ) (side : Side) (p : LocalState) (n : ℕ) : Type 0 where
+pub record IsStepping (signature : Signature) (types : StoreTyping) (s : State) (i : ℕ) (side : Side) (p : LocalState) (n : ℕ) : Type 0 where
   pub now : State
   pub after_run : IsAfterRun s i p now
   pub member : at now.members i ≡ Some p.term
   pub active : now.active ≡ active_on side i
   pub orderly : IsOrderly now
-  pub typed : IsTyped devices types now
+  pub typed : IsTyped signature types now
   pub standing : side ≡ Side.Unprotected → is_at_unprotected i now ≡ true
   pub goes : LeadsOnTo side i n p.fresh (begun_on side i s) now
   pub low : (more : List ℕ) → StaysLow side i n (p.fresh ++ more) s

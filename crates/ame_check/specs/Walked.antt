@@ -12,7 +12,7 @@ use Rattle.ame_machine.specs.declared.wants.Wants.TheVariants as wants
 use Rattle.ame_machine.specs.Meaning.{Meaning}
 use Rattle.ame_machine.specs.Run.Local.{LocalState}
 use Rattle.ame_machine.specs.MachineView.{MachineView, running_side, place_shown}
-use Rattle.ame_check.specs.Shows.{ShowsCells, HaveSorts, AreBelow}
+use Rattle.ame_check.specs.Shows.{ShowsCells, HaveForms, AreBelow}
 use Rattle.ame_check.specs.Walk.{begun_on, steps_on, IsStepping, IsNoWalk, ComesToTall, StaysLow}
 use Rattle.ame_check.specs.Reasons.{MeetsReason}
 use Rattle.ame_check.specs.declared.walk.Walked.{Walked}
@@ -50,7 +50,7 @@ is_plain _ = true
 
 module _ {C V M : Type 0} (meaning : Meaning C V M) (code : C) where
   -- A machine of member i has come so far from a state whose store the cells show, with these locations to use in all. By the types of
-  -- the state that is reached each cell has its sort; and what is set is at new locations, or at those of cells.
+  -- the state that is reached each cell has its sort, and a type of which its `ref` form may store values; and what is set is at new locations, or at those of cells.
   pub record IsWalking (s : State) (i : ℕ) (fresh : List ℕ) (cells overlay : List (ℕ × Stored V)) (m : M) : Type 0 where
     pub machine : meaning.is_machine code m
     pub early : i < s.next
@@ -58,9 +58,9 @@ module _ {C V M : Type 0} (meaning : Meaning C V M) (code : C) where
     pub sets : List (ℕ × Val)
     pub laid : ShowsCells meaning code overlay sets
     pub types : StoreTyping
-    pub going : IsStepping (meaning.devices code) types s i (running_side (meaning.stage code m)) (place_with sets (meaning.stage code m)) (meaning.stage code m).steps
-    pub sorts : HaveSorts types cells
-    pub sorts_set : HaveSorts types overlay
+    pub going : IsStepping (meaning.signature code) types s i (running_side (meaning.stage code m)) (place_with sets (meaning.stage code m)) (meaning.stage code m).steps
+    pub forms : HaveForms (meaning.signature code) types cells
+    pub forms_set : HaveForms (meaning.signature code) types overlay
     pub below : (most : ℕ) → All (λ l. l < most) fresh → AreBelow most cells → AreBelow most overlay
     pub rest : List ℕ
     pub front : fresh ≡ (meaning.stage code m).fresh ++ rest

@@ -93,11 +93,11 @@ module _ {C V M : Type 0} (meaning : Meaning C V M) (same : V → V → Type 0)
   form' = subst (λ (c : C). IsRefForm (meaning.program c) sort number.0) (ap (λ (x : Core C V M). x.code) (sym view))
       (subst (WantsRefForm (meaning.program now.code)) wants-it form)
 
-  need' : Need.Alloc sort ≡ need_of s
-  need' = subst (λ (x : Core C V M). Need.Alloc sort ≡ need_of (meaning.stage x.code m)) (sym view) (sound.told (wants.Alloc sort number) wants-it)
+  need' : Need.Alloc sort number ≡ need_of s
+  need' = subst (λ (x : Core C V M). Need.Alloc sort number ≡ need_of (meaning.stage x.code m)) (sym view) (sound.told (wants.Alloc sort number) wants-it)
 
-  next-act : (v : Val) × HasNextAct s (Act.Allocates sort v)
-  next-act = comes_as s (Need.Alloc sort) need'
+  next-act : (v : Val) × HasNextAct s (Act.Allocates sort number v)
+  next-act = comes_as s (Need.Alloc sort number) need'
 
   same-count : length parts.memory.cells ≡ length core.memory.cells
   same-count = length-map core.memory.cells (shown_cell (meaning.value_of core.code))
@@ -134,7 +134,7 @@ module _ {C V M : Type 0} (meaning : Meaning C V M) (same : V → V → Type 0)
         → May (Event.Alloc seat sort number (meaning.value_of core.code value)) (state_of meaning core)
     may-allocate going early = subst (λ (v : Val). May (Event.Alloc seat sort number v) (state_of meaning core)) value-is (
       record { going = subst (λ (x : Core C V M). x.stop ≡ None) (sym view) going; left = left' },
-      has-come (state_of meaning core) seat s on' (Act.Allocates sort next-act.0) outside' next-act.1
+      has-come (state_of meaning core) seat s on' (Act.Allocates sort number next-act.0) outside' next-act.1
           (subst (λ (x : Core C V M). (meaning.stage x.code m).since < x.limits.slice) (sym view) early),
     )
 

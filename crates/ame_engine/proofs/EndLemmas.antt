@@ -1,10 +1,15 @@
 -- An engine at its end.
 use Rattle.std.proofs.Common.{◌≡◌, ℕ, ◌==◌, ◌<◌, ◌⊎◌, inl, inr, Bool, true, false, cond, List, [], ◌∷◌, map, All, Option, Some, None, option_map, refl, sym, ap, ◌∙◌, subst, arith}
-use Rattle.std.specs.Prelude.{Contains, ◌+◌, ◌*◌, ◌≤◌, IsSome, slice_index_or}
+use Rattle.std.specs.Prelude.{Contains, ◌+◌, ◌*◌, ◌≤◌, IsSome, slice_index_or, slice_get, if◌then◌else◌}
 use Rattle.std.proofs.Common.{zero, suc, length}
 use Rattle.std.proofs.lemmas.Bool.{eq-eqb, eqb-true}
 use Rattle.std.proofs.lemmas.List.Elements.{All-nil, All-cons, All-head, All-tail, All-map}
-use Rattle.ame_term.specs.Tree.{Val, Tree}
+use Rattle.ame_term.specs.Tree.{Typ, Val, Tree}
+use Rattle.ame_term.specs.Maps.{at}
+use Rattle.ame_term.specs.Signature.{MayStore}
+use Rattle.ame_term.specs.declared.types.Sort.{Sort}
+use Rattle.ame_laws.specs.Typed.StoreTyping.{StoreTyping}
+use Rattle.ame_laws.specs.Typed.TypedState.{IsTypedBy, IsTyped}
 use Rattle.ame_term.specs.State.{State}
 use Rattle.ame_journal.specs.declared.entry.Entry.{Entry}
 use Rattle.ame_store.specs.declared.cell.Cell.{Cell}
@@ -15,8 +20,13 @@ use Rattle.ame_pool.specs.Members.{IsRising, find}
 use Rattle.ame_pool.specs.Begin.{oldest}
 use Rattle.ame_rows.specs.MemoryView.{Log, row_at}
 use Rattle.ame_protocol.specs.Row.Shown.{shown_undo}
+use Rattle.ame_protocol.specs.Row.Heap.{cell_at}
+use Rattle.ame_protocol.specs.Row.Scoped.{live_types}
+use Rattle.ame_protocol.proofs.Row.CellLemmas.{live_cell}
+use Rattle.ame_protocol.specs.Visits.Opened.{cell_of, stored_in}
+use Rattle.ame_protocol.proofs.Visits.OpenLemmas.{stored-live}
 use Rattle.ame_protocol.specs.declared.types.Task.{Task}
-use Rattle.ame_protocol.specs.Engine.Parts.{Parts, whole_journal, task_at}
+use Rattle.ame_protocol.specs.Engine.Parts.{Parts, whole_journal, task_at, heap_in}
 use Rattle.ame_protocol.specs.Engine.Simulates.{Simulates}
 use Rattle.ame_protocol.proofs.Engine.ShownMemoryLemmas.{row-shown}
 use Rattle.ame_protocol.specs.Waits.Certificates.{IsCertificate, HasCertificate}
@@ -29,7 +39,7 @@ use Rattle.ame_protocol.specs.Event.Faults.{LeadsToCall}
 use Rattle.ame_protocol.specs.Event.Causes.{certificate_of, certificates_of, certificates_in, HasCause}
 use Rattle.ame_engine.specs.Seen.{parts_of}
 use Rattle.ame_engine.specs.Whole.{IsSound}
-use Rattle.ame_engine.specs.Ending.{Rise, CertifyAll, HasStopped, IsEnd, end_of}
+use Rattle.ame_engine.specs.Ending.{Rise, CertifyAll, HasStopped, types_in, IsEnd, end_of}
 use Rattle.ame_protocol.proofs.Event.CauseLemmas.{empty-oldest}
 use Rattle.ame_pool.specs.Standings.{max_rollbacks}
 use Rattle.ame_protocol.specs.Bounds.Rollbacks.{IsWithinRollbacks}
@@ -37,6 +47,37 @@ use Rattle.ame_protocol.proofs.Bounds.FewBounds.{refusals-bounded, tries-bounded
 use Rattle.ame_protocol.proofs.Bounds.PaidEntries.{turns-bounded}
 use Rattle.ame_protocol.specs.Event.Bounds.{refusals, KeepsBounds, HasBounds}
 use Rattle.ame_machine.specs.Meaning.{Meaning}
+
+-- The types of the cells
+
+module _ (parts : Parts) (s : Simulates parts) where
+  live-type : (refs : List Typ) → parts.signature.refs ≡ Some refs → (l : ℕ) → live_types (heap_in parts) s.types l ≡ types_in refs parts.memory.cells l
+  live-type refs listed l = by (cell_at (heap_in parts) l).live refl
+    where
+      cell : Cell Val
+      cell = cell_at (heap_in parts) l
+
+      by : (b : Bool) → (cell_at (heap_in parts) l).live ≡ b
+          → (if b then s.types l else None) ≡ (if b then option_map (λ t. ((cell_at (heap_in parts) l).sort, t)) (slice_get refs (cell_at (heap_in parts) l).ty.0) else None)
+      by false dead = refl
+      by true live =
+          let its = s.typed.heap.typed l (live_cell (heap_in parts) l live) in
+          let may : MayStore (Some refs) (cell_at (heap_in parts) l).ty.0 its.0 =
+          subst (λ (o : Option (List Typ)). MayStore o (cell_at (heap_in parts) l).ty.0 its.0) listed its.3 in
+          its.1 ∙ sym (ap (option_map (λ t. ((cell_at (heap_in parts) l).sort, t))) may)
+
+  pub cells-typed : ((l : ℕ) → at s.r.state.store l ≡ stored_in (cell_of parts.memory.cells l)) → (refs : List Typ) → parts.signature.refs ≡ Some refs
+      → IsTyped parts.signature (types_in refs parts.memory.cells) s.r.state
+  cells-typed stored refs listed = record {
+    typed = subst (λ (types : StoreTyping). IsTypedBy parts.signature types s.r.state) (λ i l. live-type refs listed l i) s.typed.now;
+    located = λ l cell has. by l cell (cell_of parts.memory.cells l).live refl has;
+  }
+    where
+      by : (l : ℕ) (cell : Sort × Typ) (b : Bool) → (cell_of parts.memory.cells l).live ≡ b
+          → (if b then option_map (λ t. ((cell_of parts.memory.cells l).sort, t)) (slice_get refs (cell_of parts.memory.cells l).ty.0) else None) ≡ Some cell
+          → IsSome (at s.r.state.store l)
+      by l cell false dead has = absurd (let clash : ◌≡◌ {A = Option (Sort × Typ)} None (Some cell) = has in cc)
+      by l cell true live has = subst (λ (o : Option Val). IsSome o) (sym (stored l ∙ stored-live (cell_of parts.memory.cells l) live)) refl
 
 -- One certificate a member
 
@@ -194,7 +235,7 @@ module _ {C V M : Type 0} (meaning : Meaning C V M) (core : Core C V M)
       within : IsWithinRollbacks parts.pool
       within = whole.state.pool.few
 
-  pub is-end : All IsFree core.memory.cells → IsEnd (meaning.program core.code) core.limits (meaning.value_of core.code) (end_of core)
+  pub is-end : All IsFree core.memory.cells → IsEnd (meaning.program core.code) (meaning.signature core.code) core.limits (meaning.value_of core.code) (end_of core)
   is-end free = record {
     r = s.r;
     replays = s.stands.replayed;
@@ -202,6 +243,7 @@ module _ {C V M : Type 0} (meaning : Meaning C V M) (core : Core C V M)
     printed = s.stands.output;
     free = free;
     forms = whole.memory.forms;
+    typed = cells-typed parts s (all-stored parts s idle);
     once = whole.state.once.once;
     stopped = has-stopped core.stop refl whole.state.caused;
     shown = record { limited = refl; counts = whole.state.counters; most = s.bounded.turns };
@@ -218,8 +260,8 @@ module _ {C V M : Type 0} (meaning : Meaning C V M) (core now : Core C V M) (vie
   pub all-free : All IsFree cells
   all-free = free (end-clear meaning core whole idle')
 
-  pub ends-so : IsEnd (meaning.program now.code) now.limits (meaning.value_of now.code) (record (end_of core) { cells = cells })
+  pub ends-so : IsEnd (meaning.program now.code) (meaning.signature now.code) now.limits (meaning.value_of now.code) (record (end_of core) { cells = cells })
   ends-so =
-      subst (λ (x : Core C V M). IsEnd (meaning.program x.code) x.limits (meaning.value_of x.code) (record (end_of core) { cells = cells })) view
-      (subst (λ (cs : List (Cell V)). IsEnd (meaning.program core.code) core.limits (meaning.value_of core.code) (record (end_of core) { cells = cs })) (sym cells_are)
+      subst (λ (x : Core C V M). IsEnd (meaning.program x.code) (meaning.signature x.code) x.limits (meaning.value_of x.code) (record (end_of core) { cells = cells })) view
+      (subst (λ (cs : List (Cell V)). IsEnd (meaning.program core.code) (meaning.signature core.code) core.limits (meaning.value_of core.code) (record (end_of core) { cells = cs })) (sym cells_are)
       (is-end meaning core whole idle' (subst (All IsFree) cells_are all-free)))

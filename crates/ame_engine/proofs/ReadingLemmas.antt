@@ -129,13 +129,13 @@ module _ {C V M : Type 0} (meaning : Meaning C V M) (same : V → V → Type 0)
 
     -- it is of the type of its location, by whatever types the cells are typed
     abbrev IsTypedThere : Core C V M → Loc → Type 0
-    IsTypedThere x k = (types : StoreTyping) → IsTypedHeap (meaning.devices x.code) types (heap_in (parts_of meaning x))
-        → IsStored (meaning.devices x.code) types k.0 (meaning.value_of x.code value)
+    IsTypedThere x k = (types : StoreTyping) → IsTypedHeap (meaning.signature x.code) types (heap_in (parts_of meaning x))
+        → IsStored (meaning.signature x.code) types k.0 (meaning.value_of x.code value)
 
     typed-core : IsTypedThere core l
     typed-core types heap =
         let its = heap.typed l.0 (read-cell meaning core whole seat m l on' outside' need') in
-        (_, its.1, subst (λ (v : Val). IsValueOf (meaning.devices core.code) types v its.0) (sym in-core) its.2)
+        (_, its.1, subst (λ (v : Val). IsValueOf (meaning.signature core.code) types v its.0) (sym in-core) its.2)
 
     pub typed-read : (k : Loc) → (meaning.stage now.code m).want ≡ Some (wants.Read k) → IsTypedThere now k
     typed-read k e =

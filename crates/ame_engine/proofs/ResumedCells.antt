@@ -4,6 +4,7 @@ use Rattle.std.proofs.lemmas.List.{get_or_push, get_or_past, length_push, length
 use Rattle.std.proofs.lemmas.List.Elements.{All-from_get_or, All-nil}
 use Rattle.std.specs.Ordering.{is_lt, nat_cmp}
 use Rattle.ame_term.specs.Tree.{Typ, Val}
+use Rattle.ame_term.specs.Signature.{MayStore}
 use Rattle.ame_term.specs.Maps.{at}
 use Rattle.ame_term.specs.State.{State}
 use Rattle.ame_term.specs.declared.types.Sort.{Sort}
@@ -13,7 +14,7 @@ use Rattle.ame_laws.proofs.MapLemmas.{less-from_lt}
 use Rattle.ame_machine.specs.Meaning.{Meaning}
 use Rattle.ame_machine.specs.RefSorts.{IsRefForm}
 use Rattle.ame_check.specs.declared.stored.Stored.{Stored}
-use Rattle.ame_check.specs.Shows.{ShowsCells, ShowsValue, HaveSorts}
+use Rattle.ame_check.specs.Shows.{ShowsCells, ShowsValue, HaveForms}
 use Rattle.ame_store.specs.declared.cell.Cell.{Cell}
 use Rattle.ame_store.specs.Cells.{IsFree, IsDead}
 use Rattle.ame_store.specs.Changes.{made}
@@ -155,7 +156,7 @@ module _ {C V M : Type 0} (meaning : Meaning C V M) (code : C) (same : V → V �
           subst IsFresh (sym w.2) (f.0, f.1)
       by (inr far) = subst IsFresh (sym (past l far)) (refl, refl)
 
-  module _ (s : State) (types : StoreTyping) (shows : ShowsCells meaning code stored s.store) (sorts : HaveSorts types stored) where
+  module _ (s : State) (types : StoreTyping) (shows : ShowsCells meaning code stored s.store) (forms : HaveForms (meaning.signature code) types stored) where
     stored-as : (l : ℕ) (o : Option (Stored V)) (cell : Cell V) → at stored l ≡ o → IsCellOf same (at stored are.least) o cell → at s.store l ≡ stored_in (shown_cell (meaning.value_of code) cell)
     stored-as l (Some c) cell is made_so =
         (subst (λ (o : Option (Stored V)). ShowsValue meaning code o (at s.store l)) is (shows l)).1
@@ -175,29 +176,37 @@ module _ {C V M : Type 0} (meaning : Meaning C V M) (code : C) (same : V → V �
             let none : at stored l ≡ None = absent l (at stored l) refl far in
             subst (λ (o : Option (Stored V)). ShowsValue meaning code o (at s.store l)) none (shows l) ∙ ap stored_in (sym (past l far))
 
-    sort-as : (l : ℕ) (o : Option (Stored V)) (cell : Cell V) → at stored l ≡ o → IsCellOf same (at stored are.least) o cell → cell.live ≡ true
-        → (content : Typ) × (types l ≡ Some (cell.sort, content))
-    sort-as l (Some c) cell is made_so live =
-        let h = sorts l c is in
-        (h.0, h.1 ∙ ap (λ (z : Cell V). Some (z.sort, h.0)) (sym made_so))
-    sort-as l None cell is made_so live = absurd (dead (at stored are.least) made_so)
+    typed-form-as : (l : ℕ) (o : Option (Stored V)) (cell : Cell V) → at stored l ≡ o → IsCellOf same (at stored are.least) o cell → cell.live ≡ true
+        → (content : Typ) × (types l ≡ Some (cell.sort, content)) × MayStore (meaning.signature code).refs cell.ty.0 content
+    typed-form-as l (Some c) cell is made_so live =
+        let h = forms l c is in (
+          h.0,
+          h.1 ∙ ap (λ (z : Cell V). Some (z.sort, h.0)) (sym made_so),
+          subst (λ (z : Cell V). MayStore (meaning.signature code).refs z.ty.0 h.0) (sym made_so) h.2,
+        )
+    typed-form-as l None cell is made_so live = absurd (dead (at stored are.least) made_so)
       where
         dead : (first : Option (Stored V)) → IsCellOf same first None cell → ⊥
         dead (Some first) (v, alike, e) = let clash : false ≡ true = sym (ap (λ (z : Cell V). z.live) e) ∙ live in cc
         dead None none = none
 
-    sorts-at : (l : ℕ) → IsLive (cell_of shown l) → (content : Typ) × (types l ≡ Some ((cell_of shown l).sort, content))
-    sorts-at l live = by (which l)
+    typed-forms-at : (l : ℕ) → IsLive (cell_of shown l) → (content : Typ) × (types l ≡ Some ((cell_of shown l).sort, content))
+        × MayStore (meaning.signature code).refs (cell_of shown l).ty.0 content
+    typed-forms-at l live = by (which l)
       where
         by : (l < length cells) ⊎ (length cells ≤ l) → (content : Typ) × (types l ≡ Some ((cell_of shown l).sort, content))
+            × MayStore (meaning.signature code).refs (cell_of shown l).ty.0 content
         by (inl under) =
             let w = within l under in
-            let h = sort-as l (at stored l) w.0 refl w.1 (sym (ap (λ (z : Cell Val). z.live) w.2) ∙ live) in
-            (h.0, h.1 ∙ ap (λ (z : Cell Val). Some (z.sort, h.0)) (sym w.2))
+            let h = typed-form-as l (at stored l) w.0 refl w.1 (sym (ap (λ (z : Cell Val). z.live) w.2) ∙ live) in (
+              h.0,
+              h.1 ∙ ap (λ (z : Cell Val). Some (z.sort, h.0)) (sym w.2),
+              subst (λ (z : Cell Val). MayStore (meaning.signature code).refs z.ty.0 h.0) (sym w.2) h.2,
+            )
         by (inr far) = absurd (let clash : false ≡ true = sym (ap (λ (z : Cell Val). z.live) (past l far)) ∙ live in cc)
 
     abbrev Copies : Cell Val → Cell Val → Type 0
-    Copies cell first = IsLive first × (cell.sort ≡ first.sort) × (cell.value ≡ first.value)
+    Copies cell first = IsLive first × (cell.sort ≡ first.sort) × (cell.value ≡ first.value) × (cell.ty ≡ first.ty)
 
     copies-at : (l : ℕ) → l < length shown → IsDead (cell_of shown l) → Copies (cell_of shown l) (cell_of shown are.least)
     copies-at l below dead =
@@ -215,19 +224,20 @@ module _ {C V M : Type 0} (meaning : Meaning C V M) (code : C) (same : V → V �
               ap (λ (z : Cell Val). z.live) at_first,
               ap (λ (z : Cell V). z.sort) e ∙ sym (ap (λ (z : Cell Val). z.sort) at_first),
               ap (λ (z : Cell V). meaning.value_of code z.value) e ∙ sym (shown_same first.value v alike) ∙ sym (ap (λ (z : Cell Val). z.value) at_first),
+              ap (λ (z : Cell V). z.ty) e ∙ sym (ap (λ (z : Cell Val). z.ty) at_first),
             )
 
         by : (o : Option (Stored V)) (cell : Cell V) → IsCellOf same (at stored are.least) o cell → cell.live ≡ false → Copies (shown_cell (meaning.value_of code) cell) (cell_of shown are.least)
         by (Some c) cell is off = absurd (let clash : true ≡ false = sym (ap (λ (z : Cell V). z.live) is) ∙ off in cc)
         by None cell is off = from-first (at stored are.least) cell refl is
 
-    pub cells-opened : AreOpened types shown s
+    pub cells-opened : AreOpened (meaning.signature code) types shown s
     cells-opened = record {
       few = let count : length shown ≡ length cells = length-map cells (shown_cell (meaning.value_of code)) in let few = are.few in omega arith;
       free = λ l. (fresh-at l).0;
       unwritten = λ l. (fresh-at l).1;
       stored = stored-at;
-      sorts = sorts-at;
+      sorts = typed-forms-at;
       copied = are.least;
       copies = copies-at;
     }

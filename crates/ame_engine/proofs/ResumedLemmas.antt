@@ -155,7 +155,7 @@ module _ {C V M : Type 0} (meaning : Meaning C V M) (code : C) (limits : Limits)
       }
 
       abbrev state : State
-      state = opened_state (meaning.program code) (meaning.devices code) limits base (shown meaning code same good_same shown_same place.cells cells are) (shown_pool term pool)
+      state = opened_state (meaning.program code) (meaning.signature code) limits base (shown meaning code same good_same shown_same place.cells cells are) (shown_pool term pool)
           st.led.state.output st.led.state.next
 
       parts-with : List (Log Val) → List ℤ → ℕ → Parts
@@ -175,11 +175,11 @@ module _ {C V M : Type 0} (meaning : Meaning C V M) (code : C) (limits : Limits)
       unfolding state-with
       state-resumed = ap state-with parts-resumed
 
-      has-cells : AreOpened st.types state.parts.memory.cells st.led.state
-      has-cells = cells-opened meaning code same good_same shown_same place.cells cells are st.led.state st.types st.shows.store st.sorts
+      has-cells : AreOpened (meaning.signature code) st.types state.parts.memory.cells st.led.state
+      has-cells = cells-opened meaning code same good_same shown_same place.cells cells are st.led.state st.types st.shows.store st.forms
 
       sound : Sound state
-      sound = sound-opened (meaning.program code) (meaning.devices code) limits base (shown meaning code same good_same shown_same place.cells cells are) (shown_pool term pool) st.led st.types
+      sound = sound-opened (meaning.program code) (meaning.signature code) limits base (shown meaning code same good_same shown_same place.cells cells are) (shown_pool term pool) st.led st.types
           st.replayed st.typed has-cells has-members (ready-shown term pool mem.ready) acts in_range.some_slice
 
       pub resumed-sound : IsSound meaning resumed_with
@@ -187,8 +187,8 @@ module _ {C V M : Type 0} (meaning : Meaning C V M) (code : C) (limits : Limits)
         state = subst Sound (sym state-resumed) sound;
         limits = in_range;
         memory = record {
-          cells = cells-good meaning code same good_same shown_same place.cells cells are st.led.state st.types st.shows.store st.sorts;
-          forms = cells-form meaning code same good_same shown_same place.cells cells are st.led.state st.types st.shows.store st.sorts;
+          cells = cells-good meaning code same good_same shown_same place.cells cells are st.led.state st.types st.shows.store st.forms;
+          forms = cells-form meaning code same good_same shown_same place.cells cells are st.led.state st.types st.shows.store st.forms;
           rows = All-replicate (IsGoodLog (meaning.is_value code)) limits.seats no_log
               (record { inputs = All-nil (meaning.is_value code); undos = All-nil (IsGoodUndo (meaning.is_value code)) });
         };

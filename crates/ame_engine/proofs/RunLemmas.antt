@@ -30,8 +30,8 @@ can-run parts s seat m on outside =
     let start = term_at parts.pool on.attempt.tried.number in
     let inputs = (row_at parts.memory.rows seat).inputs in
     let runs : RunsProtected parts s.types seat on.attempt = subst (MeetsTask parts s.types seat) (runs-as parts seat m on outside) (s.seats seat) in
-    let typed = subst (λ (x : Side). IsTypedThroughout parts.devices s.types x start inputs Typ.Unit) (sym (ap side_told outside)) runs.typed.places in
-    (parts.devices, s.types, runs-typed parts.devices s.types start inputs m typed on.run (λ inside. absurd (both inside)))
+    let typed = subst (λ (x : Side). IsTypedThroughout parts.signature s.types x start inputs Typ.Unit) (sym (ap side_told outside)) runs.typed.places in
+    (parts.signature, s.types, runs-typed parts.signature s.types start inputs m typed on.run (λ inside. absurd (both inside)))
   where
     both : m.inside ≡ true → ⊥
     both inside = cc
@@ -42,10 +42,10 @@ pub rest-runs : (parts : Parts) (s : Simulates parts) (number : ℕ) (t : Tree) 
 rest-runs parts s number t inside found is =
     let there : at s.r.state.members number ≡ Some t = s.stands.members number ∙ found in
     let types = live_types (heap_in parts) s.types in (
-      parts.devices,
+      parts.signature,
       types,
       record {
-        member = each-at (λ term. IsMember parts.devices types term) s.r.state.members number t there s.typed.now.members;
+        member = each-at (λ term. IsMember parts.signature types term) s.r.state.members number t there s.typed.now.members;
         members = tt;
         standing = λ e.
             ap (has_such (λ term. at_unprotected (focus term))) (sym there)

@@ -54,26 +54,26 @@ module _ {C V M : Type 0} (meaning : Meaning C V M) (code : C) (limits : Limits)
   }
 
   parts-with : Tree → List (Log Val) → Parts
-  parts-with term rows = record (started (meaning.program code) (meaning.devices code) limits 0) {
+  parts-with term rows = record (started (meaning.program code) (meaning.signature code) limits 0) {
     memory = record { cells = []; rows = rows };
     pool = joined (newcomer 0 term false) (with_room 1 nobody);
   }
 
   module _ (rests : meaning.stage code machine ≡ starting_at (meaning.program code)) where
-    pub started-parts : parts_of meaning started_with ≡ started (meaning.program code) (meaning.devices code) limits 0
+    pub started-parts : parts_of meaning started_with ≡ started (meaning.program code) (meaning.signature code) limits 0
     unfolding parts-with
     started-parts =
         ap (λ term. parts-with term (map (shown_notes (meaning.value_of code)) (replicate limits.seats no_log))) (ap (λ (s : MachineView). s.term) rests)
         ∙ ap (parts-with (meaning.program code)) (rows-shown (meaning.value_of code) limits.seats)
 
-    module _ (in_range : AreLimits limits) (good : meaning.is_machine code machine) (accepted : IsAccepted (meaning.devices code) (meaning.program code)) where
-      started-as : state_of meaning started_with ≡ started_state (meaning.program code) (meaning.devices code) limits
+    module _ (in_range : AreLimits limits) (good : meaning.is_machine code machine) (accepted : IsAccepted (meaning.signature code) (meaning.program code)) where
+      started-as : state_of meaning started_with ≡ started_state (meaning.program code) (meaning.signature code) limits
       started-as = λ i. record { parts = started-parts i; counters = nothing_counted; stop = None; certificates = [] }
 
       started-whole : IsSound meaning started_with
       started-whole = record {
         state = subst Sound (sym started-as)
-            (sound-start (meaning.program code) (meaning.devices code) limits accepted.places accepted.refs accepted.accepts accepted.source in_range.some_slice);
+            (sound-start (meaning.program code) (meaning.signature code) limits accepted in_range.some_slice);
         limits = in_range;
         memory = record {
           cells = All-nil (λ cell. meaning.is_value code cell.value);
@@ -142,9 +142,9 @@ module _ {C V M : Type 0} (meaning : Meaning C V M) (code : C) (limits : Limits)
         pub whole-started : IsSound meaning found_core
         whole-started = subst (IsSound meaning) (sym same) started-whole
 
-        pub parts-started : parts_of meaning found_core ≡ started (meaning.program code) (meaning.devices code) limits 0
+        pub parts-started : parts_of meaning found_core ≡ started (meaning.program code) (meaning.signature code) limits 0
         parts-started = ap (parts_of meaning) same ∙ started-parts
 
-        pub state-started : state_of meaning found_core ≡ started_state (meaning.program code) (meaning.devices code) limits
+        pub state-started : state_of meaning found_core ≡ started_state (meaning.program code) (meaning.signature code) limits
         unfolding started-as
         state-started = ap (state_of meaning) same ∙ started-as

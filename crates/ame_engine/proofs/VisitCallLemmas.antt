@@ -159,12 +159,12 @@ module _ {C V M : Type 0} (meaning : Meaning C V M)
       acts = next-act.2;
     }
 
-    device-there : device < meaning.devices core.code
+    device-there : device < (meaning.signature core.code).devices
     device-there = call-met parts whole.state.stands seat attempt is s.steps (place_shown s) steps device argument stands-at
 
-    pub call-within : (count : ℕ) → meaning.devices now.code ≤ count → device < count
+    pub call-within : (count : ℕ) → (meaning.signature now.code).devices ≤ count → device < count
     call-within count enough =
-        let there : device < meaning.devices now.code = subst (λ (x : Core C V M). device < meaning.devices x.code) view device-there in omega (arith, there, enough)
+        let there : device < (meaning.signature now.code).devices = subst (λ (x : Core C V M). device < (meaning.signature x.code).devices) view device-there in omega (arith, there, enough)
 
     pub call-steps : (begun : Entry) → begun ≡ free_entry seat number s.steps (place_shown s) → (meaning.stage now.code m).steps + 1 < 2 ^ 64 → begun.steps + 1 < 2 ^ 64
     call-steps begun e few =

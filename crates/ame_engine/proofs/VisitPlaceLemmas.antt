@@ -7,7 +7,6 @@ use Rattle.ame_term.specs.Frame.{Side, side_told}
 use Rattle.ame_term.specs.Context.{Focus, focus}
 use Rattle.ame_term.specs.Act.{Act, act_of}
 use Rattle.ame_term.specs.State.{closed_value}
-use Rattle.ame_term.specs.declared.types.TyNo.{TyNo}
 use Rattle.ame_device.specs.declared.told.Told.{Told}
 use Rattle.ame_journal.specs.Replay.{redex_act}
 use Rattle.ame_machine.specs.Run.Local.{LocalState, begun_with, fed, refilled_in, local}
@@ -85,11 +84,11 @@ module _ (parts : Parts) (stands : Simulates parts) (seat : ℕ) (s : MachineVie
       ran ∙ ap Some (same ∙ o.shown)
 
   -- an act with what it is given
-  module _ (act : Act) (at : HasNextAct s act) (v : Val) (given : IsGivenBy parts.memory act v) (ty : TyNo) (n : MachineView) (e : fed_stage v s ≡ Some n) where
+  module _ (act : Act) (at : HasNextAct s act) (v : Val) (given : IsGivenBy parts.memory act v) (n : MachineView) (e : fed_stage v s ≡ Some n) where
     unprotected-side : running_side s ≡ Side.Unprotected
     unprotected-side = ap side_told inside
 
-    pub acted-visit : IsVisitTo parts on.attempt.tried.number (answer_given (Some act) v) n (memory_after ty act parts.memory)
+    pub acted-visit : IsVisitTo parts on.attempt.tried.number (answer_given (Some act) v) n (memory_after act parts.memory)
     acted-visit =
         let x = fed-to v s n e in
         let which : Some (act_of x.redex) ≡ Some act = sym (ap redex_act x.stands) ∙ ap redex_act at.1 ∙ ap (λ (a : Act). Some a) at.2 in
@@ -102,8 +101,8 @@ module _ (parts : Parts) (stands : Simulates parts) (seat : ℕ) (s : MachineVie
         let steps : n.steps ≡ s.steps + 1 = ap (λ (z : MachineView). z.steps) x.is in
         let still : n.inside ≡ true = ap (λ (z : MachineView). z.inside) x.is ∙ inside in
         let q = refilled_in s.term x.made in
-        let visit : IsVisit parts on.attempt.tried.number (s.steps + 1) q true (memory_after ty act parts.memory) =
-        IsVisit.acted s.steps (place_shown s) act v x.made ty visit-steps stands_at given gives in
+        let visit : IsVisit parts on.attempt.tried.number (s.steps + 1) q true (memory_after act parts.memory) =
+        IsVisit.acted s.steps (place_shown s) act v x.made visit-steps stands_at given gives in
         let more = one-more Side.Unprotected (begun_with start []) (place_shown s) x.redex v s.steps x.made visit-steps refl refl
         (x.stands ∙ ap (λ (z : Side). Focus.AtRedex z x.redex) unprotected-side) (ap (λ (a : Act). fed a Side.Unprotected v (place_shown s)) acts ∙ gives) in
         let told = on-fed start [] v s n on-alone e in
@@ -115,8 +114,8 @@ module _ (parts : Parts) (stands : Simulates parts) (seat : ℕ) (s : MachineVie
         record {
           place = q;
           visit =
-              subst (λ (b : Bool). IsVisit parts on.attempt.tried.number n.steps q b (memory_after ty act parts.memory)) (sym still)
-              (subst (λ (i : ℕ). IsVisit parts on.attempt.tried.number i q true (memory_after ty act parts.memory)) (sym steps) visit);
+              subst (λ (b : Bool). IsVisit parts on.attempt.tried.number n.steps q b (memory_after act parts.memory)) (sym still)
+              (subst (λ (i : ℕ). IsVisit parts on.attempt.tried.number i q true (memory_after act parts.memory)) (sym steps) visit);
           shows =
               ap (λ (o : Option LocalState). unwrap_or o q) both
               ∙ ap (λ (o : Option Act). with_answer (answer_given o v) (place_shown n)) (ap redex_act at.1 ∙ ap (λ (a : Act). Some a) at.2);
@@ -153,27 +152,27 @@ module _ (parts : Parts) (stands : Simulates parts) (seat : ℕ) (s : MachineVie
         → IsVisitTo parts on.attempt.tried.number answer n memory
     visit-is _ _ _ _ (VisitsTo.rests still) = rested-visit (comes.moved still)
     visit-is _ _ _ _ (VisitsTo.reads l v n its is fed) =
-        acted-visit (Act.Reads l.0) (comes_as s (Need.Read l.0) (need-there (wants.Read l) its)) v is (record { 0 = 0 }) n fed
+        acted-visit (Act.Reads l.0) (comes_as s (Need.Read l.0) (need-there (wants.Read l) its)) v is n fed
     visit-is _ _ _ _ (VisitsTo.peeks l v n its is fed) =
-        acted-visit (Act.Peeks l.0) (comes_as s (Need.Peek l.0) (need-there (wants.Peek l) its)).1 v is (record { 0 = 0 }) n fed
+        acted-visit (Act.Peeks l.0) (comes_as s (Need.Peek l.0) (need-there (wants.Peek l) its)).1 v is n fed
     visit-is _ _ _ _ (VisitsTo.writes l v n its sets fed) =
         let c = comes_as s (Need.Write l.0) (need-there (wants.Write l) its) in
         let act = Act.Writes l.0 c.0 in
-        subst (λ (w : Val). IsVisitTo parts on.attempt.tried.number None n (memory_after (record { 0 = 0 }) (Act.Writes l.0 w) parts.memory)) (set-there act c.1 c.0 v refl sets)
-        (acted-visit act c.1 Val.Unit tt (record { 0 = 0 }) n fed)
+        subst (λ (w : Val). IsVisitTo parts on.attempt.tried.number None n (memory_after (Act.Writes l.0 w) parts.memory)) (set-there act c.1 c.0 v refl sets)
+        (acted-visit act c.1 Val.Unit tt n fed)
     visit-is _ _ _ _ (VisitsTo.makes sort number v n its sets fed) =
-        let c = comes_as s (Need.Alloc sort) (need-there (wants.Alloc sort number) its) in
-        let act = Act.Allocates sort c.0 in
-        subst (λ (w : Val). IsVisitTo parts on.attempt.tried.number None n (memory_after number (Act.Allocates sort w) parts.memory)) (set-there act c.1 c.0 v refl sets)
-        (acted-visit act c.1 (Val.Loc (length parts.memory.cells)) refl number n fed)
+        let c = comes_as s (Need.Alloc sort number) (need-there (wants.Alloc sort number) its) in
+        let act = Act.Allocates sort number c.0 in
+        subst (λ (w : Val). IsVisitTo parts on.attempt.tried.number None n (memory_after (Act.Allocates sort number w) parts.memory)) (set-there act c.1 c.0 v refl sets)
+        (acted-visit act c.1 (Val.Loc (length parts.memory.cells)) refl n fed)
     visit-is _ _ _ _ (VisitsTo.spawns n its fed) =
-        let c = comes_as s Need.Spawn (need-there wants.Spawn its) in acted-visit (Act.Spawns c.1.0) c.1.1 Val.Unit tt (record { 0 = 0 }) n fed
+        let c = comes_as s Need.Spawn (need-there wants.Spawn its) in acted-visit (Act.Spawns c.1.0) c.1.1 Val.Unit tt n fed
     visit-is _ _ _ _ (VisitsTo.prints i n its fed) =
-        let c = comes_as s (Need.Print i) (need-there (wants.Print i) its) in acted-visit (Act.Prints i) c.1 Val.Unit tt (record { 0 = 0 }) n fed
+        let c = comes_as s (Need.Print i) (need-there (wants.Print i) its) in acted-visit (Act.Prints i) c.1 Val.Unit tt n fed
     visit-is _ _ _ _ (VisitsTo.closes n its closes) = closed-visit n closes
     visit-is _ _ _ _ (VisitsTo.calls device argument answer n after its called fed) =
         let c = comes_as s (Need.Device device argument) (need-there (wants.Device device argument) its) in
-        acted-visit (Act.Calls device argument) c.1 (Val.Int answer) tt (record { 0 = 0 }) n fed
+        acted-visit (Act.Calls device argument) c.1 (Val.Int answer) tt n fed
 
     -- a machine that was fed settles where it is
     settles-fed : (v : Val) (n : MachineView) → fed_stage v s ≡ Some n → SettlesThere n

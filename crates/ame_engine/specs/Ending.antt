@@ -1,6 +1,10 @@
 -- What an engine had at its end, and what that tells.
-use Rattle.std.specs.Prelude.{◌≡◌, ℕ, ℤ, ◌<◌, ◌≤◌, ◌++◌, ◌↔◌, List, [], ◌∷◌, map, All, Contains, Option, Some, IsSome}
-use Rattle.ame_term.specs.Tree.{Val, Tree}
+use Rattle.std.specs.Prelude.{◌≡◌, ℕ, ℤ, ◌<◌, ◌≤◌, ◌++◌, ◌↔◌, List, [], ◌∷◌, map, All, Contains, Option, Some, None, IsSome, option_map, slice_get, if◌then◌else◌}
+use Rattle.ame_term.specs.Tree.{Typ, Val, Tree}
+use Rattle.ame_term.specs.Signature.{Signature}
+use Rattle.ame_term.specs.declared.types.Sort.{Sort}
+use Rattle.ame_laws.specs.Typed.StoreTyping.{StoreTyping}
+use Rattle.ame_laws.specs.Typed.TypedState.{IsTyped}
 use Rattle.ame_term.specs.Maps.{at}
 use Rattle.ame_term.specs.State.{State}
 use Rattle.ame_store.specs.declared.cell.Cell.{Cell}
@@ -81,16 +85,26 @@ pub record HasStopped (limits : Limits) (r : Replayed) {V : Type 0} (end : End V
   pub failed : (device : ℕ) → end.stop ≡ Some (Stop.DeviceFault device) → ComesToCall r device
   pub ends : NotesStop end.stop end.entries
 
+-- the sort of a live cell, and the type of what the `ref` form with its number stores, by the list of these types
+abbrev pub type_in : List Typ → Cell Val → Option (Sort × Typ)
+type_in refs cell = if cell.live then option_map (λ t. (cell.sort, t)) (slice_get refs cell.ty.0) else None
+
+-- so are the types of locations by their cells
+abbrev pub types_in : List Typ → List (Cell Val) → StoreTyping
+types_in refs cells l = type_in refs (cell_of cells l)
+
 -- The base and the journal replay to a state whose store is what the live cells have, and whose output is what was printed. No
--- cell has an owner, and each has the number of a `ref` form of its sort. No member is noted twice without a commit between, and the stop
--- has its cause in the state. Limits and counts are shown. With one seat nothing was met that another seat did. Rollbacks and tries are few, and entries and tries pay for the turns.
-pub record IsEnd (program : Tree) (limits : Limits) {V : Type 0} (value : V → Val) (end : End V) : Type 0 where
+-- cell has an owner, and each has the number of a `ref` form of its sort; the state is typed with what these forms store. No member
+-- is noted twice without a commit between, and the stop has its cause in the state. Limits and counts are shown. With one seat nothing
+-- was met that another seat did. Rollbacks and tries are few, and entries and tries pay for the turns.
+pub record IsEnd (program : Tree) (signature : Signature) (limits : Limits) {V : Type 0} (value : V → Val) (end : End V) : Type 0 where
   pub r : Replayed
   pub replays : replay program (end.base ++ end.entries) ≡ Some r
   pub store : (l : ℕ) → at r.state.store l ≡ stored_in (cell_of (map (shown_cell value) end.cells) l)
   pub printed : r.state.output ≡ end.output
   pub free : All IsFree end.cells
   pub forms : All (λ cell. IsRefForm program cell.sort cell.ty.0) end.cells
+  pub typed : (refs : List Typ) → signature.refs ≡ Some refs → IsTyped signature (types_in refs (map (shown_cell value) end.cells)) r.state
   pub once : IsNotedOnce (end.base ++ end.entries)
   pub stopped : HasStopped limits r end
   pub shown : ShowsCounts limits end

@@ -74,10 +74,10 @@ pub record HasResumed {C V M : Type 0} (meaning : Meaning C V M) (limits : Limit
   pub led : Replayed
   pub replayed : replay (meaning.program core.code) base ≡ Some led
   pub types : StoreTyping
-  pub typed : IsTyped (meaning.devices core.code) types led.state
+  pub typed : IsTyped (meaning.signature core.code) types led.state
   pub cells : List (Cell Val)
-  pub has_cells : AreOpened types cells led.state
+  pub has_cells : AreOpened (meaning.signature core.code) types cells led.state
   pub pool : Roster Tree
   pub has_members : HasMembersOf led pool
   pub ready : AreReady pool
-  pub state : state_of meaning core ≡ opened_state (meaning.program core.code) (meaning.devices core.code) limits base cells pool led.state.output led.state.next
+  pub state : state_of meaning core ≡ opened_state (meaning.program core.code) (meaning.signature core.code) limits base cells pool led.state.output led.state.next

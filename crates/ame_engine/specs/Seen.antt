@@ -18,7 +18,7 @@ module _ {C V M : Type 0} (meaning : Meaning C V M) where
   abbrev pub parts_of : Core C V M → Parts
   parts_of core = record {
     program = meaning.program core.code;
-    devices = meaning.devices core.code;
+    signature = meaning.signature core.code;
     limits = core.limits;
     base = core.base;
     entries = core.entries;

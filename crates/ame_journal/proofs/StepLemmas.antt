@@ -141,7 +141,7 @@ keeps-told s (Some a) r e = keeps-of s _ s r e (keeps-same s s refl refl refl re
 
 pub performed-keeps : (kind : StepKind) (act : Act) (s : State) (r : Tree × State) → performed kind act s ≡ Some r → KeepsOthers s r.1
 performed-keeps kind (Act.Becomes term) s r e = keeps-of s _ s r e (keeps-same s s refl refl refl refl)
-performed-keeps kind (Act.Allocates sort v) s r e =
+performed-keeps kind (Act.Allocates sort number v) s r e =
     option_and_then_some _ _ _ e (λ l is e1.
     keeps-of s _ _ r (unless-gave (is_some (at s.store l)) (Some (Tree.Held (Val.Loc l), record s { store = put s.store l v })) r e1).1 (keeps-same s _ refl refl refl refl))
 performed-keeps kind (Act.Reads l) s r e = keeps-loaded s (at s.store l) r e

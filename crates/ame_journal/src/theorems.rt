@@ -12,6 +12,7 @@ ghost use Rattle.ame_journal.specs.Totals.{is_note, without_notes};
 ghost use Rattle.ame_journal.specs.Calls.{calls_along, device_calls};
 ghost use Rattle.ame_term.specs.View.{tree_of};
 ghost use Rattle.ame_laws.specs.Typed.StoreTyping.{StoreTyping};
+ghost use Rattle.ame_laws.specs.Typed.Listed.{signature_of};
 ghost use Rattle.ame_laws.specs.Typed.TypedState.{IsTyped};
 ghost use Rattle.ame_journal.specs.Text.{IsText, IsFirstBadLine};
 
@@ -52,7 +53,7 @@ pub fn calls_are_of_the_labels()
 /// The same of a program that keeps that it is accepted.
 pub fn accepted_replayed_is_typed(accepted: &Accepted)
     ensures { (entries : List Entry) (r : Replayed) → replay (tree_of accepted.now.program.term) entries ≡ Some r →
-        (cells : StoreTyping) × IsTyped accepted.now.devices cells r.state }
+        (cells : StoreTyping) × IsTyped (signature_of accepted.now) cells r.state }
 {}
 
 /// A text spells one journal at most.

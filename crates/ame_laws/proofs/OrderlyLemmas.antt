@@ -135,7 +135,7 @@ leads s r u t e g = let same : t ≡ r.1 = cc in goes-to same g
 
 pub performed-goes : (kind : StepKind) (act : Act) (s : State) (r : Tree × State) → performed kind act s ≡ Some r → GoesOn s r.1
 performed-goes kind (Act.Becomes term) s r e = leads s r term s e (goes-same s)
-performed-goes kind (Act.Allocates sort v) s r e =
+performed-goes kind (Act.Allocates sort number v) s r e =
     let k = and_then-gave (allocated v s) (fresh_location kind) r e in
     let h = unless-gave (is_some (at s.store k.0)) _ r k.2 in
     leads s r (Tree.Held (Val.Loc k.0)) (record s { store = put s.store k.0 v }) h (stores s k.0 v)

@@ -2,6 +2,7 @@
 use Rattle.std.proofs.Common.{◌≡◌, ℕ, ◌+◌, ◌++◌, false, List, [], ◌∷◌, Option, Ok, length, refl, sym, ap, subst, ◌∙◌}
 use Rattle.std.specs.List.{AllZip}
 use Rattle.ame_term.specs.Tree.{Typ, OwnName, Tree, Trees}
+use Rattle.ame_term.specs.Signature.{Signature}
 use Rattle.ame_term.specs.SourceTerm.{nodes}
 use Rattle.ame_term.specs.Scope.{Scope, within}
 use Rattle.ame_term.specs.Shown.{TypeOutcome}
@@ -15,7 +16,7 @@ use Rattle.ame_laws.specs.Refs.{HasRefs, HaveRefs, is_ref, own_ref, refs_in, ref
 use Rattle.ame_laws.proofs.Complete.{complete}
 
 no_ref_part : (op : Unary) (part : Tree) (others : List Tree) → is_ref op ≡ false → own_ref op part others ≡ others
-no_ref_part (unary.Ref s) part others e = cc
+no_ref_part (unary.Ref s number) part others e = cc
 no_ref_part _ part others e = refl
 
 zip_append : {A B : Type 0} (R : A → B → Type 0) (xs xs' : List A) (ys ys' : List B) → AllZip R xs ys → AllZip R xs' ys' → AllZip R (xs ++ xs') (ys ++ ys')
@@ -30,50 +31,50 @@ zip_length R [] (y ∷ ys) a = absurd (a)
 zip_length R (x ∷ xs) [] a = absurd (a)
 zip_length R (x ∷ xs) (y ∷ ys) a = rw (zip_length R xs ys a.1)
 
-module _ (devices : ℕ) (cells : ℕ → Option (Sort × Typ)) where
+module _ (signature : Signature) (cells : ℕ → Option (Sort × Typ)) where
   abbrev computed : (ℕ → ℕ) → Scope → Effect → ℕ → Tree → List Typ
-  computed places g q i e = ref_types_in devices cells places g q i e
+  computed places g q i e = ref_types_in signature.devices cells places g q i e
 
   -- a form that is no `ref` form has the types of its part
-  no_ref : (op : Unary) (o : TypeOutcome) (ts : List Typ) → is_ref op ≡ false → own_ref_type devices cells op o ts ≡ ts
-  no_ref (unary.Ref s) o ts e = cc
+  no_ref : (op : Unary) (o : TypeOutcome) (ts : List Typ) → is_ref op ≡ false → own_ref_type signature.devices cells op o ts ≡ ts
+  no_ref (unary.Ref s number) o ts e = cc
   no_ref _ o ts e = refl
 
-  given_one : {g : Scope} {q : Effect} {e : Tree} {t : Typ} {ts : List Typ} (op : Unary) → HasType devices cells g q e t → HasRefs devices cells g q e ts →
-      HasRefs devices cells g q (Tree.One op e) (own_ref_type devices cells op (Ok t) ts)
-  given_one (unary.Ref s) h k = HasRefs.reference h k
+  given_one : {g : Scope} {q : Effect} {e : Tree} {t : Typ} {ts : List Typ} (op : Unary) → HasType signature cells g q e t → HasRefs signature cells g q e ts →
+      HasRefs signature cells g q (Tree.One op e) (own_ref_type signature.devices cells op (Ok t) ts)
+  given_one (unary.Ref s number) h k = HasRefs.reference h k
   given_one _ h k = HasRefs.one refl k
 
   mutual
     unfolding ref_types_in ref_types_in_parts
 
     -- what the table computes for a typed term is had
-    pub refs_had : {g : Scope} {q : Effect} {e : Tree} {t : Typ} → HasType devices cells g q e t → (places : ℕ → ℕ) (i : ℕ) →
-        HasRefs devices cells g q e (ref_types_in devices cells places g q i e)
+    pub refs_had : {g : Scope} {q : Effect} {e : Tree} {t : Typ} → HasType signature cells g q e t → (places : ℕ → ℕ) (i : ℕ) →
+        HasRefs signature cells g q e (ref_types_in signature.devices cells places g q i e)
     refs_had (HasType.held h) places i = HasRefs.held
     refs_had (HasType.name e) places i = HasRefs.name
     refs_had (HasType.function {g} {q} {head} {body} p h) places i =
         subst
         (λ (o : Option OwnName).
-        HasRefs devices cells g q (Tree.Lambda head body) (computed places (within head.effect o head.param head.param_type g) head.effect (i + 1) body))
+        HasRefs signature cells g q (Tree.Lambda head body) (computed places (within head.effect o head.param head.param_type g) head.effect (i + 1) body))
         (sym p) (HasRefs.function p (refs_had h places (i + 1)))
     refs_had (HasType.recursive {g} {q} {head} {own} {body} p h) places i =
         subst
         (λ (o : Option OwnName).
-        HasRefs devices cells g q (Tree.Lambda head body) (computed places (within head.effect o head.param head.param_type g) head.effect (i + 1) body))
+        HasRefs signature cells g q (Tree.Lambda head body) (computed places (within head.effect o head.param head.param_type g) head.effect (i + 1) body))
         (sym p) (HasRefs.recursive p (refs_had h places (i + 1)))
     refs_had (HasType.binding {bound = bound} hb he) places i =
-        rw (complete devices cells hb places (i + 1)) (HasRefs.binding hb (refs_had hb places (i + 1)) (refs_had he places (i + 1 + nodes bound)))
+        rw (complete signature cells hb places (i + 1)) (HasRefs.binding hb (refs_had hb places (i + 1)) (refs_had he places (i + 1 + nodes bound)))
     refs_had (HasType.sequence h) places i = HasRefs.sequence (refs_had_last h places (i + 1))
     refs_had (HasType.choice {test = test} {then_part = then_part} ht ha hb) places i =
         HasRefs.choice (refs_had ht places (i + 1)) (refs_had ha places (i + 1 + nodes test)) (refs_had hb places (i + 1 + nodes test + nodes then_part))
     refs_had (HasType.async h) places i = HasRefs.async (refs_had h places (i + 1))
     refs_had (HasType.unprotected h) places i = HasRefs.unprotected (refs_had h places (i + 1))
-    refs_had (HasType.one {op = op} row h) places i = rw (complete devices cells h places (i + 1)) (given_one op h (refs_had h places (i + 1)))
+    refs_had (HasType.one {op = op} row h) places i = rw (complete signature cells h places (i + 1)) (given_one op h (refs_had h places (i + 1)))
     refs_had (HasType.two {e = left} row ha hb) places i = HasRefs.two (refs_had ha places (i + 1)) (refs_had hb places (i + 1 + nodes left))
 
-    refs_had_last : {g : Scope} {q : Effect} {parts : Trees} {t : Typ} → HasLast devices cells g q parts t → (places : ℕ → ℕ) (i : ℕ) →
-        HaveRefs devices cells g q parts (ref_types_in_parts devices cells places g q i parts)
+    refs_had_last : {g : Scope} {q : Effect} {parts : Trees} {t : Typ} → HasLast signature cells g q parts t → (places : ℕ → ℕ) (i : ℕ) →
+        HaveRefs signature cells g q parts (ref_types_in_parts signature.devices cells places g q i parts)
     refs_had_last (HasLast.last h) places i = HaveRefs.more (refs_had h places i) HaveRefs.none
     refs_had_last (HasLast.more {e = e} h hs) places i = HaveRefs.more (refs_had h places i) (refs_had_last hs places (i + nodes e))
 
@@ -81,8 +82,8 @@ module _ (devices : ℕ) (cells : ℕ → Option (Sort × Typ)) where
     unfolding ref_types_in ref_types_in_parts
 
     -- and no other types are had
-    pub refs_are : {g : Scope} {q : Effect} {e : Tree} {ts : List Typ} → HasRefs devices cells g q e ts → (places : ℕ → ℕ) (i : ℕ) →
-        ts ≡ ref_types_in devices cells places g q i e
+    pub refs_are : {g : Scope} {q : Effect} {e : Tree} {ts : List Typ} → HasRefs signature cells g q e ts → (places : ℕ → ℕ) (i : ℕ) →
+        ts ≡ ref_types_in signature.devices cells places g q i e
     refs_are HasRefs.held places i = refl
     refs_are HasRefs.name places i = refl
     refs_are (HasRefs.function {g} {q} {head} {body} {ts} p h) places i =
@@ -94,7 +95,7 @@ module _ (devices : ℕ) (cells : ℕ → Option (Sort × Typ)) where
     refs_are (HasRefs.binding {bound = bound} hb h k) places i =
         let first = refs_are h places (i + 1) in
         let second = refs_are k places (i + 1 + nodes bound) in
-        rw (complete devices cells hb places (i + 1)) (cc)
+        rw (complete signature cells hb places (i + 1)) (cc)
     refs_are (HasRefs.sequence h) places i = refs_are_all h places (i + 1)
     refs_are (HasRefs.choice {test = test} {then_part = then_part} ht ha hb) places i =
         let first = refs_are ht places (i + 1) in
@@ -104,15 +105,15 @@ module _ (devices : ℕ) (cells : ℕ → Option (Sort × Typ)) where
     refs_are (HasRefs.async h) places i = refs_are h places (i + 1)
     refs_are (HasRefs.unprotected h) places i = refs_are h places (i + 1)
     refs_are (HasRefs.reference {t = t} hp h) places i =
-        rw (complete devices cells hp places (i + 1)) (ap (λ (us : List Typ). t ∷ us) (refs_are h places (i + 1)))
+        rw (complete signature cells hp places (i + 1)) (ap (λ (us : List Typ). t ∷ us) (refs_are h places (i + 1)))
     refs_are (HasRefs.one {op = op} p h) places i = refs_are h places (i + 1) ∙ sym (no_ref op _ _ p)
     refs_are (HasRefs.two {left = left} ha hb) places i =
         let first = refs_are ha places (i + 1) in
         let second = refs_are hb places (i + 1 + nodes left) in
         cc
 
-    refs_are_all : {g : Scope} {q : Effect} {parts : Trees} {ts : List Typ} → HaveRefs devices cells g q parts ts → (places : ℕ → ℕ) (i : ℕ) →
-        ts ≡ ref_types_in_parts devices cells places g q i parts
+    refs_are_all : {g : Scope} {q : Effect} {parts : Trees} {ts : List Typ} → HaveRefs signature cells g q parts ts → (places : ℕ → ℕ) (i : ℕ) →
+        ts ≡ ref_types_in_parts signature.devices cells places g q i parts
     refs_are_all HaveRefs.none places i = refl
     refs_are_all (HaveRefs.more {part = part} h k) places i =
         let first = refs_are h places i in
@@ -120,16 +121,16 @@ module _ (devices : ℕ) (cells : ℕ → Option (Sort × Typ)) where
         cc
 
   abbrev Pairs : List Tree → List Typ → Type 0
-  Pairs parts ts = AllZip (IsTypedSomewhere devices cells) parts ts
+  Pairs parts ts = AllZip (IsTypedSomewhere signature cells) parts ts
 
   paired : (xs xs' : List Tree) (ts ts' : List Typ) → Pairs xs ts → Pairs xs' ts' → Pairs (xs ++ xs') (ts ++ ts')
-  paired xs xs' ts ts' a b = zip_append (IsTypedSomewhere devices cells) xs xs' ts ts' a b
+  paired xs xs' ts ts' a b = zip_append (IsTypedSomewhere signature cells) xs xs' ts ts' a b
 
   mutual
     unfolding refs_in refs_among
 
     -- the forms and their types stand side by side
-    pub refs_paired : {g : Scope} {q : Effect} {e : Tree} {ts : List Typ} → HasRefs devices cells g q e ts → AllZip (IsTypedSomewhere devices cells) (refs_in e) ts
+    pub refs_paired : {g : Scope} {q : Effect} {e : Tree} {ts : List Typ} → HasRefs signature cells g q e ts → AllZip (IsTypedSomewhere signature cells) (refs_in e) ts
     refs_paired HasRefs.held = tt
     refs_paired HasRefs.name = tt
     refs_paired (HasRefs.function p h) = refs_paired h
@@ -144,11 +145,11 @@ module _ (devices : ℕ) (cells : ℕ → Option (Sort × Typ)) where
     refs_paired (HasRefs.one {op = op} {part = part} {ts = ts} p h) = subst (λ (xs : List Tree). Pairs xs ts) (sym (no_ref_part op part (refs_in part) p)) (refs_paired h)
     refs_paired (HasRefs.two {left = left} {right = right} {ts = ts} {us = us} ha hb) = paired (refs_in left) (refs_in right) ts us (refs_paired ha) (refs_paired hb)
 
-    refs_paired_all : {g : Scope} {q : Effect} {parts : Trees} {ts : List Typ} → HaveRefs devices cells g q parts ts →
-        AllZip (IsTypedSomewhere devices cells) (refs_among parts) ts
+    refs_paired_all : {g : Scope} {q : Effect} {parts : Trees} {ts : List Typ} → HaveRefs signature cells g q parts ts →
+        AllZip (IsTypedSomewhere signature cells) (refs_among parts) ts
     refs_paired_all HaveRefs.none = tt
     refs_paired_all (HaveRefs.more {part = part} {rest = rest} {ts = ts} {us = us} h k) =
         paired (refs_in part) (refs_among rest) ts us (refs_paired h) (refs_paired_all k)
 
-  pub refs_counted : {g : Scope} {q : Effect} {e : Tree} {ts : List Typ} → HasRefs devices cells g q e ts → length ts ≡ length (refs_in e)
-  refs_counted {e = e} {ts = ts} h = zip_length (IsTypedSomewhere devices cells) (refs_in e) ts (refs_paired h)
+  pub refs_counted : {g : Scope} {q : Effect} {e : Tree} {ts : List Typ} → HasRefs signature cells g q e ts → length ts ≡ length (refs_in e)
+  refs_counted {e = e} {ts = ts} h = zip_length (IsTypedSomewhere signature cells) (refs_in e) ts (refs_paired h)

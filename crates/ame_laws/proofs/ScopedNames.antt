@@ -1,6 +1,7 @@
 -- A typed term has no names but those that have a type in its scope.
 use Rattle.std.proofs.Common.{◌≡◌, ℕ, ◌==◌, Bool, true, false, ◌||◌, List, [], ◌∷◌, Option, Some, if◌then◌else◌, refl, sym, subst}
 use Rattle.ame_term.specs.Tree.{Typ, OwnName, Val, Tree, Trees}
+use Rattle.ame_term.specs.Signature.{Signature}
 use Rattle.ame_term.specs.SourceTerm.{names_within, is_name_of, IsBound, AllBound, IsClosedValue}
 use Rattle.ame_term.specs.Scope.{Scope, unscoped, bind}
 use Rattle.ame_term.specs.HasType.{HasType, HasLast, HasValue}
@@ -21,11 +22,11 @@ lists_more names g y u lists x t e = by (y == x) e
 lists_none : Lists [] unscoped
 lists_none x t e = cc
 
-module _ (devices : ℕ) (cells : ℕ → Option (Sort × Typ)) where
+module _ (signature : Signature) (cells : ℕ → Option (Sort × Typ)) where
   mutual
     unfolding IsBound AllBound IsClosedValue
 
-    pub typed_bound : {g : Scope} {q : Effect} {e : Tree} {t : Typ} → HasType devices cells g q e t → (names : List ℕ) → Lists names g → IsBound names e
+    pub typed_bound : {g : Scope} {q : Effect} {e : Tree} {t : Typ} → HasType signature cells g q e t → (names : List ℕ) → Lists names g → IsBound names e
     typed_bound (HasType.held h) names lists = typed_value_closed h
     typed_bound (HasType.name {x = x} {t = t} e) names lists = lists x t e
     typed_bound (HasType.function {g} {q} {head} {body} p h) names lists =
@@ -44,11 +45,11 @@ module _ (devices : ℕ) (cells : ℕ → Option (Sort × Typ)) where
     typed_bound (HasType.one row h) names lists = typed_bound h names lists
     typed_bound (HasType.two row ha hb) names lists = (typed_bound ha names lists, typed_bound hb names lists)
 
-    typed_bound_all : {g : Scope} {q : Effect} {parts : Trees} {t : Typ} → HasLast devices cells g q parts t → (names : List ℕ) → Lists names g → AllBound names parts
+    typed_bound_all : {g : Scope} {q : Effect} {parts : Trees} {t : Typ} → HasLast signature cells g q parts t → (names : List ℕ) → Lists names g → AllBound names parts
     typed_bound_all (HasLast.last h) names lists = (typed_bound h names lists, tt)
     typed_bound_all (HasLast.more h hs) names lists = (typed_bound h names lists, typed_bound_all hs names lists)
 
-    pub typed_value_closed : {v : Val} {t : Typ} → HasValue devices cells v t → IsClosedValue v
+    pub typed_value_closed : {v : Val} {t : Typ} → HasValue signature cells v t → IsClosedValue v
     typed_value_closed HasValue.unit = tt
     typed_value_closed HasValue.bool = tt
     typed_value_closed HasValue.int = tt
@@ -63,5 +64,5 @@ module _ (devices : ℕ) (cells : ℕ → Option (Sort × Typ)) where
         (lists_more [] unscoped own.name (Typ.Fun head.effect head.param_type own.result) lists_none)))
     typed_value_closed (HasValue.pair ha hb) = (typed_value_closed ha, typed_value_closed hb)
 
-  pub typed_term_bound : (q : Effect) (e : Tree) (t : Typ) → HasType devices cells unscoped q e t → IsBound [] e
+  pub typed_term_bound : (q : Effect) (e : Tree) (t : Typ) → HasType signature cells unscoped q e t → IsBound [] e
   typed_term_bound q e t h = typed_bound h [] lists_none

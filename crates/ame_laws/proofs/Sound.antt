@@ -1,6 +1,7 @@
 -- A type that the table gives is had.
 use Rattle.std.proofs.Common.{◌≡◌, ℕ, ◌+◌, Option, Ok, sym, ap, subst, ◌∙◌, inl, inr}
 use Rattle.ame_term.specs.Tree.{Typ, OwnName, Val, Tree, Trees}
+use Rattle.ame_term.specs.Signature.{unlisted}
 use Rattle.ame_term.specs.SourceTerm.{nodes}
 use Rattle.ame_term.specs.Shown.{misplaced_unprotected}
 use Rattle.ame_term.specs.Scope.{Scope, within, unscoped, bind}
@@ -21,7 +22,7 @@ module _ (devices : ℕ) (cells : ℕ → Option (Sort × Typ)) where
   mutual
     unfolding typed
 
-    pub sound : (places : ℕ → ℕ) (g : Scope) (q : Effect) (i : ℕ) (e : Tree) (t : Typ) → Gives places g q i e t → HasType devices cells g q e t
+    pub sound : (places : ℕ → ℕ) (g : Scope) (q : Effect) (i : ℕ) (e : Tree) (t : Typ) → Gives places g q i e t → HasType (unlisted devices) cells g q e t
     sound places g q i (Tree.Held v) t h = held (sound_value (places i) v t h)
     sound places g q i (Tree.Var x) t h = name (known-gave (places i) (g x) t h)
     sound places g q i (Tree.Lambda head body) t h =
@@ -29,11 +30,11 @@ module _ (devices : ℕ) (cells : ℕ → Option (Sort × Typ)) where
         (typed devices cells places (within head.effect head.own head.param head.param_type g) head.effect (i + 1) body) t h) [
           | inl p ↦
               let k = subst (λ (o : Option OwnName). typed devices cells places (within head.effect o head.param head.param_type g) head.effect (i + 1) body ≡ Ok p.1.0) p.0 p.1.1 in
-              subst (λ (x : Typ). HasType devices cells g q (Tree.Lambda head body) x) (sym p.1.2)
+              subst (λ (x : Typ). HasType (unlisted devices) cells g q (Tree.Lambda head body) x) (sym p.1.2)
               (function p.0 (sound places (bind head.param head.param_type g) head.effect (i + 1) body p.1.0 k))
           | inr p ↦
               let k = subst (λ (o : Option OwnName). typed devices cells places (within head.effect o head.param head.param_type g) head.effect (i + 1) body ≡ Ok p.0.result) p.1 p.2 in
-              subst (λ (x : Typ). HasType devices cells g q (Tree.Lambda head body) x) (sym p.3)
+              subst (λ (x : Typ). HasType (unlisted devices) cells g q (Tree.Lambda head body) x) (sym p.3)
               (recursive p.1
               (sound places (bind head.param head.param_type (bind p.0.name (Typ.Fun head.effect head.param_type p.0.result) g)) head.effect (i + 1) body p.0.result k))
         ]
@@ -56,11 +57,11 @@ module _ (devices : ℕ) (cells : ℕ → Option (Sort × Typ)) where
     sound places g q i (Tree.Async e) t h =
         let k = then-gave (typed devices cells places g Effect.Protected (i + 1) e) _ t h in
         let w = want_unit-gave (places (i + 1)) k.0 _ t k.2 in
-        subst (λ (x : Typ). HasType devices cells g q (Tree.Async e) x) (given Typ.Unit t w.1)
+        subst (λ (x : Typ). HasType (unlisted devices) cells g q (Tree.Async e) x) (given Typ.Unit t w.1)
         (async (sound places g Effect.Protected (i + 1) e Typ.Unit (as_type places g Effect.Protected (i + 1) e k.0 Typ.Unit k.1 w.0)))
     sound places g q i (Tree.Unprotected e) t h =
         let p = want_effect-gave misplaced_unprotected (places i) q Effect.Protected _ t h in
-        subst (λ (x : Effect). HasType devices cells g x (Tree.Unprotected e) t) (sym p.0)
+        subst (λ (x : Effect). HasType (unlisted devices) cells g x (Tree.Unprotected e) t) (sym p.0)
         (unprotected (sound places g Effect.Unprotected (i + 1) e t p.1))
     sound places g q i (Tree.One form e) t h =
         let k = unary-gave devices form (places i) (places (i + 1)) q (typed devices cells places g q (i + 1) e) t h in
@@ -71,7 +72,7 @@ module _ (devices : ℕ) (cells : ℕ → Option (Sort × Typ)) where
         two k.4 (sound places g q (i + 1) a k.0 k.2) (sound places g q (i + 1 + nodes a) b k.1 k.3)
 
     pub sound_parts : (places : ℕ → ℕ) (g : Scope) (q : Effect) (i : ℕ) (parts : Trees) (t : Typ) →
-        typed_parts devices cells places g q i parts ≡ Ok t → HasLast devices cells g q parts t
+        typed_parts devices cells places g q i parts ≡ Ok t → HasLast (unlisted devices) cells g q parts t
     sound_parts places g q i Trees.None t h = cc
     sound_parts places g q i (Trees.More e Trees.None) t h = last (sound places g q i e t h)
     sound_parts places g q i (Trees.More e (Trees.More f rest)) t h =
@@ -81,28 +82,28 @@ module _ (devices : ℕ) (cells : ℕ → Option (Sort × Typ)) where
         more (sound places g q i e Typ.Unit (as_type places g q i e k.0 Typ.Unit k.1 w.0))
         (sound_parts places g q (i + nodes e) (Trees.More f rest) t w.1)
 
-    pub sound_value : (at : ℕ) (v : Val) (t : Typ) → typed_value devices cells at v ≡ Ok t → HasValue devices cells v t
-    sound_value at Val.Unit t h = subst (λ (x : Typ). HasValue devices cells Val.Unit x) (given Typ.Unit t h) unit
-    sound_value at (Val.Bool b) t h = subst (λ (x : Typ). HasValue devices cells (Val.Bool b) x) (given Typ.Bool t h) bool
-    sound_value at (Val.Int n) t h = subst (λ (x : Typ). HasValue devices cells (Val.Int n) x) (given Typ.Int t h) int
+    pub sound_value : (at : ℕ) (v : Val) (t : Typ) → typed_value devices cells at v ≡ Ok t → HasValue (unlisted devices) cells v t
+    sound_value at Val.Unit t h = subst (λ (x : Typ). HasValue (unlisted devices) cells Val.Unit x) (given Typ.Unit t h) unit
+    sound_value at (Val.Bool b) t h = subst (λ (x : Typ). HasValue (unlisted devices) cells (Val.Bool b) x) (given Typ.Bool t h) bool
+    sound_value at (Val.Int n) t h = subst (λ (x : Typ). HasValue (unlisted devices) cells (Val.Int n) x) (given Typ.Int t h) int
     sound_value at (Val.Loc l) t h =
         let c = cell-gave (cells l) t (known-gave at (cell_type (cells l)) t h) in
-        subst (λ (x : Typ). HasValue devices cells (Val.Loc l) x) (sym c.3) (location c.2)
+        subst (λ (x : Typ). HasValue (unlisted devices) cells (Val.Loc l) x) (sym c.3) (location c.2)
     sound_value at (Val.Fun head body) t h =
         elim (function-gave head.own head.effect head.param_type at
         (typed devices cells (λ _. at) (within head.effect head.own head.param head.param_type unscoped) head.effect 0 body) t h) [
           | inl p ↦
               let k = subst (λ (o : Option OwnName). typed devices cells (λ _. at) (within head.effect o head.param head.param_type unscoped) head.effect 0 body ≡ Ok p.1.0) p.0 p.1.1 in
-              subst (λ (x : Typ). HasValue devices cells (Val.Fun head body) x) (sym p.1.2)
+              subst (λ (x : Typ). HasValue (unlisted devices) cells (Val.Fun head body) x) (sym p.1.2)
               (function_value p.0 (sound (λ _. at) (bind head.param head.param_type unscoped) head.effect 0 body p.1.0 k))
           | inr p ↦
               let k = subst (λ (o : Option OwnName). typed devices cells (λ _. at) (within head.effect o head.param head.param_type unscoped) head.effect 0 body ≡ Ok p.0.result) p.1 p.2 in
-              subst (λ (x : Typ). HasValue devices cells (Val.Fun head body) x) (sym p.3)
+              subst (λ (x : Typ). HasValue (unlisted devices) cells (Val.Fun head body) x) (sym p.3)
               (recursive_value p.1
               (sound (λ _. at) (bind head.param head.param_type (bind p.0.name (Typ.Fun head.effect head.param_type p.0.result) unscoped)) head.effect 0 body p.0.result k))
         ]
     sound_value at (Val.Pair a b) t h =
         let k = then-gave (typed_value devices cells at a) _ t h in
         let m = then-gave (typed_value devices cells at b) _ t k.2 in
-        subst (λ (x : Typ). HasValue devices cells (Val.Pair a b) x) (given (Typ.Pair k.0 m.0) t m.2)
+        subst (λ (x : Typ). HasValue (unlisted devices) cells (Val.Pair a b) x) (given (Typ.Pair k.0 m.0) t m.2)
         (pair (sound_value at a k.0 k.1) (sound_value at b m.0 m.1))

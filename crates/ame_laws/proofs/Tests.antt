@@ -4,6 +4,7 @@ use Rattle.std.proofs.Common.{◌≡◌, ℕ, Bool, true, false, ◌&&◌, ◌�
 use borrow.Author.Tests.{ltb-true}
 use Rattle.std.specs.Prelude.{nat_lt}
 use Rattle.ame_term.specs.Tree.{Typ, OwnName}
+use Rattle.ame_term.specs.Signature.{Signature, unlisted}
 use Rattle.ame_term.specs.Shown.{Shown, TypeOutcome, TypeFault, type_mismatch, wrong_effect, wrong_sort, misplaced_block, no_device, not_unit}
 use Rattle.ame_term.specs.Typing.{same_type, same_sort, same_effect, touches, fits, then_, need, want, want_unit, want_effect, known, cell_type, function_row, call_row, read_row, peeked_row, write_row, first_of, second_of, breaks, op_type, unary_row, binary_row}
 use Rattle.ame_term.specs.HasType.{code_of, HasUnary, HasBinary, negation, reference, get, peek, block, print, call, first, second, app, sum, difference, product, less, equal, set, pair}
@@ -203,13 +204,13 @@ has_op op.Same q = equal
 -- The rows by groups: where a row gives a type, its parts have types, and the relation has the row.
 module _ (devices : ℕ) where
   pub unary-gave : (form : Unary) (at pat : ℕ) (q : Effect) (o : TypeOutcome) (t : Typ) → unary_row devices form at pat q o ≡ Ok t →
-      (u : Typ) × (o ≡ Ok u) × HasUnary devices form q u t
+      (u : Typ) × (o ≡ Ok u) × HasUnary (unlisted devices) form q u t
   unary-gave unary.Not at pat q o t e =
       let k = wanted pat o Typ.Bool Typ.Bool t e in
-      (Typ.Bool, k.0, subst (HasUnary devices unary.Not q Typ.Bool) k.1 negation)
-  unary-gave (unary.Ref s) at pat q o t e =
+      (Typ.Bool, k.0, subst (HasUnary (unlisted devices) unary.Not q Typ.Bool) k.1 negation)
+  unary-gave (unary.Ref s number) at pat q o t e =
       let k = then-gave o (λ u. Ok (Typ.Ref s u)) t e in
-      (k.0, k.1, subst (HasUnary devices (unary.Ref s) q k.0) (given (Typ.Ref s k.0) t k.2) reference)
+      (k.0, k.1, subst (HasUnary (unlisted devices) (unary.Ref s number) q k.0) (given (Typ.Ref s k.0) t k.2) (reference tt))
   unary-gave unary.Get at pat q o t e =
       let k = then-gave o (λ u. read_row at pat q u) t e in
       let r = read-gave at pat q k.0 t k.2 in
@@ -218,22 +219,22 @@ module _ (devices : ℕ) where
       let w = want_effect-gave wrong_effect at q Effect.Unprotected (then_ o (λ u. peeked_row at pat u)) t e in
       let k = then-gave o (λ u. peeked_row at pat u) t w.1 in
       let r = peeked-gave at pat k.0 t k.2 in
-      (Typ.Ref Sort.Protected t, k.1 ∙ ap Ok r, subst (λ x. HasUnary devices unary.Peek x (Typ.Ref Sort.Protected t) t) (sym w.0) peek)
+      (Typ.Ref Sort.Protected t, k.1 ∙ ap Ok r, subst (λ x. HasUnary (unlisted devices) unary.Peek x (Typ.Ref Sort.Protected t) t) (sym w.0) peek)
   unary-gave unary.Block at pat q o t e =
       let w = want_effect-gave misplaced_block at q Effect.Protected (then_ o (λ u. want pat u Typ.Bool (Ok Typ.Unit))) t e in
       let k = wanted pat o Typ.Bool Typ.Unit t w.1 in
-      (Typ.Bool, k.0, subst (λ x. HasUnary devices unary.Block x Typ.Bool t) (sym w.0) (subst (HasUnary devices unary.Block Effect.Protected Typ.Bool) k.1 block))
+      (Typ.Bool, k.0, subst (λ x. HasUnary (unlisted devices) unary.Block x Typ.Bool t) (sym w.0) (subst (HasUnary (unlisted devices) unary.Block Effect.Protected Typ.Bool) k.1 block))
   unary-gave unary.Print at pat q o t e =
       let k = wanted pat o Typ.Int Typ.Unit t e in
-      (Typ.Int, k.0, subst (HasUnary devices unary.Print q Typ.Int) k.1 print)
+      (Typ.Int, k.0, subst (HasUnary (unlisted devices) unary.Print q Typ.Int) k.1 print)
   unary-gave (unary.Call device) at pat q o t e =
       let w = want_effect-gave wrong_effect at q Effect.Unprotected _ t e in
       let b = need-gave (nat_lt device devices) (record { rule = no_device; place = at; found = Shown.Device device; wanted = Shown.Device devices }) _ t w.1 in
       let k = wanted pat o Typ.Int Typ.Int t b.1 in (
         Typ.Int,
         k.0,
-        subst (λ x. HasUnary devices (unary.Call device) x Typ.Int t) (sym w.0)
-            (subst (HasUnary devices (unary.Call device) Effect.Unprotected Typ.Int) k.1 (call (ltb-true device devices b.0))),
+        subst (λ x. HasUnary (unlisted devices) (unary.Call device) x Typ.Int t) (sym w.0)
+            (subst (HasUnary (unlisted devices) (unary.Call device) Effect.Unprotected Typ.Int) k.1 (call (ltb-true device devices b.0))),
       )
   unary-gave unary.First at pat q o t e =
       let k = then-gave o (λ u. first_of pat u) t e in
@@ -244,16 +245,17 @@ module _ (devices : ℕ) where
       let r = second-gave pat k.0 t k.2 in
       (Typ.Pair r.0 t, k.1 ∙ ap Ok r.1, second)
 
-  -- what the relation has, the row gives
-  pub unary-gives : {form : Unary} {q : Effect} {t u : Typ} → HasUnary devices form q t u → (at pat : ℕ) → unary_row devices form at pat q (Ok t) ≡ Ok u
+-- what the relation has, the row gives
+module _ (signature : Signature) where
+  pub unary-gives : {form : Unary} {q : Effect} {t u : Typ} → HasUnary signature form q t u → (at pat : ℕ) → unary_row signature.devices form at pat q (Ok t) ≡ Ok u
   unfolding same_type
   unary-gives negation at pat = refl
-  unary-gives reference at pat = refl
+  unary-gives (reference m) at pat = refl
   unary-gives (get {q} {s} p) at pat = rw (touches-all s q p) refl
   unary-gives peek at pat = refl
   unary-gives block at pat = refl
   unary-gives print at pat = refl
-  unary-gives (call {device} p) at pat = rw (lt-ltb device devices p) refl
+  unary-gives (call {device} p) at pat = rw (lt-ltb device signature.devices p) refl
   unary-gives first at pat = refl
   unary-gives second at pat = refl
 

@@ -8,6 +8,8 @@ pub mod LocalLemmas
 pub mod GivenTypes
 pub mod Preserved
 pub mod RunsLocally
+pub mod ListedLemmas
+pub mod TypeSets
 pub mod Started
 pub mod RedexSorts
 pub mod MakingLemmas

@@ -1,9 +1,11 @@
 -- The `ref` forms of a term in reading order, and the types of what they store, form by form.
 use Rattle.std.specs.Prelude.{◌≡◌, ℕ, Bool, true, false, List, [], ◌∷◌, ◌++◌, Option, Some, None}
 use Rattle.ame_term.specs.Tree.{Typ, OwnName, Head, Val, Tree, Trees}
+use Rattle.ame_term.specs.Signature.{Signature}
 use Rattle.ame_term.specs.Scope.{Scope, bind}
 use Rattle.ame_term.specs.HasType.{HasType}
 use Rattle.ame_term.specs.declared.types.Sort.{Sort}
+use Rattle.ame_term.specs.declared.types.TyNo.{TyNo}
 use Rattle.ame_term.specs.declared.types.Effect.{Effect}
 use Rattle.ame_term.specs.declared.types.Unary.{Unary}
 use Rattle.ame_term.specs.declared.types.Unary.TheVariants as unary
@@ -11,12 +13,12 @@ use Rattle.ame_term.specs.declared.types.Binary.{Binary}
 
 -- whether a form with one part is a `ref` form
 abbrev pub is_ref : Unary → Bool
-is_ref (unary.Ref sort) = true
+is_ref (unary.Ref sort number) = true
 is_ref _ = false
 
 -- the part of a `ref` form, before those that stand in the part
 abbrev pub own_ref : Unary → Tree → List Tree → List Tree
-own_ref (unary.Ref sort) part others = part ∷ others
+own_ref (unary.Ref sort number) part others = part ∷ others
 own_ref _ part others = others
 
 unfoldable mutual
@@ -37,8 +39,8 @@ unfoldable mutual
   refs_among Trees.None = []
   refs_among (Trees.More part rest) = refs_in part ++ refs_among rest
 
--- for a number of devices, and cells with their sorts and content types
-module _ (devices : ℕ) (cells : ℕ → Option (Sort × Typ)) where
+-- for a signature, and cells with their sorts and content types
+module _ (signature : Signature) (cells : ℕ → Option (Sort × Typ)) where
   mutual
     -- a term's `ref` forms, in reading order, store values of these types
     pub data HasRefs : Scope → Effect → Tree → List Typ → Type 0 where
@@ -49,15 +51,15 @@ module _ (devices : ℕ) (cells : ℕ → Option (Sort × Typ)) where
       recursive : {g : Scope} {q : Effect} {head : Head} {own : OwnName} {body : Tree} {ts : List Typ} → head.own ≡ Some own →
           HasRefs (bind head.param head.param_type (bind own.name (Typ.Fun head.effect head.param_type own.result) g)) head.effect body ts →
           HasRefs g q (Tree.Lambda head body) ts
-      binding : {g : Scope} {q : Effect} {x : ℕ} {bound body : Tree} {t : Typ} {ts us : List Typ} → HasType devices cells g q bound t →
+      binding : {g : Scope} {q : Effect} {x : ℕ} {bound body : Tree} {t : Typ} {ts us : List Typ} → HasType signature cells g q bound t →
           HasRefs g q bound ts → HasRefs (bind x t g) q body us → HasRefs g q (Tree.Let x bound body) (ts ++ us)
       sequence : {g : Scope} {q : Effect} {parts : Trees} {ts : List Typ} → HaveRefs g q parts ts → HasRefs g q (Tree.Do parts) ts
       choice : {g : Scope} {q : Effect} {test then_part else_part : Tree} {ts us ws : List Typ} →
           HasRefs g q test ts → HasRefs g q then_part us → HasRefs g q else_part ws → HasRefs g q (Tree.If test then_part else_part) (ts ++ us ++ ws)
       async : {g : Scope} {q : Effect} {body : Tree} {ts : List Typ} → HasRefs g Effect.Protected body ts → HasRefs g q (Tree.Async body) ts
       unprotected : {g : Scope} {q : Effect} {part : Tree} {ts : List Typ} → HasRefs g Effect.Unprotected part ts → HasRefs g q (Tree.Unprotected part) ts
-      reference : {g : Scope} {q : Effect} {sort : Sort} {part : Tree} {t : Typ} {ts : List Typ} → HasType devices cells g q part t →
-          HasRefs g q part ts → HasRefs g q (Tree.One (unary.Ref sort) part) (t ∷ ts)
+      reference : {g : Scope} {q : Effect} {sort : Sort} {number : TyNo} {part : Tree} {t : Typ} {ts : List Typ} → HasType signature cells g q part t →
+          HasRefs g q part ts → HasRefs g q (Tree.One (unary.Ref sort number) part) (t ∷ ts)
       one : {g : Scope} {q : Effect} {op : Unary} {part : Tree} {ts : List Typ} → is_ref op ≡ false →
           HasRefs g q part ts → HasRefs g q (Tree.One op part) ts
       two : {g : Scope} {q : Effect} {op : Binary} {left right : Tree} {ts us : List Typ} →
@@ -70,5 +72,5 @@ module _ (devices : ℕ) (cells : ℕ → Option (Sort × Typ)) where
           HasRefs g q part ts → HaveRefs g q rest us → HaveRefs g q (Trees.More part rest) (ts ++ us)
 
 -- a term that has a type in some scope and under some effect
-abbrev pub IsTypedSomewhere : ℕ → (ℕ → Option (Sort × Typ)) → Tree → Typ → Type 0
-IsTypedSomewhere devices cells part t = (g : Scope) × (q : Effect) × HasType devices cells g q part t
+abbrev pub IsTypedSomewhere : Signature → (ℕ → Option (Sort × Typ)) → Tree → Typ → Type 0
+IsTypedSomewhere signature cells part t = (g : Scope) × (q : Effect) × HasType signature cells g q part t

@@ -7,3 +7,4 @@ pub mod TypedState
 pub mod NewCell
 pub mod Progress
 pub mod LocalRun
+pub mod Listed

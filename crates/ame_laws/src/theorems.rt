@@ -18,6 +18,8 @@ ghost use Rattle.ame_term.specs.declared.semantics.Label.{Label};
 ghost use Rattle.ame_laws.specs.Puts.{Puts};
 ghost use Rattle.ame_laws.specs.TypingLaws.{GivesOnlyHad, GivesAllHad, HasOneType};
 ghost use Rattle.ame_term.specs.Scope.{Scope};
+ghost use Rattle.ame_term.specs.Signature.{Signature};
+ghost use Rattle.ame_laws.specs.Typed.Listed.{signature_of};
 ghost use Rattle.ame_term.specs.Typing.{ref_types_in};
 ghost use Rattle.ame_term.specs.HasType.{HasType};
 ghost use Rattle.ame_term.specs.declared.types.Sort.{Sort};
@@ -130,77 +132,77 @@ pub fn types_are_unique()
 /// The types that the table computes for the `ref` forms of a typed term are those of what they store,
 /// in reading order, and there are no others.
 pub fn ref_types_are_had()
-    ensures had { (devices : ℕ) (cells : ℕ → Option (Sort × Typ)) (places : ℕ → ℕ) (g : Scope)
-        (q : Effect) (i : ℕ) (e : Tree) (t : Typ) → HasType devices cells g q e t
-        → HasRefs devices cells g q e (ref_types_in devices cells places g q i e) }
-    ensures only { (devices : ℕ) (cells : ℕ → Option (Sort × Typ)) (places : ℕ → ℕ) (g : Scope)
-        (q : Effect) (i : ℕ) (e : Tree) (ts : List Typ) → HasRefs devices cells g q e ts
-        → ts ≡ ref_types_in devices cells places g q i e }
+    ensures had { (signature : Signature) (cells : ℕ → Option (Sort × Typ)) (places : ℕ → ℕ) (g : Scope)
+        (q : Effect) (i : ℕ) (e : Tree) (t : Typ) → HasType signature cells g q e t
+        → HasRefs signature cells g q e (ref_types_in signature.devices cells places g q i e) }
+    ensures only { (signature : Signature) (cells : ℕ → Option (Sort × Typ)) (places : ℕ → ℕ) (g : Scope)
+        (q : Effect) (i : ℕ) (e : Tree) (ts : List Typ) → HasRefs signature cells g q e ts
+        → ts ≡ ref_types_in signature.devices cells places g q i e }
 {}
 
 /// After a legal label of any kind a typed state is typed, whatever the answer of a device and the
 /// fresh location are, and the locations that had types keep them.
 pub fn labels_keep_types()
-    ensures { (devices : ℕ) (cells : StoreTyping) (s : State) (label : Label) (t : State)
-        → IsTyped devices cells s → IsLegal s label t → IsTypedLater devices cells t }
+    ensures { (signature : Signature) (cells : StoreTyping) (s : State) (label : Label) (t : State)
+        → IsTyped signature cells s → IsLegal s label t → IsTypedLater signature cells t }
 {}
 
 /// The same of a program that keeps that it is accepted.
 pub fn accepted_runs_are_typed(accepted: &Accepted)
     ensures { (labels : List Label) (t : State) → IsRun (tree_of accepted.now.program.term) labels t
-        → (cells : StoreTyping) × IsTyped accepted.now.devices cells t × IsOrderly t }
+        → (cells : StoreTyping) × IsTyped (signature_of accepted.now) cells t × IsOrderly t }
 {}
 
 /// The types of locations may be given, also of some that the store doesn't have. A state that they
 /// type stays typed by them after a legal label, where what it allocates has its sort and type there.
 pub fn labels_keep_given_types()
-    ensures { (devices : ℕ) (cells : StoreTyping) (s : State) (label : Label) (t : State)
-        → IsTypedBy devices cells s → IsLegal s label t → HasNewCellAfter devices cells s label
-        → IsTypedBy devices cells t }
+    ensures { (signature : Signature) (cells : StoreTyping) (s : State) (label : Label) (t : State)
+        → IsTypedBy signature cells s → IsLegal s label t → HasNewCellAfter signature cells s label
+        → IsTypedBy signature cells t }
 {}
 
 /// So it does after a step of any member on one side of `unprotected`, whether it is active or not.
 pub fn steps_keep_given_types()
-    ensures { (devices : ℕ) (cells : StoreTyping) (s : State) (side : Side) (kind : StepKind) (i : ℕ) (t : State)
-        → IsTypedBy devices cells s → Steps s side kind i t → HasNewCellOf devices cells s kind i
-        → IsTypedBy devices cells t }
+    ensures { (signature : Signature) (cells : StoreTyping) (s : State) (side : Side) (kind : StepKind) (i : ℕ) (t : State)
+        → IsTypedBy signature cells s → Steps s side kind i t → HasNewCellOf signature cells s kind i
+        → IsTypedBy signature cells t }
 {}
 
 /// A typed state has no member left, or its active member waits at a false condition, or some label is
 /// legal.
 pub fn states_progress()
-    ensures { (devices : ℕ) (cells : StoreTyping) (s : State) → IsTyped devices cells s → StateProgresses s }
+    ensures { (signature : Signature) (cells : StoreTyping) (s : State) → IsTyped signature cells s → StateProgresses s }
 {}
 
 /// While a member of a typed state is active, it waits at a false condition, or some label is legal;
 /// and where it waits, none is.
 pub fn active_members_progress()
-    ensures goes_on { (devices : ℕ) (cells : StoreTyping) (s : State) (i : ℕ) (term : Tree)
-        → IsTyped devices cells s → at s.members i ≡ Some term → s.active ≡ Some i
+    ensures goes_on { (signature : Signature) (cells : StoreTyping) (s : State) (i : ℕ) (term : Tree)
+        → IsTyped signature cells s → at s.members i ≡ Some term → s.active ≡ Some i
         → Waits term ⊎ ((label : Label) × LeadsOn s label) }
-    ensures stuck { (devices : ℕ) (cells : StoreTyping) (s : State) (i : ℕ) (term : Tree)
-        → IsTyped devices cells s → at s.members i ≡ Some term → s.active ≡ Some i
+    ensures stuck { (signature : Signature) (cells : StoreTyping) (s : State) (i : ℕ) (term : Tree)
+        → IsTyped signature cells s → at s.members i ≡ Some term → s.active ≡ Some i
         → Waits term → (label : Label) → after s label ≡ None }
 {}
 
 /// While nothing is active, each member of a typed state may become active, or makes a step or closes
 /// under `unprotected`.
 pub fn resting_members_progress()
-    ensures { (devices : ℕ) (cells : StoreTyping) (s : State) (i : ℕ) (term : Tree)
-        → IsTyped devices cells s → at s.members i ≡ Some term → s.active ≡ None → GoesOn s i }
+    ensures { (signature : Signature) (cells : StoreTyping) (s : State) (i : ℕ) (term : Tree)
+        → IsTyped signature cells s → at s.members i ≡ Some term → s.active ≡ None → GoesOn s i }
 {}
 
 /// Each local step is one of the strong semantics: of a fragment that closes, or a reduction in some
 /// state, on the same side of `unprotected`.
 pub fn local_steps_reduce()
-    ensures { (devices : ℕ) (cells : StoreTyping) (side : Side) (redex part : Tree)
-        → LocalStep devices cells side redex part → ClosesAtValue side redex part ⊎ HasReduction side redex part }
+    ensures { (signature : Signature) (cells : StoreTyping) (side : Side) (redex part : Tree)
+        → LocalStep signature cells side redex part → ClosesAtValue side redex part ⊎ HasReduction side redex part }
 {}
 
 /// What a legal label makes of a member of a typed state is a local run of it: its own step, fed what
 /// the store held, or nothing.
 pub fn labels_run_locally()
-    ensures { (devices : ℕ) (cells : StoreTyping) (s : State) (label : Label) (t : State) (i : ℕ) (term last : Tree)
-        → IsTypedBy devices cells s → IsOrderly s → IsLegal s label t → HasNewCellAfter devices cells s label
-        → at s.members i ≡ Some term → at t.members i ≡ Some last → LocalRun devices cells term last }
+    ensures { (signature : Signature) (cells : StoreTyping) (s : State) (label : Label) (t : State) (i : ℕ) (term last : Tree)
+        → IsTypedBy signature cells s → IsOrderly s → IsLegal s label t → HasNewCellAfter signature cells s label
+        → at s.members i ≡ Some term → at t.members i ≡ Some last → LocalRun signature cells term last }
 {}

@@ -19,7 +19,7 @@ abbrev pub Comes : MachineView → Need → Type 0
 Comes m Need.Step = (p : LocalState) × (one_step (running_side m) (place_shown m) ≡ Some p)
 Comes m (Need.Read l) = HasNextAct m (Act.Reads l)
 Comes m (Need.Write l) = (v : Val) × HasNextAct m (Act.Writes l v)
-Comes m (Need.Alloc sort) = (v : Val) × HasNextAct m (Act.Allocates sort v)
+Comes m (Need.Alloc sort number) = (v : Val) × HasNextAct m (Act.Allocates sort number v)
 Comes m (Need.Peek l) = (m.inside ≡ true) × HasNextAct m (Act.Peeks l)
 Comes m Need.Block = (m.inside ≡ false) × (is_false_condition (focus m.term) ≡ true)
 Comes m Need.Done = (m.inside ≡ false) × (at_value (focus m.term) ≡ true)

@@ -1,5 +1,6 @@
 //! Theorems: promises of this crate that nothing above it cites, each the statement of a lemma.
 
+ghost use Rattle.ame_term.specs.Signature.{Signature};
 ghost use Rattle.std.specs.Prelude.{◌≡◌, ℕ, true, List, false, Some, None, [], ℤ, Option};
 ghost use Rattle.ame_term.specs.Tree.{Typ, Val, Tree};
 ghost use Rattle.ame_term.specs.Context.{focus};
@@ -18,9 +19,9 @@ ghost use Rattle.ame_journal.specs.Labels.{AreSteps, fragment_labels, free_label
 
 /// A machine on a run that is typed throughout can run, if the run began where its side may begin.
 pub fn machines_on_typed_runs_can_run()
-    ensures { (devices : ℕ) (cells : StoreTyping) (start : Tree) (inputs : List Val) (m : MachineView)
-        → IsTypedThroughout devices cells (running_side m) start inputs Typ.Unit → OnRun start inputs m
-        → (m.inside ≡ true → at_unprotected (focus start) ≡ true) → IsRunnable devices cells m }
+    ensures { (signature : Signature) (cells : StoreTyping) (start : Tree) (inputs : List Val) (m : MachineView)
+        → IsTypedThroughout signature cells (running_side m) start inputs Typ.Unit → OnRun start inputs m
+        → (m.inside ≡ true → at_unprotected (focus start) ≡ true) → IsRunnable signature cells m }
 {}
 
 /// A run in protected code that agrees with the store is the member's labels: it becomes active and makes

@@ -3,6 +3,7 @@ use Rattle.std.proofs.Common.{◌≡◌, ℕ, ◌+◌, ◌≤◌, Bool, true, fa
 use Rattle.std.specs.Prelude.{if◌then◌else◌, ◌==◌}
 use Rattle.std.specs.List.{AllByRecursion}
 use Rattle.ame_term.specs.Tree.{Typ, Val, Tree}
+use Rattle.ame_term.specs.Signature.{Signature}
 use Rattle.ame_term.specs.declared.types.Sort.{Sort}
 use Rattle.ame_laws.specs.Typed.StoreTyping.{StoreTyping, Grows}
 use Rattle.ame_laws.specs.Typed.Fragment.{IsValueOf}
@@ -36,19 +37,19 @@ module _ (types : StoreTyping) (n : ℕ) (cell : Sort × Typ) (free : (l : ℕ) 
   pub still-free : (l : ℕ) → n + 1 ≤ l → with_type n cell types l ≡ None
   still-free l after = type-other n l cell types (λ same. omega arith) ∙ free l (omega arith)
 
-module _ (devices : ℕ) (types later : StoreTyping) (grows : Grows types later) where
-  member-grown : (term : Tree) → IsMember devices types term → IsMember devices later term
-  member-grown term f = (weaken_cells devices types later grows f.0, f.1)
+module _ (signature : Signature) (types later : StoreTyping) (grows : Grows types later) where
+  member-grown : (term : Tree) → IsMember signature types term → IsMember signature later term
+  member-grown term f = (weaken_cells signature types later grows f.0, f.1)
 
-  members-grown : (bodies : List Tree) → AllByRecursion (λ body. IsMember devices types body) bodies → AllByRecursion (λ body. IsMember devices later body) bodies
+  members-grown : (bodies : List Tree) → AllByRecursion (λ body. IsMember signature types body) bodies → AllByRecursion (λ body. IsMember signature later body) bodies
   members-grown [] all = tt
   members-grown (body ∷ bodies) all = (member-grown body all.0, members-grown bodies all.1)
 
-  pub runs-grown : (s : MachineView) → IsRunnable devices types s → IsRunnable devices later s
+  pub runs-grown : (s : MachineView) → IsRunnable signature types s → IsRunnable signature later s
   runs-grown s h = record { member = member-grown s.term h.member; members = members-grown s.spawns h.members; standing = h.standing }
 
-  pub value-grown : (v : Val) (t : Typ) → IsValueOf devices types v t → IsValueOf devices later v t
-  value-grown v t h = (weaken_value devices types later grows h.0, h.1)
+  pub value-grown : (v : Val) (t : Typ) → IsValueOf signature types v t → IsValueOf signature later v t
+  value-grown v t h = (weaken_value signature types later grows h.0, h.1)
 
-  pub stored-grown : (l : ℕ) (v : Val) → IsStored devices types l v → IsStored devices later l v
+  pub stored-grown : (l : ℕ) (v : Val) → IsStored signature types l v → IsStored signature later l v
   stored-grown l v h = (h.0, grows l h.0 h.1, value-grown v h.0.1 h.2)

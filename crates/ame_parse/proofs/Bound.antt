@@ -5,7 +5,7 @@ use Rattle.std.proofs.lemmas.List.Folds.{list_any-append}
 use Rattle.std.proofs.Math.Seq.{take-append_seam}
 use Rattle.ame_term.specs.Tree.{Typ, Head, Tree}
 use Rattle.ame_term.specs.SourceTerm.{names_within, is_name_of, IsBound, AllBound}
-use Rattle.ame_parse.specs.Input.{Input, advanced, marked, name_number, named, binds_name, bound, unbound}
+use Rattle.ame_parse.specs.Input.{Input, advanced, marked, name_number, named, binds_name, bound, unbound, counted}
 use Rattle.ame_parse.specs.Forms.{row}
 use Rattle.ame_parse.specs.Grammar as g
 use Rattle.ame_parse.specs.Grammar.{IsType, IsTypeForm, IsParam, IsFunctionHead, outside, IsTerm, IsForm, AreParts}
@@ -33,6 +33,10 @@ scope_bound x i = refl
 
 without_last : (s : List ℕ) (x : ℕ) → take (length (s ++ x ∷ []) - 1) (s ++ x ∷ []) ≡ s
 without_last s x = let e : length (s ++ x ∷ []) - 1 ≡ length s = omega (arith, length-append s (x ∷ [])) in ap (λ m. take m (s ++ x ∷ [])) e ∙ take-append_seam s (x ∷ [])
+
+scope_counted : (i : Input) → scope_of (counted i) ≡ scope_of i
+unfolding counted
+scope_counted i = refl
 
 scope_unbound : (i : Input) (s : List ℕ) (x : ℕ) → scope_of i ≡ s ++ x ∷ [] → scope_of (unbound i) ≡ s
 unfolding unbound
@@ -79,7 +83,8 @@ mutual
   form_scope (g.sequence {i = i} {l = l} e h h' others shut) = scope_advanced l ∙ parts_scope others ∙ term_scope h' ∙ term_scope h ∙ scope_advanced i
   form_scope (g.choice {i = i} {l = l} e h h' h'' shut) = scope_advanced l ∙ term_scope h'' ∙ term_scope h' ∙ term_scope h ∙ scope_advanced i
   form_scope (g.one {i = i} {j = j} e is h shut) = scope_advanced j ∙ term_scope h ∙ scope_advanced i
-  form_scope (g.ref {i = i} {j = j} e s h shut) = scope_advanced j ∙ term_scope h ∙ scope_advanced (advanced i) ∙ scope_advanced i
+  form_scope (g.ref {i = i} {j = j} e s h shut) =
+      scope_advanced j ∙ term_scope h ∙ scope_counted (advanced (advanced i)) ∙ scope_advanced (advanced i) ∙ scope_advanced i
   form_scope (g.call {i = i} {j = j} e d small h shut) = scope_advanced j ∙ term_scope h ∙ scope_advanced (advanced i) ∙ scope_advanced i
   form_scope (g.two {i = i} {k = k} e is h h' shut) = scope_advanced k ∙ term_scope h' ∙ term_scope h ∙ scope_advanced i
   form_scope (g.async {i = i} {j = j} e h shut) = scope_advanced j ∙ term_scope h ∙ scope_advanced i
@@ -149,7 +154,8 @@ mutual
     term_bound h'' names (moved names _ _ (term_scope h' ∙ term_scope h ∙ scope_advanced i) covers),
   )
   form_bound (g.one {i = i} e is h shut) names covers = term_bound h names (moved names _ _ (scope_advanced i) covers)
-  form_bound (g.ref {i = i} e s h shut) names covers = term_bound h names (moved names _ _ (scope_advanced (advanced i) ∙ scope_advanced i) covers)
+  form_bound (g.ref {i = i} e s h shut) names covers =
+      term_bound h names (moved names _ _ (scope_counted (advanced (advanced i)) ∙ scope_advanced (advanced i) ∙ scope_advanced i) covers)
   form_bound (g.call {i = i} e d small h shut) names covers = term_bound h names (moved names _ _ (scope_advanced (advanced i) ∙ scope_advanced i) covers)
   form_bound (g.two {i = i} e is h h' shut) names covers =
       (term_bound h names (moved names _ _ (scope_advanced i) covers), term_bound h' names (moved names _ _ (term_scope h ∙ scope_advanced i) covers))

@@ -18,8 +18,8 @@ use Rattle.ame_parse.specs.declared.ahead.Ahead.{Ahead}
 use Rattle.ame_parse.specs.declared.ahead.Ahead.TheVariants as a
 use Rattle.ame_parse.specs.declared.fault.ParseFault.TheVariants.{UnknownName, TooNested}
 use Rattle.ame_parse.specs.declared.forms.Opener.TheVariants as opener
-use Rattle.ame_parse.specs.Input.{Seen, Input, Parser, and_then, is_closing, ahead_in, ahead, spelling, place, advanced, marked, name_number, named, binds_name, bound, unbound, tokens_left, closing_by, closing, sees_closing, name_by, name, opening_by, opening, advance}
-use Rattle.ame_parse.specs.Letters.{sort_of, effect_named, device_of, sort_by, effect_by, device_by, sort, effect_word, device}
+use Rattle.ame_parse.specs.Input.{Seen, Input, Parser, and_then, is_closing, ahead_in, ahead, spelling, place, advanced, marked, name_number, named, binds_name, bound, unbound, ref_number, counted, tokens_left, closing_by, closing, sees_closing, name_by, name, opening_by, opening, advance}
+use Rattle.ame_parse.specs.Letters.{sort_of, effect_named, device_of, sort_by, effect_by, device_by, sort, numbered_sort, effect_word, device}
 use Rattle.ame_parse.specs.Types as t
 use Rattle.ame_parse.specs.Types.{ty, param}
 use Rattle.ame_parse.specs.Forms.{opener_of, op_of, row}
@@ -60,6 +60,10 @@ left_bound x i = refl
 left_unbound : (i : Input) → tokens_left (unbound i) ≡ tokens_left i
 unfolding tokens_left unbound
 left_unbound i = refl
+
+left_counted : (i : Input) → tokens_left (counted i) ≡ tokens_left i
+unfolding tokens_left counted
+left_counted i = refl
 
 left_outside : (own : Option OwnName) (i : Input) → tokens_left (outside own i) ≡ tokens_left i
 left_outside None i = left_unbound i
@@ -120,7 +124,8 @@ mutual
   form_takes (g.sequence {i = i} {l = l} e h h' others shut) = omega (arith, left_advanced i, left_advanced l, term_takes h, term_takes h', parts_take others)
   form_takes (g.choice {i = i} {l = l} e h h' h'' shut) = omega (arith, left_advanced i, left_advanced l, term_takes h, term_takes h', term_takes h'')
   form_takes (g.one {i = i} {j = j} e is h shut) = omega (arith, left_advanced i, left_advanced j, term_takes h)
-  form_takes (g.ref {i = i} {j = j} e s h shut) = omega (arith, left_advanced i, left_advanced (advanced i), left_advanced j, term_takes h)
+  form_takes (g.ref {i = i} {j = j} e s h shut) =
+      omega (arith, left_advanced i, left_advanced (advanced i), left_counted (advanced (advanced i)), left_advanced j, term_takes h)
   form_takes (g.call {i = i} {j = j} e d small h shut) = omega (arith, left_advanced i, left_advanced (advanced i), left_advanced j, term_takes h)
   form_takes (g.two {i = i} {k = k} e is h h' shut) = omega (arith, left_advanced i, left_advanced k, term_takes h, term_takes h')
   form_takes (g.async {i = i} {j = j} e h shut) = omega (arith, left_advanced i, left_advanced j, term_takes h)
@@ -148,6 +153,10 @@ pub sort_at : (i : Input) (s : Sort) → IsSort i s → sort i ≡ Ok (s, advanc
 unfolding sort sort_of
 sort_at i s (IsSort.protected e) = ap (λ z. sort_by (sort_of z) i) e
 sort_at i s (IsSort.unprotected e) = ap (λ z. sort_by (sort_of z) i) e
+
+pub numbered_sort_at : (i : Input) (s : Sort) → IsSort i s → numbered_sort i ≡ Ok ((s, ref_number (advanced i)), counted (advanced i))
+unfolding numbered_sort
+numbered_sort_at i s is = rw (sort_at i s is) refl
 
 pub effect_at : (i : Input) (q : Effect) → IsEffect i q → effect_word i ≡ Ok (q, advanced i)
 unfolding effect_word effect_named
@@ -294,10 +303,18 @@ binding_reads : (part : Parser Tree) (i j k : Input) (n : ℕ) (x y : Tree) → 
 unfolding binding
 binding_reads part i j k n x y e same read read' shut = rw (name_at i e) (rw read (rw same (rw read' (rw (closing_at k shut)))))
 
-reference_reads : (part : Parser Tree) (i j : Input) (s : Sort) (x : Tree) → IsSort i s → part (advanced i) ≡ Ok (x, j) → ahead j ≡ a.Closing
-    → reference part i ≡ Ok (Tree.One (unary.Ref s) x, advanced j)
+-- to take a token leaves the count of `ref` forms as it was
+same_number : (i : Input) → ref_number (advanced (advanced i)) ≡ ref_number i
+unfolding advanced
+same_number i = refl
+
+reference_reads : (part : Parser Tree) (i j : Input) (s : Sort) (x : Tree) → IsSort (advanced i) s → part (counted (advanced (advanced i))) ≡ Ok (x, j) → ahead j ≡ a.Closing
+    → reference part (advanced i) ≡ Ok (Tree.One (unary.Ref s (ref_number i)) x, advanced j)
 unfolding reference
-reference_reads part i j s x sort read shut = rw (sort_at i s sort) (alone_reads part (Tree.One (unary.Ref s)) (advanced i) j x read shut)
+reference_reads part i j s x sort read shut =
+    let number = ref_number (advanced (advanced i)) in
+    rw (numbered_sort_at (advanced i) s sort) (alone_reads part (Tree.One (unary.Ref s number)) (counted (advanced (advanced i))) j x read shut)
+    ∙ ap (λ k. Ok (Tree.One (unary.Ref s k) x, advanced j)) (same_number i)
 
 call_reads : (part : Parser Tree) (i j : Input) (d : ℕ) (x : Tree) → ahead i ≡ a.Number (pos d) → d < 256 → part (advanced i) ≡ Ok (x, j) → ahead j ≡ a.Closing
     → call part i ≡ Ok (Tree.One (unary.Call d) x, advanced j)
@@ -398,7 +415,7 @@ mutual
       compound_at _ _ _ i _ e ∙ choice_reads (term n) (advanced i) j k l _ _ _ (term_reads h) (term_reads h') (term_reads h'') shut
   form_reads (g.one {n = n} {i = i} {j = j} e is h shut) =
       compound_at _ _ _ i _ e ∙ unary_at (term n) (param n) (ty n) i is ∙ alone_reads (term n) _ (advanced i) j _ (term_reads h) shut
-  form_reads (g.ref {n = n} {i = i} {j = j} e s h shut) = compound_at _ _ _ i _ e ∙ reference_reads (term n) (advanced i) j _ _ s (term_reads h) shut
+  form_reads (g.ref {n = n} {i = i} {j = j} e s h shut) = compound_at _ _ _ i _ e ∙ reference_reads (term n) i j _ _ s (term_reads h) shut
   form_reads (g.call {n = n} {i = i} {j = j} e d small h shut) = compound_at _ _ _ i _ e ∙ call_reads (term n) (advanced i) j _ _ d small (term_reads h) shut
   form_reads (g.two {n = n} {i = i} {j = j} {k = k} e is h h' shut) =
       compound_at _ _ _ i _ e ∙ binary_at (term n) (param n) (ty n) i is ∙ two_reads (term n) _ (advanced i) j k _ _ (term_reads h) (term_reads h') shut

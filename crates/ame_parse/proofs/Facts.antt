@@ -2,7 +2,7 @@
 use Rattle.std.proofs.Common.{◌≡◌, refl, ◌∙◌, ℕ, ◌+◌, List, [], ◌∷◌, ◌++◌, length, length-append, arith, Option, Some, None}
 use Rattle.ame_term.specs.Tree.{Typ, OwnName, Head, Tree}
 use Rattle.ame_term.specs.SourceTerm.{nodes, all_nodes, IsSourceTerm, AreSourceTerms}
-use Rattle.ame_parse.specs.Input.{Input, place, advanced, marked, named, bound, unbound}
+use Rattle.ame_parse.specs.Input.{Input, place, advanced, marked, named, bound, unbound, counted}
 use Rattle.ame_parse.specs.Forms.{row}
 use Rattle.ame_parse.specs.Grammar as g
 use Rattle.ame_parse.specs.Grammar.{IsType, IsTypeForm, IsParam, IsFunctionHead, outside, IsTerm, IsForm, AreParts}
@@ -32,6 +32,10 @@ count_advanced i = refl
 count_named : (i : Input) → count (named i) ≡ count i
 unfolding named
 count_named i = refl
+
+count_counted : (i : Input) → count (counted i) ≡ count i
+unfolding counted
+count_counted i = refl
 
 count_bound : (x : ℕ) (i : Input) → count (bound x i) ≡ count i
 unfolding bound
@@ -94,7 +98,8 @@ mutual
   form_places (g.sequence {i = i} {l = l} e h h' others shut) = omega (arith, count_advanced i, count_advanced l, term_places h, term_places h', parts_places others)
   form_places (g.choice {i = i} {l = l} e h h' h'' shut) = omega (arith, count_advanced i, count_advanced l, term_places h, term_places h', term_places h'')
   form_places (g.one {i = i} {j = j} e is h shut) = omega (arith, count_advanced i, count_advanced j, term_places h)
-  form_places (g.ref {i = i} {j = j} e s h shut) = omega (arith, count_advanced i, count_advanced (advanced i), count_advanced j, term_places h)
+  form_places (g.ref {i = i} {j = j} e s h shut) =
+      omega (arith, count_advanced i, count_advanced (advanced i), count_counted (advanced (advanced i)), count_advanced j, term_places h)
   form_places (g.call {i = i} {j = j} e d small h shut) = omega (arith, count_advanced i, count_advanced (advanced i), count_advanced j, term_places h)
   form_places (g.two {i = i} {k = k} e is h h' shut) = omega (arith, count_advanced i, count_advanced k, term_places h, term_places h')
   form_places (g.async {i = i} {j = j} e h shut) = omega (arith, count_advanced i, count_advanced j, term_places h)

@@ -17,8 +17,8 @@ use Rattle.ame_parse.specs.declared.fault.Want.TheVariants as want
 use Rattle.ame_parse.specs.declared.fault.ParseFault.{ParseFault}
 use Rattle.ame_parse.specs.declared.fault.ParseFault.TheVariants.{Expected, UnknownName, TooNested, Trailing}
 use Rattle.ame_parse.specs.declared.forms.Opener.TheVariants as opener
-use Rattle.ame_parse.specs.Input.{Input, ◌>>◌, ahead, spelling, place, advanced, marked, name_number, named, binds_name, tokens_left, is_closing, closing_by, closing, name_by, name, opening_by, finish_by, finish}
-use Rattle.ame_parse.specs.Letters.{sort_of, effect_named, device_of, sort_by, effect_by, device_by, sort, effect_word, device}
+use Rattle.ame_parse.specs.Input.{Input, ◌>>◌, ahead, spelling, place, advanced, marked, name_number, named, binds_name, ref_number, tokens_left, is_closing, closing_by, closing, name_by, name, opening_by, finish_by, finish}
+use Rattle.ame_parse.specs.Letters.{sort_of, effect_named, device_of, sort_by, effect_by, device_by, sort, numbered_sort, effect_word, device}
 use Rattle.ame_parse.specs.Types as t
 use Rattle.ame_parse.specs.Types.{ty, param}
 use Rattle.ame_parse.specs.Forms.{opener_of, opener_of_word}
@@ -101,6 +101,7 @@ Errs Piece.DeviceNumber i fault = device i ≡ Err fault
 Errs Piece.Closing i fault = closing i ≡ Err fault
 Errs Piece.End i fault = finish i ≡ Err fault
 Errs (Piece.Binder z) i fault = ⊥
+Errs Piece.Counter i fault = ⊥
 
 data AllErr : List Piece → Input → ParseFault → Type 0 where
   first : {piece : Piece} {pieces : List Piece} {i : Input} {fault : ParseFault} → Errs piece i fault → AllErr (piece ∷ pieces) i fault
@@ -188,10 +189,12 @@ module _ {n : ℕ} where
   alone_errs build (first e) = rw e refl
   alone_errs build (behind (Passes.term h) z) = rw (term_reads h) (rw (last_errs z) refl)
 
-  reference_errs : {i : Input} {fault : ParseFault} → AllErr (Piece.SortLetter ∷ Piece.Term n ∷ Piece.Closing ∷ []) i fault → reference (term n) i ≡ Err fault
-  unfolding reference
+  reference_errs : {i : Input} {fault : ParseFault} → AllErr (Piece.SortLetter ∷ Piece.Counter ∷ Piece.Term n ∷ Piece.Closing ∷ []) i fault → reference (term n) i ≡ Err fault
+  unfolding reference numbered_sort
   reference_errs (first e) = rw e refl
-  reference_errs {i = i} (behind (Passes.sort {sort = s} is) all) = rw (sort_at i s is) (alone_errs (Tree.One (unary.Ref s)) all)
+  reference_errs (behind (Passes.sort is) (first e)) = absurd e
+  reference_errs {i = i} (behind (Passes.sort {sort = s} is) (behind Passes.counter all)) =
+      rw (sort_at i s is) (alone_errs (Tree.One (unary.Ref s (ref_number (advanced i)))) all)
 
   call_errs : {i : Input} {fault : ParseFault} → AllErr (Piece.DeviceNumber ∷ Piece.Term n ∷ Piece.Closing ∷ []) i fault → call (term n) i ≡ Err fault
   unfolding call

@@ -118,7 +118,7 @@ fault_stays text other before from before' from' fault ordered has e place has' 
     let rises : IsRising 0 i.rest (length text) = rising_of text 0 (length text) has.tokens (ordered has.tokens has.lexed) in
     let found = one_place stop.before before stop.from from 0 (length text) (subst (λ z. IsRising 0 z (length text)) stop.split rises) (sym stop.split ∙ has.seen_so) (sym stop.stands ∙ place) in
     let follows : Follows m i stop.before stop.from i' from' = record {
-      twin = record { names = refl; scope = refl };
+      twin = record { names = refl; scope = refl; refs = refl };
       few = omega arith;
       used' = before';
       split = has'.seen_so;

@@ -10,16 +10,17 @@ use Rattle.ame_term.specs.declared.types.Sort.{Sort}
 use Rattle.ame_term.specs.declared.types.Sort.TheVariants as sorts
 use Rattle.ame_term.specs.declared.types.Effect.{Effect}
 use Rattle.ame_term.specs.declared.types.Effect.TheVariants as effects
+use Rattle.ame_term.specs.declared.types.TyNo.{TyNo}
 use Rattle.ame_term.specs.declared.types.Op.{Op}
 use Rattle.ame_term.specs.declared.types.Op.TheVariants as op
 use Rattle.ame_parse.specs.declared.ahead.Ahead.{Ahead}
 use Rattle.ame_parse.specs.declared.ahead.Ahead.TheVariants as a
-use Rattle.ame_parse.specs.Input.{Input, Parser, ◌>>=◌, ahead, spelling, advanced}
-use Rattle.ame_parse.specs.Letters.{sort_of, effect_named, small, device_of, sort_by, effect_by, device_by, sort, effect_word, device}
+use Rattle.ame_parse.specs.Input.{Input, Parser, ◌>>=◌, ahead, spelling, advanced, ref_number, counted}
+use Rattle.ame_parse.specs.Letters.{sort_of, effect_named, small, device_of, sort_by, effect_by, device_by, sort, numbered_sort, effect_word, device}
 use Rattle.ame_parse.specs.Forms.{op_of}
 use Rattle.ame_parse.specs.Grammar as g
 use Rattle.ame_parse.specs.Grammar.{IsSort, IsEffect, IsOp}
-use Rattle.ame_parse.proofs.Steps.{Leads, leads_pure, leads_at}
+use Rattle.ame_parse.proofs.Steps.{Leads, leads_pure, leads_on, leads_at}
 
 spelled_so : (text word : Text) → bytes_eq text word ≡ true → text ≡ word
 spelled_so text word e = (bytes_eq-Decides text word).0 e
@@ -41,6 +42,15 @@ effect_test i true u e h h' h'' = leads_pure effects.Protected (advanced i) (λ 
 effect_test i false true e h h' h'' = leads_pure effects.Unprotected (advanced i) (λ q j. IsEffect i q × (advanced i ≡ j)) (IsEffect.unprotected (spelled_so (spelling i) (codes "u") h'), refl)
 effect_test i false false true h h' h'' = leads_pure effects.Either (advanced i) (λ q j. IsEffect i q × (advanced i ≡ j)) (IsEffect.either (spelled_so (spelling i) (codes "a") h''), refl)
 effect_test i false false false h h' h'' = λ x j read. absurd (cc)
+
+-- the sort of a `ref` form, which is counted
+pub leads_numbered_sort : {B : Type 0} (f : Sort × TyNo → Parser B) (Q : B → Input → Type 0) (i : Input)
+    → ((s : Sort) → IsSort i s → Leads (f (s, ref_number (advanced i))) (counted (advanced i)) Q) → Leads (numbered_sort >>= f) i Q
+unfolding numbered_sort
+leads_numbered_sort f Q i next =
+    let P = λ (p : Sort × TyNo) (j : Input). IsSort i p.0 × ((p.0, ref_number (advanced i)) ≡ p) × (counted (advanced i) ≡ j) in
+    leads_on numbered_sort f P Q i (leads_sort _ P i (λ s is. leads_pure (s, ref_number (advanced i)) (counted (advanced i)) P (is, refl, refl)))
+    (λ p j h. subst (λ q. Leads (f q) j Q) h.1 (subst (λ k. Leads (f (p.0, ref_number (advanced i))) k Q) h.2 (next p.0 h.0)))
 
 pub leads_effect : {B : Type 0} (f : Effect → Parser B) (Q : B → Input → Type 0) (i : Input) → ((q : Effect) → IsEffect i q → Leads (f q) (advanced i) Q) → Leads (effect_word >>= f) i Q
 unfolding effect_word effect_named

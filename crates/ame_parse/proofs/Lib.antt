@@ -5,6 +5,7 @@ pub mod TypeSoundness
 pub mod Facts
 pub mod Whole
 pub mod Bound
+pub mod Numbering
 pub mod Locality
 pub mod LocalForms
 pub mod LocalTerms

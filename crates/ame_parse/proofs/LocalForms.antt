@@ -11,13 +11,13 @@ use Rattle.ame_parse.specs.declared.ahead.Ahead.{Ahead}
 use Rattle.ame_parse.specs.declared.ahead.Ahead.TheVariants as a
 use Rattle.ame_parse.specs.declared.fault.Want.TheVariants as want
 use Rattle.ame_parse.specs.declared.fault.ParseFault.TheVariants.{TooNested, Trailing}
-use Rattle.ame_parse.specs.Input.{Parser, ◌>>=◌, ◌>>◌, pure, peek, advance, bind_name, unbind, place, spelling_in, spelling, name_number, named, sees_closing, closing_by, closing, opening_by, opening, name_by, name, finish_by, finish}
+use Rattle.ame_parse.specs.Input.{Parser, ◌>>=◌, ◌>>◌, pure, peek, advance, bind_name, unbind, place, spelling_in, spelling, name_number, named, sees_closing, closing_by, closing, opening_by, opening, name_by, name, finish_by, finish, count_ref}
 use Rattle.ame_parse.specs.Names.{number_in, with_name}
-use Rattle.ame_parse.specs.Letters.{sort_of, effect_named, device_of, sort_by, effect_by, device_by, sort, effect_word, device}
+use Rattle.ame_parse.specs.Letters.{sort_of, effect_named, device_of, sort_by, effect_by, device_by, sort, numbered_sort, effect_word, device}
 use Rattle.ame_parse.specs.Types as t
 use Rattle.ame_parse.specs.Types.{ty, param}
 use Rattle.ame_parse.specs.Reading.{alone, two, choice, binding, more_from, reference, call, function, recursive}
-use Rattle.ame_parse.proofs.Locality.{IsLocal, local_bind, local_pure, local_peek, local_see, local_sees_closing, local_fault, local_expected, local_take, local_advance, local_bound, local_unbound, spelling_alike}
+use Rattle.ame_parse.proofs.Locality.{IsLocal, local_bind, local_pure, local_peek, local_see, local_sees_closing, local_fault, local_expected, local_take, local_advance, local_bound, local_unbound, local_count, spelling_alike}
 
 -- ---- steps by the next token
 
@@ -42,7 +42,7 @@ unfolding name_number named spelling
 take_name_local m = local_take m name_number named (λ i. refl) (λ i. refl) (λ i i' twin alike.
     let spelt = spelling_alike i.rest i'.rest alike in (
       ap (λ z. number_in z (spelling_in i'.rest)) twin.names ∙ ap (number_in i.names) spelt,
-      record { names = ap (λ z. with_name z (spelling_in i'.rest)) twin.names ∙ ap (with_name i.names) spelt; scope = twin.scope },
+      record { names = ap (λ z. with_name z (spelling_in i'.rest)) twin.names ∙ ap (with_name i.names) spelt; scope = twin.scope; refs = twin.refs },
     ))
 
 name_by_local : (m : ℕ) (next : Ahead) → IsLocal m (name_by next)
@@ -72,6 +72,10 @@ sort_by_local m None = local_expected m want.Sort
 local_sort : (m : ℕ) → IsLocal m sort
 unfolding sort
 local_sort m = local_bind m (λ i. Ok (spelling i, i)) (λ z. sort_by (sort_of z)) (local_see m) (λ z. sort_by_local m (sort_of z))
+
+local_numbered_sort : (m : ℕ) → IsLocal m numbered_sort
+unfolding numbered_sort
+local_numbered_sort m = local_bind m sort _ (local_sort m) (λ s. local_bind m count_ref _ (local_count m) (λ k. local_pure m (s, k)))
 
 effect_by_local : (m : ℕ) (found : Option Effect) → IsLocal m (effect_by found)
 effect_by_local m (Some found) = local_bind m advance (λ _. pure found) (local_advance m) (λ _. local_pure m found)
@@ -170,7 +174,7 @@ module _ (m : ℕ) (part : Parser Tree) (local : IsLocal m part) where
 
   pub reference_local : IsLocal m (reference part)
   unfolding reference
-  reference_local = local_bind m sort _ (local_sort m) (λ s. alone_local (Tree.One (unary.Ref s)))
+  reference_local = local_bind m numbered_sort _ (local_numbered_sort m) (λ p. alone_local (Tree.One (unary.Ref p.0 p.1)))
 
   pub call_local : IsLocal m (call part)
   unfolding call

@@ -1,5 +1,5 @@
 -- What is read, or the fault, depends on the lexemes alone, and on none after the next one.
-use Rattle.std.proofs.Common.{◌≡◌, refl, sym, ap, subst, ◌∙◌, ℕ, ◌-◌, ◌≤◌, List, [], ◌∷◌, ◌++◌, length, map, take, drop, length-append, append_assoc, arith, Option, Some, None, Ok, Err}
+use Rattle.std.proofs.Common.{◌≡◌, refl, sym, ap, subst, ◌∙◌, ℕ, ◌+◌, ◌-◌, ◌≤◌, List, [], ◌∷◌, ◌++◌, length, map, take, drop, length-append, append_assoc, arith, Option, Some, None, Ok, Err}
 use Rattle.std.proofs.lemmas.List.{take-append-drop}
 use Rattle.ame_lex.specs.Bytes.{Text}
 use Rattle.ame_parse.specs.declared.ahead.Ahead.{Ahead}
@@ -7,7 +7,7 @@ use Rattle.ame_parse.specs.declared.ahead.Ahead.TheVariants as a
 use Rattle.ame_parse.specs.declared.fault.Want.{Want}
 use Rattle.ame_parse.specs.declared.fault.ParseFault.{ParseFault}
 use Rattle.ame_parse.specs.declared.fault.ParseFault.TheVariants.{Expected}
-use Rattle.ame_parse.specs.Input.{Seen, Input, ParseOutcome, Parser, and_then, ◌>>=◌, pure, expected, peek, advance, mark, bind_name, unbind, ahead_of, ahead_in, place_in, spelling_in, ahead, place, spelling, advanced, marked, bound, unbound, is_closing, sees_closing}
+use Rattle.ame_parse.specs.Input.{Seen, Input, ParseOutcome, Parser, and_then, ◌>>=◌, pure, expected, peek, advance, mark, bind_name, unbind, ahead_of, ahead_in, place_in, spelling_in, ahead, place, spelling, advanced, marked, bound, unbound, counted, count_ref, is_closing, sees_closing}
 use Rattle.ame_parse.specs.Fault.{Lexeme, lexeme_of, first_lexeme, place_of, at_place}
 
 -- ---- what begins alike
@@ -78,6 +78,7 @@ first_behind (x ∷ front) (y ∷ front') rest rest' same alike = ap Some (head_
 pub record IsTwin (i i' : Input) : Type 0 where
   pub names : i'.names ≡ i.names
   pub scope : i'.scope ≡ i.scope
+  pub refs : i'.refs ≡ i.refs
 
 -- A twin begins with tokens of the same lexemes as these, goes on with those, and the next lexeme is the same.
 pub record Follows (m : ℕ) (i : Input) (used next : List Seen) (i' : Input) (rest' : List Seen) : Type 0 where
@@ -256,16 +257,28 @@ local_take m tell change rest end twin i few =
 
 pub local_advance : (m : ℕ) → IsLocal m advance
 unfolding advanced
-local_advance m = local_take m (λ i. tt) advanced (λ i. refl) (λ i. refl) (λ i i' twin alike. (refl, record { names = twin.names; scope = twin.scope }))
+local_advance m = local_take m (λ i. tt) advanced (λ i. refl) (λ i. refl) (λ i i' twin alike. (refl, record { names = twin.names; scope = twin.scope; refs = twin.refs }))
 
 pub local_mark : (m : ℕ) → IsLocal m mark
 unfolding marked
-local_mark m = local_change m marked (λ i. refl) (λ i. refl) (λ i i' twin. record { names = twin.names; scope = twin.scope })
+local_mark m = local_change m marked (λ i. refl) (λ i. refl) (λ i i' twin. record { names = twin.names; scope = twin.scope; refs = twin.refs })
 
 pub local_bound : (m : ℕ) (x : ℕ) → IsLocal m (bind_name x)
 unfolding bound
-local_bound m x = local_change m (bound x) (λ i. refl) (λ i. refl) (λ i i' twin. record { names = twin.names; scope = ap (λ s. s ++ x ∷ []) twin.scope })
+local_bound m x = local_change m (bound x) (λ i. refl) (λ i. refl) (λ i i' twin. record { names = twin.names; scope = ap (λ s. s ++ x ∷ []) twin.scope; refs = twin.refs })
 
 pub local_unbound : (m : ℕ) → IsLocal m unbind
 unfolding unbound
-local_unbound m = local_change m unbound (λ i. refl) (λ i. refl) (λ i i' twin. record { names = twin.names; scope = ap (λ s. take (length s - 1) s) twin.scope })
+local_unbound m = local_change m unbound (λ i. refl) (λ i. refl) (λ i i' twin. record { names = twin.names; scope = ap (λ s. take (length s - 1) s) twin.scope; refs = twin.refs })
+
+pub local_count : (m : ℕ) → IsLocal m count_ref
+unfolding counted
+local_count m i few = goes [] refl refl (λ i' rest' follows.
+    let twin = follows.twin in
+    record {
+      last = counted i';
+      reads = ap (λ (r : ℕ). Ok (record { 0 = r }, counted i')) twin.refs;
+      twin = record { names = twin.names; scope = twin.scope; refs = ap (λ r. r + 1) twin.refs };
+      left = all_left follows;
+      ends = refl;
+    })

@@ -13,15 +13,20 @@ use Rattle.ame_parse.specs.declared.ahead.Ahead.{Ahead}
 use Rattle.ame_parse.specs.declared.ahead.Ahead.TheVariants as a
 use Rattle.ame_parse.specs.declared.fault.ParseFault.TheVariants.{UnknownName}
 use Rattle.ame_parse.specs.declared.forms.Opener.TheVariants as opener
-use Rattle.ame_parse.specs.Input.{Input, Parser, ◌>>=◌, pure, is_closing, ahead, spelling, place, advanced, marked, name_number, named, binds_name, bound, unbound, tokens_left, sees_closing}
+use Rattle.ame_parse.specs.Input.{Input, Parser, ◌>>=◌, pure, is_closing, ahead, spelling, place, advanced, marked, name_number, named, binds_name, bound, unbound, ref_number, counted, tokens_left, sees_closing}
 use Rattle.ame_parse.specs.Forms.{opener_of, op_of, row}
 use Rattle.ame_parse.specs.Types.{ty, param}
 use Rattle.ame_parse.specs.Reading.{alone, two, choice, binding, more_from, more, first_two, sequence, reference, call, function, recursive, form_by, compound, variable, yielding, constant, atom_by, atom, term_by, term_of, nested, term}
 use Rattle.ame_parse.specs.Grammar as g
 use Rattle.ame_parse.specs.Grammar.{IsUnary, IsBinary, IsType, IsParam, IsTerm, IsForm, AreParts}
 use Rattle.ame_parse.proofs.Steps.{Leads, leads_pure, leads_on, leads_shut, leads_name}
-use Rattle.ame_parse.proofs.LetterSteps.{leads_sort, leads_effect, leads_device, op_is}
+use Rattle.ame_parse.proofs.LetterSteps.{leads_numbered_sort, leads_effect, leads_device, op_is}
 use Rattle.ame_parse.proofs.TypeSoundness.{ty_leads, param_leads}
+
+-- to take a token leaves the count of `ref` forms as it was
+same_number : (i : Input) → ref_number i ≡ ref_number (advanced (advanced i))
+unfolding advanced
+same_number i = refl
 
 closing_test : (next : Ahead) → is_closing next ≡ true → next ≡ a.Closing
 closing_test a.Closing e = refl
@@ -88,8 +93,10 @@ module _ (n : ℕ) (part : Parser Tree) (gives : (i : Input) → Leads part i (I
 
   reference_leads : (i : Input) → ahead i ≡ a.Reserved w.Ref → Leads (reference part) (advanced i) (IsForm n i)
   unfolding reference
-  reference_leads i e = leads_sort _ (IsForm n i) (advanced i) (λ s sort.
-      alone_leads (Tree.One (unary.Ref s)) (IsForm n i) (advanced (advanced i)) (λ x j h shut. g.ref e sort h shut))
+  reference_leads i e = leads_numbered_sort _ (IsForm n i) (advanced i) (λ s sort.
+      let number = ref_number (advanced (advanced i)) in
+      alone_leads (Tree.One (unary.Ref s number)) (IsForm n i) (counted (advanced (advanced i)))
+      (λ x j h shut. subst (λ k. IsForm n i (Tree.One (unary.Ref s k) x) (advanced j)) (same_number i) (g.ref e sort h shut)))
 
   call_leads : (i : Input) → ahead i ≡ a.Reserved w.Call → Leads (call part) (advanced i) (IsForm n i)
   unfolding call

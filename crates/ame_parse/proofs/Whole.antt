@@ -17,7 +17,9 @@ use Rattle.ame_parse.specs.Grammar as g
 use Rattle.ame_parse.specs.Grammar.{IsTerm, Spells}
 use Rattle.ame_term.specs.SourceTerm.{nodes, IsSourceTerm, IsBound}
 use Rattle.ame_parse.proofs.Facts.{term_places, term_source}
+use Rattle.ame_term.specs.Numbered.{IsNumbered}
 use Rattle.ame_parse.proofs.Bound.{term_closed}
+use Rattle.ame_parse.proofs.Numbering.{term_numbered}
 use Rattle.ame_parse.proofs.Steps.{Leads, leads_pure, leads_on, leads_end}
 use Rattle.ame_parse.proofs.Soundness.{term_leads}
 use Rattle.ame_parse.proofs.Completeness.{term_reads}
@@ -90,9 +92,15 @@ pub record IsProgram (tree : Tree) (places : List ℕ) : Type 0 where
   pub placed : length places ≡ nodes tree
   pub source : IsSourceTerm tree
   pub bound : IsBound [] tree
+  pub numbered : IsNumbered 0 tree
 
 pub program_is : (text : Text) (tokens : List Token) (i j : Input) (tree : Tree) → i ≡ start_of text tokens → program i ≡ Ok (tree, j) → IsProgram tree j.places
 program_is text tokens i j tree start e =
     let none : i.places ≡ [] = ap (λ k. k.places) start in
     let whole = program_leads i tree j e in
-    record { placed = omega (arith, term_places whole.term, ap length none); source = term_source whole.term; bound = term_closed whole.term (ap (λ k. k.scope) start) }
+    record {
+      placed = omega (arith, term_places whole.term, ap length none);
+      source = term_source whole.term;
+      bound = term_closed whole.term (ap (λ k. k.scope) start);
+      numbered = term_numbered whole.term 0 (sym (ap (λ k. k.refs) start));
+    }

@@ -15,7 +15,7 @@ use Rattle.ame_parse.specs.declared.ahead.Ahead.TheVariants as a
 use Rattle.ame_parse.specs.declared.fault.Want.TheVariants as want
 use Rattle.ame_parse.specs.declared.fault.ParseFault.{ParseFault}
 use Rattle.ame_parse.specs.declared.fault.ParseFault.TheVariants.{Expected, UnknownName, TooNested, Trailing}
-use Rattle.ame_parse.specs.Input.{Input, ahead, place, advanced, marked, name_number, named, binds_name, bound}
+use Rattle.ame_parse.specs.Input.{Input, ahead, place, advanced, marked, name_number, named, binds_name, bound, counted}
 use Rattle.ame_parse.specs.Seen.{start_of}
 use Rattle.ame_parse.specs.Reading.{max_open}
 use Rattle.ame_parse.specs.Grammar.{IsSort, IsEffect, IsUnary, IsBinary, IsType, IsParam, IsTerm}
@@ -87,6 +87,8 @@ pub data Piece : Type 0 where
   End : Piece
   -- nothing; this name is bound from here on
   Binder : ℕ → Piece
+  -- nothing; a `ref` form more is counted from here on
+  Counter : Piece
 
 -- The first input begins with the piece, and goes on as the second.
 pub data Passes : Piece → Input → Input → Type 0 where
@@ -98,6 +100,7 @@ pub data Passes : Piece → Input → Input → Type 0 where
   sort : {i : Input} {sort : Sort} → IsSort i sort → Passes Piece.SortLetter i (advanced i)
   device : {device : ℕ} {i : Input} → ahead i ≡ a.Number (pos device) → device < 256 → Passes Piece.DeviceNumber i (advanced i)
   binder : {x : ℕ} {i : Input} → Passes (Piece.Binder x) i (bound x i)
+  counter : {i : Input} → Passes Piece.Counter i (counted i)
 
 -- What must stand after the word or the symbol of a form of terms.
 pub data Shape (n : ℕ) (i : Input) : List Piece → Type 0 where
@@ -110,7 +113,7 @@ pub data Shape (n : ℕ) (i : Input) : List Piece → Type 0 where
   sequence : ahead i ≡ a.Reserved w.Do → Shape n i (Piece.Term n ∷ Piece.Term n ∷ Piece.Parts n ∷ [])
   choice : ahead i ≡ a.Reserved w.If → Shape n i (Piece.Term n ∷ Piece.Term n ∷ Piece.Term n ∷ Piece.Closing ∷ [])
   one : {word : Word} {op : Unary} → ahead i ≡ a.Reserved word → IsUnary word op → Shape n i (Piece.Term n ∷ Piece.Closing ∷ [])
-  ref : ahead i ≡ a.Reserved w.Ref → Shape n i (Piece.SortLetter ∷ Piece.Term n ∷ Piece.Closing ∷ [])
+  ref : ahead i ≡ a.Reserved w.Ref → Shape n i (Piece.SortLetter ∷ Piece.Counter ∷ Piece.Term n ∷ Piece.Closing ∷ [])
   call : ahead i ≡ a.Reserved w.Call → Shape n i (Piece.DeviceNumber ∷ Piece.Term n ∷ Piece.Closing ∷ [])
   two : {next : Ahead} {op : Binary} → ahead i ≡ next → IsBinary next op → Shape n i (Piece.Term n ∷ Piece.Term n ∷ Piece.Closing ∷ [])
   async : ahead i ≡ a.Reserved w.Async → Shape n i (Piece.Term n ∷ Piece.Closing ∷ [])

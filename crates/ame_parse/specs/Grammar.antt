@@ -18,7 +18,7 @@ use Rattle.ame_parse.specs.declared.words.Word.{Word}
 use Rattle.ame_parse.specs.declared.words.Word.TheVariants as w
 use Rattle.ame_parse.specs.declared.ahead.Ahead.{Ahead}
 use Rattle.ame_parse.specs.declared.ahead.Ahead.TheVariants as a
-use Rattle.ame_parse.specs.Input.{Input, ahead, spelling, advanced, marked, name_number, named, binds_name, bound, unbound}
+use Rattle.ame_parse.specs.Input.{Input, ahead, spelling, advanced, marked, name_number, named, binds_name, bound, unbound, ref_number, counted}
 use Rattle.ame_parse.specs.Seen.{start_of}
 use Rattle.ame_parse.specs.Forms.{row}
 use Rattle.ame_parse.specs.Reading.{max_open}
@@ -177,12 +177,13 @@ mutual
         → IsTerm n (advanced i) part j
         → ahead j ≡ a.Closing
         → IsForm n i (Tree.One op part) (advanced j)
+    -- its number is how many of these forms began before it
     ref : {n : ℕ} {i j : Input} {sort : Sort} {part : Tree}
         → ahead i ≡ a.Reserved w.Ref
         → IsSort (advanced i) sort
-        → IsTerm n (advanced (advanced i)) part j
+        → IsTerm n (counted (advanced (advanced i))) part j
         → ahead j ≡ a.Closing
-        → IsForm n i (Tree.One (unary.Ref sort) part) (advanced j)
+        → IsForm n i (Tree.One (unary.Ref sort (ref_number i)) part) (advanced j)
     call : {n device : ℕ} {i j : Input} {part : Tree}
         → ahead i ≡ a.Reserved w.Call
         → ahead (advanced i) ≡ a.Number (pos device)

@@ -1,8 +1,9 @@
 -- What is read from, and the steps that every form is read by.
-use Rattle.std.specs.Prelude.{◌≡◌, ◌≢◌, ℕ, Bool, true, false, List, [], ◌∷◌, ◌++◌, length, take, drop, ◌-◌, ◌==◌, if◌then◌else◌, Option, Some, None, Result, Ok, Err}
+use Rattle.std.specs.Prelude.{◌≡◌, ◌≢◌, ℕ, Bool, true, false, List, [], ◌∷◌, ◌++◌, length, take, drop, ◌+◌, ◌-◌, ◌==◌, if◌then◌else◌, Option, Some, None, Result, Ok, Err}
 use Rattle.ame_lex.specs.Bytes.{Text}
 use Rattle.ame_lex.specs.declared.tokens.Kind.{Kind}
 use Rattle.ame_lex.specs.declared.tokens.Kind.TheVariants as kind
+use Rattle.ame_term.specs.declared.types.TyNo.{TyNo}
 use Rattle.ame_parse.specs.declared.words.Word.{Word}
 use Rattle.ame_parse.specs.declared.ahead.Ahead.{Ahead}
 use Rattle.ame_parse.specs.declared.ahead.Ahead.TheVariants as a
@@ -29,6 +30,8 @@ pub record Input : Type 0 where
   pub scope : List ℕ
   -- the places of the nodes so far, in preorder
   pub places : List ℕ
+  -- how many `ref` forms began so far
+  pub refs : ℕ
 
 -- what a word is that may be reserved
 abbrev pub ahead_of_word : Option Word → Ahead
@@ -88,6 +91,13 @@ bound x i = record i { scope = i.scope ++ x ∷ [] }
 
 unfoldable pub unbound : Input → Input
 unbound i = record i { scope = take (length i.scope - 1) i.scope }
+
+-- the number of a `ref` form that begins, and the input with one more of them
+abbrev pub ref_number : Input → TyNo
+ref_number i = record { 0 = i.refs }
+
+unfoldable pub counted : Input → Input
+counted i = record i { refs = i.refs + 1 }
 
 -- how many tokens are left
 unfoldable pub tokens_left : Input → ℕ
@@ -169,6 +179,10 @@ bind_name x = λ i. Ok (tt, bound x i)
 
 abbrev pub unbind : Parser (Unit {0})
 unbind = λ i. Ok (tt, unbound i)
+
+-- a `ref` form begins, and has this number
+abbrev pub count_ref : Parser TyNo
+count_ref = λ i. Ok (ref_number i, counted i)
 
 -- nothing comes after the program
 abbrev pub finish_by : Ahead → Parser (Unit {0})

@@ -4,12 +4,13 @@ use Rattle.std.specs.Str.{bytes_eq}
 use Rattle.ame_lex.specs.Bytes.{Text}
 use Rattle.ame_term.specs.declared.types.Sort.{Sort}
 use Rattle.ame_term.specs.declared.types.Sort.TheVariants as sorts
+use Rattle.ame_term.specs.declared.types.TyNo.{TyNo}
 use Rattle.ame_term.specs.declared.types.Effect.{Effect}
 use Rattle.ame_term.specs.declared.types.Effect.TheVariants as effects
 use Rattle.ame_parse.specs.declared.ahead.Ahead.{Ahead}
 use Rattle.ame_parse.specs.declared.ahead.Ahead.TheVariants as a
 use Rattle.ame_parse.specs.declared.fault.Want.TheVariants as want
-use Rattle.ame_parse.specs.Input.{Parser, ◌>>◌, pure, expected, advance, ahead, spelling}
+use Rattle.ame_parse.specs.Input.{Parser, ◌>>=◌, ◌>>◌, pure, expected, advance, ahead, spelling, count_ref}
 
 unfoldable pub sort_of : Text → Option Sort
 sort_of word = if bytes_eq word (codes "p") then Some sorts.Protected else (if bytes_eq word (codes "u") then Some sorts.Unprotected else None)
@@ -36,6 +37,13 @@ sort_by None = expected want.Sort
 
 unfoldable pub sort : Parser Sort
 sort = λ i. sort_by (sort_of (spelling i)) i
+
+-- the sort of a `ref` form, and its number
+unfoldable pub numbered_sort : Parser (Sort × TyNo)
+numbered_sort = do
+  which ← sort
+  number ← count_ref
+  pure (which, number)
 
 abbrev pub effect_by : Option Effect → Parser Effect
 effect_by (Some found) = advance >> pure found

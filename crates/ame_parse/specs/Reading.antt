@@ -13,7 +13,7 @@ use Rattle.ame_parse.specs.declared.forms.Opener.{Opener}
 use Rattle.ame_parse.specs.declared.forms.Opener.TheVariants as opener
 use Rattle.ame_parse.specs.Forms.{opener_of, row}
 use Rattle.ame_parse.specs.Input.{Parser, ◌>>=◌, ◌>>◌, pure, expected, peek, place, advance, mark, closing, sees_closing, name, binds_name, bind_name, unbind, tokens_left, finish}
-use Rattle.ame_parse.specs.Letters.{sort, effect_word, device}
+use Rattle.ame_parse.specs.Letters.{numbered_sort, effect_word, device}
 use Rattle.ame_parse.specs.Types.{ty, param}
 
 -- ---- the forms, over parsers of their terms, parameters and types
@@ -29,8 +29,8 @@ module _ (part : Parser Tree) where
   -- the sort of the reference stands before the part
   unfoldable pub reference : Parser Tree
   reference = do
-    which ← sort
-    alone (Tree.One (unary.Ref which))
+    which ← numbered_sort
+    alone (Tree.One (unary.Ref which.0 which.1))
 
   -- the number of the device stands before the part
   unfoldable pub call : Parser Tree

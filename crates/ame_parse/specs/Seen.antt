@@ -10,4 +10,4 @@ seen text token = record { place = token.start; kind = token.kind; spelling = sp
 
 -- the input before the first token of a text
 abbrev pub start_of : Text → List Token → Input
-start_of text tokens = record { rest = map (seen text) tokens; end = length text; names = []; scope = []; places = [] }
+start_of text tokens = record { rest = map (seen text) tokens; end = length text; names = []; scope = []; places = []; refs = 0 }

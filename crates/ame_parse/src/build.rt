@@ -14,7 +14,7 @@ pub fn one(alloc: Global, op: Unary, part: Term) -> Result<Term, AllocError>
     let part = Box::new(alloc, part)?;
     Ok(match op {
         Unary::Not => Term::Not(part),
-        Unary::Ref(sort) => Term::Ref(sort, part),
+        Unary::Ref(sort, number) => Term::Ref(sort, number, part),
         Unary::Get => Term::Get(part),
         Unary::Peek => Term::Peek(part),
         Unary::Block => Term::Block(part),

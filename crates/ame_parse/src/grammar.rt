@@ -11,7 +11,7 @@ use crate::ahead::Ahead;
 use crate::build;
 use crate::fault::{ParseFault, Want};
 use crate::forms::{Opener, opener_of};
-use crate::letters::{device, effect, sort};
+use crate::letters::{device, effect, numbered_sort};
 use crate::reader::Reader;
 use crate::ty::{param, ty};
 use crate::words::Word;
@@ -96,8 +96,8 @@ fn one(alloc: Global, reader: &mut Reader<'_>, depth: usize, op: Unary) -> Resul
 fn reference(alloc: Global, reader: &mut Reader<'_>, depth: usize) -> Result<Term, ParseFault>
     ensures { Reads tree_of (spec.reference (spec.term depth) reader.old) result reader.new }
 {
-    let sort = sort(reader)?;
-    one(alloc, reader, depth, Unary::Ref(sort))
+    let (sort, number) = numbered_sort(reader)?;
+    one(alloc, reader, depth, Unary::Ref(sort, number))
 }
 
 #[cycle(grammar)]

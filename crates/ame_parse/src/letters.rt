@@ -8,7 +8,7 @@ ghost use Rattle.ame_parse.specs.Letters as spec;
 use crate::ahead::Ahead;
 use crate::fault::{ParseFault, Want};
 use crate::reader::Reader;
-use ame_term::{Effect, Sort};
+use ame_term::{Effect, Sort, TyNo};
 
 fn is_spelled(spelling: &[u8], word: &[u8]) -> bool
     ensures { result ≡ bytes_eq spelling.now word.now }
@@ -63,6 +63,17 @@ pub fn sort(reader: &mut Reader<'_>) -> Result<Sort, ParseFault>
             reader.advance();
             Ok(sort)
         }
+        None => Err(reader.expected(Want::Sort)),
+    }
+}
+
+/// The sort of a `ref` form, and its number.
+#[tactic(auto, using(crate::proofs::ReaderLemmas::sort_is_left), unfolding(crate::specs::Letters::numbered_sort, crate::specs::Letters::sort))]
+pub fn numbered_sort(reader: &mut Reader<'_>) -> Result<(Sort, TyNo), ParseFault>
+    ensures { Reads (λ x. x) (spec.numbered_sort reader.old) result reader.new }
+{
+    match sort_of(reader.spelling()) {
+        Some(sort) => Ok((sort, reader.take_ref())),
         None => Err(reader.expected(Want::Sort)),
     }
 }

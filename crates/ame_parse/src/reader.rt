@@ -11,7 +11,7 @@ use crate::ahead::{Ahead, ahead_of};
 use crate::fault::{ParseFault, Want};
 use crate::names::Names;
 use ame_lex::{Kind, Token};
-use ame_term::Name;
+use ame_term::{Name, TyNo};
 use std::alloc::{AllocError, Global};
 use std::marker::Model;
 
@@ -23,6 +23,8 @@ pub struct Reader<'a> {
     /// The numbers of the names that are bound, the innermost last.
     scope: Vec<u32>,
     places: Vec<u32>,
+    /// How many `ref` forms began.
+    refs: u32,
 }
 
 impl<'a> Model for Reader<'a> {
@@ -50,6 +52,7 @@ impl<'a> Reader<'a> {
             names: Names::new(alloc),
             scope: Vec::new(alloc),
             places: Vec::new(alloc),
+            refs: 0,
         }
     }
 
@@ -213,6 +216,19 @@ impl<'a> Reader<'a> {
         ensures { self.new ≡ spec.unbound self.old }
     {
         let _name = self.scope.pop();
+    }
+
+    /// Takes the next token, with which a `ref` form begins, and gives the form its number.
+    #[tactic(auto, unfolding(crate::specs::Input::tokens_left, crate::specs::Input::advanced, crate::specs::Input::counted))]
+    pub fn take_ref(&mut self) -> TyNo
+        requires { 0 < spec.tokens_left self.old }
+        ensures number { result ≡ spec.ref_number (spec.advanced self.old) }
+        ensures next { self.new ≡ spec.counted (spec.advanced self.old) }
+    {
+        let number = TyNo(self.refs);
+        self.rest = self.rest.split_at(1).1;
+        self.refs += 1;
+        number
     }
 
     /// The names by their numbers, and the places.

@@ -37,10 +37,11 @@ pub record IsFirstOf (names all : List Text) : Type 0 where
   pub more : List Text
   pub split : all ≡ names ++ more
 
--- two inputs with the same names, of which the same are bound
+-- two inputs with the same names, of which the same are bound, and with as many `ref` forms before them
 pub record IsLike (i i' : Input) : Type 0 where
   pub names : i'.names ≡ i.names
   pub scope : i'.scope ≡ i.scope
+  pub refs : i'.refs ≡ i.refs
 
 -- an input that goes on with these tokens, and is like another one
 pub record Reaches (P : Input → Type 0) (j : Input) (more : List Printed) : Type 0 where

@@ -5,7 +5,7 @@ use Rattle.std.specs.Str.{bytes_eq}
 use Rattle.std.proofs.Math.Seq.{take-append_seam}
 use Rattle.ame_lex.specs.Bytes.{Text}
 use Rattle.ame_term.specs.Tree.{Typ, Head, Tree}
-use Rattle.ame_parse.specs.Input.{Seen, Input, advanced, marked, spelling, named, bound, unbound}
+use Rattle.ame_parse.specs.Input.{Seen, Input, advanced, marked, spelling, named, bound, unbound, counted}
 use Rattle.ame_parse.specs.Names.{with_name}
 use Rattle.ame_parse.specs.Grammar as g
 use Rattle.ame_parse.specs.Grammar.{IsType, IsTypeForm, IsParam, IsFunctionHead, outside, IsTerm, IsForm, AreParts}
@@ -49,6 +49,10 @@ grows_after i = record { names = first_itself i.names; scope = refl; good = good
 pub grows_marked : (i : Input) → Grows i (marked i)
 unfolding marked
 grows_marked i = record { names = first_itself i.names; scope = refl; good = λ h. h }
+
+pub grows_counted : (i : Input) → Grows i (counted i)
+unfolding counted
+grows_counted i = record { names = first_itself i.names; scope = refl; good = λ h. h }
 
 pub grows_named : (i : Input) → Grows i (named i)
 unfolding named
@@ -121,7 +125,7 @@ mutual
   form_grows (g.sequence {i = i} {l = l} e h h' others shut) = grows_after i ▸ term_grows h ▸ term_grows h' ▸ parts_grow others ▸ grows_after l
   form_grows (g.choice {i = i} {l = l} e h h' h'' shut) = grows_after i ▸ term_grows h ▸ term_grows h' ▸ term_grows h'' ▸ grows_after l
   form_grows (g.one {i = i} {j = j} e is h shut) = grows_after i ▸ term_grows h ▸ grows_after j
-  form_grows (g.ref {i = i} {j = j} e s h shut) = grows_after i ▸ grows_after (advanced i) ▸ term_grows h ▸ grows_after j
+  form_grows (g.ref {i = i} {j = j} e s h shut) = grows_after i ▸ grows_after (advanced i) ▸ grows_counted (advanced (advanced i)) ▸ term_grows h ▸ grows_after j
   form_grows (g.call {i = i} {j = j} e d small h shut) = grows_after i ▸ grows_after (advanced i) ▸ term_grows h ▸ grows_after j
   form_grows (g.two {i = i} {k = k} e is h h' shut) = grows_after i ▸ term_grows h ▸ term_grows h' ▸ grows_after k
   form_grows (g.async {i = i} {j = j} e h shut) = grows_after i ▸ term_grows h ▸ grows_after j

@@ -1,10 +1,10 @@
 -- Tokens that are read as a part, and how parts join.
-use Rattle.std.proofs.Common.{◌≡◌, refl, sym, ap, subst, ◌∙◌, ℕ, suc, List, [], ◌∷◌, ◌++◌, drop, take, length, ◌-◌, append_assoc}
+use Rattle.std.proofs.Common.{◌≡◌, refl, sym, ap, subst, ◌∙◌, ℕ, suc, List, [], ◌∷◌, ◌++◌, drop, take, length, ◌+◌, ◌-◌, append_assoc}
 use Rattle.std.specs.List.{AllByRecursion}
 use Rattle.ame_term.specs.Tree.{Typ, Tree}
 use Rattle.ame_parse.specs.declared.ahead.Ahead.{Ahead}
 use Rattle.ame_parse.specs.declared.ahead.Ahead.TheVariants as a
-use Rattle.ame_parse.specs.Input.{Seen, Input, ahead_of, ahead_in, ahead, spelling_in, spelling, advanced, marked, name_number, named, bound, unbound}
+use Rattle.ame_parse.specs.Input.{Seen, Input, ahead_of, ahead_in, ahead, spelling_in, spelling, advanced, marked, name_number, named, bound, unbound, counted}
 use Rattle.ame_parse.specs.Names.{number_in, with_name}
 use Rattle.ame_parse.specs.Grammar as g
 use Rattle.ame_parse.specs.Grammar.{IsType, IsTypeForm, IsTerm, IsForm}
@@ -40,24 +40,24 @@ pub record Moves (token : Printed) (step : Input → Input) (i k : Input) : Type
 
 pub moves_after : (token : Printed) (i : Input) → Moves token advanced i (advanced i)
 unfolding advanced
-moves_after token i = record { like = λ i' like e. record { names = like.names; scope = like.scope }; rest = λ i'. refl }
+moves_after token i = record { like = λ i' like e. record { names = like.names; scope = like.scope; refs = like.refs }; rest = λ i'. refl }
 
 pub moves_marked : (token : Printed) (i : Input) → Moves token (λ i. advanced (marked i)) i (advanced (marked i))
 unfolding advanced marked
-moves_marked token i = record { like = λ i' like e. record { names = like.names; scope = like.scope }; rest = λ i'. refl }
+moves_marked token i = record { like = λ i' like e. record { names = like.names; scope = like.scope; refs = like.refs }; rest = λ i'. refl }
 
 pub moves_marked_twice : (token : Printed) (i k : Input) → IsLike i k → Moves token (λ i. advanced (marked (marked i))) i k
 unfolding advanced marked
-moves_marked_twice token i k same = record { like = λ i' like e. record { names = like.names ∙ sym same.names; scope = like.scope ∙ sym same.scope }; rest = λ i'. refl }
+moves_marked_twice token i k same = record { like = λ i' like e. record { names = like.names ∙ sym same.names; scope = like.scope ∙ sym same.scope; refs = like.refs ∙ sym same.refs }; rest = λ i'. refl }
 
 -- where the input before the token is like the one after it
 moves_open : (i : Input) → Moves open_token advanced i i
 unfolding advanced
-moves_open i = record { like = λ i' like e. record { names = like.names; scope = like.scope }; rest = λ i'. refl }
+moves_open i = record { like = λ i' like e. record { names = like.names; scope = like.scope; refs = like.refs }; rest = λ i'. refl }
 
 moves_open_marked : (i : Input) → Moves open_token (λ i. advanced (marked i)) i i
 unfolding advanced marked
-moves_open_marked i = record { like = λ i' like e. record { names = like.names; scope = like.scope }; rest = λ i'. refl }
+moves_open_marked i = record { like = λ i' like e. record { names = like.names; scope = like.scope; refs = like.refs }; rest = λ i'. refl }
 
 named_names : (i i' : Input) → IsLike i i' → spelling i' ≡ spelling i → (named i').names ≡ (named i).names
 unfolding named
@@ -65,16 +65,16 @@ named_names i i' like e = ap (λ z. with_name z (spelling i')) like.names ∙ ap
 
 pub moves_named : {token : Printed} (i : Input) → token.bytes ≡ spelling i → Moves token named i (named i)
 unfolding named
-moves_named i e = record { like = λ i' like e'. record { names = named_names i i' like (e' ∙ e); scope = like.scope }; rest = λ i'. refl }
+moves_named i e = record { like = λ i' like e'. record { names = named_names i i' like (e' ∙ e); scope = like.scope; refs = like.refs }; rest = λ i'. refl }
 
 pub moves_variable : {token : Printed} (i : Input) → token.bytes ≡ spelling i → Moves token (λ i. named (marked i)) i (named (marked i))
 unfolding named marked spelling
-moves_variable i e = record { like = λ i' like e'. record { names = named_names i i' like (e' ∙ e); scope = like.scope }; rest = λ i'. refl }
+moves_variable i e = record { like = λ i' like e'. record { names = named_names i i' like (e' ∙ e); scope = like.scope; refs = like.refs }; rest = λ i'. refl }
 
 pub moves_unbound : {token : Printed} {step : Input → Input} {i k : Input} → Moves token step i k → Moves token (λ i. unbound (step i)) i (unbound k)
 unfolding unbound
 moves_unbound moves = record {
-  like = λ i' like e. let h = moves.like i' like e in record { names = h.names; scope = ap (λ s. take (length s - 1) s) h.scope };
+  like = λ i' like e. let h = moves.like i' like e in record { names = h.names; scope = ap (λ s. take (length s - 1) s) h.scope; refs = h.refs };
   rest = moves.rest;
 }
 
@@ -162,17 +162,25 @@ pub within : {tokens : List Printed} {P : Input → Input → Type 0} {j : Input
 unfolding bound
 within x i p = record {
   alone = p.alone;
-  again = λ i' more like e. p.again (bound x i') more (record { names = like.names; scope = ap (λ s. s ++ x ∷ []) like.scope }) e;
+  again = λ i' more like e. p.again (bound x i') more (record { names = like.names; scope = ap (λ s. s ++ x ∷ []) like.scope; refs = like.refs }) e;
+}
+
+-- a part of a `ref` form, which is counted
+pub behind_ref : {tokens : List Printed} {P : Input → Input → Type 0} {j : Input} (i : Input) → Part tokens P (counted i) j → Part tokens (λ i' j'. P (counted i') j') i j
+unfolding counted
+behind_ref i p = record {
+  alone = p.alone;
+  again = λ i' more like e. p.again (counted i') more (record { names = like.names; scope = like.scope; refs = ap (λ r. r + 1) like.refs }) e;
 }
 
 -- the same from the input before a parenthesis
 pub before : {tokens : List Printed} {P : Input → Input → Type 0} {j : Input} (i : Input) → Part tokens P (advanced (marked i)) j → Part tokens P i j
 unfolding advanced marked
-before i p = record { alone = p.alone; again = λ i' more like e. p.again i' more (record { names = like.names; scope = like.scope }) e }
+before i p = record { alone = p.alone; again = λ i' more like e. p.again i' more (record { names = like.names; scope = like.scope; refs = like.refs }) e }
 
 pub before_type : {tokens : List Printed} {P : Input → Input → Type 0} {j : Input} (i : Input) → Part tokens P (advanced i) j → Part tokens P i j
 unfolding advanced
-before_type i p = record { alone = p.alone; again = λ i' more like e. p.again i' more (record { names = like.names; scope = like.scope }) e }
+before_type i p = record { alone = p.alone; again = λ i' more like e. p.again i' more (record { names = like.names; scope = like.scope; refs = like.refs }) e }
 
 -- ---- whole parts
 
@@ -196,7 +204,7 @@ shut_part {n = n} {tree = tree} {i = i} part rule =
     mapped (begun opening_fixed (moves_open_marked i) part)
     (λ i' j' like r.
     let s = r.then in
-    subst (IsTerm (suc n) i' tree) s.end (g.form r.is (rule (advanced (marked i')) s.last (record { names = like.names; scope = like.scope }) s.inside s.next)))
+    subst (IsTerm (suc n) i' tree) s.end (g.form r.is (rule (advanced (marked i')) s.last (record { names = like.names; scope = like.scope; refs = like.refs }) s.inside s.next)))
 
 pub form_part : {n : ℕ} {tree : Tree} {tokens : List Printed} {step : Input → Input} {P : Input → Input → Type 0} {i j k : Input} → Part tokens P i j → Moves close_token step j k
     → ((i' j' : Input) → IsLike i i' → P i' j' → ahead j' ≡ a.Closing → IsForm n i' tree (step j')) → Part (form tokens) (λ i' j'. IsTerm (suc n) i' tree j') i k

@@ -1,14 +1,15 @@
 -- The tokens of terms are read again.
-use Rattle.std.proofs.Common.{◌≡◌, refl, sym, ap, subst, ◌∙◌, ℕ, suc, pos, Bool, true, false, cond, List, [], ◌∷◌, ◌++◌, append_assoc, Some}
+use Rattle.std.proofs.Common.{◌≡◌, refl, sym, ap, subst, ◌∙◌, ℕ, suc, pos, Bool, true, false, cond, List, [], ◌∷◌, ◌++◌, append_assoc}
 use Rattle.std.specs.Prelude.{ℤ, codes}
 use Rattle.std.specs.List.{AllByRecursion}
 use Rattle.ame_lex.specs.Bytes.{Text}
+use Rattle.ame_term.specs.declared.types.Unary.TheVariants as unary
 use Rattle.ame_term.specs.Tree.{Typ, Head, Val, Tree, unit_tree}
 use Rattle.ame_parse.specs.declared.words.Word.{Word}
 use Rattle.ame_parse.specs.declared.words.Word.TheVariants as w
 use Rattle.ame_parse.specs.declared.ahead.Ahead.{Ahead}
 use Rattle.ame_parse.specs.declared.ahead.Ahead.TheVariants as a
-use Rattle.ame_parse.specs.Input.{Input, ahead, advanced, marked, name_number, spelling, named, binds_name, bound, unbound}
+use Rattle.ame_parse.specs.Input.{Input, ahead, advanced, marked, name_number, spelling, named, binds_name, bound}
 use Rattle.ame_parse.specs.Forms.{row}
 use Rattle.ame_parse.specs.Grammar as g
 use Rattle.ame_parse.specs.Grammar.{IsTerm, IsForm, IsParam, IsFunctionHead, outside, IsType, AreParts}
@@ -21,7 +22,7 @@ use Rattle.ame_print.proofs.Alone.{closing_fixed, reserved, sort_fixed, sort_rea
 use Rattle.ame_print.proofs.Parts as parts
 use Rattle.ame_print.proofs.Parts.{Begun, Both, Shut, moves_after, moves_marked, moves_marked_twice, moves_variable, number_like, atom}
 use Rattle.ame_print.proofs.TypesAgain.{type_again, param_again}
-use Rattle.ame_print.proofs.Again.{Again, Adds, adds, over, step, name_step, joined, inner, mapped, regrouped, before, ends, ends_unbound, formed, formed_shut}
+use Rattle.ame_print.proofs.Again.{Again, Adds, adds, over, step, name_step, joined, inner, behind_ref, mapped, regrouped, before, ends, ends_unbound, formed, formed_shut}
 
 -- the tokens are read as the tree, with so many parentheses open
 abbrev IsAgain : List Text → List Printed → ℕ → Input → Tree → Input → Type 0
@@ -77,18 +78,18 @@ is_unit_only : (tree : Tree) → is_unit_tree tree ≡ true → tree ≡ unit_tr
 is_unit_only (Tree.Held value) e = ap Tree.Held (is_unit_value value e)
 is_unit_only _ e = absurd (cc)
 
--- `unit` leaves the names and the scope as they were
+-- `unit` leaves the names, the scope and the count of `ref` forms as they were
 unit_leaves : {n : ℕ} {i j : Input} {tree : Tree} → IsTerm n i tree j → is_unit_tree tree ≡ true → IsLike i j
 unfolding advanced marked
 unit_leaves (g.int e) is = absurd (cc)
-unit_leaves (g.unit e) is = record { names = refl; scope = refl }
+unit_leaves (g.unit e) is = record { names = refl; scope = refl; refs = refl }
 unit_leaves (g.truth e) is = absurd (cc)
 unit_leaves (g.falsehood e) is = absurd (cc)
 unit_leaves (g.yield e) is = absurd (cc)
 unit_leaves (g.variable e is_bound) is = absurd (cc)
 unit_leaves (g.form e form) is = let no = form_is_no_unit form in absurd (cc)
 
--- what leaves the names and the scope as they were is read as `yield`
+-- what leaves them as they were is read as `yield`
 yielded : {all : List Text} {n : ℕ} {part : Tree} {i k : Input} → Adds i k → IsLike i k → part ≡ unit_tree → IsAgain all (word (codes "yield") ∷ []) n i (Tree.Unprotected part) k
 yielded {n = n} {i = i} {k = k} more same e = record {
   adds = more;
@@ -98,7 +99,7 @@ yielded {n = n} {i = i} {k = k} more same e = record {
 
 like_after : {i j : Input} → IsLike (advanced i) j → IsLike i (advanced j)
 unfolding advanced
-like_after same = record { names = same.names; scope = same.scope }
+like_after same = record { names = same.names; scope = same.scope; refs = same.refs }
 
 unprotected : {all : List Text} {n : ℕ} {i j : Input} {part : Tree} → IsTerm n (advanced i) part j → IsAgain all (term_tokens all part) n (advanced i) part j → (b : Bool) → is_unit_tree part ≡ b
     → IsAgain all (term_tokens all (Tree.Unprotected part)) (suc n) i (Tree.Unprotected part) (advanced j)
@@ -148,7 +149,7 @@ AreAgain all n i others k = Again all (row_tokens all (row others) ++ close_toke
 
 like_yield : (i : Input) → IsLike i (advanced (marked (marked i)))
 unfolding advanced marked
-like_yield i = record { names = refl; scope = refl }
+like_yield i = record { names = refl; scope = refl; refs = refl }
 
 -- the word before all parts, and the closing parenthesis after them
 sequenced : {all : List Text} {tokens : List Printed} {head : Printed} {next : Ahead} {P Q R : Input → Input → Type 0} {i k : Input}
@@ -196,9 +197,11 @@ mutual
   form_part (g.one {i = i} {j = j} {word = which} {part = part} e is h is_shut) all =
       regrouped (ap (λ z. form (z ++ term_tokens all part)) (unary_word is))
       (formed (ends j) (step i (reserved which) (term_part h all)) (λ i' j' like r shut. g.one r.is is r.then shut))
-  form_part (g.ref {i = i} {j = j} {sort = sort} e s h is_shut) all =
-      formed (ends j) (step i (reserved w.Ref) (step (advanced i) (sort_fixed sort) (term_part h all)))
-      (λ i' j' like r shut. g.ref r.is (sort_read sort (advanced i') (r.then).spelt) (r.then).then shut)
+  form_part (g.ref {n = n} {i = i} {j = j} {sort = sort} {part = part} e s h is_shut) all =
+      formed (ends j) (step i (reserved w.Ref) (step (advanced i) (sort_fixed sort) (behind_ref (advanced (advanced i)) (term_part h all))))
+      (λ i' j' like r shut.
+      subst (λ (k : ℕ). IsForm n i' (Tree.One (unary.Ref sort (record { 0 = k })) part) (advanced j')) like.refs
+      (g.ref r.is (sort_read sort (advanced i') (r.then).spelt) (r.then).then shut))
   form_part (g.call {device = number_} {i = i} {j = j} e d small h is_shut) all =
       formed (ends j) (step i (reserved w.Call) (device (advanced i) (pos number_) d (term_part h all))) (λ i' j' like r shut. g.call r.is (r.then).is small (r.then).then shut)
   form_part (g.two {i = i} {k = k} e is h h' is_shut) all =

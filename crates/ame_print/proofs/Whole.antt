@@ -36,7 +36,7 @@ spelled_again text source (g.program {tokens = tokens} {tree = tree} {last = las
     let read = term_again term all (record { more = []; split = sym (append-nil all) }) (good text tokens lexes) in
     let laid = lexed_again (term_tokens all tree) read.alone in
     let start = start_of (layout true (term_tokens all tree)) laid.found in
-    let done = read.again start [] (record { names = refl; scope = refl }) (laid.same ∙ sym (append-nil (term_tokens all tree))) in
+    let done = read.again start [] (record { names = refl; scope = refl; refs = refl }) (laid.same ∙ sym (append-nil (term_tokens all tree))) in
     record {
       again = record { names = done.last.names; places = done.last.places; tree = tree };
       spells = g.program laid.lexes done.ends (no_more done.last done.left);

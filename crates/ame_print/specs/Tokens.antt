@@ -40,7 +40,7 @@ op_token op.Same = symbol 61
 -- what stands before the part of a form with one part
 abbrev pub unary_tokens : Unary → List Printed
 unary_tokens unary.Not = word (codes "not") ∷ []
-unary_tokens (unary.Ref sort) = word (codes "ref") ∷ sort_token sort ∷ []
+unary_tokens (unary.Ref sort number) = word (codes "ref") ∷ sort_token sort ∷ []
 unary_tokens unary.Get = word (codes "get") ∷ []
 unary_tokens unary.Peek = word (codes "peek") ∷ []
 unary_tokens unary.Block = word (codes "blockUntil") ∷ []

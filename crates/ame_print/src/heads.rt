@@ -53,7 +53,7 @@ pub fn begin_one(page: &mut Page, op: Unary) -> Result<(), NoMemory>
 {
     match op {
         Unary::Not => page.begin(b"not"),
-        Unary::Ref(which) => {
+        Unary::Ref(which, _) => {
             page.begin(b"ref")?;
             sort(page, which)
         }

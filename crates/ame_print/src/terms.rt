@@ -207,7 +207,7 @@ pub fn term(page: &mut Page, names: &[Vec<u8>], shown: &Term) -> Result<(), NoMe
         Term::If(test, yes, no) => choice(page, names, test, yes, no),
         Term::Bin(op, left, right) => two(page, names, Binary::Bin(*op), left, right),
         Term::Not(part) => one(page, names, Unary::Not, part),
-        Term::Ref(sort, part) => one(page, names, Unary::Ref(*sort), part),
+        Term::Ref(sort, number, part) => one(page, names, Unary::Ref(*sort, *number), part),
         Term::Get(part) => one(page, names, Unary::Get, part),
         Term::Peek(part) => one(page, names, Unary::Peek, part),
         Term::Set(cell, content) => two(page, names, Binary::Set, cell, content),

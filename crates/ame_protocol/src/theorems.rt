@@ -2,6 +2,7 @@
 
 pub mod events;
 
+ghost use Rattle.ame_term.specs.Signature.{Signature};
 ghost use Rattle.std.specs.Prelude.{◌≡◌, ℕ, true, false, Some, List, [], ◌∷◌, ◌++◌, Contains, All, ◌+◌, ◌==◌, ℤ, Bool, None, if◌then◌else◌, ◌*◌, ◌≤◌, length};
 ghost use Rattle.ame_term.specs.Frame.{Side};
 ghost use Rattle.ame_term.specs.Context.{focus};
@@ -28,8 +29,7 @@ ghost use Rattle.ame_rows.specs.declared.notes.Undo.{Undo};
 ghost use Rattle.ame_protocol.specs.Row.UndoLog.{undo_place, IsUndoLog};
 ghost use Rattle.ame_term.specs.declared.types.Sort.{Sort};
 ghost use Rattle.ame_protocol.specs.Row.Waiting.{IsWaiting};
-ghost use Rattle.ame_term.specs.SourceTerm.{IsSourceTerm};
-ghost use Rattle.ame_term.specs.Typing.{Accepts};
+ghost use Rattle.ame_machine.specs.Sound.{IsAccepted};
 ghost use Rattle.ame_protocol.specs.declared.types.Limits.{Limits};
 ghost use Rattle.ame_protocol.specs.Engine.Simulates.{Simulates};
 ghost use Rattle.ame_protocol.specs.Engine.Events.{started};
@@ -59,22 +59,22 @@ ghost use Rattle.ame_protocol.specs.Bounds.Spent.{paid, HasPaidTurns};
 /// A valid row whose run has ended: by the entry the member is gone, and once the seat's cells are released and
 /// show the store, all stands that stood before.
 pub fn ended_rows_commit()
-    ensures { (devices : ℕ) (types : StoreTyping) (old new : Heap) (seat : ℕ) (run : SeatRun) (r : Replayed) (entry : Entry) (n : ℕ) (p : LocalState)
-        → Owes old seat run → AreValid old seat run.reads → IsScoped devices types old seat run → HasUsed run n p
-        → IsCommitted old → ShowsStore old r.state.store → IsTypedNow devices types old r.state → ReleasesAll seat old new
+    ensures { (signature : Signature) (types : StoreTyping) (old new : Heap) (seat : ℕ) (run : SeatRun) (r : Replayed) (entry : Entry) (n : ℕ) (p : LocalState)
+        → Owes old seat run → AreValid old seat run.reads → IsScoped signature types old seat run → HasUsed run n p
+        → IsCommitted old → ShowsStore old r.state.store → IsTypedNow signature types old r.state → ReleasesAll seat old new
         → TellsRun r entry Side.Protected n p → entry.steps ≡ n → entry.kind ≡ EntryKind.Ran
         → is_inside r entry.number ≡ false → IsOrderly r.state → at_value (focus p.term) ≡ true
-        → (t : State) × (replay_entry r entry ≡ Some (staying r t)) × (ShowsStore new t.store → StandsAfterCommit devices types seat old new t) }
+        → (t : State) × (replay_entry r entry ≡ Some (staying r t)) × (ShowsStore new t.store → StandsAfterCommit signature types seat old new t) }
 {}
 
 /// A valid row whose run has come to `unprotected`: so it is, and the member is inside.
 pub fn left_rows_commit()
-    ensures { (devices : ℕ) (types : StoreTyping) (old new : Heap) (seat : ℕ) (run : SeatRun) (r : Replayed) (entry : Entry) (n : ℕ) (p : LocalState)
-        → Owes old seat run → AreValid old seat run.reads → IsScoped devices types old seat run → HasUsed run n p
-        → IsCommitted old → ShowsStore old r.state.store → IsTypedNow devices types old r.state → ReleasesAll seat old new
+    ensures { (signature : Signature) (types : StoreTyping) (old new : Heap) (seat : ℕ) (run : SeatRun) (r : Replayed) (entry : Entry) (n : ℕ) (p : LocalState)
+        → Owes old seat run → AreValid old seat run.reads → IsScoped signature types old seat run → HasUsed run n p
+        → IsCommitted old → ShowsStore old r.state.store → IsTypedNow signature types old r.state → ReleasesAll seat old new
         → TellsRun r entry Side.Protected n p → entry.steps ≡ n → entry.kind ≡ EntryKind.Ran
         → is_inside r entry.number ≡ false → at_unprotected (focus p.term) ≡ true
-        → (t : State) × (replay_entry r entry ≡ Some (entering r entry.number t)) × (ShowsStore new t.store → StandsAfterCommit devices types seat old new t) }
+        → (t : State) × (replay_entry r entry ≡ Some (entering r entry.number t)) × (ShowsStore new t.store → StandsAfterCommit signature types seat old new t) }
 {}
 
 /// After the cell of the last entry was let go the other entries are an undo log.
@@ -94,8 +94,8 @@ pub fn unprotected_code_wakes_nobody()
 
 /// An engine that has just started a program that the types accept stands.
 pub fn engines_start()
-    ensures { (program : Tree) (devices : ℕ) (limits : Limits) (room : ℕ) (places : List ℕ) (refs : List Typ)
-        → Accepts devices places program refs → IsSourceTerm program → Simulates (started program devices limits room) }
+    ensures { (program : Tree) (signature : Signature) (limits : Limits) (room : ℕ)
+        → IsAccepted signature program → Simulates (started program signature limits room) }
 {}
 
 /// The last note of a member that waits is a certificate in the state for which the engine stands. Where all members are
@@ -117,15 +117,15 @@ pub fn certificates_are_computed()
 /// An engine that is opened from a base which leads to a typed state stands for that state, where its cells have the store and
 /// its pool the members. A replayed state of an accepted program is typed.
 pub fn engines_open()
-    ensures { (program : Tree) (devices : ℕ) (limits : Limits) (base : List Entry) (cells : List (Cell Val)) (pool : Roster Tree) (r : Replayed)
-        (types : StoreTyping) → replay program base ≡ Some r → IsTyped devices types r.state → AreOpened types cells r.state → HasMembersOf r pool
-        → Simulates (opened program devices limits base cells pool r.state.output r.state.next) }
+    ensures { (program : Tree) (signature : Signature) (limits : Limits) (base : List Entry) (cells : List (Cell Val)) (pool : Roster Tree) (r : Replayed)
+        (types : StoreTyping) → replay program base ≡ Some r → IsTyped signature types r.state → AreOpened signature types cells r.state → HasMembersOf r pool
+        → Simulates (opened program signature limits base cells pool r.state.output r.state.next) }
 {}
 
 /// And no member is at work, so that those which were rolled back as often as they may be run alone.
 pub fn exhausted_members_open_alone()
-    ensures { (program : Tree) (devices : ℕ) (limits : Limits) (base : List Entry) (cells : List (Cell Val)) (pool : Roster Tree) (output : List ℤ)
-        (next : ℕ) → RunsExclusively (opened program devices limits base cells pool output next) }
+    ensures { (program : Tree) (signature : Signature) (limits : Limits) (base : List Entry) (cells : List (Cell Val)) (pool : Roster Tree) (output : List ℤ)
+        (next : ℕ) → RunsExclusively (opened program signature limits base cells pool output next) }
 {}
 
 /// A visit that ends with a call adds that call to those of its device, with the argument and the answer; any other visit adds
@@ -162,10 +162,10 @@ pub fn paid_turns_need_steps()
 /// The term from which a seat runs a member is typed, and so is each place of a running row that has used all inputs.
 pub fn rows_are_typed()
     ensures member { (parts : Parts) (s : Simulates parts) (seat i : ℕ) → member_of (task_at parts.tasks seat) ≡ Some i
-        → IsMember parts.devices s.types (term_at parts.pool i) }
+        → IsMember parts.signature s.types (term_at parts.pool i) }
     ensures place { (parts : Parts) (s : Simulates parts) (seat : ℕ) (attempt : Attempt) (n : ℕ) (p : LocalState)
         → task_at parts.tasks seat ≡ Task.Running attempt → HasUsed (run_in parts seat attempt.tried.number) n p
-        → IsTypedPlace parts.devices s.types Typ.Unit p }
+        → IsTypedPlace parts.signature s.types Typ.Unit p }
 {}
 
 /// Numbers of members rise still, after a visit and after one that a device refused.

@@ -1,5 +1,5 @@
 -- Candidates, one number after the other.
-use Rattle.std.proofs.Common.{◌≡◌, ℕ, suc, ◌+◌, ◌++◌, Bool, true, false, List, [], ◌∷◌, if◌then◌else◌, refl, sym, ap, ◌∙◌, arith, append-nil}
+use Rattle.std.proofs.Common.{◌≡◌, ℕ, suc, ◌+◌, ◌++◌, Bool, true, false, List, [], ◌∷◌, if◌then◌else◌, sym, ap, ◌∙◌, arith, append-nil}
 use Rattle.ame_weak.specs.Weak.{Weak}
 use Rattle.ame_runner.specs.Choices.{is_candidate, candidates_below}
 

@@ -1,5 +1,5 @@
 -- Choices, and the stops that are found in their place.
-use Rattle.std.proofs.Common.{◌≡◌, ◌≢◌, ℕ, suc, ◌+◌, ◌<◌, ◌≤◌, ◌==◌, ◌++◌, Bool, true, false, List, [], ◌∷◌, length, Option, Some, None, is_some, option_map, not, if◌then◌else◌, refl, sym, ap, ◌∙◌, subst, arith, inl, inr, ℤ}
+use Rattle.std.proofs.Common.{◌≡◌, ◌≢◌, ℕ, ◌+◌, ◌<◌, ◌≤◌, ◌==◌, ◌++◌, Bool, true, false, List, [], ◌∷◌, length, Option, Some, None, is_some, option_map, not, if◌then◌else◌, refl, sym, ap, ◌∙◌, subst, arith, inl, inr, ℤ}
 use Rattle.std.specs.Prelude.{⊤, ◌||◌, ◌⊎◌, nat_lt, Vec, Result, Ok, Err, IsErr, IfOk}
 use Rattle.std.specs.declared.alloc.Global.{Global}
 use Rattle.std.proofs.lemmas.Bool.{eqb-true, eqb-false}
@@ -10,8 +10,10 @@ use Rattle.std.specs.List.{All, AllByRecursion, list_any}
 use Rattle.std.proofs.lemmas.List.{map-append}
 use Rattle.std.proofs.lemmas.List.Elements.{All-nil, All-head, All-tail, All-push}
 use Rattle.ame_term.specs.Tree.{Typ, Tree}
+use Rattle.ame_term.specs.Signature.{listed}
 use Rattle.ame_term.specs.Maps.{at}
 use Rattle.ame_term.specs.SourceTerm.{IsSourceTerm}
+use Rattle.ame_term.specs.Numbered.{IsNumbered}
 use Rattle.ame_term.specs.Typing.{Accepts}
 use Rattle.ame_term.specs.declared.semantics.Label.{Label}
 use Rattle.ame_device.specs.declared.told.Told.{Told}
@@ -35,7 +37,7 @@ use Rattle.ame_runner.specs.Play.{PlayView, HasMade}
 use Rattle.ame_runner.specs.Choices.{candidates}
 use Rattle.ame_runner.specs.Freeing.{FailsFor, HasFreed}
 use Rattle.ame_runner.specs.Run.{RunView, IsRunning, CanBeEnded}
-use Rattle.ame_runner.specs.Stop.{certified_numbers, HearsOn, StopsIfTold, HasGrown, RunsUntil, PlaysOn, StandsAtCall, IsBlockedBy, HasStoppedWeakly, MayGoOn, IsFoundInOrder, FoundAtRest, HasCertified}
+use Rattle.ame_runner.specs.Stop.{certified_numbers, HearsOn, StopsIfTold, HasGrown, RunsUntil, PlaysOn, StandsAtCall, HasStoppedWeakly, MayGoOn, IsFoundInOrder, FoundAtRest, HasCertified}
 use Rattle.ame_journal.specs.declared.entry.Entry.{Entry}
 use Rattle.ame_weak.specs.Bounds.{is_growing_tall}
 use Rattle.ame_runner.specs.Tall.{tall_note, IsTallIn}
@@ -135,14 +137,14 @@ module _ (a b q : RunView) (before mid after : List Told) (runs : IsRunning a �
   pub plays-hears : (IsRunning b → IsRunning q × HearsOn None b q mid after × ⊤) → HearsOn None a q before after
   plays-hears next = λ opened running heard. hears-then None a b q before mid after hears runs (next (runs running)).1 opened running heard
 
-module _ (devices : ℕ) (places : List ℕ) (program : Tree) (refs : List Typ) (accepts : Accepts devices places program refs) (source : IsSourceTerm program) where
+module _ (devices : ℕ) (places : List ℕ) (program : Tree) (refs : List Typ) (accepts : Accepts devices places program refs) (source : IsSourceTerm program) (numbered : IsNumbered 0 program) where
   -- a label under `unprotected`
   pub goes-label : (r q : RunView) (i : ℕ) (label : Label) (before after : List Told) → r.play.program ≡ program → HasFreed r.play.weak i r.above before after (Freed.Label label)
       → HasMade label r.play q.play → (IsRunning r → IsRunning q) → IsRunning r → IsRunning q × HearsOn None r q before after × ⊤
   goes-label r q i label before after is freed made runs running = (
     runs running,
     λ opened go heard. (
-      hears-free devices places program refs accepts source r.play q.play label made is go.played opened before heard i after freed.1,
+      hears-free devices places program refs accepts source numbered r.play q.play label made is go.played opened before heard i after freed.1,
       none-failed r.play.weak i before after label freed.1,
     ),
     tt,
@@ -153,8 +155,8 @@ module _ (devices : ℕ) (places : List ℕ) (program : Tree) (refs : List Typ) 
       → is_some (at (pool p.weak.state) i) ≡ true → i < p.weak.state.next
   below-next p is leads idle i there =
       let here : weak_run (weak_start program) p.labels ≡ Some p.weak = subst (λ (t : Tree). weak_run (weak_start t) p.labels ≡ Some p.weak) is leads in
-      let g = follow-labels devices (begun_at program) outset (weak_start program) p.weak p.labels (begun-followed devices places program refs accepts source) here in
-      let strong = ends-strong devices g.behind (past_all outset p.labels) p.weak g.follows idle in
+      let g = follow-labels (listed devices refs) (begun_at program) outset (weak_start program) p.weak p.labels (begun-followed devices places program refs accepts source numbered) here in
+      let strong = ends-strong (listed devices refs) g.behind (past_all outset p.labels) p.weak g.follows idle in
       let orderly : IsOrderly p.weak.state = subst (λ (w : Weak). IsOrderly w.state) (sym strong) g.follows.calm.orderly in
       numbers-at (λ k. k < p.weak.state.next) p.weak.state.members i (ap is_some (sym (at-pool_idle p.weak.state i idle)) ∙ there) orderly.members_below
 
@@ -252,7 +254,7 @@ certified-more r n old new a h = record {
     by i there (inl same) = subst (λ k. list_any (λ (c : Certificate). c.number == k) new ≡ true) (sym same) (h.there (subst (λ k. is_some (at (pool r.play.weak.state) k) ≡ true) same there))
     by i there (inr less) = h.others i (a.all i less there)
 
-module _ (devices : ℕ) (places : List ℕ) (program : Tree) (refs : List Typ) (accepts : Accepts devices places program refs) (source : IsSourceTerm program) where
+module _ (devices : ℕ) (places : List ℕ) (program : Tree) (refs : List Typ) (accepts : Accepts devices places program refs) (source : IsSourceTerm program) (numbered : IsNumbered 0 program) where
   pub found-blocked : (r : RunView) (certificates : Vec Certificate Global) → r.play.program ≡ program → r.left ≡ [] → r.play.weak.state.active ≡ None
       → (length (pool r.play.weak.state) ≡ 0 → ⊥) → candidates r.play.weak r.aside ≡ []
       → (IsRunning r → AllByRecursion (λ c. fails_after r.play.weak.state c.number c.steps c.fresh ≡ true) certificates.items)
@@ -265,7 +267,7 @@ module _ (devices : ℕ) (places : List ℕ) (program : Tree) (refs : List Typ) 
       cause = record {
         some = some-there r none idle some;
         fail = fail running;
-        all = λ i there. all i (below-next devices places program refs accepts source r.play is running.played.leads idle i there) there;
+        all = λ i there. all i (below-next devices places program refs accepts source numbered r.play is running.played.leads idle i there) there;
         rise = rise;
       };
     },

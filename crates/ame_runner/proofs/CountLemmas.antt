@@ -3,16 +3,15 @@ use Rattle.std.proofs.Common.{◌≡◌, ℕ, suc, ◌+◌, ◌≤◌, ◌<◌, 
 use Rattle.std.specs.Prelude.{◌&&◌, ◌||◌, option_to_list}
 use Rattle.std.specs.List.{AllByRecursion}
 use Rattle.std.proofs.lemmas.List.Sums.{sum_by_push}
-use Rattle.ame_term.specs.Tree.{Tree}
 use Rattle.ame_term.specs.Act.{fresh_location}
 use Rattle.ame_term.specs.declared.semantics.StepKind.{StepKind}
 use Rattle.ame_term.specs.declared.semantics.Label.{Label}
-use Rattle.ame_journal.specs.Labels.{fresh_of, made_by, fragment_labels}
+use Rattle.ame_journal.specs.Labels.{made_by, fragment_labels}
 use Rattle.ame_weak.specs.Weak.{Weak, IsWeakRun}
 use Rattle.ame_weak.specs.Tries.{HoldsIn}
 use Rattle.ame_weak.specs.declared.tries.Try.{Try}
 use Rattle.ame_runner.specs.Labels.{label_location, behind_location, location_above}
-use Rattle.ame_runner.specs.Play.{PlayView, IsPlayedWeakly, HasMade}
+use Rattle.ame_runner.specs.Play.{PlayView, IsPlayedWeakly}
 use Rattle.ame_runner.specs.Trial.{AreNext, last_turn, is_failure}
 use Rattle.ame_runner.specs.declared.trial.Outcome.{Outcome}
 use Rattle.ame_runner.specs.Notes.{IsAsideSince, AreKept}

@@ -1,12 +1,14 @@
 -- What devices hear along the labels of a run.
-use Rattle.std.proofs.Common.{◌≡◌, ℕ, ◌==◌, ◌⊎◌, inl, inr, List, [], ◌∷◌, ◌++◌, length, Option, Some, None, Ok, Err, option_and_then, append_assoc, append-nil, refl, sym, ap, ◌∙◌, subst}
-use Rattle.std.specs.Prelude.{ℤ, if◌then◌else◌}
+use Rattle.std.proofs.Common.{◌≡◌, ℕ, inl, inr, List, [], ◌∷◌, ◌++◌, Option, Some, None, option_and_then, append_assoc, append-nil, refl, sym, ap, ◌∙◌, subst}
+use Rattle.std.specs.Prelude.{ℤ}
 use Rattle.std.proofs.lemmas.Option.{option_and_then_some}
 use Rattle.ame_term.specs.Tree.{Typ, Tree}
+use Rattle.ame_term.specs.Signature.{listed}
 use Rattle.ame_term.specs.Context.{focus}
 use Rattle.ame_term.specs.Act.{Act, act_of, device_answer}
 use Rattle.ame_term.specs.Maps.{at}
 use Rattle.ame_term.specs.SourceTerm.{IsSourceTerm}
+use Rattle.ame_term.specs.Numbered.{IsNumbered}
 use Rattle.ame_term.specs.State.{State}
 use Rattle.ame_term.specs.Typing.{Accepts}
 use Rattle.ame_term.specs.declared.semantics.StepKind.{StepKind}
@@ -29,7 +31,7 @@ use Rattle.ame_shell.specs.Ends.{told_at}
 use Rattle.ame_shell.specs.Heard.{HaveHeard, NoneFailed, OneFailed}
 use Rattle.ame_shell.proofs.ToldLemmas.{called-faults, fail-count, failed-heard, failed-one}
 use Rattle.ame_shell.proofs.HeardLemmas.{heard-silent, heard-failed, heard-call}
-use Rattle.ame_runner.specs.Freeing.{IsSilent, CallsFor, FailsFor, HasCalledFor}
+use Rattle.ame_runner.specs.Freeing.{IsSilent, FailsFor, HasCalledFor}
 use Rattle.ame_runner.specs.Run.{IsOwn}
 use Rattle.ame_runner.proofs.PlayLemmas.{run-more}
 
@@ -72,13 +74,13 @@ call-act s i device argument told stands =
     let here = (told.present term is).calls device argument in
     ap (option_and_then (λ (t : Tree). redex_act (focus t))) (at-pool_found s i term is) ∙ ap redex_act (here.0 stands))
 
-module _ (devices : ℕ) (places : List ℕ) (program : Tree) (refs : List Typ) (accepts : Accepts devices places program refs) (source : IsSourceTerm program) where
+module _ (devices : ℕ) (places : List ℕ) (program : Tree) (refs : List Typ) (accepts : Accepts devices places program refs) (source : IsSourceTerm program) (numbered : IsNumbered 0 program) where
   module _ (labels : List Label) (w u : Weak) (label : Label) (leads : weak_run (weak_start program) labels ≡ Some w) (goes : weak_after w label ≡ Some u) where
     device-more : (k : ℕ) → device_calls k program (straight (labels ++ label ∷ [])) ≡ device_calls k program (straight labels) ++ label_call k w.state label
     device-more k =
-        weak_calls_are_told devices places program refs accepts source k (labels ++ label ∷ []) u (run-more (weak_start program) w u labels label leads goes)
+        weak_calls_are_told devices places program refs accepts source numbered k (labels ++ label ∷ []) u (run-more (weak_start program) w u labels label leads goes)
         ∙ calls-more k (weak_start program) w u labels label leads goes
-        ∙ ap (λ cs. cs ++ label_call k w.state label) (sym (weak_calls_are_told devices places program refs accepts source k labels w leads))
+        ∙ ap (λ cs. cs ++ label_call k w.state label) (sym (weak_calls_are_told devices places program refs accepts source numbered k labels w leads))
 
     module _ (opened now : List Told) (h : HaveHeard program (straight labels) opened now) where
       -- a label that calls none
@@ -92,8 +94,8 @@ module _ (devices : ℕ) (places : List ℕ) (program : Tree) (refs : List Typ) 
       heard-more i after (inl is) = subst (HaveHeard program (straight (labels ++ label ∷ [])) opened) (sym is.1) (heard-still is.0)
       heard-more i after (inr is) =
           let c = is.1 in
-          let typed = weak_runs_are_typed devices places program refs accepts source labels w leads in
-          let told = tells w.state devices typed.0 typed.1 (Some i) (next_of w.state (Some i)) refl in
+          let typed = weak_runs_are_typed devices places program refs accepts source numbered labels w leads in
+          let told = tells w.state (listed devices refs) typed.0 typed.1 (Some i) (next_of w.state (Some i)) refl in
           let act = call-act w.state i is.0 c.argument told c.stands in
           heard-call program [] opened (straight labels) (straight (labels ++ label ∷ [])) now after is.0 c.argument c.answer c.called
           (λ k. device-more k ∙ ap (λ cs. device_calls k program (straight labels) ++ cs)

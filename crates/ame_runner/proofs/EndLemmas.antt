@@ -1,23 +1,22 @@
 -- A run is told up to the last moment with nothing active.
-use Rattle.std.proofs.Common.{◌≡◌, ℕ, zero, suc, ◌+◌, ◌≤◌, ◌++◌, ◌⊎◌, inl, inr, max, List, [], ◌∷◌, length, take, drop, Option, Some, None, option_and_then, refl, sym, ap, ◌∙◌, subst, arith, length-append}
+use Rattle.std.proofs.Common.{◌≡◌, ℕ, zero, suc, ◌+◌, ◌≤◌, ◌++◌, inl, List, [], ◌∷◌, length, take, drop, Option, Some, refl, sym, ap, ◌∙◌, subst, arith}
 use Rattle.std.specs.List.{AllByRecursion}
-use Rattle.std.proofs.lemmas.List.{take_all, take-append-le, length-take, take-take}
+use Rattle.std.proofs.lemmas.List.{take_all}
 use Rattle.ame_term.specs.Tree.{Tree}
 use Rattle.ame_term.specs.declared.semantics.Label.{Label}
-use Rattle.ame_weak.specs.Weak.{Weak, weak_start, weak_after, weak_run, IsWeakRun}
-use Rattle.ame_weak.specs.Straightened.{EndsActive}
-use Rattle.ame_weak.specs.Tries.{HoldsIn, IsTried, AreTried, AreTriesInOrder, straight_with}
+use Rattle.ame_weak.specs.Weak.{Weak, weak_start, IsWeakRun}
+use Rattle.ame_weak.specs.Tries.{IsTried, AreTriesInOrder, straight_with}
 use Rattle.ame_weak.specs.declared.tries.Try.{Try}
-use Rattle.ame_runner.specs.Labels.{label_location, behind_location, location_above}
+use Rattle.ame_runner.specs.Labels.{location_above}
 use Rattle.ame_weak.specs.Bounds.{AreWithinBounds}
-use Rattle.ame_runner.specs.Play.{PlayView, IsPlayedWeakly}
+use Rattle.ame_runner.specs.Play.{PlayView}
 use Rattle.ame_runner.specs.Notes.{HasChange, AreSetApart, AreSpaced, HoldsAfter, without_cut}
 use Rattle.ame_device.specs.declared.told.Told.{Told}
 use Rattle.ame_shell.specs.Heard.{HaveHeard}
 use Rattle.ame_shell.proofs.HeardLemmas.{heard-nothing}
 use Rattle.ame_journal.specs.Totals.{total_steps}
 use Rattle.ame_weak.specs.Straight.{straight, outset}
-use Rattle.ame_runner.specs.Run.{RunView, turns_of_tries, AreFailedTries, CutAt, IsRunning, CanBeEnded, IsAtStart, KeepsFrame}
+use Rattle.ame_runner.specs.Run.{RunView, turns_of_tries, AreFailedTries, IsRunning, CanBeEnded, IsAtStart, KeepsFrame}
 use Rattle.ame_runner.specs.Stop.{HasWeakCause, FailsBy, HeardSoFar, HasStoppedWeakly, RunsUntil}
 use Rattle.ame_runner.specs.Ended.{EndTries, IsWeakRunOf, notes_of_stop, IsToldBy, TellsStop}
 use Rattle.ame_runner.specs.declared.stop.WeakStop.{WeakStop}

@@ -1,20 +1,21 @@
 -- What devices have heard, when a run goes on.
-use Rattle.std.proofs.Common.{◌≡◌, ℕ, ◌++◌, List, [], ◌∷◌, Option, Some, None, Result, Ok, Err, refl, sym, ap, ◌∙◌, subst}
-use Rattle.std.specs.Prelude.{OnOk, IfOk}
+use Rattle.std.proofs.Common.{◌≡◌, ℕ, ◌++◌, List, [], ◌∷◌, Option, Some, None, Result, Ok, Err, refl, sym, ◌∙◌, subst}
+use Rattle.std.specs.Prelude.{OnOk}
 use Rattle.ame_term.specs.Tree.{Typ, Tree}
 use Rattle.ame_term.specs.SourceTerm.{IsSourceTerm}
+use Rattle.ame_term.specs.Numbered.{IsNumbered}
 use Rattle.ame_term.specs.Typing.{Accepts}
 use Rattle.ame_term.specs.declared.semantics.Label.{Label}
 use Rattle.ame_device.specs.declared.told.Told.{Told}
 use Rattle.ame_weak.specs.Weak.{weak_start, weak_run}
 use Rattle.ame_weak.specs.Straight.{straight}
 use Rattle.ame_shell.specs.Ends.{told_at}
-use Rattle.ame_shell.specs.Heard.{HaveHeard, NoneFailed, OneFailed}
+use Rattle.ame_shell.specs.Heard.{HaveHeard, NoneFailed}
 use Rattle.ame_io.specs.Counts.{HasRisen}
 use Rattle.ame_runner.specs.Play.{PlayView, IsPlayedWeakly, HasMade}
 use Rattle.ame_runner.specs.Freeing.{HasCalledFor}
 use Rattle.ame_runner.specs.Run.{RunView, IsOwn, IsRunning}
-use Rattle.ame_runner.specs.Stop.{FailsBy, HeardSoFar, HearsOn}
+use Rattle.ame_runner.specs.Stop.{FailsBy, HearsOn}
 use Rattle.ame_runner.specs.declared.stop.WeakStop.{WeakStop}
 use Rattle.ame_runner.proofs.DeviceLemmas.{own-silent, heard-still, heard-more}
 
@@ -22,7 +23,7 @@ pub ok-then : {X E : Type 0} (a : Result X E) (P Q : Type 0) → (P → Q) → O
 ok-then (Ok x) P Q f p = f p
 ok-then (Err e) P Q f p = p
 
-module _ (devices : ℕ) (places : List ℕ) (program : Tree) (refs : List Typ) (accepts : Accepts devices places program refs) (source : IsSourceTerm program) where
+module _ (devices : ℕ) (places : List ℕ) (program : Tree) (refs : List Typ) (accepts : Accepts devices places program refs) (source : IsSourceTerm program) (numbered : IsNumbered 0 program) where
   module _ (r q : PlayView) (label : Label) (made : HasMade label r q) (is : r.program ≡ program) (played : IsPlayedWeakly r) (opened now : List Told)
       (heard : HaveHeard r.program (straight r.labels) opened now) where
     leads : weak_run (weak_start program) r.labels ≡ Some r.weak
@@ -40,12 +41,12 @@ module _ (devices : ℕ) (places : List ℕ) (program : Tree) (refs : List Typ) 
     pub hears-own : IsOwn label → HaveHeard q.program (straight q.labels) opened now
     hears-own own =
         told-so now
-        (heard-still devices places program refs accepts source r.labels r.weak q.weak label leads made.legal opened now heard-here (own-silent label own))
+        (heard-still devices places program refs accepts source numbered r.labels r.weak q.weak label leads made.legal opened now heard-here (own-silent label own))
 
     -- a label under `unprotected`
     pub hears-free : (i : ℕ) (after : List Told) → HasCalledFor r.weak i now after label → HaveHeard q.program (straight q.labels) opened after
     hears-free i after called =
-        told-so after (heard-more devices places program refs accepts source r.labels r.weak q.weak label leads made.legal opened now heard-here i after called)
+        told-so after (heard-more devices places program refs accepts source numbered r.labels r.weak q.weak label leads made.legal opened now heard-here i after called)
 
 none-then : (a b c : List Told) → NoneFailed a b → NoneFailed b c → NoneFailed a c
 none-then a b c first second = λ k. second k ∙ first k

@@ -2,10 +2,12 @@
 use Rattle.std.proofs.Common.{◌≡◌, ℕ, suc, ◌+◌, ◌==◌, ◌++◌, Bool, true, false, List, [], ◌∷◌, length, map, Option, Some, None, is_some, if◌then◌else◌, refl, sym, ap, ◌∙◌, subst, arith, append-nil, append_assoc}
 use Rattle.std.proofs.lemmas.Option.{option_and_then_some}
 use Rattle.ame_term.specs.Tree.{Typ, Tree}
+use Rattle.ame_term.specs.Signature.{Signature, listed}
 use Rattle.ame_term.specs.Context.{Focus, focus}
 use Rattle.ame_term.specs.Height.{max_height}
 use Rattle.ame_term.specs.Maps.{at}
 use Rattle.ame_term.specs.SourceTerm.{IsSourceTerm}
+use Rattle.ame_term.specs.Numbered.{IsNumbered}
 use Rattle.ame_term.specs.State.{State, after, at_unprotected}
 use Rattle.ame_term.specs.Typing.{Accepts}
 use Rattle.ame_term.specs.declared.semantics.StepKind.{StepKind}
@@ -39,40 +41,40 @@ use Rattle.ame_runner.specs.Trial.{IsTrial, StandsAs, IsTriedOut, is_failure, Is
 use Rattle.ame_runner.specs.declared.trial.Outcome.{Outcome}
 use Rattle.ame_runner.specs.declared.trial.TriedOut.{TriedOut}
 
-module _ (devices : ℕ) where
+module _ (signature : Signature) where
   -- the steps of a fragment, one after the other
-  way-on : (s : State) (i n : ℕ) (fresh : List ℕ) (v u : Weak) (kinds : List StepKind) → IsUnderWay devices s i n fresh v → weak_run v (map Label.Step kinds) ≡ Some u
-      → IsUnderWay devices s i (n + length kinds) (fresh ++ made_by kinds) u
+  way-on : (s : State) (i n : ℕ) (fresh : List ℕ) (v u : Weak) (kinds : List StepKind) → IsUnderWay signature s i n fresh v → weak_run v (map Label.Step kinds) ≡ Some u
+      → IsUnderWay signature s i (n + length kinds) (fresh ++ made_by kinds) u
   way-on s i n fresh v u [] way e =
       let same : v ≡ u = cc in
       let count : n ≡ n + 0 = omega arith in
-      subst (λ (m : ℕ). IsUnderWay devices s i m (fresh ++ []) u) count
-      (subst (λ (ls : List ℕ). IsUnderWay devices s i n ls u) (sym (append-nil fresh)) (subst (IsUnderWay devices s i n fresh) same way))
+      subst (λ (m : ℕ). IsUnderWay signature s i m (fresh ++ []) u) count
+      (subst (λ (ls : List ℕ). IsUnderWay signature s i n ls u) (sym (append-nil fresh)) (subst (IsUnderWay signature s i n fresh) same way))
   way-on s i n fresh v u (kind ∷ kinds) way e =
       option_and_then_some _ _ _ e (λ x first rest.
-      let one = way-step devices s i n fresh v way kind x (sym (step-active v kind i way.laid.active) ∙ first) in
+      let one = way-step signature s i n fresh v way kind x (sym (step-active v kind i way.laid.active) ∙ first) in
       let all = way-on s i (n + 1) (fresh ++ fresh_of kind) x u kinds one rest in
       let count : n + 1 + length kinds ≡ n + suc (length kinds) = omega arith in
-      subst (λ (m : ℕ). IsUnderWay devices s i m (fresh ++ made_by (kind ∷ kinds)) u) count
-      (subst (λ (ls : List ℕ). IsUnderWay devices s i (n + 1 + length kinds) ls u) (append_assoc fresh (fresh_of kind) (made_by kinds)) all))
+      subst (λ (m : ℕ). IsUnderWay signature s i m (fresh ++ made_by (kind ∷ kinds)) u) count
+      (subst (λ (ls : List ℕ). IsUnderWay signature s i (n + 1 + length kinds) ls u) (append_assoc fresh (fresh_of kind) (made_by kinds)) all))
 
-  module _ (r : Replayed) (p : Place) (w : Weak) (f : IsFollowed devices r p w) (idle : w.state.active ≡ None) where
-    activated : (i : ℕ) (v : Weak) → weak_after w (Label.Activate i) ≡ Some v → IsUnderWay devices w.state i 0 [] v
+  module _ (r : Replayed) (p : Place) (w : Weak) (f : IsFollowed signature r p w) (idle : w.state.active ≡ None) where
+    activated : (i : ℕ) (v : Weak) → weak_after w (Label.Activate i) ≡ Some v → IsUnderWay signature w.state i 0 [] v
     unfolding weak_after
     activated i v e =
-        let is = ends-strong devices r p w f idle in
+        let is = ends-strong signature r p w f idle in
         let here : weak_after (holding_none r.state) (Label.Activate i) ≡ Some v = subst (λ (z : Weak). weak_after z (Label.Activate i) ≡ Some v) is e in
         let m = map-gave (moved (holding_none r.state)) (after r.state (Label.Activate i)) v here in
-        subst (λ (s : State). IsUnderWay devices s i 0 [] v) (sym (ap (λ (z : Weak). z.state) is))
-        (subst (IsUnderWay devices r.state i 0 []) m.2 (way-begun devices f.cells r.state i m.0 f.typed f.calm.idle f.calm.orderly m.1))
+        subst (λ (s : State). IsUnderWay signature s i 0 [] v) (sym (ap (λ (z : Weak). z.state) is))
+        (subst (IsUnderWay signature r.state i 0 []) m.2 (way-begun signature f.cells r.state i m.0 f.typed f.calm.idle f.calm.orderly m.1))
 
-    way-of : (i first : ℕ) (v : Weak) (kinds : List StepKind) (above : ℕ) → IsTrial w i first v kinds above → IsUnderWay devices w.state i (length kinds) (made_by kinds) v
+    way-of : (i first : ℕ) (v : Weak) (kinds : List StepKind) (above : ℕ) → IsTrial w i first v kinds above → IsUnderWay signature w.state i (length kinds) (made_by kinds) v
     way-of i first v kinds above t =
         option_and_then_some _ _ _ t.leads (λ x begins rest.
         let count : 0 + length kinds ≡ length kinds = omega arith in
-        subst (λ (m : ℕ). IsUnderWay devices w.state i m (made_by kinds) v) count (way-on w.state i 0 [] x v kinds (activated i x begins) rest))
+        subst (λ (m : ℕ). IsUnderWay signature w.state i m (made_by kinds) v) count (way-on w.state i 0 [] x v kinds (activated i x begins) rest))
 
-  module _ (s : State) (i n : ℕ) (fresh : List ℕ) (w : Weak) (u : IsUnderWay devices s i n fresh w) where
+  module _ (s : State) (i n : ℕ) (fresh : List ℕ) (w : Weak) (u : IsUnderWay signature s i n fresh w) where
     way-fragment : (t : State) × (fragment i n fresh s ≡ Some t) × (at t.members i ≡ at w.state.members i)
     way-fragment =
         let a = active_run s i u.term u.inputs u.member u.idle u.calm n u.place u.ran u.agrees in (
@@ -85,8 +87,8 @@ module _ (devices : ℕ) where
     way-fails : next_of w.state None ≡ next.Stuck → fails_after s i n fresh ≡ true
     way-fails stuck =
         let f = way-fragment in
-        let typed = way-typed devices s i n fresh w u in
-        let told = tells w.state devices typed.0 typed.1 None (next_of w.state None) refl in
+        let typed = way-typed signature s i n fresh w u in
+        let told = tells w.state signature typed.0 typed.1 None (next_of w.state None) refl in
         let stands = (told.present i u.place.term u.laid.active u.stands).waits.0 stuck in
         ap (has_such (is_failing i)) f.1 ∙ ap (has_such (λ (term : Tree). is_false_condition (focus term))) (f.2 ∙ u.stands) ∙ ap is_false_condition stands
 
@@ -112,13 +114,13 @@ stuck-where Outcome.Ends v stands e = absurd (cc)
 stuck-where Outcome.Tall v stands e = absurd (cc)
 stuck-where Outcome.Cut v stands e = absurd (cc)
 
-module _ (devices : ℕ) (places : List ℕ) (program : Tree) (refs : List Typ) (accepts : Accepts devices places program refs) (source : IsSourceTerm program) where
+module _ (devices : ℕ) (places : List ℕ) (program : Tree) (refs : List Typ) (accepts : Accepts devices places program refs) (source : IsSourceTerm program) (numbered : IsNumbered 0 program) where
   pub tried_fragments_hold : (labels : List Label) (w : Weak) (i first turns : ℕ) (a : TriedOut) (t : Try) → weak_run (weak_start program) labels ≡ Some w → w.state.active ≡ None
       → IsTriedOut w i first turns a → IsTryOf i a t → HoldsIn w t
   tried_fragments_hold labels w i first turns a t e idle tried is =
-      let g = follow-labels devices (begun_at program) outset (weak_start program) w labels (begun-followed devices places program refs accepts source) e in
-      let way = way-of devices g.behind (past_all outset labels) w g.follows idle i first tried.behind a.kinds.items a.above tried.is in
-      let holds = way-holds devices w.state i (length a.kinds.items) (made_by a.kinds.items) tried.behind way t.failing
+      let g = follow-labels (listed devices refs) (begun_at program) outset (weak_start program) w labels (begun-followed devices places program refs accepts source numbered) e in
+      let way = way-of (listed devices refs) g.behind (past_all outset labels) w g.follows idle i first tried.behind a.kinds.items a.above tried.is in
+      let holds = way-holds (listed devices refs) w.state i (length a.kinds.items) (made_by a.kinds.items) tried.behind way t.failing
       (λ failing. stuck-where a.outcome tried.behind tried.comes (sym is.failing ∙ failing)) in (
         idle,
         ap (λ (k : ℕ). if t.failing then fails_after w.state k t.certificate.steps t.certificate.fresh else is_some (fragment k t.certificate.steps t.certificate.fresh w.state)) is.number
@@ -131,13 +133,13 @@ module _ (devices : ℕ) (places : List ℕ) (program : Tree) (refs : List Typ) 
   pub tried_grow_tall : (labels : List Label) (w : Weak) (i first turns : ℕ) (a : TriedOut) (entry : Entry) → weak_run (weak_start program) labels ≡ Some w
       → AreWithinBounds (weak_start program) labels → w.state.active ≡ None → IsTriedOut w i first turns a → a.outcome ≡ Outcome.Tall → IsTallOf i a entry → IsTallIn w.state entry
   tried_grow_tall labels w i first turns a entry e within idle tried outcome is =
-      let g = follow-labels devices (begun_at program) outset (weak_start program) w labels (begun-followed devices places program refs accepts source) e in
-      let way = way-of devices g.behind (past_all outset labels) w g.follows idle i first tried.behind a.kinds.items a.above tried.is in
+      let g = follow-labels (listed devices refs) (begun_at program) outset (weak_start program) w labels (begun-followed devices places program refs accepts source numbered) e in
+      let way = way-of (listed devices refs) g.behind (past_all outset labels) w g.follows idle i first tried.behind a.kinds.items a.above tried.is in
       let low = labels_low w tried.behind (fragment_labels i a.kinds.items) tried.is.leads tried.is.within (labels_low (weak_start program) w labels e within (start_low program source)) in
       let grows : is_growing_tall tried.behind None ≡ true = subst (λ (o : Outcome). StandsAs o tried.behind) outcome tried.comes in
       let high = active_tall tried.behind i low way.laid.active grows in
       subst (IsTallIn w.state) (sym is)
-      (record { note = refl; comes = way-tall devices w.state i (length a.kinds.items) (made_by a.kinds.items) tried.behind way high })
+      (record { note = refl; comes = way-tall (listed devices refs) w.state i (length a.kinds.items) (made_by a.kinds.items) tried.behind way high })
 
 -- a member that is about to become such a value on the unprotected side stands there
 tall-stands : (i : ℕ) (s : State) → is_tall Side.Unprotected i s ≡ true → is_at_unprotected i s ≡ true

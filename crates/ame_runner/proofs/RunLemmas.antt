@@ -1,21 +1,15 @@
 -- A run goes on by a label, a try or the beginning of a fragment.
-use Rattle.std.proofs.Common.{◌≡◌, ℕ, suc, ◌+◌, ◌≤◌, ◌<◌, ◌++◌, ◌⊎◌, inl, inr, max, Bool, true, false, List, [], ◌∷◌, length, map, Option, Some, None, Result, Ok, Err, is_none, if◌then◌else◌, refl, sym, ap, ◌∙◌, subst, arith, length-append}
-use Rattle.std.specs.Prelude.{◌==◌, ◌&&◌, ◌||◌, OnOk, OnErr}
-use Rattle.std.specs.List.{AllByRecursion, sum_by}
-use Rattle.std.proofs.lemmas.List.Sums.{sum_by-append}
+use Rattle.std.proofs.Common.{◌≡◌, ℕ, suc, ◌+◌, ◌≤◌, ◌++◌, ◌⊎◌, inl, inr, max, Bool, true, false, List, [], ◌∷◌, length, Result, Ok, Err, is_none, if◌then◌else◌, refl, sym, ap, ◌∙◌, subst, arith, length-append}
+use Rattle.std.specs.Prelude.{OnOk, OnErr}
+use Rattle.std.specs.List.{AllByRecursion}
 use Rattle.ame_term.specs.Tree.{Tree}
-use Rattle.ame_term.specs.declared.semantics.StepKind.{StepKind}
 use Rattle.ame_term.specs.declared.semantics.Label.{Label}
-use Rattle.ame_journal.specs.Labels.{fresh_of, made_by, fragment_labels}
-use Rattle.ame_weak.specs.Weak.{Weak, IsWeakRun}
-use Rattle.ame_weak.specs.Tries.{HoldsIn}
 use Rattle.ame_weak.specs.declared.tries.Try.{Try}
 use Rattle.ame_runner.specs.Labels.{label_location, behind_location, location_above}
-use Rattle.ame_runner.specs.Play.{PlayView, IsPlayedWeakly, begun_play, HasMade}
+use Rattle.ame_runner.specs.Play.{PlayView, IsPlayedWeakly, begun_play}
 use Rattle.ame_runner.specs.Notes.{lets_try_again, IsAsideSince, AreKept}
 use Rattle.ame_runner.specs.Run.{RunView, turns_of_tries, IsOwn, AreSettled, AreFailedTries, CutAt, IsRunning, CanBeEnded, KeepsFrame, HasRun, RunsOrEnds}
-use Rattle.ame_runner.proofs.PlayLemmas.{above-more}
-use Rattle.ame_runner.proofs.NoteLemmas.{all-with, all-more, kept-label, kept-try}
+use Rattle.ame_runner.proofs.NoteLemmas.{all-with, kept-label}
 
 -- the try that was cut off was made where nothing was active
 cut-settled : (r : RunView) → IsRunning r → CutAt (length r.play.labels) r.tries → CutAt r.play.settled r.tries

@@ -36,7 +36,7 @@ plain-active kind act w made e =
 
 held-active : (kind : StepKind) (act : Act) (w : Weak) (made : Tree × Weak) → held_performed kind act w ≡ Some made → made.1.state.active ≡ w.state.active
 held-active kind (Act.Becomes t) w made e = plain-active kind (Act.Becomes t) w made e
-held-active kind (Act.Allocates sort v) w made e = plain-active kind (Act.Allocates sort v) w made e
+held-active kind (Act.Allocates sort number v) w made e = plain-active kind (Act.Allocates sort number v) w made e
 held-active kind (Act.Reads l) w made e = plain-active kind (Act.Reads l) w made e
 held-active kind (Act.Peeks l) w made e = plain-active kind (Act.Peeks l) w made e
 held-active kind (Act.Writes l v) w made e = plain-active kind (Act.Writes l v) w made e

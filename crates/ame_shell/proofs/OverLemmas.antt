@@ -55,7 +55,7 @@ module _ {C V M : Type 0} (meaning : Meaning C V M) where
 
   -- where an engine has just started nothing was sent or heard
   pub shell-starts : (core : Core C V M) (code : C) (limits : Limits) (ends : Ends) → core.code ≡ code
-      → parts core ≡ started (meaning.program code) (meaning.devices code) limits 0
+      → parts core ≡ started (meaning.program code) (meaning.signature code) limits 0
       → IsShell meaning.program (record { code = code; limits = limits; base = []; ends = ends }) (record { core = core; sent = 0; ends = ends })
   shell-starts core code limits ends same starts =
       let going : core.stop ≡ None = not-stopped core.stop (ap (λ (p : Parts). p.stopped) starts) in
@@ -111,16 +111,16 @@ module _ {C V M : Type 0} (meaning : Meaning C V M) where
       }
 
   pub is-over : (opening : Opening C) (shell : ShellView C V M) (end : End V) → IsShell meaning.program opening shell → end ≡ end_of shell.core
-      → IsEnd (meaning.program shell.core.code) shell.core.limits (meaning.value_of shell.core.code) end
-      → IsOverSince opening.base (meaning.program opening.code) opening.limits (meaning.value_of opening.code) opening.ends end shell.ends
+      → IsEnd (meaning.program shell.core.code) (meaning.signature shell.core.code) shell.core.limits (meaning.value_of shell.core.code) end
+      → IsOverSince opening.base (meaning.program opening.code) (meaning.signature opening.code) opening.limits (meaning.value_of opening.code) opening.ends end shell.ends
   is-over opening shell end h is e =
-      subst (λ (c : C). IsOverSince opening.base (meaning.program c) opening.limits (meaning.value_of c) opening.ends end shell.ends) h.opened.code
-      (subst (λ (l : Limits). IsOverSince opening.base (meaning.program shell.core.code) l (meaning.value_of shell.core.code) opening.ends end shell.ends) h.opened.limits
-      (subst (λ (x : End V). IsOverSince opening.base (meaning.program shell.core.code) shell.core.limits (meaning.value_of shell.core.code) opening.ends x shell.ends) (sym is)
-      (there (subst (λ (x : End V). IsEnd (meaning.program shell.core.code) shell.core.limits (meaning.value_of shell.core.code) x) is e))))
+      subst (λ (c : C). IsOverSince opening.base (meaning.program c) (meaning.signature c) opening.limits (meaning.value_of c) opening.ends end shell.ends) h.opened.code
+      (subst (λ (l : Limits). IsOverSince opening.base (meaning.program shell.core.code) (meaning.signature shell.core.code) l (meaning.value_of shell.core.code) opening.ends end shell.ends) h.opened.limits
+      (subst (λ (x : End V). IsOverSince opening.base (meaning.program shell.core.code) (meaning.signature shell.core.code) shell.core.limits (meaning.value_of shell.core.code) opening.ends x shell.ends) (sym is)
+      (there (subst (λ (x : End V). IsEnd (meaning.program shell.core.code) (meaning.signature shell.core.code) shell.core.limits (meaning.value_of shell.core.code) x) is e))))
     where
-      there : IsEnd (meaning.program shell.core.code) shell.core.limits (meaning.value_of shell.core.code) (end_of shell.core)
-          → IsOverSince opening.base (meaning.program shell.core.code) shell.core.limits (meaning.value_of shell.core.code) opening.ends (end_of shell.core) shell.ends
+      there : IsEnd (meaning.program shell.core.code) (meaning.signature shell.core.code) shell.core.limits (meaning.value_of shell.core.code) (end_of shell.core)
+          → IsOverSince opening.base (meaning.program shell.core.code) (meaning.signature shell.core.code) shell.core.limits (meaning.value_of shell.core.code) opening.ends (end_of shell.core) shell.ends
       there at-end = record {
         ends = at-end;
         base = h.opened.base;

@@ -2,6 +2,7 @@
 use Rattle.std.specs.Prelude.{◌≡◌, ℕ, ◌<◌, List, [], All}
 use Rattle.ame_io.specs.Lines.{lines}
 use Rattle.ame_term.specs.Tree.{Val, Tree}
+use Rattle.ame_term.specs.Signature.{Signature}
 use Rattle.ame_journal.specs.declared.entry.Entry.{Entry}
 use Rattle.ame_protocol.specs.declared.types.Limits.{Limits}
 use Rattle.ame_protocol.specs.declared.counters.Counters.{Counters}
@@ -23,9 +24,9 @@ NoneWereInTheWay counters = IsUndisturbed counters
 -- its cause in the state that is left. The lines of what was printed were sent, those of the base among them, all of them unless the
 -- sink failed; each device has heard what the journal tells behind the base, and none failed unless that is the stop. One seat by
 -- itself has nobody in its way.
-pub record IsOverSince (since : List Entry) (program : Tree) (limits : Limits) {V : Type 0} (value : V → Val) (before : Ends) (end : End V)
+pub record IsOverSince (since : List Entry) (program : Tree) (signature : Signature) (limits : Limits) {V : Type 0} (value : V → Val) (before : Ends) (end : End V)
     (after : Ends) : Type 0 where
-  pub ends : IsEnd program limits value end
+  pub ends : IsEnd program signature limits value end
   pub base : end.base ≡ since
   pub seats : AreOfSeats limits.seats end.entries
   pub sent : IsSent end.stop (lines ends.r.state.output) before after
@@ -34,5 +35,5 @@ pub record IsOverSince (since : List Entry) (program : Tree) (limits : Limits) {
   pub lone : limits.seats ≡ 1 → NoneWereInTheWay end.counters
 
 -- a run of a program from its beginning
-abbrev pub IsOver : Tree → Limits → {V : Type 0} → (V → Val) → Ends → End V → Ends → Type 0
-IsOver program limits value before end after = IsOverSince [] program limits value before end after
+abbrev pub IsOver : Tree → Signature → Limits → {V : Type 0} → (V → Val) → Ends → End V → Ends → Type 0
+IsOver program signature limits value before end after = IsOverSince [] program signature limits value before end after

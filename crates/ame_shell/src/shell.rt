@@ -100,7 +100,7 @@ where
         requires seat { seat < self.old.engine.limits.seats }
         requires fits { Fits M.meaning self.old.engine seat work }
         requires ready { lacks ≡ false → IsReadyWork M.meaning.stage self.old.engine.code self.old.engine.limits.slice work }
-        requires devices { M.meaning.devices self.old.engine.code ≤ vec_len self.old.devices }
+        requires devices { (M.meaning.signature self.old.engine.code).devices ≤ vec_len self.old.devices }
         requires sent { self.old.sent ≤ length (lines self.old.engine.output) }
         ensures turned { HasTurned M.meaning seat (stage_at M.meaning.stage self.old.engine.code work)
             (shown K.written K.faults D.device_heard D.device_faults self.old.engine self.old.sent self.old.sink self.old.devices.items)
@@ -145,7 +145,7 @@ where
         ensures told { result.ended ≡ end_of (stopped_by Stop.NoMemory self.engine) }
         ensures over { (opening : Opening M.Code)
             → IsShell M.meaning.program opening (shown K.written K.faults D.device_heard D.device_faults self.engine self.sent self.sink self.devices.items)
-            → IsOverSince opening.base (M.meaning.program opening.code) opening.limits (M.meaning.value_of opening.code) opening.ends result.ended
+            → IsOverSince opening.base (M.meaning.program opening.code) (M.meaning.signature opening.code) opening.limits (M.meaning.value_of opening.code) opening.ends result.ended
             (ends_of K.written K.faults D.device_heard D.device_faults result.sink result.devices.items) }
     {
         let mut shell = self;
@@ -160,7 +160,7 @@ where
         ensures told { result.ended ≡ end_of self.engine }
         ensures over { (opening : Opening M.Code)
             → IsShell M.meaning.program opening (shown K.written K.faults D.device_heard D.device_faults self.engine self.sent self.sink self.devices.items)
-            → IsOverSince opening.base (M.meaning.program opening.code) opening.limits (M.meaning.value_of opening.code) opening.ends result.ended
+            → IsOverSince opening.base (M.meaning.program opening.code) (M.meaning.signature opening.code) opening.limits (M.meaning.value_of opening.code) opening.ends result.ended
             (ends_of K.written K.faults D.device_heard D.device_faults result.sink result.devices.items) }
     {
         let Shell {

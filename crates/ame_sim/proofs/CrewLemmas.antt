@@ -43,8 +43,8 @@ same-all (suc n) (suc k) x = same-all n k x
 module _ {C V M : Type 0} (meaning : Meaning C V M) where
   -- as the engine has started
   pub crew-starts : (core : Core C V M) (code : C) (hands : List (Work M)) (limits : Limits) (tools : ℕ) → code ≡ core.code
-      → parts_of meaning core ≡ started (meaning.program code) (meaning.devices code) limits 0 → hands ≡ replicate limits.seats work.Idle
-      → meaning.devices core.code ≤ tools → AreLimits limits → IsCrew meaning core 0 code hands tools
+      → parts_of meaning core ≡ started (meaning.program code) (meaning.signature code) limits 0 → hands ≡ replicate limits.seats work.Idle
+      → (meaning.signature core.code).devices ≤ tools → AreLimits limits → IsCrew meaning core 0 code hands tools
   crew-starts core code hands limits tools same starts all enough right = record {
     same = same;
     count = ap length all ∙ length-replicate limits.seats work.Idle ∙ ap (λ (p : Parts). p.limits.seats) (sym starts);
@@ -70,7 +70,7 @@ module _ {C V M : Type 0} (meaning : Meaning C V M) where
     count = length-set (set hands seat mid) seat last ∙ length-set hands seat mid ∙ crew.count ∙ ap (λ (l : Limits). l.seats) (sym limits);
     fit = λ other. by other (which other seat);
     limits = subst AreLimits (sym limits) crew.limits;
-    enough = subst (λ (n : ℕ). meaning.devices new.code ≤ n) (sym tools) (subst (λ (c : C). meaning.devices c ≤ before) (sym same) crew.enough);
+    enough = subst (λ (n : ℕ). (meaning.signature new.code).devices ≤ n) (sym tools) (subst (λ (c : C). (meaning.signature c).devices ≤ before) (sym same) crew.enough);
     within = more;
   }
     where

@@ -160,9 +160,9 @@ module _ {C V M : Type 0} (meaning : Meaning C V M) where
 
   -- Memory may be lacking at the end.
   module _ (opening : Opening C) (mades : List Made) (first last now : ShellView C V M) (plays : Plays meaning mades first last)
-      (fresh : state first ≡ started_state (meaning.program opening.code) (meaning.devices opening.code) opening.limits) (sound : Sound (state first)) where
+      (fresh : state first ≡ started_state (meaning.program opening.code) (meaning.signature opening.code) opening.limits) (sound : Sound (state first)) where
     abbrev begun : State
-    begun = started_state (meaning.program opening.code) (meaning.devices opening.code) opening.limits
+    begun = started_state (meaning.program opening.code) (meaning.signature opening.code) opening.limits
 
     from-start : (es : List Event) (end : State) → Follows (state first) es end → Follows begun es end
     from-start es end h = subst (λ (s : State). Follows s es end) fresh h

@@ -37,7 +37,7 @@ module _ {C V M : Type 0} (meaning : Meaning C V M) where
     pub limits : AreLimits core.limits
     pub count : length hands ≡ core.limits.seats
     pub fit : (seat : ℕ) → Fits meaning core seat (slice_index_or hands seat work.Idle)
-    pub enough : meaning.devices core.code ≤ tools
+    pub enough : (meaning.signature core.code).devices ≤ tools
     pub within : sent ≤ length (lines core.output)
 
 module _ {C V M : Type 0} where

@@ -42,5 +42,5 @@ module _ {C V M : Type 0} (meaning : Meaning C V M) where
     pub its : AreEventsOfPicks mades first last plays events
     pub halts : List Event
     pub outside : AreHalts halts
-    pub follows : Follows (started_state (meaning.program opening.code) (meaning.devices opening.code) opening.limits) (events ++ halts)
+    pub follows : Follows (started_state (meaning.program opening.code) (meaning.signature opening.code) opening.limits) (events ++ halts)
         (state_of meaning now.core)

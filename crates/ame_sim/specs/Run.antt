@@ -48,7 +48,7 @@ module _ {C V M : Type 0} (meaning : Meaning C V M) where
   pub record IsPlayed (opening : Opening C) (mades : List Made) (end : End V) : Type 0 where
     pub first : ShellView C V M
     pub opened : IsShell meaning.program opening first
-    pub fresh : state_of meaning first.core ≡ started_state (meaning.program opening.code) (meaning.devices opening.code) opening.limits
+    pub fresh : state_of meaning first.core ≡ started_state (meaning.program opening.code) (meaning.signature opening.code) opening.limits
     pub now : ShellView C V M
     pub playing : IsPlaying opening.limits.seats first now mades
     pub run : IsRunOfPicks meaning opening mades first playing.last now playing.plays

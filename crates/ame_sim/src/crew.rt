@@ -70,7 +70,7 @@ where
         devices: Vec<D>,
     ) -> Result<Crew<M, K, D>, (K, Vec<D>)>
         requires limits { AreLimits limits }
-        requires devices { M.meaning.devices (arc_value code) ≤ vec_len devices }
+        requires devices { (M.meaning.signature (arc_value code)).devices ≤ vec_len devices }
         ensures opens { IfOk result (IsShell M.meaning.program (record {
           code = arc_value code;
           limits = limits;
@@ -78,7 +78,7 @@ where
           ends = ends_of K.written K.faults D.device_heard D.device_faults sink devices.items;
         })) }
         ensures starts { IfOk result (λ crew. state_of M.meaning crew.core
-            ≡ started_state (M.meaning.program (arc_value code)) (M.meaning.devices (arc_value code)) limits) }
+            ≡ started_state (M.meaning.program (arc_value code)) (M.meaning.signature (arc_value code)) limits) }
         ensures sink { IfErr result (λ back. back.0 ≡ sink) }
         ensures devices { IfErr result (λ back. back.1 ≡ devices) }
     {
@@ -218,7 +218,7 @@ where
         requires stopped { IsSome self.core.stop }
         ensures told { result.ended ≡ end_of self.core }
         ensures over { (opening : Opening M.Code) → IsShell M.meaning.program opening self
-            → IsOverSince opening.base (M.meaning.program opening.code) opening.limits (M.meaning.value_of opening.code) opening.ends result.ended
+            → IsOverSince opening.base (M.meaning.program opening.code) (M.meaning.signature opening.code) opening.limits (M.meaning.value_of opening.code) opening.ends result.ended
             (ends_of K.written K.faults D.device_heard D.device_faults result.sink result.devices.items) }
     {
         let Crew {

@@ -104,8 +104,8 @@ where
     D: Device,
     H: Chooser,
     requires limits { AreLimits limits }
-    requires devices { M.meaning.devices (arc_value code) ≤ vec_len devices }
-    ensures over { IfOk result (λ played. IsOver (M.meaning.program (arc_value code)) limits (M.meaning.value_of (arc_value code))
+    requires devices { (M.meaning.signature (arc_value code)).devices ≤ vec_len devices }
+    ensures over { IfOk result (λ played. IsOver (M.meaning.program (arc_value code)) (M.meaning.signature (arc_value code)) limits (M.meaning.value_of (arc_value code))
         (ends_of K.written K.faults D.device_heard D.device_faults sink devices.items)
         played.left.ended (ends_of K.written K.faults D.device_heard D.device_faults played.left.sink played.left.devices.items)) }
     ensures played { IfOk result (λ played. IsPlayed M.meaning (record {

@@ -1,4 +1,5 @@
 -- The workers of a team while it is made.
+use Rattle.ame_term.specs.Signature.{Signature}
 use Rattle.std.proofs.Common.{◌≡◌, ℕ, ◌+◌, ◌<◌, List, ◌++◌, ◌∷◌, [], ◌⊎◌, inl, inr, length, Option, Some, slice_get, sym, ap, subst, arith}
 use Rattle.ame_journal.specs.declared.entry.Entry.{Entry}
 use Rattle.ame_baton.specs.declared.turn.Baton.{Baton}
@@ -26,9 +27,9 @@ AreOthers {M} {K} {D} {C} {V} baton opened workers =
     (i : ℕ) (w : Worker M K D C V) → slice_get workers i ≡ Some w → IsOther baton opened (i + 1) w
 
 -- the next seat is one of the shell, too
-pub next-seated : {C M : Type 0} (devices : C → ℕ) (code : C) (limits : Limits) (k : Knows (Opened C) (SeatRow M) Entry) (row : SeatRow M) → k.made < limits.seats
-    → IsSeated devices code limits k → IsSeated devices code limits (next_seat k row)
-next-seated devices code limits k row within s = record {
+pub next-seated : {C M : Type 0} (signature : C → Signature) (code : C) (limits : Limits) (k : Knows (Opened C) (SeatRow M) Entry) (row : SeatRow M) → k.made < limits.seats
+    → IsSeated signature code limits k → IsSeated signature code limits (next_seat k row)
+next-seated signature code limits k row within s = record {
   opened = s.opened;
   is = s.is;
   of_code = s.of_code;
@@ -40,9 +41,9 @@ next-seated devices code limits k row within s = record {
 }
 
 -- seat 0 made one more
-pub first-seated : {C M : Type 0} (devices : C → ℕ) (code : C) (limits : Limits) (k : Knows (Opened C) (SeatRow M) Entry) (made : ℕ)
-    → IsSeated devices code limits k → IsSeated devices code limits (record k { made = made })
-first-seated devices code limits k made s = record {
+pub first-seated : {C M : Type 0} (signature : C → Signature) (code : C) (limits : Limits) (k : Knows (Opened C) (SeatRow M) Entry) (made : ℕ)
+    → IsSeated signature code limits k → IsSeated signature code limits (record k { made = made })
+first-seated signature code limits k made s = record {
   opened = s.opened;
   is = s.is;
   of_code = s.of_code;

@@ -40,8 +40,8 @@ where
     G: Gate + Sync,
     R: Threads + Wait + Sync,
     requires limits { AreLimits limits }
-    requires devices { M.meaning.devices (arc_value code) ≤ vec_len devices }
-    ensures over { IfOk result (λ left. IsOver (M.meaning.program (arc_value code)) limits (M.meaning.value_of (arc_value code))
+    requires devices { (M.meaning.signature (arc_value code)).devices ≤ vec_len devices }
+    ensures over { IfOk result (λ left. IsOver (M.meaning.program (arc_value code)) (M.meaning.signature (arc_value code)) limits (M.meaning.value_of (arc_value code))
         (ends_of K.written K.faults D.device_heard D.device_faults sink devices.items)
         left.ended (ends_of K.written K.faults D.device_heard D.device_faults left.sink left.devices.items)) }
     ensures sink { IfErr result (λ back. back.0 ≡ sink) }
@@ -83,8 +83,8 @@ where
     requires opened { HasResumed M.meaning engine.limits engine.base engine }
     requires limits { AreLimits engine.limits }
     requires code { arc_value code ≡ engine.code }
-    requires devices { M.meaning.devices engine.code ≤ vec_len devices }
-    ensures over { IfOk result (λ left. IsOverSince engine.base (M.meaning.program engine.code) engine.limits (M.meaning.value_of engine.code)
+    requires devices { (M.meaning.signature engine.code).devices ≤ vec_len devices }
+    ensures over { IfOk result (λ left. IsOverSince engine.base (M.meaning.program engine.code) (M.meaning.signature engine.code) engine.limits (M.meaning.value_of engine.code)
         (ends_of K.written K.faults D.device_heard D.device_faults sink devices.items)
         left.ended (ends_of K.written K.faults D.device_heard D.device_faults left.sink left.devices.items)) }
     ensures sink { IfErr result (λ back. back.0 ≡ sink) }

@@ -41,7 +41,7 @@ where
     R: Threads + Wait + Sync,
     requires limits { AreLimits shared.shell.value.engine.limits }
     requires code { arc_value code ≡ shared.shell.value.engine.code }
-    requires devices { M.meaning.devices shared.shell.value.engine.code ≤ vec_len shared.shell.value.devices }
+    requires devices { (M.meaning.signature shared.shell.value.engine.code).devices ≤ vec_len shared.shell.value.devices }
     requires stands { IsShared M.meaning
         (opened_as shared.shell.value.engine (ends_of K.written K.faults D.device_heard D.device_faults shared.sink_before.value shared.shell.value.devices.items))
         (shown K.written K.faults D.device_heard D.device_faults shared.shell.value.engine shared.shell.value.sent shared.shell.value.sink shared.shell.value.devices.items)
@@ -53,6 +53,7 @@ where
     requires no_seats { room.seats.items ≡ [] }
     requires seats { shared.shell.value.engine.limits.seats ≤ vec_capacity room.seats }
     ensures over { IfOk result (λ left. IsOverSince shared.shell.value.engine.base (M.meaning.program shared.shell.value.engine.code)
+        (M.meaning.signature shared.shell.value.engine.code)
         shared.shell.value.engine.limits (M.meaning.value_of shared.shell.value.engine.code)
         (ends_of K.written K.faults D.device_heard D.device_faults shared.sink_before.value shared.shell.value.devices.items)
         left.ended (ends_of K.written K.faults D.device_heard D.device_faults left.sink left.devices.items)) }

@@ -39,7 +39,7 @@ where
     R: Threads + Wait + Sync,
     requires some { 0 < length workers.old }
     requires of { All (λ w. IsSeatOf baton.now w.seat) workers.old }
-    requires ready { All (λ w. IsReadyToTurn M.meaning.devices M.meaning.is_machine M.meaning.stage (arc_value w.code) w.limits (knows w.seat) w.work) workers.old }
+    requires ready { All (λ w. IsReadyToTurn M.meaning.signature M.meaning.is_machine M.meaning.stage (arc_value w.code) w.limits (knows w.seat) w.work) workers.old }
     ensures count { length workers.new ≡ length workers.old }
     ensures of { (i : ℕ) (d : Worker M K D M.Code M.Value) → i < length workers.old → IsSeatOf baton.now (slice_index_or workers.new i d).seat }
     ensures keeps { (i : ℕ) (d : Worker M K D M.Code M.Value) → i < length workers.old
@@ -48,7 +48,7 @@ where
 {
     let count = workers.len();
     let work = |_: usize, w: &mut Worker<M, K, D>|
-        requires { IsSeatOf baton.now w.now.seat × IsReadyToTurn M.meaning.devices M.meaning.is_machine M.meaning.stage (arc_value w.now.code) w.now.limits (knows w.now.seat) w.now.work }
+        requires { IsSeatOf baton.now w.now.seat × IsReadyToTurn M.meaning.signature M.meaning.is_machine M.meaning.stage (arc_value w.now.code) w.now.limits (knows w.now.seat) w.now.work }
         ensures of { IsSeatOf baton.entry.now w.exit.now.seat }
         ensures keeps { KeepsSeat (knows w.entry.now.seat) (knows w.exit.now.seat) }
         ensures through { IsThrough (knows w.exit.now.seat) }
@@ -68,7 +68,7 @@ pub(crate) fn team<M: Runner, K: Sink, D: Device>(
 where
     M::Code: Drop,
     requires of { IsSeatOf baton.now first }
-    requires seated { IsSeated M.meaning.devices (arc_value code) limits (knows first) }
+    requires seated { IsSeated M.meaning.signature (arc_value code) limits (knows first) }
     requires fresh { IsFirstSeat 1 (knows first) }
     requires count { vec_len codes + 1 ≡ limits.seats }
     requires codes { All (λ it. arc_value it ≡ arc_value code) codes.items }
@@ -77,7 +77,7 @@ where
     ensures count { vec_len result ≡ limits.seats }
     ensures seats { (i : ℕ) (w : Worker M K D M.Code M.Value) → slice_get result.items i ≡ Some w
         → IsSeatAt baton.now (knows first).fixed limits.seats i w.seat }
-    ensures ready { All (λ w. IsReadyToTurn M.meaning.devices M.meaning.is_machine M.meaning.stage (arc_value w.code) w.limits (knows w.seat) w.work) result.items }
+    ensures ready { All (λ w. IsReadyToTurn M.meaning.signature M.meaning.is_machine M.meaning.stage (arc_value w.code) w.limits (knows w.seat) w.work) result.items }
 {
     let (mut first, mut workers, mut codes) = (first, room, codes);
     for _ in 1..limits.seats {

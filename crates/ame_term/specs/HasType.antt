@@ -3,8 +3,10 @@
 use Rattle.std.specs.Prelude.{◌≡◌, ℕ, ◌<◌, Bool, ◌⊎◌, ℤ, Option, Some, None}
 use Rattle.ame_term.specs.Tree.{Typ, OwnName, Head, Val, Tree, Trees}
 use Rattle.ame_term.specs.Scope.{Scope, unscoped, bind}
+use Rattle.ame_term.specs.Signature.{Signature, MayStore}
 use Rattle.ame_term.specs.declared.types.Sort.{Sort}
 use Rattle.ame_term.specs.declared.types.Effect.{Effect}
+use Rattle.ame_term.specs.declared.types.TyNo.{TyNo}
 use Rattle.ame_term.specs.declared.types.Op.TheVariants as op
 use Rattle.ame_term.specs.declared.types.Unary.{Unary}
 use Rattle.ame_term.specs.declared.types.Unary.TheVariants as unary
@@ -16,17 +18,17 @@ abbrev pub code_of : Sort → Effect
 code_of Sort.Protected = Effect.Protected
 code_of Sort.Unprotected = Effect.Unprotected
 
--- on so many devices, a form with one part, under an effect: the part's type and the form's
-pub data HasUnary (devices : ℕ) : Unary → Effect → Typ → Typ → Type 0 where
-  negation : {q : Effect} → HasUnary devices unary.Not q Typ.Bool Typ.Bool
-  reference : {q : Effect} {s : Sort} {t : Typ} → HasUnary devices (unary.Ref s) q t (Typ.Ref s t)
-  get : {q : Effect} {s : Sort} {t : Typ} → code_of s ≡ q → HasUnary devices unary.Get q (Typ.Ref s t) t
-  peek : {t : Typ} → HasUnary devices unary.Peek Effect.Unprotected (Typ.Ref Sort.Protected t) t
-  block : HasUnary devices unary.Block Effect.Protected Typ.Bool Typ.Unit
-  print : {q : Effect} → HasUnary devices unary.Print q Typ.Int Typ.Unit
-  call : {device : ℕ} → device < devices → HasUnary devices (unary.Call device) Effect.Unprotected Typ.Int Typ.Int
-  first : {q : Effect} {t u : Typ} → HasUnary devices unary.First q (Typ.Pair t u) t
-  second : {q : Effect} {t u : Typ} → HasUnary devices unary.Second q (Typ.Pair t u) u
+-- for a signature, a form with one part, under an effect: the part's type and the form's
+pub data HasUnary (signature : Signature) : Unary → Effect → Typ → Typ → Type 0 where
+  negation : {q : Effect} → HasUnary signature unary.Not q Typ.Bool Typ.Bool
+  reference : {q : Effect} {s : Sort} {number : TyNo} {t : Typ} → MayStore signature.refs number.0 t → HasUnary signature (unary.Ref s number) q t (Typ.Ref s t)
+  get : {q : Effect} {s : Sort} {t : Typ} → code_of s ≡ q → HasUnary signature unary.Get q (Typ.Ref s t) t
+  peek : {t : Typ} → HasUnary signature unary.Peek Effect.Unprotected (Typ.Ref Sort.Protected t) t
+  block : HasUnary signature unary.Block Effect.Protected Typ.Bool Typ.Unit
+  print : {q : Effect} → HasUnary signature unary.Print q Typ.Int Typ.Unit
+  call : {device : ℕ} → device < signature.devices → HasUnary signature (unary.Call device) Effect.Unprotected Typ.Int Typ.Int
+  first : {q : Effect} {t u : Typ} → HasUnary signature unary.First q (Typ.Pair t u) t
+  second : {q : Effect} {t u : Typ} → HasUnary signature unary.Second q (Typ.Pair t u) u
 
 -- a form with two parts: their types and the form's
 pub data HasBinary : Binary → Effect → Typ → Typ → Typ → Type 0 where
@@ -39,8 +41,8 @@ pub data HasBinary : Binary → Effect → Typ → Typ → Typ → Type 0 where
   set : {q : Effect} {s : Sort} {t : Typ} → code_of s ≡ q → HasBinary binary.Set q (Typ.Ref s t) t Typ.Unit
   pair : {q : Effect} {t u : Typ} → HasBinary binary.Pair q t u (Typ.Pair t u)
 
--- for a number of devices, and cells with their sorts and content types
-module _ (devices : ℕ) (cells : ℕ → Option (Sort × Typ)) where
+-- for a signature, and cells with their sorts and content types
+module _ (signature : Signature) (cells : ℕ → Option (Sort × Typ)) where
   mutual
     -- a term has a type, with these types of names, under an ambient effect
     pub data HasType : Scope → Effect → Tree → Typ → Type 0 where
@@ -61,7 +63,7 @@ module _ (devices : ℕ) (cells : ℕ → Option (Sort × Typ)) where
       unprotected : {g : Scope} {e : Tree} {t : Typ} →
           HasType g Effect.Unprotected e t → HasType g Effect.Protected (Tree.Unprotected e) t
       one : {g : Scope} {q : Effect} {op : Unary} {e : Tree} {t u : Typ} →
-          HasUnary devices op q t u → HasType g q e t → HasType g q (Tree.One op e) u
+          HasUnary signature op q t u → HasType g q e t → HasType g q (Tree.One op e) u
       two : {g : Scope} {q : Effect} {op : Binary} {e f : Tree} {t u w : Typ} →
           HasBinary op q t u w → HasType g q e t → HasType g q f u → HasType g q (Tree.Two op e f) w
 

@@ -12,7 +12,9 @@ pub mod Maps
 pub mod State
 pub mod SourceTerm
 pub mod SourceProps
+pub mod Numbered
 pub mod Scope
 pub mod Shown
 pub mod Typing
+pub mod Signature
 pub mod HasType

@@ -192,7 +192,7 @@ second_row part_at part = then_ part (λ t. second_of part_at t)
 -- a form with one part, on so many devices
 abbrev pub unary_row : ℕ → Unary → ℕ → ℕ → Effect → TypeOutcome → TypeOutcome
 unary_row devices unary.Not at part_at q part = not_row part_at part
-unary_row devices (unary.Ref sort) at part_at q part = ref_row sort part
+unary_row devices (unary.Ref sort number) at part_at q part = ref_row sort part
 unary_row devices unary.Get at part_at q part = get_row at part_at q part
 unary_row devices unary.Peek at part_at q part = peek_row at part_at q part
 unary_row devices unary.Block at part_at q part = block_row at part_at q part
@@ -272,7 +272,7 @@ module _ (devices : ℕ) (cells : ℕ → Option (Sort × Typ)) where
 
   -- a `ref` form stores values of its part's type, before those that stand in the part
   abbrev pub own_ref_type : Unary → TypeOutcome → List Typ → List Typ
-  own_ref_type (unary.Ref sort) part others = under part (λ t. t ∷ others)
+  own_ref_type (unary.Ref sort number) part others = under part (λ t. t ∷ others)
   own_ref_type _ part others = others
 
   unfoldable mutual

@@ -52,7 +52,8 @@ pub enum Op {
 #[derive(Clone, Copy, PartialEq, Eq, Debug)]
 pub enum Unary {
     Not,
-    Ref(Sort),
+    /// A `ref` form, with its number among those of the text.
+    Ref(Sort, TyNo),
     Get,
     Peek,
     Block,

@@ -13,7 +13,7 @@ use Rattle.ame_parse.specs.declared.words.Word.{Word}
 use Rattle.ame_parse.specs.declared.words.Word.TheVariants as w
 use Rattle.ame_parse.specs.declared.ahead.Ahead.{Ahead}
 use Rattle.ame_parse.specs.declared.ahead.Ahead.TheVariants as a
-use Rattle.ame_parse.specs.Input.{Input, ahead, advanced, marked, spelling, name_number, named, binds_name, bound, unbound}
+use Rattle.ame_parse.specs.Input.{Input, ahead, advanced, marked, spelling, name_number, named, binds_name, bound, unbound, ref_number, counted}
 use Rattle.ame_parse.specs.Names.{number_in, with_name}
 use Rattle.ame_parse.specs.Forms.{row}
 use Rattle.ame_parse.specs.Grammar as g
@@ -23,38 +23,38 @@ use Rattle.ame_print.specs.Tokens.{form, sort_token, unary_tokens, binary_token,
 use Rattle.ame_print.proofs.Canon.{IsLike}
 use Rattle.ame_print.proofs.Alone.{IsFixed, closing_fixed, reserved, word_text, unary_word, binary_fixed, sort_fixed, sort_read}
 use Rattle.ame_print.proofs.Numbers.{number_alone}
-use Rattle.ame_print.proofs.Parts.{Part, Moves, Shut, begun, both, mapped, regrouped, within, atom, shut_part, form_part}
+use Rattle.ame_print.proofs.Parts.{Part, Moves, Shut, begun, both, mapped, regrouped, within, behind_ref, atom, shut_part, form_part}
 use Rattle.ame_text_cases.specs.Workload.{numeral}
 
 -- the tokens are read as the term, with at most so many parentheses open, between inputs like these
 abbrev pub IsPart : List Printed → ℕ → Input → Tree → Input → Type 0
 IsPart tokens n i tree j = Part tokens (λ i' j'. IsTerm n i' tree j') i j
 
--- an input with these names, of which those with these numbers are bound
-abbrev pub input_with : List Text → List ℕ → Input
-input_with names scope = record { rest = []; end = 0; names = names; scope = scope; places = [] }
+-- an input with these names, of which those with these numbers are bound, behind so many `ref` forms
+abbrev pub input_with : List Text → List ℕ → ℕ → Input
+input_with names scope refs = record { rest = []; end = 0; names = names; scope = scope; places = []; refs = refs }
 
 -- ---- steps
 
 stays : (token : Printed) (i : Input) → Moves token advanced i i
 unfolding advanced
-stays token i = record { like = λ i' like e. record { names = like.names; scope = like.scope }; rest = λ i'. refl }
+stays token i = record { like = λ i' like e. record { names = like.names; scope = like.scope; refs = like.refs }; rest = λ i'. refl }
 
 stays_marked : (token : Printed) (i : Input) → Moves token (λ i. advanced (marked i)) i i
 unfolding advanced marked
-stays_marked token i = record { like = λ i' like e. record { names = like.names; scope = like.scope }; rest = λ i'. refl }
+stays_marked token i = record { like = λ i' like e. record { names = like.names; scope = like.scope; refs = like.refs }; rest = λ i'. refl }
 
 stays_known : (bytes : Text) (i : Input) → with_name i.names bytes ≡ i.names → Moves (word bytes) (λ i. named (marked i)) i i
 unfolding named marked spelling
 stays_known bytes i kept = record {
-  like = λ i' like e. record { names = ap (λ z. with_name z (spelling i')) like.names ∙ ap (with_name i.names) e ∙ kept; scope = like.scope };
+  like = λ i' like e. record { names = ap (λ z. with_name z (spelling i')) like.names ∙ ap (with_name i.names) e ∙ kept; scope = like.scope; refs = like.refs };
   rest = λ i'. refl;
 }
 
-moves_name : (bytes : Text) (names : List Text) (scope : List ℕ) → Moves (word bytes) named (input_with names scope) (input_with (with_name names bytes) scope)
+moves_name : (bytes : Text) (names : List Text) (scope : List ℕ) (refs : ℕ) → Moves (word bytes) named (input_with names scope refs) (input_with (with_name names bytes) scope refs)
 unfolding named
-moves_name bytes names scope = record {
-  like = λ i' like e. record { names = ap (λ z. with_name z (spelling i')) like.names ∙ ap (with_name names) e; scope = like.scope };
+moves_name bytes names scope refs = record {
+  like = λ i' like e. record { names = ap (λ z. with_name z (spelling i')) like.names ∙ ap (with_name names) e; scope = like.scope; refs = like.refs };
   rest = λ i'. refl;
 }
 
@@ -63,10 +63,10 @@ without_last scope x =
     let e : length (scope ++ x ∷ []) - 1 ≡ length scope = omega (arith, length-append scope (x ∷ [])) in
     ap (λ m. take m (scope ++ x ∷ [])) e ∙ take-append_seam scope (x ∷ [])
 
-moves_out : (names : List Text) (scope : List ℕ) (x : ℕ) → Moves close_token (λ i. unbound (advanced i)) (input_with names (scope ++ x ∷ [])) (input_with names scope)
+moves_out : (names : List Text) (scope : List ℕ) (x refs : ℕ) → Moves close_token (λ i. unbound (advanced i)) (input_with names (scope ++ x ∷ []) refs) (input_with names scope refs)
 unfolding advanced unbound
-moves_out names scope x = record {
-  like = λ i' like e. record { names = like.names; scope = ap (λ s. take (length s - 1) s) like.scope ∙ without_last scope x };
+moves_out names scope x refs = record {
+  like = λ i' like e. record { names = like.names; scope = ap (λ s. take (length s - 1) s) like.scope ∙ without_last scope x; refs = like.refs };
   rest = λ i'. refl;
 }
 
@@ -108,11 +108,13 @@ one_part {which} {operator} tokens n i part is p =
     regrouped (ap (λ z. form (z ++ tokens)) (unary_word is))
     (form_part (begun (reserved which) (stays (word (word_text which)) i) p) (stays close_token i) (λ i' j' like r shut. g.one r.is is r.then shut))
 
-pub ref_part : (sort : Sort) (tokens : List Printed) (n : ℕ) (i : Input) (part : Tree) → IsPart tokens n i part i
-    → IsPart (form (word (codes "ref") ∷ sort_token sort ∷ tokens)) (suc n) i (Tree.One (unary.Ref sort) part) i
+pub ref_part : (sort : Sort) (tokens : List Printed) (n : ℕ) (i : Input) (part : Tree) → IsPart tokens n (counted i) part (counted i)
+    → IsPart (form (word (codes "ref") ∷ sort_token sort ∷ tokens)) (suc n) i (Tree.One (unary.Ref sort (ref_number i)) part) (counted i)
 ref_part sort tokens n i part p =
-    form_part (begun (reserved w.Ref) (stays (word (codes "ref")) i) (begun (sort_fixed sort) (stays (sort_token sort) i) p)) (stays close_token i)
-    (λ i' j' like r shut. g.ref r.is (sort_read sort (advanced i') (r.then).spelt) (r.then).then shut)
+    form_part (begun (reserved w.Ref) (stays (word (codes "ref")) i) (begun (sort_fixed sort) (stays (sort_token sort) i) (behind_ref i p))) (stays close_token (counted i))
+    (λ i' j' like r shut.
+    subst (λ (k : ℕ). IsForm n i' (Tree.One (unary.Ref sort (record { 0 = k })) part) (advanced j')) like.refs
+    (g.ref r.is (sort_read sort (advanced i') (r.then).spelt) (r.then).then shut))
 
 pub two_part : {next : Ahead} {operator : Binary} (xs ys : List Printed) (n : ℕ) (i : Input) (left right : Tree) → IsBinary next operator → IsPart xs n i left i → IsPart ys n i right i
     → IsPart (form (binary_token operator ∷ xs ++ ys)) (suc n) i (Tree.Two operator left right) i
@@ -124,15 +126,15 @@ pub async_part : (tokens : List Printed) (n : ℕ) (i : Input) (part : Tree) →
 async_part tokens n i part p = form_part (begun (reserved w.Async) (stays (word (codes "async")) i) p) (stays close_token i) (λ i' j' like r shut. g.async r.is r.then shut)
 
 -- a name, what its value's tokens are, and the body, in which it is bound
-pub let_part : (vs bs : List Printed) (n x : ℕ) (bytes : Text) (names last : List Text) (scope : List ℕ) (value body : Tree) → IsFixed (word bytes) a.Name → number_in names bytes ≡ x
-    → IsPart vs n (input_with (with_name names bytes) scope) value (input_with (with_name names bytes) scope)
-    → IsPart bs n (input_with (with_name names bytes) (scope ++ x ∷ [])) body (input_with last (scope ++ x ∷ []))
-    → IsPart (form (word (codes "let") ∷ word bytes ∷ vs ++ bs)) (suc n) (input_with names scope) (Tree.Let x value body) (input_with last scope)
+pub let_part : (vs bs : List Printed) (n x : ℕ) (bytes : Text) (names last : List Text) (scope : List ℕ) (refs refs' refs'' : ℕ) (value body : Tree) → IsFixed (word bytes) a.Name → number_in names bytes ≡ x
+    → IsPart vs n (input_with (with_name names bytes) scope refs) value (input_with (with_name names bytes) scope refs')
+    → IsPart bs n (input_with (with_name names bytes) (scope ++ x ∷ []) refs') body (input_with last (scope ++ x ∷ []) refs'')
+    → IsPart (form (word (codes "let") ∷ word bytes ∷ vs ++ bs)) (suc n) (input_with names scope refs) (Tree.Let x value body) (input_with last scope refs'')
 unfolding bound
-let_part vs bs n x bytes names last scope value body fixed number p q =
-    let outer = input_with names scope in
-    let inside = input_with (with_name names bytes) scope in
-    form_part (begun (reserved w.Let) (stays (word (codes "let")) outer) (begun fixed (moves_name bytes names scope) (both p (within x inside q)))) (moves_out last scope x)
+let_part vs bs n x bytes names last scope refs refs' refs'' value body fixed number p q =
+    let outer = input_with names scope refs in
+    let inside = input_with (with_name names bytes) scope refs' in
+    form_part (begun (reserved w.Let) (stays (word (codes "let")) outer) (begun fixed (moves_name bytes names scope refs) (both p (within x inside q)))) (moves_out last scope x refs'')
     (λ i' j' like r shut.
     let name = r.then in
     let same = numbered outer (advanced i') bytes x ((stays (word (codes "let")) outer).like i' like r.spelt) name.spelt number in

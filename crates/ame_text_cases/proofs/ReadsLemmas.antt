@@ -1,5 +1,5 @@
 -- The canonical tokens of the generated program are read as its term.
-use Rattle.std.proofs.Common.{◌≡◌, refl, ℕ, zero, suc, ◌≤◌, ◌<◌, ◌^◌, true, List, [], ◌∷◌, ◌++◌, map, length, length-append, decimal, None, arith}
+use Rattle.std.proofs.Common.{◌≡◌, refl, ℕ, zero, suc, ◌+◌, ◌≤◌, ◌<◌, ◌^◌, true, List, [], ◌∷◌, ◌++◌, map, length, length-append, decimal, None, arith}
 use Rattle.std.specs.Prelude.{codes, slice_index_or}
 use Rattle.std.specs.List.{AllByRecursion}
 use Rattle.std.proofs.lemmas.List.{length-map}
@@ -16,7 +16,7 @@ use Rattle.ame_parse.specs.declared.words.Word.{Word}
 use Rattle.ame_parse.specs.declared.ahead.Ahead.{Ahead}
 use Rattle.ame_parse.specs.declared.ahead.Ahead.TheVariants as a
 use Rattle.ame_parse.specs.Forms.{row}
-use Rattle.ame_parse.specs.Input.{Input}
+use Rattle.ame_parse.specs.Input.{Input, counted}
 use Rattle.ame_parse.specs.Names.{number_in, with_name}
 use Rattle.ame_parse.specs.Words.{word_of}
 use Rattle.ame_parse.specs.Grammar.{IsOp, IsUnary, IsBinary}
@@ -26,7 +26,7 @@ use Rattle.ame_print.proofs.Alone.{IsFixed, word_alone, free_fixed}
 use Rattle.ame_gen.specs.declared.transfers.Transfer.{Transfer}
 use Rattle.ame_gen.specs.Transfers.{accounts, transfer, transfers, IsTransfer}
 use Rattle.ame_gen.specs.Balances.{initial_balance}
-use Rattle.ame_text_cases.specs.Workload.{workload_names, counter, numeral, content, updated, transfer_term, print_term, report_term, with_cells, members_term, workload_term}
+use Rattle.ame_text_cases.specs.Workload.{workload_names, counter, numeral, content, updated, transfer_term, print_term, report_term, first_value, with_cells, members_term, workload_term}
 use Rattle.ame_text_cases.proofs.PartLemmas.{IsPart, input_with, IsKnown, variable_part, number_part, one_part, ref_part, two_part, async_part, let_part, IsRow, no_more_parts, one_more_part, do_part}
 
 -- ---- names
@@ -37,7 +37,7 @@ spelled x = slice_index_or workload_names x (63 ∷ decimal x)
 
 -- within all cells
 abbrev here : Input
-here = input_with workload_names (0 ∷ 1 ∷ 2 ∷ 3 ∷ 4 ∷ 5 ∷ 6 ∷ 7 ∷ 8 ∷ [])
+here = input_with workload_names (0 ∷ 1 ∷ 2 ∷ 3 ∷ 4 ∷ 5 ∷ 6 ∷ 7 ∷ 8 ∷ []) 9
 
 -- `a` and a digit
 account_fixed : (digit : ℕ) → is_word_byte digit ≡ true → word_of (97 ∷ digit ∷ []) ≡ None → IsFixed (word (97 ∷ digit ∷ [])) a.Name
@@ -187,6 +187,10 @@ abbrev scope_after : List ℕ → List ℕ → List ℕ
 scope_after scope [] = scope
 scope_after scope (cell ∷ cells) = scope_after (scope ++ cell ∷ []) cells
 
+abbrev refs_after : ℕ → List ℕ → ℕ
+refs_after ref [] = ref
+refs_after ref (cell ∷ cells) = refs_after (ref + 1) cells
+
 -- as many levels more
 abbrev level : List ℕ → ℕ → ℕ
 level [] n = n
@@ -201,26 +205,24 @@ level_some : (cells : List ℕ) (n : ℕ) → 1 ≤ n → 1 ≤ level cells n
 level_some [] n some = some
 level_some (cell ∷ cells) n some = omega arith
 
-abbrev pub first_value : ℕ → Tree
-first_value start = Tree.One (unary.Ref sorts.Protected) (numeral start)
+value_part : (n ref start : ℕ) (names : List Text) (scope : List ℕ) → 1 ≤ n → start < 2 ^ 63
+    → IsPart (term_tokens workload_names (first_value ref start)) n (input_with names scope ref) (first_value ref start) (input_with names scope (ref + 1))
+unfolding term_tokens counted
+value_part zero ref start names scope some small = absurd (omega (arith, some))
+value_part (suc n) ref start names scope some small =
+    ref_part sorts.Protected (term_tokens workload_names (numeral start)) n (input_with names scope ref) (numeral start) (number_part n (input_with names scope (ref + 1)) start small)
 
-value_part : (n start : ℕ) (names : List Text) (scope : List ℕ) → 1 ≤ n → start < 2 ^ 63
-    → IsPart (term_tokens workload_names (first_value start)) n (input_with names scope) (first_value start) (input_with names scope)
+cells_read : (n ref start : ℕ) (cells : List ℕ) (names last : List Text) (scope : List ℕ) (refs : ℕ) (body : Tree) → 1 ≤ n → start < 2 ^ 63 → AreNumbered names cells
+    → IsPart (term_tokens workload_names body) n (input_with (names_after names cells) (scope_after scope cells) (refs_after ref cells)) body (input_with last (scope_after scope cells) refs)
+    → IsPart (term_tokens workload_names (with_cells ref start cells body)) (level cells n) (input_with names scope ref) (with_cells ref start cells body) (input_with last scope refs)
 unfolding term_tokens
-value_part zero start names scope some small = absurd (omega (arith, some))
-value_part (suc n) start names scope some small =
-    ref_part sorts.Protected (term_tokens workload_names (numeral start)) n (input_with names scope) (numeral start) (number_part n (input_with names scope) start small)
-
-cells_read : (n start : ℕ) (cells : List ℕ) (names last : List Text) (scope : List ℕ) (body : Tree) → 1 ≤ n → start < 2 ^ 63 → AreNumbered names cells
-    → IsPart (term_tokens workload_names body) n (input_with (names_after names cells) (scope_after scope cells)) body (input_with last (scope_after scope cells))
-    → IsPart (term_tokens workload_names (with_cells start cells body)) (level cells n) (input_with names scope) (with_cells start cells body) (input_with last scope)
-unfolding term_tokens
-cells_read n start [] names last scope body some small new p = p
-cells_read n start (cell ∷ cells) names last scope body some small new p =
-    let within = with_cells start cells body in
-    let rest = cells_read n start cells (with_name names (spelled cell)) last (scope ++ cell ∷ []) body some small new.2 p in
-    let_part (term_tokens workload_names (first_value start)) (term_tokens workload_names within) (level cells n) cell (spelled cell) names last scope (first_value start) within new.0 new.1
-    (value_part (level cells n) start (with_name names (spelled cell)) scope (level_some cells n some) small) rest
+cells_read n ref start [] names last scope refs body some small new p = p
+cells_read n ref start (cell ∷ cells) names last scope refs body some small new p =
+    let within = with_cells (ref + 1) start cells body in
+    let rest = cells_read n (ref + 1) start cells (with_name names (spelled cell)) last (scope ++ cell ∷ []) refs body some small new.2 p in
+    let value = first_value ref start in
+    let_part (term_tokens workload_names value) (term_tokens workload_names within) (level cells n) cell (spelled cell) names last scope ref (ref + 1) refs value within new.0 new.1
+    (value_part (level cells n) ref start (with_name names (spelled cell)) scope (level_some cells n some) small) rest
 
 pub fixed : (x : ℕ) → x < 9 → IsFixed (word (spelled x)) a.Name
 fixed x h = (known x h).fixed
@@ -239,11 +241,11 @@ abbrev members_level : ℕ
 members_level = suc (suc (suc (deep 184)))
 
 pub workload_reads : (seed size : ℕ) → 1 ≤ size → size ≤ 4000 → AllByRecursion IsTransfer (transfers seed size)
-    → IsPart (term_tokens workload_names (workload_term seed size)) 200 (input_with [] []) (workload_term seed size) (input_with workload_names [])
+    → IsPart (term_tokens workload_names (workload_term seed size)) 200 (input_with [] [] 0) (workload_term seed size) (input_with workload_names [] 9)
 workload_reads seed size some most all =
     let body = members_term seed size in
     let names = names_after [] accounts in
     let scope = scope_after [] accounts in
     let members = reads_members 184 seed size some (omega (arith, most)) all in
-    let counted = cells_read members_level 0 (counter ∷ []) names workload_names scope body (omega arith) (omega arith) counter_numbered members in
-    cells_read (suc members_level) (initial_balance size) accounts [] workload_names [] (with_cells 0 (counter ∷ []) body) (omega arith) (omega (arith, most)) accounts_numbered counted
+    let counting = cells_read members_level counter 0 (counter ∷ []) names workload_names scope 9 body (omega arith) (omega arith) counter_numbered members in
+    cells_read (suc members_level) 0 (initial_balance size) accounts [] workload_names [] 9 (with_cells counter 0 (counter ∷ []) body) (omega arith) (omega (arith, most)) accounts_numbered counting

@@ -1,5 +1,5 @@
 -- The generated text is lines of the program's canonical tokens.
-use Rattle.std.proofs.Common.{◌≡◌, refl, sym, ap, subst, ◌∙◌, ℕ, zero, suc, ◌≤◌, ◌<◌, ◌^◌, pos, true, false, List, [], ◌∷◌, ◌++◌, map, append_assoc, append-nil, decimal, arith}
+use Rattle.std.proofs.Common.{◌≡◌, refl, sym, ap, subst, ◌∙◌, ℕ, zero, suc, ◌+◌, ◌≤◌, ◌<◌, ◌^◌, pos, true, false, List, [], ◌∷◌, ◌++◌, map, append_assoc, append-nil, decimal, arith}
 use Rattle.std.specs.Prelude.{codes}
 use Rattle.std.specs.List.{AllByRecursion, flat_map}
 use Rattle.std.proofs.lemmas.Fmt.{decimal_digit}
@@ -204,16 +204,16 @@ abbrev closed : List ℕ → List Printed
 closed [] = []
 closed (cell ∷ cells) = closed cells ++ close_token ∷ []
 
-cells_flat : (start : ℕ) (cells : List ℕ) (body : Tree) → term_tokens workload_names (with_cells start cells body)
+cells_flat : (ref start : ℕ) (cells : List ℕ) (body : Tree) → term_tokens workload_names (with_cells ref start cells body)
     ≡ flat_map (cell_tokens start) cells ++ (term_tokens workload_names body ++ closed cells)
 unfolding term_tokens
-cells_flat start [] body = sym (append-nil (term_tokens workload_names body))
-cells_flat start (cell ∷ cells) body =
+cells_flat ref start [] body = sym (append-nil (term_tokens workload_names body))
+cells_flat ref start (cell ∷ cells) body =
     let front = flat_map (cell_tokens start) cells in
     let inner = term_tokens workload_names body in
     let last = close_token ∷ [] in
     ap (λ z. cell_tokens start cell ++ z)
-    (ap (λ z. z ++ last) (cells_flat start cells body) ∙ append_assoc front (inner ++ closed cells) last ∙ ap (λ z. front ++ z) (append_assoc inner (closed cells) last))
+    (ap (λ z. z ++ last) (cells_flat (ref + 1) start cells body) ∙ append_assoc front (inner ++ closed cells) last ∙ ap (λ z. front ++ z) (append_assoc inner (closed cells) last))
 
 abbrev transfer_tokens_of : Transfer → List Printed
 transfer_tokens_of t = term_tokens workload_names (transfer_term t)
@@ -236,7 +236,7 @@ by_lines seed size =
     ++ flat_map transfer_tokens_of (transfers seed size) ++ term_tokens workload_names (report_term size) ++ ten_ends
 
 inside_flat : (parts : Trees) (front last : List Printed) → row_tokens workload_names parts ≡ front ++ last
-    → term_tokens workload_names (with_cells 0 (counter ∷ []) (Tree.Do parts)) ++ closed accounts
+    → term_tokens workload_names (with_cells counter 0 (counter ∷ []) (Tree.Do parts)) ++ closed accounts
     ≡ cell_tokens 0 counter ++ ((open_token ∷ word (codes "do") ∷ []) ++ (front ++ (last ++ ten_ends)))
 unfolding term_tokens
 inside_flat parts front last e =
@@ -249,7 +249,7 @@ whole_flat seed size =
     let cells = flat_map (cell_tokens (initial_balance size)) accounts in
     let moves = flat_map transfer_tokens_of (transfers seed size) in
     let report = term_tokens workload_names (report_term size) in
-    cells_flat (initial_balance size) accounts (with_cells 0 (counter ∷ []) (members_term seed size))
+    cells_flat 0 (initial_balance size) accounts (with_cells counter 0 (counter ∷ []) (members_term seed size))
     ∙ ap (λ z. cells ++ z) (inside_flat parts moves report (members_flat size (transfers seed size)))
     ∙ sym (six cells (cell_tokens 0 counter) (open_token ∷ word (codes "do") ∷ []) moves report ten_ends)
 

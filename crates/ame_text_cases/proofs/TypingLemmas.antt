@@ -1,8 +1,9 @@
 -- The generated program is Unit under the protected effect.
-use Rattle.std.proofs.Common.{◌≡◌, refl, ℕ, zero, suc, ◌<◌, List, [], ◌∷◌, ◌++◌, map, Some, arith}
+use Rattle.std.proofs.Common.{◌≡◌, refl, ℕ, zero, suc, ◌+◌, ◌<◌, List, [], ◌∷◌, ◌++◌, map, Some, arith}
 use Rattle.std.specs.List.{AllByRecursion}
 use Rattle.ame_term.specs.Tree.{Typ, Tree, Trees}
 use Rattle.ame_term.specs.Scope.{Scope, unscoped, bind}
+use Rattle.ame_term.specs.Signature.{unlisted}
 use Rattle.ame_term.specs.Typing.{no_cells}
 use Rattle.ame_term.specs.HasType as rule
 use Rattle.ame_term.specs.HasType.{HasBinary, HasType, HasLast}
@@ -45,10 +46,10 @@ is_cell (suc (suc (suc (suc (suc (suc (suc (suc (suc x))))))))) h = absurd (omeg
 
 module _ (devices : ℕ) where
   abbrev Has : Tree → Typ → Type 0
-  Has e t = HasType devices no_cells inner Effect.Protected e t
+  Has e t = HasType (unlisted devices) no_cells inner Effect.Protected e t
 
   abbrev EndsIn : Trees → Typ → Type 0
-  EndsIn parts t = HasLast devices no_cells inner Effect.Protected parts t
+  EndsIn parts t = HasLast (unlisted devices) no_cells inner Effect.Protected parts t
 
   content_typed : (x : ℕ) → x < 9 → Has (content x) Typ.Int
   content_typed x h = rule.one (rule.get {s = Sort.Protected} {t = Typ.Int} refl) (rule.name (is_cell x h))
@@ -89,14 +90,14 @@ module _ (devices : ℕ) where
   members_typed size [] all = rule.last (report_typed size)
   members_typed size (t ∷ ts) all = on_top (transfer_typed t all.0) (members_typed size ts all.1)
 
-  cells_typed : (start : ℕ) (cells : List ℕ) (names : Scope) (body : Tree) (t : Typ) → HasType devices no_cells (among_cells cells names) Effect.Protected body t
-      → HasType devices no_cells names Effect.Protected (with_cells start cells body) t
-  cells_typed start [] names body t h = h
-  cells_typed start (cell ∷ cells) names body t h =
-      rule.binding {t = cell_type} (rule.one rule.reference (rule.held rule.int)) (cells_typed start cells (bind cell cell_type names) body t h)
+  cells_typed : (ref start : ℕ) (cells : List ℕ) (names : Scope) (body : Tree) (t : Typ) → HasType (unlisted devices) no_cells (among_cells cells names) Effect.Protected body t
+      → HasType (unlisted devices) no_cells names Effect.Protected (with_cells ref start cells body) t
+  cells_typed ref start [] names body t h = h
+  cells_typed ref start (cell ∷ cells) names body t h =
+      rule.binding {t = cell_type} (rule.one (rule.reference tt) (rule.held rule.int)) (cells_typed (ref + 1) start cells (bind cell cell_type names) body t h)
 
-  pub workload_has : (seed size : ℕ) → AllByRecursion IsTransfer (transfers seed size) → HasType devices no_cells unscoped Effect.Protected (workload_term seed size) Typ.Unit
+  pub workload_has : (seed size : ℕ) → AllByRecursion IsTransfer (transfers seed size) → HasType (unlisted devices) no_cells unscoped Effect.Protected (workload_term seed size) Typ.Unit
   workload_has seed size all =
       let body = rule.sequence (members_typed size (transfers seed size) all) in
-      cells_typed (initial_balance size) accounts unscoped (with_cells 0 (counter ∷ []) (members_term seed size)) Typ.Unit
-      (cells_typed 0 (counter ∷ []) (among_cells accounts unscoped) (members_term seed size) Typ.Unit body)
+      cells_typed 0 (initial_balance size) accounts unscoped (with_cells counter 0 (counter ∷ []) (members_term seed size)) Typ.Unit
+      (cells_typed counter 0 (counter ∷ []) (among_cells accounts unscoped) (members_term seed size) Typ.Unit body)

@@ -1,5 +1,5 @@
 -- What tokens that are lexed and read make of their text.
-use Rattle.std.proofs.Common.{◌≡◌, refl, sym, ap, ◌∙◌, true, List, [], ◌∷◌, map, append-nil}
+use Rattle.std.proofs.Common.{◌≡◌, refl, sym, ap, ◌∙◌, ℕ, true, List, [], ◌∷◌, map, append-nil}
 use Rattle.ame_lex.specs.Bytes.{Text}
 use Rattle.ame_parse.specs.declared.ahead.Ahead.TheVariants as a
 use Rattle.ame_parse.specs.Fault.{lexeme_of}
@@ -24,11 +24,11 @@ unfolding ahead
 no_more i none = no_more_in i.rest none
 
 -- a text whose tokens are read as a term spells it
-pub spelled_so : (text : Text) (source : Source) → LexedBehind [] text (term_tokens source.names source.tree)
-    → IsPart (term_tokens source.names source.tree) 200 (input_with [] []) source.tree (input_with source.names []) → SpellsAs text source
-spelled_so text source lexed part =
+pub spelled_so : (text : Text) (source : Source) (refs : ℕ) → LexedBehind [] text (term_tokens source.names source.tree)
+    → IsPart (term_tokens source.names source.tree) 200 (input_with [] [] 0) source.tree (input_with source.names [] refs) → SpellsAs text source
+spelled_so text source refs lexed part =
     let tokens = term_tokens source.names source.tree in
-    let done = part.again (start_of text lexed.found) [] (record { names = refl; scope = refl }) (lexed.same ∙ sym (append-nil tokens)) in
+    let done = part.again (start_of text lexed.found) [] (record { names = refl; scope = refl; refs = refl }) (lexed.same ∙ sym (append-nil tokens)) in
     record {
       again = record { names = done.last.names; places = done.last.places; tree = source.tree };
       spells = g.program lexed.lexes done.ends (no_more done.last done.left);
@@ -37,9 +37,9 @@ spelled_so text source lexed part =
     }
 
 -- the canonical text of a term that is read from its tokens
-pub canonical_lexed : (source : Source) → IsPart (term_tokens source.names source.tree) 200 (input_with [] []) source.tree (input_with source.names [])
+pub canonical_lexed : (source : Source) (refs : ℕ) → IsPart (term_tokens source.names source.tree) 200 (input_with [] [] 0) source.tree (input_with source.names [] refs)
     → LexedBehind [] (layout true (term_tokens source.names source.tree)) (term_tokens source.names source.tree)
-canonical_lexed source part =
+canonical_lexed source refs part =
     let laid = lexed_again (term_tokens source.names source.tree) part.alone in
     record { found = laid.found; lexes = laid.lexes; same = laid.same }
 

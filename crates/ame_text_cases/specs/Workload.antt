@@ -1,5 +1,5 @@
 -- The generated program: its names and its term.
-use Rattle.std.specs.Prelude.{ℕ, pos, List, [], ◌∷◌, ◌++◌, map, codes}
+use Rattle.std.specs.Prelude.{ℕ, ◌+◌, pos, List, [], ◌∷◌, ◌++◌, map, codes}
 use Rattle.ame_lex.specs.Bytes.{Text}
 use Rattle.ame_term.specs.declared.types.Sort.TheVariants as sorts
 use Rattle.ame_term.specs.declared.types.Op.{Op}
@@ -47,17 +47,22 @@ abbrev pub report_term : ℕ → Tree
 report_term size = Tree.Async (Tree.Do (row (
     Tree.One unary.Block (Tree.Two (binary.Bin op.Same) (content counter) (numeral size)) ∷ map print_term accounts)))
 
--- a protected cell for each of these names, which begins with this number, around the body
-abbrev pub with_cells : ℕ → List ℕ → Tree → Tree
-with_cells start [] body = body
-with_cells start (cell ∷ cells) body = Tree.Let cell (Tree.One (unary.Ref sorts.Protected) (numeral start)) (with_cells start cells body)
+-- what makes a protected cell that begins with this number, as the `ref` form of the other number in the text
+abbrev pub first_value : ℕ → ℕ → Tree
+first_value ref start = Tree.One (unary.Ref sorts.Protected (record { 0 = ref })) (numeral start)
+
+-- a protected cell for each of these names, around the body; their `ref` forms are numbered from the first number on, and each begins with the second
+abbrev pub with_cells : ℕ → ℕ → List ℕ → Tree → Tree
+with_cells ref start [] body = body
+with_cells ref start (cell ∷ cells) body = Tree.Let cell (first_value ref start) (with_cells (ref + 1) start cells body)
 
 -- the members, which begin one after another
 abbrev pub members_term : ℕ → ℕ → Tree
 members_term seed size = Tree.Do (row (map transfer_term (transfers seed size) ++ report_term size ∷ []))
 
+-- each cell's `ref` form has the number of the cell's name
 abbrev pub workload_term : ℕ → ℕ → Tree
-workload_term seed size = with_cells (initial_balance size) accounts (with_cells 0 (counter ∷ []) (members_term seed size))
+workload_term seed size = with_cells 0 (initial_balance size) accounts (with_cells counter 0 (counter ∷ []) (members_term seed size))
 
 -- as a program; its nodes have no places here, since these are those of a text
 abbrev pub workload : ℕ → ℕ → Source

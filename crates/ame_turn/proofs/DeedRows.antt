@@ -8,13 +8,11 @@ use Rattle.ame_term.specs.declared.types.Loc.{Loc}
 use Rattle.ame_term.specs.declared.types.Sort.{Sort}
 use Rattle.ame_term.specs.declared.types.TyNo.{TyNo}
 use Rattle.ame_rows.specs.declared.notes.Bad.{Bad}
-use Rattle.ame_rows.specs.declared.notes.ReadNote.{ReadNote}
 use Rattle.ame_rows.specs.Valid.{IsValid, IsFirstBad}
 use Rattle.ame_rows.specs.MemoryView.{Log, row_at}
 use Rattle.ame_device.specs.declared.told.Told.{Told}
 use Rattle.ame_protocol.specs.Row.Heap.{cell_at}
 use Rattle.ame_protocol.specs.Row.Shown.{shown_undo}
-use Rattle.ame_protocol.specs.Row.SeatRun.{AreValid}
 use Rattle.ame_machine.specs.declared.wants.Wants.TheVariants as wants
 use Rattle.ame_machine.specs.MachineView.{MachineView, place_shown}
 use Rattle.ame_machine.specs.Input.{value_to_set}
@@ -41,14 +39,14 @@ use Rattle.ame_engine.specs.Makes.{state_of, Makes, MakesAt}
 use Rattle.ame_engine.specs.Seen.{parts_of, MakesEvent, MakesLastEvent}
 use Rattle.ame_engine.specs.Stops.{stopped_by}
 use Rattle.ame_engine.specs.Writing.{answer_to_write}
-use Rattle.ame_engine.specs.Committing.{owned_places, ended_at, left_at}
+use Rattle.ame_engine.specs.Committing.{ended_at, left_at}
 use Rattle.ame_engine.specs.Visiting.{HasComeHome, HasBeenRefused, visits_at}
 use Rattle.ame_engine.proofs.CheckLemmas.{shown-valid}
 use Rattle.ame_engine.proofs.MakesLemmas.{begun-made, read-made, written-made, met-made, allocated-made, checked-made, stale-made, undone-made, gone-made}
 use Rattle.ame_engine.proofs.MakesLemmas.{noted-made, ended-made, left-made, tall-made, cut-made, refused-made, visited-made}
 use Rattle.ame_turn.specs.declared.work.Deed.{Deed}
 use Rattle.ame_turn.specs.Asked.{AsksFor, RunsTo, Accesses, IsToCheck, IsToCommit, IsToVisit, HasNoTurnsLeft, IsToUndo, AreAllValid}
-use Rattle.ame_turn.specs.Deeds.{StopsBy, is_visit, IsShownAt, Meets, IsDeedOf, IsMade, IsDone}
+use Rattle.ame_turn.specs.Deeds.{StopsBy, is_visit, Meets, IsDeedOf, IsMade, IsDone}
 use Rattle.ame_machine.specs.Meaning.{Meaning}
 
 module _ {C V M : Type 0} (meaning : Meaning C V M) (seat : ℕ)

@@ -89,9 +89,9 @@ module _ (parts : Parts) (seat : ℕ) (s : MachineView) (on : IsOnSeat parts sea
         by (inl free) = ap (λ (r : SeatRun). r.inputs) (first-run parts.memory seat l v within is free start)
         by (inr own) = ap (λ (r : SeatRun). r.inputs) (later-run parts.memory seat l v within is own start)
 
-    pub alloc-fed : (sort : Sort) (ty : TyNo) (v : Val) → Need.Alloc sort ≡ need_of s → fed_stage (Val.Loc (length parts.memory.cells)) s ≡ Some t
+    pub alloc-fed : (sort : Sort) (ty : TyNo) (v : Val) → Need.Alloc sort ty ≡ need_of s → fed_stage (Val.Loc (length parts.memory.cells)) s ≡ Some t
         → IsOnSeat (has_allocated seat sort ty v parts) seat t
     alloc-fed sort ty v need fed =
-        fed-on (Val.Loc (length parts.memory.cells)) t fed (Act.Allocates sort (comes_as s (Need.Alloc sort) need).0) (comes_as s (Need.Alloc sort) need).1 refl
+        fed-on (Val.Loc (length parts.memory.cells)) t fed (Act.Allocates sort ty (comes_as s (Need.Alloc sort ty) need).0) (comes_as s (Need.Alloc sort ty) need).1 refl
         (has_allocated seat sort ty v parts) refl refl
         (ap (λ (r : SeatRun). r.inputs) (allocation-run parts.memory seat sort ty v within start))

@@ -64,7 +64,7 @@ module _ (parts : Parts) (seat : ℕ) (s t : MachineView) (stands : Simulates pa
       let is : IsCell (heap_in parts) l.0 = (write-there parts stands seat on.attempt task s.steps place.0 l next.0 place.1).0 in
       write-fed parts seat s on seat-row t l v is owned need fed
 
-  pub alloc-goes : (sort : Sort) (ty : TyNo) (v : Val) → Need.Alloc sort ≡ need_of s → fed_stage (Val.Loc (length parts.memory.cells)) s ≡ Some t
+  pub alloc-goes : (sort : Sort) (ty : TyNo) (v : Val) → Need.Alloc sort ty ≡ need_of s → fed_stage (Val.Loc (length parts.memory.cells)) s ≡ Some t
       → IsOnSeat (has_allocated seat sort ty v parts) seat t
   alloc-goes sort ty v need fed = alloc-fed parts seat s on seat-row t sort ty v need fed
 

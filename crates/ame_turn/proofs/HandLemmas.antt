@@ -5,6 +5,7 @@ use Rattle.std.proofs.lemmas.Bool.{cases_lt}
 use Rattle.ame_term.specs.Tree.{Val}
 use Rattle.ame_term.specs.Act.{Act}
 use Rattle.ame_term.specs.declared.types.Sort.{Sort}
+use Rattle.ame_term.specs.declared.types.TyNo.{TyNo}
 use Rattle.ame_journal.specs.Replay.{redex_act}
 use Rattle.ame_machine.specs.Run.Local.{LocalState}
 use Rattle.ame_machine.specs.MachineView.{MachineView}
@@ -56,10 +57,10 @@ told-busy (Task.Free b) = refl
 told-busy (Task.Undoing b reason) = refl
 
 -- the value that a machine sets which wants a new cell, or to write
-pub alloc-sets : (s : MachineView) (sort : Sort) → Need.Alloc sort ≡ need_of s → (v : Val) × (value_to_set s ≡ Some v)
-alloc-sets s sort need =
-    let n : (v : Val) × HasNextAct s (Act.Allocates sort v) = comes_as s (Need.Alloc sort) need in
-    let h : HasNextAct s (Act.Allocates sort n.0) = n.1 in (n.0, ap value_set (ap redex_act h.1 ∙ ap (λ (a : Act). Some a) h.2))
+pub alloc-sets : (s : MachineView) (sort : Sort) (ty : TyNo) → Need.Alloc sort ty ≡ need_of s → (v : Val) × (value_to_set s ≡ Some v)
+alloc-sets s sort ty need =
+    let n : (v : Val) × HasNextAct s (Act.Allocates sort ty v) = comes_as s (Need.Alloc sort ty) need in
+    let h : HasNextAct s (Act.Allocates sort ty n.0) = n.1 in (n.0, ap value_set (ap redex_act h.1 ∙ ap (λ (a : Act). Some a) h.2))
 
 pub write-sets : (s : MachineView) (l : ℕ) → Need.Write l ≡ need_of s → (v : Val) × (value_to_set s ≡ Some v)
 write-sets s l need =

@@ -38,8 +38,8 @@ module _ (parts : Parts) (stands : Simulates parts) (seat : ℕ) (s : MachineVie
       let none : (row_at parts.memory.rows seat).inputs ≡ [] = ap (λ (notes : Log Val). notes.inputs) (visits parts stands seat a task).clear in
       let alone : OnRun start [] s = subst (λ (inputs : List Val). OnRun start inputs s) none on.run in
       let cells = live_types (heap_in parts) stands.types in
-      let typed = subst (λ (x : Side). IsTypedThroughout parts.devices cells x start [] Typ.Unit) (sym (ap side_told inside)) (throughout parts stands seat a task) in
-      (parts.devices, cells, runs-typed parts.devices cells start [] s typed alone (λ _. begins-under parts stands seat a task))
+      let typed = subst (λ (x : Side). IsTypedThroughout parts.signature cells x start [] Typ.Unit) (sym (ap side_told inside)) (throughout parts stands seat a task) in
+      (parts.signature, cells, runs-typed parts.signature cells start [] s typed alone (λ _. begins-under parts stands seat a task))
 
   -- the machine of a seat can run
   pub runs-on : CanRun s

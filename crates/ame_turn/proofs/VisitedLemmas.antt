@@ -3,7 +3,6 @@ use Rattle.std.proofs.Common.{◌≡◌, ◌≢◌, ℕ, Bool, true, List, Some,
 use Rattle.std.specs.Prelude.{Option, unwrap_or}
 use Rattle.ame_term.specs.Tree.{Val, Tree, unit_tree}
 use Rattle.ame_term.specs.Act.{Act}
-use Rattle.ame_term.specs.declared.types.TyNo.{TyNo}
 use Rattle.ame_pool.specs.Roster.{Roster}
 use Rattle.ame_pool.specs.Calls.{noted_on, noted, renewed, exchanged}
 use Rattle.ame_pool.proofs.MemberLemmas.{found_altered}
@@ -57,24 +56,24 @@ module _ (parts : Parts) (seat other : ℕ) (s : MachineView) (apart : other ≢
       (λ a e. term-home Reason.Stopped number a.tried.number parts.pool) on
 
 -- a visit leaves the logs of seats
-act-rows : (ty : TyNo) (act : Act) (memory : MemoryView Val) → (memory_after ty act memory).rows ≡ memory.rows
-act-rows ty (Act.Becomes term) memory = refl
-act-rows ty (Act.Allocates sort v) memory = refl
-act-rows ty (Act.Reads l) memory = refl
-act-rows ty (Act.Peeks l) memory = refl
-act-rows ty (Act.Writes l v) memory = refl
-act-rows ty (Act.Spawns body) memory = refl
-act-rows ty (Act.Prints n) memory = refl
-act-rows ty Act.Passes memory = refl
-act-rows ty Act.Fails memory = refl
-act-rows ty (Act.Calls device n) memory = refl
-act-rows ty (Act.Closes v) memory = refl
-act-rows ty Act.Stuck memory = refl
+act-rows : (act : Act) (memory : MemoryView Val) → (memory_after act memory).rows ≡ memory.rows
+act-rows (Act.Becomes term) memory = refl
+act-rows (Act.Allocates sort number v) memory = refl
+act-rows (Act.Reads l) memory = refl
+act-rows (Act.Peeks l) memory = refl
+act-rows (Act.Writes l v) memory = refl
+act-rows (Act.Spawns body) memory = refl
+act-rows (Act.Prints n) memory = refl
+act-rows Act.Passes memory = refl
+act-rows Act.Fails memory = refl
+act-rows (Act.Calls device n) memory = refl
+act-rows (Act.Closes v) memory = refl
+act-rows Act.Stuck memory = refl
 
 pub visit-rows : (parts : Parts) (number n : ℕ) (p : LocalState) (inside : Bool) (memory : MemoryView Val) → IsVisit parts number n p inside memory
     → memory.rows ≡ parts.memory.rows
 visit-rows parts number n p inside memory (IsVisit.stepped steps place some stands) = refl
-visit-rows parts number n p inside memory (IsVisit.acted steps place act v made ty stands at given gives) = act-rows ty act parts.memory
+visit-rows parts number n p inside memory (IsVisit.acted steps place act v made stands at given gives) = act-rows act parts.memory
 visit-rows parts number n p inside memory (IsVisit.closed steps place v stands closes) = refl
 
 module _ (parts : Parts) (stands : Simulates parts) (seat other : ℕ) (s : MachineView) (apart : other ≢ seat) (on : IsOnSeat parts other s) (number : ℕ)

@@ -70,7 +70,7 @@ where
     requires ready { IsReady engine.old.limits.slice (M.meaning.stage engine.old.code machine) }
     requires inside { (M.meaning.stage engine.old.code machine).inside ≡ true }
     requires told { (M.meaning.stage engine.old.code machine).want ≡ Some want }
-    requires devices { M.meaning.devices engine.old.code ≤ vec_len devices.old }
+    requires devices { (M.meaning.signature engine.old.code).devices ≤ vec_len devices.old }
     ensures fits { Fits M.meaning engine.new seat result.work }
     ensures done { IsDone M.meaning seat (Some (M.meaning.stage engine.old.code machine)) engine.old engine.new
         (all_told D.device_heard D.device_faults devices.old.items) (all_told D.device_heard D.device_faults devices.new.items) result.deed }
@@ -98,7 +98,7 @@ where
     requires same { code.now ≡ engine.old.code }
     requires at { IsAtWork M.meaning engine.old seat machine }
     requires ready { engine.old.stop ≡ None → IsReady engine.old.limits.slice (M.meaning.stage engine.old.code machine) }
-    requires devices { M.meaning.devices engine.old.code ≤ vec_len devices.old }
+    requires devices { (M.meaning.signature engine.old.code).devices ≤ vec_len devices.old }
     ensures fits { Fits M.meaning engine.new seat result.work }
     ensures done { IsDone M.meaning seat (Some (M.meaning.stage engine.old.code machine)) engine.old engine.new
         (all_told D.device_heard D.device_faults devices.old.items) (all_told D.device_heard D.device_faults devices.new.items) result.deed }
@@ -168,7 +168,7 @@ where
     requires seat { seat < engine.old.limits.seats }
     requires fits { Fits M.meaning engine.old seat work }
     requires ready { lacks ≡ false → IsReadyWork M.meaning.stage engine.old.code engine.old.limits.slice work }
-    requires devices { M.meaning.devices engine.old.code ≤ vec_len devices.old }
+    requires devices { (M.meaning.signature engine.old.code).devices ≤ vec_len devices.old }
     ensures fits { Fits M.meaning engine.new seat result.work }
     ensures done { IsDone M.meaning seat (stage_at M.meaning.stage engine.old.code work) engine.old engine.new
         (all_told D.device_heard D.device_faults devices.old.items) (all_told D.device_heard D.device_faults devices.new.items) result.deed }
@@ -203,7 +203,7 @@ where
     requires seat { seat < engine.old.limits.seats }
     requires fits { Fits M.meaning engine.old seat work }
     requires ready { lacks ≡ false → IsReadyWork M.meaning.stage engine.old.code engine.old.limits.slice work }
-    requires devices { M.meaning.devices engine.old.code ≤ vec_len devices.old }
+    requires devices { (M.meaning.signature engine.old.code).devices ≤ vec_len devices.old }
     ensures done { IsDone M.meaning seat (stage_at M.meaning.stage engine.old.code work) engine.old engine.new
         (all_told D.device_heard D.device_faults devices.old.items) (all_told D.device_heard D.device_faults devices.new.items) result.deed }
     ensures lacks { lacks ≡ true → engine.old.stop ≡ None → result.deed ≡ Deed.Lacked }

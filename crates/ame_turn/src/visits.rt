@@ -28,7 +28,7 @@ where
     requires ready { IsReady engine.old.limits.slice (M.meaning.stage engine.old.code machine) }
     requires short { (M.meaning.stage engine.old.code machine).want ≡ Some Wants.Tall → ⊥ }
     requires steps { (M.meaning.stage engine.old.code machine).steps + 1 < 2 ^ 64 }
-    requires devices { M.meaning.devices engine.old.code ≤ vec_len devices.old }
+    requires devices { (M.meaning.signature engine.old.code).devices ≤ vec_len devices.old }
     ensures fits { Fits M.meaning engine.new seat result.work }
     ensures done { IsDone M.meaning seat (Some (M.meaning.stage engine.old.code machine)) engine.old engine.new
         (all_told D.device_heard D.device_faults devices.old.items) (all_told D.device_heard D.device_faults devices.new.items) result.deed }

@@ -13,7 +13,7 @@ use Rattle.ame_types.specs.Unary.{stands_under, ref_room, filled}
 pub part_fails : (devices at part_at : ℕ) (op : Unary) (q : Effect) (f : TypeFault) → stands_under devices op q ≡ true →
     unary_row devices op at part_at q (Err f) ≡ Err f
 part_fails devices at part_at unary.Not q f h = refl
-part_fails devices at part_at (unary.Ref sort) q f h = refl
+part_fails devices at part_at (unary.Ref sort number) q f h = refl
 part_fails devices at part_at unary.Get q f h = refl
 part_fails devices at part_at unary.Peek q f h = rw h refl
 part_fails devices at part_at unary.Block q f h = rw h refl
@@ -33,7 +33,7 @@ module _ (devices : ℕ) (front back types : List Typ) (n : ℕ) where
   -- the room that was made gets the part's type, before what the part stores
   pub filled_room : (op : Unary) (t : Typ) → types ≡ (front ++ ref_room op) ++ back → n ≡ length front →
       filled op types n t ≡ front ++ own_ref_type devices no_cells op (Ok t) back
-  filled_room (unary.Ref sort) t e m = rw (e, m) (set-behind front back Typ.Unit t)
+  filled_room (unary.Ref sort number) t e m = rw (e, m) (set-behind front back Typ.Unit t)
   filled_room unary.Not t e m = e ∙ simp append_assoc
   filled_room unary.Get t e m = e ∙ simp append_assoc
   filled_room unary.Peek t e m = e ∙ simp append_assoc

@@ -15,15 +15,15 @@ stands_under devices _ q = true
 
 -- the room for the type that a `ref` form stores
 abbrev pub ref_room : Unary → List Typ
-ref_room (unary.Ref sort) = Typ.Unit ∷ []
+ref_room (unary.Ref sort number) = Typ.Unit ∷ []
 ref_room _ = []
 
 -- a `ref` form has its room among stored types at this number
 abbrev pub HasRefRoom : Unary → List Typ → ℕ → Type 0
-HasRefRoom (unary.Ref sort) types n = n < length types
+HasRefRoom (unary.Ref sort number) types n = n < length types
 HasRefRoom _ types n = Unit {0}
 
 -- the stored types once the room of a `ref` form got its type
 abbrev pub filled : Unary → List Typ → ℕ → Typ → List Typ
-filled (unary.Ref sort) types n t = slice_set types n t
+filled (unary.Ref sort number) types n t = slice_set types n t
 filled _ types n t = types

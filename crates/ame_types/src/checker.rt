@@ -42,7 +42,9 @@ impl Checker<'_> {
             Term::If(test, then, other) => self.choice(seen, scope, q, test, then, other),
             Term::Bin(op, left, right) => self.operation(seen, scope, q, *op, left, right),
             Term::Not(part) => self.one(seen, scope, q, Unary::Not, part),
-            Term::Ref(sort, part) => self.one(seen, scope, q, Unary::Ref(*sort), part),
+            Term::Ref(sort, number, part) => {
+                self.one(seen, scope, q, Unary::Ref(*sort, *number), part)
+            },
             Term::Get(part) => self.one(seen, scope, q, Unary::Get, part),
             Term::Peek(part) => self.one(seen, scope, q, Unary::Peek, part),
             Term::Set(cell, content) => self.set(seen, scope, q, cell, content),

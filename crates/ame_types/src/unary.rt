@@ -54,7 +54,7 @@ pub fn unary_ty<'t>(
             &Shared::Bool,
             Shared::Bool,
         ),
-        Unary::Ref(sort) => Ok(types.reference(sort, found)?),
+        Unary::Ref(sort, _) => Ok(types.reference(sort, found)?),
         Unary::Get => read(types, at, part_at, q, found),
         Unary::Peek => peeked(types, at, part_at, found),
         Unary::Block => expect(
@@ -80,7 +80,7 @@ pub fn reserve(tys: &mut Vec<Shared<'_>>, op: Unary) -> Result<usize, NoMemory>
 {
     let number = tys.len();
     match op {
-        Unary::Ref(_) => {
+        Unary::Ref(_, _) => {
             push(tys, Shared::Unit)?;
             Ok(number)
         }
@@ -94,7 +94,7 @@ pub fn fill<'t>(tys: &mut Vec<Shared<'t>>, op: Unary, number: usize, part: Share
     requires { HasRefRoom op (map shared_type tys.old.items) number }
     ensures { map shared_type tys.new.items ≡ filled op (map shared_type tys.old.items) number (shared_type part.entry) }
 {
-    if let Unary::Ref(_) = op {
+    if let Unary::Ref(_, _) = op {
         tys[number] = part;
     }
 }

@@ -2,6 +2,7 @@
 use Rattle.std.proofs.Common.{◌≡◌, ℕ, ◌==◌, ◌++◌, ◌⊎◌, inl, inr, Bool, true, false, not, List, [], ◌∷◌, filter, Option, Some, None, is_none, option_map, option_and_then, if◌then◌else◌, refl, sym, ap, ◌∙◌, subst, arith}
 use Rattle.std.specs.Prelude.{◌&&◌}
 use Rattle.ame_term.specs.Tree.{Tree}
+use Rattle.ame_term.specs.Signature.{Signature}
 use Rattle.ame_term.specs.Frame.{Side, side_told}
 use Rattle.ame_term.specs.Context.{focus}
 use Rattle.ame_term.specs.Act.{device_answer}
@@ -32,19 +33,19 @@ use Rattle.ame_weak.proofs.EntryLemmas.{with_inside, replay-next, free-replayed,
 
 -- The entries of the labels so far lead to r: with nothing active the weak state is its state, and else it is
 -- under way over it.
-pub record IsFollowed (devices : ℕ) (r : Replayed) (p : Place) (w : Weak) : Type 0 where
+pub record IsFollowed (signature : Signature) (r : Replayed) (p : Place) (w : Weak) : Type 0 where
   pub calm : IsCalm r
   pub cells : StoreTyping
-  pub typed : IsTyped devices cells r.state
+  pub typed : IsTyped signature cells r.state
   pub inside : p.inside ≡ r.inside
-  pub stands : (w ≡ holding_none r.state) ⊎ IsUnderWay devices r.state p.number p.steps p.fresh w
+  pub stands : (w ≡ holding_none r.state) ⊎ IsUnderWay signature r.state p.number p.steps p.fresh w
 
 -- and with one more label
-pub record IsNext (devices : ℕ) (r : Replayed) (p : Place) (w : Weak) (label : Label) (v : Weak) : Type 0 where
+pub record IsNext (signature : Signature) (r : Replayed) (p : Place) (w : Weak) (label : Label) (v : Weak) : Type 0 where
   pub behind : Replayed
   pub replays : replay_from r (entries_of_label p label) ≡ Some behind
   pub called : (k : ℕ) → device_calls_from k r (entries_of_label p label) ≡ label_call k w.state label
-  pub follows : IsFollowed devices behind (past p label) v
+  pub follows : IsFollowed signature behind (past p label) v
 
 itself : (n : ℕ) → (n == n) ≡ true
 itself n = grind arith
@@ -64,13 +65,13 @@ rests-other o i j is rests same =
 pub calm-behind : (r t : Replayed) (entries : List Entry) → IsCalm r → replay_from r entries ≡ Some t → IsCalm t
 calm-behind r t entries calm e = let all = unfold-all r entries t e in calm-all r entries all.0 t all.1 calm
 
-module _ (devices : ℕ) (r : Replayed) (p : Place) (calm : IsCalm r) (cells : StoreTyping) (typed : IsTyped devices cells r.state) (inside : p.inside ≡ r.inside) where
+module _ (signature : Signature) (r : Replayed) (p : Place) (calm : IsCalm r) (cells : StoreTyping) (typed : IsTyped signature cells r.state) (inside : p.inside ≡ r.inside) where
   built : (w : Weak) (label : Label) (v : Weak) (t : Replayed) → replay_from r (entries_of_label p label) ≡ Some t
       → ((k : ℕ) → device_calls_from k r (entries_of_label p label) ≡ label_call k w.state label) → (past p label).inside ≡ t.inside
-      → (v ≡ holding_none t.state) ⊎ IsUnderWay devices t.state (past p label).number (past p label).steps (past p label).fresh v → IsNext devices r p w label v
+      → (v ≡ holding_none t.state) ⊎ IsUnderWay signature t.state (past p label).number (past p label).steps (past p label).fresh v → IsNext signature r p w label v
   built w label v t replays called in_then stands =
       let all = unfold-all r (entries_of_label p label) t replays in
-      let later = preserved_along devices all.0 cells r.state t.state typed (unfolds_all-run r (entries_of_label p label) all.0 t all.1) in
+      let later = preserved_along signature all.0 cells r.state t.state typed (unfolds_all-run r (entries_of_label p label) all.0 t all.1) in
       record {
         behind = t;
         replays = replays;
@@ -86,7 +87,7 @@ module _ (devices : ℕ) (r : Replayed) (p : Place) (calm : IsCalm r) (cells : S
 
   -- a label of unprotected code
   freed-next : (w : Weak) (j : ℕ) (kind : StepKind) (v : Weak) (t : State) → after r.state (Label.Free j kind) ≡ Some t → at r.state.members j ≡ at w.state.members j
-      → (v ≡ holding_none t) ⊎ IsUnderWay devices t p.number p.steps p.fresh v → IsNext devices r p w (Label.Free j kind) v
+      → (v ≡ holding_none t) ⊎ IsUnderWay signature t p.number p.steps p.fresh v → IsNext signature r p w (Label.Free j kind) v
   freed-next w j kind v t legal same stands =
       built w (Label.Free j kind) v (with_inside t (came r.inside j))
       (ap (λ (xs : List ℕ). replay_from r (arrival xs j ++ freed j (fresh_of kind) (device_answer kind) ∷ [])) inside ∙ free-replayed r j t kind legal)
@@ -97,7 +98,7 @@ module _ (devices : ℕ) (r : Replayed) (p : Place) (calm : IsCalm r) (cells : S
       (ap (λ (xs : List ℕ). came xs j) inside) stands
 
   closed-next : (w : Weak) (j : ℕ) (v : Weak) (t : State) → after r.state (Label.Close j) ≡ Some t
-      → (v ≡ holding_none t) ⊎ IsUnderWay devices t p.number p.steps p.fresh v → IsNext devices r p w (Label.Close j) v
+      → (v ≡ holding_none t) ⊎ IsUnderWay signature t p.number p.steps p.fresh v → IsNext signature r p w (Label.Close j) v
   closed-next w j v t legal stands =
       built w (Label.Close j) v (leaving (with_inside r.state (came r.inside j)) j t)
       (ap (λ (xs : List ℕ). replay_from r (arrival xs j ++ freed j [] None ∷ [])) inside ∙ close-replayed r j t legal)
@@ -111,12 +112,12 @@ module _ (devices : ℕ) (r : Replayed) (p : Place) (calm : IsCalm r) (cells : S
       let clash : ◌≡◌ {A = Option State} None (Some t) = sym (ap (λ (o : Option ℕ). option_and_then (λ i. go i r.state) o) calm.idle) ∙ e in
       cc
 
-  at-rest : (label : Label) (v : Weak) → weak_after (holding_none r.state) label ≡ Some v → IsNext devices r p (holding_none r.state) label v
+  at-rest : (label : Label) (v : Weak) → weak_after (holding_none r.state) label ≡ Some v → IsNext signature r p (holding_none r.state) label v
   unfolding weak_after after
   at-rest (Label.Activate i) v e =
       let m = map-gave (moved (holding_none r.state)) (after r.state (Label.Activate i)) v e in
       built (holding_none r.state) (Label.Activate i) v r refl (λ k. refl) inside
-      (inr (subst (IsUnderWay devices r.state i 0 []) m.2 (way-begun devices cells r.state i m.0 typed calm.idle calm.orderly m.1)))
+      (inr (subst (IsUnderWay signature r.state i 0 []) m.2 (way-begun signature cells r.state i m.0 typed calm.idle calm.orderly m.1)))
   at-rest (Label.Step kind) v e =
       absurd (let clash : ◌≡◌ {A = Option Weak} None (Some v) =
       sym (ap (λ (o : Option ℕ). option_and_then (λ i. held_step kind i (holding_none r.state)) o) calm.idle) ∙ e in
@@ -141,7 +142,7 @@ module _ (devices : ℕ) (r : Replayed) (p : Place) (calm : IsCalm r) (cells : S
 
   -- While a fragment is active
 
-  module _ (w : Weak) (u : IsUnderWay devices r.state p.number p.steps p.fresh w) where
+  module _ (w : Weak) (u : IsUnderWay signature r.state p.number p.steps p.fresh w) where
     its-entry : Entry
     its-entry = ran p.number p.steps p.fresh
 
@@ -181,7 +182,7 @@ module _ (devices : ℕ) (r : Replayed) (p : Place) (calm : IsCalm r) (cells : S
         ∙ there in
         value-stands (at_value (focus u.place.term)) (record w.state { members = without w.state.members p.number; active = None }) y at_term
 
-    left-next : (y : State) → after w.state Label.Leave ≡ Some y → (v : Weak) → with_held_released (moved w y) ≡ v → IsNext devices r p w Label.Leave v
+    left-next : (y : State) → after w.state Label.Leave ≡ Some y → (v : Weak) → with_held_released (moved w y) ≡ v → IsNext signature r p w Label.Leave v
     left-next y e v is =
         let gone = leave-is p.number w.state y u.laid.active e in
         let stands : at_unprotected (focus u.place.term) ≡ true = sym (ap (has_such (λ (term : Tree). at_unprotected (focus term))) u.stands) ∙ gone.0 in
@@ -190,12 +191,12 @@ module _ (devices : ℕ) (r : Replayed) (p : Place) (calm : IsCalm r) (cells : S
         let ordered = (calm-behind r (entering r p.number x.0) (entries_of_label p Label.Leave) calm replays).orderly in
         let same =
         let_go-is r.state p.number u.place w x.0 w.state.members u.laid u.orderly u.orderly.members_rise (λ k apart. refl) (u.stands ∙ sym x.3)
-        (number-below devices r.state p.number p.steps p.fresh w u) x.2 x.4 ordered in
+        (number-below signature r.state p.number p.steps p.fresh w u) x.2 x.4 ordered in
         built w Label.Leave v (entering r p.number x.0) replays (λ k. ran-calls k r p.number p.steps p.fresh)
         (ap (λ (xs : List ℕ). p.number ∷ xs) inside)
         (inl (sym is ∙ ap (λ (s : State). with_held_released (moved w s)) gone.1 ∙ same))
 
-    ended-next : (y : State) → after w.state Label.End ≡ Some y → (v : Weak) → with_held_released (moved w y) ≡ v → IsNext devices r p w Label.End v
+    ended-next : (y : State) → after w.state Label.End ≡ Some y → (v : Weak) → with_held_released (moved w y) ≡ v → IsNext signature r p w Label.End v
     ended-next y e v is =
         let gone = end-is p.number w.state y u.laid.active e in
         let x = run-ended r (ran p.number p.steps p.fresh) p.steps u.place tells refl refl outside calm.orderly (ends-at y e) in
@@ -205,12 +206,12 @@ module _ (devices : ℕ) (r : Replayed) (p : Place) (calm : IsCalm r) (cells : S
         let_go-is r.state p.number u.place w x.0 (without w.state.members p.number) u.laid u.orderly (rise-without w.state.members p.number u.orderly.members_rise)
         (λ k apart. at-without_other w.state.members p.number k (λ eq. apart (sym eq)))
         (at-without_same w.state.members p.number u.orderly.members_rise ∙ sym x.3)
-        (number-below devices r.state p.number p.steps p.fresh w u) x.2 x.4 ordered in
+        (number-below signature r.state p.number p.steps p.fresh w u) x.2 x.4 ordered in
         built w Label.End v (staying r x.0) replays (λ k. ran-calls k r p.number p.steps p.fresh)
         inside
         (inl (sym is ∙ ap (λ (s : State). with_held_released (moved w s)) gone ∙ same))
 
-    under-way : (label : Label) (v : Weak) → weak_after w label ≡ Some v → IsNext devices r p w label v
+    under-way : (label : Label) (v : Weak) → weak_after w label ≡ Some v → IsNext signature r p w label v
     unfolding weak_after after
     under-way (Label.Activate i) v e =
         let b = if-gave (holds_nothing w) (option_map (moved w) (after w.state (Label.Activate i))) v e in
@@ -220,7 +221,7 @@ module _ (devices : ℕ) (r : Replayed) (p : Place) (calm : IsCalm r) (cells : S
         cc)
     under-way (Label.Step kind) v e =
         let made : held_step kind p.number w ≡ Some v = ap (λ (o : Option ℕ). option_and_then (λ (i : ℕ). held_step kind i w) o) (sym u.laid.active) ∙ e in
-        built w (Label.Step kind) v r refl (λ k. refl) inside (inr (way-step devices r.state p.number p.steps p.fresh w u kind v made))
+        built w (Label.Step kind) v r refl (λ k. refl) inside (inr (way-step signature r.state p.number p.steps p.fresh w u kind v made))
     under-way Label.Leave v e = let m = map-gave (λ (s : State). with_held_released (moved w s)) (after w.state Label.Leave) v e in left-next m.0 m.1 v m.2
     under-way Label.End v e = let m = map-gave (λ (s : State). with_held_released (moved w s)) (after w.state Label.End) v e in ended-next m.0 m.1 v m.2
     under-way (Label.Free j kind) v e =
@@ -229,20 +230,20 @@ module _ (devices : ℕ) (r : Replayed) (p : Place) (calm : IsCalm r) (cells : S
         let m = map-gave (moved w) (reduce Side.Unprotected kind j w.state) v b.1 in
         let other = rests-other w.state.active p.number j u.laid.active both.0 in
         let may : may_free (Some p.number) kind ≡ true = ap (λ (o : Option ℕ). may_free o kind) (sym u.laid.active) ∙ both.1 in
-        let x = way-free devices r.state p.number p.steps p.fresh w u j kind m.0 other may m.1 in
-        freed-next w j kind v x.0 x.1 (sym (u.laid.others j other)) (inr (subst (IsUnderWay devices x.0 p.number p.steps p.fresh) m.2 x.2))
+        let x = way-free signature r.state p.number p.steps p.fresh w u j kind m.0 other may m.1 in
+        freed-next w j kind v x.0 x.1 (sym (u.laid.others j other)) (inr (subst (IsUnderWay signature x.0 p.number p.steps p.fresh) m.2 x.2))
     under-way (Label.Close j) v e =
         let b = if-gave (is_resting w.state.active j) (option_map (moved w) (closed j w.state)) v e in
         let m = map-gave (moved w) (closed j w.state) v b.1 in
-        let x = way-close devices r.state p.number p.steps p.fresh w u j m.0 (rests-other w.state.active p.number j u.laid.active b.0) m.1 in
-        closed-next w j v x.0 x.1 (inr (subst (IsUnderWay devices x.0 p.number p.steps p.fresh) m.2 x.2))
+        let x = way-close signature r.state p.number p.steps p.fresh w u j m.0 (rests-other w.state.active p.number j u.laid.active b.0) m.1 in
+        closed-next w j v x.0 x.1 (inr (subst (IsUnderWay signature x.0 p.number p.steps p.fresh) m.2 x.2))
 
 -- one more label
-pub follow-label : (devices : ℕ) (r : Replayed) (p : Place) (w v : Weak) (label : Label) → IsFollowed devices r p w → weak_after w label ≡ Some v → IsNext devices r p w label v
-follow-label devices r p w v label f e = by f.stands
+pub follow-label : (signature : Signature) (r : Replayed) (p : Place) (w v : Weak) (label : Label) → IsFollowed signature r p w → weak_after w label ≡ Some v → IsNext signature r p w label v
+follow-label signature r p w v label f e = by f.stands
   where
-    by : (w ≡ holding_none r.state) ⊎ IsUnderWay devices r.state p.number p.steps p.fresh w → IsNext devices r p w label v
+    by : (w ≡ holding_none r.state) ⊎ IsUnderWay signature r.state p.number p.steps p.fresh w → IsNext signature r p w label v
     by (inl is) =
-        subst (λ (z : Weak). IsNext devices r p z label v) (sym is)
-        (at-rest devices r p f.calm f.cells f.typed f.inside label v (ap (λ (z : Weak). weak_after z label) (sym is) ∙ e))
-    by (inr u) = under-way devices r p f.calm f.cells f.typed f.inside w u label v e
+        subst (λ (z : Weak). IsNext signature r p z label v) (sym is)
+        (at-rest signature r p f.calm f.cells f.typed f.inside label v (ap (λ (z : Weak). weak_after z label) (sym is) ∙ e))
+    by (inr u) = under-way signature r p f.calm f.cells f.typed f.inside w u label v e

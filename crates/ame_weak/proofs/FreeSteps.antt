@@ -3,6 +3,7 @@ use Rattle.std.proofs.Common.{◌≡◌, ℕ, ◌+◌, ◌<◌, ◌++◌, ◌⊎
 use Rattle.std.proofs.lemmas.Option.{option_and_then_some}
 use Rattle.std.specs.List.{AllByRecursion}
 use Rattle.ame_term.specs.Tree.{Typ, Val, Tree, unit_tree}
+use Rattle.ame_term.specs.Signature.{Signature}
 use Rattle.ame_term.specs.Frame.{Side}
 use Rattle.ame_term.specs.Context.{Focus, focus, fill}
 use Rattle.ame_term.specs.Act.{Act, act_of, makes}
@@ -13,6 +14,7 @@ use Rattle.ame_term.specs.declared.semantics.StepKind.{StepKind}
 use Rattle.ame_term.specs.declared.types.Effect.{Effect}
 use Rattle.ame_term.specs.declared.types.Loc.{Loc}
 use Rattle.ame_term.specs.declared.types.Sort.{Sort}
+use Rattle.ame_term.specs.declared.types.TyNo.{TyNo}
 use Rattle.ame_laws.specs.Typed.StoreTyping.{StoreTyping}
 use Rattle.ame_laws.specs.Typed.TypedAct.{IsTypedAct}
 use Rattle.ame_laws.specs.Typed.TypedState.{IsTyped, IsMember}
@@ -88,7 +90,7 @@ pub record IsBelow (s : State) (i : ℕ) (p : LocalState) (w : Weak) (v below : 
 same_term : (m n : Tree) (o : Option Tree) → o ≡ Some m → o ≡ Some n → m ≡ n
 same_term m n o e f = let both : ◌≡◌ {A = Option Tree} (Some m) (Some n) = sym e ∙ f in cc
 
-module _ (devices : ℕ) (cells : StoreTyping) (s : State) (i : ℕ) (p : LocalState) (w : Weak) (typed : IsTyped devices cells s)
+module _ (signature : Signature) (cells : StoreTyping) (s : State) (i : ℕ) (p : LocalState) (w : Weak) (typed : IsTyped signature cells s)
     (h : IsLaid s i p w) (a : AgreesWith s.store p) (set : HasSetMade p) (untouched : IsApart cells p) (there : i < w.state.next) where
   its : (act : Act) (kind : StepKind) (made other : Tree × State) → Some made ≡ Some other → IsFreeActed s i p w act kind made → IsFreeActed s i p w act kind other
   its act kind made other e so = let same : made ≡ other = cc in subst (IsFreeActed s i p w act kind) same so
@@ -141,12 +143,12 @@ module _ (devices : ℕ) (cells : StoreTyping) (s : State) (i : ℕ) (p : LocalS
   none-both None y e = (refl, e)
   none-both (Some v) y e = cc
 
-  allocated-so : (sort : Sort) (v : Val) (l : Loc) (made : Tree × State) (o : Option Val) → at w.state.store l.0 ≡ o
+  allocated-so : (sort : Sort) (number : TyNo) (v : Val) (l : Loc) (made : Tree × State) (o : Option Val) → at w.state.store l.0 ≡ o
       → (if is_some o then None else Some (Tree.Held (Val.Loc l.0), record w.state { store = put w.state.store l.0 v })) ≡ Some made
-      → IsFreeActed s i p w (Act.Allocates sort v) (StepKind.Alloc l) made
-  allocated-so sort v l made None free e =
+      → IsFreeActed s i p w (Act.Allocates sort number v) (StepKind.Alloc l) made
+  allocated-so sort number v l made None free e =
       let both = none-both (at p.sets l.0) (at s.store l.0) (sym (h.stored l.0) ∙ free) in
-      its (Act.Allocates sort v) (StepKind.Alloc l) (Tree.Held (Val.Loc l.0), record w.state { store = put w.state.store l.0 v }) made e (record {
+      its (Act.Allocates sort number v) (StepKind.Alloc l) (Tree.Held (Val.Loc l.0), record w.state { store = put w.state.store l.0 v }) made e (record {
         below = record s { store = put s.store l.0 v };
         performs = ap (λ (o : Option Val). if is_some o then None else Some (Tree.Held (Val.Loc l.0), record s { store = put s.store l.0 v })) both.1;
         laid = laid-put l.0 v both.0;
@@ -156,7 +158,7 @@ module _ (devices : ℕ) (cells : StoreTyping) (s : State) (i : ℕ) (p : LocalS
         stays = refl;
         active = refl;
       })
-  allocated-so sort v l made (Some x) free e = cc
+  allocated-so sort number v l made (Some x) free e = cc
 
   read-so : (l : ℕ) (made : Tree × State) → IsUntouched l p → (o : Option Val) → at w.state.store l ≡ o
       → option_map {U = Tree × State} (λ v. (Tree.Held v, w.state)) o ≡ Some made → IsFreeActed s i p w (Act.Reads l) StepKind.Read made
@@ -173,12 +175,12 @@ module _ (devices : ℕ) (cells : StoreTyping) (s : State) (i : ℕ) (p : LocalS
   })
 
   free-acts : (act : Act) (kind : StepKind) (t : Typ) (made : Tree × State) → makes Side.Unprotected kind act ≡ true → may_free (Some i) kind ≡ true
-      → IsTypedAct devices cells Effect.Unprotected t act → performed kind act w.state ≡ Some made → IsFreeActed s i p w act kind made
+      → IsTypedAct signature cells Effect.Unprotected t act → performed kind act w.state ≡ Some made → IsFreeActed s i p w act kind made
   free-acts (Act.Becomes term) StepKind.Local t made can may act_typed e =
       its (Act.Becomes term) StepKind.Local (term, w.state) made e (record { below = s; performs = refl; laid = laid-again; agrees = a; apart = same-below; own = refl; stays = refl; active = refl })
   free-acts (Act.Becomes term) _ t made can may act_typed e = cc
-  free-acts (Act.Allocates sort v) (StepKind.Alloc l) t made can may act_typed e = allocated-so sort v l made (at w.state.store l.0) refl e
-  free-acts (Act.Allocates sort v) _ t made can may act_typed e = cc
+  free-acts (Act.Allocates sort number v) (StepKind.Alloc l) t made can may act_typed e = allocated-so sort number v l made (at w.state.store l.0) refl e
+  free-acts (Act.Allocates sort number v) _ t made can may act_typed e = cc
   free-acts (Act.Reads l) StepKind.Read t made can may act_typed e =
       read-so l made (sorted-free l t act_typed.0 act_typed.1 act_typed.2) (at w.state.store l) refl e
   free-acts (Act.Reads l) _ t made can may act_typed e = cc
@@ -273,7 +275,7 @@ module _ (devices : ℕ) (cells : StoreTyping) (s : State) (i : ℕ) (p : LocalS
       let acts_so : ◌≡◌ {A = Option Act} (Some (act_of x.redex)) (Some x.act) =
       sym (ap (option_and_then (λ (z : Tree). redex_act (focus z))) x.is_member ∙ ap redex_act x.stands) ∙ x.is_act in
       let act_is : act_of x.redex ≡ x.act = cc in
-      let a_typed = found_act devices cells x.term Typ.Unit (each-at (IsMember devices cells) s.members j x.term found typed.typed.members) Side.Unprotected x.redex x.stands in
+      let a_typed = found_act signature cells x.term Typ.Unit (each-at (IsMember signature cells) s.members j x.term found typed.typed.members) Side.Unprotected x.redex x.stands in
       let k =
       free-acts (act_of x.redex) kind a_typed.0 x.result (ap (makes Side.Unprotected kind) act_is ∙ x.can) may a_typed.1
       (ap (λ (z : Act). performed kind z w.state) act_is ∙ x.made) in

@@ -10,6 +10,7 @@ use Rattle.ame_term.specs.State.{State, performed}
 use Rattle.ame_term.specs.declared.semantics.StepKind.{StepKind}
 use Rattle.ame_term.specs.declared.types.Loc.{Loc}
 use Rattle.ame_term.specs.declared.types.Sort.{Sort}
+use Rattle.ame_term.specs.declared.types.TyNo.{TyNo}
 use Rattle.ame_laws.specs.Orderly.{IsOrderly}
 use Rattle.ame_laws.proofs.MapLemmas.{at-change_same, at-change_other}
 use Rattle.ame_laws.proofs.OrderlyLemmas.{performed-goes, changes}
@@ -82,7 +83,7 @@ pub held-orderly : (kind : StepKind) (act : Act) (w : Weak) (made : Tree × Weak
 held-orderly kind (Act.Spawns body) w made e orderly = same-orderly w made _ e refl orderly
 held-orderly kind (Act.Prints n) w made e orderly = same-orderly w made _ e refl orderly
 held-orderly kind (Act.Becomes term) w made e orderly = plain-orderly kind (Act.Becomes term) w made e orderly
-held-orderly kind (Act.Allocates sort v) w made e orderly = plain-orderly kind (Act.Allocates sort v) w made e orderly
+held-orderly kind (Act.Allocates sort number v) w made e orderly = plain-orderly kind (Act.Allocates sort number v) w made e orderly
 held-orderly kind (Act.Reads l) w made e orderly = plain-orderly kind (Act.Reads l) w made e orderly
 held-orderly kind (Act.Peeks l) w made e orderly = plain-orderly kind (Act.Peeks l) w made e orderly
 held-orderly kind (Act.Writes l v) w made e orderly = plain-orderly kind (Act.Writes l v) w made e orderly
@@ -156,12 +157,12 @@ module _ (s : State) (i : ℕ) (p : LocalState) (w : Weak) (h : IsLaid s i p w) 
       let same : v ≡ x = cc in
       record { seen = a.seen; own = (same, a.own); made = a.made }
 
-  allocated-so : (sort : Sort) (v : Val) (l : Loc) (made : Tree × Weak) (o : Option Val) → at w.state.store l.0 ≡ o
+  allocated-so : (sort : Sort) (number : TyNo) (v : Val) (l : Loc) (made : Tree × Weak) (o : Option Val) → at w.state.store l.0 ≡ o
       → option_map {T = Tree × State} {U = Tree × Weak} (λ m. (m.0, moved w m.1)) (if is_some o then None else Some (Tree.Held (Val.Loc l.0), record w.state { store = put w.state.store l.0 v })) ≡ Some made
-      → IsHeldActed s i p w (Act.Allocates sort v) (StepKind.Alloc l) made
-  allocated-so sort v l made None free e =
+      → IsHeldActed s i p w (Act.Allocates sort number v) (StepKind.Alloc l) made
+  allocated-so sort number v l made None free e =
       let both = none-both (at p.sets l.0) (at s.store l.0) (sym (h.stored l.0) ∙ free) in
-      its (Act.Allocates sort v) (StepKind.Alloc l) (Tree.Held (Val.Loc l.0), moved w (record w.state { store = put w.state.store l.0 v })) made e (record {
+      its (Act.Allocates sort number v) (StepKind.Alloc l) (Tree.Held (Val.Loc l.0), moved w (record w.state { store = put w.state.store l.0 v })) made e (record {
         inputs = Val.Loc l.0 ∷ [];
         last = made_at l.0 v (with_inputs [] p);
         acts = refl;
@@ -172,7 +173,7 @@ module _ (s : State) (i : ℕ) (p : LocalState) (w : Weak) (h : IsLaid s i p w) 
         fresh = refl;
         answer = resting;
       })
-  allocated-so sort v l made (Some x) free e = cc
+  allocated-so sort number v l made (Some x) free e = cc
 
   read-so : (l : ℕ) (made : Tree × Weak) (o : Option Val) → at w.state.store l ≡ o
       → option_map {T = Tree × State} {U = Tree × Weak} (λ m. (m.0, moved w m.1)) (option_map {U = Tree × State} (λ v. (Tree.Held v, w.state)) o) ≡ Some made
@@ -205,8 +206,8 @@ module _ (s : State) (i : ℕ) (p : LocalState) (w : Weak) (h : IsLaid s i p w) 
     answer = resting;
   })
   held-acts (Act.Becomes term) _ made can e = cc
-  held-acts (Act.Allocates sort v) (StepKind.Alloc l) made can e = allocated-so sort v l made (at w.state.store l.0) refl e
-  held-acts (Act.Allocates sort v) _ made can e = cc
+  held-acts (Act.Allocates sort number v) (StepKind.Alloc l) made can e = allocated-so sort number v l made (at w.state.store l.0) refl e
+  held-acts (Act.Allocates sort number v) _ made can e = cc
   held-acts (Act.Reads l) StepKind.Read made can e = read-so l made (at w.state.store l) refl e
   held-acts (Act.Reads l) _ made can e = cc
   held-acts (Act.Writes l v) StepKind.Write made can e =

@@ -3,6 +3,7 @@
 use Rattle.std.proofs.Common.{◌≡◌, ℕ, ◌⊎◌, inl, inr, true, false, List, [], ◌∷◌, Option, Some, None, is_some, sym, ap, ◌∙◌, subst}
 use Rattle.std.specs.List.{AllByRecursion}
 use Rattle.ame_term.specs.Tree.{Typ, Val, Tree}
+use Rattle.ame_term.specs.Signature.{Signature}
 use Rattle.ame_term.specs.Frame.{Side}
 use Rattle.ame_term.specs.Act.{Act, act_of}
 use Rattle.ame_term.specs.HasType.{code_of}
@@ -61,7 +62,7 @@ put-set sets l v [] set = tt
 put-set sets l v (e ∷ made) set = (is_some-put sets l e.0 v set.0, put-set sets l v made set.1)
 
 feeds-set : (p : LocalState) (side : Side) (act : Act) (v : Val) (part : Tree) (q : LocalState) → Feeds p side act v part q → HasSetMade p → HasSetMade q
-feeds-set p _ _ _ _ _ (Feeds.allocates side sort v l) set = (ap is_some (at-put_same p.sets l v), put-set p.sets l v p.made set)
+feeds-set p _ _ _ _ _ (Feeds.allocates side sort number v l) set = (ap is_some (at-put_same p.sets l v), put-set p.sets l v p.made set)
 feeds-set p _ _ _ _ _ (Feeds.reads side l v) set = taken-set (at p.sets l) l v p set
 feeds-set p _ _ _ _ _ (Feeds.peeks l v) set = taken-set (at p.sets l) l v p set
 feeds-set p _ _ _ _ _ (Feeds.writes side l v) set = put-set p.sets l v p.made set
@@ -78,7 +79,7 @@ step-set side p q e set =
     subst HasSetMade (sym x.is) (acts-set p side (act_of x.redex) x.part x.behind x.acts set)
 
 -- A typed step of protected code touches no location of unprotected code.
-module _ (devices : ℕ) (cells later : StoreTyping) (s : State) (grows : Grows cells later) (typed : IsTyped devices cells s) where
+module _ (signature : Signature) (cells later : StoreTyping) (s : State) (grows : Grows cells later) (typed : IsTyped signature cells s) where
   -- the sorts of the two kinds of code differ
   other-sort : (l : ℕ) (content t : Typ) (sort : Sort) → cells l ≡ Some (Sort.Unprotected, content) → later l ≡ Some (sort, t) → code_of sort ≡ Effect.Protected → ⊥
   other-sort l content t sort is also code =
@@ -101,8 +102,8 @@ module _ (devices : ℕ) (cells later : StoreTyping) (s : State) (grows : Grows 
   taken-apart (Some w) l m v p apart free = (free.0, free.1)
 
   feeds-apart : (p : LocalState) (act : Act) (v : Val) (part : Tree) (q : LocalState) → Feeds p Side.Protected act v part q → (t : Typ)
-      → IsTypedAct devices later Effect.Protected t act → AgreesWith s.store q → IsApart cells p → IsApart cells q
-  feeds-apart p _ _ _ _ (Feeds.allocates side sort v l) t a agrees apart = λ m content is.
+      → IsTypedAct signature later Effect.Protected t act → AgreesWith s.store q → IsApart cells p → IsApart cells q
+  feeds-apart p _ _ _ _ (Feeds.allocates side sort number v l) t a agrees apart = λ m content is.
       let free = apart m content is in
       let other : l ≡ m → ⊥ = λ same.
       let none : at s.store m ≡ None = ap (at s.store) (sym same) ∙ agrees.made.0.0 in
@@ -116,12 +117,12 @@ module _ (devices : ℕ) (cells later : StoreTyping) (s : State) (grows : Grows 
       (put-apart l m v p (λ same. other-sort m content a.1 a.0 is (ap later (sym same) ∙ a.2) a.4) free.0, free.1)
 
   acts-apart : (p : LocalState) (act : Act) (part : Tree) (q : LocalState) → Acts p Side.Protected act part q → (t : Typ)
-      → IsTypedAct devices later Effect.Protected t act → AgreesWith s.store q → IsApart cells p → IsApart cells q
+      → IsTypedAct signature later Effect.Protected t act → AgreesWith s.store q → IsApart cells p → IsApart cells q
   acts-apart p _ _ _ (Acts.feeds side act v inputs part q is given) t a agrees apart =
       feeds-apart (record p { inputs = inputs }) act v part q given t a agrees (λ l content typed_so. apart l content typed_so)
   acts-apart p _ _ _ _ t a agrees apart = λ l content typed_so. apart l content typed_so
 
-  pub step-apart : (p q : LocalState) (x : IsOneStep Side.Protected p q) (t : Typ) → IsTypedAct devices later Effect.Protected t (act_of x.redex) → AgreesWith s.store q
+  pub step-apart : (p q : LocalState) (x : IsOneStep Side.Protected p q) (t : Typ) → IsTypedAct signature later Effect.Protected t (act_of x.redex) → AgreesWith s.store q
       → IsApart cells p → IsApart cells q
   step-apart p q x t a agrees apart =
       let before : AgreesWith s.store x.behind = let b = subst (AgreesWith s.store) x.is agrees in record { seen = b.seen; own = b.own; made = b.made } in

@@ -97,7 +97,7 @@ loaded_low s l made low e =
 
 performed_low : (kind : StepKind) (act : Act) (s : State) (made : Tree × State) → performed kind act s ≡ Some made → IsLowAct act → IsLowState s → Leaves made
 performed_low kind (Act.Becomes term) s made e new low = leaves made term s e new low
-performed_low kind (Act.Allocates sort v) s made e new low =
+performed_low kind (Act.Allocates sort number v) s made e new low =
     let k = then-gave (allocated v s) (fresh_location kind) made e in
     let h = unless-gave (is_some (at s.store k.0)) (Some (Tree.Held (Val.Loc k.0), record s { store = put s.store k.0 v })) made k.2 in
     leaves made (Tree.Held (Val.Loc k.0)) (record s { store = put s.store k.0 v }) h (location_low k.0) (stored_low s k.0 v low new)

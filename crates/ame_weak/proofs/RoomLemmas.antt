@@ -36,7 +36,7 @@ performed-few kind (Act.Spawns body) w made e =
     made-same w made (unit_tree, record w { spawns = w.spawns ++ body ∷ [] }) e (omega arith)
 performed-few kind (Act.Prints n) w made e = made-same w made (unit_tree, record w { prints = w.prints ++ n ∷ [] }) e (omega arith)
 performed-few kind (Act.Becomes term) w made e = plain-few kind (Act.Becomes term) w made e
-performed-few kind (Act.Allocates sort v) w made e = plain-few kind (Act.Allocates sort v) w made e
+performed-few kind (Act.Allocates sort number v) w made e = plain-few kind (Act.Allocates sort number v) w made e
 performed-few kind (Act.Reads l) w made e = plain-few kind (Act.Reads l) w made e
 performed-few kind (Act.Peeks l) w made e = plain-few kind (Act.Peeks l) w made e
 performed-few kind (Act.Writes l v) w made e = plain-few kind (Act.Writes l v) w made e

@@ -2,7 +2,9 @@
 use Rattle.std.proofs.Common.{◌≡◌, ℕ, ◌++◌, ◌⊎◌, inl, inr, List, [], ◌∷◌, Option, Some, None, option_and_then, refl, sym, ap, ◌∙◌, subst}
 use Rattle.std.proofs.lemmas.Option.{option_and_then_some}
 use Rattle.ame_term.specs.Tree.{Typ, Tree}
+use Rattle.ame_term.specs.Signature.{Signature, listed}
 use Rattle.ame_term.specs.SourceTerm.{IsSourceTerm}
+use Rattle.ame_term.specs.Numbered.{IsNumbered}
 use Rattle.ame_term.specs.Typing.{Accepts}
 use Rattle.ame_term.specs.declared.semantics.Label.{Label}
 use Rattle.ame_journal.specs.Replayed.{Replayed, begun_at}
@@ -23,21 +25,21 @@ past_all p [] = p
 past_all p (label ∷ labels) = past_all (past p label) labels
 
 -- The entries of labels lead where they lead, and make the same calls.
-pub record IsFollowedAlong (devices : ℕ) (r : Replayed) (p : Place) (w : Weak) (labels : List Label) (v : Weak) : Type 0 where
+pub record IsFollowedAlong (signature : Signature) (r : Replayed) (p : Place) (w : Weak) (labels : List Label) (v : Weak) : Type 0 where
   pub behind : Replayed
   pub replays : replay_from r (straight_from p labels) ≡ Some behind
   pub called : (k : ℕ) → device_calls_from k r (straight_from p labels) ≡ weak_calls k w labels
-  pub follows : IsFollowed devices behind (past_all p labels) v
+  pub follows : IsFollowed signature behind (past_all p labels) v
 
-pub follow-labels : (devices : ℕ) (r : Replayed) (p : Place) (w v : Weak) (labels : List Label) → IsFollowed devices r p w → weak_run w labels ≡ Some v
-    → IsFollowedAlong devices r p w labels v
-follow-labels devices r p w v [] f e =
+pub follow-labels : (signature : Signature) (r : Replayed) (p : Place) (w v : Weak) (labels : List Label) → IsFollowed signature r p w → weak_run w labels ≡ Some v
+    → IsFollowedAlong signature r p w labels v
+follow-labels signature r p w v [] f e =
     let same : w ≡ v = cc in
-    record { behind = r; replays = refl; called = λ k. refl; follows = subst (IsFollowed devices r p) same f }
-follow-labels devices r p w v (label ∷ labels) f e =
+    record { behind = r; replays = refl; called = λ k. refl; follows = subst (IsFollowed signature r p) same f }
+follow-labels signature r p w v (label ∷ labels) f e =
     option_and_then_some _ _ _ e (λ x first rest.
-    let a = follow-label devices r p w x label f first in
-    let b = follow-labels devices a.behind (past p label) x v labels a.follows rest in
+    let a = follow-label signature r p w x label f first in
+    let b = follow-labels signature a.behind (past p label) x v labels a.follows rest in
     record {
       behind = b.behind;
       replays =
@@ -52,25 +54,25 @@ follow-labels devices r p w v (label ∷ labels) f e =
     })
 
 -- with nothing active, the weak state is the strong one
-pub ends-strong : (devices : ℕ) (r : Replayed) (p : Place) (w : Weak) → IsFollowed devices r p w → w.state.active ≡ None → w ≡ holding_none r.state
-ends-strong devices r p w f idle = by f.stands
+pub ends-strong : (signature : Signature) (r : Replayed) (p : Place) (w : Weak) → IsFollowed signature r p w → w.state.active ≡ None → w ≡ holding_none r.state
+ends-strong signature r p w f idle = by f.stands
   where
-    by : (w ≡ holding_none r.state) ⊎ IsUnderWay devices r.state p.number p.steps p.fresh w → w ≡ holding_none r.state
+    by : (w ≡ holding_none r.state) ⊎ IsUnderWay signature r.state p.number p.steps p.fresh w → w ≡ holding_none r.state
     by (inl is) = is
     by (inr u) = let clash : ◌≡◌ {A = Option ℕ} (Some p.number) None = sym u.laid.active ∙ idle in absurd (cc)
 
-module _ (devices : ℕ) (places : List ℕ) (program : Tree) (refs : List Typ) (accepts : Accepts devices places program refs) (source : IsSourceTerm program) where
-  pub begun-followed : IsFollowed devices (begun_at program) outset (weak_start program)
+module _ (devices : ℕ) (places : List ℕ) (program : Tree) (refs : List Typ) (accepts : Accepts devices places program refs) (source : IsSourceTerm program) (numbered : IsNumbered 0 program) where
+  pub begun-followed : IsFollowed (listed devices refs) (begun_at program) outset (weak_start program)
   begun-followed =
-      let typed = typed-replayed devices places program refs [] (begun_at program) accepts source refl in
+      let typed = typed-replayed devices places program refs [] (begun_at program) accepts source numbered refl in
       record { calm = calm-replayed program [] (begun_at program) refl; cells = typed.0; typed = typed.1; inside = refl; stands = inl refl }
 
   pub weak_runs_straighten : (labels : List Label) (w : Weak) → weak_run (weak_start program) labels ≡ Some w → w.state.active ≡ None
       → (r : Replayed) × (replay program (straight labels) ≡ Some r) × (w ≡ holding_none r.state)
   weak_runs_straighten labels w e idle =
-      let a = follow-labels devices (begun_at program) outset (weak_start program) w labels begun-followed e in
-      (a.behind, a.replays, ends-strong devices a.behind (past_all outset labels) w a.follows idle)
+      let a = follow-labels (listed devices refs) (begun_at program) outset (weak_start program) w labels begun-followed e in
+      (a.behind, a.replays, ends-strong (listed devices refs) a.behind (past_all outset labels) w a.follows idle)
 
   pub weak_calls_are_told : (k : ℕ) (labels : List Label) (w : Weak) → weak_run (weak_start program) labels ≡ Some w
       → device_calls k program (straight labels) ≡ weak_calls k (weak_start program) labels
-  weak_calls_are_told k labels w e = (follow-labels devices (begun_at program) outset (weak_start program) w labels begun-followed e).called k
+  weak_calls_are_told k labels w e = (follow-labels (listed devices refs) (begun_at program) outset (weak_start program) w labels begun-followed e).called k

@@ -5,6 +5,7 @@ use Rattle.std.proofs.lemmas.List.{append_assoc, take-append-drop, length-take-l
 use Rattle.std.specs.Prelude.{Result, Ok, Err, IfOk}
 use Rattle.ame_term.specs.Tree.{Typ, Tree}
 use Rattle.ame_term.specs.SourceTerm.{IsSourceTerm}
+use Rattle.ame_term.specs.Numbered.{IsNumbered}
 use Rattle.ame_term.specs.Typing.{Accepts}
 use Rattle.ame_term.specs.declared.semantics.Label.{Label}
 use Rattle.ame_journal.specs.declared.entry.Entry.{Entry}
@@ -109,12 +110,12 @@ pub if-ok : {X E : Type 0} (P Q : X → Type 0) → ((x : X) → P x → Q x) �
 if-ok P Q more (Ok x) p = more x p
 if-ok P Q more (Err e) p = p
 
-module _ (devices : ℕ) (places : List ℕ) (program : Tree) (refs : List Typ) (accepts : Accepts devices places program refs) (source : IsSourceTerm program)
+module _ (devices : ℕ) (places : List ℕ) (program : Tree) (refs : List Typ) (accepts : Accepts devices places program refs) (source : IsSourceTerm program) (numbered : IsNumbered 0 program)
     (labels : List Label) (tries : List Try) (tried : AreTried program labels tries) where
   pub leads-there : (answer : Straight) → IsStraightened program labels tries answer → LeadsToTheEnd program labels answer
   leads-there (Straight.Journal journal) x =
       let e = x.0 in
-      let s = tries_straighten devices places program refs accepts source labels tries e.weak tried e.leads e.active in
+      let s = tries_straighten devices places program refs accepts source numbered labels tries e.weak tried e.leads e.active in
       record {
         weak = e.weak;
         leads = e.leads;
@@ -133,6 +134,6 @@ module _ (devices : ℕ) (places : List ℕ) (program : Tree) (refs : List Typ) 
 
   pub makes-calls : (answer : Straight) → IsStraightened program labels tries answer → MakesTheCalls program labels answer
   makes-calls (Straight.Journal journal) x = λ k.
-      ap (device_calls k program) x.1 ∙ calls_are_told_with devices places program refs accepts source k labels tries x.0.weak tried x.0.leads
+      ap (device_calls k program) x.1 ∙ calls_are_told_with devices places program refs accepts source numbered k labels tries x.0.weak tried x.0.leads
   makes-calls (Straight.Illegal n) x = tt
   makes-calls (Straight.Active i) x = tt

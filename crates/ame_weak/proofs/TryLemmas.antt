@@ -3,8 +3,10 @@ use Rattle.std.proofs.Common.{◌≡◌, ℕ, zero, suc, ◌+◌, ◌==◌, ◌+
 use Rattle.std.proofs.lemmas.Option.{option_and_then_some}
 use Rattle.std.specs.List.{AllByRecursion}
 use Rattle.ame_term.specs.Tree.{Typ, Tree}
+use Rattle.ame_term.specs.Signature.{Signature, listed}
 use Rattle.ame_term.specs.Frame.{Side, side_told}
 use Rattle.ame_term.specs.SourceTerm.{IsSourceTerm}
+use Rattle.ame_term.specs.Numbered.{IsNumbered}
 use Rattle.ame_term.specs.State.{State, after}
 use Rattle.ame_term.specs.Typing.{Accepts}
 use Rattle.ame_term.specs.declared.semantics.Label.{Label}
@@ -83,8 +85,8 @@ record IsNoted (r : Replayed) (entries : List Entry) : Type 0 where
   pub replays : replay_from r entries ≡ Some r
   pub called : (k : ℕ) → device_calls_from k r entries ≡ []
 
-module _ (devices : ℕ) where
-  notes-made : (n : ℕ) (r : Replayed) (p : Place) (w : Weak) (labels : List Label) → IsFollowed devices r p w → (ts : List Try) → AllByRecursion (IsTriedFrom n w labels) ts
+module _ (signature : Signature) where
+  notes-made : (n : ℕ) (r : Replayed) (p : Place) (w : Weak) (labels : List Label) → IsFollowed signature r p w → (ts : List Try) → AllByRecursion (IsTriedFrom n w labels) ts
       → IsNoted r (noted_tries n ts)
   notes-made n r p w labels f [] all = record { replays = refl; called = λ k. refl }
   notes-made n r p w labels f (t ∷ ts) all = by (t.after == n) refl (notes-made n r p w labels f ts all.1)
@@ -93,7 +95,7 @@ module _ (devices : ℕ) where
       by false is rest = record { replays = refl; called = λ k. refl }
       by true is rest =
           let h = tried-here n w labels t all.0 (eqb-true t.after n is) in
-          let strong = ends-strong devices r p w f h.0 in
+          let strong = ends-strong signature r p w f h.0 in
           let made = note-made r t (ap (λ (z : Weak). holds_in z t) (sym strong) ∙ h.1) in
           record {
             replays = replay-next r r r (note_for t) (noted_tries n ts) made rest.replays;
@@ -104,18 +106,18 @@ module _ (devices : ℕ) where
     pub behind : Replayed
     pub replays : replay_from r entries ≡ Some behind
     pub called : (k : ℕ) → device_calls_from k r entries ≡ weak_calls k w labels
-    pub follows : IsFollowed devices behind (past_all p labels) v
+    pub follows : IsFollowed signature behind (past_all p labels) v
 
-  pub follow-with : (n : ℕ) (ts : List Try) (r : Replayed) (p : Place) (w v : Weak) (labels : List Label) → IsFollowed devices r p w
+  pub follow-with : (n : ℕ) (ts : List Try) (r : Replayed) (p : Place) (w v : Weak) (labels : List Label) → IsFollowed signature r p w
       → AllByRecursion (IsTriedFrom n w labels) ts → weak_run w labels ≡ Some v → IsFollowedWith r p w (straight_with n ts p labels) labels v
   follow-with n ts r p w v [] f all e =
       let same : w ≡ v = cc in
       let notes = notes-made n r p w [] f ts all in
-      record { behind = r; replays = notes.replays; called = notes.called; follows = subst (IsFollowed devices r p) same f }
+      record { behind = r; replays = notes.replays; called = notes.called; follows = subst (IsFollowed signature r p) same f }
   follow-with n ts r p w v (label ∷ labels) f all e =
       option_and_then_some _ _ _ e (λ x first rest.
       let notes = notes-made n r p w (label ∷ labels) f ts all in
-      let a = follow-label devices r p w x label f first in
+      let a = follow-label signature r p w x label f first in
       let others = later-all (IsTriedFrom n w (label ∷ labels)) (IsTriedFrom (n + 1) x labels) (λ t tried. tried-behind n w x label labels t first tried) n ts all in
       let b = follow-with (n + 1) (tries_behind n ts) a.behind (past p label) x v labels a.follows others rest in
       let last = straight_with (n + 1) (tries_behind n ts) (past p label) labels in
@@ -136,7 +138,7 @@ module _ (devices : ℕ) where
         follows = b.follows;
       })
 
-module _ (devices : ℕ) (places : List ℕ) (program : Tree) (refs : List Typ) (accepts : Accepts devices places program refs) (source : IsSourceTerm program) where
+module _ (devices : ℕ) (places : List ℕ) (program : Tree) (refs : List Typ) (accepts : Accepts devices places program refs) (source : IsSourceTerm program) (numbered : IsNumbered 0 program) where
   all-from-0 : (labels : List Label) (ts : List Try) → AreTried program labels ts → AllByRecursion (IsTriedFrom 0 (weak_start program) labels) ts
   all-from-0 labels [] all = tt
   all-from-0 labels (t ∷ ts) all = ((λ front rest v is count run. all.0 front rest v is (omega arith) run), all-from-0 labels ts all.1)
@@ -144,10 +146,10 @@ module _ (devices : ℕ) (places : List ℕ) (program : Tree) (refs : List Typ) 
   pub tries_straighten : (labels : List Label) (ts : List Try) (w : Weak) → AreTried program labels ts → weak_run (weak_start program) labels ≡ Some w → w.state.active ≡ None
       → (r : Replayed) × (replay program (straight_with 0 ts outset labels) ≡ Some r) × (w ≡ holding_none r.state)
   tries_straighten labels ts w all e idle =
-      let a = follow-with devices 0 ts (begun_at program) outset (weak_start program) w labels (begun-followed devices places program refs accepts source) (all-from-0 labels ts all) e in
-      (a.behind, a.replays, ends-strong devices a.behind (past_all outset labels) w a.follows idle)
+      let a = follow-with (listed devices refs) 0 ts (begun_at program) outset (weak_start program) w labels (begun-followed devices places program refs accepts source numbered) (all-from-0 labels ts all) e in
+      (a.behind, a.replays, ends-strong (listed devices refs) a.behind (past_all outset labels) w a.follows idle)
 
   pub calls_are_told_with : (k : ℕ) (labels : List Label) (ts : List Try) (w : Weak) → AreTried program labels ts → weak_run (weak_start program) labels ≡ Some w
       → device_calls k program (straight_with 0 ts outset labels) ≡ weak_calls k (weak_start program) labels
   calls_are_told_with k labels ts w all e =
-      (follow-with devices 0 ts (begun_at program) outset (weak_start program) w labels (begun-followed devices places program refs accepts source) (all-from-0 labels ts all) e).called k
+      (follow-with (listed devices refs) 0 ts (begun_at program) outset (weak_start program) w labels (begun-followed devices places program refs accepts source numbered) (all-from-0 labels ts all) e).called k

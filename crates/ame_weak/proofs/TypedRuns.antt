@@ -7,8 +7,10 @@ use Rattle.std.specs.List.Sorted.{IsStrictlySortedBy}
 use Rattle.std.specs.Ordering.{nat_cmp}
 use Rattle.std.specs.declared.cmp.Ordering.TheVariants.{Less}
 use Rattle.ame_term.specs.Tree.{Typ, Tree}
+use Rattle.ame_term.specs.Signature.{Signature, listed}
 use Rattle.ame_term.specs.Maps.{at}
 use Rattle.ame_term.specs.SourceTerm.{IsSourceTerm}
+use Rattle.ame_term.specs.Numbered.{IsNumbered}
 use Rattle.ame_term.specs.State.{State}
 use Rattle.ame_term.specs.Typing.{Accepts}
 use Rattle.ame_term.specs.declared.semantics.Label.{Label}
@@ -47,11 +49,11 @@ each-found {X} P (e ∷ es) rise all = (all e.0 e.1 (rw (is_at-here e.0)), each-
         by false is = found
         by true is = absurd (itself-not e.0 (subst (λ (k : ℕ). nat_cmp e.0 k ≡ Less) (is_at-same n e.0 is) above))
 
-module _ (devices : ℕ) (s : State) (i n : ℕ) (fresh : List ℕ) (w : Weak) (u : IsUnderWay devices s i n fresh w) where
-  pub way-typed : (cells : StoreTyping) × IsTyped devices cells w.state
+module _ (signature : Signature) (s : State) (i n : ℕ) (fresh : List ℕ) (w : Weak) (u : IsUnderWay signature s i n fresh w) where
+  pub way-typed : (cells : StoreTyping) × IsTyped signature cells w.state
   way-typed =
       let a = active_run s i u.term u.inputs u.member u.idle u.calm n u.place u.ran u.agrees in
-      let later = preserved_along devices (fragment_labels i a.way.kinds) u.cells s a.behind u.typed (UnderWay-runs s i n u.place.fresh a.behind a.way) in
+      let later = preserved_along signature (fragment_labels i a.way.kinds) u.cells s a.behind u.typed (UnderWay-runs s i n u.place.fresh a.behind a.way) in
       let store : (l : ℕ) → at w.state.store l ≡ at a.behind.store l = λ l. u.laid.stored l ∙ sym (a.after_run.stored l) in
       let other : (k : ℕ) → (k ≡ i → ⊥) → k < s.next → at w.state.members k ≡ at a.behind.members k =
       λ k apart below. u.laid.others k apart ∙ sym (joined-below s.members s.next u.place.spawns k below) ∙ sym (a.after_run.others k apart) in
@@ -67,8 +69,8 @@ module _ (devices : ℕ) (s : State) (i n : ℕ) (fresh : List ℕ) (w : Weak) (
           typed = record {
             stored = λ l v is. later.2.typed.stored l v (sym (store l) ∙ is);
             members =
-                each-found (IsMember devices later.0) w.state.members u.orderly.members_rise
-                (λ k term is. each-at (IsMember devices later.0) a.behind.members k term (found k term is) later.2.typed.members);
+                each-found (IsMember signature later.0) w.state.members u.orderly.members_rise
+                (λ k term is. each-at (IsMember signature later.0) a.behind.members k term (found k term is) later.2.typed.members);
             present = λ k is.
                 let both : ◌≡◌ {A = Option ℕ} (Some i) (Some k) = sym u.laid.active ∙ is in
                 let same : i ≡ k = cc in
@@ -78,15 +80,15 @@ module _ (devices : ℕ) (s : State) (i n : ℕ) (fresh : List ℕ) (w : Weak) (
         },
       )
 
-pub followed-typed : (devices : ℕ) (r : Replayed) (p : Place) (w : Weak) → IsFollowed devices r p w → (cells : StoreTyping) × IsTyped devices cells w.state
-followed-typed devices r p w f = by f.stands
+pub followed-typed : (signature : Signature) (r : Replayed) (p : Place) (w : Weak) → IsFollowed signature r p w → (cells : StoreTyping) × IsTyped signature cells w.state
+followed-typed signature r p w f = by f.stands
   where
-    by : (w ≡ holding_none r.state) ⊎ IsUnderWay devices r.state p.number p.steps p.fresh w → (cells : StoreTyping) × IsTyped devices cells w.state
-    by (inl is) = (f.cells, subst (λ (z : Weak). IsTyped devices f.cells z.state) (sym is) f.typed)
-    by (inr u) = way-typed devices r.state p.number p.steps p.fresh w u
+    by : (w ≡ holding_none r.state) ⊎ IsUnderWay signature r.state p.number p.steps p.fresh w → (cells : StoreTyping) × IsTyped signature cells w.state
+    by (inl is) = (f.cells, subst (λ (z : Weak). IsTyped signature f.cells z.state) (sym is) f.typed)
+    by (inr u) = way-typed signature r.state p.number p.steps p.fresh w u
 
-module _ (devices : ℕ) (places : List ℕ) (program : Tree) (refs : List Typ) (accepts : Accepts devices places program refs) (source : IsSourceTerm program) where
-  pub weak_runs_are_typed : (labels : List Label) (w : Weak) → weak_run (weak_start program) labels ≡ Some w → (cells : StoreTyping) × IsTyped devices cells w.state
+module _ (devices : ℕ) (places : List ℕ) (program : Tree) (refs : List Typ) (accepts : Accepts devices places program refs) (source : IsSourceTerm program) (numbered : IsNumbered 0 program) where
+  pub weak_runs_are_typed : (labels : List Label) (w : Weak) → weak_run (weak_start program) labels ≡ Some w → (cells : StoreTyping) × IsTyped (listed devices refs) cells w.state
   weak_runs_are_typed labels w e =
-      let a = follow-labels devices (begun_at program) outset (weak_start program) w labels (begun-followed devices places program refs accepts source) e in
-      followed-typed devices a.behind (past_all outset labels) w a.follows
+      let a = follow-labels (listed devices refs) (begun_at program) outset (weak_start program) w labels (begun-followed devices places program refs accepts source numbered) e in
+      followed-typed (listed devices refs) a.behind (past_all outset labels) w a.follows

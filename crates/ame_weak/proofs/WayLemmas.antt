@@ -2,6 +2,7 @@
 use Rattle.std.proofs.Common.{◌≡◌, ℕ, suc, ◌+◌, ◌<◌, ◌++◌, ◌⊎◌, inl, inr, Bool, true, false, List, [], Option, Some, None, is_some, is_none, option_and_then, if◌then◌else◌, refl, sym, ap, ◌∙◌, arith}
 use Rattle.std.proofs.lemmas.Option.{option_and_then_some}
 use Rattle.ame_term.specs.Tree.{Typ, Val, Tree}
+use Rattle.ame_term.specs.Signature.{Signature}
 use Rattle.ame_term.specs.Frame.{Side}
 use Rattle.ame_term.specs.Context.{focus}
 use Rattle.ame_term.specs.Maps.{at}
@@ -28,9 +29,9 @@ use Rattle.ame_weak.proofs.HeldSteps.{if-gave, held-step}
 use Rattle.ame_weak.proofs.FreeSteps.{ChangesApart, IsBelow, free-below, close-below}
 
 -- Over the state s, where nothing is active, member i is active in w after n steps with these new locations.
-pub record IsUnderWay (devices : ℕ) (s : State) (i n : ℕ) (fresh : List ℕ) (w : Weak) : Type 0 where
+pub record IsUnderWay (signature : Signature) (s : State) (i n : ℕ) (fresh : List ℕ) (w : Weak) : Type 0 where
   pub cells : StoreTyping
-  pub typed : IsTyped devices cells s
+  pub typed : IsTyped signature cells s
   pub idle : s.active ≡ None
   pub term : Tree
   pub member : at s.members i ≡ Some term
@@ -60,9 +61,9 @@ activate-found i s y e =
     by term is_member true calm e1 = cc
     by term is_member false calm e1 = (term, is_member, calm, cc)
 
-module _ (devices : ℕ) where
-  pub way-begun : (cells : StoreTyping) (s : State) (i : ℕ) (y : State) → IsTyped devices cells s → s.active ≡ None → IsOrderly s → after s (Label.Activate i) ≡ Some y
-      → IsUnderWay devices s i 0 [] (holding_none y)
+module _ (signature : Signature) where
+  pub way-begun : (cells : StoreTyping) (s : State) (i : ℕ) (y : State) → IsTyped signature cells s → s.active ≡ None → IsOrderly s → after s (Label.Activate i) ≡ Some y
+      → IsUnderWay signature s i 0 [] (holding_none y)
   way-begun cells s i y typed idle orderly e =
       let f = activate-found i s y e in
       let place = begun_with f.0 [] in
@@ -95,19 +96,19 @@ module _ (devices : ℕ) where
         orderly = (after-goes s (Label.Activate i) y e).orderly orderly;
       }
 
-  module _ (s : State) (i n : ℕ) (fresh : List ℕ) (w : Weak) (u : IsUnderWay devices s i n fresh w) where
+  module _ (s : State) (i n : ℕ) (fresh : List ℕ) (w : Weak) (u : IsUnderWay signature s i n fresh w) where
     -- its number is below the next one
     pub number-below : i < w.state.next
     number-below = numbers-at (λ k. k < w.state.next) w.state.members i (ap is_some u.stands) u.orderly.members_below
 
-    pub way-step : (kind : StepKind) (v : Weak) → held_step kind i w ≡ Some v → IsUnderWay devices s i (n + 1) (fresh ++ fresh_of kind) v
+    pub way-step : (kind : StepKind) (v : Weak) → held_step kind i w ≡ Some v → IsUnderWay signature s i (n + 1) (fresh ++ fresh_of kind) v
     way-step kind v e =
         let x = held-step s i kind u.place w v u.laid u.stands u.quiet u.agrees u.orderly e in
         let a = active_run s i u.term u.inputs u.member u.idle u.calm n u.place u.ran u.agrees in
-        let later = preserved_along devices (fragment_labels i a.way.kinds) u.cells s a.behind u.typed (UnderWay-runs s i n u.place.fresh a.behind a.way) in
+        let later = preserved_along signature (fragment_labels i a.way.kinds) u.cells s a.behind u.typed (UnderWay-runs s i n u.place.fresh a.behind a.way) in
         let step = step-is Side.Protected (with_inputs x.inputs u.place) x.last x.steps in
-        let typed_term = each-at (IsMember devices later.0) a.behind.members i u.place.term a.member later.2.typed.members in
-        let act = found_act devices later.0 u.place.term Typ.Unit typed_term Side.Protected step.redex step.stands in
+        let typed_term = each-at (IsMember signature later.0) a.behind.members i u.place.term a.member later.2.typed.members in
+        let act = found_act signature later.0 u.place.term Typ.Unit typed_term Side.Protected step.redex step.stands in
         let count : n + 1 ≡ suc n = omega arith in
         record {
           cells = u.cells;
@@ -126,7 +127,7 @@ module _ (devices : ℕ) where
           quiet = x.answer;
           made = x.fresh ∙ ap (λ (ls : List ℕ). ls ++ fresh_of kind) u.made;
           agrees = x.agrees;
-          untouched = step-apart devices u.cells later.0 s later.1 u.typed (with_inputs x.inputs u.place) x.last step act.0 act.1 x.agrees (λ l content is. u.untouched l content is);
+          untouched = step-apart signature u.cells later.0 s later.1 u.typed (with_inputs x.inputs u.place) x.last step act.0 act.1 x.agrees (λ l content is. u.untouched l content is);
           set = step-set Side.Protected (with_inputs x.inputs u.place) x.last x.steps u.set;
           laid = x.laid;
           stands = x.member;
@@ -138,7 +139,7 @@ module _ (devices : ℕ) where
     clash-of : (o : Option Val) → is_some o ≡ true → o ≡ None → ⊥
     clash-of o there none = let clash : true ≡ false = sym there ∙ ap is_some none in cc
 
-    untouched-later : (t : State) (later : StoreTyping) → Grows u.cells later → IsTyped devices later t → ChangesApart s t u.place → IsApart later u.place
+    untouched-later : (t : State) (later : StoreTyping) → Grows u.cells later → IsTyped signature later t → ChangesApart s t u.place → IsApart later u.place
     untouched-later t later grows typed apart l content is = by (at s.store l) refl
       where
         new : at s.store l ≡ None → (at t.store l ≡ at s.store l) ⊎ (at u.place.sets l ≡ None) → IsUntouched l u.place
@@ -153,9 +154,9 @@ module _ (devices : ℕ) where
             let same : k.0 ≡ (Sort.Unprotected, content) = cc in
             u.untouched l content (k.1 ∙ ap Some same)
 
-    moved-on : (label : Label) (t y : State) → after s label ≡ Some t → IsBelow s i u.place w y t → IsOrderly y → IsUnderWay devices t i n fresh (moved w y)
+    moved-on : (label : Label) (t y : State) → after s label ≡ Some t → IsBelow s i u.place w y t → IsOrderly y → IsUnderWay signature t i n fresh (moved w y)
     moved-on label t y legal k orderly =
-        let later = kept devices u.cells s label t u.typed legal in
+        let later = kept signature u.cells s label t u.typed legal in
         record {
           cells = later.0;
           typed = later.2;
@@ -178,17 +179,17 @@ module _ (devices : ℕ) where
         }
 
     pub way-free : (j : ℕ) (kind : StepKind) (y : State) → (j ≡ i → ⊥) → may_free (Some i) kind ≡ true → reduce Side.Unprotected kind j w.state ≡ Some y
-        → (t : State) × (after s (Label.Free j kind) ≡ Some t) × IsUnderWay devices t i n fresh (moved w y)
+        → (t : State) × (after s (Label.Free j kind) ≡ Some t) × IsUnderWay signature t i n fresh (moved w y)
     unfolding after
     way-free j kind y other may e =
-        let k = free-below devices u.cells s i u.place w u.typed u.laid u.agrees u.set (λ l content is. u.untouched l content is) number-below j kind y other may e in
+        let k = free-below signature u.cells s i u.place w u.typed u.laid u.agrees u.set (λ l content is. u.untouched l content is) number-below j kind y other may e in
         let legal : after s (Label.Free j kind) ≡ Some k.0 = ap (λ (o : Option ℕ). if is_none o then reduce Side.Unprotected kind j s else None) u.idle ∙ k.1 in
         (k.0, legal, moved-on (Label.Free j kind) k.0 y legal k.2 ((reduce-goes Side.Unprotected kind j w.state y e).orderly u.orderly))
 
     pub way-close : (j : ℕ) (y : State) → (j ≡ i → ⊥) → closed j w.state ≡ Some y
-        → (t : State) × (after s (Label.Close j) ≡ Some t) × IsUnderWay devices t i n fresh (moved w y)
+        → (t : State) × (after s (Label.Close j) ≡ Some t) × IsUnderWay signature t i n fresh (moved w y)
     unfolding after
     way-close j y other e =
-        let k = close-below devices u.cells s i u.place w u.typed u.laid u.agrees u.set (λ l content is. u.untouched l content is) number-below j y other e in
+        let k = close-below signature u.cells s i u.place w u.typed u.laid u.agrees u.set (λ l content is. u.untouched l content is) number-below j y other e in
         let legal : after s (Label.Close j) ≡ Some k.0 = ap (λ (o : Option ℕ). if is_none o then closed j s else None) u.idle ∙ k.1 in
         (k.0, legal, moved-on (Label.Close j) k.0 y legal k.2 ((closed-goes j w.state y e).orderly u.orderly))

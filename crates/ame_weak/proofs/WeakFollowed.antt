@@ -123,7 +123,7 @@ print-form : (s t : State) (side : Side) (kind : StepKind) (redex part : Tree) â
 unfolding act_of
 print-form s _ _ _ _ _ (Reduces.printing side m) n is kind = cc
 print-form s _ _ _ _ _ (Reduces.pure side redex part row) n is kind = cc
-print-form s _ _ _ _ _ (Reduces.allocation side l sort v fresh) n is kind = cc
+print-form s _ _ _ _ _ (Reduces.allocation side l sort number v fresh) n is kind = cc
 print-form s _ _ _ _ _ (Reduces.reading side l v at) n is kind = cc
 print-form s _ _ _ _ _ (Reduces.peeking l v at) n is kind = cc
 print-form s _ _ _ _ _ (Reduces.writing side l v) n is kind = cc
@@ -136,7 +136,7 @@ spawn-form : (s t : State) (side : Side) (kind : StepKind) (redex part : Tree) â
 unfolding act_of
 spawn-form s _ _ _ _ _ (Reduces.spawning side other) body is kind = cc
 spawn-form s _ _ _ _ _ (Reduces.pure side redex part row) body is kind = cc
-spawn-form s _ _ _ _ _ (Reduces.allocation side l sort v fresh) body is kind = cc
+spawn-form s _ _ _ _ _ (Reduces.allocation side l sort number v fresh) body is kind = cc
 spawn-form s _ _ _ _ _ (Reduces.reading side l v at) body is kind = cc
 spawn-form s _ _ _ _ _ (Reduces.peeking l v at) body is kind = cc
 spawn-form s _ _ _ _ _ (Reduces.writing side l v) body is kind = cc

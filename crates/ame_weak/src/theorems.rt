@@ -10,6 +10,7 @@ ghost use Rattle.ame_journal.specs.Replay.{replay};
 ghost use Rattle.ame_journal.specs.Calls.{device_calls};
 ghost use Rattle.ame_journal.specs.Totals.{without_notes};
 ghost use Rattle.ame_laws.specs.Typed.StoreTyping.{StoreTyping};
+ghost use Rattle.ame_laws.specs.Typed.Listed.{signature_of};
 ghost use Rattle.ame_laws.specs.Typed.TypedState.{IsTyped};
 ghost use Rattle.ame_weak.specs.Weak.{Weak, IsWeakRun, holding_none, weak_start, weak_after, weak_run, weak_calls};
 ghost use Rattle.ame_weak.specs.WeakRules.{WeakRule, WeakBegins, WeakRuns};
@@ -75,7 +76,7 @@ pub fn notes_are_of_the_tries()
 /// The strong state in the weak state to which the labels of an accepted program lead is typed.
 pub fn weak_runs_are_typed(accepted: &Accepted)
     ensures { (labels : List Label) (w : Weak) → IsWeakRun (tree_of accepted.now.program.term) labels w
-        → (cells : StoreTyping) × IsTyped accepted.now.devices cells w.state }
+        → (cells : StoreTyping) × IsTyped (signature_of accepted.now) cells w.state }
 {}
 
 /// Within the bounds no value of a run of an accepted program is more than 1,000 high. So a value that would be higher

@@ -1,4 +1,5 @@
 -- What code, values and fragments of programs mean.
+use Rattle.ame_laws.specs.Typed.Listed.{signature_of}
 use Rattle.ame_machine.specs.Meaning.{Meaning}
 use Rattle.ame_code.specs.FlatCode.{FlatCode}
 use Rattle.ame_code.specs.Code.{program_of}
@@ -10,7 +11,7 @@ use Rattle.ame_eval.specs.declared.fragment.Fragment.{Fragment}
 abbrev pub fragment_meaning : Meaning FlatCode Val Fragment
 fragment_meaning = record {
   program = λ code. program_of code;
-  devices = λ code. code.accepted.devices;
+  signature = λ code. signature_of code.accepted;
   is_value = λ code v. IsMadeValue code v;
   value_of = λ code v. value_meant code v;
   is_machine = λ code m. IsFragmentOf code m;

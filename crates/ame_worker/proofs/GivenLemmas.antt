@@ -1,4 +1,5 @@
 -- What a seat knows that gave the turn.
+use Rattle.ame_term.specs.Signature.{Signature}
 use Rattle.std.proofs.Common.{◌≡◌, ℕ, ◌<◌, Bool, true, false, List, ◌++◌, length, set, All, Option, Some, None, slice_get, refl, sym, ap, ◌∙◌, subst, arith}
 use Rattle.std.specs.Prelude.{IsSomeAnd}
 use Rattle.std.proofs.lemmas.List.{get_or-set_same}
@@ -98,9 +99,9 @@ module _ {C V M : Type 0} (meaning : Meaning C V M) where
   }
 
 -- a seat stays one of the shell
-pub still-seated : {C M : Type 0} (devices : C → ℕ) (code : C) (limits : Limits) (before after : Knows (Opened C) (SeatRow M) Entry) → KeepsSeat before after
-    → IsSeated devices code limits before → IsSeated devices code limits after
-still-seated devices code limits before after keeps s = record {
+pub still-seated : {C M : Type 0} (signature : C → Signature) (code : C) (limits : Limits) (before after : Knows (Opened C) (SeatRow M) Entry) → KeepsSeat before after
+    → IsSeated signature code limits before → IsSeated signature code limits after
+still-seated signature code limits before after keeps s = record {
   opened = s.opened;
   is = keeps.fixed ∙ s.is;
   of_code = s.of_code;
@@ -112,12 +113,12 @@ still-seated devices code limits before after keeps s = record {
 }
 
 -- and is ready for its next turn
-pub ready-again : {C M : Type 0} (devices : C → ℕ) (is_machine : C → M → Type 0) (stage : C → M → MachineView) (code : C) (limits : Limits)
+pub ready-again : {C M : Type 0} (signature : C → Signature) (is_machine : C → M → Type 0) (stage : C → M → MachineView) (code : C) (limits : Limits)
     (before after : Knows (Opened C) (SeatRow M) Entry) (left : SeatRow M) (hand : Work M) → HasGivenRow left before after → left.hand ≡ hand
-    → IsSeated devices code limits before → CanBePrepared is_machine stage code limits.slice hand
-    → IsReadyToTurn devices is_machine stage code limits after hand
-ready-again {C} {M} devices is_machine stage code limits before after left hand gave same seated can = record {
-  seated = still-seated devices code limits before after gave.keeps seated;
+    → IsSeated signature code limits before → CanBePrepared is_machine stage code limits.slice hand
+    → IsReadyToTurn signature is_machine stage code limits after hand
+ready-again {C} {M} signature is_machine stage code limits before after left hand gave same seated can = record {
+  seated = still-seated signature code limits before after gave.keeps seated;
   free = gave.free;
   prepared =
       subst (λ (w : Work M). IsPrepared is_machine stage code limits.slice w hand) (sym (ap (λ (r : SeatRow M). r.hand) gave.row ∙ same))
@@ -127,7 +128,7 @@ ready-again {C} {M} devices is_machine stage code limits before after left hand 
 
 -- a seat is one of a shell that is shared
 pub within-shell : {C V M : Type 0} (meaning : Meaning C V M)
-    (limits : Limits) (code : C) (k : Knows (Opened C) (SeatRow M) Entry) → IsSeated meaning.devices code limits k → (opened : Opened C) → k.fixed ≡ Some opened
+    (limits : Limits) (code : C) (k : Knows (Opened C) (SeatRow M) Entry) → IsSeated meaning.signature code limits k → (opened : Opened C) → k.fixed ≡ Some opened
     → (shell : ShellView C V M) (places : List (Kept M)) (rows : List (SeatRow M)) (told : List Entry) → IsShared meaning opened shell places rows told
     → k.number < shell.core.limits.seats
 within-shell {C} meaning limits code k seated opened is shell places rows told shared =
@@ -136,7 +137,7 @@ within-shell {C} meaning limits code k seated opened is shell places rows told s
 
 -- the limits are those of the shell
 pub same-limits : {C V M : Type 0} (meaning : Meaning C V M)
-    (limits : Limits) (code : C) (k : Knows (Opened C) (SeatRow M) Entry) (seated : IsSeated meaning.devices code limits k) (shell : ShellView C V M) (places : List (Kept M))
+    (limits : Limits) (code : C) (k : Knows (Opened C) (SeatRow M) Entry) (seated : IsSeated meaning.signature code limits k) (shell : ShellView C V M) (places : List (Kept M))
     (rows : List (SeatRow M)) (told : List Entry) → IsSomeAnd k.fixed (λ o. IsShared meaning o shell places rows told)
     → limits ≡ shell.core.limits
 same-limits {C} meaning limits code k seated shell places rows told stands =
@@ -194,7 +195,7 @@ module _ {C V M : Type 0} (meaning : Meaning C V M) where
         may-give-on meaning shown_of places_of leaves k given made.opened made.is (shown_of given) refl (places_of given) refl left fine made.added made.by_seat made.then
 
     -- and then the seat's row is this
-    pub gave-its-row : (limits : Limits) (code : C) → IsSeated meaning.devices code limits k → (row : SeatRow M) → slice_get k.rows k.number ≡ Some row
+    pub gave-its-row : (limits : Limits) (code : C) → IsSeated meaning.signature code limits k → (row : SeatRow M) → slice_get k.rows k.number ≡ Some row
         → (after : Knows (Opened C) (SeatRow M) Entry)
         → Gives (λ s opened rows told. IsShared meaning opened (shown_of s) (places_of s) rows told) maker leaves k given after → HasGivenRow left k after
     gave-its-row limits code seated row found after gives =

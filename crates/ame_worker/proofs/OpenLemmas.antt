@@ -86,7 +86,7 @@ module _ {C V M : Type 0} (meaning : Meaning C V M) where
 
   -- where an engine has just started
   module _ (core : Core C V M) (code : C) (limits : Limits) (ends : Ends) (same : core.code ≡ code)
-      (starts : parts_of meaning core ≡ started (meaning.program code) (meaning.devices code) limits 0) where
+      (starts : parts_of meaning core ≡ started (meaning.program code) (meaning.signature code) limits 0) where
     seats : core.limits.seats ≡ limits.seats
     seats = ap (λ (p : Parts). p.limits.seats) starts
 

@@ -1,5 +1,6 @@
 -- What is so of a worker between its turns.
-use Rattle.std.specs.Prelude.{◌≡◌, ℕ, ◌≤◌, ◌<◌, true, false, Some, length}
+use Rattle.ame_term.specs.Signature.{Signature}
+use Rattle.std.specs.Prelude.{◌≡◌, ◌≤◌, ◌<◌, true, false, Some, length}
 use Rattle.ame_journal.specs.declared.entry.Entry.{Entry}
 use Rattle.ame_machine.specs.MachineView.{MachineView}
 use Rattle.ame_protocol.specs.declared.types.Limits.{Limits}
@@ -12,20 +13,20 @@ use Rattle.ame_worker.specs.declared.shared.Opened.{Opened}
 use Rattle.ame_worker.specs.Rows.{SeatRow}
 
 -- A seat is one of a shell that was opened with this code and these limits, and with devices enough.
-pub record IsSeated {C M : Type 0} (devices : C → ℕ) (code : C) (limits : Limits) (k : Knows (Opened C) (SeatRow M) Entry) : Type 0 where
+pub record IsSeated {C M : Type 0} (signature : C → Signature) (code : C) (limits : Limits) (k : Knows (Opened C) (SeatRow M) Entry) : Type 0 where
   pub opened : Opened C
   pub is : k.fixed ≡ Some opened
   pub of_code : opened.code ≡ code
   pub of_limits : opened.limits ≡ limits
   pub ranges : AreLimits limits
-  pub enough : devices code ≤ length opened.told
+  pub enough : (signature code).devices ≤ length opened.told
   pub number : k.number < limits.seats
   pub seats : k.seats ≡ limits.seats
 
-module _ {C M : Type 0} (devices : C → ℕ) (is_machine : C → M → Type 0) (stage : C → M → MachineView) where
+module _ {C M : Type 0} (signature : C → Signature) (is_machine : C → M → Type 0) (stage : C → M → MachineView) where
   -- It hasn't the turn. What it has at hand is what it had when it gave the turn, but for steps that its machine made alone.
   pub record IsReadyToTurn (code : C) (limits : Limits) (k : Knows (Opened C) (SeatRow M) Entry) (hand : Work M) : Type 0 where
-    pub seated : IsSeated devices code limits k
+    pub seated : IsSeated signature code limits k
     pub free : k.holds ≡ false
     pub prepared : IsPrepared is_machine stage code limits.slice k.row.hand hand
     pub can : CanBePrepared is_machine stage code limits.slice hand

@@ -33,7 +33,7 @@ pub(crate) fn hand<M: Runner, K: Sink, D: Device>(
 ) -> Played<M>
 where
     M::Code: Drop,
-    requires seated { IsSeated M.meaning.devices code.now shared.old.shell.value.engine.limits (knows seat.now) }
+    requires seated { IsSeated M.meaning.signature code.now shared.old.shell.value.engine.limits (knows seat.now) }
     requires found { slice_get (knows seat.now).rows (knows seat.now).number ≡ Some (knows seat.now).row }
     requires stands { IsSomeAnd (knows seat.now).fixed (λ opened. IsShared M.meaning opened
         (shown K.written K.faults D.device_heard D.device_faults shared.old.shell.value.engine shared.old.shell.value.sent

@@ -67,10 +67,10 @@ where
 {
     /// A worker for a seat that has nothing at work. Takes no memory.
     pub fn new(seat: Seat<Shared<M, K, D>>, code: Arc<M::Code>, limits: Limits) -> Worker<M, K, D>
-        requires seated { IsSeated M.meaning.devices (arc_value code) limits (knows seat) }
+        requires seated { IsSeated M.meaning.signature (arc_value code) limits (knows seat) }
         requires free { (knows seat).holds ≡ false }
         requires empty { (knows seat).row ≡ empty_row }
-        ensures ready { IsReadyToTurn M.meaning.devices M.meaning.is_machine M.meaning.stage (arc_value result.code) result.limits (knows result.seat) result.work }
+        ensures ready { IsReadyToTurn M.meaning.signature M.meaning.is_machine M.meaning.stage (arc_value result.code) result.limits (knows result.seat) result.work }
         ensures seat { result.seat ≡ seat }
         ensures code { result.code ≡ code }
         ensures limits { result.limits ≡ limits }
@@ -93,9 +93,9 @@ where
         gate: &G,
     ) -> Turned
         requires of { IsSeatOf baton.now self.old.seat }
-        requires ready { IsReadyToTurn M.meaning.devices M.meaning.is_machine M.meaning.stage (arc_value self.old.code) self.old.limits (knows self.old.seat) self.old.work }
+        requires ready { IsReadyToTurn M.meaning.signature M.meaning.is_machine M.meaning.stage (arc_value self.old.code) self.old.limits (knows self.old.seat) self.old.work }
         ensures of { IsSeatOf baton.now self.new.seat }
-        ensures ready { IsReadyToTurn M.meaning.devices M.meaning.is_machine M.meaning.stage (arc_value self.new.code) self.new.limits (knows self.new.seat) self.new.work }
+        ensures ready { IsReadyToTurn M.meaning.signature M.meaning.is_machine M.meaning.stage (arc_value self.new.code) self.new.limits (knows self.new.seat) self.new.work }
         ensures keeps { KeepsSeat (knows self.old.seat) (knows self.new.seat) }
         ensures busy { result ≡ Turned.Busy → IsElsewhere (knows self.old.seat) }
         ensures same { result ≡ Turned.Busy → knows self.new.seat ≡ knows self.old.seat }
@@ -128,7 +128,7 @@ where
         gate: &G,
     )
         requires of { IsSeatOf baton.now self.old.seat }
-        requires ready { IsReadyToTurn M.meaning.devices M.meaning.is_machine M.meaning.stage (arc_value self.old.code) self.old.limits (knows self.old.seat) self.old.work }
+        requires ready { IsReadyToTurn M.meaning.signature M.meaning.is_machine M.meaning.stage (arc_value self.old.code) self.old.limits (knows self.old.seat) self.old.work }
         ensures of { IsSeatOf baton.now self.new.seat }
         ensures keeps { KeepsSeat (knows self.old.seat) (knows self.new.seat) }
         ensures through { IsThrough (knows self.new.seat) }

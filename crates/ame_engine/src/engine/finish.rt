@@ -18,7 +18,7 @@ where
         requires idle { (seat : ℕ) → task_at self.tasks seat ≡ Task.Idle }
         requires stopped { IsSome self.stop }
         ensures told { result ≡ end_of self }
-        ensures ends { IsEnd (M.meaning.program self.code) self.limits (M.meaning.value_of self.code) result }
+        ensures ends { IsEnd (M.meaning.program self.code) (M.meaning.signature self.code) self.limits (M.meaning.value_of self.code) result }
     {
         let Engine {
             code: _,

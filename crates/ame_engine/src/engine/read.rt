@@ -46,8 +46,8 @@ where
         ensures value { (l : Loc) → (M.meaning.stage self.old.code at.now).want ≡ Some (Wants.Read l) → IfOk result (λ value.
             M.meaning.value_of self.old.code value ≡ (cell_at (heap_in (parts_of M.meaning self.old)) l.0).value) }
         ensures typed { (l : Loc) → (M.meaning.stage self.old.code at.now).want ≡ Some (Wants.Read l) → IfOk result (λ value. (types : StoreTyping)
-            → IsTypedHeap (M.meaning.devices self.old.code) types (heap_in (parts_of M.meaning self.old))
-            → IsStored (M.meaning.devices self.old.code) types l.0 (M.meaning.value_of self.old.code value)) }
+            → IsTypedHeap (M.meaning.signature self.old.code) types (heap_in (parts_of M.meaning self.old))
+            → IsStored (M.meaning.signature self.old.code) types l.0 (M.meaning.value_of self.old.code value)) }
         ensures good { IfOk result (M.meaning.is_value self.old.code) }
         ensures runs { OnOk result ((s : MachineView) → IsOnSeat (parts_of M.meaning self.new) seat s → s.inside ≡ false → CanRun s) }
         ensures err { OnErr result (self.new ≡ self.old) }

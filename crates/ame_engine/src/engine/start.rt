@@ -39,9 +39,9 @@ where
         requires { AreLimits limits }
         ensures code { IfOk result (λ engine. engine.code ≡ arc_value code) }
         ensures parts { IfOk result (λ engine. parts_of M.meaning engine
-            ≡ started (M.meaning.program (arc_value code)) (M.meaning.devices (arc_value code)) limits 0) }
+            ≡ started (M.meaning.program (arc_value code)) (M.meaning.signature (arc_value code)) limits 0) }
         ensures state { IfOk result (λ engine. state_of M.meaning engine
-            ≡ started_state (M.meaning.program (arc_value code)) (M.meaning.devices (arc_value code)) limits) }
+            ≡ started_state (M.meaning.program (arc_value code)) (M.meaning.signature (arc_value code)) limits) }
     {
         let machine = M::start(alloc, &code)?;
         let memory = Memory::new(alloc, Store::new(alloc), limits.seats)?;

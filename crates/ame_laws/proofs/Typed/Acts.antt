@@ -3,6 +3,7 @@ use Rattle.std.proofs.Common.{◌≡◌, ℕ, Bool, true, false, Option, Some, N
 use Rattle.std.proofs.lemmas.Bool.Decides.{nat_tests}
 use Rattle.std.specs.Prelude.{if◌then◌else◌, ◌==◌}
 use Rattle.ame_term.specs.Tree.{Typ, OwnName, Head, Val, Tree}
+use Rattle.ame_term.specs.Signature.{Signature}
 use Rattle.ame_term.specs.Scope.{bind, unscoped}
 use Rattle.ame_term.specs.Substitute.{substitute, with_own, entered}
 use Rattle.ame_term.specs.Redex.{is_redex}
@@ -19,41 +20,41 @@ use Rattle.ame_laws.proofs.Typed.Weaken.{Fits, within_itself, weaken}
 use Rattle.ame_laws.proofs.Typed.Substituted.{shadows, substituted, put_for}
 use Rattle.ame_laws.proofs.Typed.WellFormedLemmas.{formed_substituted, formed_entered}
 
-module _ (devices : ℕ) (cells : StoreTyping) where
-  fitted : {q : Effect} {e : Tree} {t : Typ} → HasType devices cells unscoped q e t → (r : Effect) → Fits q r → HasType devices cells unscoped r e t
-  fitted a r f = weaken devices cells cells (λ l cell e. e) a unscoped (within_itself unscoped) r f
+module _ (signature : Signature) (cells : StoreTyping) where
+  fitted : {q : Effect} {e : Tree} {t : Typ} → HasType signature cells unscoped q e t → (r : Effect) → Fits q r → HasType signature cells unscoped r e t
+  fitted a r f = weaken signature cells cells (λ l cell e. e) a unscoped (within_itself unscoped) r f
 
-  plain_entered : (head : Head) (body : Tree) (v : Val) (u : Typ) → head.own ≡ None → HasType devices cells (bind head.param head.param_type unscoped) head.effect body u
-      → HasValue devices cells v head.param_type → HasType devices cells unscoped head.effect (entered head body v) u
+  plain_entered : (head : Head) (body : Tree) (v : Val) (u : Typ) → head.own ≡ None → HasType signature cells (bind head.param head.param_type unscoped) head.effect body u
+      → HasValue signature cells v head.param_type → HasType signature cells unscoped head.effect (entered head body v) u
   plain_entered head body v u o b a =
-      subst (λ (z : Option OwnName). HasType devices cells unscoped head.effect (with_own z head.param (substitute body head.param v) (Val.Fun head body)) u) (sym o)
-      (put_for devices cells head.param head.param_type v a unscoped b)
+      subst (λ (z : Option OwnName). HasType signature cells unscoped head.effect (with_own z head.param (substitute body head.param v) (Val.Fun head body)) u) (sym o)
+      (put_for signature cells head.param head.param_type v a unscoped b)
 
   recursive_entered : (head : Head) (own : OwnName) (body : Tree) (v : Val) → head.own ≡ Some own
-      → HasType devices cells (bind head.param head.param_type (bind own.name (Typ.Fun head.effect head.param_type own.result) unscoped)) head.effect body own.result
-      → HasValue devices cells v head.param_type → HasType devices cells unscoped head.effect (entered head body v) own.result
+      → HasType signature cells (bind head.param head.param_type (bind own.name (Typ.Fun head.effect head.param_type own.result) unscoped)) head.effect body own.result
+      → HasValue signature cells v head.param_type → HasType signature cells unscoped head.effect (entered head body v) own.result
   recursive_entered head own body v o b a =
-      subst (λ (z : Option OwnName). HasType devices cells unscoped head.effect (with_own z head.param (substitute body head.param v) (Val.Fun head body)) own.result) (sym o)
+      subst (λ (z : Option OwnName). HasType signature cells unscoped head.effect (with_own z head.param (substitute body head.param v) (Val.Fun head body)) own.result) (sym o)
       (by (own.name == head.param) refl)
     where
       by : (z : Bool) → (own.name == head.param) ≡ z
-          → HasType devices cells unscoped head.effect (if z then substitute body head.param v else substitute (substitute body head.param v) own.name (Val.Fun head body)) own.result
-      by true is = substituted devices cells head.param head.param_type v a b unscoped (shadows own.name head.param (Typ.Fun head.effect head.param_type own.result) head.param_type unscoped (other_way own.name head.param is))
+          → HasType signature cells unscoped head.effect (if z then substitute body head.param v else substitute (substitute body head.param v) own.name (Val.Fun head body)) own.result
+      by true is = substituted signature cells head.param head.param_type v a b unscoped (shadows own.name head.param (Typ.Fun head.effect head.param_type own.result) head.param_type unscoped (other_way own.name head.param is))
         where
           other_way : (x y : ℕ) → (x == y) ≡ true → (y == x) ≡ true
           other_way x y e = grind (arith, nat_tests)
       by false is =
           let f = Typ.Fun head.effect head.param_type own.result in
-          put_for devices cells own.name f (Val.Fun head body) (recursive_value o b) unscoped (put_for devices cells head.param head.param_type v a (bind own.name f unscoped) b)
+          put_for signature cells own.name f (Val.Fun head body) (recursive_value o b) unscoped (put_for signature cells head.param head.param_type v a (bind own.name f unscoped) b)
 
-  if_typed : (v : Val) (a b : Tree) (q : Effect) (t : Typ) → HasValue devices cells v Typ.Bool → IsFragment devices cells q a t → IsFragment devices cells q b t → IsTypedAct devices cells q t (if_act v a b)
+  if_typed : (v : Val) (a b : Tree) (q : Effect) (t : Typ) → HasValue signature cells v Typ.Bool → IsFragment signature cells q a t → IsFragment signature cells q b t → IsTypedAct signature cells q t (if_act v a b)
   if_typed _ a b q t (bool {b = true}) x y = x
   if_typed _ a b q t (bool {b = false}) x y = y
 
-  unary_typed : (op : Unary) (v : Val) (q : Effect) (t u : Typ) → HasUnary devices op q t u → HasValue devices cells v t → IsWellFormedValue v → IsTypedAct devices cells q u (unary_act op v)
+  unary_typed : (op : Unary) (v : Val) (q : Effect) (t u : Typ) → HasUnary signature op q t u → HasValue signature cells v t → IsWellFormedValue v → IsTypedAct signature cells q u (unary_act op v)
   unfolding IsWellFormed IsWellFormedValue
   unary_typed _ _ q _ _ HasUnary.negation (bool {b}) f = (held bool, tt)
-  unary_typed _ v q t _ HasUnary.reference a f = (t, refl, (a, f))
+  unary_typed _ v q t _ (HasUnary.reference m) a f = (t, refl, (a, f), m)
   unary_typed _ _ q _ u (HasUnary.get {s} k) (location e) f = (s, e, k)
   unary_typed _ _ _ _ u HasUnary.peek (location e) f = (e, refl)
   unary_typed _ _ _ _ _ HasUnary.block (bool {b = true}) f = (refl, refl)
@@ -63,8 +64,8 @@ module _ (devices : ℕ) (cells : StoreTyping) where
   unary_typed _ _ q _ _ HasUnary.first (pair h k) f = (held h, f.0)
   unary_typed _ _ q _ _ HasUnary.second (pair h k) f = (held k, f.1)
 
-  binary_typed : (op : Binary) (v w : Val) (q : Effect) (t u z : Typ) → HasBinary op q t u z → HasValue devices cells v t → HasValue devices cells w u → IsWellFormedValue v → IsWellFormedValue w
-      → IsTypedAct devices cells q z (binary_act op v w)
+  binary_typed : (op : Binary) (v w : Val) (q : Effect) (t u z : Typ) → HasBinary op q t u z → HasValue signature cells v t → HasValue signature cells w u → IsWellFormedValue v → IsWellFormedValue w
+      → IsTypedAct signature cells q z (binary_act op v w)
   unfolding IsWellFormed IsWellFormedValue
   binary_typed _ _ w q _ u z (HasBinary.app fits) (function_value {head} {body} o b) a f g =
       (fitted (plain_entered head body w z o b a) q fits, formed_entered head body w f g)
@@ -78,12 +79,12 @@ module _ (devices : ℕ) (cells : StoreTyping) where
   binary_typed _ _ w q _ u _ (HasBinary.set {s} k) (location e) a f g = (s, u, e, (a, g), k, refl)
   binary_typed _ v w q t u _ HasBinary.pair a b f g = (held (pair a b), (f, g))
 
-  pub typed_act : (r : Tree) → is_redex r ≡ true → (q : Effect) (t : Typ) → HasType devices cells unscoped q r t → IsWellFormed r → IsTypedAct devices cells q t (act_of r)
+  pub typed_act : (r : Tree) → is_redex r ≡ true → (q : Effect) (t : Typ) → HasType signature cells unscoped q r t → IsWellFormed r → IsTypedAct signature cells q t (act_of r)
   unfolding act_of IsWellFormed AreWellFormed IsWellFormedValue
   typed_act _ e q t (name p) f = absurd (cc)
   typed_act _ e q _ (function o b) f = (held (function_value o b), f)
   typed_act _ e q _ (recursive o b) f = (held (recursive_value o b), f)
-  typed_act _ e q t (binding {x} {body} {t = p} (held {v} a) b) f = (put_for devices cells x p v a unscoped b, formed_substituted x v f.0 body f.1)
+  typed_act _ e q t (binding {x} {body} {t = p} (held {v} a) b) f = (put_for signature cells x p v a unscoped b, formed_substituted x v f.0 body f.1)
   typed_act _ e q t (sequence (last h)) f = absurd f.0
   typed_act _ e q t (sequence (more (held a) (last k))) f = (k, f.1.1.0)
   typed_act _ e q t (sequence (more (held a) (more h k))) f = (sequence (more h k), (tt, f.1.1))

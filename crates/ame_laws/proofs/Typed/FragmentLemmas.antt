@@ -1,6 +1,7 @@
 -- Values as typed fragments, and what a location has.
-use Rattle.std.proofs.Common.{◌≡◌, ℕ, Option, Some, sym, subst, ◌∙◌, ℤ}
+use Rattle.std.proofs.Common.{◌≡◌, Option, Some, sym, subst, ◌∙◌, ℤ}
 use Rattle.ame_term.specs.Tree.{Typ, Val, Tree, unit_tree}
+use Rattle.ame_term.specs.Signature.{Signature}
 use Rattle.ame_term.specs.Scope.{unscoped}
 use Rattle.ame_term.specs.HasType.{HasType, held, unit, int}
 use Rattle.ame_term.specs.declared.types.Sort.{Sort}
@@ -9,17 +10,17 @@ use Rattle.ame_laws.specs.Typed.StoreTyping.{StoreTyping}
 use Rattle.ame_laws.specs.Typed.WellFormed.{IsWellFormed, IsWellFormedValue}
 use Rattle.ame_laws.specs.Typed.Fragment.{IsFragment, IsValueOf}
 
-pub held_fragment : (devices : ℕ) (cells : StoreTyping) (q : Effect) (v : Val) (t u : Typ) → t ≡ u → IsValueOf devices cells v u → IsFragment devices cells q (Tree.Held v) t
+pub held_fragment : (signature : Signature) (cells : StoreTyping) (q : Effect) (v : Val) (t u : Typ) → t ≡ u → IsValueOf signature cells v u → IsFragment signature cells q (Tree.Held v) t
 unfolding IsWellFormed
-held_fragment devices cells q v t u e f = (subst (λ (z : Typ). HasType devices cells unscoped q (Tree.Held v) z) (sym e) (held f.0), f.1)
+held_fragment signature cells q v t u e f = (subst (λ (z : Typ). HasType signature cells unscoped q (Tree.Held v) z) (sym e) (held f.0), f.1)
 
-pub unit_fragment : (devices : ℕ) (cells : StoreTyping) (q : Effect) (t : Typ) → t ≡ Typ.Unit → IsFragment devices cells q unit_tree t
+pub unit_fragment : (signature : Signature) (cells : StoreTyping) (q : Effect) (t : Typ) → t ≡ Typ.Unit → IsFragment signature cells q unit_tree t
 unfolding IsWellFormedValue
-unit_fragment devices cells q t e = held_fragment devices cells q Val.Unit t Typ.Unit e (unit, tt)
+unit_fragment signature cells q t e = held_fragment signature cells q Val.Unit t Typ.Unit e (unit, tt)
 
-pub int_fragment : (devices : ℕ) (cells : StoreTyping) (q : Effect) (t : Typ) (n : ℤ) → t ≡ Typ.Int → IsFragment devices cells q (Tree.Held (Val.Int n)) t
+pub int_fragment : (signature : Signature) (cells : StoreTyping) (q : Effect) (t : Typ) (n : ℤ) → t ≡ Typ.Int → IsFragment signature cells q (Tree.Held (Val.Int n)) t
 unfolding IsWellFormedValue
-int_fragment devices cells q t n e = held_fragment devices cells q (Val.Int n) t Typ.Int e (int, tt)
+int_fragment signature cells q t n e = held_fragment signature cells q (Val.Int n) t Typ.Int e (int, tt)
 
 pub same_cell : (c d : Sort × Typ) (o : Option (Sort × Typ)) → o ≡ Some c → o ≡ Some d → c ≡ d
 same_cell c d o e f = opened c d (sym e ∙ f)

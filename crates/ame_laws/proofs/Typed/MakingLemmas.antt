@@ -4,6 +4,7 @@ use Rattle.std.specs.Prelude.{if◌then◌else◌, option_map, IsSome}
 use Rattle.std.specs.BTreeMap.{is_at}
 use Rattle.std.specs.Ordering.{nat_cmp}
 use Rattle.ame_term.specs.Tree.{Typ, Val, Tree}
+use Rattle.ame_term.specs.Signature.{Signature}
 use Rattle.ame_term.specs.Frame.{Side}
 use Rattle.ame_term.specs.Act.{Act, StepName, Sides, step_name, same_step, making, making_on, made_there, is_among_sides, is_step_told, makes}
 use Rattle.ame_term.specs.Maps.{at, put}
@@ -71,14 +72,14 @@ pub is_protected : (side : Side) → effect_at side Effect.Protected ≡ Effect.
 is_protected Side.Unprotected e = cc
 is_protected Side.Protected e = refl
 
-module _ (devices : ℕ) (cells : StoreTyping) (known : ℕ → Bool) (there : (l : ℕ) (cell : Sort × Typ) → cells l ≡ Some cell → known l ≡ true) (side : Side) (t : Typ) where
-  pub known_act : (act : Act) → IsTypedAct devices cells (effect_at side Effect.Protected) t act → IsKnown known act
+module _ (signature : Signature) (cells : StoreTyping) (known : ℕ → Bool) (there : (l : ℕ) (cell : Sort × Typ) → cells l ≡ Some cell → known l ≡ true) (side : Side) (t : Typ) where
+  pub known_act : (act : Act) → IsTypedAct signature cells (effect_at side Effect.Protected) t act → IsKnown known act
   known_act (Act.Reads l) a = there l (a.0, t) a.1
   known_act (Act.Peeks l) a = there l (Sort.Protected, t) a.0
   known_act (Act.Writes l v) a = there l (a.0, a.1) a.2
   known_act _ a = tt
 
-  made_act : (act : Act) → IsTypedAct devices cells (effect_at side Effect.Protected) t act → IsOther act → IsSome (making_on side act)
+  made_act : (act : Act) → IsTypedAct signature cells (effect_at side Effect.Protected) t act → IsOther act → IsSome (making_on side act)
   made_act (Act.Peeks l) a o = ap (λ z. is_some (making_on z (Act.Peeks l))) (is_unprotected side a.1)
   made_act Act.Passes a o = ap (λ z. is_some (making_on z Act.Passes)) (is_protected side a.0)
   made_act (Act.Calls device n) a o = ap (λ z. is_some (making_on z (Act.Calls device n))) (is_unprotected side a.1)
@@ -87,7 +88,7 @@ module _ (devices : ℕ) (cells : StoreTyping) (known : ℕ → Bool) (there : (
   made_act Act.Stuck a o = absurd a
   made_act _ a o = refl
 
-  pub can_be_made : (act : Act) → IsTypedAct devices cells (effect_at side Effect.Protected) t act → IsOther act → CanBeMade known side act
+  pub can_be_made : (act : Act) → IsTypedAct signature cells (effect_at side Effect.Protected) t act → IsOther act → CanBeMade known side act
   can_be_made act a o = (made_act act a o, known_act act a)
 
 -- The steps that make an act have an effect, where the location that they make is fresh.
@@ -112,7 +113,7 @@ some-map f (Some x) = refl
 module _ (s : State) where
   effect_made : (kind : StepKind) (act : Act) → IsKnown (λ l. is_some (at s.store l)) act → is_named (making act) kind ≡ true → is_some (performed kind act s) ≡ is_fresh s kind
   effect_made StepKind.Local (Act.Becomes e) a k = refl
-  effect_made (StepKind.Alloc l) (Act.Allocates sort v) a k = by (at s.store l.0)
+  effect_made (StepKind.Alloc l) (Act.Allocates sort number v) a k = by (at s.store l.0)
     where
       by : (o : Option Val) → is_some {T = Tree × State} (if is_some o then None else Some (Tree.Held (Val.Loc l.0), record s { store = put s.store l.0 v })) ≡ is_none o
       by None = refl

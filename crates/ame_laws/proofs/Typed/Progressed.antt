@@ -2,6 +2,7 @@
 use Rattle.std.proofs.Common.{◌≡◌, ℕ, ◌⊎◌, Bool, true, false, not, ◌&&◌, List, [], ◌∷◌, Option, Some, None, refl, sym, ap, subst, ◌∙◌, inl, inr, is_some, is_none}
 use Rattle.std.specs.Prelude.{if◌then◌else◌, option_map, option_and_then, IsSome}
 use Rattle.ame_term.specs.Tree.{Typ, Val, Tree}
+use Rattle.ame_term.specs.Signature.{Signature}
 use Rattle.ame_term.specs.Frame.{Side, same_side}
 use Rattle.ame_term.specs.Context.{Focus, focus, fill}
 use Rattle.ame_term.specs.Act.{Act, act_of, making_on, makes}
@@ -35,36 +36,36 @@ some-known None e = absurd (cc)
 some-known (Some x) e = (x, refl)
 
 -- the act of the redex of a typed term under protected is of the redex's type
-pub found_act : (devices : ℕ) (cells : StoreTyping) (term : Tree) (t : Typ) → IsFragment devices cells Effect.Protected term t → (side : Side) (redex : Tree) → focus term ≡ Focus.AtRedex side redex
-    → (u : Typ) × IsTypedAct devices cells (effect_at side Effect.Protected) u (act_of redex)
-found_act devices cells term t typed side redex e =
+pub found_act : (signature : Signature) (cells : StoreTyping) (term : Tree) (t : Typ) → IsFragment signature cells Effect.Protected term t → (side : Side) (redex : Tree) → focus term ≡ Focus.AtRedex side redex
+    → (u : Typ) × IsTypedAct signature cells (effect_at side Effect.Protected) u (act_of redex)
+found_act signature cells term t typed side redex e =
     let f = found term redex side e in
-    let p = placed devices cells Effect.Protected f.frames redex t (subst (λ (z : Tree). IsFragment devices cells Effect.Protected z t) f.term typed) in
-    (p.part_type, subst (λ (z : Side). IsTypedAct devices cells (effect_at z Effect.Protected) p.part_type (act_of redex)) f.on (p.act_typed f.redex))
+    let p = placed signature cells Effect.Protected f.frames redex t (subst (λ (z : Tree). IsFragment signature cells Effect.Protected z t) f.term typed) in
+    (p.part_type, subst (λ (z : Side). IsTypedAct signature cells (effect_at z Effect.Protected) p.part_type (act_of redex)) f.on (p.act_typed f.redex))
 
 -- a typed term under protected
-module _ (devices : ℕ) (cells : StoreTyping) (known : ℕ → Bool) (there : (l : ℕ) (cell : Sort × Typ) → cells l ≡ Some cell → known l ≡ true) where
-  at_redex : (side : Side) (redex : Tree) (t : Typ) → IsTypedAct devices cells (effect_at side Effect.Protected) t (act_of redex) → Sorted redex → Progresses known (Focus.AtRedex side redex)
+module _ (signature : Signature) (cells : StoreTyping) (known : ℕ → Bool) (there : (l : ℕ) (cell : Sort × Typ) → cells l ≡ Some cell → known l ≡ true) where
+  at_redex : (side : Side) (redex : Tree) (t : Typ) → IsTypedAct signature cells (effect_at side Effect.Protected) t (act_of redex) → Sorted redex → Progresses known (Focus.AtRedex side redex)
   unfolding act_of
   at_redex side redex t a (Sorted.waits e) =
-      let b = subst (IsTypedAct devices cells (effect_at side Effect.Protected) t) (ap act_of e ∙ waiting_act) a in
+      let b = subst (IsTypedAct signature cells (effect_at side Effect.Protected) t) (ap act_of e ∙ waiting_act) a in
       subst (λ (z : Tree). Progresses known (Focus.AtRedex side z)) (sym e)
       (subst (λ (z : Side). Progresses known (Focus.AtRedex z waiting)) (sym (is_protected side b.0)) Progresses.waits)
   at_redex side redex t a (Sorted.closes v e) =
-      let b = subst (IsTypedAct devices cells (effect_at side Effect.Protected) t) (ap act_of e ∙ closing_act v) a in
+      let b = subst (IsTypedAct signature cells (effect_at side Effect.Protected) t) (ap act_of e ∙ closing_act v) a in
       subst (λ (z : Tree). Progresses known (Focus.AtRedex side z)) (sym e)
       (subst (λ (z : Side). Progresses known (Focus.AtRedex z (Tree.Unprotected (Tree.Held v)))) (sym (is_protected side b.1)) (Progresses.closes v))
-  at_redex side redex t a (Sorted.other o) = Progresses.steps side redex (can_be_made devices cells known there side t (act_of redex) a o)
+  at_redex side redex t a (Sorted.other o) = Progresses.steps side redex (can_be_made signature cells known there side t (act_of redex) a o)
 
-  pub term_progresses : (term : Tree) (t : Typ) → IsFragment devices cells Effect.Protected term t → Progresses known (focus term)
+  pub term_progresses : (term : Tree) (t : Typ) → IsFragment signature cells Effect.Protected term t → Progresses known (focus term)
   term_progresses term t typed = by (focus term) refl
     where
       by : (f : Focus) → focus term ≡ f → Progresses known f
       by (Focus.AtValue v) e = Progresses.ends v
-      by (Focus.AtRedex side redex) e = let a = found_act devices cells term t typed side redex e in at_redex side redex a.0 a.1 (sorted redex)
+      by (Focus.AtRedex side redex) e = let a = found_act signature cells term t typed side redex e in at_redex side redex a.0 a.1 (sorted redex)
 
-pub fragment_progresses : (devices : ℕ) (cells : StoreTyping) (term : Tree) (t : Typ) → IsFragment devices cells Effect.Protected term t → Progresses (is_cell cells) (focus term)
-fragment_progresses devices cells term t typed = term_progresses devices cells (is_cell cells) (λ l cell e. ap is_some e) term t typed
+pub fragment_progresses : (signature : Signature) (cells : StoreTyping) (term : Tree) (t : Typ) → IsFragment signature cells Effect.Protected term t → Progresses (is_cell cells) (focus term)
+fragment_progresses signature cells term t typed = term_progresses signature cells (is_cell cells) (λ l cell e. ap is_some e) term t typed
 
 -- a redex whose act is made is no `unprotected` form
 not_unprotected : (redex : Tree) → IsSome (making_on Side.Protected (act_of redex)) → at_unprotected (Focus.AtRedex Side.Protected redex) ≡ false
@@ -87,18 +88,18 @@ none-known (Some x) e = cc
 found_waiting : (term : Tree) → focus term ≡ Focus.AtRedex Side.Protected waiting → Waits term
 found_waiting term e = let f = found term waiting Side.Protected e in (f.frames, f.on, f.term)
 
-module _ (devices : ℕ) (cells : StoreTyping) (s : State) (typed : IsTyped devices cells s) (i : ℕ) (term : Tree) (member : at s.members i ≡ Some term) where
-  member_typed : IsMember devices cells term
-  member_typed = each-at (IsMember devices cells) s.members i term member typed.typed.members
+module _ (signature : Signature) (cells : StoreTyping) (s : State) (typed : IsTyped signature cells s) (i : ℕ) (term : Tree) (member : at s.members i ≡ Some term) where
+  member_typed : IsMember signature cells term
+  member_typed = each-at (IsMember signature cells) s.members i term member typed.typed.members
 
   pub progressed : Progresses (is_stored s) (focus term)
-  progressed = term_progresses devices cells (is_stored s) (λ l cell e. typed.located l cell e) term Typ.Unit member_typed
+  progressed = term_progresses signature cells (is_stored s) (λ l cell e. typed.located l cell e) term Typ.Unit member_typed
 
   -- the locations that its act reads or writes are stored
   known_at : (side : Side) (redex : Tree) → focus term ≡ Focus.AtRedex side redex → IsKnown (is_stored s) (act_of redex)
   known_at side redex e =
-      let a = found_act devices cells term Typ.Unit member_typed side redex e in
-      known_act devices cells (is_stored s) (λ l cell e. typed.located l cell e) side a.0 (act_of redex) a.1
+      let a = found_act signature cells term Typ.Unit member_typed side redex e in
+      known_act signature cells (is_stored s) (λ l cell e. typed.located l cell e) side a.0 (act_of redex) a.1
 
   reduced-some : (side : Side) (kind : StepKind) (f : Focus) → focus term ≡ f → is_some (reduced_at side kind f s) ≡ is_step s side f kind
   reduced-some side kind (Focus.AtValue v) e = refl
@@ -197,24 +198,24 @@ module _ (devices : ℕ) (cells : StoreTyping) (s : State) (typed : IsTyped devi
   resting_progresses idle = rest_goes_on idle (focus term) refl progressed
 
 -- a member of a state in which nothing is active, if there is one
-first_goes_on : (devices : ℕ) (cells : StoreTyping) (s : State) → IsTyped devices cells s → s.active ≡ None → (members : List (ℕ × Tree)) → s.members ≡ members → StateProgresses s
-first_goes_on devices cells s typed idle [] is = StateProgresses.over is
-first_goes_on devices cells s typed idle (e ∷ es) is = by (resting_progresses devices cells s typed e.0 e.1 (ap (λ (z : List (ℕ × Tree)). at z e.0) is ∙ rw (is_at-here e.0)) idle)
+first_goes_on : (signature : Signature) (cells : StoreTyping) (s : State) → IsTyped signature cells s → s.active ≡ None → (members : List (ℕ × Tree)) → s.members ≡ members → StateProgresses s
+first_goes_on signature cells s typed idle [] is = StateProgresses.over is
+first_goes_on signature cells s typed idle (e ∷ es) is = by (resting_progresses signature cells s typed e.0 e.1 (ap (λ (z : List (ℕ × Tree)). at z e.0) is ∙ rw (is_at-here e.0)) idle)
   where
     by : GoesOn s e.0 → StateProgresses s
     by (GoesOn.activates leads) = StateProgresses.goes_on (Label.Activate e.0) leads
     by (GoesOn.steps kind leads) = StateProgresses.goes_on (Label.Free e.0 kind) leads
     by (GoesOn.closes leads) = StateProgresses.goes_on (Label.Close e.0) leads
 
-pub state_progresses : (devices : ℕ) (cells : StoreTyping) (s : State) → IsTyped devices cells s → StateProgresses s
-state_progresses devices cells s typed = by s.active refl
+pub state_progresses : (signature : Signature) (cells : StoreTyping) (s : State) → IsTyped signature cells s → StateProgresses s
+state_progresses signature cells s typed = by s.active refl
   where
     active : (i : ℕ) (term : Tree) → s.active ≡ Some i → at s.members i ≡ Some term → Waits term ⊎ ((label : Label) × LeadsOn s label) → StateProgresses s
     active i term is member (inl waits) = StateProgresses.waits i term is member waits
     active i term is member (inr on) = StateProgresses.goes_on on.0 on.1
 
     by : (o : Option ℕ) → s.active ≡ o → StateProgresses s
-    by None is = first_goes_on devices cells s typed is s.members refl
+    by None is = first_goes_on signature cells s typed is s.members refl
     by (Some i) is =
         let m = some-known (at s.members i) (typed.typed.present i is) in
-        active i m.0 is m.1 (active_progresses devices cells s typed i m.0 m.1 is)
+        active i m.0 is m.1 (active_progresses signature cells s typed i m.0 m.1 is)

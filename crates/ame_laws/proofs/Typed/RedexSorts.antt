@@ -46,7 +46,7 @@ other_set _ w = tt
 sorted_unary : (op : Unary) (v : Val) → Sorted (Tree.One op (Tree.Held v))
 unfolding act_of
 sorted_unary unary.Not (Val.Bool b) = Sorted.other tt
-sorted_unary (unary.Ref sort) v = Sorted.other tt
+sorted_unary (unary.Ref sort number) v = Sorted.other tt
 sorted_unary unary.Get (Val.Loc l) = Sorted.other tt
 sorted_unary unary.Peek (Val.Loc l) = Sorted.other tt
 sorted_unary unary.Block (Val.Bool true) = Sorted.other tt

@@ -3,6 +3,7 @@ use Rattle.std.proofs.Common.{◌≡◌, ℕ, ◌<◌, ◌⊎◌, Bool, true, fa
 use Rattle.std.proofs.lemmas.Bool.Decides.{nat_tests}
 use Rattle.std.specs.Prelude.{◌==◌}
 use Rattle.ame_term.specs.Tree.{Tree}
+use Rattle.ame_term.specs.Signature.{Signature}
 use Rattle.ame_term.specs.Frame.{Frame, Side, plug_all, side_of}
 use Rattle.ame_term.specs.Maps.{at, change, without}
 use Rattle.ame_term.specs.State.{State}
@@ -24,10 +25,10 @@ equal_or_not j k = by (j == k) refl
     by true e = inl (grind (arith, nat_tests))
     by false e = inr (λ same. grind (arith, nat_tests))
 
-module _ (devices : ℕ) (cells : StoreTyping) (s : State) (typed : IsTypedBy devices cells s) (orderly : IsOrderly s) (i : ℕ) (term last : Tree) (member : at s.members i ≡ Some term) where
+module _ (signature : Signature) (cells : StoreTyping) (s : State) (typed : IsTypedBy signature cells s) (orderly : IsOrderly s) (i : ℕ) (term last : Tree) (member : at s.members i ≡ Some term) where
   -- a member is as it was
-  stays : at s.members i ≡ Some last → LocalRun devices cells term last
-  stays behind = let same : term ≡ last = cc in subst (LocalRun devices cells term) same (LocalRun.done term)
+  stays : at s.members i ≡ Some last → LocalRun signature cells term last
+  stays behind = let same : term ≡ last = cc in subst (LocalRun signature cells term) same (LocalRun.done term)
 
   -- after the effect of a row too
   still : (side : Side) (kind : StepKind) (redex part : Tree) (t : State) → Reduces s side kind redex part t → at t.members i ≡ at s.members i
@@ -38,10 +39,10 @@ module _ (devices : ℕ) (cells : StoreTyping) (s : State) (typed : IsTypedBy de
 
   -- a member's term was changed: it is another one, or made a step in its frames
   was_changed : (members : List (ℕ × Tree)) → at members i ≡ at s.members i → (j : ℕ) (frames : List Frame) (redex part : Tree) → at s.members j ≡ Some (plug_all frames redex)
-      → LocalStep devices cells (side_of frames) redex part → at (change members j (plug_all frames part)) i ≡ Some last → LocalRun devices cells term last
+      → LocalStep signature cells (side_of frames) redex part → at (change members j (plug_all frames part)) i ≡ Some last → LocalRun signature cells term last
   was_changed members same j frames redex part found step behind = by (equal_or_not j i)
     where
-      by : (j ≡ i) ⊎ (j ≡ i → ⊥) → LocalRun devices cells term last
+      by : (j ≡ i) ⊎ (j ≡ i → ⊥) → LocalRun signature cells term last
       by (inr apart) = stays (sym same ∙ sym (at-change_other members j i (plug_all frames part) apart) ∙ behind)
       by (inl is) =
           let here : at s.members i ≡ Some (plug_all frames redex) = ap (at s.members) (sym is) ∙ found in
@@ -50,22 +51,22 @@ module _ (devices : ℕ) (cells : StoreTyping) (s : State) (typed : IsTypedBy de
           let at_last : ◌≡◌ {A = Option Tree} (Some (plug_all frames part)) (Some last) =
           sym (at-change_same members j (plug_all frames part) there) ∙ ap (at (change members j (plug_all frames part))) is ∙ behind in
           let after : plug_all frames part ≡ last = cc in
-          subst (λ (z : Tree). LocalRun devices cells z last) before
-          (LocalRun.step frames redex part last step (subst (LocalRun devices cells (plug_all frames part)) after (LocalRun.done (plug_all frames part))))
+          subst (λ (z : Tree). LocalRun signature cells z last) before
+          (LocalRun.step frames redex part last step (subst (LocalRun signature cells (plug_all frames part)) after (LocalRun.done (plug_all frames part))))
 
-  stepped : (side : Side) (kind : StepKind) (j : ℕ) (t : State) → Steps s side kind j t → HasNewCellOf devices cells s kind j → at t.members i ≡ Some last → LocalRun devices cells term last
+  stepped : (side : Side) (kind : StepKind) (j : ℕ) (t : State) → Steps s side kind j t → HasNewCellOf signature cells s kind j → at t.members i ≡ Some last → LocalRun signature cells term last
   stepped side kind j t st has behind =
       was_changed st.after_effect.members (still side kind st.redex st.part st.after_effect st.reduces) j st.frames st.redex st.part st.found
-      (step_local devices cells s typed side kind j t st (makes_of devices cells s typed kind st.frames st.redex (has (plug_all st.frames st.redex) st.found)))
+      (step_local signature cells s typed side kind j t st (makes_of signature cells s typed kind st.frames st.redex (has (plug_all st.frames st.redex) st.found)))
       (ap (λ (z : State). at z.members i) (sym st.result) ∙ behind)
 
-  pub runs_locally : (label : Label) (t : State) → Rule s label t → HasNewCellAfter devices cells s label → at t.members i ≡ Some last → LocalRun devices cells term last
+  pub runs_locally : (label : Label) (t : State) → Rule s label t → HasNewCellAfter signature cells s label → at t.members i ≡ Some last → LocalRun signature cells term last
   runs_locally _ _ (Rule.activates j other idle there calm) has behind = stays behind
   runs_locally _ _ (Rule.steps j kind t is st) has behind = stepped Side.Protected kind j t st (has j is) behind
   runs_locally _ _ (Rule.leaves j other is there stands) has behind = stays behind
   runs_locally _ _ (Rule.ends j v is there) has behind = by (equal_or_not j i)
     where
-      by : (j ≡ i) ⊎ (j ≡ i → ⊥) → LocalRun devices cells term last
+      by : (j ≡ i) ⊎ (j ≡ i → ⊥) → LocalRun signature cells term last
       by (inr apart) = stays (sym (at-without_other s.members j i apart) ∙ behind)
       by (inl same) =
           let gone : at (without s.members j) i ≡ None = ap (at (without s.members j)) (sym same) ∙ at-without_same s.members j orderly.members_rise in
@@ -74,4 +75,4 @@ module _ (devices : ℕ) (cells : StoreTyping) (s : State) (typed : IsTypedBy de
   runs_locally _ _ (Rule.frees j kind t idle st) has behind = stepped Side.Unprotected kind j t st has behind
   runs_locally _ _ (Rule.closes j frames v idle there on) has behind =
       was_changed s.members refl j frames (Tree.Unprotected (Tree.Held v)) (Tree.Held v) there
-      (subst (λ (z : Side). LocalStep devices cells z (Tree.Unprotected (Tree.Held v)) (Tree.Held v)) (sym on) (LocalStep.closed v)) behind
+      (subst (λ (z : Side). LocalStep signature cells z (Tree.Unprotected (Tree.Held v)) (Tree.Held v)) (sym on) (LocalStep.closed v)) behind

@@ -3,6 +3,7 @@ use Rattle.std.proofs.Common.{◌≡◌, ℕ, Bool, true, false, ◌||◌, Some,
 use Rattle.std.proofs.lemmas.Bool.Decides.{nat_tests}
 use Rattle.std.specs.Prelude.{if◌then◌else◌, ◌==◌}
 use Rattle.ame_term.specs.Tree.{Typ, OwnName, Head, Val, Tree, Trees}
+use Rattle.ame_term.specs.Signature.{Signature}
 use Rattle.ame_term.specs.Scope.{Scope, bind}
 use Rattle.ame_term.specs.Substitute.{binds, substitute, substitute_all}
 use Rattle.ame_term.specs.HasType.{HasType, HasLast, HasValue, held, name, function, recursive, binding, sequence, choice, async, unprotected, one, two, last, more}
@@ -68,24 +69,24 @@ no_own head x b p e = only (head.param == x) b (rw p at e)
 with_name : (head : Head) (own : OwnName) (x : ℕ) (b : Bool) → head.own ≡ Some own → binds head x ≡ b → ((head.param == x) || (own.name == x)) ≡ b
 with_name head own x b p e = rw p at e
 
-module _ (devices : ℕ) (cells : StoreTyping) (x : ℕ) (t : Typ) (w : Val) (value : HasValue devices cells w t) where
-  put_in : (h : Scope) (q : Effect) (y : ℕ) (u : Typ) (b : Bool) → (if b then Some t else h y) ≡ Some u → HasType devices cells h q (if b then Tree.Held w else Tree.Var y) u
-  put_in h q y u true e = let same : t ≡ u = cc in held (subst (HasValue devices cells w) same value)
+module _ (signature : Signature) (cells : StoreTyping) (x : ℕ) (t : Typ) (w : Val) (value : HasValue signature cells w t) where
+  put_in : (h : Scope) (q : Effect) (y : ℕ) (u : Typ) (b : Bool) → (if b then Some t else h y) ≡ Some u → HasType signature cells h q (if b then Tree.Held w else Tree.Var y) u
+  put_in h q y u true e = let same : t ≡ u = cc in held (subst (HasValue signature cells w) same value)
   put_in h q y u false e = name e
 
-  bodies : (h : Scope) (q : Effect) (u : Typ) (b : Bool) (body changed : Tree) → (b ≡ true → HasType devices cells h q body u) → (b ≡ false → HasType devices cells h q changed u) →
-      HasType devices cells h q (if b then body else changed) u
+  bodies : (h : Scope) (q : Effect) (u : Typ) (b : Bool) (body changed : Tree) → (b ≡ true → HasType signature cells h q body u) → (b ≡ false → HasType signature cells h q changed u) →
+      HasType signature cells h q (if b then body else changed) u
   bodies h q u true body changed kept put = kept refl
   bodies h q u false body changed kept put = put refl
 
-  stays : {g : Scope} {q : Effect} {e : Tree} {u : Typ} → HasType devices cells g q e u → (h : Scope) → Within g h → HasType devices cells h q e u
-  stays {g} {q} a h w' = weaken devices cells cells (λ l cell e. e) a h w' q (inl refl)
+  stays : {g : Scope} {q : Effect} {e : Tree} {u : Typ} → HasType signature cells g q e u → (h : Scope) → Within g h → HasType signature cells h q e u
+  stays {g} {q} a h w' = weaken signature cells cells (λ l cell e. e) a h w' q (inl refl)
 
   mutual
     unfolding substitute substitute_all
 
     -- a term typed with the name, among others
-    pub substituted : {g : Scope} {q : Effect} {e : Tree} {u : Typ} → HasType devices cells g q e u → (h : Scope) → Within g (bind x t h) → HasType devices cells h q (substitute e x w) u
+    pub substituted : {g : Scope} {q : Effect} {e : Tree} {u : Typ} → HasType signature cells g q e u → (h : Scope) → Within g (bind x t h) → HasType signature cells h q (substitute e x w) u
     substituted (held v) h p = held v
     substituted (name {q = q} {x = y} {t = u} e) h p =
         put_in h q y u (y == x) (subst (λ (b : Bool). (if b then Some t else h y) ≡ Some u) (other_way x y) (p y u e))
@@ -119,11 +120,11 @@ module _ (devices : ℕ) (cells : StoreTyping) (x : ℕ) (t : Typ) (w : Val) (va
     substituted (one row a) h p = one row (substituted a h p)
     substituted (two row a b) h p = two row (substituted a h p) (substituted b h p)
 
-    pub substituted_last : {g : Scope} {q : Effect} {parts : Trees} {u : Typ} → HasLast devices cells g q parts u → (h : Scope) → Within g (bind x t h) → HasLast devices cells h q (substitute_all parts x w) u
+    pub substituted_last : {g : Scope} {q : Effect} {parts : Trees} {u : Typ} → HasLast signature cells g q parts u → (h : Scope) → Within g (bind x t h) → HasLast signature cells h q (substitute_all parts x w) u
     substituted_last (last a) h p = last (substituted a h p)
     substituted_last (more a b) h p = more (substituted a h p) (substituted_last b h p)
 
 -- a body with a name of the value's type, and no other
-pub put_for : (devices : ℕ) (cells : StoreTyping) (x : ℕ) (t : Typ) (w : Val) → HasValue devices cells w t → (h : Scope) {q : Effect} {e : Tree} {u : Typ} → HasType devices cells (bind x t h) q e u
-    → HasType devices cells h q (substitute e x w) u
-put_for devices cells x t w value h a = substituted devices cells x t w value a h (λ y s e. e)
+pub put_for : (signature : Signature) (cells : StoreTyping) (x : ℕ) (t : Typ) (w : Val) → HasValue signature cells w t → (h : Scope) {q : Effect} {e : Tree} {u : Typ} → HasType signature cells (bind x t h) q e u
+    → HasType signature cells h q (substitute e x w) u
+put_for signature cells x t w value h a = substituted signature cells x t w value a h (λ y s e. e)

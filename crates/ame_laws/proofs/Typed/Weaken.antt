@@ -2,6 +2,7 @@
 use Rattle.std.proofs.Common.{◌≡◌, ℕ, Bool, true, false, ◌⊎◌, Some, refl, subst, ◌∙◌, inl, inr}
 use Rattle.std.specs.Prelude.{if◌then◌else◌, ◌==◌}
 use Rattle.ame_term.specs.Tree.{Typ, Val, Tree, Trees}
+use Rattle.ame_term.specs.Signature.{Signature}
 use Rattle.ame_term.specs.Scope.{Scope, bind, unscoped}
 use Rattle.ame_term.specs.HasType.{HasType, HasLast, HasValue, HasUnary, HasBinary, code_of, held, name, function, recursive, binding, sequence, choice, async, unprotected, one, two, last, more, unit, bool, int, location, function_value, recursive_value, pair}
 use Rattle.ame_term.specs.declared.types.Sort.{Sort}
@@ -37,9 +38,9 @@ under_protected r (inl f) = f
 under_protected r (inr f) = cc
 
 -- what may stand under the effect that fits both may stand under each
-unary_either : {devices : ℕ} {op : Unary} {q : Effect} {t u : Typ} → HasUnary devices op q t u → q ≡ Effect.Either → (r : Effect) → HasUnary devices op r t u
+unary_either : {signature : Signature} {op : Unary} {q : Effect} {t u : Typ} → HasUnary signature op q t u → q ≡ Effect.Either → (r : Effect) → HasUnary signature op r t u
 unary_either HasUnary.negation e r = HasUnary.negation
-unary_either HasUnary.reference e r = HasUnary.reference
+unary_either (HasUnary.reference m) e r = HasUnary.reference m
 unary_either (HasUnary.get {s} k) e r = absurd (never_either s (k ∙ e))
 unary_either HasUnary.peek e r = cc
 unary_either HasUnary.block e r = cc
@@ -59,17 +60,17 @@ binary_either HasBinary.equal e r = HasBinary.equal
 binary_either (HasBinary.set {s} k) e r = absurd (never_either s (k ∙ e))
 binary_either HasBinary.pair e r = HasBinary.pair
 
-unary_fits : {devices : ℕ} {op : Unary} {q : Effect} {t u : Typ} → HasUnary devices op q t u → (r : Effect) → Fits q r → HasUnary devices op r t u
-unary_fits {devices} {op} {q} {t} {u} row r (inl e) = subst (λ (z : Effect). HasUnary devices op z t u) e row
+unary_fits : {signature : Signature} {op : Unary} {q : Effect} {t u : Typ} → HasUnary signature op q t u → (r : Effect) → Fits q r → HasUnary signature op r t u
+unary_fits {signature} {op} {q} {t} {u} row r (inl e) = subst (λ (z : Effect). HasUnary signature op z t u) e row
 unary_fits row r (inr e) = unary_either row e r
 
 binary_fits : {op : Binary} {q : Effect} {t u w : Typ} → HasBinary op q t u w → (r : Effect) → Fits q r → HasBinary op r t u w
 binary_fits {op} {q} {t} {u} {w} row r (inl e) = subst (λ (z : Effect). HasBinary op z t u w) e row
 binary_fits row r (inr e) = binary_either row e r
 
-module _ (devices : ℕ) (cells later : StoreTyping) (grows : Grows cells later) where
+module _ (signature : Signature) (cells later : StoreTyping) (grows : Grows cells later) where
   mutual
-    pub weaken : {g : Scope} {q : Effect} {e : Tree} {t : Typ} → HasType devices cells g q e t → (h : Scope) → Within g h → (r : Effect) → Fits q r → HasType devices later h r e t
+    pub weaken : {g : Scope} {q : Effect} {e : Tree} {t : Typ} → HasType signature cells g q e t → (h : Scope) → Within g h → (r : Effect) → Fits q r → HasType signature later h r e t
     weaken (held v) h w r f = held (weaken_value v)
     weaken (name {g} {q} {x} {t} e) h w r f = name (w x t e)
     weaken (function {g} {q} {head} p b) h w r f =
@@ -84,15 +85,15 @@ module _ (devices : ℕ) (cells later : StoreTyping) (grows : Grows cells later)
     weaken (choice a b c) h w r f = choice (weaken a h w r f) (weaken b h w r f) (weaken c h w r f)
     weaken (async a) h w r f = async (weaken a h w Effect.Protected (inl refl))
     weaken (unprotected {g} {e} {t} a) h w r f =
-        subst (λ (z : Effect). HasType devices later h z (Tree.Unprotected e) t) (under_protected r f) (unprotected (weaken a h w Effect.Unprotected (inl refl)))
+        subst (λ (z : Effect). HasType signature later h z (Tree.Unprotected e) t) (under_protected r f) (unprotected (weaken a h w Effect.Unprotected (inl refl)))
     weaken (one row a) h w r f = one (unary_fits row r f) (weaken a h w r f)
     weaken (two row a b) h w r f = two (binary_fits row r f) (weaken a h w r f) (weaken b h w r f)
 
-    pub weaken_last : {g : Scope} {q : Effect} {parts : Trees} {t : Typ} → HasLast devices cells g q parts t → (h : Scope) → Within g h → (r : Effect) → Fits q r → HasLast devices later h r parts t
+    pub weaken_last : {g : Scope} {q : Effect} {parts : Trees} {t : Typ} → HasLast signature cells g q parts t → (h : Scope) → Within g h → (r : Effect) → Fits q r → HasLast signature later h r parts t
     weaken_last (last a) h w r f = last (weaken a h w r f)
     weaken_last (more a b) h w r f = more (weaken a h w r f) (weaken_last b h w r f)
 
-    pub weaken_value : {v : Val} {t : Typ} → HasValue devices cells v t → HasValue devices later v t
+    pub weaken_value : {v : Val} {t : Typ} → HasValue signature cells v t → HasValue signature later v t
     weaken_value unit = unit
     weaken_value bool = bool
     weaken_value int = int
@@ -105,5 +106,5 @@ module _ (devices : ℕ) (cells later : StoreTyping) (grows : Grows cells later)
     weaken_value (pair a b) = pair (weaken_value a) (weaken_value b)
 
   -- the same names and effect
-  pub weaken_cells : {g : Scope} {q : Effect} {e : Tree} {t : Typ} → HasType devices cells g q e t → HasType devices later g q e t
+  pub weaken_cells : {g : Scope} {q : Effect} {e : Tree} {t : Typ} → HasType signature cells g q e t → HasType signature later g q e t
   weaken_cells {g} {q} a = weaken a g (within_itself g) q (inl refl)

@@ -1,6 +1,6 @@
 -- Typed fragments and values, for a number of devices and the types of locations.
-use Rattle.std.specs.Prelude.{ℕ}
 use Rattle.ame_term.specs.Tree.{Typ, Val, Tree}
+use Rattle.ame_term.specs.Signature.{Signature}
 use Rattle.ame_term.specs.Scope.{unscoped}
 use Rattle.ame_term.specs.Frame.{Side}
 use Rattle.ame_term.specs.HasType.{HasType, HasValue}
@@ -9,12 +9,12 @@ use Rattle.ame_laws.specs.Typed.StoreTyping.{StoreTyping}
 use Rattle.ame_laws.specs.Typed.WellFormed.{IsWellFormed, IsWellFormedValue}
 
 -- a closed term of a type, under an effect
-abbrev pub IsFragment : ℕ → StoreTyping → Effect → Tree → Typ → Type 0
-IsFragment devices cells q e t = HasType devices cells unscoped q e t × IsWellFormed e
+abbrev pub IsFragment : Signature → StoreTyping → Effect → Tree → Typ → Type 0
+IsFragment signature cells q e t = HasType signature cells unscoped q e t × IsWellFormed e
 
 -- a value of a type
-abbrev pub IsValueOf : ℕ → StoreTyping → Val → Typ → Type 0
-IsValueOf devices cells v t = HasValue devices cells v t × IsWellFormedValue v
+abbrev pub IsValueOf : Signature → StoreTyping → Val → Typ → Type 0
+IsValueOf signature cells v t = HasValue signature cells v t × IsWellFormedValue v
 
 -- the effect of a part on a side of `unprotected`, in a term under an effect
 abbrev pub effect_at : Side → Effect → Effect

@@ -9,6 +9,7 @@ use Rattle.ame_term.specs.State.{State, loaded, performed, performed_on, reduced
 use Rattle.ame_term.specs.declared.semantics.StepKind.{StepKind}
 use Rattle.ame_term.specs.declared.types.Loc.{Loc}
 use Rattle.ame_term.specs.declared.types.Sort.{Sort}
+use Rattle.ame_term.specs.declared.types.TyNo.{TyNo}
 use Rattle.ame_laws.proofs.MapLemmas.{at-put, at-change_same, at-change_other, is_some-put}
 use Rattle.ame_journal.specs.Labels.{fresh_of}
 use Rattle.ame_journal.specs.Replay.{or_else}
@@ -24,7 +25,7 @@ module _ (store : List (ℕ × Val)) where
   taken-agrees (Some w) l v p a = record { seen = a.seen; own = a.own.1; made = a.made }
 
   feeds-agrees : (p : LocalState) (side : Side) (act : Act) (v : Val) (part : Tree) (q : LocalState) → Feeds p side act v part q → AgreesWith store q → AgreesWith store p
-  feeds-agrees p _ _ _ _ _ (Feeds.allocates side sort v l) a = record { seen = a.seen; own = a.own; made = a.made.1 }
+  feeds-agrees p _ _ _ _ _ (Feeds.allocates side sort number v l) a = record { seen = a.seen; own = a.own; made = a.made.1 }
   feeds-agrees p _ _ _ _ _ (Feeds.reads side l v) a = taken-agrees (at p.sets l) l v p a
   feeds-agrees p _ _ _ _ _ (Feeds.peeks l v) a = taken-agrees (at p.sets l) l v p a
   feeds-agrees p _ _ _ _ _ _ a = record { seen = a.seen; own = a.own; made = a.made }
@@ -187,9 +188,9 @@ module _ (s : State) (i : ℕ) (p : LocalState) (t : State) (h : IsAfterRun s i 
   }
 
   -- a new location is in no store
-  pub allocates : (side : Side) (l : Loc) (sort : Sort) (v : Val) → at s.store l.0 ≡ None → at p.sets l.0 ≡ None
-      → IsPerformed s i p t side (Act.Allocates sort v) (Tree.Held (Val.Loc l.0)) (made_at l.0 v p) (StepKind.Alloc l) (record t { store = put t.store l.0 v })
-  allocates side l sort v unstored unset = record {
+  pub allocates : (side : Side) (l : Loc) (sort : Sort) (number : TyNo) (v : Val) → at s.store l.0 ≡ None → at p.sets l.0 ≡ None
+      → IsPerformed s i p t side (Act.Allocates sort number v) (Tree.Held (Val.Loc l.0)) (made_at l.0 v p) (StepKind.Alloc l) (record t { store = put t.store l.0 v })
+  allocates side l sort number v unstored unset = record {
     can = refl;
     made =
         let free : at t.store l.0 ≡ None = h.stored l.0 ∙ ap (λ (o : Option Val). or_else o (at s.store l.0)) unset ∙ unstored in
@@ -251,12 +252,12 @@ module _ (s : State) (i : ℕ) (p : LocalState) (t : State) (h : IsAfterRun s i 
 
   feeds-performed : (side : Side) (act : Act) (v : Val) (part : Tree) (q : LocalState) → Feeds p side act v part q → AgreesWith s.store q
       → IsPerformedSomehow s i p t side act part q
-  feeds-performed _ _ _ _ _ (Feeds.allocates side sort v l) a =
+  feeds-performed _ _ _ _ _ (Feeds.allocates side sort number v l) a =
       let new = a.made.0 in
       record {
         kind = StepKind.Alloc (record { 0 = l });
         behind = record t { store = put t.store l v };
-        so = allocates side (record { 0 = l }) sort v new.0 new.1;
+        so = allocates side (record { 0 = l }) sort number v new.0 new.1;
       }
   feeds-performed _ _ _ _ _ (Feeds.reads side l v) a = record { kind = StepKind.Read; behind = t; so = reads side l v a }
   feeds-performed _ _ _ _ _ (Feeds.peeks l v) a = record { kind = StepKind.Peek; behind = t; so = peeks l v a }

@@ -9,6 +9,7 @@ use Rattle.ame_term.specs.State.{State, performed, rewritten, reduce}
 use Rattle.ame_term.specs.declared.semantics.StepKind.{StepKind}
 use Rattle.ame_term.specs.declared.types.Loc.{Loc}
 use Rattle.ame_term.specs.declared.types.Sort.{Sort}
+use Rattle.ame_term.specs.declared.types.TyNo.{TyNo}
 use Rattle.ame_laws.proofs.MapLemmas.{at-change_same, at-change_other}
 use Rattle.ame_journal.specs.Labels.{fresh_of}
 use Rattle.ame_journal.specs.Replay.{or_else, redex_act}
@@ -51,20 +52,20 @@ module _ (s : State) (i : ℕ) (p : LocalState) (t : State) (h : IsAfterRun s i 
       let same : v ≡ w = cc in
       record { seen = a.seen; own = (same, a.own); made = a.made }
 
-  allocated-so : (side : Side) (sort : Sort) (v : Val) (l : Loc) (made : Tree × State) (o : Option Val) → at t.store l.0 ≡ o
+  allocated-so : (side : Side) (sort : Sort) (number : TyNo) (v : Val) (l : Loc) (made : Tree × State) (o : Option Val) → at t.store l.0 ≡ o
       → (if is_some o then None else Some (Tree.Held (Val.Loc l.0), record t { store = put t.store l.0 v })) ≡ Some made
-      → IsActed s i p t side (Act.Allocates sort v) (StepKind.Alloc l) made
-  allocated-so side sort v l made None free e =
+      → IsActed s i p t side (Act.Allocates sort number v) (StepKind.Alloc l) made
+  allocated-so side sort number v l made None free e =
       let both = none-both (at p.sets l.0) (at s.store l.0) (sym (h.stored l.0) ∙ free) in
-      its side (Act.Allocates sort v) (StepKind.Alloc l) (Tree.Held (Val.Loc l.0), record t { store = put t.store l.0 v }) made e (record {
+      its side (Act.Allocates sort number v) (StepKind.Alloc l) (Tree.Held (Val.Loc l.0), record t { store = put t.store l.0 v }) made e (record {
         inputs = Val.Loc l.0 ∷ [];
         last = made_at l.0 v (with_inputs [] p);
         acts = refl;
         used = refl;
         agrees = record { seen = a.seen; own = a.own; made = ((both.1, both.0), a.made) };
-        so = allocates s i (with_inputs [] p) t unfed-after there resting side l sort v both.1 both.0;
+        so = allocates s i (with_inputs [] p) t unfed-after there resting side l sort number v both.1 both.0;
       })
-  allocated-so side sort v l made (Some w) free e = cc
+  allocated-so side sort number v l made (Some w) free e = cc
 
   read-so : (side : Side) (l : ℕ) (made : Tree × State) (o : Option Val) → at t.store l ≡ o → option_map {U = Tree × State} (λ v. (Tree.Held v, t)) o ≡ Some made
       → IsActed s i p t side (Act.Reads l) StepKind.Read made
@@ -104,8 +105,8 @@ module _ (s : State) (i : ℕ) (p : LocalState) (t : State) (h : IsAfterRun s i 
     so = becomes s i (with_inputs [] p) t unfed-after there resting side term;
   })
   legal side (Act.Becomes term) _ made can e = cc
-  legal side (Act.Allocates sort v) (StepKind.Alloc l) made can e = allocated-so side sort v l made (at t.store l.0) refl e
-  legal side (Act.Allocates sort v) _ made can e = cc
+  legal side (Act.Allocates sort number v) (StepKind.Alloc l) made can e = allocated-so side sort number v l made (at t.store l.0) refl e
+  legal side (Act.Allocates sort number v) _ made can e = cc
   legal side (Act.Reads l) StepKind.Read made can e = read-so side l made (at t.store l) refl e
   legal side (Act.Reads l) _ made can e = cc
   legal Side.Unprotected (Act.Peeks l) StepKind.Peek made can e = peek-so l made (at t.store l) refl e

@@ -7,12 +7,13 @@ use Rattle.ame_term.specs.Context.{Focus, focus, fill}
 use Rattle.ame_term.specs.Act.{Act, act_of}
 use Rattle.ame_term.specs.Maps.{at}
 use Rattle.ame_term.specs.declared.types.Sort.{Sort}
+use Rattle.ame_term.specs.declared.types.TyNo.{TyNo}
 use Rattle.ame_journal.specs.Replay.{or_else}
 use Rattle.ame_machine.specs.Run.Local.{LocalState, took, taken_where, set_at, made_at, spawned, printed, acts_alone, fed, fed_next, acted, acted_at, refilled_in, one_step, goes, given_more}
 
 -- What an act with its input makes of a run.
 pub data Feeds (p : LocalState) : Side → Act → Val → Tree → LocalState → Type 0 where
-  allocates : (side : Side) (sort : Sort) (v : Val) (l : ℕ) → Feeds p side (Act.Allocates sort v) (Val.Loc l) (Tree.Held (Val.Loc l)) (made_at l v p)
+  allocates : (side : Side) (sort : Sort) (number : TyNo) (v : Val) (l : ℕ) → Feeds p side (Act.Allocates sort number v) (Val.Loc l) (Tree.Held (Val.Loc l)) (made_at l v p)
   reads : (side : Side) (l : ℕ) (v : Val) → Feeds p side (Act.Reads l) v (Tree.Held v) (took l v p)
   peeks : (l : ℕ) (v : Val) → Feeds p Side.Unprotected (Act.Peeks l) v (Tree.Held v) (took l v p)
   writes : (side : Side) (l : ℕ) (v : Val) → Feeds p side (Act.Writes l v) Val.Unit unit_tree (set_at l v p)
@@ -38,7 +39,7 @@ HasActs p side act None = Unit {0}
 HasActs p side act (Some made) = Acts p side act made.0 made.1
 
 has_feeds : (p : LocalState) (side : Side) (act : Act) (v : Val) → HasFeeds p side act v (fed act side v p)
-has_feeds p side (Act.Allocates sort v) (Val.Loc l) = Feeds.allocates side sort v l
+has_feeds p side (Act.Allocates sort number v) (Val.Loc l) = Feeds.allocates side sort number v l
 has_feeds p side (Act.Reads l) v = Feeds.reads side l v
 has_feeds p Side.Unprotected (Act.Peeks l) v = Feeds.peeks l v
 has_feeds p side (Act.Writes l v) Val.Unit = Feeds.writes side l v
@@ -79,7 +80,7 @@ taken-more (Some w) l v p more = refl
 
 feeds-more : (p : LocalState) (side : Side) (act : Act) (v : Val) (part : Tree) (q : LocalState) (more : List Val) → Feeds p side act v part q
     → fed act side v (given_more more p) ≡ Some (part, given_more more q)
-feeds-more p _ _ _ _ _ more (Feeds.allocates side sort v l) = refl
+feeds-more p _ _ _ _ _ more (Feeds.allocates side sort number v l) = refl
 feeds-more p _ _ _ _ _ more (Feeds.reads side l v) = ap (λ (q : LocalState). Some (Tree.Held v, q)) (taken-more (at p.sets l) l v p more)
 feeds-more p _ _ _ _ _ more (Feeds.peeks l v) = ap (λ (q : LocalState). Some (Tree.Held v, q)) (taken-more (at p.sets l) l v p more)
 feeds-more p _ _ _ _ _ more (Feeds.writes side l v) = refl
@@ -90,7 +91,7 @@ feeds-more p _ _ _ _ _ more (Feeds.calls device n answer) = refl
 -- an act that takes an input isn't made alone
 pub feeds-alone : (p : LocalState) (side : Side) (act : Act) (v : Val) (part : Tree) (q : LocalState) → Feeds p side act v part q
     → (r : LocalState) → acts_alone act side r ≡ None
-feeds-alone p _ _ _ _ _ (Feeds.allocates side sort v l) r = refl
+feeds-alone p _ _ _ _ _ (Feeds.allocates side sort number v l) r = refl
 feeds-alone p _ _ _ _ _ (Feeds.reads side l v) r = refl
 feeds-alone p _ _ _ _ _ (Feeds.peeks l v) r = refl
 feeds-alone p _ _ _ _ _ (Feeds.writes side l v) r = refl

@@ -2,6 +2,7 @@
 use Rattle.std.specs.Prelude.{◌≡◌, ℕ, List, [], ◌∷◌, Some}
 use Rattle.std.specs.List.{AllByRecursion}
 use Rattle.ame_term.specs.Tree.{Typ, Val, Tree}
+use Rattle.ame_term.specs.Signature.{Signature}
 use Rattle.ame_term.specs.Frame.{Side}
 use Rattle.ame_term.specs.Context.{Focus, focus}
 use Rattle.ame_term.specs.Act.{Act, act_of}
@@ -13,13 +14,13 @@ use Rattle.ame_laws.specs.Typed.Fragment.{IsFragment}
 use Rattle.ame_laws.specs.Typed.TypedState.{IsStored, IsMember}
 use Rattle.ame_machine.specs.Run.Local.{LocalState, local}
 
-module _ (devices : ℕ) (cells : StoreTyping) where
+module _ (signature : Signature) (cells : StoreTyping) where
   -- A value is fit for an act that is fed it: what is taken from a location is of its type, and a new
   -- location has the sort and the type of what is set there. All else is fit.
   abbrev pub IsFitFor : Act → Val → Type 0
-  IsFitFor (Act.Allocates sort v) (Val.Loc l) = (content : Typ) × (cells l ≡ Some (sort, content)) × HasValue devices cells v content
-  IsFitFor (Act.Reads l) v = IsStored devices cells l v
-  IsFitFor (Act.Peeks l) v = IsStored devices cells l v
+  IsFitFor (Act.Allocates sort number v) (Val.Loc l) = (content : Typ) × (cells l ≡ Some (sort, content)) × HasValue signature cells v content
+  IsFitFor (Act.Reads l) v = IsStored signature cells l v
+  IsFitFor (Act.Peeks l) v = IsStored signature cells l v
   IsFitFor _ v = Unit {0}
 
   -- the next input of a run, if it has one, is fit for the act of its redex
@@ -30,9 +31,9 @@ module _ (devices : ℕ) (cells : StoreTyping) where
   -- A place of a run is typed: its term has the type, what it set is of its location's type, and its new
   -- members are typed.
   pub record IsTypedPlace (t : Typ) (p : LocalState) : Type 0 where
-    pub fragment : IsFragment devices cells Effect.Protected p.term t
-    pub stored : (l : ℕ) (v : Val) → at p.sets l ≡ Some v → IsStored devices cells l v
-    pub members : AllByRecursion (λ body. IsMember devices cells body) p.spawns
+    pub fragment : IsFragment signature cells Effect.Protected p.term t
+    pub stored : (l : ℕ) (v : Val) → at p.sets l ≡ Some v → IsStored signature cells l v
+    pub members : AllByRecursion (λ body. IsMember signature cells body) p.spawns
 
   -- each place of a run that has used all inputs is typed
   abbrev pub IsTypedThroughout : Side → Tree → List Val → Typ → Type 0

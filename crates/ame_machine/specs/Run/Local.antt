@@ -71,7 +71,7 @@ acts_alone _ _ p = None
 -- An act with its input: a value that is taken, a new location, an answer, or the unit, by which it is told
 -- that a write, a print or a new member was accepted.
 abbrev pub fed : Act → Side → Val → LocalState → Option (Tree × LocalState)
-fed (Act.Allocates sort v) side (Val.Loc l) p = Some (Tree.Held (Val.Loc l), made_at l v p)
+fed (Act.Allocates sort number v) side (Val.Loc l) p = Some (Tree.Held (Val.Loc l), made_at l v p)
 fed (Act.Reads l) side v p = Some (Tree.Held v, took l v p)
 fed (Act.Peeks l) Side.Unprotected v p = Some (Tree.Held v, took l v p)
 fed (Act.Writes l v) side Val.Unit p = Some (unit_tree, set_at l v p)

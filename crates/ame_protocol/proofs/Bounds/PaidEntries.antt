@@ -157,11 +157,11 @@ module _ (parts : Parts) (s : Simulates parts) (a : HasPaidTurns parts) (seat : 
 visit-rows : (parts : Parts) (number n : ℕ) (p : LocalState) (inside : Bool) (memory : MemoryView Val) → IsVisit parts number n p inside memory
     → memory.rows ≡ parts.memory.rows
 visit-rows parts i _ _ _ _ (IsVisit.stepped n p some steps) = refl
-visit-rows parts i _ _ _ _ (IsVisit.acted n p act v made ty steps stands given fed) = by act
+visit-rows parts i _ _ _ _ (IsVisit.acted n p act v made steps stands given fed) = by act
   where
-    by : (act : Act) → (memory_after ty act parts.memory).rows ≡ parts.memory.rows
+    by : (act : Act) → (memory_after act parts.memory).rows ≡ parts.memory.rows
     by (Act.Writes l w) = refl
-    by (Act.Allocates sort w) = refl
+    by (Act.Allocates sort ty w) = refl
     by _ = refl
 visit-rows parts i _ _ _ _ (IsVisit.closed n p v steps value) = refl
 

@@ -186,7 +186,7 @@ module _ (parts : Parts) (s : Simulates parts) (a : HasPaidTurns parts) (going :
         (later-run parts.memory seat l v in_rows (write-there parts s seat attempt task n p l v comes).0 own start)
         (one-more row.inputs Val.Unit) (omega arith) comes.place
 
-    pub allocation-paid : (sort : Sort) (ty : TyNo) (v : Val) → ComesTo run (Act.Allocates sort v) n p → HasPaidTurns (has_allocated seat sort ty v parts)
+    pub allocation-paid : (sort : Sort) (ty : TyNo) (v : Val) → ComesTo run (Act.Allocates sort ty v) n p → HasPaidTurns (has_allocated seat sort ty v parts)
     allocation-paid sort ty v comes =
         let place : Val = Val.Loc (length parts.memory.cells) in
         let made : Undo Val = Made (next_place parts.memory.cells) in

@@ -1,6 +1,7 @@
 -- Reads, writes and allocations of a seat that runs protected code.
 use Rattle.std.proofs.Common.{◌≡◌, ℕ, ◌+◌, ◌*◌, ◌<◌, ◌≤◌, ◌⊎◌, inl, inr, Option, Some, true, false, length, length-set, refl, sym, ap, ◌∙◌, subst, arith}
 use Rattle.ame_term.specs.Tree.{Typ, Val, Tree, unit_tree}
+use Rattle.ame_term.specs.Signature.{MayStore}
 use Rattle.ame_term.specs.Act.{Act}
 use Rattle.ame_term.specs.declared.types.Loc.{Loc}
 use Rattle.ame_term.specs.declared.types.Sort.{Sort}
@@ -57,8 +58,8 @@ module _ (parts : Parts) (s : Simulates parts) (seat : ℕ) (attempt : Attempt) 
 
   -- the row after an event that leaves the task
   runs-acted : (memory : MemoryView Val) (turns : ℕ) (types : StoreTyping) (next : SeatRun) → parts.turns ≤ turns
-      → logged_run (term_at parts.pool attempt.tried.number) (row_at memory.rows seat) ≡ next → IsSomewhere next → Owes (heap_of memory) seat next → IsTypedRun parts.devices types next
-      → IsScoped parts.devices types (heap_of memory) seat next → MeetsTask (acted memory parts.tasks turns parts) types seat (task_at parts.tasks seat)
+      → logged_run (term_at parts.pool attempt.tried.number) (row_at memory.rows seat) ≡ next → IsSomewhere next → Owes (heap_of memory) seat next → IsTypedRun parts.signature types next
+      → IsScoped parts.signature types (heap_of memory) seat next → MeetsTask (acted memory parts.tasks turns parts) types seat (task_at parts.tasks seat)
   runs-acted memory turns types next later is there owes typed scoped =
       let new = acted memory parts.tasks turns parts in
       let h : RunsProtected new types seat attempt = record {
@@ -66,8 +67,8 @@ module _ (parts : Parts) (s : Simulates parts) (seat : ℕ) (attempt : Attempt) 
         outside = runs.outside;
         somewhere = subst IsSomewhere (sym is) there;
         owes = subst (Owes (heap_of memory) seat) (sym is) owes;
-        typed = subst (IsTypedRun parts.devices types) (sym is) typed;
-        scoped = subst (IsScoped parts.devices types (heap_of memory) seat) (sym is) scoped;
+        typed = subst (IsTypedRun parts.signature types) (sym is) typed;
+        scoped = subst (IsScoped parts.signature types (heap_of memory) seat) (sym is) scoped;
       } in
       subst (MeetsTask new types seat) (sym task) h
 
@@ -76,18 +77,18 @@ module _ (parts : Parts) (s : Simulates parts) (seat : ℕ) (attempt : Attempt) 
     later_turns = parts.turns + 1
 
     pub read-there : (l : Loc) → ComesTo run (Act.Reads l.0) n p
-        → IsCell heap l.0 × ((cell_at heap l.0).sort ≡ Sort.Protected) × IsStored parts.devices s.types l.0 (cell_at heap l.0).value
-    read-there l comes = read-typed parts.devices s.types heap s.typed.heap run runs.typed n p l.0 comes
+        → IsCell heap l.0 × ((cell_at heap l.0).sort ≡ Sort.Protected) × IsStored parts.signature s.types l.0 (cell_at heap l.0).value
+    read-there l comes = read-typed parts.signature s.types heap s.typed.heap run runs.typed n p l.0 comes
 
     pub write-there : (l : Loc) (v : Val) → ComesTo run (Act.Writes l.0 v) n p
-        → IsCell heap l.0 × ((cell_at heap l.0).sort ≡ Sort.Protected) × IsStored parts.devices s.types l.0 v
-    write-there l v comes = write-typed parts.devices s.types heap s.typed.heap run runs.typed n p l.0 v comes
+        → IsCell heap l.0 × ((cell_at heap l.0).sort ≡ Sort.Protected) × IsStored parts.signature s.types l.0 v
+    write-there l v comes = write-typed parts.signature s.types heap s.typed.heap run runs.typed n p l.0 v comes
 
     module _ (left : parts.turns < parts.limits.turns) (l : Loc) (comes : ComesTo run (Act.Reads l.0) n p) where
       abbrev cell : Cell Val
       cell = cell_at heap l.0
 
-      is_there : IsCell heap l.0 × (cell.sort ≡ Sort.Protected) × IsStored parts.devices s.types l.0 cell.value
+      is_there : IsCell heap l.0 × (cell.sort ≡ Sort.Protected) × IsStored parts.signature s.types l.0 cell.value
       is_there = read-there l comes
 
       abbrev read_memory : MemoryView Val
@@ -100,7 +101,7 @@ module _ (parts : Parts) (s : Simulates parts) (seat : ℕ) (attempt : Attempt) 
       stands-on : IsSomewhere (given_one cell.value run)
       stands-on = somewhere-on run (Act.Reads l.0) n p cell.value (Tree.Held cell.value, took l.0 cell.value p) comes refl
 
-      outside_typed : IsTypedRun parts.devices s.types (given_one cell.value run) → IsTypedRun parts.devices s.types (given_outside l cell run)
+      outside_typed : IsTypedRun parts.signature s.types (given_one cell.value run) → IsTypedRun parts.signature s.types (given_outside l cell run)
       outside_typed h = record { places = h.places; undos = h.undos }
 
       read-runs : IsOwnedBy seat cell ⊎ (IsOwnedBy seat cell → ⊥) → MeetsTask (acted read_memory parts.tasks later_turns parts) s.types seat (task_at parts.tasks seat)
@@ -108,17 +109,17 @@ module _ (parts : Parts) (s : Simulates parts) (seat : ℕ) (attempt : Attempt) 
           runs-acted read_memory later_turns s.types (given_one cell.value run) (omega arith) (read-own parts.memory seat within l is_there.0 own (term_at parts.pool attempt.tried.number))
           stands-on
           (subst (λ (h : Heap). Owes h seat (given_one cell.value run)) (sym same) (own_read heap seat run runs.owes l.0 n p comes own))
-          (run-read parts.devices s.types heap s.typed.heap run runs.typed n p l.0 comes)
-          (subst (λ (h : Heap). IsScoped parts.devices s.types h seat (given_one cell.value run)) (sym same)
-          (scoped-own parts.devices s.types heap seat run s.r.state l.0 n p comes runs.owes.given own runs.scoped))
+          (run-read parts.signature s.types heap s.typed.heap run runs.typed n p l.0 comes)
+          (subst (λ (h : Heap). IsScoped parts.signature s.types h seat (given_one cell.value run)) (sym same)
+          (scoped-own parts.signature s.types heap seat run s.r.state l.0 n p comes runs.owes.given own runs.scoped))
       read-runs (inr apart) =
           runs-acted read_memory later_turns s.types (given_outside l cell run) (omega arith) (read-outside parts.memory seat within l is_there.0 apart (term_at parts.pool attempt.tried.number))
           (record { steps = stands-on.steps; place = stands-on.place; used = record { ran = stands-on.used.ran; used = stands-on.used.used } })
           (subst (λ (h : Heap). Owes h seat (given_outside l cell run)) (sym same)
           (outside heap seat run runs.owes (memory-committed parts.memory) l n p comes is_there.0 is_there.1 apart))
-          (outside_typed (run-read parts.devices s.types heap s.typed.heap run runs.typed n p l.0 comes))
-          (subst (λ (h : Heap). IsScoped parts.devices s.types h seat (given_outside l cell run)) (sym same)
-          (scoped-outside parts.devices s.types heap seat run s.r.state s.typed.now s.stands.store (memory-committed parts.memory) l n p comes apart runs.scoped))
+          (outside_typed (run-read parts.signature s.types heap s.typed.heap run runs.typed n p l.0 comes))
+          (subst (λ (h : Heap). IsScoped parts.signature s.types h seat (given_outside l cell run)) (sym same)
+          (scoped-outside parts.signature s.types heap seat run s.r.state s.typed.now s.stands.store (memory-committed parts.memory) l n p comes apart runs.scoped))
 
       read-acts : Acts parts s seat read_memory parts.tasks later_turns
       read-acts = record {
@@ -138,7 +139,7 @@ module _ (parts : Parts) (s : Simulates parts) (seat : ℕ) (attempt : Attempt) 
         tasks_stay = λ other apart. refl;
         member = refl;
         task_count = refl;
-        heap = subst (IsTypedHeap parts.devices s.types) (sym same) s.typed.heap;
+        heap = subst (IsTypedHeap parts.signature s.types) (sym same) s.typed.heap;
         shared = s.typed.shared;
         numbers = λ m. few-later parts.turns later_turns (cell_at heap m) (omega arith) (s.bounded.numbers m);
         cells = let h = s.bounded.cells in omega arith;
@@ -152,16 +153,17 @@ module _ (parts : Parts) (s : Simulates parts) (seat : ℕ) (attempt : Attempt) 
       abbrev written_cell : Cell Val
       written_cell = cell_at heap l.0
 
-      can_write : IsCell heap l.0 × (written_cell.sort ≡ Sort.Protected) × IsStored parts.devices s.types l.0 v
+      can_write : IsCell heap l.0 × (written_cell.sort ≡ Sort.Protected) × IsStored parts.signature s.types l.0 v
       can_write = write-there l v comes
 
       abbrev wrote : MemoryView Val
       wrote = written_by seat l v Val.Unit parts.memory
 
-      write-acts : (new_cell : Cell Val) → BecomesAt heap (heap_of wrote) l.0 new_cell → new_cell.sort ≡ written_cell.sort → IsStored parts.devices s.types l.0 new_cell.value
+      write-acts : (new_cell : Cell Val) → BecomesAt heap (heap_of wrote) l.0 new_cell → new_cell.sort ≡ written_cell.sort → new_cell.ty ≡ written_cell.ty
+          → IsStored parts.signature s.types l.0 new_cell.value
           → HasFewChanges later_turns new_cell → ((other : ℕ) → (other ≡ seat → ⊥) → IsFramed other heap (heap_of wrote))
           → MeetsTask (acted wrote parts.tasks later_turns parts) s.types seat (task_at parts.tasks seat) → Acts parts s seat wrote parts.tasks later_turns
-      write-acts new_cell b sort stored few framed own = record {
+      write-acts new_cell b sort number stored few framed own = record {
         types = s.types;
         grows = λ m c e. e;
         later = omega arith;
@@ -174,7 +176,7 @@ module _ (parts : Parts) (s : Simulates parts) (seat : ℕ) (attempt : Attempt) 
         tasks_stay = λ other apart. refl;
         member = refl;
         task_count = refl;
-        heap = heap-stays parts.devices s.types heap (heap_of wrote) l.0 new_cell s.typed.heap b (write-count parts.memory seat l v) sort stored;
+        heap = heap-stays parts.signature s.types heap (heap_of wrote) l.0 new_cell s.typed.heap b (write-count parts.memory seat l v) sort number stored;
         shared =
             shared-one parts s wrote l.0 new_cell b
             (λ live its. absurd (let clash : Sort.Protected ≡ Sort.Unprotected = sym (sort ∙ can_write.1) ∙ its in cc));
@@ -192,13 +194,13 @@ module _ (parts : Parts) (s : Simulates parts) (seat : ℕ) (attempt : Attempt) 
           let k = write-committed parts.memory seat l v within can_write.0 s.consistent in
           let next = given_undo Val.Unit (Wrote l written_cell.number written_cell.value) run in
           act parts s seat wrote parts.tasks later_turns
-          (write-acts (taken_by seat v written_cell) b refl can_write.2 (few-taken parts.turns seat v written_cell free (s.bounded.numbers l.0))
+          (write-acts (taken_by seat v written_cell) b refl refl can_write.2 (few-taken parts.turns seat v written_cell free (s.bounded.numbers l.0))
           (λ other apart. taken-framed other seat (λ e. apart (sym e)) heap (heap_of wrote) l.0 k v free b)
           (runs-acted wrote later_turns s.types next (omega arith) (first-run parts.memory seat l v within can_write.0 free (term_at parts.pool attempt.tried.number))
           (record { steps = stands-written.steps; place = stands-written.place; used = record { ran = stands-written.used.ran; used = stands-written.used.used } })
           (first_write heap (heap_of wrote) seat run runs.owes l v n p (memory-committed parts.memory) comes can_write.0 free b k)
-          (run-first parts.devices s.types heap s.typed.heap run runs.typed n p l written_cell.number v comes)
-          (scoped-first parts.devices s.types s.types heap (heap_of wrote) seat run (λ m c e. e) runs.owes.notes runs.scoped l.0 v n p comes free b)))
+          (run-first parts.signature s.types heap s.typed.heap run runs.typed n p l written_cell.number v comes)
+          (scoped-first parts.signature s.types s.types heap (heap_of wrote) seat run (λ m c e. e) runs.owes.notes runs.scoped l.0 v n p comes free b)))
 
       pub write-later_stands : IsOwnedBy seat written_cell → Simulates (has_written seat l v parts)
       write-later_stands own =
@@ -206,15 +208,15 @@ module _ (parts : Parts) (s : Simulates parts) (seat : ℕ) (attempt : Attempt) 
           let k = write-committed parts.memory seat l v within can_write.0 s.consistent in
           let cell : Cell Val = record written_cell { value = v } in
           act parts s seat wrote parts.tasks later_turns
-          (write-acts cell b refl can_write.2 (few-later parts.turns later_turns written_cell (omega arith) (s.bounded.numbers l.0))
+          (write-acts cell b refl refl can_write.2 (few-later parts.turns later_turns written_cell (omega arith) (s.bounded.numbers l.0))
           (λ other apart. again-framed other seat (λ e. apart (sym e)) heap (heap_of wrote) l.0 k v own b)
           (runs-acted wrote later_turns s.types (given_one Val.Unit run) (omega arith) (later-run parts.memory seat l v within can_write.0 own (term_at parts.pool attempt.tried.number))
           stands-written
           (second_write heap (heap_of wrote) seat run runs.owes l v n p comes own b k)
-          (run-write parts.devices s.types heap s.typed.heap run runs.typed n p l.0 v comes)
-          (scoped-later parts.devices s.types s.types heap (heap_of wrote) seat run (λ m c e. e) runs.owes.notes runs.scoped l.0 v n p comes b)))
+          (run-write parts.signature s.types heap s.typed.heap run runs.typed n p l.0 v comes)
+          (scoped-later parts.signature s.types s.types heap (heap_of wrote) seat run (λ m c e. e) runs.owes.notes runs.scoped l.0 v n p comes b)))
 
-    module _ (left : parts.turns < parts.limits.turns) (sort : Sort) (ty : TyNo) (v : Val) (comes : ComesTo run (Act.Allocates sort v) n p) where
+    module _ (left : parts.turns < parts.limits.turns) (sort : Sort) (ty : TyNo) (v : Val) (comes : ComesTo run (Act.Allocates sort ty v) n p) where
       abbrev place : ℕ
       place = length parts.memory.cells
 
@@ -224,8 +226,8 @@ module _ (parts : Parts) (s : Simulates parts) (seat : ℕ) (attempt : Attempt) 
       abbrev larger : MemoryView Val
       larger = allocated_by seat sort ty v (Val.Loc place) parts.memory
 
-      its-type : (content : Typ) × IsValueOf parts.devices s.types v content
-      its-type = allocated-typed parts.devices s.types run sort v n p runs.typed comes
+      its-type : (content : Typ) × IsValueOf parts.signature s.types v content × MayStore parts.signature.refs ty.0 content
+      its-type = allocated-typed parts.signature s.types run sort ty v n p runs.typed comes
 
       abbrev larger_types : Typ → StoreTyping
       larger_types content = types_with place (sort, content) s.types
@@ -234,15 +236,15 @@ module _ (parts : Parts) (s : Simulates parts) (seat : ℕ) (attempt : Attempt) 
       not_there there = let h : place < length parts.memory.cells = there in omega arith
 
       stands-made : IsSomewhere (given_one (Val.Loc place) run)
-      stands-made = somewhere-on run (Act.Allocates sort v) n p (Val.Loc place) (Tree.Held (Val.Loc place), made_at place v p) comes refl
+      stands-made = somewhere-on run (Act.Allocates sort ty v) n p (Val.Loc place) (Tree.Held (Val.Loc place), made_at place v p) comes refl
 
-      allocation-acts : (content : Typ) → IsValueOf parts.devices s.types v content → Acts parts s seat larger parts.tasks later_turns
-      allocation-acts content value =
+      allocation-acts : (content : Typ) → IsValueOf parts.signature s.types v content → MayStore parts.signature.refs ty.0 content → Acts parts s seat larger parts.tasks later_turns
+      allocation-acts content value may =
           let b = allocation-becomes parts.memory seat sort ty v in
           let k = allocation-committed parts.memory seat sort ty v within in
           let types = larger_types content in
-          let grows = types-grow parts.devices s.types heap place (sort, content) s.typed.heap refl in
-          let fit = new-fit parts.devices s.types heap place sort v content s.typed.heap refl value in
+          let grows = types-grow parts.signature s.types heap place (sort, content) s.typed.heap refl in
+          let fit = new-fit parts.signature s.types heap place sort ty v content s.typed.heap refl value in
           let next = given_undo (Val.Loc place) (Made (next_place parts.memory.cells)) run in
           record {
             types = types;
@@ -259,7 +261,7 @@ module _ (parts : Parts) (s : Simulates parts) (seat : ℕ) (attempt : Attempt) 
             tasks_stay = λ other apart. refl;
             member = refl;
             task_count = refl;
-            heap = heap-grows parts.devices s.types heap (heap_of larger) place new_cell content s.typed.heap b refl (allocation-count parts.memory seat sort ty v) value;
+            heap = heap-grows parts.signature s.types heap (heap_of larger) place new_cell content s.typed.heap b refl (allocation-count parts.memory seat sort ty v) value may;
             shared = shared-one parts s larger place new_cell b (λ live its. absurd (let clash : false ≡ true = live in cc));
             numbers = numbers-one parts s larger place new_cell b later_turns (omega arith) (let few : 1 + 1 ≤ 2 * later_turns = omega arith in few);
             cells = let h = s.bounded.cells in let e = allocation-count parts.memory seat sort ty v in omega arith;
@@ -267,9 +269,9 @@ module _ (parts : Parts) (s : Simulates parts) (seat : ℕ) (attempt : Attempt) 
                 runs-acted larger later_turns types next (omega arith) (allocation-run parts.memory seat sort ty v within (term_at parts.pool attempt.tried.number))
                 (record { steps = stands-made.steps; place = stands-made.place; used = record { ran = stands-made.used.ran; used = stands-made.used.used } })
                 (allocation heap (heap_of larger) seat run runs.owes sort ty (next_place parts.memory.cells) v n p comes not_there b k)
-                (run-made parts.devices s.types types run sort (next_place parts.memory.cells) v n p grows runs.typed comes fit)
-                (scoped-made parts.devices s.types types heap (heap_of larger) seat run grows runs.owes.notes runs.scoped sort ty place v n p comes not_there b fit);
+                (run-made parts.signature s.types types run sort ty (next_place parts.memory.cells) v n p grows runs.typed comes fit)
+                (scoped-made parts.signature s.types types heap (heap_of larger) seat run grows runs.owes.notes runs.scoped sort ty place v n p comes not_there b fit);
           }
 
       pub allocation-stands : Simulates (has_allocated seat sort ty v parts)
-      allocation-stands = act parts s seat larger parts.tasks later_turns (allocation-acts its-type.0 its-type.1)
+      allocation-stands = act parts s seat larger parts.tasks later_turns (allocation-acts its-type.0 its-type.1 its-type.2)

@@ -111,7 +111,7 @@ module _ (parts : Parts) (s : Simulates parts) (a : RunsExclusively parts) (seat
           let free = free-there parts s a seat attempt exhausted l.0 apart in
           subst (λ (h : Heap). AreValid h seat (logged_run (term_at parts.pool attempt.tried.number) (row_at (read_by seat l parts.memory).rows seat)).reads) (sym same)
           (subst (λ (r : SeatRun). AreValid (heap_in parts) seat r.reads) (sym is)
-          (read-valid parts.devices s.types (heap_in parts) seat run l n p valid (runs parts s seat attempt task).scoped comes free
+          (read-valid parts.signature s.types (heap_in parts) seat run l n p valid (runs parts s seat attempt task).scoped comes free
           (even-there (cell_at (heap_in parts) l.0) parity free)))
 
   pub write-first_alone : (l : Loc) (v : Val) → ComesTo run (Act.Writes l.0 v) n p → IsFree (cell_at (heap_in parts) l.0) → RunsExclusively (has_written seat l v parts)
@@ -130,7 +130,7 @@ module _ (parts : Parts) (s : Simulates parts) (a : RunsExclusively parts) (seat
       subst (λ (r : SeatRun). AreValid (heap_of memory) seat r.reads) (sym (later-run parts.memory seat l v in_rows there own (term_at parts.pool attempt.tried.number)))
       (valid-again (heap_in parts) (heap_of memory) seat l.0 run.reads (runs parts s seat attempt task).owes.notes valid v (write-later parts.memory seat l v there own)))
 
-  pub allocation-alone : (sort : Sort) (ty : TyNo) (v : Val) → ComesTo run (Act.Allocates sort v) n p → RunsExclusively (has_allocated seat sort ty v parts)
+  pub allocation-alone : (sort : Sort) (ty : TyNo) (v : Val) → ComesTo run (Act.Allocates sort ty v) n p → RunsExclusively (has_allocated seat sort ty v parts)
   allocation-alone sort ty v comes =
       let place = length parts.memory.cells in
       let memory = (has_allocated seat sort ty v parts).memory in

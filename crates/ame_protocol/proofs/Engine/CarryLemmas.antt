@@ -4,6 +4,7 @@ use Rattle.std.specs.Prelude.{unwrap_or}
 use Rattle.std.proofs.Math.Nat.{mul-le-mul_left}
 use Rattle.std.proofs.lemmas.List.Elements.{All-weaker}
 use Rattle.ame_term.specs.Tree.{Val, Tree, unit_tree}
+use Rattle.ame_term.specs.Signature.{Signature}
 use Rattle.ame_journal.specs.declared.entry.Entry.{Entry}
 use Rattle.ame_pool.specs.Calls.{IsAt, machine_of, inside_of}
 use Rattle.ame_laws.specs.Typed.StoreTyping.{StoreTyping, Grows}
@@ -33,7 +34,7 @@ use Rattle.ame_protocol.specs.Engine.Tasks.{is_busy_as, is_noted_for, IsSoundIn,
 -- the engine goes on: what stays of it, and what grows
 pub record GoesOn (old new : Parts) : Type 0 where
   pub program : new.program ≡ old.program
-  pub devices : new.devices ≡ old.devices
+  pub signature : new.signature ≡ old.signature
   pub limits : new.limits ≡ old.limits
   pub more : List Entry
   pub journal : whole_journal new ≡ whole_journal old ++ more
@@ -63,9 +64,9 @@ work-on old new noted attempt on stays h = record {
       (few-on attempt.tried.steps old.limits.slice old.turns new.turns on.turns h.few);
 }
 
-pub undo-grown : (devices : ℕ) (types later : StoreTyping) → Grows types later → (u : Undo Val) → IsTypedUndo devices types u → IsTypedUndo devices later u
-undo-grown devices types later grows (Wrote l n v) h = stored-grown devices types later grows l.0 v h
-undo-grown devices types later grows (Made l) h = tt
+pub undo-grown : (signature : Signature) (types later : StoreTyping) → Grows types later → (u : Undo Val) → IsTypedUndo signature types u → IsTypedUndo signature later u
+undo-grown signature types later grows (Wrote l n v) h = stored-grown signature types later grows l.0 v h
+undo-grown signature types later grows (Made l) h = tt
 
 module _ (old new : Parts) (types later : StoreTyping) (seat : ℕ) (on : GoesOn old new) (grows : Grows types later) (framed : IsFramed seat (heap_in old) (heap_in new))
     (row : row_at new.memory.rows seat ≡ row_at old.memory.rows seat) where
@@ -82,12 +83,12 @@ module _ (old new : Parts) (types later : StoreTyping) (seat : ℕ) (on : GoesOn
         somewhere = subst IsSomewhere (sym same) h.somewhere;
         owes = subst (Owes (heap_in new) seat) (sym same) (owes-kept seat (heap_in old) (heap_in new) framed (run_in old seat i) h.owes);
         typed =
-            subst (λ (d : ℕ). IsTypedRun d later (run_in new seat i)) (sym on.devices)
-            (subst (IsTypedRun old.devices later) (sym same) (run-grown old.devices types later (run_in old seat i) grows h.typed));
+            subst (λ (d : Signature). IsTypedRun d later (run_in new seat i)) (sym on.signature)
+            (subst (IsTypedRun old.signature later) (sym same) (run-grown old.signature types later (run_in old seat i) grows h.typed));
         scoped =
-            subst (λ (d : ℕ). IsScoped d later (heap_in new) seat (run_in new seat i)) (sym on.devices)
-            (subst (IsScoped old.devices later (heap_in new) seat) (sym same)
-            (scoped-others old.devices types later seat (heap_in old) (heap_in new) (run_in old seat i) grows framed h.owes.notes h.scoped));
+            subst (λ (d : Signature). IsScoped d later (heap_in new) seat (run_in new seat i)) (sym on.signature)
+            (subst (IsScoped old.signature later (heap_in new) seat) (sym same)
+            (scoped-others old.signature types later seat (heap_in old) (heap_in new) (run_in old seat i) grows framed h.owes.notes h.scoped));
       }
 
   undoes-on : (attempt : Attempt) (reason : Reason) → StaysBusy old new attempt.tried.number → Undoes old types seat attempt reason → Undoes new later seat attempt reason
@@ -95,9 +96,9 @@ module _ (old new : Parts) (types later : StoreTyping) (seat : ℕ) (on : GoesOn
     work = work-on old new (is_noted_for reason) attempt on stays h.work;
     outside = stays.inside ∙ h.outside;
     undos =
-        subst (λ (d : ℕ). All (IsTypedUndo d later) (row_at new.memory.rows seat).undos) (sym on.devices)
-        (subst (λ (n : Log Val). All (IsTypedUndo old.devices later) n.undos) (sym row)
-        (All-weaker (IsTypedUndo old.devices types) (IsTypedUndo old.devices later) (undo-grown old.devices types later grows) (row_at old.memory.rows seat).undos h.undos));
+        subst (λ (d : Signature). All (IsTypedUndo d later) (row_at new.memory.rows seat).undos) (sym on.signature)
+        (subst (λ (n : Log Val). All (IsTypedUndo old.signature later) n.undos) (sym row)
+        (All-weaker (IsTypedUndo old.signature types) (IsTypedUndo old.signature later) (undo-grown old.signature types later grows) (row_at old.memory.rows seat).undos h.undos));
   }
 
   -- a seat keeps to its task, whatever another one does

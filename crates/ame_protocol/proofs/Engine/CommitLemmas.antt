@@ -146,7 +146,7 @@ module _ (parts : Parts) (s : Simulates parts) (seat : ℕ) (attempt : Attempt) 
     journal = sym (append_assoc parts.base parts.entries (entry ∷ []))
 
     goes : GoesOn parts new
-    goes = record { program = refl; devices = refl; limits = refl; more = entry ∷ []; journal = journal; turns = omega arith }
+    goes = record { program = refl; signature = refl; limits = refl; more = entry ∷ []; journal = journal; turns = omega arith }
 
     replayed : replay parts.program (whole_journal new) ≡ Some c.r
     replayed =
@@ -175,9 +175,9 @@ module _ (parts : Parts) (s : Simulates parts) (seat : ℕ) (attempt : Attempt) 
             release-others parts.memory seat l s.consistent in_rows apart ∙ s.stands.store l ∙ sym (unset-there l (at p.sets l) held apart)
             ∙ sym (c.after.stored l)
 
-    stands : StandsAfterCommit parts.devices s.types seat (heap_in parts) (heap_of memory) c.r.state
+    stands : StandsAfterCommit parts.signature s.types seat (heap_in parts) (heap_of memory) c.r.state
     stands =
-        stands-after parts.devices s.types (heap_in parts) (heap_of memory) seat run s.r.state number n p its-runs.owes valid its-runs.scoped place
+        stands-after parts.signature s.types (heap_in parts) (heap_of memory) seat run s.r.state number n p its-runs.owes valid its-runs.scoped place
         (memory-committed parts.memory) s.stands.store s.typed.now (release-cells parts.memory seat) c.r.state c.after c.idle c.member store
 
     told-before : (k : ℕ) → at s.r.state.members k ≡ machine_of k woken_pool
@@ -269,7 +269,7 @@ module _ (parts : Parts) (s : Simulates parts) (seat : ℕ) (attempt : Attempt) 
             next = c.after.next ∙ ap (λ (x : ℕ). x + length p.spawns) s.stands.next;
           };
           typed = record {
-            heap = heap-released parts.devices s.types (heap_in parts) (heap_of memory) seat s.typed.heap (release-cells parts.memory seat) (release-count parts.memory seat);
+            heap = heap-released parts.signature s.types (heap_in parts) (heap_of memory) seat s.typed.heap (release-cells parts.memory seat) (release-count parts.memory seat);
             now = stands.typed (calm-replayed parts.program (whole_journal new) c.r replayed).orderly.members_rise;
             shared = λ l. (released-facts l).1;
           };

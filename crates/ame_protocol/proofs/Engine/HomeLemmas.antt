@@ -105,7 +105,7 @@ module _ (parts : Parts) (s : Simulates parts) (seat number : ℕ) (idle : task_
   inside-stays = sides-stay number begun parts.pool.members begun_pool.members found (λ _. refl) (λ _. refl)
 
   goes : (task : Task) → GoesOn parts (begun_parts task)
-  goes task = record { program = refl; devices = refl; limits = refl; more = []; journal = sym (append-nil (whole_journal parts)); turns = omega arith }
+  goes task = record { program = refl; signature = refl; limits = refl; more = []; journal = sym (append-nil (whole_journal parts)); turns = omega arith }
 
   away : (other i : ℕ) → member_of (task_at parts.tasks other) ≡ Some i → i ≡ number → ⊥
   away other i has same =
@@ -134,11 +134,11 @@ module _ (parts : Parts) (s : Simulates parts) (seat number : ℕ) (idle : task_
     few = omega arith;
   }
 
-  typed-term : IsMember parts.devices s.types (term_at begun_pool number)
+  typed-term : IsMember parts.signature s.types (term_at begun_pool number)
   typed-term =
       let live = live_types (heap_in parts) s.types in
-      fragment-grown parts.devices live s.types (where-within (λ l. (cell_at (heap_in parts) l).live) s.types) Effect.Protected (term_at begun_pool number) Typ.Unit
-      (each-at (IsMember parts.devices live) s.r.state.members number (term_at begun_pool number) term-there s.typed.now.members)
+      fragment-grown parts.signature live s.types (where-within (λ l. (cell_at (heap_in parts) l).live) s.types) Effect.Protected (term_at begun_pool number) Typ.Unit
+      (each-at (IsMember parts.signature live) s.r.state.members number (term_at begun_pool number) term-there s.typed.now.members)
 
   run-begins : (task : Task) → run_in (begun_parts task) seat number ≡ begun_seat (term_at begun_pool number)
   run-begins task = ap (logged_run (term_at begun_pool number)) clear
@@ -169,10 +169,10 @@ module _ (parts : Parts) (s : Simulates parts) (seat number : ℕ) (idle : task_
             inside-stays number ∙ ap (option_map (λ (x : Member Tree). x.inside)) is-member ∙ ap Some m;
         somewhere = subst IsSomewhere (sym same) (begun-somewhere term);
         owes = subst (Owes (heap_in parts) seat) (sym same) (begun-owes (heap_in parts) seat term owns-nothing);
-        typed = subst (IsTypedRun parts.devices s.types) (sym same) (run-begun parts.devices s.types term typed-term);
+        typed = subst (IsTypedRun parts.signature s.types) (sym same) (run-begun parts.signature s.types term typed-term);
         scoped =
-            subst (IsScoped parts.devices s.types (heap_in parts) seat) (sym same)
-            (scoped-begun parts.devices s.types (heap_in parts) seat (begun_seat term) s.r.state term number s.typed.now term-there);
+            subst (IsScoped parts.signature s.types (heap_in parts) seat) (sym same)
+            (scoped-begun parts.signature s.types (heap_in parts) seat (begun_seat term) s.r.state term number s.typed.now term-there);
       }
 
   module _ (task : Task) (its : member_of task ≡ Some number) (meets : MeetsTask (begun_parts task) s.types seat task) where
@@ -260,7 +260,7 @@ home-found Reason.Noted n pool = (at_rest, found_altered n at_rest (λ _. refl) 
 home-found Reason.Stopped n pool = (at_home false, found_altered n (at_home false) (λ _. refl) pool.members, λ _. refl, λ _. refl)
 
 module _ (parts : Parts) (s : Simulates parts) (seat : ℕ) (within : seat < length parts.memory.rows)
-    (undos : All (IsTypedUndo parts.devices s.types) (row_at parts.memory.rows seat).undos) (turns : ℕ) (later : parts.turns ≤ turns) (left : turns ≤ parts.limits.turns)
+    (undos : All (IsTypedUndo parts.signature s.types) (row_at parts.memory.rows seat).undos) (turns : ℕ) (later : parts.turns ≤ turns) (left : turns ≤ parts.limits.turns)
     (attempt : Attempt) (reason : Reason) (has : attempt_of (task_at parts.tasks seat) ≡ Some attempt) (sound : IsSoundIn parts attempt.tried)
     (few : length (row_at parts.memory.rows seat).undos ≤ 1) where
   abbrev n : ℕ
@@ -279,7 +279,7 @@ module _ (parts : Parts) (s : Simulates parts) (seat : ℕ) (within : seat < len
   new = record parts { memory = undone; tasks = tasks; pool = home_pool; tried = with_try attempt parts.tried; turns = turns }
 
   went : GoesOn parts new
-  went = record { program = refl; devices = refl; limits = refl; more = []; journal = sym (append-nil (whole_journal parts)); turns = later }
+  went = record { program = refl; signature = refl; limits = refl; more = []; journal = sym (append-nil (whole_journal parts)); turns = later }
 
   -- the seat's member is no other seat's
   its-own : (other i : ℕ) → (other ≡ seat → ⊥) → member_of (task_at parts.tasks other) ≡ Some i → i ≡ n → ⊥
@@ -328,7 +328,7 @@ module _ (parts : Parts) (s : Simulates parts) (seat : ℕ) (within : seat < len
         typed = record {
           heap = d.heap;
           now =
-              typed-still parts.devices s.types s.types (suc seat) (heap_in parts) (heap_of undone) s.r.state (λ m c e. e)
+              typed-still parts.signature s.types s.types (suc seat) (heap_in parts) (heap_of undone) s.r.state (λ m c e. e)
               (d.framed (suc seat) next_seat) s.typed.now;
           shared = d.shared;
         };
@@ -349,7 +349,7 @@ module _ (parts : Parts) (s : Simulates parts) (seat : ℕ) (within : seat < len
         sound = all-sound attempt.logged;
       })
 
-pub gone_counted : (parts : Parts) (s : Simulates parts) (seat : ℕ) → seat < length parts.memory.rows → All (IsTypedUndo parts.devices s.types) (row_at parts.memory.rows seat).undos
+pub gone_counted : (parts : Parts) (s : Simulates parts) (seat : ℕ) → seat < length parts.memory.rows → All (IsTypedUndo parts.signature s.types) (row_at parts.memory.rows seat).undos
     → (attempt : Attempt) (reason : Reason) → attempt_of (task_at parts.tasks seat) ≡ Some attempt → IsSoundIn parts attempt.tried
     → (parts.stopped ≡ false → parts.turns < parts.limits.turns) → length (row_at parts.memory.rows seat).undos ≤ 1 → Simulates (has_gone_home seat attempt reason parts)
 gone_counted parts s seat within undos attempt reason has sound left few = by parts.stopped refl
@@ -392,5 +392,5 @@ module _ (parts : Parts) (seat : ℕ) (attempt : Attempt) where
   free_home s task left =
       let h : Visits parts s.types seat attempt = subst (MeetsTask parts s.types seat) task (s.seats seat) in
       let none : (row_at parts.memory.rows seat).undos ≡ [] = ap (λ (n : Log Val). n.undos) h.clear in
-      gone_counted parts s seat (has-rows s (ap attempt_of task)) (subst (All (IsTypedUndo parts.devices s.types)) (sym none) (All-nil (IsTypedUndo parts.devices s.types)))
+      gone_counted parts s seat (has-rows s (ap attempt_of task)) (subst (All (IsTypedUndo parts.signature s.types)) (sym none) (All-nil (IsTypedUndo parts.signature s.types)))
       attempt Reason.Stopped (ap attempt_of task) h.work.sound left (let e = ap (λ (xs : List (Undo Val)). length xs) none in omega arith)

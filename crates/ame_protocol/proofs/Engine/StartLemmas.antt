@@ -1,17 +1,18 @@
 -- An engine that has just started.
-use Rattle.std.proofs.Common.{◌≡◌, ℕ, zero, suc, ◌<◌, ◌==◌, ◌⊎◌, inl, inr, Bool, true, false, cond, List, [], ◌∷◌, replicate, Option, Some, None, refl, sym, ap, ◌∙◌, subst, arith}
+use Rattle.std.proofs.Common.{◌≡◌, ℕ, zero, suc, ◌<◌, ◌==◌, ◌⊎◌, inl, inr, Bool, true, false, cond, [], ◌∷◌, replicate, Option, Some, None, refl, sym, ap, ◌∙◌, subst, arith}
 use Rattle.std.specs.Prelude.{option_map}
 use Rattle.std.proofs.lemmas.Bool.{ne_eqb}
 use Rattle.std.proofs.lemmas.List.{length-replicate}
 use Rattle.std.proofs.lemmas.List.Elements.{All-nil}
-use Rattle.ame_term.specs.Tree.{Typ, Val, Tree}
+use Rattle.ame_term.specs.Tree.{Val, Tree}
+use Rattle.ame_term.specs.Signature.{Signature}
 use Rattle.ame_term.specs.Maps.{at}
 use Rattle.ame_term.specs.State.{start}
-use Rattle.ame_term.specs.SourceTerm.{IsSourceTerm}
-use Rattle.ame_term.specs.Typing.{no_cells, Accepts}
+use Rattle.ame_term.specs.Typing.{no_cells}
 use Rattle.ame_laws.proofs.MapLemmas.{is_at-apart}
+use Rattle.ame_machine.specs.Sound.{IsAccepted}
+use Rattle.ame_machine.proofs.RunnableLemmas.{starts-typed}
 use Rattle.ame_journal.specs.Replayed.{begun_at}
-use Rattle.ame_laws.proofs.Typed.Started as soundness
 use Rattle.ame_laws.proofs.Typed.Preserved.{grown}
 use Rattle.ame_pool.specs.Calls.{newcomer}
 use Rattle.ame_pool.specs.Members.{find}
@@ -38,9 +39,9 @@ row-clear zero seat = refl
 row-clear (suc n) zero = refl
 row-clear (suc n) (suc seat) = row-clear n seat
 
-module _ (program : Tree) (devices : ℕ) (limits : Limits) (room : ℕ) where
+module _ (program : Tree) (signature : Signature) (limits : Limits) (room : ℕ) where
   abbrev parts : Parts
-  parts = started program devices limits room
+  parts = started program signature limits room
 
   first-member : (i : ℕ) → at ((0, program) ∷ []) i ≡ option_map (λ m. m.machine) (find i (newcomer 0 program false ∷ []))
   first-member i = by (which 0 i)
@@ -59,16 +60,16 @@ module _ (program : Tree) (devices : ℕ) (limits : Limits) (room : ℕ) where
   nobody-at : (seat i : ℕ) → member_of (task_at parts.tasks seat) ≡ Some i → ⊥
   nobody-at seat i e = let clash : ◌≡◌ {A = Option ℕ} None (Some i) = sym (ap member_of (task-idle limits.seats seat)) ∙ e in cc
 
-  pub started_stands : (places : List ℕ) (refs : List Typ) → Accepts devices places program refs → IsSourceTerm program → Simulates parts
-  started_stands places refs accepted source = record {
+  pub started_stands : IsAccepted signature program → Simulates parts
+  started_stands accepted = record {
     r = begun_at program;
     types = no_cells;
     stands = record { replayed = refl; store = λ l. refl; members = first-member; inside = nobody-inside; output = refl; next = refl };
     typed = record {
       heap = record { typed = λ l there. absurd (let h : l < 0 = there in omega arith); located = λ l cell e. absurd (let clash : ◌≡◌ {A = Option _} None (Some cell) = e in cc) };
       now =
-          grown devices no_cells (live_types (heap_in parts) no_cells) (start program) (λ l cell e. absurd (let clash : ◌≡◌ {A = Option _} None (Some cell) = e in cc))
-          (soundness.started devices places program refs accepted source).typed;
+          grown signature no_cells (live_types (heap_in parts) no_cells) (start program) (λ l cell e. absurd (let clash : ◌≡◌ {A = Option _} None (Some cell) = e in cc))
+          (starts-typed signature program accepted).typed;
       shared = λ l live its. absurd (let clash : false ≡ true = live in cc);
     };
     consistent = kept_new [] limits.seats (All-nil IsFree);

@@ -83,7 +83,7 @@ acted memory tasks turns old = record old { memory = memory; tasks = tasks; turn
 pub goes_on : (old : Parts) (memory : MemoryView Val) (tasks : List Task) (turns : ℕ) → old.turns ≤ turns → GoesOn old (acted memory tasks turns old)
 goes_on old memory tasks turns later = record {
   program = refl;
-  devices = refl;
+  signature = refl;
   limits = refl;
   more = [];
   journal = sym (append-nil (whole_journal old));
@@ -107,7 +107,7 @@ pub record Acts (old : Parts) (s : Simulates old) (seat : ℕ) (memory : MemoryV
   pub tasks_stay : (other : ℕ) → (other ≡ seat → ⊥) → task_at tasks other ≡ task_at old.tasks other
   pub member : member_of (task_at tasks seat) ≡ member_of (task_at old.tasks seat)
   pub task_count : length tasks ≡ length old.tasks
-  pub heap : IsTypedHeap old.devices types (heap_of memory)
+  pub heap : IsTypedHeap old.signature types (heap_of memory)
   pub shared : (l : ℕ) → IsLive (cell_at (heap_of memory) l) → (cell_at (heap_of memory) l).sort ≡ Sort.Unprotected → IsFree (cell_at (heap_of memory) l)
   pub numbers : (l : ℕ) → HasFewChanges turns (cell_at (heap_of memory) l)
   pub cells : length memory.cells ≤ turns + most_opened
@@ -143,7 +143,7 @@ module _ (old : Parts) (s : Simulates old) (seat : ℕ) (memory : MemoryView Val
     };
     typed = record {
       heap = a.heap;
-      now = typed-still old.devices s.types a.types (suc seat) (heap_of old.memory) (heap_of memory) s.r.state a.grows (a.framed (suc seat) next_seat) s.typed.now;
+      now = typed-still old.signature s.types a.types (suc seat) (heap_of old.memory) (heap_of memory) s.r.state a.grows (a.framed (suc seat) next_seat) s.typed.now;
       shared = a.shared;
     };
     consistent = a.consistent;

@@ -64,7 +64,7 @@ module _ (parts : Parts) (s : Simulates parts) where
   stopped_parts = has_stopped parts
 
   goes : GoesOn parts stopped_parts
-  goes = record { program = refl; devices = refl; limits = refl; more = []; journal = sym (append-nil (whole_journal parts)); turns = omega arith }
+  goes = record { program = refl; signature = refl; limits = refl; more = []; journal = sym (append-nil (whole_journal parts)); turns = omega arith }
 
   stays : (seat : ℕ) → MeetsTask stopped_parts s.types seat (task_at parts.tasks seat)
   stays seat =
@@ -99,15 +99,15 @@ module _ (parts : Parts) (s : Simulates parts) where
 
   -- Types
 
-  pub member-typed : (seat i : ℕ) → member_of (task_at parts.tasks seat) ≡ Some i → IsMember parts.devices s.types (term_at parts.pool i)
+  pub member-typed : (seat i : ℕ) → member_of (task_at parts.tasks seat) ≡ Some i → IsMember parts.signature s.types (term_at parts.pool i)
   member-typed seat i has =
       let b = busy-of parts s.types seat i (task_at parts.tasks seat) (s.seats seat) has in
       let live = live_types (heap_in parts) s.types in
       let term = term_at parts.pool i in
       let member = s.stands.members i ∙ found-machine parts.pool i b.0 b.1 in
-      fragment-grown parts.devices live s.types (where-within (λ l. (cell_at (heap_in parts) l).live) s.types) Effect.Protected term Typ.Unit
-      (each-at (IsMember parts.devices live) s.r.state.members i term member s.typed.now.members)
+      fragment-grown parts.signature live s.types (where-within (λ l. (cell_at (heap_in parts) l).live) s.types) Effect.Protected term Typ.Unit
+      (each-at (IsMember parts.signature live) s.r.state.members i term member s.typed.now.members)
 
   pub place-typed : (seat : ℕ) (attempt : Attempt) (n : ℕ) (p : LocalState) → task_at parts.tasks seat ≡ Task.Running attempt
-      → HasUsed (run_in parts seat attempt.tried.number) n p → IsTypedPlace parts.devices s.types Typ.Unit p
+      → HasUsed (run_in parts seat attempt.tried.number) n p → IsTypedPlace parts.signature s.types Typ.Unit p
   place-typed seat attempt n p task place = (runs parts s seat attempt task).typed.places n p place.ran place.used

@@ -4,6 +4,7 @@ use Rattle.std.specs.Prelude.{option_map, if◌then◌else◌}
 use Rattle.std.specs.List.{AllByRecursion}
 use Rattle.std.proofs.lemmas.List.Elements.{All-contains, Contains-push, recursion_from_All, All-from_recursion}
 use Rattle.ame_term.specs.Tree.{Val}
+use Rattle.ame_term.specs.Signature.{Signature}
 use Rattle.ame_term.specs.declared.types.Sort.{Sort}
 use Rattle.ame_pool.specs.Calls.{inside_of}
 use Rattle.ame_laws.specs.Typed.StoreTyping.{StoreTyping}
@@ -49,18 +50,22 @@ undone-sort : (u : Undo Val) (cell : Cell Val) → (undone_by u cell).sort ≡ c
 undone-sort (Wrote l number old) cell = refl
 undone-sort (Made l) cell = refl
 
+undone-ty : (u : Undo Val) (cell : Cell Val) → (undone_by u cell).ty ≡ cell.ty
+undone-ty (Wrote l number old) cell = refl
+undone-ty (Made l) cell = refl
+
 undone-few : (turns : ℕ) (u : Undo Val) (cell : Cell Val) → cell.number + 1 ≤ 2 * turns → HasFewChanges turns (undone_by u cell)
 undone-few turns (Wrote l number old) cell few = few
 undone-few turns (Made l) cell few = few
 
 -- what is in place in a cell is of its type
-in-place-stored : (devices : ℕ) (types : StoreTyping) (heap : Heap) (l : ℕ) → IsTypedHeap devices types heap → IsCell heap l → IsStored devices types l (cell_at heap l).value
-in-place-stored devices types heap l typed there = let h = typed.typed l there in (((cell_at heap l).sort, h.0), h.1, h.2)
+in-place-stored : (signature : Signature) (types : StoreTyping) (heap : Heap) (l : ℕ) → IsTypedHeap signature types heap → IsCell heap l → IsStored signature types l (cell_at heap l).value
+in-place-stored signature types heap l typed there = let h = typed.typed l there in (((cell_at heap l).sort, h.0), h.1, h.2)
 
-undone-stored : (devices : ℕ) (types : StoreTyping) (heap : Heap) (u : Undo Val) → IsTypedHeap devices types heap → IsCell heap (undo_place u) → IsTypedUndo devices types u
-    → IsStored devices types (undo_place u) (undone_by u (cell_at heap (undo_place u))).value
-undone-stored devices types heap (Wrote l number old) typed there h = h
-undone-stored devices types heap (Made l) typed there h = in-place-stored devices types heap l.0 typed there
+undone-stored : (signature : Signature) (types : StoreTyping) (heap : Heap) (u : Undo Val) → IsTypedHeap signature types heap → IsCell heap (undo_place u) → IsTypedUndo signature types u
+    → IsStored signature types (undo_place u) (undone_by u (cell_at heap (undo_place u))).value
+undone-stored signature types heap (Wrote l number old) typed there h = h
+undone-stored signature types heap (Made l) typed there h = in-place-stored signature types heap l.0 typed there
 
 undone-framed : (seat other : ℕ) (apart : (other ≡ seat) → ⊥) (old new : Heap) (k : KeepsCommitted old new) (u : Undo Val) → IsOwnedBy other (cell_at old (undo_place u))
     → BecomesAt old new (undo_place u) (undone_by u (cell_at old (undo_place u))) → IsFramed seat old new
@@ -74,14 +79,14 @@ all-front P (x ∷ xs) y all = (all.0, all-front P xs y all.1)
 -- what an undo of a seat makes of the cells, for the others
 pub record UndoneMemory (parts : Parts) (s : Simulates parts) (seat turns : ℕ) : Type 0 where
   pub framed : (other : ℕ) → (other ≡ seat → ⊥) → IsFramed other (heap_in parts) (heap_of (undone_last seat parts.memory))
-  pub heap : IsTypedHeap parts.devices s.types (heap_of (undone_last seat parts.memory))
+  pub heap : IsTypedHeap parts.signature s.types (heap_of (undone_last seat parts.memory))
   pub shared : (l : ℕ) → IsLive (cell_at (heap_of (undone_last seat parts.memory)) l) → (cell_at (heap_of (undone_last seat parts.memory)) l).sort ≡ Sort.Unprotected
       → IsFree (cell_at (heap_of (undone_last seat parts.memory)) l)
   pub numbers : (l : ℕ) → HasFewChanges turns (cell_at (heap_of (undone_last seat parts.memory)) l)
   pub count : length (undone_last seat parts.memory).cells ≡ length parts.memory.cells
 
 module _ (parts : Parts) (s : Simulates parts) (seat : ℕ) (within : seat < length parts.memory.rows)
-    (undos : All (IsTypedUndo parts.devices s.types) (row_at parts.memory.rows seat).undos) (turns : ℕ) (later : parts.turns ≤ turns) where
+    (undos : All (IsTypedUndo parts.signature s.types) (row_at parts.memory.rows seat).undos) (turns : ℕ) (later : parts.turns ≤ turns) where
   abbrev heap : Heap
   heap = heap_in parts
 
@@ -110,16 +115,16 @@ module _ (parts : Parts) (s : Simulates parts) (seat : ℕ) (within : seat < len
         record {
           framed = λ other apart. undone-framed other seat (λ e. apart (sym e)) heap (heap_of undone) k u owned b;
           heap =
-              heap-stays parts.devices s.types heap (heap_of undone) l cell s.typed.heap b count (undone-sort u (cell_at heap l))
-              (undone-stored parts.devices s.types heap u s.typed.heap (owned_cell heap seat l owned) (last-of (IsTypedUndo parts.devices s.types) undos));
+              heap-stays parts.signature s.types heap (heap_of undone) l cell s.typed.heap b count (undone-sort u (cell_at heap l)) (undone-ty u (cell_at heap l))
+              (undone-stored parts.signature s.types heap u s.typed.heap (owned_cell heap seat l owned) (last-of (IsTypedUndo parts.signature s.types) undos));
           shared = shared-one parts s undone l cell b (λ live its. undone-free u (cell_at heap l));
           numbers = numbers-one parts s undone l cell b turns later (undone-few turns u (cell_at heap l) gone);
           count = count;
         }
 
-    pub front-typed : All (IsTypedUndo parts.devices s.types) (but_last row.undos)
+    pub front-typed : All (IsTypedUndo parts.signature s.types) (but_last row.undos)
     front-typed =
-        let P = IsTypedUndo parts.devices s.types in
+        let P = IsTypedUndo parts.signature s.types in
         subst (All P) (sym (ap but_last log ∙ but_last_is front u))
         (All-from_recursion P front (all-front P front u (recursion_from_All P (front ++ u ∷ []) (subst (All P) log undos))))
 
@@ -133,7 +138,7 @@ module _ (parts : Parts) (s : Simulates parts) (seat : ℕ) (within : seat < len
               places = λ m. IsFramedAt.stays (ap (λ (h : Heap). cell_at h m) same) (ap (λ (h : Heap). h.committed m) same);
               longer = let e = ap (λ (xs : List (Cell Val)). length xs) cells in omega arith;
             };
-        heap = subst (IsTypedHeap parts.devices s.types) (sym same) s.typed.heap;
+        heap = subst (IsTypedHeap parts.signature s.types) (sym same) s.typed.heap;
         shared =
             subst (λ (h : Heap). (l : ℕ) → IsLive (cell_at h l) → (cell_at h l).sort ≡ Sort.Unprotected → IsFree (cell_at h l)) (sym same) s.typed.shared;
         numbers =
@@ -149,11 +154,11 @@ module _ (parts : Parts) (s : Simulates parts) (seat : ℕ) (within : seat < len
       by (inl none) = undone-nothing none
       by (inr x) = undone-some x.0 x.1 x.2
 
-  pub rest-typed : All (IsTypedUndo parts.devices s.types) (but_last row.undos)
+  pub rest-typed : All (IsTypedUndo parts.signature s.types) (but_last row.undos)
   rest-typed = by (split_last row.undos)
     where
-      by : (row.undos ≡ []) ⊎ ((front : List (Undo Val)) × (u : Undo Val) × (row.undos ≡ front ++ u ∷ [])) → All (IsTypedUndo parts.devices s.types) (but_last row.undos)
-      by (inl none) = subst (All (IsTypedUndo parts.devices s.types)) (none ∙ sym (ap but_last none)) undos
+      by : (row.undos ≡ []) ⊎ ((front : List (Undo Val)) × (u : Undo Val) × (row.undos ≡ front ++ u ∷ [])) → All (IsTypedUndo parts.signature s.types) (but_last row.undos)
+      by (inl none) = subst (All (IsTypedUndo parts.signature s.types)) (none ∙ sym (ap but_last none)) undos
       by (inr x) = front-typed x.0 x.1 x.2
 
   -- others are left
@@ -190,7 +195,7 @@ module _ (parts : Parts) (s : Simulates parts) (seat : ℕ) (within : seat < len
               subst (MeetsTask (acted undone tasks turns parts) s.types seat) (sym here) (record {
                 work = work-on parts (acted undone tasks turns parts) (is_noted_for reason) attempt (goes_on parts undone tasks turns later) (stays_busy parts undone tasks turns attempt.tried.number) work;
                 outside = outside;
-                undos = subst (λ (n : Log Val). All (IsTypedUndo parts.devices s.types) n.undos) (sym (more-row parts.memory seat s.consistent within more)) rest-typed;
+                undos = subst (λ (n : Log Val). All (IsTypedUndo parts.signature s.types) n.undos) (sym (more-row parts.memory seat s.consistent within more)) rest-typed;
               });
         }
 
@@ -198,7 +203,7 @@ module _ (parts : Parts) (s : Simulates parts) (seat : ℕ) (within : seat < len
     undone_stands = act parts s seat undone tasks turns undo-acts
 
 -- an undo counts as a turn while no stop is kept
-pub undo_counted : (parts : Parts) (s : Simulates parts) (seat : ℕ) → seat < length parts.memory.rows → All (IsTypedUndo parts.devices s.types) (row_at parts.memory.rows seat).undos
+pub undo_counted : (parts : Parts) (s : Simulates parts) (seat : ℕ) → seat < length parts.memory.rows → All (IsTypedUndo parts.signature s.types) (row_at parts.memory.rows seat).undos
     → (attempt : Attempt) (reason : Reason) → attempt_of (task_at parts.tasks seat) ≡ Some attempt → HasAtWork parts (is_noted_for reason) attempt → inside_of attempt.tried.number parts.pool ≡ Some false
     → (parts.stopped ≡ false → parts.turns < parts.limits.turns) → 1 < length (row_at parts.memory.rows seat).undos → Simulates (has_undone seat attempt reason parts)
 undo_counted parts s seat within undos attempt reason has work outside left more = by parts.stopped refl

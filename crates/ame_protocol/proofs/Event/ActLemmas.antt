@@ -153,7 +153,7 @@ module _ (s : State) (h : Sound s) (g : HasATurn s) where
       seated = act-seated seat (Act.Writes l.0 v) c (has_written seat l v parts).memory;
     }
 
-  module _ (seat : ℕ) (sort : Sort) (ty : TyNo) (v : Val) (c : ComesToAct s seat (Act.Allocates sort v)) where
+  module _ (seat : ℕ) (sort : Sort) (ty : TyNo) (v : Val) (c : ComesToAct s seat (Act.Allocates sort ty v)) where
     abbrev counted-alloc : Counters
     counted-alloc = one_counted Counted.Alloc s.counters
 
@@ -167,8 +167,8 @@ module _ (s : State) (h : Sound s) (g : HasATurn s) where
       bounds = allocation-bounded parts h.stands s.stop g.going still s.counters counted-alloc h.bounds refl seat c.attempt c.task c.steps c.place c.early
           sort ty v c.comes;
       waiting = allocation-waiting parts h.stands seat c.attempt c.task h.waiting sort ty v;
-      once = act-once seat (Act.Allocates sort v) c (has_allocated seat sort ty v parts).memory;
-      caused = act-caused seat (Act.Allocates sort v) c (has_allocated seat sort ty v parts).memory;
+      once = act-once seat (Act.Allocates sort ty v) c (has_allocated seat sort ty v parts).memory;
+      caused = act-caused seat (Act.Allocates sort ty v) c (has_allocated seat sort ty v parts).memory;
       counters = one-counts parts.turns s.counters h.counters Counted.Alloc;
-      seated = act-seated seat (Act.Allocates sort v) c (has_allocated seat sort ty v parts).memory;
+      seated = act-seated seat (Act.Allocates sort ty v) c (has_allocated seat sort ty v parts).memory;
     }

@@ -171,7 +171,7 @@ module _ (parts : Parts) (s : Simulates parts) (stop : Option Stop) (none : stop
         later-bounded l v comes own =
             access-bounded (has_written seat l v parts).memory (later-paid parts s b.paid going seat attempt task n p early l v comes own)
 
-        pub allocation-bounded : (sort : Sort) (ty : TyNo) (v : Val) → ComesTo (run_in parts seat attempt.tried.number) (Act.Allocates sort v) n p
+        pub allocation-bounded : (sort : Sort) (ty : TyNo) (v : Val) → ComesTo (run_in parts seat attempt.tried.number) (Act.Allocates sort ty v) n p
             → KeepsBounds stop later (has_allocated seat sort ty v parts)
         allocation-bounded sort ty v comes =
             access-bounded (has_allocated seat sort ty v parts).memory (allocation-paid parts s b.paid going seat attempt task n p early sort ty v comes)

@@ -191,7 +191,7 @@ module _ (parts : Parts) (s : Simulates parts) (counters later : Counters) (lone
           let free = free-else parts s one seat attempt (ap attempt_of task) l.0 apart in
           subst (λ (h : Heap). AreValid h seat (logged_run (term_at parts.pool attempt.tried.number) (row_at (read_by seat l parts.memory).rows seat)).reads) (sym same)
           (subst (λ (r : SeatRun). AreValid (heap_in parts) seat r.reads) (sym is)
-          (read-valid parts.devices s.types (heap_in parts) seat run l n p valid (runs parts s seat attempt task).scoped comes free
+          (read-valid parts.signature s.types (heap_in parts) seat run l n p valid (runs parts s seat attempt task).scoped comes free
           (even-there (cell_at (heap_in parts) l.0) parity free)))
 
   pub write-first_lone : (l : Loc) (v : Val) → ComesTo run (Act.Writes l.0 v) n p → IsFree (cell_at (heap_in parts) l.0) → IsLone (has_written seat l v parts) later
@@ -210,7 +210,7 @@ module _ (parts : Parts) (s : Simulates parts) (counters later : Counters) (lone
       subst (λ (r : SeatRun). AreValid (heap_of memory) seat r.reads) (sym (later-run parts.memory seat l v in_rows there own (term_at parts.pool attempt.tried.number)))
       (valid-again (heap_in parts) (heap_of memory) seat l.0 run.reads (runs parts s seat attempt task).owes.notes valid v (write-later parts.memory seat l v there own)))
 
-  pub allocation-lone : (sort : Sort) (ty : TyNo) (v : Val) → ComesTo run (Act.Allocates sort v) n p → IsLone (has_allocated seat sort ty v parts) later
+  pub allocation-lone : (sort : Sort) (ty : TyNo) (v : Val) → ComesTo run (Act.Allocates sort ty v) n p → IsLone (has_allocated seat sort ty v parts) later
   allocation-lone sort ty v comes =
       let place = length parts.memory.cells in
       let memory = (has_allocated seat sort ty v parts).memory in

@@ -3,6 +3,7 @@ use Rattle.std.proofs.Common.{All, IsSomeAnd, IsTrue, List, None, Option, Some, 
 use Rattle.std.specs.Prelude.{slice_get}
 use Rattle.std.proofs.lemmas.List.Elements.{All-head, All-tail, All-weaker}
 use Rattle.ame_term.specs.Tree.{Tree, Val}
+use Rattle.ame_term.specs.Signature.{Signature}
 use Rattle.ame_laws.specs.Typed.StoreTyping.{StoreTyping}
 use Rattle.ame_laws.specs.Typed.TypedState.{IsTyped}
 use Rattle.ame_journal.specs.Replay.{replay}
@@ -84,17 +85,17 @@ module _ (parts : Parts) (fresh : parts.entries ≡ []) (base : All (λ (e : Ent
     once = λ first later note next below h k same. absurd (none-stuck first note h);
   }
 
-pub sound-opened : (program : Tree) (devices : ℕ) (limits : Limits) (base : List Entry) (cells : List (Cell Val)) (pool : Roster Tree) (r : Replayed) (types : StoreTyping)
-    → replay program base ≡ Some r → IsTyped devices types r.state → AreOpened types cells r.state → HasMembersOf r pool → AreReady pool
+pub sound-opened : (program : Tree) (signature : Signature) (limits : Limits) (base : List Entry) (cells : List (Cell Val)) (pool : Roster Tree) (r : Replayed) (types : StoreTyping)
+    → replay program base ≡ Some r → IsTyped signature types r.state → AreOpened signature types cells r.state → HasMembersOf r pool → AreReady pool
     → All (λ (e : Entry). is_note e.kind ≡ false) base → 1 ≤ limits.slice
-    → Sound (opened_state program devices limits base cells pool r.state.output r.state.next)
-sound-opened program devices limits base cells pool r types replayed typed o m ready ordinary slice =
-    let parts = opened program devices limits base cells pool r.state.output r.state.next in
+    → Sound (opened_state program signature limits base cells pool r.state.output r.state.next)
+sound-opened program signature limits base cells pool r types replayed typed o m ready ordinary slice =
+    let parts = opened program signature limits base cells pool r.state.output r.state.next in
     record {
       stopped = refl;
-      stands = opened-stands program devices limits base cells pool r types replayed typed o m;
+      stands = opened-stands program signature limits base cells pool r types replayed typed o m;
       pool = ready-good pool ready;
-      alone = opened-alone program devices limits base cells pool r.state.output r.state.next;
+      alone = opened-alone program signature limits base cells pool r.state.output r.state.next;
       lone = lone-idle parts nothing_counted (task-idle limits.seats) (record { conflicts = refl; invalids = refl });
       bounds = idle-bounded parts nothing_counted refl refl slice refl (task-idle limits.seats) (row-clear limits.seats);
       waiting = opened-waiting parts ready;

@@ -1,9 +1,9 @@
 -- A state that has just started is sound, and stays so after each event.
-use Rattle.std.proofs.Common.{IsSomeAnd, IsTrue, List, None, Some, [], arith, false, refl, true, ℕ, ◌<◌, ◌≡◌, ◌≤◌, All, Option, sym, subst, option_and_then}
+use Rattle.std.proofs.Common.{IsSomeAnd, IsTrue, None, Some, [], arith, false, refl, true, ℕ, ◌<◌, ◌≡◌, ◌≤◌, All, Option, sym, subst, option_and_then}
 use Rattle.std.proofs.lemmas.List.Elements.{All-cons, All-nil}
-use Rattle.ame_term.specs.SourceTerm.{IsSourceTerm}
-use Rattle.ame_term.specs.Tree.{Tree, Typ}
-use Rattle.ame_term.specs.Typing.{Accepts}
+use Rattle.ame_term.specs.Tree.{Tree}
+use Rattle.ame_machine.specs.Sound.{IsAccepted}
+use Rattle.ame_term.specs.Signature.{Signature}
 use Rattle.ame_pool.specs.Calls.{newcomer, IsAt}
 use Rattle.ame_pool.specs.Members.{is_busy, find, is_ready}
 use Rattle.ame_pool.specs.Standings.{max_rollbacks}
@@ -89,16 +89,15 @@ module _ (parts : Parts) (stands : Simulates parts) (pool : IsGoodPool parts.poo
     seated = seated-none parts none-busy;
   }
 
-pub sound-start : (program : Tree) (devices : ℕ) (limits : Limits) (places : List ℕ) (refs : List Typ) → Accepts devices places program refs
-    → IsSourceTerm program
-    → 1 ≤ limits.slice → Sound (started_state program devices limits)
-sound-start program devices limits places refs accepts source slice =
-    sound-idle (started program devices limits 0) (started_stands program devices limits 0 places refs accepts source)
+pub sound-start : (program : Tree) (signature : Signature) (limits : Limits) → IsAccepted signature program
+    → 1 ≤ limits.slice → Sound (started_state program signature limits)
+sound-start program signature limits accepted slice =
+    sound-idle (started program signature limits 0) (started_stands program signature limits 0 accepted)
     (record {
       rising = (All-nil (λ (m : Member Tree). 0 < m.number), tt);
       few = All-cons (λ (m : Member Tree). m.rollbacks ≤ max_rollbacks) (newcomer 0 program false) [] (omega arith)
           (All-nil (λ (m : Member Tree). m.rollbacks ≤ max_rollbacks));
-    }) (start-once program devices limits 0) slice (task-idle limits.seats) (row-clear limits.seats)
+    }) (start-once program signature limits 0) slice (task-idle limits.seats) (row-clear limits.seats)
     (All-cons (λ (m : Member Tree). IsTrue (is_ready m)) (newcomer 0 program false) [] refl (All-nil (λ (m : Member Tree). IsTrue (is_ready m)))) refl refl refl refl
 
 pub sound-after : (e : Event) (s : State) → May e s → Sound s → Sound (after e s)

@@ -4,6 +4,8 @@ use Rattle.std.specs.Option.{ForSome}
 use Rattle.std.specs.List.{AllByRecursion}
 use Rattle.std.specs.List.Sorted.{IsStrictlySortedBy}
 use Rattle.ame_term.specs.Tree.{Typ, Val, Tree}
+use Rattle.ame_term.specs.Signature.{Signature, MayStore, unlisted}
+use Rattle.ame_term.specs.declared.types.TyNo.{TyNo}
 use Rattle.ame_term.specs.Maps.{at, put}
 use Rattle.ame_term.specs.State.{State}
 use Rattle.ame_term.specs.declared.types.Sort.{Sort}
@@ -49,28 +51,28 @@ each-with P members next (body ∷ bodies) all new =
     each-with P (put members next body) (next + 1) bodies (each-put P members next body new.0 all) new.1
 
 -- a state after a run is typed by what types the state before, the place and the member
-module _ (devices : ℕ) (cells : StoreTyping) (s t : State) (i : ℕ) (p : LocalState) (typed : IsTypedBy devices cells s) (place : IsTypedPlace devices cells Typ.Unit p) (h : IsAfterRun s i p t)
-    (member : ForSome (at t.members i) (IsMember devices cells)) where
-  stored_at : (l : ℕ) (v : Val) (o : Option Val) → at p.sets l ≡ o → or_else o (at s.store l) ≡ Some v → IsStored devices cells l v
+module _ (signature : Signature) (cells : StoreTyping) (s t : State) (i : ℕ) (p : LocalState) (typed : IsTypedBy signature cells s) (place : IsTypedPlace signature cells Typ.Unit p) (h : IsAfterRun s i p t)
+    (member : ForSome (at t.members i) (IsMember signature cells)) where
+  stored_at : (l : ℕ) (v : Val) (o : Option Val) → at p.sets l ≡ o → or_else o (at s.store l) ≡ Some v → IsStored signature cells l v
   stored_at l v None is e = typed.stored l v e
   stored_at l v (Some w) is e = place.stored l v (is ∙ e)
 
-  others : Each (IsMember devices cells) (with_members s.members s.next p.spawns)
-  others = each-with (IsMember devices cells) s.members s.next p.spawns typed.members place.members
+  others : Each (IsMember signature cells) (with_members s.members s.next p.spawns)
+  others = each-with (IsMember signature cells) s.members s.next p.spawns typed.members place.members
 
-  member_at : (k : ℕ) (term : Tree) → at t.members k ≡ Some term → (k ≡ i) ⊎ ((k ≡ i) → ⊥) → IsMember devices cells term
+  member_at : (k : ℕ) (term : Tree) → at t.members k ≡ Some term → (k ≡ i) ⊎ ((k ≡ i) → ⊥) → IsMember signature cells term
   member_at k term found (inl same) = member term (ap (at t.members) (sym same) ∙ found)
   member_at k term found (inr apart) =
-      each-at (IsMember devices cells) (with_members s.members s.next p.spawns) k term (sym (h.others k apart) ∙ found) others
+      each-at (IsMember signature cells) (with_members s.members s.next p.spawns) k term (sym (h.others k apart) ∙ found) others
 
-  pub typed-run : NumbersRise t.members → t.active ≡ None → IsTypedBy devices cells t
+  pub typed-run : NumbersRise t.members → t.active ≡ None → IsTypedBy signature cells t
   typed-run rise idle = record {
     stored = λ l v e. stored_at l v (at p.sets l) refl (sym (h.stored l) ∙ e);
-    members = each-from (IsMember devices cells) t.members rise (λ k term found. member_at k term found (which k i));
+    members = each-from (IsMember signature cells) t.members rise (λ k term found. member_at k term found (which k i));
     present = λ j active. absurd (let clash : ◌≡◌ {A = Option ℕ} None (Some j) = sym idle ∙ active in cc);
   }
 
-module _ (devices : ℕ) (types : StoreTyping) (old new : Heap) (seat : ℕ) (releases : ReleasesAll seat old new) where
+module _ (signature : Signature) (types : StoreTyping) (old new : Heap) (seat : ℕ) (releases : ReleasesAll seat old new) where
   -- what was live or the seat's own is live
   pub owner-cases : (l : ℕ) → IsOwnedBy seat (cell_at old l) ⊎ (IsOwnedBy seat (cell_at old l) → ⊥)
   owner-cases l = by (free_or_owned (cell_at old l))
@@ -104,25 +106,25 @@ module _ (devices : ℕ) (types : StoreTyping) (old new : Heap) (seat : ℕ) (re
   live-grows : Grows (live_types old types) (live_types new types)
   live-grows = where-grows (λ l. (cell_at old l).live) (λ l. (cell_at new l).live) types types (λ l cell e. e) live-live
 
-  pub typed-after : (s t : State) (i : ℕ) (p : LocalState) → IsTypedNow devices types old s → IsTypedPlace devices (reached_types old seat types) Typ.Unit p → IsAfterRun s i p t
-      → NumbersRise t.members → t.active ≡ None → ForSome (at t.members i) (λ term. term ≡ p.term) → IsTypedNow devices types new t
+  pub typed-after : (s t : State) (i : ℕ) (p : LocalState) → IsTypedNow signature types old s → IsTypedPlace signature (reached_types old seat types) Typ.Unit p → IsAfterRun s i p t
+      → NumbersRise t.members → t.active ≡ None → ForSome (at t.members i) (λ term. term ≡ p.term) → IsTypedNow signature types new t
   typed-after s t i p typed place h rise idle member =
-      let there = place-grown devices (reached_types old seat types) (live_types new types) reached-live Typ.Unit p place in
-      typed-run devices (live_types new types) s t i p (grown devices (live_types old types) (live_types new types) s live-grows typed) there h
-      (λ term found. subst (IsMember devices (live_types new types)) (sym (member term found)) there.fragment) rise idle
+      let there = place-grown signature (reached_types old seat types) (live_types new types) reached-live Typ.Unit p place in
+      typed-run signature (live_types new types) s t i p (grown signature (live_types old types) (live_types new types) s live-grows typed) there h
+      (λ term found. subst (IsMember signature (live_types new types)) (sym (member term found)) there.fragment) rise idle
 
 -- events that keep what lives keep a state typed
-pub typed-still : (devices : ℕ) (types later : StoreTyping) (seat : ℕ) (old new : Heap) (s : State) → Grows types later → IsFramed seat old new
-    → IsTypedNow devices types old s → IsTypedNow devices later new s
-typed-still devices types later seat old new s grows f typed =
-    grown devices (live_types old types) (live_types new later) s
+pub typed-still : (signature : Signature) (types later : StoreTyping) (seat : ℕ) (old new : Heap) (s : State) → Grows types later → IsFramed seat old new
+    → IsTypedNow signature types old s → IsTypedNow signature later new s
+typed-still signature types later seat old new s grows f typed =
+    grown signature (live_types old types) (live_types new later) s
     (where-grows (λ l. (cell_at old l).live) (λ l. (cell_at new l).live) types later grows (λ l live. still-lives seat old new f l live)) typed
 
 -- released cells keep their sort and what is in place
-pub heap-released : (devices : ℕ) (types : StoreTyping) (old new : Heap) (seat : ℕ) → IsTypedHeap devices types old → ReleasesAll seat old new → length new.cells ≡ length old.cells
-    → IsTypedHeap devices types new
-heap-released devices types old new seat h releases count = record {
-  typed = λ l there. by l (narrow l there) (owner-cases devices types old new seat releases l);
+pub heap-released : (signature : Signature) (types : StoreTyping) (old new : Heap) (seat : ℕ) → IsTypedHeap signature types old → ReleasesAll seat old new → length new.cells ≡ length old.cells
+    → IsTypedHeap signature types new
+heap-released signature types old new seat h releases count = record {
+  typed = λ l there. by l (narrow l there) (owner-cases signature types old new seat releases l);
   located = λ l c e. wide l (h.located l c e);
 }
   where
@@ -132,23 +134,27 @@ heap-released devices types old new seat h releases count = record {
     wide : (m : ℕ) → IsCell old m → IsCell new m
     wide m there = let t : m < length old.cells = there in omega (arith, count)
 
-    moved : (l : ℕ) (cell : Cell Val) → cell_at new l ≡ cell → cell.sort ≡ (cell_at old l).sort → cell.value ≡ (cell_at old l).value → IsCell old l
-        → (content : Typ) × (types l ≡ Some ((cell_at new l).sort, content)) × IsValueOf devices types (cell_at new l).value content
-    moved l cell same sort value there =
+    moved : (l : ℕ) (cell : Cell Val) → cell_at new l ≡ cell → cell.sort ≡ (cell_at old l).sort → cell.value ≡ (cell_at old l).value
+        → cell.ty ≡ (cell_at old l).ty → IsCell old l
+        → (content : Typ) × (types l ≡ Some ((cell_at new l).sort, content)) × IsValueOf signature types (cell_at new l).value content
+        × MayStore signature.refs (cell_at new l).ty.0 content
+    moved l cell same sort value number there =
         let was = h.typed l there in (
           was.0,
           was.1 ∙ ap (λ (x : Sort). Some (x, was.0)) (sym (ap (λ (c : Cell Val). c.sort) same ∙ sort)),
-          subst (λ (v : Val). IsValueOf devices types v was.0) (sym (ap (λ (c : Cell Val). c.value) same ∙ value)) was.2,
+          subst (λ (v : Val). IsValueOf signature types v was.0) (sym (ap (λ (c : Cell Val). c.value) same ∙ value)) was.2,
+          subst (λ (n : TyNo). MayStore signature.refs n.0 was.0) (sym (ap (λ (c : Cell Val). c.ty) same ∙ number)) was.3,
         )
 
     by : (l : ℕ) → IsCell old l → IsOwnedBy seat (cell_at old l) ⊎ (IsOwnedBy seat (cell_at old l) → ⊥)
-        → (content : Typ) × (types l ≡ Some ((cell_at new l).sort, content)) × IsValueOf devices types (cell_at new l).value content
-    by l there (inl own) = moved l (released (cell_at old l)) (releases.own l own) refl refl there
-    by l there (inr apart) = moved l (cell_at old l) (releases.others l apart) refl refl there
+        → (content : Typ) × (types l ≡ Some ((cell_at new l).sort, content)) × IsValueOf signature types (cell_at new l).value content
+        × MayStore signature.refs (cell_at new l).ty.0 content
+    by l there (inl own) = moved l (released (cell_at old l)) (releases.own l own) refl refl refl there
+    by l there (inr apart) = moved l (cell_at old l) (releases.others l apart) refl refl refl there
 
 -- a seat that released all owns nothing
 pub nothing-kept : (old new : Heap) (seat : ℕ) → ReleasesAll seat old new → (l : ℕ) → IsOwnedBy seat (cell_at new l) → ⊥
-nothing-kept old new seat releases l own = by (owner-cases 0 (λ _. None) old new seat releases l)
+nothing-kept old new seat releases l own = by (owner-cases (unlisted 0) (λ _. None) old new seat releases l)
   where
     by : IsOwnedBy seat (cell_at old l) ⊎ (IsOwnedBy seat (cell_at old l) → ⊥) → ⊥
     by (inl its) = free-apart seat (cell_at new l) (ap (λ (c : Cell Val). c.owner) (releases.own l its)) own

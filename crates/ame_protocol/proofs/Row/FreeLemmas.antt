@@ -1,6 +1,7 @@
 -- Unprotected code meets live cells alone.
 use Rattle.std.proofs.Common.{◌≡◌, ℕ, Some, refl, ◌∙◌}
 use Rattle.ame_term.specs.Tree.{Typ, Val}
+use Rattle.ame_term.specs.Signature.{Signature}
 use Rattle.ame_term.specs.Frame.{Side}
 use Rattle.ame_term.specs.Act.{Act}
 use Rattle.ame_term.specs.HasType.{code_of}
@@ -22,29 +23,29 @@ unprotected_sort : (sort : Sort) → code_of sort ≡ Effect.Unprotected → sor
 unprotected_sort Sort.Protected e = cc
 unprotected_sort Sort.Unprotected e = refl
 
-module _ (devices : ℕ) (types : StoreTyping) (heap : Heap) (typed : IsTypedHeap devices types heap) (p : LocalState) (place : IsTypedPlace devices (live_types heap types) Typ.Unit p) where
+module _ (signature : Signature) (types : StoreTyping) (heap : Heap) (typed : IsTypedHeap signature types heap) (p : LocalState) (place : IsTypedPlace signature (live_types heap types) Typ.Unit p) where
   met : (l : ℕ) (sort wanted : Sort) (content : Typ) → live_types heap types l ≡ Some (sort, content) → sort ≡ wanted → MeetsLive heap l wanted
   met l sort wanted content e is =
       let w = where-of (λ m. (cell_at heap m).live) types l (sort, content) e in
-      let c = typed-cell devices types heap typed l sort content w.1 in
+      let c = typed-cell signature types heap typed l sort content w.1 in
       record { there = c.0; live = w.0; sort = c.1 ∙ is }
 
   pub read-live : (l : ℕ) → StandsAt Side.Unprotected (Act.Reads l) p → MeetsLive heap l Sort.Unprotected
   read-live l at_it =
-      let act = act-typed devices (live_types heap types) Side.Unprotected (Act.Reads l) p at_it place in
+      let act = act-typed signature (live_types heap types) Side.Unprotected (Act.Reads l) p at_it place in
       met l act.1.0 Sort.Unprotected act.0 act.1.1 (unprotected_sort act.1.0 act.1.2)
 
   pub peek-live : (l : ℕ) → StandsAt Side.Unprotected (Act.Peeks l) p → MeetsLive heap l Sort.Protected
   peek-live l at_it =
-      let act = act-typed devices (live_types heap types) Side.Unprotected (Act.Peeks l) p at_it place in
+      let act = act-typed signature (live_types heap types) Side.Unprotected (Act.Peeks l) p at_it place in
       met l Sort.Protected Sort.Protected act.0 act.1.0 refl
 
   pub write-live : (l : ℕ) (v : Val) → StandsAt Side.Unprotected (Act.Writes l v) p → MeetsLive heap l Sort.Unprotected
   write-live l v at_it =
-      let act = act-typed devices (live_types heap types) Side.Unprotected (Act.Writes l v) p at_it place in
+      let act = act-typed signature (live_types heap types) Side.Unprotected (Act.Writes l v) p at_it place in
       met l act.1.0 Sort.Unprotected act.1.1 act.1.2 (unprotected_sort act.1.0 act.1.4)
 
-  pub write-stored : (l : ℕ) (v : Val) → StandsAt Side.Unprotected (Act.Writes l v) p → IsStored devices types l v
+  pub write-stored : (l : ℕ) (v : Val) → StandsAt Side.Unprotected (Act.Writes l v) p → IsStored signature types l v
   write-stored l v at_it =
-      let act = act-typed devices (live_types heap types) Side.Unprotected (Act.Writes l v) p at_it place in
-      stored-grown devices (live_types heap types) types (where-within (λ m. (cell_at heap m).live) types) l v ((act.1.0, act.1.1), act.1.2, act.1.3)
+      let act = act-typed signature (live_types heap types) Side.Unprotected (Act.Writes l v) p at_it place in
+      stored-grown signature (live_types heap types) types (where-within (λ m. (cell_at heap m).live) types) l v ((act.1.0, act.1.1), act.1.2, act.1.3)

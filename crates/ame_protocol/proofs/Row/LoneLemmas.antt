@@ -2,6 +2,7 @@
 use Rattle.std.proofs.Common.{◌≡◌, ℕ, ◌+◌, ◌%◌, ◌⊎◌, inl, inr, List, [], ◌∷◌, ◌++◌, Option, MatchOption, All, refl, sym, ◌∙◌, subst, arith}
 use Rattle.std.proofs.lemmas.List.Elements.{All-push}
 use Rattle.ame_term.specs.Tree.{Val}
+use Rattle.ame_term.specs.Signature.{Signature}
 use Rattle.ame_term.specs.Frame.{Side}
 use Rattle.ame_term.specs.Act.{Act}
 use Rattle.ame_term.specs.declared.types.Loc.{Loc}
@@ -23,20 +24,20 @@ use Rattle.ame_protocol.proofs.Row.ReachLemmas.{Reached, reach-of, where-of}
 use Rattle.ame_protocol.proofs.Row.TypedRunLemmas.{act-typed}
 
 -- what a valid row reads is live, or was made by it
-pub read-reached : (devices : ℕ) (types : StoreTyping) (heap : Heap) (seat : ℕ) (run : SeatRun) (l n : ℕ) (p : LocalState) → AreValid heap seat run.reads → IsScoped devices types heap seat run
+pub read-reached : (signature : Signature) (types : StoreTyping) (heap : Heap) (seat : ℕ) (run : SeatRun) (l n : ℕ) (p : LocalState) → AreValid heap seat run.reads → IsScoped signature types heap seat run
     → ComesTo run (Act.Reads l) n p → Reached seat (cell_at heap l)
-read-reached devices types heap seat run l n p valid scoped comes =
+read-reached signature types heap seat run l n p valid scoped comes =
     let scope = reached_types heap seat types in
-    let act = act-typed devices scope Side.Protected (Act.Reads l) p comes.there (scoped valid n p comes.place.ran comes.place.used) in
+    let act = act-typed signature scope Side.Protected (Act.Reads l) p comes.there (scoped valid n p comes.place.ran comes.place.used) in
     reach-of seat (cell_at heap l) (where-of (λ m. reaches seat (cell_at heap m)) types l (act.1.0, act.0) act.1.1).0
 
-pub read-valid : (devices : ℕ) (types : StoreTyping) (heap : Heap) (seat : ℕ) (run : SeatRun) (l : Loc) (n : ℕ) (p : LocalState) → AreValid heap seat run.reads → IsScoped devices types heap seat run
+pub read-valid : (signature : Signature) (types : StoreTyping) (heap : Heap) (seat : ℕ) (run : SeatRun) (l : Loc) (n : ℕ) (p : LocalState) → AreValid heap seat run.reads → IsScoped signature types heap seat run
     → ComesTo run (Act.Reads l.0) n p → IsFree (cell_at heap l.0) → (cell_at heap l.0).number % 2 ≡ 0
     → AreValid heap seat (run.reads ++ record { loc = l; number = (cell_at heap l.0).number } ∷ [])
-read-valid devices types heap seat run l n p valid scoped comes free even =
+read-valid signature types heap seat run l n p valid scoped comes free even =
     All-push (IsValidNote heap seat) run.reads (record { loc = l; number = (cell_at heap l.0).number }) valid (record {
       unowned = even;
-      live = by (read-reached devices types heap seat run l.0 n p valid scoped comes);
+      live = by (read-reached signature types heap seat run l.0 n p valid scoped comes);
       same =
           subst (λ (o : Option ℕ). MatchOption o ((cell_at heap l.0).number ≡ (cell_at heap l.0).number) (λ owner. (owner ≡ seat) × ((cell_at heap l.0).number ≡ (cell_at heap l.0).number + 1)))
           (sym free) refl;

@@ -401,7 +401,7 @@ unset-there seat cell None held apart = refl
 unset-there seat cell (Some w) held apart = absurd (apart held.0)
 
 pub allocation : (old new : Heap) (seat : ℕ) (run : SeatRun) → Owes old seat run → (sort : Sort) (ty : TyNo) (l : Loc) (v : Val) (n : ℕ) (p : LocalState)
-    → ComesTo run (Act.Allocates sort v) n p → (IsCell old l.0 → ⊥) → BecomesAt old new l.0 (made sort ty v (Some seat)) → KeepsCommitted old new
+    → ComesTo run (Act.Allocates sort ty v) n p → (IsCell old l.0 → ⊥) → BecomesAt old new l.0 (made sort ty v (Some seat)) → KeepsCommitted old new
     → Owes new seat (given_undo (Val.Loc l.0) (Made l) run)
 allocation old new seat run o sort ty l v n p comes none b k =
     let cell = made sort ty v (Some seat) in
@@ -417,7 +417,7 @@ allocation old new seat run o sort ty l v n p comes none b k =
     } in
     record {
       given =
-          λ m q place. given-on new seat run (Act.Allocates sort v) n p (Val.Loc l.0) run.reads (Tree.Held (Val.Loc l.0), made_at l.0 v p) comes refl
+          λ m q place. given-on new seat run (Act.Allocates sort ty v) n p (Val.Loc l.0) run.reads (Tree.Held (Val.Loc l.0), made_at l.0 v p) comes refl
           (record { seen = set.seen; own = set.own; made = (fresh, set.made); sets = set.sets }) m q place.ran place.used;
       undos =
           undo-more old new seat run.undos (Made l) cell b k apart

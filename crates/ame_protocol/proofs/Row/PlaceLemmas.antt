@@ -2,6 +2,7 @@
 use Rattle.std.proofs.Common.{◌≡◌, ℕ, zero, suc, ◌+◌, ◌⊎◌, inl, inr, List, [], ◌∷◌, ◌++◌, Option, Some, None, refl, sym, ap, ◌∙◌, subst, arith}
 use Rattle.std.proofs.lemmas.Option.{option_and_then_some}
 use Rattle.ame_term.specs.Tree.{Val, Tree}
+use Rattle.ame_term.specs.Signature.{unlisted}
 use Rattle.ame_term.specs.Frame.{Side}
 use Rattle.ame_term.specs.Context.{Focus, focus}
 use Rattle.ame_term.specs.Act.{Act, act_of}
@@ -52,7 +53,7 @@ taken-quiet None l v p = refl
 taken-quiet (Some w) l v p = refl
 
 feeds-quiet : (p : LocalState) (side : Side) (act : Act) (v : Val) (part : Tree) (q : LocalState) → Feeds p side act v part q → side ≡ Side.Protected → q.answer ≡ p.answer
-feeds-quiet p _ _ _ _ _ (Feeds.allocates side sort v l) e = refl
+feeds-quiet p _ _ _ _ _ (Feeds.allocates side sort number v l) e = refl
 feeds-quiet p _ _ _ _ _ (Feeds.reads side l v) e = taken-quiet (at p.sets l) l v p
 feeds-quiet p _ _ _ _ _ (Feeds.peeks l v) e = taken-quiet (at p.sets l) l v p
 feeds-quiet p _ _ _ _ _ (Feeds.writes side l v) e = refl
@@ -107,7 +108,7 @@ module _ (side : Side) (start p : LocalState) (redex : Tree) (n : ℕ) (v : Val)
 
   -- each place that has used all inputs, this one too, stands after that step
   pub later-footprint : (m : ℕ) (q : LocalState) → goes side (given_more (v ∷ []) start) m ≡ Some q → q.inputs ≡ [] → SameFootprint made.1 q
-  later-footprint m q e done = by (compared 0 (λ _. None) m n)
+  later-footprint m q e done = by (compared (unlisted 0) (λ _. None) m n)
     where
       by : ((d : ℕ) × (n ≡ m + d)) ⊎ ((d : ℕ) × (m ≡ n + suc d)) → SameFootprint made.1 q
       by (inl k) =

@@ -2,6 +2,7 @@
 use Rattle.std.proofs.Common.{◌≡◌, ℕ, ◌==◌, ◌⊎◌, inl, inr, Bool, true, false, ◌&&◌, ◌||◌, List, Option, Some, None, if◌then◌else◌, refl, ap, ◌∙◌}
 use Rattle.std.proofs.lemmas.Bool.{eqb-true, eq-eqb}
 use Rattle.ame_term.specs.Tree.{Typ, Val, Tree}
+use Rattle.ame_term.specs.Signature.{Signature}
 use Rattle.ame_term.specs.Frame.{Side}
 use Rattle.ame_term.specs.declared.types.Sort.{Sort}
 use Rattle.ame_term.specs.declared.types.Effect.{Effect}
@@ -85,20 +86,20 @@ live-reached heap seat types =
 
 -- Typed things, by more types
 
-module _ (devices : ℕ) (cells later : StoreTyping) (grows : Grows cells later) where
-  pub stored-grown : (l : ℕ) (v : Val) → IsStored devices cells l v → IsStored devices later l v
-  stored-grown l v h = (h.0, grows l h.0 h.1, (weaken_value devices cells later grows h.2.0, h.2.1))
+module _ (signature : Signature) (cells later : StoreTyping) (grows : Grows cells later) where
+  pub stored-grown : (l : ℕ) (v : Val) → IsStored signature cells l v → IsStored signature later l v
+  stored-grown l v h = (h.0, grows l h.0 h.1, (weaken_value signature cells later grows h.2.0, h.2.1))
 
-  pub fragment-grown : (q : Effect) (term : Tree) (t : Typ) → IsFragment devices cells q term t → IsFragment devices later q term t
-  fragment-grown q term t h = (weaken_cells devices cells later grows h.0, h.1)
+  pub fragment-grown : (q : Effect) (term : Tree) (t : Typ) → IsFragment signature cells q term t → IsFragment signature later q term t
+  fragment-grown q term t h = (weaken_cells signature cells later grows h.0, h.1)
 
-  pub place-grown : (t : Typ) (p : LocalState) → IsTypedPlace devices cells t p → IsTypedPlace devices later t p
+  pub place-grown : (t : Typ) (p : LocalState) → IsTypedPlace signature cells t p → IsTypedPlace signature later t p
   place-grown t p h = record {
     fragment = fragment-grown Effect.Protected p.term t h.fragment;
     stored = λ l v e. stored-grown l v (h.stored l v e);
-    members = each (IsMember devices cells) (IsMember devices later) (λ body m. fragment-grown Effect.Protected body Typ.Unit m) p.spawns h.members;
+    members = each (IsMember signature cells) (IsMember signature later) (λ body m. fragment-grown Effect.Protected body Typ.Unit m) p.spawns h.members;
   }
 
-  pub throughout-grown : (side : Side) (term : Tree) (inputs : List Val) (t : Typ) → IsTypedThroughout devices cells side term inputs t
-      → IsTypedThroughout devices later side term inputs t
+  pub throughout-grown : (side : Side) (term : Tree) (inputs : List Val) (t : Typ) → IsTypedThroughout signature cells side term inputs t
+      → IsTypedThroughout signature later side term inputs t
   throughout-grown side term inputs t h = λ n p ran used. place-grown t p (h n p ran used)

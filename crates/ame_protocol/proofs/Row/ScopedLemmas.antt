@@ -3,6 +3,7 @@ use Rattle.std.proofs.Common.{◌≡◌, ℕ, ◌⊎◌, inl, inr, true, List, [
 use Rattle.std.proofs.lemmas.List.Elements.{All-contains, Contains-push, All-from_recursion, recursion_from_All}
 use Rattle.std.specs.List.{AllByRecursion}
 use Rattle.ame_term.specs.Tree.{Typ, Val, Tree}
+use Rattle.ame_term.specs.Signature.{Signature}
 use Rattle.ame_term.specs.Frame.{Side}
 use Rattle.ame_term.specs.Act.{Act}
 use Rattle.ame_term.specs.HasType.{HasType, HasValue}
@@ -59,10 +60,10 @@ reached-kept seat old new f l (inr h) =
     let same = (own-stays seat old new f l h.0).0 in
     inr (subst (IsOwnedBy seat) (sym same) h.0, ap (λ (c : Cell Val). c.number) same ∙ h.1)
 
-pub scoped-others : (devices : ℕ) (types later : StoreTyping) (seat : ℕ) (old new : Heap) (run : SeatRun) → Grows types later → IsFramed seat old new → All (IsNote old) run.reads
-    → IsScoped devices types old seat run → IsScoped devices later new seat run
-scoped-others devices types later seat old new run grows f notes scoped valid =
-    throughout-grown devices (reached_types old seat types) (reached_types new seat later) (reached-grows old new seat types later grows (reached-kept seat old new f))
+pub scoped-others : (signature : Signature) (types later : StoreTyping) (seat : ℕ) (old new : Heap) (run : SeatRun) → Grows types later → IsFramed seat old new → All (IsNote old) run.reads
+    → IsScoped signature types old seat run → IsScoped signature later new seat run
+scoped-others signature types later seat old new run grows f notes scoped valid =
+    throughout-grown signature (reached_types old seat types) (reached_types new seat later) (reached-grows old new seat types later grows (reached-kept seat old new f))
     Side.Protected run.start run.inputs Typ.Unit (scoped (all-valid-back seat old new f run.reads notes valid))
 
 -- Own events
@@ -78,26 +79,26 @@ valid-front heap seat reads note valid = (
     by (x ∷ xs) all = (all.0, by xs all.1)
 
 -- what is committed is typed by live cells
-committed-stored : (devices : ℕ) (types : StoreTyping) (heap : Heap) (s : State) → ShowsStore heap s.store → IsTypedNow devices types heap s → (l : ℕ) (v : Val)
-    → heap.committed l ≡ Some v → IsStored devices (live_types heap types) l v
-committed-stored devices types heap s shows typed l v e = typed.stored l v (sym (shows l) ∙ e)
+committed-stored : (signature : Signature) (types : StoreTyping) (heap : Heap) (s : State) → ShowsStore heap s.store → IsTypedNow signature types heap s → (l : ℕ) (v : Val)
+    → heap.committed l ≡ Some v → IsStored signature (live_types heap types) l v
+committed-stored signature types heap s shows typed l v e = typed.stored l v (sym (shows l) ∙ e)
 
-module _ (devices : ℕ) (types : StoreTyping) (heap : Heap) (seat : ℕ) (run : SeatRun) (s : State) where
-  pub scoped-begun : (term : Tree) (i : ℕ) → IsTypedNow devices types heap s → at s.members i ≡ Some term → IsScoped devices types heap seat (begun_seat term)
+module _ (signature : Signature) (types : StoreTyping) (heap : Heap) (seat : ℕ) (run : SeatRun) (s : State) where
+  pub scoped-begun : (term : Tree) (i : ℕ) → IsTypedNow signature types heap s → at s.members i ≡ Some term → IsScoped signature types heap seat (begun_seat term)
   scoped-begun term i typed member valid =
-      typed-begun devices (reached_types heap seat types) Side.Protected term Typ.Unit
-      (fragment-grown devices (live_types heap types) (reached_types heap seat types) (live-reached heap seat types) Effect.Protected term Typ.Unit
-      (each-at (IsMember devices (live_types heap types)) s.members i term member typed.members))
+      typed-begun signature (reached_types heap seat types) Side.Protected term Typ.Unit
+      (fragment-grown signature (live_types heap types) (reached_types heap seat types) (live-reached heap seat types) Effect.Protected term Typ.Unit
+      (each-at (IsMember signature (live_types heap types)) s.members i term member typed.members))
 
-  pub scoped-outside : IsTypedNow devices types heap s → ShowsStore heap s.store → IsCommitted heap → (l : Loc) (n : ℕ) (p : LocalState) → ComesTo run (Act.Reads l.0) n p
-      → (IsOwnedBy seat (cell_at heap l.0) → ⊥) → IsScoped devices types heap seat run → IsScoped devices types heap seat (given_outside l (cell_at heap l.0) run)
+  pub scoped-outside : IsTypedNow signature types heap s → ShowsStore heap s.store → IsCommitted heap → (l : Loc) (n : ℕ) (p : LocalState) → ComesTo run (Act.Reads l.0) n p
+      → (IsOwnedBy seat (cell_at heap l.0) → ⊥) → IsScoped signature types heap seat run → IsScoped signature types heap seat (given_outside l (cell_at heap l.0) run)
   scoped-outside typed shows c l n p comes apart scoped valid =
       let cell = cell_at heap l.0 in
       let both = valid-front heap seat run.reads (record { loc = l; number = cell.number }) valid in
       let free = unowned-valid seat cell.number cell apart both.1 in
-      let fit = stored-grown devices (live_types heap types) (reached_types heap seat types) (live-reached heap seat types) l.0 cell.value
-      (committed-stored devices types heap s shows typed l.0 cell.value (c.free l.0 both.1.live free)) in
-      scoped-on devices (reached_types heap seat types) run (Act.Reads l.0) n p cell.value (Tree.Held cell.value, took l.0 cell.value p) comes refl fit (scoped both.0)
+      let fit = stored-grown signature (live_types heap types) (reached_types heap seat types) (live-reached heap seat types) l.0 cell.value
+      (committed-stored signature types heap s shows typed l.0 cell.value (c.free l.0 both.1.live free)) in
+      scoped-on signature (reached_types heap seat types) run (Act.Reads l.0) n p cell.value (Tree.Held cell.value, took l.0 cell.value p) comes refl fit (scoped both.0)
 
   -- what the run set is in place
   pub held-value : (reads : List ReadNote) (p : LocalState) (l : ℕ) → IsGiven heap seat reads p → IsOwnedBy seat (cell_at heap l) → at p.sets l ≡ Some (cell_at heap l).value
@@ -108,15 +109,15 @@ module _ (devices : ℕ) (types : StoreTyping) (heap : Heap) (seat : ℕ) (run :
       by (Some w) held = ap Some (sym held.1)
 
   pub scoped-own : (l n : ℕ) (p : LocalState) → ComesTo run (Act.Reads l) n p → IsGivenThroughout heap seat run → IsOwnedBy seat (cell_at heap l)
-      → IsScoped devices types heap seat run → IsScoped devices types heap seat (given_one (cell_at heap l).value run)
+      → IsScoped signature types heap seat run → IsScoped signature types heap seat (given_one (cell_at heap l).value run)
   scoped-own l n p comes given own scoped valid =
       let v = (cell_at heap l).value in
       let all = scoped valid in
       let fit = (all n p comes.place.ran comes.place.used).stored l v (held-value run.reads p l (given n p comes.place) own) in
-      scoped-on devices (reached_types heap seat types) run (Act.Reads l) n p v (Tree.Held v, took l v p) comes refl fit all
+      scoped-on signature (reached_types heap seat types) run (Act.Reads l) n p v (Tree.Held v, took l v p) comes refl fit all
 
   -- what a valid row owns is live, or was made by it
-  pub owned-reached : (n : ℕ) (p : LocalState) → HasUsed run n p → IsGivenThroughout heap seat run → AreValid heap seat run.reads → IsScoped devices types heap seat run
+  pub owned-reached : (n : ℕ) (p : LocalState) → HasUsed run n p → IsGivenThroughout heap seat run → AreValid heap seat run.reads → IsScoped signature types heap seat run
       → (l : ℕ) → IsOwnedBy seat (cell_at heap l) → IsLive (cell_at heap l) ⊎ ((cell_at heap l).number ≡ 1)
   owned-reached n p place given valid scoped l own =
       let v = (cell_at heap l).value in
@@ -128,8 +129,8 @@ module _ (devices : ℕ) (types : StoreTyping) (heap : Heap) (seat : ℕ) (run :
       by (inr made) = inr made.1
 
 -- a cell that becomes another one of the seat
-module _ (devices : ℕ) (types later : StoreTyping) (old new : Heap) (seat : ℕ) (run : SeatRun) (grows : Grows types later) (notes : All (IsNote old) run.reads)
-    (scoped : IsScoped devices types old seat run) where
+module _ (signature : Signature) (types later : StoreTyping) (old new : Heap) (seat : ℕ) (run : SeatRun) (grows : Grows types later) (notes : All (IsNote old) run.reads)
+    (scoped : IsScoped signature types old seat run) where
   reached-on : (l : ℕ) (cell : Cell Val) → BecomesAt old new l cell → (Reached seat (cell_at old l) → Reached seat cell)
       → (m : ℕ) → Reached seat (cell_at old m) → Reached seat (cell_at new m)
   reached-on l cell b more m h = by (after old new l cell b m)
@@ -140,15 +141,15 @@ module _ (devices : ℕ) (types later : StoreTyping) (old new : Heap) (seat : �
 
   grown-on : (l : ℕ) (cell : Cell Val) → BecomesAt old new l cell → (Reached seat (cell_at old l) → Reached seat cell)
       → ((n : ℕ) → IsCell old l → IsValidAt seat n cell → IsValidAt seat n (cell_at old l)) → AreValid new seat run.reads
-      → IsTypedThroughout devices (reached_types new seat later) Side.Protected run.start run.inputs Typ.Unit
+      → IsTypedThroughout signature (reached_types new seat later) Side.Protected run.start run.inputs Typ.Unit
   grown-on l cell b more back valid =
-      throughout-grown devices (reached_types old seat types) (reached_types new seat later) (reached-grows old new seat types later grows (reached-on l cell b more))
+      throughout-grown signature (reached_types old seat types) (reached_types new seat later) (reached-grows old new seat types later grows (reached-on l cell b more))
       Side.Protected run.start run.inputs Typ.Unit (scoped (all-notes-back old new seat l cell b back run.reads notes valid))
 
   pub scoped-first : (l : ℕ) (v : Val) (n : ℕ) (p : LocalState) → ComesTo run (Act.Writes l v) n p → IsFree (cell_at old l) → BecomesAt old new l (taken_by seat v (cell_at old l))
-      → AreValid new seat run.reads → IsTypedThroughout devices (reached_types new seat later) Side.Protected run.start (run.inputs ++ Val.Unit ∷ []) Typ.Unit
+      → AreValid new seat run.reads → IsTypedThroughout signature (reached_types new seat later) Side.Protected run.start (run.inputs ++ Val.Unit ∷ []) Typ.Unit
   scoped-first l v n p comes free b valid =
-      scoped-on devices (reached_types new seat later) run (Act.Writes l v) n p Val.Unit (Tree.Held Val.Unit, set_at l v p) comes refl tt
+      scoped-on signature (reached_types new seat later) run (Act.Writes l v) n p Val.Unit (Tree.Held Val.Unit, set_at l v p) comes refl tt
       (grown-on l (taken_by seat v (cell_at old l)) b more (λ m _ h. taken-back seat m v (cell_at old l) free h) valid)
     where
       more : Reached seat (cell_at old l) → Reached seat (taken_by seat v (cell_at old l))
@@ -156,27 +157,27 @@ module _ (devices : ℕ) (types later : StoreTyping) (old new : Heap) (seat : �
       more (inr x) = absurd (free-apart seat (cell_at old l) free x.0)
 
   pub scoped-later : (l : ℕ) (v : Val) (n : ℕ) (p : LocalState) → ComesTo run (Act.Writes l v) n p → BecomesAt old new l (record (cell_at old l) { value = v })
-      → AreValid new seat run.reads → IsTypedThroughout devices (reached_types new seat later) Side.Protected run.start (run.inputs ++ Val.Unit ∷ []) Typ.Unit
+      → AreValid new seat run.reads → IsTypedThroughout signature (reached_types new seat later) Side.Protected run.start (run.inputs ++ Val.Unit ∷ []) Typ.Unit
   scoped-later l v n p comes b valid =
-      scoped-on devices (reached_types new seat later) run (Act.Writes l v) n p Val.Unit (Tree.Held Val.Unit, set_at l v p) comes refl tt
+      scoped-on signature (reached_types new seat later) run (Act.Writes l v) n p Val.Unit (Tree.Held Val.Unit, set_at l v p) comes refl tt
       (grown-on l (record (cell_at old l) { value = v }) b more (λ m _ h. value-back seat m v (cell_at old l) h) valid)
     where
       more : Reached seat (cell_at old l) → Reached seat (record (cell_at old l) { value = v })
       more (inl live) = inl live
       more (inr x) = inr x
 
-  pub scoped-made : (sort : Sort) (ty : TyNo) (l : ℕ) (v : Val) (n : ℕ) (p : LocalState) → ComesTo run (Act.Allocates sort v) n p → (IsCell old l → ⊥)
-      → BecomesAt old new l (made sort ty v (Some seat)) → IsFitFor devices later (Act.Allocates sort v) (Val.Loc l)
-      → AreValid new seat run.reads → IsTypedThroughout devices (reached_types new seat later) Side.Protected run.start (run.inputs ++ Val.Loc l ∷ []) Typ.Unit
+  pub scoped-made : (sort : Sort) (ty : TyNo) (l : ℕ) (v : Val) (n : ℕ) (p : LocalState) → ComesTo run (Act.Allocates sort ty v) n p → (IsCell old l → ⊥)
+      → BecomesAt old new l (made sort ty v (Some seat)) → IsFitFor signature later (Act.Allocates sort ty v) (Val.Loc l)
+      → AreValid new seat run.reads → IsTypedThroughout signature (reached_types new seat later) Side.Protected run.start (run.inputs ++ Val.Loc l ∷ []) Typ.Unit
   scoped-made sort ty l v n p comes none b fit valid =
       let cell = made sort ty v (Some seat) in
       let all = grown-on l cell b (λ _. inr (refl, refl)) (λ m there _. absurd (none there)) valid in
       let scope = reached_types new seat later in
-      let act = act-typed devices scope Side.Protected (Act.Allocates sort v) p comes.there (all n p comes.place.ran comes.place.used) in
-      let value : IsValueOf devices scope v act.1.0 = act.1.2 in
-      let wide : HasValue devices later v act.1.0 = weaken_value devices scope later (where-within (λ m. reaches seat (cell_at new m)) later) value.0 in
-      let one : act.1.0 ≡ fit.0 = unique devices later (HasType.held {g = unscoped} {q = Effect.Protected} wide) (HasType.held {g = unscoped} {q = Effect.Protected} fit.2) in
+      let act = act-typed signature scope Side.Protected (Act.Allocates sort ty v) p comes.there (all n p comes.place.ran comes.place.used) in
+      let value : IsValueOf signature scope v act.1.0 = act.1.2 in
+      let wide : HasValue signature later v act.1.0 = weaken_value signature scope later (where-within (λ m. reaches seat (cell_at new m)) later) value.0 in
+      let one : act.1.0 ≡ fit.0 = unique signature later (HasType.held {g = unscoped} {q = Effect.Protected} wide) (HasType.held {g = unscoped} {q = Effect.Protected} fit.2) in
       let here : reaches seat (cell_at new l) ≡ true = of-reach seat (cell_at new l) (subst (Reached seat) (sym b.there) (inr (refl, refl))) in
       let typed_there : scope l ≡ Some (sort, fit.0) = of-where (λ m. reaches seat (cell_at new m)) later l (sort, fit.0) here fit.1 in
-      scoped-on devices scope run (Act.Allocates sort v) n p (Val.Loc l) (Tree.Held (Val.Loc l), made_at l v p) comes refl
-      (fit.0, typed_there, subst (HasValue devices scope v) one value.0) all
+      scoped-on signature scope run (Act.Allocates sort ty v) n p (Val.Loc l) (Tree.Held (Val.Loc l), made_at l v p) comes refl
+      (fit.0, typed_there, subst (HasValue signature scope v) one value.0) all

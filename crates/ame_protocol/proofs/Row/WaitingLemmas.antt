@@ -3,6 +3,7 @@ use Rattle.std.proofs.Common.{◌≡◌, ℕ, ◌+◌, ◌<◌, ◌≤◌, ◌�
 use Rattle.std.proofs.lemmas.List.{get_or-map, length-map}
 use Rattle.std.proofs.lemmas.List.Elements.{All-contains, All-weaker, All-map}
 use Rattle.ame_term.specs.Tree.{Val}
+use Rattle.ame_term.specs.Signature.{Signature}
 use Rattle.ame_term.specs.Frame.{Side}
 use Rattle.ame_term.specs.Context.{focus}
 use Rattle.ame_term.specs.Maps.{at}
@@ -37,8 +38,8 @@ place-there reads note c =
 
 -- a valid row that has failed
 
-module _ (devices : ℕ) (types : StoreTyping) (heap : Heap) (seat : ℕ) (run : SeatRun) (s : State) (n : ℕ) (p : LocalState) (o : Owes heap seat run)
-    (valid : AreValid heap seat run.reads) (scoped : IsScoped devices types heap seat run) (place : HasUsed run n p) where
+module _ (signature : Signature) (types : StoreTyping) (heap : Heap) (seat : ℕ) (run : SeatRun) (s : State) (n : ℕ) (p : LocalState) (o : Owes heap seat run)
+    (valid : AreValid heap seat run.reads) (scoped : IsScoped signature types heap seat run) (place : HasUsed run n p) where
   seen-waits : (e : ℕ × Val) → IsLogged heap seat run.reads e → Contains (read_places run.reads) e.0 × (heap.committed e.0 ≡ Some e.1)
   seen-waits e h = (
     subst (Contains (read_places run.reads)) h.place (place-there run.reads h.note h.logged),
@@ -46,7 +47,7 @@ module _ (devices : ℕ) (types : StoreTyping) (heap : Heap) (seat : ℕ) (run :
   )
 
   made-waits : (e : ℕ × Option Val) → IsMadeCell heap seat e → IsGone seat (cell_at heap e.0) × (e.1 ≡ None)
-  made-waits e h = (record { dead = h.dead; over = by (owned-reached devices types heap seat run s n p place o.given valid scoped e.0 h.own) }, h.unset)
+  made-waits e h = (record { dead = h.dead; over = by (owned-reached signature types heap seat run s n p place o.given valid scoped e.0 h.own) }, h.unset)
     where
       by : IsLive (cell_at heap e.0) ⊎ ((cell_at heap e.0).number ≡ 1) → (2 ≤ (cell_at heap e.0).number) ⊎ (IsOwnedBy seat (cell_at heap e.0) × ((cell_at heap e.0).number ≡ 1))
       by (inl live) = absurd (dead-apart (cell_at heap e.0) h.dead live)

@@ -4,7 +4,6 @@ use Rattle.ame_term.specs.Tree.{Typ, Val, Tree}
 use Rattle.ame_term.specs.Frame.{Side}
 use Rattle.ame_term.specs.Act.{Act}
 use Rattle.ame_term.specs.Maps.{at}
-use Rattle.ame_term.specs.declared.types.TyNo.{TyNo}
 use Rattle.ame_laws.specs.Typed.StoreTyping.{StoreTyping}
 use Rattle.ame_store.specs.Cells.{IsDead}
 use Rattle.ame_machine.specs.Run.Local.{LocalState, begun_with, made_at}
@@ -27,11 +26,11 @@ use Rattle.ame_protocol.proofs.Visits.PlaceLemmas.{committed-live}
 use Rattle.ame_protocol.proofs.Visits.SettleLemmas.{Settles, live-grows, settles-same, settles-put, larger_types, settles-born, born-fit}
 
 -- What an act makes of the memory, and of the run, which agrees with the store still; and its value is fit.
-pub record IsMadeHere (parts : Parts) (s : Simulates parts) (act : Act) (v : Val) (ty : TyNo) (q : LocalState) : Type 0 where
+pub record IsMadeHere (parts : Parts) (s : Simulates parts) (act : Act) (v : Val) (q : LocalState) : Type 0 where
   pub types : StoreTyping
-  pub settles : Settles parts s (memory_after ty act parts.memory) q.sets types
+  pub settles : Settles parts s (memory_after act parts.memory) q.sets types
   pub agrees : AgreesWith s.r.state.store q
-  pub fit : IsFitFor parts.devices (live_types (heap_of (memory_after ty act parts.memory)) types) act v
+  pub fit : IsFitFor parts.signature (live_types (heap_of (memory_after act parts.memory)) types) act v
 
 module _ (parts : Parts) (s : Simulates parts) where
   abbrev live : StoreTyping
@@ -52,21 +51,22 @@ module _ (parts : Parts) (s : Simulates parts) where
   in-store : (l : ℕ) (v : Val) → committed parts.memory l ≡ Some v → at s.r.state.store l ≡ Some v
   in-store l v is = sym (s.stands.store l) ∙ is
 
-  module _ (u : Tree) (ty : TyNo) (typed : IsTypedPlace parts.devices live Typ.Unit (begun_with u [])) where
+  module _ (u : Tree) (typed : IsTypedPlace parts.signature live Typ.Unit (begun_with u [])) where
     pub by-act : (side : Side) (act : Act) (v : Val) (part : Tree) (q : LocalState) → Feeds (begun_with u []) side act v part q → side ≡ Side.Unprotected
-        → IsGivenBy parts.memory act v → StandsAt side act (begun_with u []) → IsMadeHere parts s act v ty q
-    by-act _ _ _ _ _ (Feeds.allocates side sort w l) under given at_it =
+        → IsGivenBy parts.memory act v → StandsAt side act (begun_with u []) → IsMadeHere parts s act v q
+    by-act _ _ _ _ _ (Feeds.allocates side sort ty w l) under given at_it =
         let same : l ≡ length parts.memory.cells = cc in
-        let its = act-typed parts.devices live side (Act.Allocates sort w) (begun_with u []) at_it typed in
+        let its = act-typed parts.signature live side (Act.Allocates sort ty w) (begun_with u []) at_it typed in
         let content = its.1.0 in
         let value = its.1.2 in
-        let st = settles-born parts s sort ty w content value in
-        let types = larger_types parts s sort ty w content value in
-        subst (λ (k : ℕ). IsMadeHere parts s (Act.Allocates sort w) (Val.Loc k) ty (made_at k w (begun_with u []))) (sym same) (record {
+        let may = its.1.3 in
+        let st = settles-born parts s sort ty w content value may in
+        let types = larger_types parts s sort ty w content value may in
+        subst (λ (k : ℕ). IsMadeHere parts s (Act.Allocates sort ty w) (Val.Loc k) (made_at k w (begun_with u []))) (sym same) (record {
           types = types;
           settles = st;
           agrees = record { seen = tt; own = tt; made = ((nothing-there, refl), tt) };
-          fit = born-fit parts s sort ty w content value (live-grows parts s _ _ types st);
+          fit = born-fit parts s sort ty w content value may (live-grows parts s _ _ types st);
         })
     by-act _ _ _ _ _ (Feeds.reads side l v) under given at_it = record {
       types = s.types;
@@ -85,8 +85,8 @@ module _ (parts : Parts) (s : Simulates parts) where
         record {
           types = s.types;
           settles =
-              settles-put parts s l w (write-live parts.devices s.types (heap_in parts) s.typed.heap (begun_with u []) typed l w here)
-              (write-stored parts.devices s.types (heap_in parts) s.typed.heap (begun_with u []) typed l w here);
+              settles-put parts s l w (write-live parts.signature s.types (heap_in parts) s.typed.heap (begun_with u []) typed l w here)
+              (write-stored parts.signature s.types (heap_in parts) s.typed.heap (begun_with u []) typed l w here);
           agrees = record { seen = tt; own = tt; made = tt };
           fit = tt;
         }

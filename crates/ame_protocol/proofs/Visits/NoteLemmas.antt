@@ -259,7 +259,7 @@ module _ (parts : Parts) (seat : ℕ) (task : Task) (attempt : Attempt) (at_it :
     journal = sym (append_assoc parts.base parts.entries (entry ∷ []))
 
     goes : GoesOn parts new
-    goes = record { program = refl; devices = refl; limits = refl; more = entry ∷ []; journal = journal; turns = later }
+    goes = record { program = refl; signature = refl; limits = refl; more = entry ∷ []; journal = journal; turns = later }
 
     replayed : replay parts.program (whole_journal new) ≡ Some s.r
     replayed =

@@ -5,6 +5,8 @@ use Rattle.std.proofs.lemmas.Bool.{lt-ltb, ltb-true}
 use Rattle.std.proofs.lemmas.List.{append-nil, length-replicate}
 use Rattle.std.proofs.lemmas.List.Elements.{All-nil, All-from_get_or}
 use Rattle.ame_term.specs.Tree.{Typ, Val, Tree}
+use Rattle.ame_term.specs.Signature.{Signature, MayStore}
+use Rattle.ame_term.specs.declared.types.TyNo.{TyNo}
 use Rattle.ame_term.specs.Maps.{at}
 use Rattle.ame_term.specs.declared.types.Sort.{Sort}
 use Rattle.ame_journal.specs.declared.entry.Entry.{Entry}
@@ -71,11 +73,11 @@ stored-live cell live = ap (λ (b : Bool). if b then Some cell.value else None) 
 pub stored-dead : (cell : Cell Val) → IsDead cell → stored_in cell ≡ None
 stored-dead cell dead = ap (λ (b : Bool). if b then Some cell.value else None) dead
 
-module _ (program : Tree) (devices : ℕ) (limits : Limits) (base : List Entry) (cells : List (Cell Val)) (pool : Roster Tree) (r : Replayed)
-    (types : StoreTyping) (replayed : replay program base ≡ Some r) (typed : IsTyped devices types r.state) (o : AreOpened types cells r.state)
+module _ (program : Tree) (signature : Signature) (limits : Limits) (base : List Entry) (cells : List (Cell Val)) (pool : Roster Tree) (r : Replayed)
+    (types : StoreTyping) (replayed : replay program base ≡ Some r) (typed : IsTyped signature types r.state) (o : AreOpened signature types cells r.state)
     (m : HasMembersOf r pool) where
   abbrev parts : Parts
-  parts = opened program devices limits base cells pool r.state.output r.state.next
+  parts = opened program signature limits base cells pool r.state.output r.state.next
 
   abbrev heap : Heap
   heap = heap_of parts.memory
@@ -99,28 +101,31 @@ module _ (program : Tree) (devices : ℕ) (limits : Limits) (base : List Entry) 
   grows-live l cell e = of-where (λ k. (cell_at heap k).live) all_types l cell (live-there l cell e) (grows l cell e)
 
   value-live : (l : ℕ) → IsLive (cell_of cells l)
-      → (content : Typ) × (types l ≡ Some ((cell_of cells l).sort, content)) × IsValueOf devices types (cell_of cells l).value content
+      → (content : Typ) × (types l ≡ Some ((cell_of cells l).sort, content)) × IsValueOf signature types (cell_of cells l).value content
+      × MayStore signature.refs (cell_of cells l).ty.0 content
   value-live l live =
       let cell = cell_of cells l in
       let its = o.sorts l live in
       let st = typed.typed.stored l cell.value (o.stored l ∙ stored-live cell live) in
       let one : st.0 ≡ (cell.sort, its.0) = same_cell st.0 (cell.sort, its.0) (types l) st.1 its.1 in
-      (its.0, its.1, subst (IsValueOf devices types cell.value) (ap (λ (x : Sort × Typ). x.1) one) st.2)
+      (its.0, its.1, subst (IsValueOf signature types cell.value) (ap (λ (x : Sort × Typ). x.1) one) st.2, its.2)
 
-  heap-typed : IsTypedHeap devices all_types heap
+  heap-typed : IsTypedHeap signature all_types heap
   heap-typed = record { typed = λ l there. by l there (live_or_dead (cell_of cells l)); located = λ l cell e. within l cell e (live_or_dead (cell_of cells l)) }
     where
       by : (l : ℕ) → l < length cells → IsLive (cell_of cells l) ⊎ IsDead (cell_of cells l)
-          → (content : Typ) × (all_types l ≡ Some ((cell_of cells l).sort, content)) × IsValueOf devices all_types (cell_of cells l).value content
+          → (content : Typ) × (all_types l ≡ Some ((cell_of cells l).sort, content)) × IsValueOf signature all_types (cell_of cells l).value content
+          × MayStore signature.refs (cell_of cells l).ty.0 content
       by l there (inl live) =
           let v = value-live l live in
-          (v.0, types-live types cells o.copied l live ∙ v.1, (weaken_value devices types all_types grows v.2.0, v.2.1))
+          (v.0, types-live types cells o.copied l live ∙ v.1, (weaken_value signature types all_types grows v.2.0, v.2.1), v.3)
       by l there (inr dead) =
           let c = o.copies l there dead in
           let v = value-live o.copied c.0 in (
             v.0,
             types-copied types cells o.copied l dead there ∙ v.1 ∙ ap (λ (x : Sort). Some (x, v.0)) (sym c.1),
-            subst (λ (w : Val). IsValueOf devices all_types w v.0) (sym c.2) (weaken_value devices types all_types grows v.2.0, v.2.1),
+            subst (λ (w : Val). IsValueOf signature all_types w v.0) (sym c.2) (weaken_value signature types all_types grows v.2.0, v.2.1),
+            subst (λ (n : TyNo). MayStore signature.refs n.0 v.0) (sym c.3) v.3,
           )
 
       within : (l : ℕ) (cell : Sort × Typ) → all_types l ≡ Some cell → IsLive (cell_of cells l) ⊎ IsDead (cell_of cells l) → IsCell heap l
@@ -159,7 +164,7 @@ module _ (program : Tree) (devices : ℕ) (limits : Limits) (base : List Entry) 
     };
     typed = record {
       heap = heap-typed;
-      now = grown devices types (live_types heap all_types) r.state grows-live typed.typed;
+      now = grown signature types (live_types heap all_types) r.state grows-live typed.typed;
       shared = λ l live its. o.free l;
     };
     consistent = kept_new cells limits.seats (All-from_get_or IsFree cells no_cell (λ l below. o.free l));
@@ -175,7 +180,7 @@ module _ (program : Tree) (devices : ℕ) (limits : Limits) (base : List Entry) 
     sound = All-nil (IsSoundIn parts);
   }
 
-pub opened-alone : (program : Tree) (devices : ℕ) (limits : Limits) (base : List Entry) (cells : List (Cell Val)) (pool : Roster Tree)
-    (output : List ℤ) (next : ℕ) → RunsExclusively (opened program devices limits base cells pool output next)
-opened-alone program devices limits base cells pool output next =
-    rest-alone (opened program devices limits base cells pool output next) (task-idle limits.seats)
+pub opened-alone : (program : Tree) (signature : Signature) (limits : Limits) (base : List Entry) (cells : List (Cell Val)) (pool : Roster Tree)
+    (output : List ℤ) (next : ℕ) → RunsExclusively (opened program signature limits base cells pool output next)
+opened-alone program signature limits base cells pool output next =
+    rest-alone (opened program signature limits base cells pool output next) (task-idle limits.seats)

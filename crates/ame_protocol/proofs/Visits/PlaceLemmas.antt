@@ -84,31 +84,31 @@ module _ (parts : Parts) (s : Simulates parts) (seat : ℕ) (attempt : Attempt) 
   pub begins-under : at_unprotected (focus (term_at parts.pool number)) ≡ true
   begins-under = sym (ap (has_such (λ term. at_unprotected (focus term))) term-there) ∙ is-under
 
-  pub throughout : IsTypedThroughout parts.devices live Side.Unprotected (term_at parts.pool number) [] Typ.Unit
+  pub throughout : IsTypedThroughout parts.signature live Side.Unprotected (term_at parts.pool number) [] Typ.Unit
   throughout =
-      typed-begun parts.devices live Side.Unprotected (term_at parts.pool number) Typ.Unit
-      (each-at (IsMember parts.devices live) s.r.state.members number (term_at parts.pool number) term-there s.typed.now.members)
+      typed-begun parts.signature live Side.Unprotected (term_at parts.pool number) Typ.Unit
+      (each-at (IsMember parts.signature live) s.r.state.members number (term_at parts.pool number) term-there s.typed.now.members)
 
-  pub place-typed : (n : ℕ) (p : LocalState) → StepsTo parts number n p → IsTypedPlace parts.devices live Typ.Unit p
+  pub place-typed : (n : ℕ) (p : LocalState) → StepsTo parts number n p → IsTypedPlace parts.signature live Typ.Unit p
   place-typed n p ran = throughout n p ran (ap (λ (z : LocalState). z.inputs) (alone (term_at parts.pool number) n p ran))
 
   -- What it meets
 
   module _ (n : ℕ) (p : LocalState) (ran : StepsTo parts number n p) where
     pub read-met : (l : ℕ) → StandsAt Side.Unprotected (Act.Reads l) p → MeetsLive (heap_in parts) l Sort.Unprotected
-    read-met l at_it = read-live parts.devices s.types (heap_in parts) s.typed.heap p (place-typed n p ran) l at_it
+    read-met l at_it = read-live parts.signature s.types (heap_in parts) s.typed.heap p (place-typed n p ran) l at_it
 
     pub write-met : (l : ℕ) (v : Val) → StandsAt Side.Unprotected (Act.Writes l v) p → MeetsLive (heap_in parts) l Sort.Unprotected
-    write-met l v at_it = write-live parts.devices s.types (heap_in parts) s.typed.heap p (place-typed n p ran) l v at_it
+    write-met l v at_it = write-live parts.signature s.types (heap_in parts) s.typed.heap p (place-typed n p ran) l v at_it
 
-    pub write-typed : (l : ℕ) (v : Val) → StandsAt Side.Unprotected (Act.Writes l v) p → IsStored parts.devices s.types l v
-    write-typed l v at_it = write-stored parts.devices s.types (heap_in parts) s.typed.heap p (place-typed n p ran) l v at_it
+    pub write-typed : (l : ℕ) (v : Val) → StandsAt Side.Unprotected (Act.Writes l v) p → IsStored parts.signature s.types l v
+    write-typed l v at_it = write-stored parts.signature s.types (heap_in parts) s.typed.heap p (place-typed n p ran) l v at_it
 
     pub peek-met : (l : ℕ) → StandsAt Side.Unprotected (Act.Peeks l) p → MeetsLive (heap_in parts) l Sort.Protected
-    peek-met l at_it = peek-live parts.devices s.types (heap_in parts) s.typed.heap p (place-typed n p ran) l at_it
+    peek-met l at_it = peek-live parts.signature s.types (heap_in parts) s.typed.heap p (place-typed n p ran) l at_it
 
-    pub call-met : (device : ℕ) (argument : ℤ) → StandsAt Side.Unprotected (Act.Calls device argument) p → device < parts.devices
-    call-met device argument at_it = (act-typed parts.devices live Side.Unprotected (Act.Calls device argument) p at_it (place-typed n p ran)).1.0
+    pub call-met : (device : ℕ) (argument : ℤ) → StandsAt Side.Unprotected (Act.Calls device argument) p → device < parts.signature.devices
+    call-met device argument at_it = (act-typed parts.signature live Side.Unprotected (Act.Calls device argument) p at_it (place-typed n p ran)).1.0
 
 -- what a cell of unprotected code has in place is committed, and so is something at a live cell of protected code
 
@@ -123,10 +123,10 @@ module _ (parts : Parts) (s : Simulates parts) where
   some-there l met = live_committed parts.memory l (cell_at (heap_in parts) l) s.consistent (there parts.memory l met.there) met.live
 
   -- what is committed is of its location's type
-  pub committed-live : (l : ℕ) (v : Val) → committed parts.memory l ≡ Some v → IsStored parts.devices (live_types (heap_in parts) s.types) l v
+  pub committed-live : (l : ℕ) (v : Val) → committed parts.memory l ≡ Some v → IsStored parts.signature (live_types (heap_in parts) s.types) l v
   committed-live l v is = s.typed.now.stored l v (sym (s.stands.store l) ∙ is)
 
-  pub committed-typed : (l : ℕ) (v : Val) → committed parts.memory l ≡ Some v → IsStored parts.devices s.types l v
+  pub committed-typed : (l : ℕ) (v : Val) → committed parts.memory l ≡ Some v → IsStored parts.signature s.types l v
   committed-typed l v is =
-      stored-grown parts.devices (live_types (heap_in parts) s.types) s.types (where-within (λ m. (cell_at (heap_in parts) m).live) s.types) l v
+      stored-grown parts.signature (live_types (heap_in parts) s.types) s.types (where-within (λ m. (cell_at (heap_in parts) m).live) s.types) l v
       (committed-live l v is)

@@ -50,7 +50,7 @@ module _ (parts : Parts) (s : Simulates parts) (seat : ℕ) (attempt : Attempt) 
   inside-stays = sides-stay number (at_home false) parts.pool.members pool.members found (λ _. refl) (λ _. refl)
 
   goes : GoesOn parts new
-  goes = record { program = refl; devices = refl; limits = refl; more = []; journal = sym (append-nil (whole_journal parts)); turns = omega arith }
+  goes = record { program = refl; signature = refl; limits = refl; more = []; journal = sym (append-nil (whole_journal parts)); turns = omega arith }
 
   kept : (other i : ℕ) → (other ≡ seat → ⊥) → member_of (task_at parts.tasks other) ≡ Some i → StaysBusy parts new i
   kept other i apart e =

@@ -4,6 +4,7 @@ use Rattle.std.specs.Prelude.{Bool, unwrap_or, if◌then◌else◌, MatchOption}
 use Rattle.std.proofs.lemmas.Bool.{eq-eqb}
 use Rattle.std.proofs.lemmas.Option.{unwrap_or-slice_get}
 use Rattle.ame_term.specs.Tree.{Typ, Val}
+use Rattle.ame_term.specs.Signature.{MayStore}
 use Rattle.ame_term.specs.Act.{Act}
 use Rattle.ame_term.specs.Maps.{at, put}
 use Rattle.ame_term.specs.declared.types.Sort.{Sort}
@@ -49,7 +50,7 @@ use Rattle.ame_protocol.proofs.Engine.StepLemmas.{few-later, shared-one, numbers
 -- reads stay valid.
 pub record Settles (parts : Parts) (s : Simulates parts) (memory : MemoryView Val) (sets : List (ℕ × Val)) (types : StoreTyping) : Type 0 where
   pub grows : Grows s.types types
-  pub heap : IsTypedHeap parts.devices types (heap_of memory)
+  pub heap : IsTypedHeap parts.signature types (heap_of memory)
   pub shows : (l : ℕ) → (heap_of memory).committed l ≡ or_else (at sets l) ((heap_in parts).committed l)
   pub keeps : (l : ℕ) → IsCell (heap_in parts) l → (cell_at (heap_in parts) l).sort ≡ Sort.Protected → (heap_of memory).committed l ≡ (heap_in parts).committed l
   pub framed : (other : ℕ) → IsFramed other (heap_in parts) (heap_of memory)
@@ -105,7 +106,7 @@ module _ (parts : Parts) (s : Simulates parts) where
   }
 
   -- a cell is written
-  module _ (l : ℕ) (v : Val) (met : MeetsLive heap l Sort.Unprotected) (stored : IsStored parts.devices s.types l v) where
+  module _ (l : ℕ) (v : Val) (met : MeetsLive heap l Sort.Unprotected) (stored : IsStored parts.signature s.types l v) where
     abbrev cell : Cell Val
     cell = cell_at heap l
 
@@ -143,7 +144,7 @@ module _ (parts : Parts) (s : Simulates parts) where
     pub settles-put : Settles parts s wrote (put [] l v) s.types
     settles-put = record {
       grows = λ m c e. e;
-      heap = heap-stays parts.devices s.types heap (heap_of wrote) l (replaced v cell) s.typed.heap becomes count refl stored;
+      heap = heap-stays parts.signature s.types heap (heap_of wrote) l (replaced v cell) s.typed.heap becomes count refl refl stored;
       shows = sets-one heap.committed (heap_of wrote).committed l v (put_here l v parts.memory cell (there parts.memory l met.there) free met.live) others-stay;
       keeps = λ m there sort. protected-stays m sort;
       framed = λ other. put-framed other heap (heap_of wrote) l v free becomes others-stay;
@@ -156,7 +157,8 @@ module _ (parts : Parts) (s : Simulates parts) where
     }
 
   -- a cell is born
-  module _ (sort : Sort) (ty : TyNo) (v : Val) (content : Typ) (value : IsValueOf parts.devices (live_types heap s.types) v content) where
+  module _ (sort : Sort) (ty : TyNo) (v : Val) (content : Typ) (value : IsValueOf parts.signature (live_types heap s.types) v content)
+      (may : MayStore parts.signature.refs ty.0 content) where
     abbrev place : ℕ
     place = length parts.memory.cells
 
@@ -185,14 +187,14 @@ module _ (parts : Parts) (s : Simulates parts) where
     born-others : (m : ℕ) → (m ≡ place → ⊥) → (heap_of larger).committed m ≡ heap.committed m
     born-others m apart = born_elsewhere sort ty v m parts.memory apart
 
-    typed-value : IsValueOf parts.devices s.types v content
+    typed-value : IsValueOf parts.signature s.types v content
     typed-value =
-        (weaken_value parts.devices (live_types heap s.types) s.types (where-within (λ m. (cell_at heap m).live) s.types) value.0, value.1)
+        (weaken_value parts.signature (live_types heap s.types) s.types (where-within (λ m. (cell_at heap m).live) s.types) value.0, value.1)
 
     pub settles-born : Settles parts s larger (put [] place v) larger_types
     settles-born = record {
-      grows = types-grow parts.devices s.types heap place (sort, content) s.typed.heap refl;
-      heap = heap-grows parts.devices s.types heap (heap_of larger) place new_cell content s.typed.heap born-becomes refl born-count typed-value;
+      grows = types-grow parts.signature s.types heap place (sort, content) s.typed.heap refl;
+      heap = heap-grows parts.signature s.types heap (heap_of larger) place new_cell content s.typed.heap born-becomes refl born-count typed-value may;
       shows = sets-one heap.committed (heap_of larger).committed place v (born_here sort ty v parts.memory) born-others;
       keeps = λ m there sort. born-others m (λ same. not_there (subst (IsCell heap) same there));
       framed = λ other. new-framed other heap (heap_of larger) place new_cell not_there (free-apart other new_cell refl) born-becomes born-others;
@@ -206,10 +208,10 @@ module _ (parts : Parts) (s : Simulates parts) where
 
     -- the new location is fit for the act
     pub born-fit : Grows (live_types heap s.types) (live_types (heap_of larger) larger_types)
-        → IsFitFor parts.devices (live_types (heap_of larger) larger_types) (Act.Allocates sort v) (Val.Loc place)
+        → IsFitFor parts.signature (live_types (heap_of larger) larger_types) (Act.Allocates sort ty v) (Val.Loc place)
     born-fit grows = (
       content,
       of-where (λ m. (cell_at (heap_of larger) m).live) larger_types place (sort, content) (ap (λ (c : Cell Val). c.live) born-becomes.there)
           (ap (λ (b : Bool). if b then Some (sort, content) else s.types place) (eq-eqb place place refl)),
-      weaken_value parts.devices (live_types heap s.types) (live_types (heap_of larger) larger_types) grows value.0,
+      weaken_value parts.signature (live_types heap s.types) (live_types (heap_of larger) larger_types) grows value.0,
     )

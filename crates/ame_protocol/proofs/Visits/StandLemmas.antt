@@ -119,7 +119,7 @@ module _ (parts : Parts) (s : Simulates parts) (seat : ℕ) (attempt : Attempt) 
   journal = sym (append_assoc parts.base parts.entries (entry ∷ []))
 
   pub goes : GoesOn parts new
-  goes = record { program = refl; devices = refl; limits = refl; more = entry ∷ []; journal = journal; turns = omega arith }
+  goes = record { program = refl; signature = refl; limits = refl; more = entry ∷ []; journal = journal; turns = omega arith }
 
   replayed : replay parts.program (whole_journal new) ≡ Some v.r
   replayed =
@@ -163,14 +163,14 @@ module _ (parts : Parts) (s : Simulates parts) (seat : ℕ) (attempt : Attempt) 
       (keeps-same larger_pool pool i (visit-found.others i (its-own parts s seat attempt has other i apart e))) in
       record { machine = k.machine; inside = k.inside; busy = k.busy }
 
-  now-typed : IsTypedNow parts.devices v.types (heap_of memory) v.r.state
+  now-typed : IsTypedNow parts.signature v.types (heap_of memory) v.r.state
   now-typed =
       let cells = live_types (heap_of memory) v.types in
-      typed-run parts.devices cells s.r.state v.r.state number q
-      (grown parts.devices (live_types (heap_in parts) s.types) cells s.r.state (live-grows parts s memory q.sets v.types v.settles) s.typed.now)
+      typed-run parts.signature cells s.r.state v.r.state number q
+      (grown parts.signature (live_types (heap_in parts) s.types) cells s.r.state (live-grows parts s memory q.sets v.types v.settles) s.typed.now)
       v.place v.after
       (λ term found. let both : ◌≡◌ {A = Option Tree} (Some q.term) (Some term) = sym v.member ∙ found in
-      let same : q.term ≡ term = cc in subst (IsMember parts.devices cells) same v.place.fragment)
+      let same : q.term ≡ term = cc in subst (IsMember parts.signature cells) same v.place.fragment)
       (calm-replayed parts.program (whole_journal new) v.r replayed).orderly.members_rise v.idle
 
   clear : row_at memory.rows seat ≡ no_log

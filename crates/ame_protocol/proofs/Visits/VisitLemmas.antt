@@ -4,13 +4,13 @@ use Rattle.std.specs.Prelude.{◌==◌, ◌||◌, not, cond, filter}
 use Rattle.std.specs.List.{list_any}
 use Rattle.std.proofs.lemmas.Bool.{eqb-true, ne_eqb}
 use Rattle.ame_term.specs.Tree.{Typ, Val, Tree}
+use Rattle.ame_term.specs.Signature.{Signature}
 use Rattle.ame_term.specs.Frame.{Side, side_of}
 use Rattle.ame_term.specs.Context.{Focus, focus, fill}
 use Rattle.ame_term.specs.Act.{Act, act_of}
 use Rattle.ame_term.specs.Maps.{at}
 use Rattle.ame_term.specs.State.{closed_value}
 use Rattle.ame_term.specs.declared.types.Effect.{Effect}
-use Rattle.ame_term.specs.declared.types.TyNo.{TyNo}
 use Rattle.ame_laws.proofs.FrameLemmas.{found}
 use Rattle.ame_journal.specs.declared.entry.Entry.{Entry}
 use Rattle.ame_journal.specs.Replayed.{Replayed, is_inside, side_at, staying, leaving}
@@ -45,7 +45,7 @@ use Rattle.ame_protocol.proofs.Visits.ActLemmas.{by-act}
 pub record Visited (parts : Parts) (s : Simulates parts) (seat number n : ℕ) (q : LocalState) (inside : Bool) (memory : MemoryView Val) : Type 0 where
   pub types : StoreTyping
   pub settles : Settles parts s memory q.sets types
-  pub place : IsTypedPlace parts.devices (live_types (heap_of memory) types) Typ.Unit q
+  pub place : IsTypedPlace parts.signature (live_types (heap_of memory) types) Typ.Unit q
   pub r : Replayed
   pub entry : replay_entry s.r (free_entry seat number n q) ≡ Some r
   pub after : IsAfterRun s.r.state number q r.state
@@ -82,15 +82,15 @@ closing-form (Focus.AtRedex Side.Protected (Tree.Unprotected (Tree.Held w))) v e
 closing-form _ v e = cc
 
 -- a member that closes is a member still
-closed-member : (devices : ℕ) (cells : StoreTyping) (term : Tree) (v : Val) → IsMember devices cells term → closed_value (focus term) ≡ Some v
-    → IsMember devices cells (fill term (Tree.Held v))
-closed-member devices cells term v h e =
+closed-member : (signature : Signature) (cells : StoreTyping) (term : Tree) (v : Val) → IsMember signature cells term → closed_value (focus term) ≡ Some v
+    → IsMember signature cells (fill term (Tree.Held v))
+closed-member signature cells term v h e =
     let f = found term (Tree.Unprotected (Tree.Held v)) Side.Protected (closing-form (focus term) v e) in
-    let step : LocalStep devices cells (side_of f.frames) (Tree.Unprotected (Tree.Held v)) (Tree.Held v) =
-    subst (λ (z : Side). LocalStep devices cells z (Tree.Unprotected (Tree.Held v)) (Tree.Held v)) (sym f.on) (LocalStep.closed v) in
-    subst (λ (z : Tree). IsMember devices cells z) (sym (f.refilled (Tree.Held v)))
-    (local_step devices cells Effect.Protected f.frames (Tree.Unprotected (Tree.Held v)) (Tree.Held v) Typ.Unit
-    (subst (λ (z : Tree). IsMember devices cells z) f.term h) step)
+    let step : LocalStep signature cells (side_of f.frames) (Tree.Unprotected (Tree.Held v)) (Tree.Held v) =
+    subst (λ (z : Side). LocalStep signature cells z (Tree.Unprotected (Tree.Held v)) (Tree.Held v)) (sym f.on) (LocalStep.closed v) in
+    subst (λ (z : Tree). IsMember signature cells z) (sym (f.refilled (Tree.Held v)))
+    (local_step signature cells Effect.Protected f.frames (Tree.Unprotected (Tree.Held v)) (Tree.Held v) Typ.Unit
+    (subst (λ (z : Tree). IsMember signature cells z) f.term h) step)
 
 module _ (parts : Parts) (s : Simulates parts) (seat : ℕ) (attempt : Attempt) (task : task_at parts.tasks seat ≡ Task.Free attempt) where
   abbrev number : ℕ
@@ -118,7 +118,7 @@ module _ (parts : Parts) (s : Simulates parts) (seat : ℕ) (attempt : Attempt) 
   }
 
   module _ (n : ℕ) (u : Tree) (ran : StepsTo parts number n (begun_with u [])) where
-    typed : IsTypedPlace parts.devices live Typ.Unit (begun_with u [])
+    typed : IsTypedPlace parts.signature live Typ.Unit (begun_with u [])
     typed = place-typed parts s seat attempt task n (begun_with u []) ran
 
     nothing-agrees : AgreesWith s.r.state.store (begun_with u [])
@@ -144,15 +144,15 @@ module _ (parts : Parts) (s : Simulates parts) (seat : ℕ) (attempt : Attempt) 
         }
 
     -- an act
-    acted-visited : (act : Act) (v : Val) (made : Tree × LocalState) (ty : TyNo) → StandsAt Side.Unprotected act (begun_with u [])
+    acted-visited : (act : Act) (v : Val) (made : Tree × LocalState) → StandsAt Side.Unprotected act (begun_with u [])
         → IsGivenBy parts.memory act v → fed act Side.Unprotected v (begun_with u []) ≡ Some made
-        → Visited parts s seat number (n + 1) (refilled_in u made) true (memory_after ty act parts.memory)
-    acted-visited act v made ty at_it given gives =
+        → Visited parts s seat number (n + 1) (refilled_in u made) true (memory_after act parts.memory)
+    acted-visited act v made at_it given gives =
         let p = begun_with u [] in
         let q = refilled_in u made in
-        let memory = memory_after ty act parts.memory in
+        let memory = memory_after act parts.memory in
         let feeds = feeds-of p Side.Unprotected act v made gives in
-        let m = by-act parts s u ty typed Side.Unprotected act v made.0 made.1 feeds refl given at_it in
+        let m = by-act parts s u typed Side.Unprotected act v made.0 made.1 feeds refl given at_it in
         let cells = live_types (heap_of memory) m.types in
         let gives_redex : fed (act_of at_it.redex) Side.Unprotected v p ≡ Some made = ap (λ (a : Act). fed a Side.Unprotected v p) at_it.acts ∙ gives in
         let goes : local Side.Unprotected first (v ∷ []) (n + 1) ≡ Some q =
@@ -161,14 +161,14 @@ module _ (parts : Parts) (s : Simulates parts) (seat : ℕ) (attempt : Attempt) 
         let entry = free_entry seat number (n + 1) q in
         let told = tells entry (v ∷ []) (n + 1) q refl goes agrees refl refl in
         let x = run-free s.r entry (n + 1) q told refl refl (is-inside parts s seat attempt task) (omega arith) in
-        let fit : IsFitFor parts.devices cells (act_of at_it.redex) v = subst (λ (a : Act). IsFitFor parts.devices cells a v) (sym at_it.acts) m.fit in
+        let fit : IsFitFor parts.signature cells (act_of at_it.redex) v = subst (λ (a : Act). IsFitFor parts.signature cells a v) (sym at_it.acts) m.fit in
         let used : q.inputs ≡ [] = feeds-inputs p Side.Unprotected act v made.0 made.1 feeds in
-        let grown = place-grown parts.devices live cells (live-grows parts s memory made.1.sets m.types m.settles) Typ.Unit p typed in
+        let grown = place-grown parts.signature live cells (live-grows parts s memory made.1.sets m.types m.settles) Typ.Unit p typed in
         record {
           types = m.types;
           settles = m.settles;
           place =
-              typed-more parts.devices cells Side.Unprotected (begun_with first []) p at_it.redex Typ.Unit n v made grown ran refl at_it.stands
+              typed-more parts.signature cells Side.Unprotected (begun_with first []) p at_it.redex Typ.Unit n v made grown ran refl at_it.stands
               gives_redex fit (n + 1) q goes used;
           r = staying s.r x.0;
           entry = x.1;
@@ -190,7 +190,7 @@ module _ (parts : Parts) (s : Simulates parts) (seat : ℕ) (attempt : Attempt) 
           types = s.types;
           settles = settles-same parts s;
           place = record {
-            fragment = closed-member parts.devices live u v typed.fragment closes;
+            fragment = closed-member parts.signature live u v typed.fragment closes;
             stored = typed.stored;
             members = typed.members;
           };
@@ -210,10 +210,10 @@ module _ (parts : Parts) (s : Simulates parts) (seat : ℕ) (attempt : Attempt) 
       let is = alone first n p ran in
       let ran_bare : StepsTo parts number n (begun_with p.term []) = ran ∙ ap Some is in
       subst (λ (z : LocalState). Visited parts s seat number n z true parts.memory) (sym is) (stepped-visited n p.term ran_bare some)
-  visited _ _ _ _ (IsVisit.acted n p act v made ty ran at_it given gives) =
+  visited _ _ _ _ (IsVisit.acted n p act v made ran at_it given gives) =
       let is = alone first n p ran in
       let ran_bare : StepsTo parts number n (begun_with p.term []) = ran ∙ ap Some is in
-      acted-visited n p.term ran_bare act v made ty (subst (StandsAt Side.Unprotected act) is at_it) given
+      acted-visited n p.term ran_bare act v made (subst (StandsAt Side.Unprotected act) is at_it) given
       (ap (fed act Side.Unprotected v) (sym is) ∙ gives)
   visited _ _ _ _ (IsVisit.closed n p v ran closes) =
       let is = alone first n p ran in

@@ -153,7 +153,7 @@ module _ (parts : Parts) (s : Simulates parts) (seat : ℕ) (attempt : Attempt) 
   machines = machines-stay number (noted_on locs) parts.pool.members pool.members found (λ _. refl) (λ _. refl)
 
   goes : GoesOn parts new
-  goes = record { program = refl; devices = refl; limits = refl; more = entry ∷ []; journal = journal; turns = omega arith }
+  goes = record { program = refl; signature = refl; limits = refl; more = entry ∷ []; journal = journal; turns = omega arith }
 
   at_seat : seat < length parts.tasks
   at_seat = seat_within parts.tasks seat attempt (ap attempt_of task)

@@ -3,6 +3,7 @@ use Rattle.std.proofs.Common.{◌≡◌, ℕ, ◌+◌, ◌⊎◌, inl, inr, Bool
 use Rattle.std.specs.Prelude.{option_map, if◌then◌else◌}
 use Rattle.std.proofs.lemmas.Option.{slice_get_within}
 use Rattle.ame_term.specs.Tree.{Tree}
+use Rattle.ame_term.specs.Signature.{Signature}
 use Rattle.ame_journal.specs.declared.entry.Entry.{Entry}
 use Rattle.ame_journal.specs.declared.entry.EntryKind.{EntryKind}
 use Rattle.ame_pool.specs.declared.member.Member.{Member}
@@ -50,8 +51,8 @@ nobody-once parts none = record {
         let other : is_stuck note.kind ≡ false = all_at (λ entry. is_stuck entry.kind ≡ false) (whole_journal parts) place note within h.there none in
         let both : true ≡ false = sym (ap is_stuck h.its) ∙ other in cc
 
-pub start-once : (program : Tree) (devices : ℕ) (limits : Limits) (room : ℕ) → AreNotedOnce (started program devices limits room)
-start-once program devices limits room = record {
+pub start-once : (program : Tree) (signature : Signature) (limits : Limits) (room : ℕ) → AreNotedOnce (started program signature limits room)
+start-once program signature limits room = record {
   recent = λ place note h. absurd (nothing EntryKind.Stuck place note h);
   once = λ first later note next below h k same. absurd (nothing EntryKind.Stuck first note h);
 }

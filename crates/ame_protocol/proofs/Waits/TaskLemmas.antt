@@ -206,7 +206,7 @@ module _ (parts : Parts) (s : Simulates parts) (seat : ℕ) (attempt : Attempt) 
     next-task = task_here parts.tasks seat noted-task (seat_within parts.tasks seat attempt (ap attempt_of task))
 
     its-place : IsWaiting heap seat locs run n p
-    its-place = waits parts.devices s.types heap seat run s.r.state n p its-runs.owes valid its-runs.scoped place fails
+    its-place = waits parts.signature s.types heap seat run s.r.state n p its-runs.owes valid its-runs.scoped place fails
 
     now-watched : watched_by number pool ≡ Some locs
     now-watched =

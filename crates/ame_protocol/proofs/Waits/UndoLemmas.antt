@@ -57,7 +57,7 @@ undone-live (Wrote l number old) cell = refl
 undone-live (Made l) cell = refl
 
 module _ (parts : Parts) (s : Simulates parts) (seat : ℕ) (attempt : Attempt) (has : attempt_of (task_at parts.tasks seat) ≡ Some attempt)
-    (undos : All (IsTypedUndo parts.devices s.types) (row_at parts.memory.rows seat).undos) where
+    (undos : All (IsTypedUndo parts.signature s.types) (row_at parts.memory.rows seat).undos) where
   abbrev number : ℕ
   number = attempt.tried.number
 
@@ -200,7 +200,7 @@ module _ (parts : Parts) (s : Simulates parts) (seat : ℕ) (attempt : Attempt) 
 -- Each task that is undone
 
 module _ (parts : Parts) (s : Simulates parts) (a : AreWaiting parts) (seat : ℕ) (attempt : Attempt) where
-  more-counted : (has : attempt_of (task_at parts.tasks seat) ≡ Some attempt) → All (IsTypedUndo parts.devices s.types) (row_at parts.memory.rows seat).undos
+  more-counted : (has : attempt_of (task_at parts.tasks seat) ≡ Some attempt) → All (IsTypedUndo parts.signature s.types) (row_at parts.memory.rows seat).undos
       → (reason : Reason)
       → AreWaiting (has_undone seat attempt reason parts)
   more-counted has undos reason = by parts.stopped
@@ -210,7 +210,7 @@ module _ (parts : Parts) (s : Simulates parts) (a : AreWaiting parts) (seat : �
       by true = undone-waiting parts s seat attempt has undos (Task.Undoing attempt reason) refl parts.turns a
       by false = undone-waiting parts s seat attempt has undos (Task.Undoing attempt reason) refl (parts.turns + 1) a
 
-  home-counted : (has : attempt_of (task_at parts.tasks seat) ≡ Some attempt) → All (IsTypedUndo parts.devices s.types) (row_at parts.memory.rows seat).undos
+  home-counted : (has : attempt_of (task_at parts.tasks seat) ≡ Some attempt) → All (IsTypedUndo parts.signature s.types) (row_at parts.memory.rows seat).undos
       → (reason : Reason)
       → length (row_at parts.memory.rows seat).undos ≤ 1 → AreWaiting (has_gone_home seat attempt reason parts)
   home-counted has undos reason few = by parts.stopped
@@ -244,5 +244,5 @@ module _ (parts : Parts) (s : Simulates parts) (a : AreWaiting parts) (seat : �
       let h : Visits parts s.types seat attempt = subst (MeetsTask parts s.types seat) task (s.seats seat) in
       let none : (row_at parts.memory.rows seat).undos ≡ [] = ap (λ (n : Log Val). n.undos) h.clear in
       home-counted (ap attempt_of task)
-      (subst (All (IsTypedUndo parts.devices s.types)) (sym none) (All-nil (IsTypedUndo parts.devices s.types))) Reason.Stopped
+      (subst (All (IsTypedUndo parts.signature s.types)) (sym none) (All-nil (IsTypedUndo parts.signature s.types))) Reason.Stopped
       (let e = ap (λ (xs : List (Undo Val)). length xs) none in omega arith)

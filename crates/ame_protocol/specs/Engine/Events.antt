@@ -1,5 +1,6 @@
 -- What each event of a seat makes of an engine.
 use Rattle.std.specs.Prelude.{ℕ, ◌+◌, Bool, true, false, List, [], ◌∷◌, ◌++◌, None, length, replicate, slice_set, if◌then◌else◌}
+use Rattle.ame_term.specs.Signature.{Signature}
 use Rattle.ame_term.specs.Tree.{Val, Tree}
 use Rattle.ame_term.specs.declared.types.Loc.{Loc}
 use Rattle.ame_term.specs.declared.types.Sort.{Sort}
@@ -36,10 +37,10 @@ with_task seat task parts = record parts { tasks = slice_set parts.tasks seat ta
 -- Start and begin
 
 -- an engine that has just started: the program is member 0
-abbrev pub started : Tree → ℕ → Limits → ℕ → Parts
-started program devices limits room = record {
+abbrev pub started : Tree → Signature → Limits → ℕ → Parts
+started program signature limits room = record {
   program = program;
-  devices = devices;
+  signature = signature;
   limits = limits;
   base = [];
   entries = [];

@@ -1,5 +1,6 @@
 -- The parts of an engine, as plain data. Look-ups are total.
 use Rattle.std.specs.Prelude.{ℕ, ℤ, Bool, List, ◌++◌, Option, Some, None, option_map, slice_index_or, unwrap_or}
+use Rattle.ame_term.specs.Signature.{Signature}
 use Rattle.ame_term.specs.Tree.{Val, Tree, unit_tree}
 use Rattle.ame_journal.specs.declared.entry.Entry.{Entry}
 use Rattle.ame_pool.specs.Roster.{Roster}
@@ -13,12 +14,12 @@ use Rattle.ame_protocol.specs.declared.types.Attempt.{Attempt}
 use Rattle.ame_protocol.specs.declared.types.Task.{Task}
 use Rattle.ame_protocol.specs.Engine.Logged.{heap_of, logged_run}
 
--- The program, the number of devices that it was accepted with, the limits and the entries from which the engine was
+-- The program, the signature for which it is typed, the limits and the entries from which the engine was
 -- opened stay. The journal grows; the memory has the cells and the logs of each seat, and the tasks say what each seat is
 -- at. The pool has the term of each member: of one at rest the term, of a busy one the term from which its seat runs.
 pub record Parts : Type 0 where
   pub program : Tree
-  pub devices : ℕ
+  pub signature : Signature
   pub limits : Limits
   pub base : List Entry
   pub entries : List Entry

@@ -18,8 +18,8 @@ use Rattle.ame_protocol.specs.Engine.Tasks.{IsSoundIn, MeetsTask}
 -- All cells are typed, whoever owns them; the state is typed by what is live; and a live cell of unprotected code has no
 -- owner.
 pub record IsTypedIn (parts : Parts) (types : StoreTyping) (s : State) : Type 0 where
-  pub heap : IsTypedHeap parts.devices types (heap_in parts)
-  pub now : IsTypedNow parts.devices types (heap_in parts) s
+  pub heap : IsTypedHeap parts.signature types (heap_in parts)
+  pub now : IsTypedNow parts.signature types (heap_in parts) s
   pub shared : (l : ℕ) → IsLive (cell_at (heap_in parts) l) → (cell_at (heap_in parts) l).sort ≡ Sort.Unprotected
       → IsFree (cell_at (heap_in parts) l)
 

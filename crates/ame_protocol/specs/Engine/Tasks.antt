@@ -44,8 +44,8 @@ module _ (parts : Parts) (types : StoreTyping) (seat : ℕ) where
     pub outside : inside_of attempt.tried.number parts.pool ≡ Some false
     pub somewhere : IsSomewhere (run_in parts seat attempt.tried.number)
     pub owes : Owes (heap_in parts) seat (run_in parts seat attempt.tried.number)
-    pub typed : IsTypedRun parts.devices types (run_in parts seat attempt.tried.number)
-    pub scoped : IsScoped parts.devices types (heap_in parts) seat (run_in parts seat attempt.tried.number)
+    pub typed : IsTypedRun parts.signature types (run_in parts seat attempt.tried.number)
+    pub scoped : IsScoped parts.signature types (heap_in parts) seat (run_in parts seat attempt.tried.number)
 
   -- unprotected code is run, which nothing is logged of: the member is inside
   pub record Visits (attempt : Attempt) : Type 0 where
@@ -57,7 +57,7 @@ module _ (parts : Parts) (types : StoreTyping) (seat : ℕ) where
   pub record Undoes (attempt : Attempt) (reason : Reason) : Type 0 where
     pub work : HasAtWork parts (is_noted_for reason) attempt
     pub outside : inside_of attempt.tried.number parts.pool ≡ Some false
-    pub undos : All (IsTypedUndo parts.devices types) (row_at parts.memory.rows seat).undos
+    pub undos : All (IsTypedUndo parts.signature types) (row_at parts.memory.rows seat).undos
 
   -- so it is by the task
   abbrev pub MeetsTask : Task → Type 0

@@ -99,7 +99,7 @@ abbrev pub May : Event → State → Type 0
 May (Event.Begin seat number) s = HasATurn s × MayBegin s seat number
 May (Event.Read seat l) s = HasATurn s × ComesToAct s seat (Act.Reads l.0) × HasItsParity (cell s l.0)
 May (Event.Write seat l v) s = HasATurn s × ComesToAct s seat (Act.Writes l.0 v) × (IsFree (cell s l.0) ⊎ IsOwnedBy seat (cell s l.0))
-May (Event.Alloc seat sort ty v) s = HasATurn s × ComesToAct s seat (Act.Allocates sort v)
+May (Event.Alloc seat sort ty v) s = HasATurn s × ComesToAct s seat (Act.Allocates sort ty v)
 May (Event.Check seat attempt steps) s =
     HasATurn s × ((place : LocalState) × HasRunTo s seat attempt steps place) × ReadsAreValid s seat × (steps ≡ attempt.tried.steps + s.parts.limits.slice)
 May (Event.TurnBack seat attempt why) s = HasATurn s × (task_at s.parts.tasks seat ≡ Task.Running attempt) × IsReversed s seat why

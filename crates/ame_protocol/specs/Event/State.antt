@@ -1,5 +1,6 @@
 -- The state of a runtime: all that its events change.
 use Rattle.std.specs.Prelude.{ℕ, ℤ, List, [], Option, None}
+use Rattle.ame_term.specs.Signature.{Signature}
 use Rattle.ame_term.specs.Tree.{Val, Tree}
 use Rattle.ame_store.specs.declared.cell.Cell.{Cell}
 use Rattle.ame_protocol.specs.declared.types.Limits.{Limits}
@@ -23,13 +24,13 @@ pub record State : Type 0 where
   pub certificates : List Certificate
 
 -- the state of a program that has just started: the program is member 0, and each seat is idle
-abbrev pub started_state : Tree → ℕ → Limits → State
-started_state program devices limits = record { parts = started program devices limits 0; counters = nothing_counted; stop = None; certificates = [] }
+abbrev pub started_state : Tree → Signature → Limits → State
+started_state program signature limits = record { parts = started program signature limits 0; counters = nothing_counted; stop = None; certificates = [] }
 
 -- the state of a program that is opened from a base: nothing is counted, and no stop is kept
-abbrev pub opened_state : Tree → ℕ → Limits → List Entry → List (Cell Val) → Roster Tree → List ℤ → ℕ → State
-opened_state program devices limits base cells pool output next =
-    record { parts = opened program devices limits base cells pool output next; counters = nothing_counted; stop = None; certificates = [] }
+abbrev pub opened_state : Tree → Signature → Limits → List Entry → List (Cell Val) → Roster Tree → List ℤ → ℕ → State
+opened_state program signature limits base cells pool output next =
+    record { parts = opened program signature limits base cells pool output next; counters = nothing_counted; stop = None; certificates = [] }
 
 -- the cell at a location
 abbrev pub cell : State → ℕ → Cell Val

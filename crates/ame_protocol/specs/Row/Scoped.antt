@@ -2,6 +2,7 @@
 -- cells, dead ones too, say too little: a valid row could hold a location that is dead for good.
 use Rattle.std.specs.Prelude.{ℕ, ◌==◌, Bool, false, ◌&&◌, ◌||◌, Option, Some, None, if◌then◌else◌}
 use Rattle.ame_term.specs.Tree.{Typ, Val}
+use Rattle.ame_term.specs.Signature.{Signature}
 use Rattle.ame_term.specs.Frame.{Side}
 use Rattle.ame_term.specs.State.{State}
 use Rattle.ame_laws.specs.Typed.StoreTyping.{StoreTyping}
@@ -32,12 +33,12 @@ live_types heap types = types_where (λ l. (cell_at heap l).live) types
 abbrev pub reached_types : Heap → ℕ → StoreTyping → StoreTyping
 reached_types heap seat types = types_where (λ l. reaches seat (cell_at heap l)) types
 
-module _ (devices : ℕ) (types : StoreTyping) (heap : Heap) where
+module _ (signature : Signature) (types : StoreTyping) (heap : Heap) where
   -- a row whose reads are all valid is typed, at each place that has used all inputs, by what its seat reaches
   abbrev pub IsScoped : ℕ → SeatRun → Type 0
   IsScoped seat run =
-      AreValid heap seat run.reads → IsTypedThroughout devices (reached_types heap seat types) Side.Protected run.start run.inputs Typ.Unit
+      AreValid heap seat run.reads → IsTypedThroughout signature (reached_types heap seat types) Side.Protected run.start run.inputs Typ.Unit
 
   -- a state is typed by what is live
   abbrev pub IsTypedNow : State → Type 0
-  IsTypedNow s = IsTypedBy devices (live_types heap types) s
+  IsTypedNow s = IsTypedBy signature (live_types heap types) s

@@ -1,6 +1,7 @@
 -- Typing by the types of all cells, live or not, whoever owns them: what no read can break, be it valid or not.
 use Rattle.std.specs.Prelude.{◌≡◌, ◌==◌, ℕ, Some, All, if◌then◌else◌}
 use Rattle.ame_term.specs.Tree.{Typ, Val}
+use Rattle.ame_term.specs.Signature.{Signature, MayStore}
 use Rattle.ame_term.specs.Frame.{Side}
 use Rattle.ame_term.specs.declared.types.Sort.{Sort}
 use Rattle.ame_laws.specs.Typed.StoreTyping.{StoreTyping}
@@ -16,19 +17,21 @@ use Rattle.ame_protocol.specs.Row.SeatRun.{SeatRun}
 abbrev pub types_with : ℕ → Sort × Typ → StoreTyping → StoreTyping
 types_with l cell types m = if m == l then Some cell else types m
 
-module _ (devices : ℕ) (types : StoreTyping) where
-  -- each cell has a type of its sort, and what is in place there is of it; no other location has a type
+module _ (signature : Signature) (types : StoreTyping) where
+  -- Each cell has a type of its sort, and what is in place there is of it; the `ref` form with its number may store it. No other
+  -- location has a type.
   pub record IsTypedHeap (heap : Heap) : Type 0 where
     pub typed : (l : ℕ) → IsCell heap l
-        → (content : Typ) × (types l ≡ Some ((cell_at heap l).sort, content)) × IsValueOf devices types (cell_at heap l).value content
+        → (content : Typ) × (types l ≡ Some ((cell_at heap l).sort, content)) × IsValueOf signature types (cell_at heap l).value content
+        × MayStore signature.refs (cell_at heap l).ty.0 content
     pub located : (l : ℕ) (cell : Sort × Typ) → types l ≡ Some cell → IsCell heap l
 
   -- what an entry would put back is of its location's type
   abbrev pub IsTypedUndo : Undo Val → Type 0
-  IsTypedUndo (Wrote l number old) = IsStored devices types l.0 old
+  IsTypedUndo (Wrote l number old) = IsStored signature types l.0 old
   IsTypedUndo (Made l) = Unit {0}
 
   -- a row is typed at each place that has used all inputs, and so is what it would put back
   pub record IsTypedRun (run : SeatRun) : Type 0 where
-    pub places : IsTypedThroughout devices types Side.Protected run.start run.inputs Typ.Unit
+    pub places : IsTypedThroughout signature types Side.Protected run.start run.inputs Typ.Unit
     pub undos : All IsTypedUndo run.undos

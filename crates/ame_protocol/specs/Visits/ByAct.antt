@@ -2,7 +2,6 @@
 use Rattle.std.specs.Prelude.{◌≡◌, Some, length}
 use Rattle.ame_term.specs.Tree.{Val}
 use Rattle.ame_term.specs.Act.{Act}
-use Rattle.ame_term.specs.declared.types.TyNo.{TyNo}
 use Rattle.ame_rows.specs.MemoryView.{MemoryView}
 use Rattle.ame_rows.specs.Committed.{committed}
 use Rattle.ame_rows.specs.Access.{put_at, born}
@@ -12,11 +11,11 @@ use Rattle.ame_rows.specs.Access.{put_at, born}
 abbrev pub IsGivenBy : MemoryView Val → Act → Val → Type 0
 IsGivenBy memory (Act.Reads l) v = committed memory l ≡ Some v
 IsGivenBy memory (Act.Peeks l) v = committed memory l ≡ Some v
-IsGivenBy memory (Act.Allocates sort w) v = v ≡ Val.Loc (length memory.cells)
+IsGivenBy memory (Act.Allocates sort number w) v = v ≡ Val.Loc (length memory.cells)
 IsGivenBy memory _ v = Unit {0}
 
 -- a cell that no seat owns is written, or made, with the number of its `ref` form
-abbrev pub memory_after : TyNo → Act → MemoryView Val → MemoryView Val
-memory_after ty (Act.Writes l v) memory = put_at l v memory
-memory_after ty (Act.Allocates sort v) memory = born sort ty v memory
-memory_after ty _ memory = memory
+abbrev pub memory_after : Act → MemoryView Val → MemoryView Val
+memory_after (Act.Writes l v) memory = put_at l v memory
+memory_after (Act.Allocates sort number v) memory = born sort number v memory
+memory_after _ memory = memory

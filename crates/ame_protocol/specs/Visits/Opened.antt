@@ -1,5 +1,6 @@
 -- An engine that is opened from a base: entries that were made before.
 use Rattle.std.specs.Prelude.{◌≡◌, ◌<◌, ◌≤◌, ℕ, ℤ, All, List, [], Option, Some, None, length, map, replicate, slice_index_or, false, if◌then◌else◌}
+use Rattle.ame_term.specs.Signature.{Signature, MayStore}
 use Rattle.ame_term.specs.Tree.{Typ, Val, Tree}
 use Rattle.ame_term.specs.Maps.{at}
 use Rattle.ame_term.specs.State.{State}
@@ -21,10 +22,10 @@ use Rattle.ame_protocol.specs.Engine.Parts.{Parts}
 use Rattle.ame_protocol.specs.Engine.Simulates.{most_opened}
 
 -- an engine with a base, cells, members, an output and a next number; no turn is used, and each seat is idle
-abbrev pub opened : Tree → ℕ → Limits → List Entry → List (Cell Val) → Roster Tree → List ℤ → ℕ → Parts
-opened program devices limits base cells pool output next = record {
+abbrev pub opened : Tree → Signature → Limits → List Entry → List (Cell Val) → Roster Tree → List ℤ → ℕ → Parts
+opened program signature limits base cells pool output next = record {
   program = program;
-  devices = devices;
+  signature = signature;
   limits = limits;
   base = base;
   entries = [];
@@ -47,17 +48,19 @@ abbrev pub stored_in : Cell Val → Option Val
 stored_in cell = if cell.live then Some cell.value else None
 
 -- Cells with which an engine may be opened from a state, whose locations have these types. No seat owns one, and none was
--- written. The live ones are the store, each with the sort of its location; a dead one copies a live one.
-pub record AreOpened (types : StoreTyping) (cells : List (Cell Val)) (s : State) : Type 0 where
+-- written. The live ones are the store, each with the sort of its location, and the `ref` form with its number may store what is of
+-- the location's type; a dead one copies a live one.
+pub record AreOpened (signature : Signature) (types : StoreTyping) (cells : List (Cell Val)) (s : State) : Type 0 where
   pub few : length cells ≤ most_opened
   pub free : (l : ℕ) → IsFree (cell_of cells l)
   pub unwritten : (l : ℕ) → (cell_of cells l).number ≡ 0
   pub stored : (l : ℕ) → at s.store l ≡ stored_in (cell_of cells l)
   pub sorts : (l : ℕ) → IsLive (cell_of cells l) → (content : Typ) × (types l ≡ Some ((cell_of cells l).sort, content))
+      × MayStore signature.refs (cell_of cells l).ty.0 content
   pub copied : ℕ
   pub copies : (l : ℕ) → l < length cells → IsDead (cell_of cells l)
       → IsLive (cell_of cells copied) × ((cell_of cells l).sort ≡ (cell_of cells copied).sort)
-      × ((cell_of cells l).value ≡ (cell_of cells copied).value)
+      × ((cell_of cells l).value ≡ (cell_of cells copied).value) × ((cell_of cells l).ty ≡ (cell_of cells copied).ty)
 
 -- a pool has the members of a state, and the same ones are inside
 pub record HasMembersOf (r : Replayed) (pool : Roster Tree) : Type 0 where

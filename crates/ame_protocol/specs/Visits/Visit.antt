@@ -5,7 +5,6 @@ use Rattle.ame_term.specs.Frame.{Side}
 use Rattle.ame_term.specs.Context.{focus, fill}
 use Rattle.ame_term.specs.Act.{Act}
 use Rattle.ame_term.specs.State.{closed_value}
-use Rattle.ame_term.specs.declared.types.TyNo.{TyNo}
 use Rattle.ame_journal.specs.declared.entry.Entry.{Entry}
 use Rattle.ame_journal.specs.declared.entry.EntryKind.{EntryKind}
 use Rattle.ame_pool.specs.Calls.{exchanged, home}
@@ -33,9 +32,9 @@ StepsTo parts number n p = local Side.Unprotected (term_at parts.pool number) []
 -- makes steps alone; and then one act with the value that it is given, or the step by which it closes, or neither.
 pub data IsVisit (parts : Parts) (number : ℕ) : ℕ → LocalState → Bool → MemoryView Val → Type 0 where
   stepped : (n : ℕ) (p : LocalState) → 0 < n → StepsTo parts number n p → IsVisit parts number n p true parts.memory
-  acted : (n : ℕ) (p : LocalState) (act : Act) (v : Val) (made : Tree × LocalState) (ty : TyNo) → StepsTo parts number n p
+  acted : (n : ℕ) (p : LocalState) (act : Act) (v : Val) (made : Tree × LocalState) → StepsTo parts number n p
       → StandsAt Side.Unprotected act p → IsGivenBy parts.memory act v → fed act Side.Unprotected v p ≡ Some made
-      → IsVisit parts number (n + 1) (refilled_in p.term made) true (memory_after ty act parts.memory)
+      → IsVisit parts number (n + 1) (refilled_in p.term made) true (memory_after act parts.memory)
   closed : (n : ℕ) (p : LocalState) (v : Val) → StepsTo parts number n p → closed_value (focus p.term) ≡ Some v
       → IsVisit parts number (n + 1) (closed_at v p) false parts.memory
 

@@ -1,9 +1,9 @@
 //! What events and their runs keep.
 
+ghost use Rattle.ame_term.specs.Signature.{Signature};
 ghost use Rattle.std.specs.Prelude.{◌≡◌, ◌≤◌, ◌+◌, ◌*◌, ◌++◌, ◌∷◌, [], ℕ, true, List, All, count_by, length, None};
 ghost use Rattle.ame_term.specs.Tree.{Tree, Typ};
-ghost use Rattle.ame_term.specs.SourceTerm.{IsSourceTerm};
-ghost use Rattle.ame_term.specs.Typing.{Accepts};
+ghost use Rattle.ame_machine.specs.Sound.{IsAccepted};
 ghost use Rattle.ame_protocol.specs.declared.types.Limits.{Limits};
 ghost use Rattle.ame_protocol.specs.Event.Counting.{turns_in};
 ghost use Rattle.ame_protocol.specs.Event.State.{State, started_state};
@@ -20,8 +20,8 @@ ghost use Rattle.ame_pool.specs.Standings.{max_rollbacks};
 
 /// The state that starts a program which the types accept is sound.
 pub fn states_start_sound()
-    ensures { (program : Tree) (devices : ℕ) (limits : Limits) (places : List ℕ) (refs : List Typ) → Accepts devices places program refs
-        → IsSourceTerm program → 1 ≤ limits.slice → Sound (started_state program devices limits) }
+    ensures { (program : Tree) (signature : Signature) (limits : Limits) → IsAccepted signature program
+        → 1 ≤ limits.slice → Sound (started_state program signature limits) }
 {}
 
 /// Each event that may be keeps a state sound.

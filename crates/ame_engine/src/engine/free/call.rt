@@ -72,7 +72,7 @@ where
         requires steps { (M.meaning.stage self.old.code at).steps + 1 < 2 ^ 64 }
         requires going { self.old.stop ≡ None }
         requires left { self.old.turns < self.old.limits.turns }
-        requires devices { M.meaning.devices self.old.code ≤ vec_len devices.old }
+        requires devices { (M.meaning.signature self.old.code).devices ≤ vec_len devices.old }
         ensures home { result ≡ Ok Freed.Home → HasComeHome M.meaning seat attempt.tried.number (M.meaning.stage self.old.code at)
             (all_told D.device_heard D.device_faults devices.old.items) (all_told D.device_heard D.device_faults devices.new.items) self.old self.new }
         ensures refused { (k : ℕ) → result ≡ Ok (Freed.DeviceFault k) → HasBeenRefused M.meaning seat attempt.tried.number k

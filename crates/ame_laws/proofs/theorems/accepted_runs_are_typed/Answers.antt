@@ -1,6 +1,5 @@
 use Rattle.std.specs.Prelude.{map}
 use Rattle.ame_term.specs.View.{tree_of, typ_of}
-use Rattle.ame_term.specs.Typing.{ref_types}
 use Rattle.ame_laws.proofs.Typed.Started.{accepted, reached}
 use Rattle.ame_laws.proofs.theorems.accepted_runs_are_typed.Goals as goal
 
@@ -8,5 +7,5 @@ pub returns : goal.returns
 returns c = λ labels t ran.
     let a = c.args.accepted.now in
     let p = tree_of a.program.term in
-    reached a.devices a.program.places.items p (ref_types a.devices a.program.places.items p) labels t
-    (accepted a.devices a.program.places.items p (map typ_of a.ref_tys.items) a.typed) a.program.source ran
+    let refs = map typ_of a.ref_tys.items in
+    reached a.devices a.program.places.items p refs labels t (accepted a.devices a.program.places.items p refs a.typed) a.program.source a.program.numbered ran

@@ -3,6 +3,6 @@ use Rattle.ame_laws.proofs.theorems.ref_types_are_had.Goals as goal
 
 pub returns : goal.returns
 returns c = record {
-  had = λ devices cells places g q i e t h. refs_had devices cells h places i;
-  only = λ devices cells places g q i e ts h. refs_are devices cells h places i;
+  had = λ signature cells places g q i e t h. refs_had signature cells h places i;
+  only = λ signature cells places g q i e ts h. refs_are signature cells h places i;
 }

@@ -2,4 +2,4 @@ use Rattle.ame_laws.proofs.Typed.Progressed.{resting_progresses}
 use Rattle.ame_laws.proofs.theorems.resting_members_progress.Goals as goal
 
 pub returns : goal.returns
-returns c = λ devices cells s i term typed member idle. resting_progresses devices cells s typed i term member idle
+returns c = λ signature cells s i term typed member idle. resting_progresses signature cells s typed i term member idle

@@ -2,4 +2,4 @@ use Rattle.ame_laws.proofs.Complete.{complete}
 use Rattle.ame_laws.proofs.theorems.table_gives_what_is_had.Goals as goal
 
 pub returns : goal.returns
-returns c = λ devices cells places g q i e t h. complete devices cells h places i
+returns c = λ signature cells places g q i e t h. complete signature cells h places i

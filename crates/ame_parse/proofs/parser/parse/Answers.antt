@@ -25,3 +25,6 @@ invariant_of-result-clause-source c = (program_is _ _ _ _ _ c.new-reader.ensures
 
 pub invariant_of-result-clause-bound : goal.invariant_of-result-clause-bound
 invariant_of-result-clause-bound c = (program_is _ _ _ _ _ c.new-reader.ensures c.in-Ok.ensures).bound
+
+pub invariant_of-result-clause-numbered : goal.invariant_of-result-clause-numbered
+invariant_of-result-clause-numbered c = (program_is _ _ _ _ _ c.new-reader.ensures c.in-Ok.ensures).numbered

@@ -1,4 +1,4 @@
-use Rattle.std.proofs.Common.{◌≡◌, ◌≤◌, Option, ap, arith, subst}
+use Rattle.std.proofs.Common.{Option, ap, arith, subst}
 use Rattle.std.specs.Prelude.{IfSome}
 use Rattle.ame_weak.specs.View.{weak_of}
 use Rattle.ame_runner.specs.Trial.{StandsAs, IsDecided}

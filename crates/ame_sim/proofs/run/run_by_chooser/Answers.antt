@@ -39,7 +39,7 @@ returns-clause-played g c =
       ends = ends_of g.K.Sink.written g.K.Sink.faults g.D.Device.device_heard g.D.Device.device_faults c.args.sink c.args.devices.items;
     } in
     let accepted = g.met.M.Runner.accepted (arc_value c.args.code) in
-    let sound = sound-start (r.program opening.code) (r.devices opening.code) opening.limits accepted.places accepted.refs accepted.accepts accepted.source
+    let sound = sound-start (r.program opening.code) (r.signature opening.code) opening.limits accepted
     c.requires.limits.some_slice in
     let playing =
     subst (λ n. IsPlaying r n first c.play.new.crew c.play.new.book.mades.items) same

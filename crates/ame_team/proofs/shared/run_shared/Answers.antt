@@ -36,7 +36,7 @@ team-workers-requires-clause-seated g c =
       enough =
           let told = length-map shell.devices.items (λ d. told (g.D.Device.device_heard d) (g.D.Device.device_faults d)) in
           let all = shell.devices.ok.0 in
-          let few = subst (λ code. r.devices code ≤ vec_len shell.devices) (sym c.requires.code) c.requires.devices in
+          let few = subst (λ code. (r.signature code).devices ≤ vec_len shell.devices) (sym c.requires.code) c.requires.devices in
           omega (arith, told, all, few);
       number =
           subst (λ n. n < c.limits-limits.result.now.seats) (sym (ap (λ k. k.number) made))
@@ -57,7 +57,7 @@ work_all-requires-clause-of g c κs lives = λ i d in_range.
 
 pub work_all-requires-clause-ready : goal.work_all-requires-clause-ready
 work_all-requires-clause-ready g c κs lives =
-    subst (All (λ w. IsReadyToTurn g.M.Runner.meaning.devices g.M.Runner.meaning.is_machine g.M.Runner.meaning.stage (arc_value w.code) w.limits (knows w.seat) w.work)) (sym c.as_mut_slice.ensures.value)
+    subst (All (λ w. IsReadyToTurn g.M.Runner.meaning.signature g.M.Runner.meaning.is_machine g.M.Runner.meaning.stage (arc_value w.code) w.limits (knows w.seat) w.work)) (sym c.as_mut_slice.ensures.value)
     c.team-workers.ensures.ready
 
 pub end-requires-clause-first : goal.end-requires-clause-first

@@ -17,9 +17,9 @@ new-requires-clause-seated g c =
     let codes = All-pop (λ it. arc_value it ≡ arc_value c.args.code) c.loop.codes.items c.pop.new.self.items c.pop.result c.pop.ensures.items inv.codes in
     let share = subst (λ o. IfSome o (λ it. arc_value it ≡ arc_value c.args.code)) c.in-Some.is codes.1 in
     let within = subst (λ n. n < c.args.limits.seats) (sym inv.first.made_is) c.loop-test.true in
-    subst (λ code. IsSeated g.M.Runner.meaning.devices code c.args.limits (knows c.seat-seat.result)) (sym share)
-    (subst (IsSeated g.M.Runner.meaning.devices (arc_value c.args.code) c.args.limits) (sym c.seat-seat.ensures.next)
-    (next-seated g.M.Runner.meaning.devices (arc_value c.args.code) c.args.limits k empty_row within inv.seated))
+    subst (λ code. IsSeated g.M.Runner.meaning.signature code c.args.limits (knows c.seat-seat.result)) (sym share)
+    (subst (IsSeated g.M.Runner.meaning.signature (arc_value c.args.code) c.args.limits) (sym c.seat-seat.ensures.next)
+    (next-seated g.M.Runner.meaning.signature (arc_value c.args.code) c.args.limits k empty_row within inv.seated))
 
 pub loop-preserved : goal.loop-preserved
 loop-preserved g c =
@@ -33,8 +33,8 @@ loop-preserved g c =
     let number = ap (λ x. x.number) c.seat-seat.ensures.next ∙ inv.first.made_is in
     record {
       of = c.seat-seat.ensures.of;
-      seated = subst (IsSeated g.M.Runner.meaning.devices (arc_value c.args.code) c.args.limits) (sym c.seat-seat.ensures.counted)
-          (first-seated g.M.Runner.meaning.devices (arc_value c.args.code) c.args.limits k (k.made + 1) inv.seated);
+      seated = subst (IsSeated g.M.Runner.meaning.signature (arc_value c.args.code) c.args.limits) (sym c.seat-seat.ensures.counted)
+          (first-seated g.M.Runner.meaning.signature (arc_value c.args.code) c.args.limits k (k.made + 1) inv.seated);
       fixed = ap (λ x. x.fixed) c.seat-seat.ensures.counted ∙ inv.fixed;
       first = subst (IsFirstSeat (c.loop.counter + 1)) (sym c.seat-seat.ensures.counted) (first-more c.loop.counter k inv.first);
       count = let a = more.len in let b = inv.count in omega (arith, a, b);
@@ -50,8 +50,8 @@ loop-preserved g c =
             numbered = ap (λ s. (knows s).number) c.new.ensures.seat ∙ number ∙ (let a = inv.count in omega (arith, a, len));
           }));
       ready =
-          subst (All (λ w. IsReadyToTurn g.M.Runner.meaning.devices g.M.Runner.meaning.is_machine g.M.Runner.meaning.stage (arc_value w.code) w.limits (knows w.seat) w.work)) (sym more.items)
-          (All-push (λ w. IsReadyToTurn g.M.Runner.meaning.devices g.M.Runner.meaning.is_machine g.M.Runner.meaning.stage (arc_value w.code) w.limits (knows w.seat) w.work)
+          subst (All (λ w. IsReadyToTurn g.M.Runner.meaning.signature g.M.Runner.meaning.is_machine g.M.Runner.meaning.stage (arc_value w.code) w.limits (knows w.seat) w.work)) (sym more.items)
+          (All-push (λ w. IsReadyToTurn g.M.Runner.meaning.signature g.M.Runner.meaning.is_machine g.M.Runner.meaning.stage (arc_value w.code) w.limits (knows w.seat) w.work)
           c.loop.workers.items w inv.ready c.new.ensures.ready);
     }
 
@@ -71,6 +71,6 @@ returns-clause-seats g c =
 
 pub returns-clause-ready : goal.returns-clause-ready
 returns-clause-ready g c =
-    subst (All (λ w. IsReadyToTurn g.M.Runner.meaning.devices g.M.Runner.meaning.is_machine g.M.Runner.meaning.stage (arc_value w.code) w.limits (knows w.seat) w.work)) (sym c.push_reserved-2.ensures.items)
-    (All-push (λ w. IsReadyToTurn g.M.Runner.meaning.devices g.M.Runner.meaning.is_machine g.M.Runner.meaning.stage (arc_value w.code) w.limits (knows w.seat) w.work)
+    subst (All (λ w. IsReadyToTurn g.M.Runner.meaning.signature g.M.Runner.meaning.is_machine g.M.Runner.meaning.stage (arc_value w.code) w.limits (knows w.seat) w.work)) (sym c.push_reserved-2.ensures.items)
+    (All-push (λ w. IsReadyToTurn g.M.Runner.meaning.signature g.M.Runner.meaning.is_machine g.M.Runner.meaning.stage (arc_value w.code) w.limits (knows w.seat) w.work)
     c.loop.workers.items c.new-2.result c.loop.invariant.ready c.new-2.ensures.ready)

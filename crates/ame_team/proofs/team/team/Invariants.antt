@@ -9,7 +9,7 @@ use Rattle.ame_team.proofs.team.team.Given as goal
 abbrev pub invariant-loop : goal.invariant-loop
 invariant-loop g l = record {
   of : IsSeatOf l.baton l.first;
-  seated : IsSeated g.M.Runner.meaning.devices (arc_value l.fn.code) l.limits (knows l.first);
+  seated : IsSeated g.M.Runner.meaning.signature (arc_value l.fn.code) l.limits (knows l.first);
   fixed : (knows l.first).fixed ≡ (knows l.fn.first).fixed;
   first : IsFirstSeat l.counter (knows l.first);
   count : vec_len l.workers + 1 ≡ l.counter;
@@ -17,5 +17,5 @@ invariant-loop g l = record {
   left : vec_len l.codes + l.counter ≡ l.limits.seats;
   codes : All (λ it. arc_value it ≡ arc_value l.fn.code) l.codes.items;
   others : AreOthers l.baton (knows l.fn.first).fixed l.workers.items;
-  ready : All (λ w. IsReadyToTurn g.M.Runner.meaning.devices g.M.Runner.meaning.is_machine g.M.Runner.meaning.stage (arc_value w.code) w.limits (knows w.seat) w.work) l.workers.items;
+  ready : All (λ w. IsReadyToTurn g.M.Runner.meaning.signature g.M.Runner.meaning.is_machine g.M.Runner.meaning.stage (arc_value w.code) w.limits (knows w.seat) w.work) l.workers.items;
 }

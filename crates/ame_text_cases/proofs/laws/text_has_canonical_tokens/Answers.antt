@@ -17,7 +17,7 @@ returns c = λ seed size some most.
     let text = program_text seed size in
     let canonical = source_text (workload seed size) in
     let one = text_lexed seed size most all [] in
-    let other = canonical_lexed (workload seed size) (workload_reads seed size some most all) in
+    let other = canonical_lexed (workload seed size) 9 (workload_reads seed size some most all) in
     record {
       ones = map (seen text) one.found;
       others = map (seen canonical) other.found;

@@ -19,9 +19,9 @@ returns c =
     record {
       text = λ seed size some most.
           let all = recursion_from_All IsTransfer (transfers seed size) (c.transfers_are_valid.ensures seed size) in
-          read (program_text seed size) (workload seed size) (spelled_so (program_text seed size) (workload seed size) (text_lexed seed size most all []) (workload_reads seed size some most all));
+          read (program_text seed size) (workload seed size) (spelled_so (program_text seed size) (workload seed size) 9 (text_lexed seed size most all []) (workload_reads seed size some most all));
       canonical = λ seed size some most.
           let all = recursion_from_All IsTransfer (transfers seed size) (c.transfers_are_valid.ensures seed size) in
           let part = workload_reads seed size some most all in
-          read (source_text (workload seed size)) (workload seed size) (spelled_so (source_text (workload seed size)) (workload seed size) (canonical_lexed (workload seed size) part) part);
+          read (source_text (workload seed size)) (workload seed size) (spelled_so (source_text (workload seed size)) (workload seed size) 9 (canonical_lexed (workload seed size) 9 part) part);
     }

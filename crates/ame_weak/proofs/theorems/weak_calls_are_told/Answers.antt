@@ -1,6 +1,5 @@
 use Rattle.std.specs.Prelude.{map}
 use Rattle.ame_term.specs.View.{tree_of, typ_of}
-use Rattle.ame_term.specs.Typing.{ref_types}
 use Rattle.ame_laws.proofs.Typed.Started.{accepted}
 use Rattle.ame_weak.proofs.StraightLemmas.{weak_calls_are_told}
 use Rattle.ame_weak.proofs.theorems.weak_calls_are_told.Goals as goal
@@ -9,6 +8,7 @@ pub returns : goal.returns
 returns c =
     let a = c.args.accepted.now in
     let p = tree_of a.program.term in
+    let refs = map typ_of a.ref_tys.items in
     λ device labels w e.
-    weak_calls_are_told a.devices a.program.places.items p (ref_types a.devices a.program.places.items p)
-    (accepted a.devices a.program.places.items p (map typ_of a.ref_tys.items) a.typed) a.program.source device labels w e
+    weak_calls_are_told a.devices a.program.places.items p refs
+    (accepted a.devices a.program.places.items p refs a.typed) a.program.source a.program.numbered device labels w e

@@ -23,7 +23,7 @@ turn-deed-requires-clause-fits g c =
     let k = knows c.args.seat.now in
     let sh = c.deref_mut-shell.result.now in
     let to_shell = sym c.deref_mut-shell.ensures.value in
-    let seated = subst (λ it. IsSeated r.devices c.args.code.now it.engine.limits k) to_shell c.requires.seated in
+    let seated = subst (λ it. IsSeated r.signature c.args.code.now it.engine.limits k) to_shell c.requires.seated in
     let engine = sh.engine in
     let old = shown g.K.Sink.written g.K.Sink.faults g.D.Device.device_heard g.D.Device.device_faults engine sh.sent sh.sink sh.devices.items in
     let was = subst (λ it. IsShared r seated.opened
@@ -41,7 +41,7 @@ turn-deed-requires-clause-sent g c =
     let k = knows c.args.seat.now in
     let sh = c.deref_mut-shell.result.now in
     let to_shell = sym c.deref_mut-shell.ensures.value in
-    let seated = subst (λ it. IsSeated r.devices c.args.code.now it.engine.limits k) to_shell c.requires.seated in
+    let seated = subst (λ it. IsSeated r.signature c.args.code.now it.engine.limits k) to_shell c.requires.seated in
     let opened = seated.opened in
     let was = subst (λ it. IsShared r opened
     (shown g.K.Sink.written g.K.Sink.faults g.D.Device.device_heard g.D.Device.device_faults it.engine it.sent it.sink it.devices.items) c.args.shared.now.places.items k.rows k.seen)
@@ -54,7 +54,7 @@ returns-clause-makes g c =
     let k = knows c.args.seat.now in
     let sh = c.deref_mut-shell.result.now in
     let to_shell = sym c.deref_mut-shell.ensures.value in
-    let seated = subst (λ it. IsSeated r.devices c.args.code.now it.engine.limits k) to_shell c.requires.seated in
+    let seated = subst (λ it. IsSeated r.signature c.args.code.now it.engine.limits k) to_shell c.requires.seated in
     let engine = sh.engine in
     let old = shown g.K.Sink.written g.K.Sink.faults g.D.Device.device_heard g.D.Device.device_faults engine sh.sent sh.sink sh.devices.items in
     let s = c.turn-deed.new.self in
@@ -95,7 +95,7 @@ returns-clause-can g c =
     let r = g.M.Runner.meaning in
     let k = knows c.args.seat.now in
     let to_shell = sym c.deref_mut-shell.ensures.value in
-    let seated = subst (λ it. IsSeated r.devices c.args.code.now it.engine.limits k) to_shell c.requires.seated in
+    let seated = subst (λ it. IsSeated r.signature c.args.code.now it.engine.limits k) to_shell c.requires.seated in
     let was = some-and _ k.fixed seated.opened seated.is c.requires.stands in
     subst (λ code. CanBePrepared r.is_machine r.stage code c.args.shared.now.shell.value.engine.limits.slice c.turn-deed.result.work)
     (c.turn-deed.ensures.code ∙ ap (λ it. it.engine.code) c.deref_mut-shell.ensures.value ∙ was.shell.opened.code ∙ seated.of_code)

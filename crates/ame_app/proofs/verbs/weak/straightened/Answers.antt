@@ -1,3 +1,4 @@
+use Rattle.ame_laws.specs.Typed.Listed.{signature_of}
 use Rattle.std.proofs.Common.{◌∙◌, ◌++◌, List, refl, ap, subst}
 use Rattle.ame_term.specs.View.{tree_of}
 use Rattle.ame_term.specs.declared.semantics.Label.{Label}
@@ -22,7 +23,7 @@ returns-clause-leads c =
     let labels = c.args.run.labels.items in
     let tries = c.args.run.tries.items in
     let told = subst (λ (a : Straight). IsStraightened program c.deref.result.now c.deref-2.result.now a) c.in-Journal.is c.in_ok-journal.ensures.answer in
-    weak-leads c.args.accepted.now.devices program c.tries_straighten.ensures c.weak_calls_are_told.ensures c.calls_are_told_with.ensures
+    weak-leads (signature_of c.args.accepted.now) program c.tries_straighten.ensures c.weak_calls_are_told.ensures c.calls_are_told_with.ensures
     c.weak_runs_are_typed.ensures c.args.limit labels tries c.args.run.turns c.args.run.stop _ c.requires.run
     (c.in_ok-stop.ensures.entries ∙ ap (λ (es : List Entry). es ++ notes_of_stop c.args.run.stop)
     (told.1 ∙ ap (λ (ls : List Label). straight_with 0 c.deref-2.result.now outset ls) c.deref.ensures.value
@@ -35,7 +36,7 @@ returns-clause-tells c = λ before after count tells.
     let labels = c.args.run.labels.items in
     let tries = c.args.run.tries.items in
     let told = subst (λ (a : Straight). IsStraightened program c.deref.result.now c.deref-2.result.now a) c.in-Journal.is c.in_ok-journal.ensures.answer in
-    weak-tells c.args.accepted.now.devices program c.tries_straighten.ensures c.weak_calls_are_told.ensures c.calls_are_told_with.ensures
+    weak-tells (signature_of c.args.accepted.now) program c.tries_straighten.ensures c.weak_calls_are_told.ensures c.calls_are_told_with.ensures
     c.weak_runs_are_typed.ensures c.args.limit labels tries c.args.run.turns c.args.run.stop _ c.requires.run
     (c.in_ok-stop.ensures.entries ∙ ap (λ (es : List Entry). es ++ notes_of_stop c.args.run.stop)
     (told.1 ∙ ap (λ (ls : List Label). straight_with 0 c.deref-2.result.now outset ls) c.deref.ensures.value

@@ -1,4 +1,4 @@
-use Rattle.std.proofs.Common.{◌≡◌, ◌-◌, ◌∙◌, List, length, sym, ap}
+use Rattle.std.proofs.Common.{◌-◌, ◌∙◌, List, length, sym, ap}
 use Rattle.std.specs.Prelude.{option_copied}
 use Rattle.std.specs.List.{slice_get}
 use Rattle.ame_weak.specs.declared.tries.Try.{Try}

@@ -1,4 +1,4 @@
-use Rattle.std.proofs.Common.{rules, ◌≡◌, ◌∙◌, true, false, is_none, max, sym, ap, subst, refl}
+use Rattle.std.proofs.Common.{rules, ◌∙◌, max, sym, ap, subst, refl}
 use Rattle.ame_weak.specs.View.{weak_of}
 use Rattle.ame_runner.specs.Play.{PlayView, IsPlayedWeakly, HasMade}
 use Rattle.ame_runner.specs.View.{play_of}

@@ -1,6 +1,5 @@
 use Rattle.std.proofs.Common.{map, refl, subst}
 use Rattle.ame_term.specs.View.{tree_of, typ_of}
-use Rattle.ame_term.specs.Typing.{ref_types}
 use Rattle.ame_device.specs.Calls.{all_told}
 use Rattle.ame_laws.proofs.Typed.Started.{accepted}
 use Rattle.ame_weak.specs.Weak.{Weak}
@@ -16,8 +15,9 @@ returns-in_ok-count-in-Label-clause-goes g c =
     let after = all_told g.D.Device.device_heard g.D.Device.device_faults c.next_free.new.devices.items in
     let a = c.args.self.now.play.accepted.now in
     let p = tree_of a.program.term in
-    goes-label a.devices a.program.places.items p (ref_types a.devices a.program.places.items p)
-    (accepted a.devices a.program.places.items p (map typ_of a.ref_tys.items) a.typed) a.program.source
+    let refs = map typ_of a.ref_tys.items in
+    goes-label a.devices a.program.places.items p refs
+    (accepted a.devices a.program.places.items p refs a.typed) a.program.source a.program.numbered
     old (run_of c.count.new.self) c.args.number c.in-Label.label before after refl
     (subst (HasFreed old.play.weak c.args.number old.above before after) c.in-Label.is
     (subst (λ (w : Weak). HasFreed w c.args.number old.above before after c.in_ok-label.field-0) c.state.ensures c.in_ok-label.ensures.freed))

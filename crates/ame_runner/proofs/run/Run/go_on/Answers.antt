@@ -1,7 +1,6 @@
 use Rattle.std.proofs.Common.{List, None, ap, map, refl, subst}
 use Rattle.std.specs.List.{AllByRecursion}
 use Rattle.ame_term.specs.View.{tree_of, typ_of}
-use Rattle.ame_term.specs.Typing.{ref_types}
 use Rattle.ame_device.specs.declared.told.Told.{Told}
 use Rattle.ame_laws.proofs.Typed.Started.{accepted}
 use Rattle.ame_runner.specs.Run.{RunView, IsOwn, HasRun, CountsNothing}
@@ -24,10 +23,11 @@ returns-in-Some-clause-hears c =
     let q = run_of c.make.new.self in
     let a = c.args.self.now.play.accepted.now in
     let p = tree_of a.program.term in
+    let refs = map typ_of a.ref_tys.items in
     ok-then c.make.result (HasRun c.in-Some.label r q) ((told : List Told) → HearsOn None old q told told)
     (λ made. λ told opened running heard. (
-      hears-own a.devices a.program.places.items p (ref_types a.devices a.program.places.items p)
-          (accepted a.devices a.program.places.items p (map typ_of a.ref_tys.items) a.typed) a.program.source
+      hears-own a.devices a.program.places.items p refs
+          (accepted a.devices a.program.places.items p refs a.typed) a.program.source a.program.numbered
           old.play q.play c.in-Some.label made.made refl running.played opened told heard (subst (AllByRecursion IsOwn) c.in-Some.ensures.items running.own).0,
       λ k. refl,
     )) c.make.ensures.made

@@ -1,6 +1,5 @@
-use Rattle.std.proofs.Common.{◌≡◌, ◌+◌, ◌≤◌, length, map, refl, ap, arith}
+use Rattle.std.proofs.Common.{◌≡◌, ◌+◌, length, map, refl, ap, arith}
 use Rattle.ame_term.specs.View.{tree_of, typ_of}
-use Rattle.ame_term.specs.Typing.{ref_types}
 use Rattle.ame_journal.specs.declared.entry.Entry.{Entry}
 use Rattle.ame_laws.proofs.Typed.Started.{accepted}
 use Rattle.ame_runner.specs.Trial.{last_turn}
@@ -21,9 +20,10 @@ returns-clause-runs c = λ running.
     let within = running.within in
     let a = c.args.self.now.play.accepted.now in
     let p = tree_of a.program.term in
+    let refs = map typ_of a.ref_tys.items in
     attempts-tall old (record old { turns = old.turns + tried.turns }) entry (old.turns + tried.turns) refl (omega (arith, counted, turn, steps)) (omega (arith, most, within))
     c.requires.left c.requires.idle
-    (tried_grow_tall a.devices a.program.places.items p (ref_types a.devices a.program.places.items p)
-    (accepted a.devices a.program.places.items p (map typ_of a.ref_tys.items) a.typed) a.program.source
+    (tried_grow_tall a.devices a.program.places.items p refs
+    (accepted a.devices a.program.places.items p refs a.typed) a.program.source a.program.numbered
     old.play.labels old.play.weak c.args.number old.above _ tried entry running.played.leads running.played.within c.requires.idle c.requires.tried c.requires.tall c.in_ok-entry.ensures)
     running

@@ -1,6 +1,5 @@
 use Rattle.std.proofs.Common.{◌≡◌, ◌+◌, ◌≤◌, ◌⊎◌, inl, inr, ◌∙◌, true, length, map, refl, ap, arith}
 use Rattle.ame_term.specs.View.{tree_of, typ_of}
-use Rattle.ame_term.specs.Typing.{ref_types}
 use Rattle.ame_laws.proofs.Typed.Started.{accepted}
 use Rattle.ame_runner.specs.Run.{RunView}
 use Rattle.ame_runner.specs.View.{tries_made, aside_of, run_of}
@@ -24,9 +23,10 @@ returns-clause-runs c = λ running.
     let few : q.turns ≤ q.limit = omega (arith, most, within) in
     let a = c.args.self.now.play.accepted.now in
     let p = tree_of a.program.term in
+    let refs = map typ_of a.ref_tys.items in
     let holds =
-    tried_fragments_hold a.devices a.program.places.items p (ref_types a.devices a.program.places.items p)
-    (accepted a.devices a.program.places.items p (map typ_of a.ref_tys.items) a.typed) a.program.source
+    tried_fragments_hold a.devices a.program.places.items p refs
+    (accepted a.devices a.program.places.items p refs a.typed) a.program.source a.program.numbered
     old.play.labels old.play.weak c.args.number old.above _ tried t running.played.leads c.requires.idle c.requires.tried tells in
     let how : (t.failing ≡ true) ⊎ (q.turns ≡ q.limit) = elim (how-noted tried.outcome turn c.requires.low) [
       | inl fails ↦ inl (tells.failing ∙ fails)

@@ -1,6 +1,5 @@
 use Rattle.std.proofs.Common.{map, refl}
 use Rattle.ame_term.specs.View.{tree_of, typ_of}
-use Rattle.ame_term.specs.Typing.{ref_types}
 use Rattle.ame_laws.proofs.Typed.Started.{accepted}
 use Rattle.ame_runner.specs.View.{run_of}
 use Rattle.ame_runner.proofs.ChooseLemmas.{found-finished, found-spent, found-blocked}
@@ -16,8 +15,9 @@ pub returns-then-stuck : goal.returns-then-stuck
 returns-then-stuck c =
     let a = c.args.self.now.play.accepted.now in
     let p = tree_of a.program.term in
-    found-blocked a.devices a.program.places.items p (ref_types a.devices a.program.places.items p)
-    (accepted a.devices a.program.places.items p (map typ_of a.ref_tys.items) a.typed) a.program.source
+    let refs = map typ_of a.ref_tys.items in
+    found-blocked a.devices a.program.places.items p refs
+    (accepted a.devices a.program.places.items p refs a.typed) a.program.source a.program.numbered
     (run_of c.args.self.now) c.in_ok-certificates.certificates refl c.requires (c.is_busy.ensures c.if-is_busy.false) (c.is_over.ensures.no c.if-is_over.false) (c.in_ok-stuck.ensures.yes c.if-stuck.true)
     c.in_ok-certificates.ensures.fail c.in_ok-certificates.ensures.all c.in_ok-certificates.ensures.rise
 

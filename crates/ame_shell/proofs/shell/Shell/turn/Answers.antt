@@ -53,3 +53,9 @@ returns-clause-sent g c =
     c.args.self.now.engine c.act-turned.new.engine _ _ c.act-turned.result.deed c.act-turned.ensures.done c.args.self.now.sent c.requires.sent in
     by-flush (is_to_flush c.act-turned.result.deed) (λ e. flushed-within g.M.Runner.meaning _ _ (c.flush_after.ensures.flushes e) mid)
     (λ e. subst (λ s. s.sent ≤ length (lines s.engine.output)) (sym (c.flush_after.ensures.stays e)) mid)
+
+pub returns-clause-fits : goal.returns-clause-fits
+returns-clause-fits g c =
+    by-flush (is_to_flush c.act-turned.result.deed)
+    (λ e. flushed-fits g.M.Runner.meaning _ _ (c.flush_after.ensures.flushes e) c.args.seat c.act-turned.result.work c.act-turned.ensures.fits)
+    (λ e. subst (λ s. Fits g.M.Runner.meaning s.engine c.args.seat c.act-turned.result.work) (sym (c.flush_after.ensures.stays e)) c.act-turned.ensures.fits)

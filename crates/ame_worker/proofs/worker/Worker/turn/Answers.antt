@@ -20,7 +20,7 @@ returns-in_default-clause-ready g c =
     let code = arc_value c.args.self.now.code in
     let slice = c.args.self.now.limits.slice in
     let done = subst (λ code. IsPrepared r.is_machine r.stage code slice c.args.self.now.work c.prepare.new.work) c.deref-code.ensures c.prepare.ensures.prepared in
-    subst (λ k. IsReadyToTurn r.devices r.is_machine r.stage code c.args.self.now.limits k c.prepare.new.work) (sym c.in_default.ensures.same)
+    subst (λ k. IsReadyToTurn r.signature r.is_machine r.stage code c.args.self.now.limits k c.prepare.new.work) (sym c.in_default.ensures.same)
     (record {
       seated = c.requires.ready.seated;
       free = c.requires.ready.free;
@@ -40,8 +40,8 @@ hand-point-requires-clause-seated g c =
     let same = same-limits r limits code k c.requires.ready.seated shows shared.places.items holding.rows holding.seen
     c.in-Some.ensures.taken.stands in
     let found = take_finds _ maker k holding shared c.in-Some.ensures.taken in
-    subst (λ code. IsSeated r.devices code shared.shell.value.engine.limits holding) (sym c.deref-code.ensures)
-    (subst (λ limits. IsSeated r.devices code limits holding) same (still-seated r.devices code limits k holding found.keeps c.requires.ready.seated))
+    subst (λ code. IsSeated r.signature code shared.shell.value.engine.limits holding) (sym c.deref-code.ensures)
+    (subst (λ limits. IsSeated r.signature code limits holding) same (still-seated r.signature code limits k holding found.keeps c.requires.ready.seated))
 
 pub hand-point-requires-clause-prepared : goal.hand-point-requires-clause-prepared
 hand-point-requires-clause-prepared g c =
@@ -116,7 +116,7 @@ returns-clause-did g c = λ point e.
       gave = gave-its-row r
           (λ s. shown g.K.Sink.written g.K.Sink.faults g.D.Device.device_heard g.D.Device.device_faults s.shell.value.engine s.shell.value.sent s.shell.value.sink s.shell.value.devices.items)
           (λ s. s.places.items) _ holding shared given c.deref-code.result.now c.is_err-lacks.result c.replace-work.result c.hand-point.result.work c.hand-point.result.point c.hand-point.ensures.makes
-          limits code (still-seated r.devices code limits k holding found.keeps c.requires.ready.seated) k.row
+          limits code (still-seated r.signature code limits k holding found.keeps c.requires.ready.seated) k.row
           found.found (knows c.give.new.seat) c.give.ensures.given;
     }
 
@@ -136,8 +136,8 @@ returns-clause-ready g c =
     let same = same-limits r limits code k c.requires.ready.seated shows shared.places.items holding.rows holding.seen
     c.in-Some.ensures.taken.stands in
     let made = returns-clause-did g c c.hand-point.result.point refl in
-    ready-again r.devices r.is_machine r.stage code limits made.holding (knows c.give.new.seat) _ work made.gave refl
-    (still-seated r.devices code limits k made.holding made.took.keeps c.requires.ready.seated)
+    ready-again r.signature r.is_machine r.stage code limits made.holding (knows c.give.new.seat) _ work made.gave refl
+    (still-seated r.signature code limits k made.holding made.took.keeps c.requires.ready.seated)
     (subst (λ (l : Limits). CanBePrepared r.is_machine r.stage code l.slice work) (sym same)
     (subst (λ code. CanBePrepared r.is_machine r.stage code shared.shell.value.engine.limits.slice work) c.deref-code.ensures c.hand-point.ensures.can))
 

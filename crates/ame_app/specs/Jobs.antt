@@ -146,7 +146,8 @@ IsOverWith options code before end after = IsOver (program_of code) (signature_o
 
 -- a run that went on from an engine is over
 abbrev pub IsOverFrom : Core FlatCode Val Fragment → Ends → End Val → Ends → Type 0
-IsOverFrom engine before end after = IsOverSince engine.base (program_of engine.code) (signature_of engine.code.accepted) engine.limits (value_meant engine.code) before end after
+IsOverFrom engine before end after =
+    IsOverSince engine.base (program_of engine.code) (signature_of engine.code.accepted) engine.limits (value_meant engine.code) before end after
 
 -- a run that a command makes by an engine is over, and has kept what the command promises
 pub record IsEngineRunMade (command : Command) (front : Front) (code : FlatCode) (before : Ends) (own : Own) (end : End Val) (after : Ends) : Type 0 where
@@ -182,7 +183,8 @@ pub record TellsWeakly (program : Tree) (limit : ℕ) (weakened : Weakened) (bef
   pub failed : weakened.stop ≢ Stop.NoMemory → HaveFailed (Some weakened.stop) before after
 
 -- an engine was opened on entries and taken apart at once, and its lines were sent
-pub record IsTakenApart (base : List Entry) (program : Tree) (signature : Signature) (limits : Limits) (value : Val → Value) (end : End Val) (before after : Ends) : Type 0 where
+pub record IsTakenApart (base : List Entry) (program : Tree) (signature : Signature) (limits : Limits) (value : Val → Value) (end : End Val)
+    (before after : Ends) : Type 0 where
   pub ends : IsEnd program signature limits value end
   pub base_is : end.base ≡ base
   pub nothing : end.entries ≡ []
@@ -192,7 +194,8 @@ pub record IsTakenApart (base : List Entry) (program : Tree) (signature : Signat
 
 -- so it was with this engine
 abbrev pub IsTakenFrom : Core FlatCode Val Fragment → End Val → Ends → Ends → Type 0
-IsTakenFrom engine end before after = IsTakenApart engine.base (program_of engine.code) (signature_of engine.code.accepted) engine.limits (value_meant engine.code) end before after
+IsTakenFrom engine end before after =
+    IsTakenApart engine.base (program_of engine.code) (signature_of engine.code.accepted) engine.limits (value_meant engine.code) end before after
 
 -- an engine goes on with the code from the journal of a weak run without its notes
 abbrev pub IsEngineBehind : Weakened → ℕ → FlatCode → Core FlatCode Val Fragment → Type 0
@@ -203,7 +206,8 @@ pub record IsWeakRunMade (turns : ℕ) (code : FlatCode) (before : Ends) (own : 
   pub weakened : Weakened
   pub own_is : own ≡ Own.Weak weakened
   pub tells : TellsWeakly (program_of code) turns weakened before.told after.told
-  pub apart : IsTakenApart (without_notes weakened.journal.entries) (program_of code) (signature_of code.accepted) (limits_of (alone_with turns)) (value_meant code) left before after
+  pub apart : IsTakenApart (without_notes weakened.journal.entries) (program_of code) (signature_of code.accepted) (limits_of (alone_with turns))
+      (value_meant code) left before after
 
 -- the run of a command is over
 abbrev pub IsRunMade : Command → Front → FlatCode → Ends → Own → End Val → Ends → Type 0

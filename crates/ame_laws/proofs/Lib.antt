@@ -14,6 +14,7 @@ pub mod MapLemmas
 pub mod OrderlyLemmas
 pub mod HeightLemmas
 pub mod EnclosedLemmas
+pub mod NextLemmas
 pub mod RefsLemmas
 pub mod ScopedNames
 pub mod Typed

@@ -1,7 +1,8 @@
--- The types that the table computes for `ref` forms are those that they store, form by form.
-use Rattle.std.proofs.Common.{◌≡◌, ℕ, ◌+◌, ◌++◌, false, List, [], ◌∷◌, Option, Ok, length, refl, sym, ap, subst, ◌∙◌}
+-- A term has as many `ref` forms as are counted, and the types that the table computes for them are those that they store, form by form.
+use Rattle.std.proofs.Common.{◌≡◌, ℕ, ◌+◌, ◌++◌, false, List, [], ◌∷◌, Option, Ok, length, refl, sym, ap, subst, ◌∙◌, arith, length-append}
 use Rattle.std.specs.List.{AllZip}
 use Rattle.ame_term.specs.Tree.{Typ, OwnName, Tree, Trees}
+use Rattle.ame_term.specs.Numbered.{own_ref_count, ref_count, all_ref_count}
 use Rattle.ame_term.specs.Signature.{Signature}
 use Rattle.ame_term.specs.SourceTerm.{nodes}
 use Rattle.ame_term.specs.Scope.{Scope, within}
@@ -12,12 +13,44 @@ use Rattle.ame_term.specs.declared.types.Sort.{Sort}
 use Rattle.ame_term.specs.declared.types.Effect.{Effect}
 use Rattle.ame_term.specs.declared.types.Unary.{Unary}
 use Rattle.ame_term.specs.declared.types.Unary.TheVariants as unary
-use Rattle.ame_laws.specs.Refs.{HasRefs, HaveRefs, is_ref, own_ref, refs_in, refs_among, IsTypedSomewhere}
+use Rattle.ame_laws.specs.Refs.{HasRefs, HaveRefs, is_ref, own_form, ref_forms, ref_forms_among, StoresType}
 use Rattle.ame_laws.proofs.Complete.{complete}
 
-no_ref_part : (op : Unary) (part : Tree) (others : List Tree) → is_ref op ≡ false → own_ref op part others ≡ others
-no_ref_part (unary.Ref s number) part others e = cc
-no_ref_part _ part others e = refl
+own_counted : (op : Unary) (part : Tree) (others : List Tree) → length (own_form op part others) ≡ own_ref_count op + length others
+own_counted (unary.Ref sort number) part others = omega arith
+own_counted _ part others = omega arith
+
+mutual
+  unfolding ref_forms ref_forms_among ref_count all_ref_count
+
+  -- a term has as many forms as are counted
+  pub forms_counted : (t : Tree) → length (ref_forms t) ≡ ref_count t
+  forms_counted (Tree.Held v) = refl
+  forms_counted (Tree.Var x) = refl
+  forms_counted (Tree.Lambda head body) = forms_counted body
+  forms_counted (Tree.Let x bound body) = omega (arith, length-append (ref_forms bound) (ref_forms body), forms_counted bound, forms_counted body)
+  forms_counted (Tree.Do parts) = all_counted parts
+  forms_counted (Tree.If a b c) =
+      omega (
+        arith,
+        length-append (ref_forms a ++ ref_forms b) (ref_forms c),
+        length-append (ref_forms a) (ref_forms b),
+        forms_counted a,
+        forms_counted b,
+        forms_counted c,
+      )
+  forms_counted (Tree.Async body) = forms_counted body
+  forms_counted (Tree.Unprotected part) = forms_counted part
+  forms_counted (Tree.One op part) = omega (arith, own_counted op part (ref_forms part), forms_counted part)
+  forms_counted (Tree.Two op left right) = omega (arith, length-append (ref_forms left) (ref_forms right), forms_counted left, forms_counted right)
+
+  all_counted : (parts : Trees) → length (ref_forms_among parts) ≡ all_ref_count parts
+  all_counted Trees.None = refl
+  all_counted (Trees.More part rest) = omega (arith, length-append (ref_forms part) (ref_forms_among rest), forms_counted part, all_counted rest)
+
+no_form : (op : Unary) (part : Tree) (others : List Tree) → is_ref op ≡ false → own_form op part others ≡ others
+no_form (unary.Ref s number) part others e = cc
+no_form _ part others e = refl
 
 zip_append : {A B : Type 0} (R : A → B → Type 0) (xs xs' : List A) (ys ys' : List B) → AllZip R xs ys → AllZip R xs' ys' → AllZip R (xs ++ xs') (ys ++ ys')
 zip_append R [] xs' [] ys' a b = b
@@ -121,35 +154,40 @@ module _ (signature : Signature) (cells : ℕ → Option (Sort × Typ)) where
         cc
 
   abbrev Pairs : List Tree → List Typ → Type 0
-  Pairs parts ts = AllZip (IsTypedSomewhere signature cells) parts ts
+  Pairs forms ts = AllZip (StoresType signature cells) forms ts
 
   paired : (xs xs' : List Tree) (ts ts' : List Typ) → Pairs xs ts → Pairs xs' ts' → Pairs (xs ++ xs') (ts ++ ts')
-  paired xs xs' ts ts' a b = zip_append (IsTypedSomewhere signature cells) xs xs' ts ts' a b
+  paired xs xs' ts ts' a b = zip_append (StoresType signature cells) xs xs' ts ts' a b
 
   mutual
-    unfolding refs_in refs_among
+    unfolding ref_forms ref_forms_among
 
     -- the forms and their types stand side by side
-    pub refs_paired : {g : Scope} {q : Effect} {e : Tree} {ts : List Typ} → HasRefs signature cells g q e ts → AllZip (IsTypedSomewhere signature cells) (refs_in e) ts
+    pub refs_paired : {g : Scope} {q : Effect} {e : Tree} {ts : List Typ} → HasRefs signature cells g q e ts →
+        AllZip (StoresType signature cells) (ref_forms e) ts
     refs_paired HasRefs.held = tt
     refs_paired HasRefs.name = tt
     refs_paired (HasRefs.function p h) = refs_paired h
     refs_paired (HasRefs.recursive p h) = refs_paired h
-    refs_paired (HasRefs.binding {bound = bound} {body = body} {ts = ts} {us = us} hb h k) = paired (refs_in bound) (refs_in body) ts us (refs_paired h) (refs_paired k)
+    refs_paired (HasRefs.binding {bound = bound} {body = body} {ts = ts} {us = us} hb h k) =
+        paired (ref_forms bound) (ref_forms body) ts us (refs_paired h) (refs_paired k)
     refs_paired (HasRefs.sequence h) = refs_paired_all h
     refs_paired (HasRefs.choice {test = a} {then_part = b} {else_part = c} {ts = ts} {us = us} {ws = ws} ht ha hb) =
-        paired (refs_in a ++ refs_in b) (refs_in c) (ts ++ us) ws (paired (refs_in a) (refs_in b) ts us (refs_paired ht) (refs_paired ha)) (refs_paired hb)
+        paired (ref_forms a ++ ref_forms b) (ref_forms c) (ts ++ us) ws
+        (paired (ref_forms a) (ref_forms b) ts us (refs_paired ht) (refs_paired ha)) (refs_paired hb)
     refs_paired (HasRefs.async h) = refs_paired h
     refs_paired (HasRefs.unprotected h) = refs_paired h
     refs_paired (HasRefs.reference {g} {q} hp h) = ((g, q, hp), refs_paired h)
-    refs_paired (HasRefs.one {op = op} {part = part} {ts = ts} p h) = subst (λ (xs : List Tree). Pairs xs ts) (sym (no_ref_part op part (refs_in part) p)) (refs_paired h)
-    refs_paired (HasRefs.two {left = left} {right = right} {ts = ts} {us = us} ha hb) = paired (refs_in left) (refs_in right) ts us (refs_paired ha) (refs_paired hb)
+    refs_paired (HasRefs.one {op = op} {part = part} {ts = ts} p h) =
+        subst (λ (forms : List Tree). Pairs forms ts) (sym (no_form op part (ref_forms part) p)) (refs_paired h)
+    refs_paired (HasRefs.two {left = left} {right = right} {ts = ts} {us = us} ha hb) =
+        paired (ref_forms left) (ref_forms right) ts us (refs_paired ha) (refs_paired hb)
 
     refs_paired_all : {g : Scope} {q : Effect} {parts : Trees} {ts : List Typ} → HaveRefs signature cells g q parts ts →
-        AllZip (IsTypedSomewhere signature cells) (refs_among parts) ts
+        AllZip (StoresType signature cells) (ref_forms_among parts) ts
     refs_paired_all HaveRefs.none = tt
     refs_paired_all (HaveRefs.more {part = part} {rest = rest} {ts = ts} {us = us} h k) =
-        paired (refs_in part) (refs_among rest) ts us (refs_paired h) (refs_paired_all k)
+        paired (ref_forms part) (ref_forms_among rest) ts us (refs_paired h) (refs_paired_all k)
 
-  pub refs_counted : {g : Scope} {q : Effect} {e : Tree} {ts : List Typ} → HasRefs signature cells g q e ts → length ts ≡ length (refs_in e)
-  refs_counted {e = e} {ts = ts} h = zip_length (IsTypedSomewhere signature cells) (refs_in e) ts (refs_paired h)
+  pub refs_counted : {g : Scope} {q : Effect} {e : Tree} {ts : List Typ} → HasRefs signature cells g q e ts → length ts ≡ length (ref_forms e)
+  refs_counted {e = e} {ts = ts} h = zip_length (StoresType signature cells) (ref_forms e) ts (refs_paired h)

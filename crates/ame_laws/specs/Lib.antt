@@ -1,4 +1,5 @@
 pub mod TypingLaws
+pub mod Next
 pub mod Refs
 pub mod Standing
 pub mod Free

@@ -1,5 +1,5 @@
 -- The `ref` forms of a term in reading order, and the types of what they store, form by form.
-use Rattle.std.specs.Prelude.{◌≡◌, ℕ, Bool, true, false, List, [], ◌∷◌, ◌++◌, Option, Some, None}
+use Rattle.std.specs.Prelude.{◌≡◌, ℕ, Bool, true, false, List, [], ◌∷◌, ◌++◌, Option, Some, None, slice_get}
 use Rattle.ame_term.specs.Tree.{Typ, OwnName, Head, Val, Tree, Trees}
 use Rattle.ame_term.specs.Signature.{Signature}
 use Rattle.ame_term.specs.Scope.{Scope, bind}
@@ -16,28 +16,32 @@ abbrev pub is_ref : Unary → Bool
 is_ref (unary.Ref sort number) = true
 is_ref _ = false
 
--- the part of a `ref` form, before those that stand in the part
-abbrev pub own_ref : Unary → Tree → List Tree → List Tree
-own_ref (unary.Ref sort number) part others = part ∷ others
-own_ref _ part others = others
+-- a `ref` form, before those that stand in its part
+abbrev pub own_form : Unary → Tree → List Tree → List Tree
+own_form (unary.Ref sort number) part others = Tree.One (unary.Ref sort number) part ∷ others
+own_form _ part others = others
 
 unfoldable mutual
-  -- the parts of the `ref` forms of a term, in reading order
-  pub refs_in : Tree → List Tree
-  refs_in (Tree.Held v) = []
-  refs_in (Tree.Var x) = []
-  refs_in (Tree.Lambda head body) = refs_in body
-  refs_in (Tree.Let x bound body) = refs_in bound ++ refs_in body
-  refs_in (Tree.Do parts) = refs_among parts
-  refs_in (Tree.If test then_part else_part) = refs_in test ++ refs_in then_part ++ refs_in else_part
-  refs_in (Tree.Async body) = refs_in body
-  refs_in (Tree.Unprotected part) = refs_in part
-  refs_in (Tree.One op part) = own_ref op part (refs_in part)
-  refs_in (Tree.Two op left right) = refs_in left ++ refs_in right
+  -- the `ref` forms of a term, in reading order
+  pub ref_forms : Tree → List Tree
+  ref_forms (Tree.Held v) = []
+  ref_forms (Tree.Var x) = []
+  ref_forms (Tree.Lambda head body) = ref_forms body
+  ref_forms (Tree.Let x bound body) = ref_forms bound ++ ref_forms body
+  ref_forms (Tree.Do parts) = ref_forms_among parts
+  ref_forms (Tree.If test then_part else_part) = ref_forms test ++ ref_forms then_part ++ ref_forms else_part
+  ref_forms (Tree.Async body) = ref_forms body
+  ref_forms (Tree.Unprotected part) = ref_forms part
+  ref_forms (Tree.One op part) = own_form op part (ref_forms part)
+  ref_forms (Tree.Two op left right) = ref_forms left ++ ref_forms right
 
-  pub refs_among : Trees → List Tree
-  refs_among Trees.None = []
-  refs_among (Trees.More part rest) = refs_in part ++ refs_among rest
+  pub ref_forms_among : Trees → List Tree
+  ref_forms_among Trees.None = []
+  ref_forms_among (Trees.More part rest) = ref_forms part ++ ref_forms_among rest
+
+-- the `ref` form of a program with this number is of this sort
+abbrev pub HasRefForm : Tree → Sort → TyNo → Type 0
+HasRefForm program sort number = (part : Tree) × (slice_get (ref_forms program) number.0 ≡ Some (Tree.One (unary.Ref sort number) part))
 
 -- for a signature, and cells with their sorts and content types
 module _ (signature : Signature) (cells : ℕ → Option (Sort × Typ)) where
@@ -71,6 +75,7 @@ module _ (signature : Signature) (cells : ℕ → Option (Sort × Typ)) where
       more : {g : Scope} {q : Effect} {part : Tree} {rest : Trees} {ts us : List Typ} →
           HasRefs g q part ts → HaveRefs g q rest us → HaveRefs g q (Trees.More part rest) (ts ++ us)
 
--- a term that has a type in some scope and under some effect
-abbrev pub IsTypedSomewhere : Signature → (ℕ → Option (Sort × Typ)) → Tree → Typ → Type 0
-IsTypedSomewhere signature cells part t = (g : Scope) × (q : Effect) × HasType signature cells g q part t
+-- a `ref` form whose part has this type, in some scope and under some effect
+abbrev pub StoresType : Signature → (ℕ → Option (Sort × Typ)) → Tree → Typ → Type 0
+StoresType signature cells (Tree.One (unary.Ref sort number) part) t = (g : Scope) × (q : Effect) × HasType signature cells g q part t
+StoresType signature cells _ t = ⊥

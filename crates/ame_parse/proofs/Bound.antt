@@ -5,7 +5,7 @@ use Rattle.std.proofs.lemmas.List.Folds.{list_any-append}
 use Rattle.std.proofs.Math.Seq.{take-append_seam}
 use Rattle.ame_term.specs.Tree.{Typ, Head, Tree}
 use Rattle.ame_term.specs.SourceTerm.{names_within, is_name_of, IsBound, AllBound}
-use Rattle.ame_parse.specs.Input.{Input, advanced, marked, name_number, named, binds_name, bound, unbound, counted}
+use Rattle.ame_parse.specs.Input.{Input, advanced, marked, name_number, named, binds_name, bound, unbound, ref_counted}
 use Rattle.ame_parse.specs.Forms.{row}
 use Rattle.ame_parse.specs.Grammar as g
 use Rattle.ame_parse.specs.Grammar.{IsType, IsTypeForm, IsParam, IsFunctionHead, outside, IsTerm, IsForm, AreParts}
@@ -34,8 +34,8 @@ scope_bound x i = refl
 without_last : (s : List ℕ) (x : ℕ) → take (length (s ++ x ∷ []) - 1) (s ++ x ∷ []) ≡ s
 without_last s x = let e : length (s ++ x ∷ []) - 1 ≡ length s = omega (arith, length-append s (x ∷ [])) in ap (λ m. take m (s ++ x ∷ [])) e ∙ take-append_seam s (x ∷ [])
 
-scope_counted : (i : Input) → scope_of (counted i) ≡ scope_of i
-unfolding counted
+scope_counted : (i : Input) → scope_of (ref_counted i) ≡ scope_of i
+unfolding ref_counted
 scope_counted i = refl
 
 scope_unbound : (i : Input) (s : List ℕ) (x : ℕ) → scope_of i ≡ s ++ x ∷ [] → scope_of (unbound i) ≡ s

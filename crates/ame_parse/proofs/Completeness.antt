@@ -18,7 +18,7 @@ use Rattle.ame_parse.specs.declared.ahead.Ahead.{Ahead}
 use Rattle.ame_parse.specs.declared.ahead.Ahead.TheVariants as a
 use Rattle.ame_parse.specs.declared.fault.ParseFault.TheVariants.{UnknownName, TooNested}
 use Rattle.ame_parse.specs.declared.forms.Opener.TheVariants as opener
-use Rattle.ame_parse.specs.Input.{Seen, Input, Parser, and_then, is_closing, ahead_in, ahead, spelling, place, advanced, marked, name_number, named, binds_name, bound, unbound, ref_number, counted, tokens_left, closing_by, closing, sees_closing, name_by, name, opening_by, opening, advance}
+use Rattle.ame_parse.specs.Input.{Seen, Input, Parser, and_then, is_closing, ahead_in, ahead, spelling, place, advanced, marked, name_number, named, binds_name, bound, unbound, ref_number, ref_counted, tokens_left, closing_by, closing, sees_closing, name_by, name, opening_by, opening, advance}
 use Rattle.ame_parse.specs.Letters.{sort_of, effect_named, device_of, sort_by, effect_by, device_by, sort, numbered_sort, effect_word, device}
 use Rattle.ame_parse.specs.Types as t
 use Rattle.ame_parse.specs.Types.{ty, param}
@@ -61,8 +61,8 @@ left_unbound : (i : Input) → tokens_left (unbound i) ≡ tokens_left i
 unfolding tokens_left unbound
 left_unbound i = refl
 
-left_counted : (i : Input) → tokens_left (counted i) ≡ tokens_left i
-unfolding tokens_left counted
+left_counted : (i : Input) → tokens_left (ref_counted i) ≡ tokens_left i
+unfolding tokens_left ref_counted
 left_counted i = refl
 
 left_outside : (own : Option OwnName) (i : Input) → tokens_left (outside own i) ≡ tokens_left i
@@ -154,7 +154,7 @@ unfolding sort sort_of
 sort_at i s (IsSort.protected e) = ap (λ z. sort_by (sort_of z) i) e
 sort_at i s (IsSort.unprotected e) = ap (λ z. sort_by (sort_of z) i) e
 
-pub numbered_sort_at : (i : Input) (s : Sort) → IsSort i s → numbered_sort i ≡ Ok ((s, ref_number (advanced i)), counted (advanced i))
+pub numbered_sort_at : (i : Input) (s : Sort) → IsSort i s → numbered_sort i ≡ Ok ((s, ref_number (advanced i)), ref_counted (advanced i))
 unfolding numbered_sort
 numbered_sort_at i s is = rw (sort_at i s is) refl
 
@@ -308,12 +308,13 @@ same_number : (i : Input) → ref_number (advanced (advanced i)) ≡ ref_number 
 unfolding advanced
 same_number i = refl
 
-reference_reads : (part : Parser Tree) (i j : Input) (s : Sort) (x : Tree) → IsSort (advanced i) s → part (counted (advanced (advanced i))) ≡ Ok (x, j) → ahead j ≡ a.Closing
+reference_reads : (part : Parser Tree) (i j : Input) (s : Sort) (x : Tree) → IsSort (advanced i) s
+    → part (ref_counted (advanced (advanced i))) ≡ Ok (x, j) → ahead j ≡ a.Closing
     → reference part (advanced i) ≡ Ok (Tree.One (unary.Ref s (ref_number i)) x, advanced j)
 unfolding reference
 reference_reads part i j s x sort read shut =
     let number = ref_number (advanced (advanced i)) in
-    rw (numbered_sort_at (advanced i) s sort) (alone_reads part (Tree.One (unary.Ref s number)) (counted (advanced (advanced i))) j x read shut)
+    rw (numbered_sort_at (advanced i) s sort) (alone_reads part (Tree.One (unary.Ref s number)) (ref_counted (advanced (advanced i))) j x read shut)
     ∙ ap (λ k. Ok (Tree.One (unary.Ref s k) x, advanced j)) (same_number i)
 
 call_reads : (part : Parser Tree) (i j : Input) (d : ℕ) (x : Tree) → ahead i ≡ a.Number (pos d) → d < 256 → part (advanced i) ≡ Ok (x, j) → ahead j ≡ a.Closing

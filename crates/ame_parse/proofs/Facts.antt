@@ -2,7 +2,7 @@
 use Rattle.std.proofs.Common.{◌≡◌, refl, ◌∙◌, ℕ, ◌+◌, List, [], ◌∷◌, ◌++◌, length, length-append, arith, Option, Some, None}
 use Rattle.ame_term.specs.Tree.{Typ, OwnName, Head, Tree}
 use Rattle.ame_term.specs.SourceTerm.{nodes, all_nodes, IsSourceTerm, AreSourceTerms}
-use Rattle.ame_parse.specs.Input.{Input, place, advanced, marked, named, bound, unbound, counted}
+use Rattle.ame_parse.specs.Input.{Input, place, advanced, marked, named, bound, unbound, ref_counted}
 use Rattle.ame_parse.specs.Forms.{row}
 use Rattle.ame_parse.specs.Grammar as g
 use Rattle.ame_parse.specs.Grammar.{IsType, IsTypeForm, IsParam, IsFunctionHead, outside, IsTerm, IsForm, AreParts}
@@ -33,8 +33,8 @@ count_named : (i : Input) → count (named i) ≡ count i
 unfolding named
 count_named i = refl
 
-count_counted : (i : Input) → count (counted i) ≡ count i
-unfolding counted
+count_counted : (i : Input) → count (ref_counted i) ≡ count i
+unfolding ref_counted
 count_counted i = refl
 
 count_bound : (x : ℕ) (i : Input) → count (bound x i) ≡ count i

@@ -16,7 +16,7 @@ use Rattle.ame_parse.specs.declared.fault.Want.TheVariants as want
 use Rattle.ame_parse.specs.declared.fault.ParseFault.{ParseFault}
 use Rattle.ame_parse.specs.declared.fault.ParseFault.TheVariants.{Expected, UnknownName, TooNested, Trailing}
 use Rattle.ame_parse.specs.declared.forms.Opener.TheVariants as opener
-use Rattle.ame_parse.specs.Input.{Input, ParseOutcome, Parser, and_then, ◌>>=◌, ◌>>◌, pure, ahead, spelling, place, advanced, marked, name_number, named, binds_name, bound, ref_number, counted, tokens_left, is_closing, sees_closing, closing_by, closing, name_by, name, opening_by, opening, bind_name, unbind, finish_by, finish}
+use Rattle.ame_parse.specs.Input.{Input, ParseOutcome, Parser, and_then, ◌>>=◌, ◌>>◌, pure, ahead, spelling, place, advanced, marked, name_number, named, binds_name, bound, ref_number, ref_counted, tokens_left, is_closing, sees_closing, closing_by, closing, name_by, name, opening_by, opening, bind_name, unbind, finish_by, finish}
 use Rattle.ame_parse.specs.Letters.{sort_of, effect_named, device_of, sort_by, effect_by, device_by, sort, numbered_sort, effect_word, device}
 use Rattle.ame_parse.specs.Types as t
 use Rattle.ame_parse.specs.Types.{ty, param}
@@ -261,8 +261,8 @@ module _ (n : ℕ) (stops : (i : Input) → Stops (term n) i (Fails (Piece.Term 
   reference_stops : (i : Input) → Stops (reference (term n)) i (AreFailing (Piece.SortLetter ∷ Piece.Counter ∷ Last) i)
   unfolding reference numbered_sort
   reference_stops i fault read =
-      on_sort _ (λ s j. alone (term n) (Tree.One (unary.Ref s (ref_number j))) (counted j)) i
-      (λ s found e. x.later x.counter (alone_stops (Tree.One (unary.Ref s (ref_number (advanced i)))) (counted (advanced i)) found e))
+      on_sort _ (λ s j. alone (term n) (Tree.One (unary.Ref s (ref_number j))) (ref_counted j)) i
+      (λ s found e. x.later x.counter (alone_stops (Tree.One (unary.Ref s (ref_number (advanced i)))) (ref_counted (advanced i)) found e))
       fault (sym (assoc (sort i) _ _) ∙ read)
 
   call_stops : (i : Input) → Stops (call (term n)) i (AreFailing (Piece.DeviceNumber ∷ Last) i)

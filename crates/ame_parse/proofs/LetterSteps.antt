@@ -15,7 +15,7 @@ use Rattle.ame_term.specs.declared.types.Op.{Op}
 use Rattle.ame_term.specs.declared.types.Op.TheVariants as op
 use Rattle.ame_parse.specs.declared.ahead.Ahead.{Ahead}
 use Rattle.ame_parse.specs.declared.ahead.Ahead.TheVariants as a
-use Rattle.ame_parse.specs.Input.{Input, Parser, ◌>>=◌, ahead, spelling, advanced, ref_number, counted}
+use Rattle.ame_parse.specs.Input.{Input, Parser, ◌>>=◌, ahead, spelling, advanced, ref_number, ref_counted}
 use Rattle.ame_parse.specs.Letters.{sort_of, effect_named, small, device_of, sort_by, effect_by, device_by, sort, numbered_sort, effect_word, device}
 use Rattle.ame_parse.specs.Forms.{op_of}
 use Rattle.ame_parse.specs.Grammar as g
@@ -45,11 +45,11 @@ effect_test i false false false h h' h'' = λ x j read. absurd (cc)
 
 -- the sort of a `ref` form, which is counted
 pub leads_numbered_sort : {B : Type 0} (f : Sort × TyNo → Parser B) (Q : B → Input → Type 0) (i : Input)
-    → ((s : Sort) → IsSort i s → Leads (f (s, ref_number (advanced i))) (counted (advanced i)) Q) → Leads (numbered_sort >>= f) i Q
+    → ((s : Sort) → IsSort i s → Leads (f (s, ref_number (advanced i))) (ref_counted (advanced i)) Q) → Leads (numbered_sort >>= f) i Q
 unfolding numbered_sort
 leads_numbered_sort f Q i next =
-    let P = λ (p : Sort × TyNo) (j : Input). IsSort i p.0 × ((p.0, ref_number (advanced i)) ≡ p) × (counted (advanced i) ≡ j) in
-    leads_on numbered_sort f P Q i (leads_sort _ P i (λ s is. leads_pure (s, ref_number (advanced i)) (counted (advanced i)) P (is, refl, refl)))
+    let P = λ (p : Sort × TyNo) (j : Input). IsSort i p.0 × ((p.0, ref_number (advanced i)) ≡ p) × (ref_counted (advanced i) ≡ j) in
+    leads_on numbered_sort f P Q i (leads_sort _ P i (λ s is. leads_pure (s, ref_number (advanced i)) (ref_counted (advanced i)) P (is, refl, refl)))
     (λ p j h. subst (λ q. Leads (f q) j Q) h.1 (subst (λ k. Leads (f (p.0, ref_number (advanced i))) k Q) h.2 (next p.0 h.0)))
 
 pub leads_effect : {B : Type 0} (f : Effect → Parser B) (Q : B → Input → Type 0) (i : Input) → ((q : Effect) → IsEffect i q → Leads (f q) (advanced i) Q) → Leads (effect_word >>= f) i Q

@@ -7,7 +7,7 @@ use Rattle.ame_parse.specs.declared.ahead.Ahead.TheVariants as a
 use Rattle.ame_parse.specs.declared.fault.Want.{Want}
 use Rattle.ame_parse.specs.declared.fault.ParseFault.{ParseFault}
 use Rattle.ame_parse.specs.declared.fault.ParseFault.TheVariants.{Expected}
-use Rattle.ame_parse.specs.Input.{Seen, Input, ParseOutcome, Parser, and_then, ◌>>=◌, pure, expected, peek, advance, mark, bind_name, unbind, ahead_of, ahead_in, place_in, spelling_in, ahead, place, spelling, advanced, marked, bound, unbound, counted, count_ref, is_closing, sees_closing}
+use Rattle.ame_parse.specs.Input.{Seen, Input, ParseOutcome, Parser, and_then, ◌>>=◌, pure, expected, peek, advance, mark, bind_name, unbind, ahead_of, ahead_in, place_in, spelling_in, ahead, place, spelling, advanced, marked, bound, unbound, ref_counted, count_ref, is_closing, sees_closing}
 use Rattle.ame_parse.specs.Fault.{Lexeme, lexeme_of, first_lexeme, place_of, at_place}
 
 -- ---- what begins alike
@@ -272,12 +272,12 @@ unfolding unbound
 local_unbound m = local_change m unbound (λ i. refl) (λ i. refl) (λ i i' twin. record { names = twin.names; scope = ap (λ s. take (length s - 1) s) twin.scope; refs = twin.refs })
 
 pub local_count : (m : ℕ) → IsLocal m count_ref
-unfolding counted
+unfolding ref_counted
 local_count m i few = goes [] refl refl (λ i' rest' follows.
     let twin = follows.twin in
     record {
-      last = counted i';
-      reads = ap (λ (r : ℕ). Ok (record { 0 = r }, counted i')) twin.refs;
+      last = ref_counted i';
+      reads = ap (λ (r : ℕ). Ok (record { 0 = r }, ref_counted i')) twin.refs;
       twin = record { names = twin.names; scope = twin.scope; refs = ap (λ r. r + 1) twin.refs };
       left = all_left follows;
       ends = refl;

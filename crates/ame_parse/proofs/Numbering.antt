@@ -4,7 +4,7 @@ use Rattle.ame_term.specs.Tree.{Typ, OwnName, Head, Tree}
 use Rattle.ame_term.specs.declared.types.Unary.{Unary}
 use Rattle.ame_term.specs.Numbered.{own_ref_count, ref_count, all_ref_count, HasRefNumber, IsNumbered, AreNumbered}
 use Rattle.ame_parse.specs.declared.words.Word.{Word}
-use Rattle.ame_parse.specs.Input.{Input, advanced, marked, named, bound, unbound, counted}
+use Rattle.ame_parse.specs.Input.{Input, advanced, marked, named, bound, unbound, ref_counted}
 use Rattle.ame_parse.specs.Forms.{row}
 use Rattle.ame_parse.specs.Grammar as g
 use Rattle.ame_parse.specs.Grammar.{IsUnary, IsType, IsTypeForm, IsParam, IsFunctionHead, outside, IsTerm, IsForm, AreParts}
@@ -34,8 +34,8 @@ refs_unbound : (i : Input) → refs_of (unbound i) ≡ refs_of i
 unfolding unbound
 refs_unbound i = refl
 
-refs_counted : (i : Input) → refs_of (counted i) ≡ refs_of i + 1
-unfolding counted
+refs_counted : (i : Input) → refs_of (ref_counted i) ≡ refs_of i + 1
+unfolding ref_counted
 refs_counted i = refl
 
 refs_outside : (own : Option OwnName) (i : Input) → refs_of (outside own i) ≡ refs_of i

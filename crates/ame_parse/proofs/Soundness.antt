@@ -13,7 +13,7 @@ use Rattle.ame_parse.specs.declared.ahead.Ahead.{Ahead}
 use Rattle.ame_parse.specs.declared.ahead.Ahead.TheVariants as a
 use Rattle.ame_parse.specs.declared.fault.ParseFault.TheVariants.{UnknownName}
 use Rattle.ame_parse.specs.declared.forms.Opener.TheVariants as opener
-use Rattle.ame_parse.specs.Input.{Input, Parser, ◌>>=◌, pure, is_closing, ahead, spelling, place, advanced, marked, name_number, named, binds_name, bound, unbound, ref_number, counted, tokens_left, sees_closing}
+use Rattle.ame_parse.specs.Input.{Input, Parser, ◌>>=◌, pure, is_closing, ahead, spelling, place, advanced, marked, name_number, named, binds_name, bound, unbound, ref_number, ref_counted, tokens_left, sees_closing}
 use Rattle.ame_parse.specs.Forms.{opener_of, op_of, row}
 use Rattle.ame_parse.specs.Types.{ty, param}
 use Rattle.ame_parse.specs.Reading.{alone, two, choice, binding, more_from, more, first_two, sequence, reference, call, function, recursive, form_by, compound, variable, yielding, constant, atom_by, atom, term_by, term_of, nested, term}
@@ -95,7 +95,7 @@ module _ (n : ℕ) (part : Parser Tree) (gives : (i : Input) → Leads part i (I
   unfolding reference
   reference_leads i e = leads_numbered_sort _ (IsForm n i) (advanced i) (λ s sort.
       let number = ref_number (advanced (advanced i)) in
-      alone_leads (Tree.One (unary.Ref s number)) (IsForm n i) (counted (advanced (advanced i)))
+      alone_leads (Tree.One (unary.Ref s number)) (IsForm n i) (ref_counted (advanced (advanced i)))
       (λ x j h shut. subst (λ k. IsForm n i (Tree.One (unary.Ref s k) x) (advanced j)) (same_number i) (g.ref e sort h shut)))
 
   call_leads : (i : Input) → ahead i ≡ a.Reserved w.Call → Leads (call part) (advanced i) (IsForm n i)

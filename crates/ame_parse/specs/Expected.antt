@@ -15,7 +15,7 @@ use Rattle.ame_parse.specs.declared.ahead.Ahead.TheVariants as a
 use Rattle.ame_parse.specs.declared.fault.Want.TheVariants as want
 use Rattle.ame_parse.specs.declared.fault.ParseFault.{ParseFault}
 use Rattle.ame_parse.specs.declared.fault.ParseFault.TheVariants.{Expected, UnknownName, TooNested, Trailing}
-use Rattle.ame_parse.specs.Input.{Input, ahead, place, advanced, marked, name_number, named, binds_name, bound, counted}
+use Rattle.ame_parse.specs.Input.{Input, ahead, place, advanced, marked, name_number, named, binds_name, bound, ref_counted}
 use Rattle.ame_parse.specs.Seen.{start_of}
 use Rattle.ame_parse.specs.Reading.{max_open}
 use Rattle.ame_parse.specs.Grammar.{IsSort, IsEffect, IsUnary, IsBinary, IsType, IsParam, IsTerm}
@@ -100,7 +100,7 @@ pub data Passes : Piece → Input → Input → Type 0 where
   sort : {i : Input} {sort : Sort} → IsSort i sort → Passes Piece.SortLetter i (advanced i)
   device : {device : ℕ} {i : Input} → ahead i ≡ a.Number (pos device) → device < 256 → Passes Piece.DeviceNumber i (advanced i)
   binder : {x : ℕ} {i : Input} → Passes (Piece.Binder x) i (bound x i)
-  counter : {i : Input} → Passes Piece.Counter i (counted i)
+  counter : {i : Input} → Passes Piece.Counter i (ref_counted i)
 
 -- What must stand after the word or the symbol of a form of terms.
 pub data Shape (n : ℕ) (i : Input) : List Piece → Type 0 where

@@ -18,7 +18,7 @@ use Rattle.ame_parse.specs.declared.words.Word.{Word}
 use Rattle.ame_parse.specs.declared.words.Word.TheVariants as w
 use Rattle.ame_parse.specs.declared.ahead.Ahead.{Ahead}
 use Rattle.ame_parse.specs.declared.ahead.Ahead.TheVariants as a
-use Rattle.ame_parse.specs.Input.{Input, ahead, spelling, advanced, marked, name_number, named, binds_name, bound, unbound, ref_number, counted}
+use Rattle.ame_parse.specs.Input.{Input, ahead, spelling, advanced, marked, name_number, named, binds_name, bound, unbound, ref_number, ref_counted}
 use Rattle.ame_parse.specs.Seen.{start_of}
 use Rattle.ame_parse.specs.Forms.{row}
 use Rattle.ame_parse.specs.Reading.{max_open}
@@ -181,7 +181,7 @@ mutual
     ref : {n : ℕ} {i j : Input} {sort : Sort} {part : Tree}
         → ahead i ≡ a.Reserved w.Ref
         → IsSort (advanced i) sort
-        → IsTerm n (counted (advanced (advanced i))) part j
+        → IsTerm n (ref_counted (advanced (advanced i))) part j
         → ahead j ≡ a.Closing
         → IsForm n i (Tree.One (unary.Ref sort (ref_number i)) part) (advanced j)
     call : {n device : ℕ} {i j : Input} {part : Tree}

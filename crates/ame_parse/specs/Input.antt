@@ -96,8 +96,8 @@ unbound i = record i { scope = take (length i.scope - 1) i.scope }
 abbrev pub ref_number : Input → TyNo
 ref_number i = record { 0 = i.refs }
 
-unfoldable pub counted : Input → Input
-counted i = record i { refs = i.refs + 1 }
+unfoldable pub ref_counted : Input → Input
+ref_counted i = record i { refs = i.refs + 1 }
 
 -- how many tokens are left
 unfoldable pub tokens_left : Input → ℕ
@@ -182,7 +182,7 @@ unbind = λ i. Ok (tt, unbound i)
 
 -- a `ref` form begins, and has this number
 abbrev pub count_ref : Parser TyNo
-count_ref = λ i. Ok (ref_number i, counted i)
+count_ref = λ i. Ok (ref_number i, ref_counted i)
 
 -- nothing comes after the program
 abbrev pub finish_by : Ahead → Parser (Unit {0})

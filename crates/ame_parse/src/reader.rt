@@ -219,11 +219,11 @@ impl<'a> Reader<'a> {
     }
 
     /// Takes the next token, with which a `ref` form begins, and gives the form its number.
-    #[tactic(auto, unfolding(crate::specs::Input::tokens_left, crate::specs::Input::advanced, crate::specs::Input::counted))]
+    #[tactic(auto, unfolding(crate::specs::Input::tokens_left, crate::specs::Input::advanced, crate::specs::Input::ref_counted))]
     pub fn take_ref(&mut self) -> TyNo
         requires { 0 < spec.tokens_left self.old }
         ensures number { result ≡ spec.ref_number (spec.advanced self.old) }
-        ensures next { self.new ≡ spec.counted (spec.advanced self.old) }
+        ensures next { self.new ≡ spec.ref_counted (spec.advanced self.old) }
     {
         let number = TyNo(self.refs);
         self.rest = self.rest.split_at(1).1;

@@ -5,7 +5,7 @@ use Rattle.ame_lex.specs.Bytes.{Text}
 use Rattle.ame_term.specs.Tree.{Tree}
 use Rattle.ame_parse.specs.declared.ahead.Ahead.{Ahead}
 use Rattle.ame_parse.specs.declared.ahead.Ahead.TheVariants as a
-use Rattle.ame_parse.specs.Input.{Input, ahead, advanced, marked, name_number, named, bound, unbound, counted}
+use Rattle.ame_parse.specs.Input.{Input, ahead, advanced, marked, name_number, named, bound, unbound, ref_counted}
 use Rattle.ame_parse.specs.Grammar.{IsTerm, IsForm}
 use Rattle.ame_print.specs.Layout.{Printed, open_token, close_token}
 use Rattle.ame_print.specs.Tokens.{form, name_token}
@@ -67,9 +67,9 @@ pub inner : {all : List Text} {tokens : List Printed} {P : Input → Input → T
 unfolding bound
 inner x i p = record { adds = record { names = (p.adds).names; good = (p.adds).good }; part = λ good first. parts.within x i (p.part good first) }
 
-pub behind_ref : {all : List Text} {tokens : List Printed} {P : Input → Input → Type 0} {j : Input} (i : Input) → Again all tokens P (counted i) j
-    → Again all tokens (λ i' j'. P (counted i') j') i j
-unfolding counted
+pub behind_ref : {all : List Text} {tokens : List Printed} {P : Input → Input → Type 0} {j : Input} (i : Input) → Again all tokens P (ref_counted i) j
+    → Again all tokens (λ i' j'. P (ref_counted i') j') i j
+unfolding ref_counted
 behind_ref i p = record { adds = record { names = (p.adds).names; good = (p.adds).good }; part = λ good first. parts.behind_ref i (p.part good first) }
 
 -- ---- the same, said otherwise

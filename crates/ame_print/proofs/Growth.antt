@@ -5,7 +5,7 @@ use Rattle.std.specs.Str.{bytes_eq}
 use Rattle.std.proofs.Math.Seq.{take-append_seam}
 use Rattle.ame_lex.specs.Bytes.{Text}
 use Rattle.ame_term.specs.Tree.{Typ, Head, Tree}
-use Rattle.ame_parse.specs.Input.{Seen, Input, advanced, marked, spelling, named, bound, unbound, counted}
+use Rattle.ame_parse.specs.Input.{Seen, Input, advanced, marked, spelling, named, bound, unbound, ref_counted}
 use Rattle.ame_parse.specs.Names.{with_name}
 use Rattle.ame_parse.specs.Grammar as g
 use Rattle.ame_parse.specs.Grammar.{IsType, IsTypeForm, IsParam, IsFunctionHead, outside, IsTerm, IsForm, AreParts}
@@ -50,8 +50,8 @@ pub grows_marked : (i : Input) → Grows i (marked i)
 unfolding marked
 grows_marked i = record { names = first_itself i.names; scope = refl; good = λ h. h }
 
-pub grows_counted : (i : Input) → Grows i (counted i)
-unfolding counted
+pub grows_counted : (i : Input) → Grows i (ref_counted i)
+unfolding ref_counted
 grows_counted i = record { names = first_itself i.names; scope = refl; good = λ h. h }
 
 pub grows_named : (i : Input) → Grows i (named i)

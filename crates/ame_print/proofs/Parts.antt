@@ -4,7 +4,7 @@ use Rattle.std.specs.List.{AllByRecursion}
 use Rattle.ame_term.specs.Tree.{Typ, Tree}
 use Rattle.ame_parse.specs.declared.ahead.Ahead.{Ahead}
 use Rattle.ame_parse.specs.declared.ahead.Ahead.TheVariants as a
-use Rattle.ame_parse.specs.Input.{Seen, Input, ahead_of, ahead_in, ahead, spelling_in, spelling, advanced, marked, name_number, named, bound, unbound, counted}
+use Rattle.ame_parse.specs.Input.{Seen, Input, ahead_of, ahead_in, ahead, spelling_in, spelling, advanced, marked, name_number, named, bound, unbound, ref_counted}
 use Rattle.ame_parse.specs.Names.{number_in, with_name}
 use Rattle.ame_parse.specs.Grammar as g
 use Rattle.ame_parse.specs.Grammar.{IsType, IsTypeForm, IsTerm, IsForm}
@@ -166,11 +166,12 @@ within x i p = record {
 }
 
 -- a part of a `ref` form, which is counted
-pub behind_ref : {tokens : List Printed} {P : Input → Input → Type 0} {j : Input} (i : Input) → Part tokens P (counted i) j → Part tokens (λ i' j'. P (counted i') j') i j
-unfolding counted
+pub behind_ref : {tokens : List Printed} {P : Input → Input → Type 0} {j : Input} (i : Input) → Part tokens P (ref_counted i) j
+    → Part tokens (λ i' j'. P (ref_counted i') j') i j
+unfolding ref_counted
 behind_ref i p = record {
   alone = p.alone;
-  again = λ i' more like e. p.again (counted i') more (record { names = like.names; scope = like.scope; refs = ap (λ r. r + 1) like.refs }) e;
+  again = λ i' more like e. p.again (ref_counted i') more (record { names = like.names; scope = like.scope; refs = ap (λ r. r + 1) like.refs }) e;
 }
 
 -- the same from the input before a parenthesis

@@ -13,7 +13,7 @@ use Rattle.ame_parse.specs.declared.words.Word.{Word}
 use Rattle.ame_parse.specs.declared.words.Word.TheVariants as w
 use Rattle.ame_parse.specs.declared.ahead.Ahead.{Ahead}
 use Rattle.ame_parse.specs.declared.ahead.Ahead.TheVariants as a
-use Rattle.ame_parse.specs.Input.{Input, ahead, advanced, marked, spelling, name_number, named, binds_name, bound, unbound, ref_number, counted}
+use Rattle.ame_parse.specs.Input.{Input, ahead, advanced, marked, spelling, name_number, named, binds_name, bound, unbound, ref_number, ref_counted}
 use Rattle.ame_parse.specs.Names.{number_in, with_name}
 use Rattle.ame_parse.specs.Forms.{row}
 use Rattle.ame_parse.specs.Grammar as g
@@ -108,10 +108,11 @@ one_part {which} {operator} tokens n i part is p =
     regrouped (ap (λ z. form (z ++ tokens)) (unary_word is))
     (form_part (begun (reserved which) (stays (word (word_text which)) i) p) (stays close_token i) (λ i' j' like r shut. g.one r.is is r.then shut))
 
-pub ref_part : (sort : Sort) (tokens : List Printed) (n : ℕ) (i : Input) (part : Tree) → IsPart tokens n (counted i) part (counted i)
-    → IsPart (form (word (codes "ref") ∷ sort_token sort ∷ tokens)) (suc n) i (Tree.One (unary.Ref sort (ref_number i)) part) (counted i)
+pub ref_part : (sort : Sort) (tokens : List Printed) (n : ℕ) (i : Input) (part : Tree) → IsPart tokens n (ref_counted i) part (ref_counted i)
+    → IsPart (form (word (codes "ref") ∷ sort_token sort ∷ tokens)) (suc n) i (Tree.One (unary.Ref sort (ref_number i)) part) (ref_counted i)
 ref_part sort tokens n i part p =
-    form_part (begun (reserved w.Ref) (stays (word (codes "ref")) i) (begun (sort_fixed sort) (stays (sort_token sort) i) (behind_ref i p))) (stays close_token (counted i))
+    form_part (begun (reserved w.Ref) (stays (word (codes "ref")) i) (begun (sort_fixed sort) (stays (sort_token sort) i) (behind_ref i p)))
+    (stays close_token (ref_counted i))
     (λ i' j' like r shut.
     subst (λ (k : ℕ). IsForm n i' (Tree.One (unary.Ref sort (record { 0 = k })) part) (advanced j')) like.refs
     (g.ref r.is (sort_read sort (advanced i') (r.then).spelt) (r.then).then shut))

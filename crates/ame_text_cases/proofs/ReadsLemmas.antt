@@ -16,7 +16,7 @@ use Rattle.ame_parse.specs.declared.words.Word.{Word}
 use Rattle.ame_parse.specs.declared.ahead.Ahead.{Ahead}
 use Rattle.ame_parse.specs.declared.ahead.Ahead.TheVariants as a
 use Rattle.ame_parse.specs.Forms.{row}
-use Rattle.ame_parse.specs.Input.{Input, counted}
+use Rattle.ame_parse.specs.Input.{Input, ref_counted}
 use Rattle.ame_parse.specs.Names.{number_in, with_name}
 use Rattle.ame_parse.specs.Words.{word_of}
 use Rattle.ame_parse.specs.Grammar.{IsOp, IsUnary, IsBinary}
@@ -207,7 +207,7 @@ level_some (cell ∷ cells) n some = omega arith
 
 value_part : (n ref start : ℕ) (names : List Text) (scope : List ℕ) → 1 ≤ n → start < 2 ^ 63
     → IsPart (term_tokens workload_names (first_value ref start)) n (input_with names scope ref) (first_value ref start) (input_with names scope (ref + 1))
-unfolding term_tokens counted
+unfolding term_tokens ref_counted
 value_part zero ref start names scope some small = absurd (omega (arith, some))
 value_part (suc n) ref start names scope some small =
     ref_part sorts.Protected (term_tokens workload_names (numeral start)) n (input_with names scope ref) (numeral start) (number_part n (input_with names scope (ref + 1)) start small)

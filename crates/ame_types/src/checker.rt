@@ -44,7 +44,7 @@ impl Checker<'_> {
             Term::Not(part) => self.one(seen, scope, q, Unary::Not, part),
             Term::Ref(sort, number, part) => {
                 self.one(seen, scope, q, Unary::Ref(*sort, *number), part)
-            },
+            }
             Term::Get(part) => self.one(seen, scope, q, Unary::Get, part),
             Term::Peek(part) => self.one(seen, scope, q, Unary::Peek, part),
             Term::Set(cell, content) => self.set(seen, scope, q, cell, content),

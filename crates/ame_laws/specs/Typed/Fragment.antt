@@ -1,4 +1,4 @@
--- Typed fragments and values, for a number of devices and the types of locations.
+-- Typed fragments and values, for a signature and the types of locations.
 use Rattle.ame_term.specs.Tree.{Typ, Val, Tree}
 use Rattle.ame_term.specs.Signature.{Signature}
 use Rattle.ame_term.specs.Scope.{unscoped}

@@ -7,7 +7,7 @@ pub use Rattle.ame_pool.specs.Index.{IsBetween, IsListedAfter, among, lists, pai
 pub use Rattle.ame_pool.specs.Keeps.{IsKept, IsOrderOf, AreInOrder, IsWatched, is_inside_at}
 pub use Rattle.ame_pool.specs.Line.{IsPlaceOf, Row, StartsFull, is_gap, is_of, numbers_in}
 pub use Rattle.ame_pool.specs.Members.{IsRising, altered, except, find, is_busy, is_parked, is_ready, placed}
-pub use Rattle.ame_pool.specs.Numbered.{AreRising, IsEntryGap, IsEntryOf, IsNumbered, IsSlotOf, behind, filed, key_of, members_at, only}
+pub use Rattle.ame_pool.specs.Numbered.{AreNumberedSlots, AreRising, IsEntryGap, IsEntryOf, IsSlotOf, behind, filed, key_of, members_at, only}
 pub use Rattle.ame_pool.specs.Queues.{HasPlace, Queues, front, pushed, taken}
 pub use Rattle.ame_pool.specs.Register.{Register}
 pub use Rattle.ame_pool.specs.Roster.{Roster}

@@ -49,7 +49,7 @@ module _ {M : Type 0} where
   members_at at (e ∷ es) = behind (only e.number (at e.key)) (members_at at es)
 
   -- rising numbers, and places for those who may join
-  pub record IsNumbered (slots : Slab (Member M)) (numbers : Vec Numbered) (room : ℕ) : Type 0 where
+  pub record AreNumberedSlots (slots : Slab (Member M)) (numbers : Vec Numbered) (room : ℕ) : Type 0 where
     pub rising : AreRising numbers.items
     pub slots_fit : HasRoomFor slots room
     pub numbers_fit : vec_len numbers + room ≤ vec_capacity numbers

@@ -157,17 +157,26 @@ impl<M: Drop> Member<M> {
         self.standing = Standing::Ready;
     }
 
-    /// Ready with another machine.
-    pub fn renew(&mut self, machine: M, inside: bool)
-        ensures { self.new ≡ renewed machine inside self.old }
+    /// Ready with another machine, in place of the one that it gives.
+    pub fn renew(&mut self, machine: M, inside: bool) -> M
+        ensures member { self.new ≡ renewed machine inside self.old }
+        ensures machine { result ≡ self.old.machine }
     {
-        *self = Member {
+        let renewed = Member {
             number: self.number,
             machine,
             inside,
             rollbacks: 0,
             standing: Standing::Ready,
         };
+        let Member {
+            number: _,
+            machine,
+            inside: _,
+            rollbacks: _,
+            standing: _,
+        } = mem::replace(self, renewed);
+        machine
     }
 
     /// Noted as stuck on these locations.

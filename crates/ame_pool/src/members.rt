@@ -8,7 +8,7 @@ ghost use Rattle.ame_pool.specs.Numbered.{AreRising, IsSlotOf, only, members_at}
 use crate::counts::Counts;
 use crate::member::Member;
 use crate::numbers::{Numbered, enter, known_slot, slot_of};
-use crate::turn::Transition;
+use crate::turn::{Left, Transition};
 use ame_term::NoMemory;
 use slab::Slab;
 use std::alloc::Global;
@@ -19,11 +19,11 @@ mod probe;
 #[cfg(test)]
 mod tests;
 
-/// What a member's turn tells: its slot, whether the turn made it ready, and whether it stands inside then.
-#[derive(Clone, Copy)]
-pub struct Turned {
+/// What a member's turn tells: its slot, what the turn left, and whether the member stands inside then.
+#[derive(Drop)]
+pub struct Turned<M> {
     pub slot: usize,
-    pub is_readied: bool,
+    pub left: Left<M>,
     pub inside: bool,
 }
 
@@ -42,11 +42,11 @@ impl<M> Model for Members<M> {
     ghost Value = { Register M };
 
     ghost use Rattle.slab.specs.Slab.{get};
-    ghost use Rattle.ame_pool.specs.Numbered.{IsNumbered, members_at};
+    ghost use Rattle.ame_pool.specs.Numbered.{AreNumberedSlots, members_at};
 
     ghost view = { λ a. record { list = members_at (get a.slots) a.numbers.items; room = a.room } };
 
-    ghost invariant = { λ a. IsNumbered a.slots a.numbers a.room };
+    ghost invariant = { λ a. AreNumberedSlots a.slots a.numbers a.room };
 }
 
 /// The member in a slot, if it has the number.
@@ -185,7 +185,7 @@ impl<M: Drop> Members<M> {
     }
 
     /// A member's turn, after which it is counted as it is then. The member is looked for once.
-    pub fn turn(&mut self, number: u64, to: Transition<M>, counts: &mut Counts) -> Turned
+    pub fn turn(&mut self, number: u64, to: Transition<M>, counts: &mut Counts) -> Turned<M>
         requires there { IsSome (find number self.old.list) }
         requires counted { (m : Member M) → find number self.old.list ≡ Some m → CountsIn m counts.old }
         requires busy { counts.old.busy < 2 ^ 63 }
@@ -193,18 +193,18 @@ impl<M: Drop> Members<M> {
         requires exhausted { counts.old.exhausted < 2 ^ 63 }
         requires parked { counts.old.parked < 2 ^ 63 }
         ensures members { self.new ≡ record self.old { list = altered number (after_transition to) self.old.list } }
-        ensures readied { Some result.is_readied ≡ option_map (is_readied to) (find number self.old.list) }
+        ensures readied { Some result.left.is_readied ≡ option_map (is_readied to) (find number self.old.list) }
         ensures inside { Some result.inside ≡ option_map (λ m. (after_transition to m).inside) (find number self.old.list) }
         ensures counts { (m : Member M) → find number self.old.list ≡ Some m → IsRecounted m (after_transition to m) counts.old counts.new }
     {
         let key = slot_in(&self.slots, &self.numbers, number);
         let member = &mut self.slots[key];
         counts.leave(member);
-        let is_readied = member.turn(to);
+        let left = member.turn(to);
         counts.enter(member);
         Turned {
             slot: key,
-            is_readied,
+            left,
             inside: member.inside,
         }
     }

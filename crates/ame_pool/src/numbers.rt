@@ -1,6 +1,6 @@
 //! Which number leads to which slot.
 
-ghost use Rattle.std.specs.Prelude.{◌≡◌, ◌+◌, ◌<◌, ◌≤◌, Some, IsSome, IfOk, IfErr, vec_len, vec_capacity};
+ghost use Rattle.std.specs.Prelude.{◌≡◌, ◌+◌, ◌<◌, ◌≤◌, Some, IsSome, IfSome, IfOk, IfErr, vec_len, vec_capacity};
 ghost use Rattle.ame_pool.specs.Numbered.{AreRising, IsEntryOf, IsEntryGap, key_of, filed};
 
 /// A number that was given, and the slot of its member. The entry is stale where that slot has no member with the number.
@@ -10,13 +10,31 @@ pub struct Numbered {
     pub key: usize,
 }
 
-/// The place of the entry of a number, or else the place where it belongs.
+/// The place that the entry of a number has where each number from the first on has one.
+fn near_place(numbers: &[Numbered], number: u64) -> Option<usize>
+    ensures { IfSome result (IsEntryOf number numbers.now) }
+{
+    let first = numbers.first()?;
+    let place = number.checked_sub(first.number)? as usize;
+    let entry = numbers.get(place)?;
+    if entry.number == number {
+        Some(place)
+    } else {
+        None
+    }
+}
+
+/// The place of the entry of a number, or else the place where it belongs. It takes the time of a logarithm at most, and is the same for
+/// all where no stale entry was dropped.
 fn place_of(numbers: &[Numbered], number: u64) -> Result<usize, usize>
     requires { AreRising numbers.now }
     ensures found { IfOk result (IsEntryOf number numbers.now) }
     ensures absent { IfErr result (IsEntryGap number numbers.now) }
 {
-    numbers.binary_search_by_key(&number, |e| e.number)
+    match near_place(numbers, number) {
+        Some(place) => Ok(place),
+        None => numbers.binary_search_by_key(&number, |e| e.number),
+    }
 }
 
 /// The slot that the entry of a number leads to, if there is one.

@@ -1,7 +1,8 @@
 //! The pool.
 
-ghost use Rattle.std.specs.Prelude.{◌≡◌, ◌<◌, ℕ, Some, None, OnOk, OnErr, IsTrue, option_copied, map};
+ghost use Rattle.std.specs.Prelude.{◌≡◌, ◌<◌, ℕ, Some, None, IfOk, OnOk, OnErr, IsTrue, option_copied, map};
 ghost use Rattle.std.specs.Borrow.{sem};
+ghost use Rattle.std.specs.Option.{ForSome};
 ghost use Rattle.std.specs.List.{list_any};
 
 use crate::index::{first, unwatch, watch};
@@ -9,7 +10,7 @@ use crate::member::Member;
 use crate::oldest::Oldest;
 use crate::roll::Roll;
 use crate::turn::Transition;
-use ame_term::{Loc, Locs, NoMemory};
+use ame_term::{Copied, Loc, Locs, NoMemory};
 use std::alloc::Global;
 use std::collections::BTreeSet;
 use std::marker::Model;
@@ -17,11 +18,13 @@ use std::marker::Model;
 #[cfg(test)]
 mod probe;
 
-/// Who is there and who is ready, and the index of those that watch locations.
+/// Who is there and who is ready, the index of those that watch locations, and a machine that isn't needed any more, in whose memory
+/// the next copy is made.
 #[derive(Drop)]
 pub struct Pool<M> {
     roll: Roll<M>,
     index: BTreeSet<(u32, u64)>,
+    spare: Option<M>,
 }
 
 impl<M> Model for Pool<M> {
@@ -52,6 +55,7 @@ impl<M: Drop> Pool<M> {
         Pool {
             roll: Roll::new(alloc),
             index: BTreeSet::new(alloc),
+            spare: None,
         }
     }
 
@@ -90,6 +94,27 @@ impl<M: Drop> Pool<M> {
         }
     }
 
+    /// A copy of the machine of a ready member. It takes the memory of a machine in whose place another one came, where there is such.
+    pub fn copy(&mut self, alloc: Global, number: u64) -> Result<M, NoMemory>
+    where
+        M: Copied,
+        requires { IsAt is_ready number self.old }
+        ensures pool { self.new ≡ self.old }
+        ensures machine { IfOk result (λ m. ForSome (machine_of number self.old) (λ resting. M.same resting m)) }
+    {
+        let spare = self.spare.take();
+        let Some(resting) = self.machine(number) else {
+            unreachable!();
+        };
+        match spare {
+            Some(mut copy) => {
+                copy.copy_from(alloc, resting)?;
+                Ok(copy)
+            }
+            None => resting.copy(alloc),
+        }
+    }
+
     /// Whether a member stands inside `unprotected`.
     pub fn inside(&self, number: u64) -> Option<bool>
         ensures { result ≡ inside_of number self.now }
@@ -118,7 +143,7 @@ impl<M: Drop> Pool<M> {
         requires { IsAt is_running number self.old }
         ensures { self.new ≡ homed number rolled_back self.old }
     {
-        self.roll.turn(number, Transition::Home(rolled_back));
+        let _ = self.roll.turn(number, Transition::Home(rolled_back));
     }
 
     /// A busy member is the youngest ready one, with another machine.
@@ -128,7 +153,7 @@ impl<M: Drop> Pool<M> {
     {
         let member = self.roll.member(number);
         unwatch(&mut self.index, number, member.untouched(), &[]);
-        self.roll.turn(number, Transition::Renew(machine, inside));
+        self.spare = self.roll.turn(number, Transition::Renew(machine, inside));
     }
 
     /// A busy member leaves the pool.
@@ -154,7 +179,8 @@ impl<M: Drop> Pool<M> {
             return Err(refusal);
         }
         unwatch(&mut self.index, number, member.untouched(), locs.as_slice());
-        self.roll
+        let _ = self
+            .roll
             .turn(number, Transition::Watch(Locs::from_vec(locs)));
         Ok(())
     }
@@ -164,7 +190,7 @@ impl<M: Drop> Pool<M> {
         requires { IsAt is_noted number self.old }
         ensures { self.new ≡ parked number self.old }
     {
-        self.roll.turn(number, Transition::Settle);
+        let _ = self.roll.turn(number, Transition::Settle);
     }
 
     /// A location was written that this member watches.
@@ -174,7 +200,7 @@ impl<M: Drop> Pool<M> {
     {
         let member = self.roll.member(number);
         unwatch(&mut self.index, number, member.untouched(), &[]);
-        self.roll.turn(number, Transition::Stir(l));
+        let _ = self.roll.turn(number, Transition::Stir(l));
     }
 
     /// A location was written: every parked member that waits for it is ready, in order of numbers, and every busy one

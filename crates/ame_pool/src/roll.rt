@@ -130,15 +130,17 @@ impl<M: Drop> Roll<M> {
         self.ready.take(number, turned.slot, turned.inside);
     }
 
-    /// The turn of a member that is busy or parked. Where it is ready then, it is the youngest ready one.
-    pub fn turn(&mut self, number: u64, to: Transition<M>)
+    /// The turn of a member that is busy or parked. Where it is ready then, it is the youngest ready one. Gives the machine in whose
+    /// place another one came, if one did.
+    pub fn turn(&mut self, number: u64, to: Transition<M>) -> Option<M>
         requires { IsAt is_away number self.old }
         ensures { self.new ≡ turned_at number to self.old }
     {
         let turned = self.members.turn(number, to, &mut self.counts);
-        if turned.is_readied {
+        if turned.left.is_readied {
             self.ready.push(number, turned.slot, turned.inside);
         }
+        turned.left.machine
     }
 
     /// A member that is busy or parked leaves.

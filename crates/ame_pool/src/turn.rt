@@ -23,31 +23,51 @@ pub enum Transition<M> {
     Stir(Loc),
 }
 
+/// What a turn leaves: whether it made its member ready, and the machine in whose place another one came.
+#[derive(Drop)]
+pub struct Left<M> {
+    pub is_readied: bool,
+    pub machine: Option<M>,
+}
+
+/// A turn that put no machine in place of another.
+fn kept<M>(is_readied: bool) -> Left<M>
+    ensures { result.is_readied ≡ is_readied }
+{
+    Left {
+        is_readied,
+        machine: None,
+    }
+}
+
 impl<M: Drop> Member<M> {
-    /// The answer tells whether this makes it ready.
-    pub fn turn(&mut self, to: Transition<M>) -> bool
+    /// What this leaves of it.
+    pub fn turn(&mut self, to: Transition<M>) -> Left<M>
         ensures member { self.new ≡ after_transition to self.old }
-        ensures readied { result ≡ is_readied to self.old }
+        ensures readied { result.is_readied ≡ is_readied to self.old }
     {
         match to {
             Transition::Begin => {
                 self.begin();
-                false
+                kept(false)
             }
             Transition::Home(rolled_back) => {
                 self.go_home(rolled_back);
-                true
+                kept(true)
             }
             Transition::Renew(machine, inside) => {
-                self.renew(machine, inside);
-                true
+                let before = self.renew(machine, inside);
+                Left {
+                    is_readied: true,
+                    machine: Some(before),
+                }
             }
             Transition::Watch(locs) => {
                 self.watch(locs);
-                false
+                kept(false)
             }
-            Transition::Settle => self.settle(),
-            Transition::Stir(l) => self.stir(l),
+            Transition::Settle => kept(self.settle()),
+            Transition::Stir(l) => kept(self.stir(l)),
         }
     }
 }

@@ -1,6 +1,6 @@
 //! What can be copied where a clone may lack memory.
 
-ghost use Rattle.std.specs.Prelude.{◌≡◌, IfOk, refl};
+ghost use Rattle.std.specs.Prelude.{◌≡◌, IfOk, OnOk, refl};
 ghost use Rattle.std.proofs.Common.{sym, ◌∙◌};
 
 use crate::copy::{copy_term, copy_ty, copy_value};
@@ -16,6 +16,16 @@ pub trait Copied: Sized {
     /// A value that is the same.
     fn copy(&self, alloc: Global) -> Result<Self, NoMemory>
         ensures { IfOk result (λ c. same self.now c) };
+
+    /// Becomes the same as another value, in the memory that it has where it can. After `NoMemory` it may be any value.
+    fn copy_from(&mut self, alloc: Global, source: &Self) -> Result<(), NoMemory>
+    where
+        Self: Drop,
+        ensures { OnOk result (same source.now self.new) }
+    {
+        *self = source.copy(alloc)?;
+        Ok(())
+    }
 
     ghost reflexive: { (x : Self) → same x x };
 

@@ -1,9 +1,8 @@
 //! How a seat begins a member.
 
 ghost use Rattle.std.specs.Prelude.{◌≡◌, ◌<◌, ◌++◌, ℕ, Some, None, IfOk, OnOk, OnErr, IsTrue};
-ghost use Rattle.std.specs.Option.{ForSome};
 ghost use Rattle.ame_pool.specs.Members.{is_ready};
-ghost use Rattle.ame_pool.specs.Calls.{IsAt, held, machine_of};
+ghost use Rattle.ame_pool.specs.Calls.{IsAt, held};
 ghost use Rattle.ame_pool.specs.Keeps.{is_inside_at};
 ghost use Rattle.ame_pool.specs.declared.oldest.Oldest.{Oldest};
 ghost use Rattle.ame_pool.specs.Begin.{oldest as oldest_of};
@@ -26,7 +25,6 @@ use ame_machine::Runner;
 use ame_pool::Pool;
 use ame_protocol::{Attempt, Stop, Task, Tried};
 use ame_term::NoMemory;
-use std::alloc::Global;
 
 /// An attempt of a member that begins after these entries.
 fn attempt_now(number: u64, base: &[Entry], entries: &[Entry]) -> Attempt
@@ -71,17 +69,6 @@ fn hold<M: Drop>(pool: &mut Pool<M>, number: u64)
     pool.hold(number);
 }
 
-/// A copy of a ready member's machine.
-fn copy_machine<M: Runner>(alloc: Global, pool: &Pool<M>, number: u64) -> Result<M, NoMemory>
-    requires { IsAt is_ready number pool.now }
-    ensures { IfOk result (λ m. ForSome (machine_of number pool.now) (λ resting. M.same resting m)) }
-{
-    match pool.machine(number) {
-        Some(resting) => resting.copy(alloc),
-        None => Err(NoMemory),
-    }
-}
-
 impl<M: Runner> Engine<M>
 where
     M::Code: Drop,
@@ -122,9 +109,9 @@ where
         ensures err { OnErr result (self.new ≡ self.old) }
     {
         self.tried.reserve(self.limits.seats as usize)?;
-        let machine = copy_machine(*self.tasks.allocator(), &self.pool, number)?;
         let attempt = attempt_now(number, self.base.entries(), self.journal.entries());
         let task = begun_task(is_inside(&self.pool, number), attempt);
+        let machine = self.pool.copy(*self.tasks.allocator(), number)?;
         hold(&mut self.pool, number);
         self.tasks[seat as usize] = task;
         self.turns += 1;

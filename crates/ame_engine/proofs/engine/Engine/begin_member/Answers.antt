@@ -1,4 +1,5 @@
-use Rattle.std.proofs.Common.{◌≡◌, ◌+◌, ◌≤◌, length, vec_len, vec_capacity, arith}
+use Rattle.std.proofs.Common.{◌≡◌, ◌+◌, ◌≤◌, ◌∙◌, ap, length, vec_len, vec_capacity, arith}
+use Rattle.ame_pool.specs.Calls.{held}
 use Rattle.ame_engine.proofs.BeginLemmas.{whole-roomy, whole-begun, has-begun-after}
 use Rattle.ame_engine.proofs.PlaceLemmas.{places-roomy, places-begun}
 use Rattle.ame_engine.proofs.engine.Engine.begin_member.Goals as goal
@@ -19,8 +20,8 @@ invariant_of-self-2 g c =
       whole = whole-begun g.M.Runner.meaning
           g.M.Copied.same g.met.M.Runner.same_machines g.met.M.Runner.stage_shown _ c.args.self.now c.self.view_is c.self.invariant.whole c.args.seat c.args.number
           c.requires.seat c.requires.idle c.requires.oldest c.requires.ready c.requires.left _ _ _ _ _ _
-          c.begun_task-task.ensures c.is_inside.ensures c.attempt_now-attempt.ensures c.entries.ensures.entries c.entries-2.ensures.entries c.hold.ensures
-          _ c.reserve.ensures.items c.requires.going;
+          c.begun_task-task.ensures c.is_inside.ensures c.attempt_now-attempt.ensures c.entries.ensures.entries c.entries-2.ensures.entries
+          (c.hold.ensures ∙ ap (held c.args.number) c.in_ok-machine.ensures.pool) _ c.reserve.ensures.items c.requires.going;
       places = places-begun c.self.inside.tasks.items c.args.seat _ _ c.begun_task-task.result enough;
     }
 
@@ -29,5 +30,5 @@ returns-clause-begun g c =
     has-begun-after g.M.Runner.meaning
     g.M.Copied.same g.met.M.Runner.same_machines g.met.M.Runner.stage_shown _ c.args.self.now c.self.view_is c.self.invariant.whole c.args.seat c.args.number
     c.requires.seat c.requires.idle c.requires.oldest c.requires.ready c.requires.left _ _ _ _ _ _
-    c.begun_task-task.ensures c.is_inside.ensures c.attempt_now-attempt.ensures c.entries.ensures.entries c.entries-2.ensures.entries c.hold.ensures
-    _ c.reserve.ensures.items c.in_ok-machine.machine c.in_ok-machine.ensures c.requires.going
+    c.begun_task-task.ensures c.is_inside.ensures c.attempt_now-attempt.ensures c.entries.ensures.entries c.entries-2.ensures.entries
+    (c.hold.ensures ∙ ap (held c.args.number) c.copy.ensures.pool) _ c.reserve.ensures.items c.in_ok-machine.machine c.in_ok-machine.ensures.machine c.requires.going

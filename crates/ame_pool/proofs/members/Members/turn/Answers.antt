@@ -27,13 +27,13 @@ enter-requires-clause-parked g c = omega (arith, ap (λ (x : Counts). x.parked) 
 
 pub returns-clause-members : goal.returns-clause-members
 returns-clause-members g c =
-    rw (← c.self.view_is, c.turn-is_readied.ensures.member, slot_changed c.slot_in-key.ensures c.index_mut-member.result.now c.index_mut-member.ensures.value (after_transition c.args.to) (turned_number c.args.to)) refl
+    rw (← c.self.view_is, c.turn-left.ensures.member, slot_changed c.slot_in-key.ensures c.index_mut-member.result.now c.index_mut-member.ensures.value (after_transition c.args.to) (turned_number c.args.to)) refl
 
 pub returns-clause-readied : goal.returns-clause-readied
-returns-clause-readied g c = rw (← c.self.view_is, c.slot_in-key.ensures.found, c.index_mut-member.ensures.value, c.turn-is_readied.ensures.readied) refl
+returns-clause-readied g c = rw (← c.self.view_is, c.slot_in-key.ensures.found, c.index_mut-member.ensures.value, c.turn-left.ensures.readied) refl
 
 pub returns-clause-inside : goal.returns-clause-inside
-returns-clause-inside g c = rw (← c.self.view_is, c.slot_in-key.ensures.found, c.index_mut-member.ensures.value, c.turn-is_readied.ensures.member) refl
+returns-clause-inside g c = rw (← c.self.view_is, c.slot_in-key.ensures.found, c.index_mut-member.ensures.value, c.turn-left.ensures.member) refl
 
 pub returns-clause-counts : goal.returns-clause-counts
 returns-clause-counts g c m found =
@@ -43,5 +43,5 @@ returns-clause-counts g c m found =
     record {
       others = c.leave.new.self;
       left = c.leave.ensures ∙ ap (λ x. counted x c.leave.new.self) same;
-      entered = c.enter.ensures ∙ ap (λ x. counted x c.leave.new.self) (c.turn-is_readied.ensures.member ∙ ap (after_transition c.args.to) same);
+      entered = c.enter.ensures ∙ ap (λ x. counted x c.leave.new.self) (c.turn-left.ensures.member ∙ ap (after_transition c.args.to) same);
     }

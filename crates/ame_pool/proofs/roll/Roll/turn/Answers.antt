@@ -21,7 +21,7 @@ invariant_of-self g c =
     let o = opened is_away c.args.number _ c.args.self.now c.self.view_is c.requires in
     let t = c.turn-turned.result in
     kept_turn c.self.invariant c.args.number o.member o.found (away_unready o.member o.passes) c.args.to _ c.turn-turned.ensures.members
-    t.is_readied c.turn-turned.ensures.readied t.inside c.turn-turned.ensures.inside _ (c.turn-turned.ensures.counts o.member o.found) _
+    t.left.is_readied c.turn-turned.ensures.readied t.inside c.turn-turned.ensures.inside _ (c.turn-turned.ensures.counts o.member o.found) _
     (c.push.ensures ∙ ap (λ b. cond b (pushed c.args.number t.inside c.self.inside.ready) c.self.inside.ready) (sym c.if-turned.true))
 
 pub invariant_of-self-else-turned : goal.invariant_of-self-else-turned
@@ -29,5 +29,5 @@ invariant_of-self-else-turned g c =
     let o = opened is_away c.args.number _ c.args.self.now c.self.view_is c.requires in
     let t = c.turn-turned.result in
     kept_turn c.self.invariant c.args.number o.member o.found (away_unready o.member o.passes) c.args.to _ c.turn-turned.ensures.members
-    t.is_readied c.turn-turned.ensures.readied t.inside c.turn-turned.ensures.inside _ (c.turn-turned.ensures.counts o.member o.found) _
+    t.left.is_readied c.turn-turned.ensures.readied t.inside c.turn-turned.ensures.inside _ (c.turn-turned.ensures.counts o.member o.found) _
     (ap (λ b. cond b (pushed c.args.number t.inside c.self.inside.ready) c.self.inside.ready) (sym c.if-turned.false))

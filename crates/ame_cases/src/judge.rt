@@ -4,13 +4,15 @@ use crate::call::report_of;
 use crate::case::{Case, Fact};
 use crate::device::{Boxed, Kind};
 use crate::fault::Fault;
+use crate::own_ends::Watch;
 use crate::told::{CaseReport, told};
 use ame_device::{Adder, Counter, FailsAt, Tape};
 use ame_worker::{Gate, NoGate};
 use std::sync::Wait;
 use std::thread::Threads;
 
-/// Runs a case, with each number of workers that it tells: whether all was as it must be.
+/// Runs a case, with each number of workers that it tells: whether all was as it must be. Those come all at once, since a gate could
+/// hold one.
 pub fn is_as_told<R>(rt: &R, case: &Case) -> Result<bool, Fault>
 where
     R: Print + AllocGlobal + Threads + Wait + Sync,
@@ -20,7 +22,7 @@ where
     }
     let mut is_right = true;
     for workers in &case.workers {
-        is_right = is_call_as_told(rt, case, Some(workers.as_str()), &NoGate)? && is_right;
+        is_right = is_call_as_told(rt, case, Some(workers.as_str()), &Watch)? && is_right;
     }
     Ok(is_right)
 }

@@ -54,7 +54,7 @@ where
         return Err((sink, devices));
     };
     let shared = Shared::<M, K, D>::open(alloc, share, limits, sink, devices)?;
-    match run_shared(rt, alloc, code, room, shared, gate) {
+    match run_shared(rt, alloc, code, room, shared, gate, false) {
         Ok(left) => Ok(left),
         Err(shared) => Err(shared.into_shell().into_ends()),
     }
@@ -94,7 +94,7 @@ where
         return Err((sink, devices));
     };
     let shared = Shared::resume(alloc, engine, sink, devices)?;
-    match run_shared(rt, alloc, code, room, shared, gate) {
+    match run_shared(rt, alloc, code, room, shared, gate, true) {
         Ok(left) => Ok(left),
         Err(shared) => Ok(shared.into_shell().give_up()),
     }

@@ -22,7 +22,8 @@ use std::sync::{Arc, Wait};
 use std::thread::Threads;
 
 /// Workers run a shell of which nothing was run, until a stop is kept and all seats are idle, each in a thread of its own where one can
-/// be made. Where memory is lacking before they begin, the shell comes back as it was.
+/// be made. `are_more` is whether more than one member is there at first. Where memory is lacking before they begin, the shell comes back
+/// as it was.
 pub(crate) fn run_shared<M, K, D, G, R>(
     rt: &R,
     alloc: Global,
@@ -30,6 +31,7 @@ pub(crate) fn run_shared<M, K, D, G, R>(
     room: Room<M, K, D>,
     shared: Shared<M, K, D>,
     gate: &G,
+    are_more: bool,
 ) -> Result<Remains<M::Value, K, D>, Shared<M, K, D>>
 where
     M: Runner + Send,
@@ -53,8 +55,7 @@ where
     requires no_seats { room.seats.items ≡ [] }
     requires seats { shared.shell.value.engine.limits.seats ≤ vec_capacity room.seats }
     ensures over { IfOk result (λ left. IsOverSince shared.shell.value.engine.base (M.meaning.program shared.shell.value.engine.code)
-        (M.meaning.signature shared.shell.value.engine.code)
-        shared.shell.value.engine.limits (M.meaning.value_of shared.shell.value.engine.code)
+        (M.meaning.signature shared.shell.value.engine.code) shared.shell.value.engine.limits (M.meaning.value_of shared.shell.value.engine.code)
         (ends_of K.written K.faults D.device_heard D.device_faults shared.sink_before.value shared.shell.value.devices.items)
         left.ended (ends_of K.written K.faults D.device_heard D.device_faults left.sink left.devices.items)) }
     ensures back { IfErr result (λ back. back ≡ shared) }
@@ -66,7 +67,7 @@ where
         Err(shared) => return Err(shared),
     };
     let mut workers = team(&baton, first, code, codes, limits, workers);
-    work_all(rt, alloc, &baton, gate, workers.as_mut_slice());
+    work_all(rt, alloc, &baton, gate, workers.as_mut_slice(), are_more);
     let (first, rest) = seats_of(workers, seats);
     let shell = baton.end(rt, first, rest).into_shell();
     shell.engine.stands();

@@ -21,13 +21,44 @@ use std::sync::{Arc, Wait};
 use std::thread;
 use std::thread::Threads;
 
-/// Each worker of a team works until a stop is kept and it has nothing at work, each in a thread of its own where one can be made.
+/// The last worker of a team leads, unless the gate may hold it until others have come somewhere. Tells whether the run is over then.
+fn lead<M, K, D, G, R>(
+    rt: &R,
+    alloc: Global,
+    baton: &Baton<Shared<M, K, D>>,
+    gate: &G,
+    workers: &mut [Worker<M, K, D>],
+    are_more: bool,
+) -> bool
+where
+    M: Runner,
+    M::Code: Drop,
+    K: Sink,
+    D: Device,
+    G: Gate,
+    R: Wait,
+    requires some { 0 < length workers.old }
+    requires of { All (λ w. IsSeatOf baton.now w.seat) workers.old }
+    requires ready { All (λ w. IsReadyToTurn M.meaning.signature M.meaning.is_machine M.meaning.stage (arc_value w.code) w.limits (knows w.seat) w.work) workers.old }
+    ensures count { length workers.new ≡ length workers.old }
+    ensures of { All (λ w. IsSeatOf baton.now w.seat) workers.new }
+    ensures ready { All (λ w. IsReadyToTurn M.meaning.signature M.meaning.is_machine M.meaning.stage (arc_value w.code) w.limits (knows w.seat) w.work) workers.new }
+    ensures keeps { (i : ℕ) (d : Worker M K D M.Code M.Value) → i < length workers.old
+        → KeepsSeat (knows (slice_index_or workers.old i d).seat) (knows (slice_index_or workers.new i d).seat) }
+{
+    let last = workers.len() - 1;
+    !gate.may_hold() && workers[last].lead(rt, alloc, baton, gate, are_more)
+}
+
+/// Each worker of a team works until a stop is kept and it has nothing at work. One leads, and then each has a thread of its own where
+/// one can be made. `are_more` is whether more than one member is there at first.
 pub(crate) fn work_all<M, K, D, G, R>(
     rt: &R,
     alloc: Global,
     baton: &Baton<Shared<M, K, D>>,
     gate: &G,
     workers: &mut [Worker<M, K, D>],
+    are_more: bool,
 )
 where
     M: Runner + Send,
@@ -46,14 +77,15 @@ where
         → KeepsSeat (knows (slice_index_or workers.old i d).seat) (knows (slice_index_or workers.new i d).seat) }
     ensures through { (i : ℕ) (d : Worker M K D M.Code M.Value) → i < length workers.old → IsThrough (knows (slice_index_or workers.new i d).seat) }
 {
-    let count = workers.len();
+    let is_over = lead(rt, alloc, baton, gate, workers, are_more);
+    let threads = if is_over { 1 } else { workers.len() };
     let work = |_: usize, w: &mut Worker<M, K, D>|
         requires { IsSeatOf baton.now w.now.seat × IsReadyToTurn M.meaning.signature M.meaning.is_machine M.meaning.stage (arc_value w.now.code) w.now.limits (knows w.now.seat) w.now.work }
         ensures of { IsSeatOf baton.entry.now w.exit.now.seat }
         ensures keeps { KeepsSeat (knows w.entry.now.seat) (knows w.exit.now.seat) }
         ensures through { IsThrough (knows w.exit.now.seat) }
     { w.work(rt, alloc, baton, gate) };
-    thread::for_each_mut(rt, workers, count, &work);
+    thread::for_each_mut(rt, workers, threads, &work);
 }
 
 /// A worker for each seat: those of the seats that the first one makes, in order, and its own as the last.

@@ -22,6 +22,12 @@ pub enum Point {
 /// What each worker calls after each of its turns, once it has given the turn back. It may hold the worker.
 pub trait Gate {
     fn pass(&self, seat: u32, point: Point);
+
+    /// Whether it may hold a worker until another one has come somewhere. Where it never does, one worker leads, and the others come once
+    /// they could help.
+    fn may_hold(&self) -> bool {
+        true
+    }
 }
 
 /// A gate that lets everybody pass.
@@ -30,4 +36,8 @@ pub struct NoGate;
 
 impl Gate for NoGate {
     fn pass(&self, _seat: u32, _point: Point) {}
+
+    fn may_hold(&self) -> bool {
+        false
+    }
 }

@@ -1,6 +1,6 @@
 //! A worker: a seat, what it has at hand, and the code.
 
-ghost use Rattle.std.specs.Prelude.{◌≡◌, false};
+ghost use Rattle.std.specs.Prelude.{◌≡◌, true, false};
 ghost use Rattle.std.specs.Arc.{arc_value};
 ghost use Rattle.ame_baton.specs.Batons.{knows, IsSeatOf};
 ghost use Rattle.ame_baton.specs.Keeping.{KeepsSeat};
@@ -27,7 +27,11 @@ use std::alloc::Global;
 use std::mem;
 use std::sync::{Arc, Wait};
 
-/// A worker: a seat at a shared shell, what it has at hand, the code, and the limits.
+/// A fragment of so many steps is work enough for others to help: it takes as long as its turns, which only one worker has at a time.
+const HEAVY: u64 = 100;
+
+/// A worker: a seat at a shared shell, what it has at hand, the code, the limits, and how many steps its fragment had made when it last
+/// asked for the turn.
 pub struct Worker<M: Runner, K, D>
 where
     M::Code: Drop,
@@ -36,6 +40,7 @@ where
     pub work: Work<M>,
     pub code: Arc<M::Code>,
     pub limits: Limits,
+    pub steps: u64,
 }
 
 impl<M: Runner, K, D> Drop for Worker<M, K, D>
@@ -48,7 +53,16 @@ where
             work: _,
             code: _,
             limits: _,
+            steps: _,
         } = self;
+    }
+}
+
+/// The steps that the fragment at hand made.
+fn steps_of<M: Runner>(work: &Work<M>) -> u64 {
+    match work {
+        Work::Running(machine) => machine.steps(),
+        Work::Idle | Work::Undoing => 0,
     }
 }
 
@@ -80,6 +94,7 @@ where
             work: Work::Idle,
             code,
             limits,
+            steps: 0,
         }
     }
 
@@ -108,6 +123,7 @@ where
     {
         let code: &M::Code = &self.code;
         let lacks = prepare(alloc, code, self.limits.slice, &mut self.work).is_err();
+        self.steps = steps_of(&self.work);
         let Some(mut shared) = baton.try_take(rt, &mut self.seat) else {
             return Turned::Busy;
         };
@@ -117,6 +133,39 @@ where
         self.work = work;
         gate.pass(self.seat.number(), point);
         Turned::Did(point)
+    }
+
+    /// Has turns while no other worker has any, until a stop is kept and its seat has nothing at work, which it tells, or until others
+    /// could help: a fragment made many steps, and there may be more of them, since the run began with some (`are_more`) or one was
+    /// committed.
+    pub fn lead<R: Wait, G: Gate>(
+        &mut self,
+        rt: &R,
+        alloc: Global,
+        baton: &Baton<Shared<M, K, D>>,
+        gate: &G,
+        mut are_more: bool,
+    ) -> bool
+        requires of { IsSeatOf baton.now self.old.seat }
+        requires ready { IsReadyToTurn M.meaning.signature M.meaning.is_machine M.meaning.stage (arc_value self.old.code) self.old.limits (knows self.old.seat) self.old.work }
+        ensures of { IsSeatOf baton.now self.new.seat }
+        ensures ready { IsReadyToTurn M.meaning.signature M.meaning.is_machine M.meaning.stage (arc_value self.new.code) self.new.limits (knows self.new.seat) self.new.work }
+        ensures keeps { KeepsSeat (knows self.old.seat) (knows self.new.seat) }
+        ensures through { result ≡ true → IsThrough (knows self.new.seat) }
+    {
+        for _ in rt.forever() {
+            match self.turn(rt, alloc, baton, gate) {
+                Turned::Did(Point::Stopped) => return true,
+                Turned::Did(Point::Idle) | Turned::Busy => return false,
+                Turned::Did(point) => {
+                    if are_more && self.steps >= HEAVY {
+                        return false;
+                    }
+                    are_more = are_more || matches!(point, Point::Ran(_) | Point::Freed(_));
+                }
+            }
+        }
+        unreachable!()
     }
 
     /// Has turns until a stop is kept and its seat has nothing at work. It may wait, and sleeps where that takes long.
@@ -156,6 +205,7 @@ where
             work: _,
             code: _,
             limits: _,
+            steps: _,
         } = self;
         seat
     }

@@ -1,4 +1,4 @@
-use Rattle.std.proofs.Common.{slice_index_or, sym, subst}
+use Rattle.std.proofs.Common.{◌<◌, slice_index_or, sym, subst}
 use Rattle.std.specs.Arc.{arc_value}
 use denote.Exit.{no}
 use denote.Param.{param}
@@ -12,6 +12,7 @@ use Rattle.std.proofs.Crossing.{sync}
 use Rattle.ame_baton.proofs.turn.Baton.TheSendSync as baton
 use Rattle.ame_baton.specs.Batons.{knows, IsSeatOf}
 use Rattle.ame_baton.specs.Keeping.{KeepsSeat}
+use Rattle.ame_baton.proofs.Keeping.{keeps_both}
 use Rattle.ame_worker.specs.Workers.{IsReadyToTurn}
 use Rattle.ame_team.proofs.CrossLemmas.{shared-send, worker-send, four-sync}
 use Rattle.ame_team.proofs.team.work_all.Goals as goal
@@ -36,12 +37,14 @@ for_each_mut-requires-sync-F g c κs within =
 
 pub for_each_mut-requires-clause-accepts : goal.for_each_mut-requires-clause-accepts
 for_each_mut-requires-clause-accepts g c κs within = λ i p in_range same. (
-  subst (λ w. IsSeatOf c.args.baton.now w.seat) (sym same) (c.requires.of i p.now in_range),
-  subst (λ w. IsReadyToTurn g.M.Runner.meaning.signature g.M.Runner.meaning.is_machine g.M.Runner.meaning.stage (arc_value w.code) w.limits (knows w.seat) w.work) (sym same) (c.requires.ready i p.now in_range),
+  subst (λ w. IsSeatOf c.args.baton.now w.seat) (sym same) (c.lead-is_over.ensures.of i p.now in_range),
+  subst (λ w. IsReadyToTurn g.M.Runner.meaning.signature g.M.Runner.meaning.is_machine g.M.Runner.meaning.stage (arc_value w.code) w.limits (knows w.seat) w.work) (sym same) (c.lead-is_over.ensures.ready i p.now in_range),
 )
 
 pub returns-clause-keeps : goal.returns-clause-keeps
 returns-clause-keeps g c = λ i d in_range.
-    let change = (c.for_each_mut.ensures i d in_range).1 in
-    subst (λ w. KeepsSeat (knows (slice_index_or c.args.workers.now i d).seat) (knows w.seat)) change.left
-    (subst (λ w. KeepsSeat (knows w.seat) (knows change.after_call.now.seat)) change.argument_is change.call.1.0)
+    let led = c.lead-is_over.new.workers in
+    let change = (c.for_each_mut.ensures i d (subst (λ n. i < n) (sym c.lead-is_over.ensures.count) in_range)).1 in
+    keeps_both _ _ _ (c.lead-is_over.ensures.keeps i d in_range)
+    (subst (λ w. KeepsSeat (knows (slice_index_or led i d).seat) (knows w.seat)) change.left
+    (subst (λ w. KeepsSeat (knows w.seat) (knows change.after_call.now.seat)) change.argument_is change.call.1.0))

@@ -1,0 +1,19 @@
+use Rattle.std.proofs.Common.{◌-◌, length, refl, arith}
+use Rattle.std.specs.Arc.{arc_value}
+use Rattle.std.proofs.lemmas.List.Elements.{All-set}
+use Rattle.ame_baton.specs.Batons.{knows}
+use Rattle.ame_baton.specs.Keeping.{KeepsSeat}
+use Rattle.ame_worker.specs.Workers.{IsReadyToTurn}
+use Rattle.ame_team.proofs.ChangeLemmas.{related_at}
+use Rattle.ame_team.proofs.team.lead.Goals as goal
+
+pub returns-then-not-may_hold-clause-ready : goal.returns-then-not-may_hold-clause-ready
+returns-then-not-may_hold-clause-ready g c =
+    All-set (λ w. IsReadyToTurn g.M.Runner.meaning.signature g.M.Runner.meaning.is_machine g.M.Runner.meaning.stage (arc_value w.code) w.limits (knows w.seat) w.work)
+    c.args.workers.now (length c.args.workers.now - 1) c.lead.new.self c.lead.ensures.ready c.requires.ready
+
+pub returns-then-not-may_hold-clause-keeps : goal.returns-then-not-may_hold-clause-keeps
+returns-then-not-may_hold-clause-keeps g c =
+    let some = c.requires.some in
+    related_at (λ v w. KeepsSeat (knows v.seat) (knows w.seat)) (λ w. record { number = refl; fixed = refl; seats = refl; made = refl; ended = refl })
+    c.args.workers.now (length c.args.workers.now - 1) c.index-workers-last.result c.lead.new.self (omega (arith, some)) c.lead.ensures.keeps

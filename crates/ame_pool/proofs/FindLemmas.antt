@@ -59,23 +59,24 @@ module _ {M : Type 0} {s : Roster M} {ix : BTreeSet (ℕ × ℕ)} (h : IsWatched
     pub watched_held : untouched m.standing ≡ [] → IsWatched (held n s) ix
     watched_held u = still (held n s) begun (found_altered n begun (λ _. refl) s.members) (sym u)
 
+    -- it watches nothing any more
+    module _ {ix' : BTreeSet (ℕ × ℕ)} (clear : IsListedAfter n (λ _. false) ix ix') where
+      pub watched_cleared : (to : Transition M) → untouched (after_transition to m).standing ≡ [] → IsWatched (turned_at n to s) ix'
+      watched_cleared to none =
+          watched_after (turned_at n to s) (found_altered n (after_transition to) (turned_number to) s.members) (Some (after_transition to m)) (ap (option_map (after_transition to)) found)
+          clear (λ k. sym (ap (has k) none))
+
+      -- it left
+      pub watched_except : IsWatched (removed n s) ix'
+      watched_except = watched_after (removed n s) (found_except n s.members h.rising) None refl clear (λ _. refl)
+
     module _ (locs : List Loc) (told : map (λ (l : Loc). l.0) locs ≡ untouched m.standing) where
       listed_here : (k : ℕ) → lists ix k n ≡ among k locs
       listed_here k = listed_at k ∙ ap (has k) (sym told) ∙ list_any-map (λ (l : Loc). l.0) (λ j. j == k) locs
 
       -- it watches nothing any more
-      module _ {ix' : BTreeSet (ℕ × ℕ)} (step : IsListedAfter n (λ k. not (among k locs && not false) && lists ix k n) ix ix') where
-        cleared : IsListedAfter n (λ _. false) ix ix'
-        cleared = listed_as step (λ k. cleared_table (among k locs) (lists ix k n) (listed_here k))
-
-        pub watched_cleared : (to : Transition M) → untouched (after_transition to m).standing ≡ [] → IsWatched (turned_at n to s) ix'
-        watched_cleared to none =
-            watched_after (turned_at n to s) (found_altered n (after_transition to) (turned_number to) s.members) (Some (after_transition to m)) (ap (option_map (after_transition to)) found)
-            cleared (λ k. sym (ap (has k) none))
-
-        -- it left
-        pub watched_except : IsWatched (removed n s) ix'
-        watched_except = watched_after (removed n s) (found_except n s.members h.rising) None refl cleared (λ _. refl)
+      pub cleared : {ix' : BTreeSet (ℕ × ℕ)} → IsListedAfter n (λ k. not (among k locs && not false) && lists ix k n) ix ix' → IsListedAfter n (λ _. false) ix ix'
+      cleared step = listed_as step (λ k. cleared_table (among k locs) (lists ix k n) (listed_here k))
 
       -- a new list in place of that one
       pub watched_noted : (to : Transition M) (list : List Loc) → untouched (after_transition to m).standing ≡ map (λ (l : Loc). l.0) list → {mid ix' : BTreeSet (ℕ × ℕ)}

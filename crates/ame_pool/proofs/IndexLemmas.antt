@@ -1,12 +1,16 @@
 -- The index of watchers.
 use Rattle.std.proofs.lemmas.Bool.{eqb-true, or_right}
-use Rattle.std.proofs.Common.{◌≡◌, ◌≢◌, ◌≤◌, ◌==◌, ◌&&◌, ℕ, Bool, true, false, cond, not, ◌<◌, ◌+◌, Result, Ok, Err, OnErr, sym, ap, ◌∙◌, arith}
+use Rattle.std.proofs.Common.{◌≡◌, ◌≢◌, ◌≤◌, ◌==◌, ◌&&◌, ℕ, Bool, true, false, cond, not, ◌<◌, ◌+◌, Result, Ok, Err, OnErr, sym, ap, refl, [], ◌∷◌, ◌∙◌, arith}
 use Rattle.std.specs.Prelude.{List, length}
 use lib.ListN.{get_or}
-use Rattle.std.specs.BTreeSet.{contains}
+use Rattle.std.specs.BTreeSet.{contains, btree_set_len}
 use Rattle.std.specs.BTreeMap.{is_at}
 use Rattle.std.specs.BTreeMap.Range.{IsLeBy}
-use Rattle.ame_pool.proofs.Words.{cases_Bool, Loc, pair_cmp, lists, among, IsBetween, IsListedAfter, ◌||◌, take, drop, take-append-drop, list_any_more, list_any-append, nat_tests, BTreeSet}
+use Rattle.ame_pool.proofs.Words.{cases_Bool, Loc, pair_cmp, lists, among, IsBetween, IsListedAfter, ◌||◌, take, drop, take-append-drop, list_any, list_any_more, list_any-append, nat_tests, BTreeSet}
+
+none_passes : {X : Type 0} (p : X → Bool) (xs : List X) → length xs ≡ 0 → list_any p xs ≡ false
+none_passes p [] none = refl
+none_passes p (x ∷ xs) none = cc
 
 pub on_err : {T E : Type 0} (r : Result T E) (P : Type 0) → P → OnErr r P
 on_err (Ok x) P h = tt
@@ -36,6 +40,10 @@ paired l n value old new step = record {
   here = λ k. step (k, n) ∙ ap (λ b. cond b value (lists old k n)) (pair_here l n k);
   others = λ k m other. step (k, m) ∙ ap (λ b. cond b value (lists old k m)) (pair_other l n k m other);
 }
+
+-- an index without pairs names nobody
+pub names_nobody : (index : BTreeSet (ℕ × ℕ)) → btree_set_len index ≡ 0 → (k n : ℕ) → lists index k n ≡ false
+names_nobody index none k n = none_passes (is_at (pair_cmp (k, n))) index.keys none
 
 -- ---- tables of truth values: a is listed so far, x is the next location, k is kept, l was listed
 add_table : (a x l : Bool) → cond x true (a || l) ≡ ((a || x) || l)

@@ -18,5 +18,5 @@ mod turn;
 
 pub use member::{Member, ROLLBACK_LIMIT, Standing, Watch};
 pub use oldest::Oldest;
-pub use pool::Pool;
+pub use pool::{MachineCopy, Pool};
 pub use theorems::found_are_all;

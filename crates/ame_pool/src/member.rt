@@ -162,21 +162,10 @@ impl<M: Drop> Member<M> {
         ensures member { self.new ≡ renewed machine inside self.old }
         ensures machine { result ≡ self.old.machine }
     {
-        let renewed = Member {
-            number: self.number,
-            machine,
-            inside,
-            rollbacks: 0,
-            standing: Standing::Ready,
-        };
-        let Member {
-            number: _,
-            machine,
-            inside: _,
-            rollbacks: _,
-            standing: _,
-        } = mem::replace(self, renewed);
-        machine
+        self.inside = inside;
+        self.rollbacks = 0;
+        self.standing = Standing::Ready;
+        mem::replace(&mut self.machine, machine)
     }
 
     /// Noted as stuck on these locations.

@@ -1,9 +1,12 @@
 //! The pool.
 
-ghost use Rattle.std.specs.Prelude.{◌≡◌, ◌<◌, ℕ, Some, None, IfOk, OnOk, OnErr, IsTrue, option_copied, map};
+ghost use Rattle.std.specs.Prelude.{◌≡◌, ◌<◌, ℕ, Some, None, IsSome, false, IfOk, OnOk, OnErr, IsTrue, option_copied, map};
 ghost use Rattle.std.specs.Borrow.{sem};
 ghost use Rattle.std.specs.Option.{ForSome};
 ghost use Rattle.std.specs.List.{list_any};
+ghost use Rattle.ame_pool.specs.Members.{find as found_at};
+ghost use Rattle.ame_pool.specs.Index.{IsListedAfter};
+ghost use Rattle.ame_pool.specs.Keeps.{IsWatched};
 
 use crate::index::{first, unwatch, watch};
 use crate::member::Member;
@@ -39,12 +42,43 @@ impl<M> Model for Pool<M> {
     ghost invariant = { λ a. IsWatched a.roll a.index };
 }
 
+/// A copy of a member's machine, and whether the member stands inside `unprotected`.
+#[derive(Drop)]
+pub struct MachineCopy<M> {
+    pub machine: M,
+    pub inside: bool,
+}
+
+/// A copy of a machine, in the memory of a spare one where there is such.
+fn copy_in<M: Drop + Copied>(spare: Option<M>, alloc: Global, resting: &M) -> Result<M, NoMemory>
+    ensures { IfOk result (λ copy. M.same resting.now copy) }
+{
+    match spare {
+        Some(mut copy) => {
+            copy.copy_from(alloc, resting)?;
+            Ok(copy)
+        }
+        None => resting.copy(alloc),
+    }
+}
+
+/// The index names a member nowhere any more. The member is looked for only where the index names any.
+fn unlist<M: Drop>(index: &mut BTreeSet<(u32, u64)>, roll: &Roll<M>, number: u64)
+    requires there { IsSome (found_at number roll.now.members) }
+    requires watched { IsWatched roll.now index.old }
+    ensures { IsListedAfter number (λ _. false) index.old index.new }
+{
+    if !index.is_empty() {
+        unwatch(index, number, roll.member(number).untouched(), &[]);
+    }
+}
+
 impl<M: Drop> Pool<M> {
     ghost use Rattle.ame_pool.specs.Lends.{ends_as};
     ghost use Rattle.ame_pool.specs.Members.{find, is_ready, is_busy};
     ghost use Rattle.ame_pool.specs.Roster.{nobody};
     ghost use Rattle.ame_pool.specs.Begin.{oldest as oldest_of};
-    ghost use Rattle.ame_pool.specs.Keeps.{AreInOrder};
+    ghost use Rattle.ame_pool.specs.Keeps.{AreInOrder, is_inside_at};
     ghost use Rattle.ame_pool.specs.Stirs.{is_watching, stirred_at};
     ghost use Rattle.ame_pool.specs.Calls.{IsAt, is_running, is_noted, with_room, joined, newcomer, held, home as homed, exchanged, removed, noted, parked, woken, machine_of, inside_of};
 
@@ -94,25 +128,23 @@ impl<M: Drop> Pool<M> {
         }
     }
 
-    /// A copy of the machine of a ready member. It takes the memory of a machine in whose place another one came, where there is such.
-    pub fn copy(&mut self, alloc: Global, number: u64) -> Result<M, NoMemory>
+    /// A copy of the machine of a ready member, and whether it stands inside. It takes the memory of a machine in whose place another
+    /// one came, where there is such.
+    pub fn copy(&mut self, alloc: Global, number: u64) -> Result<MachineCopy<M>, NoMemory>
     where
         M: Copied,
         requires { IsAt is_ready number self.old }
         ensures pool { self.new ≡ self.old }
-        ensures machine { IfOk result (λ m. ForSome (machine_of number self.old) (λ resting. M.same resting m)) }
+        ensures machine { IfOk result (λ copy. ForSome (machine_of number self.old) (λ resting. M.same resting copy.machine)) }
+        ensures inside { IfOk result (λ copy. copy.inside ≡ is_inside_at self.old.members number) }
     {
         let spare = self.spare.take();
-        let Some(resting) = self.machine(number) else {
-            unreachable!();
-        };
-        match spare {
-            Some(mut copy) => {
-                copy.copy_from(alloc, resting)?;
-                Ok(copy)
-            }
-            None => resting.copy(alloc),
-        }
+        let member = self.roll.member(number);
+        let machine = copy_in(spare, alloc, &member.machine)?;
+        Ok(MachineCopy {
+            machine,
+            inside: member.inside,
+        })
     }
 
     /// Whether a member stands inside `unprotected`.
@@ -125,13 +157,21 @@ impl<M: Drop> Pool<M> {
         }
     }
 
+    /// Makes a ready member busy.
+    pub fn begin(&mut self, number: u64)
+        requires { IsAt is_ready number self.old }
+        ensures { self.new ≡ held number self.old }
+    {
+        self.roll.begin(number);
+    }
+
     /// Makes a ready member busy, and lends its machine.
     pub fn hold(&mut self, number: u64) -> &M
         requires { IsAt is_ready number self.old }
         ensures* held { sem 𝓛 (ends_as M.row self.entry (held number self.old)) }
         ensures machine { Some result.now ≡ machine_of number self.old }
     {
-        self.roll.begin(number);
+        self.begin(number);
         match self.machine(number) {
             Some(machine) => machine,
             None => unreachable!(),
@@ -151,8 +191,7 @@ impl<M: Drop> Pool<M> {
         requires { IsAt is_busy number self.old }
         ensures { self.new ≡ exchanged number machine inside self.old }
     {
-        let member = self.roll.member(number);
-        unwatch(&mut self.index, number, member.untouched(), &[]);
+        unlist(&mut self.index, &self.roll, number);
         self.spare = self.roll.turn(number, Transition::Renew(machine, inside));
     }
 
@@ -162,8 +201,7 @@ impl<M: Drop> Pool<M> {
         ensures pool { self.new ≡ removed number self.old }
         ensures machine { Some result ≡ machine_of number self.old }
     {
-        let member = self.roll.member(number);
-        unwatch(&mut self.index, number, member.untouched(), &[]);
+        unlist(&mut self.index, &self.roll, number);
         self.roll.remove(number)
     }
 
@@ -198,8 +236,7 @@ impl<M: Drop> Pool<M> {
         requires { IsAt (is_watching l.0) number self.old }
         ensures { self.new ≡ stirred_at l.0 number self.old }
     {
-        let member = self.roll.member(number);
-        unwatch(&mut self.index, number, member.untouched(), &[]);
+        unlist(&mut self.index, &self.roll, number);
         let _ = self.roll.turn(number, Transition::Stir(l));
     }
 

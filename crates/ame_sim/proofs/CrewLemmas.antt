@@ -29,7 +29,6 @@ use Rattle.ame_sim.specs.Played.{HasPlayed}
 use Rattle.ame_turn.specs.declared.work.Deed.{Deed}
 use Rattle.ame_turn.specs.declared.work.Work.{Work}
 use Rattle.ame_turn.specs.declared.work.Work.TheVariants as work
-use Rattle.ame_turn.specs.Ready.{CanBePrepared, IsPrepared}
 use Rattle.ame_turn.specs.Work.{Fits, stage_at}
 use Rattle.ame_turn.proofs.OthersLemmas.{stays-on}
 use Rattle.ame_sim.specs.Crew.{IsCrew, SomeSeatIsAtWork}
@@ -148,11 +147,3 @@ module _ {C V M : Type 0} (meaning : Meaning C V M) where
       let its = busy-seat core.tasks at.0 busy.0 at.1 in
       let long = stands.bounded.tasks in
       record { seat = at.0; there = omega (arith, its.1, long); busy = its.0 }
-
--- what is prepared with the engine's code and slice
-module _ {C M : Type 0} (is_machine : C → M → Type 0) (stage : C → M → MachineView) (code other : C) (slice most : ℕ) (same : code ≡ other) (is : slice ≡ most) where
-  pub can-with : (w : Work M) → CanBePrepared is_machine stage other most w → CanBePrepared is_machine stage code slice w
-  can-with w can = subst (λ (n : ℕ). CanBePrepared is_machine stage code n w) (sym is) (subst (λ (c : C). CanBePrepared is_machine stage c most w) (sym same) can)
-
-  pub prepared-with : (v w : Work M) → IsPrepared is_machine stage code slice v w → IsPrepared is_machine stage other most v w
-  prepared-with v w can = subst (λ (n : ℕ). IsPrepared is_machine stage other n v w) is (subst (λ (c : C). IsPrepared is_machine stage c slice v w) same can)

@@ -15,7 +15,7 @@ ghost use Rattle.ame_sim.specs.Crew.{lacking, left_to_undo, IsUnwound, SomeSeatI
 ghost use Rattle.ame_sim.specs.Played.{HasPlayed};
 ghost use Rattle.ame_turn.specs.declared.work.Work.TheVariants as work;
 
-use crate::hands::{idle_hands, lacks_memory};
+use crate::hands::idle_hands;
 use crate::made::Made;
 use crate::places::{member_at, member_told, place_told, place_wanted};
 use ame_device::Device;
@@ -24,7 +24,7 @@ use ame_io::Sink;
 use ame_machine::Runner;
 use ame_protocol::{Limits, Task};
 use ame_shell::{Remains, Shell};
-use ame_turn::{Turned, Work};
+use ame_turn::{Turned, Work, prepare_seat};
 use std::alloc::Global;
 use std::marker::Model;
 use std::mem;
@@ -118,7 +118,7 @@ where
     {
         let alloc = *self.hands.allocator();
         let mut work = mem::replace(&mut self.hands[seat as usize], Work::Idle);
-        let lacks = lacks_memory(&self.shell.engine, alloc, &self.code, seat, &mut work);
+        let lacks = prepare_seat(&self.shell.engine, alloc, &self.code, seat, &mut work);
         let wanted = place_wanted(self.shell.engine.cells(), &work);
         let before = member_at(&self.shell.engine, seat);
         self.shell.engine.stands();

@@ -46,7 +46,7 @@ module _ (M K D C V : RattleType) (r : runner.Ghosts M.Denot C.Denot V.Denot) (m
       let T = Worker.the_type M K D C V r m v in
       let all : AllSend (fields T) = (
         seat.the_field_send (Shared.the_row M K D C V r m v) (Opened.the_row C) (SeatRow.the_row M) Entry.the_row shared-send,
-        (work.the_field_send M sm, (Arc-send C sc yc, (limits.the_field_send, (search (sendable, crosses), tt)))),
+        (work.the_field_send M sm, (Arc-send C sc yc, (limits.the_field_send, tt))),
       ) in
       recorded_send (Struct (shape T)) T.D T.to T.to_one (struct_send (shape T) all)
 

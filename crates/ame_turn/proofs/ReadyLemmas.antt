@@ -109,3 +109,11 @@ module _ {C V M : Type 0} (meaning : Meaning C V M)
   prepared-fits work.Undoing work.Idle fits is = absurd is
   prepared-fits work.Undoing (work.Running n) fits is = absurd is
   prepared-fits work.Undoing work.Undoing fits is = fits
+
+-- what is prepared with the engine's code and slice
+module _ {C M : Type 0} (is_machine : C → M → Type 0) (stage : C → M → MachineView) (code other : C) (slice most : ℕ) (same : code ≡ other) (is : slice ≡ most) where
+  pub can-with : (w : Work M) → CanBePrepared is_machine stage other most w → CanBePrepared is_machine stage code slice w
+  can-with w can = subst (λ (n : ℕ). CanBePrepared is_machine stage code n w) (sym is) (subst (λ (c : C). CanBePrepared is_machine stage c most w) (sym same) can)
+
+  pub prepared-with : (v w : Work M) → IsPrepared is_machine stage code slice v w → IsPrepared is_machine stage other most v w
+  prepared-with v w can = subst (λ (n : ℕ). IsPrepared is_machine stage other n v w) is (subst (λ (c : C). IsPrepared is_machine stage c slice v w) same can)

@@ -16,6 +16,6 @@ mod work;
 pub use accesses::{alloc, read, write};
 pub use acts::act;
 pub use checks::check;
-pub use prepares::prepare;
+pub use prepares::{prepare, prepare_seat};
 pub use theorems::machines_on_their_seats_can_run;
 pub use work::{Deed, Turned, Work};

@@ -1,9 +1,12 @@
 //! What is done before a turn.
 
-ghost use Rattle.std.specs.Prelude.{◌<◌, OnOk, OnErr};
+ghost use Rattle.std.specs.Prelude.{◌≡◌, ◌<◌, false, OnOk, OnErr};
+ghost use Rattle.ame_engine.specs.Whole.{AreLimits};
 ghost use Rattle.ame_turn.specs.Ready.{CanGoOn, HasAdvanced, IsReady, CanBePrepared, IsPrepared, IsReadyWork};
+ghost use Rattle.ame_turn.specs.Work.{Fits};
 
 use crate::work::Work;
+use ame_engine::Engine;
 use ame_machine::{Runner, Wants};
 use ame_term::NoMemory;
 use std::alloc::Global;
@@ -49,4 +52,25 @@ pub fn prepare<M: Runner>(
         Work::Running(machine) => go_on(alloc, code, slice, machine),
         Work::Idle | Work::Undoing => Ok(()),
     }
+}
+
+/// What a seat has at hand is prepared for its turn, as `prepare` does it by the engine's limits. Tells whether memory is lacking.
+pub fn prepare_seat<M: Runner>(
+    engine: &Engine<M>,
+    alloc: Global,
+    code: &M::Code,
+    seat: u32,
+    work: &mut Work<M>,
+) -> bool
+where
+    M::Code: Drop,
+    requires same { code.now ≡ engine.now.code }
+    requires limits { AreLimits engine.now.limits }
+    requires fits { Fits M.meaning engine.now seat work.old }
+    ensures fits { Fits M.meaning engine.now seat work.new }
+    ensures ready { result ≡ false → IsReadyWork M.meaning.stage engine.now.code engine.now.limits.slice work.new }
+{
+    engine.stands();
+    let slice = engine.limits().slice;
+    prepare(alloc, code, slice, work).is_err()
 }

@@ -1,5 +1,5 @@
 -- What the events of a seat leave of an engine: a journal grows by the seat's entries alone, and a stop stays.
-use Rattle.std.proofs.Common.{◌≡◌, ℕ, Bool, true, false, List, [], ◌∷◌, ◌++◌, All, Option, refl, sym, ap, ◌∙◌, subst}
+use Rattle.std.proofs.Common.{◌≡◌, ℕ, Bool, true, false, List, [], ◌∷◌, ◌++◌, Option, refl, sym, ap, ◌∙◌, subst}
 use Rattle.std.specs.Prelude.{is_some, IsSome}
 use Rattle.std.proofs.lemmas.List.{append-nil}
 use Rattle.std.proofs.lemmas.List.Elements.{All-nil, All-cons}
@@ -23,22 +23,13 @@ use Rattle.ame_shell.specs.Shell.{ShellView}
 use Rattle.ame_shell.specs.Turned.{HasFlushed, is_to_flush, HasTurned}
 use Rattle.ame_shell.proofs.DeedLemmas.{Adds, IsRecorded, deed-silent}
 use Rattle.ame_shell.proofs.StopLemmas.{GoesQuietly}
+use Rattle.ame_worker.specs.Leads.{Extends}
 use Rattle.ame_machine.specs.Meaning.{Meaning}
-
--- Code, limits and base stay, the journal grows by entries of this seat alone, and a stop that is kept stays kept.
-pub record Extends {C V M : Type 0} (seat : ℕ) (old new : Core C V M) : Type 0 where
-  pub code : new.code ≡ old.code
-  pub limits : new.limits ≡ old.limits
-  pub base : new.base ≡ old.base
-  pub added : List Entry
-  pub entries : new.entries ≡ old.entries ++ added
-  pub by_seat : All (λ entry. entry.seat ≡ seat) added
-  pub stop : IsSome old.stop → IsSome new.stop
 
 module _ {C V M : Type 0} (seat : ℕ) (old new : Core C V M) (code : new.code ≡ old.code) (limits : new.limits ≡ old.limits) (base : new.base ≡ old.base)
     (stop : IsSome old.stop → IsSome new.stop) where
   -- no entry was added
-  extends-none : new.entries ≡ old.entries → Extends seat old new
+  pub extends-none : new.entries ≡ old.entries → Extends seat old new
   extends-none same = record {
     code = code;
     limits = limits;

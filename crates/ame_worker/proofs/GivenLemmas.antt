@@ -21,6 +21,7 @@ use Rattle.ame_baton.proofs.Keeping.{give_leaves}
 use Rattle.ame_baton.proofs.Lookups.{get_set_here}
 use Rattle.ame_worker.specs.declared.gate.Point.{Point}
 use Rattle.ame_worker.specs.declared.shared.Opened.{Opened}
+use Rattle.ame_worker.specs.Leads.{HasLed}
 use Rattle.ame_worker.specs.Points.{member_at, point_of}
 use Rattle.ame_worker.specs.Rows.{Kept, SeatRow, nothing_kept, row_of}
 use Rattle.ame_worker.specs.Shared.{keeping, IsShared}
@@ -182,10 +183,22 @@ module _ {C V M : Type 0} (meaning : Meaning C V M) where
       (subst (λ (w : Work M). MakesTurn meaning code lacks w new k taken places given kept said) same
       (subst (λ (c : C). MakesTurn meaning c lacks work new k taken places given kept said) of made))
 
-  -- a shell of which a seat made its turn
+  -- a seat that made its turn
+  pub turn-leaves : (code : C) (lacks : Bool) (hand new : Work M) (k : Knows (Opened C) (SeatRow M) Entry) (taken given : ShellView C V M) (places kept : List (Kept M)) (point : Point)
+      → MakesTurn meaning code lacks hand new k taken places given kept point → HasLed meaning new k taken places given kept
+  turn-leaves code lacks hand new k taken given places kept point made = record {
+    opened = made.opened;
+    is = made.is;
+    was = made.was;
+    keeps = made.keeps;
+    added = made.added;
+    by_seat = made.by_seat;
+    then = made.then;
+  }
+
+  -- a shell in which a seat made events
   module _ {S : Type 0} (shown_of : S → ShellView C V M) (places_of : S → List (Kept M)) (leaves : SeatRow M → Type 0) (k : Knows (Opened C) (SeatRow M) Entry)
-      (taken given : S) (at : C) (lacks : Bool) (hand new : Work M) (point : Point)
-      (made : MakesTurn meaning at lacks hand new k (shown_of taken) (places_of taken) (shown_of given) (places_of given) point) where
+      (taken given : S) (new : Work M) (made : HasLed meaning new k (shown_of taken) (places_of taken) (shown_of given) (places_of given)) where
     abbrev left : SeatRow M
     left = row_of (shown_of given).core k.number (keeping (shown_of given).core new)
 

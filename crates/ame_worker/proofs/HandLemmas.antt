@@ -24,9 +24,9 @@ use Rattle.ame_shell.specs.Shell.{ShellView, GoesTo, IsShell}
 use Rattle.ame_worker.specs.declared.shared.Opened.{Opened}
 use Rattle.ame_worker.specs.Rows.{Kept, SeatRow, nothing_kept, kept_at, row_of, rows_in}
 use Rattle.ame_worker.specs.Shared.{opening_of, keeping, IsShared}
-use Rattle.ame_worker.proofs.Slots.{Slot, slot_at}
-use Rattle.ame_worker.proofs.StayLemmas.{SlotsStay, map-set}
-use Rattle.ame_worker.proofs.EntryLemmas.{Extends}
+use Rattle.ame_worker.specs.Slots.{Slot, SlotsStay, slot_at}
+use Rattle.ame_worker.proofs.StayLemmas.{map-set}
+use Rattle.ame_worker.specs.Leads.{Extends}
 use Rattle.ame_machine.specs.Meaning.{Meaning}
 
 pub some-is : {A : Type 0} (a b : A) → Some a ≡ Some b → a ≡ b

@@ -9,7 +9,7 @@ use Rattle.ame_term.specs.Tree.{Val, Tree}
 use Rattle.ame_rows.specs.MemoryView.{Log, no_log, row_at}
 use Rattle.ame_protocol.specs.declared.types.Task.{Task}
 use Rattle.ame_protocol.specs.Engine.Parts.{Parts, task_at}
-use Rattle.ame_worker.proofs.Slots.{Slot, empty_slot, start_of, slot_at}
+use Rattle.ame_worker.specs.Slots.{Slot, empty_slot, start_of, slot_at}
 
 -- slots with the same task, logs and term are the same
 pub slot-same : (a b : Slot) → a.task ≡ b.task → a.notes ≡ b.notes → a.start ≡ b.start → a ≡ b

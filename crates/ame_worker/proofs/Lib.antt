@@ -1,4 +1,3 @@
-pub mod Slots
 pub mod IdleLemmas
 pub mod StayLemmas
 pub mod EntryLemmas
@@ -8,3 +7,4 @@ pub mod HandLemmas
 pub mod GivenLemmas
 pub mod ThroughLemmas
 pub mod OpenLemmas
+pub mod LeadLemmas

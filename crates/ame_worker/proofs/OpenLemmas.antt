@@ -24,7 +24,7 @@ use Rattle.ame_shell.proofs.OverLemmas.{shell-starts, shell-resumes}
 use Rattle.ame_worker.specs.declared.shared.Opened.{Opened}
 use Rattle.ame_worker.specs.Rows.{Kept, nothing_kept, empty_row, kept_at, row_of}
 use Rattle.ame_worker.specs.Shared.{opening_of, opened_with, opened_as, IsShared}
-use Rattle.ame_worker.proofs.Slots.{Slot, slot_at, empty_slot}
+use Rattle.ame_worker.specs.Slots.{Slot, slot_at, empty_slot}
 use Rattle.ame_worker.proofs.IdleLemmas.{AreUnused, unused-slot, map-all-same, replicate-at}
 use Rattle.ame_worker.proofs.HandLemmas.{row-same}
 use Rattle.ame_machine.specs.Meaning.{Meaning}

@@ -31,7 +31,8 @@ use Rattle.ame_turn.proofs.VisitedLemmas.{visit-rows}
 use Rattle.ame_shell.specs.Shell.{ShellView}
 use Rattle.ame_shell.specs.Turned.{HasTurned}
 use Rattle.ame_worker.proofs.EntryLemmas.{turn-on}
-use Rattle.ame_worker.proofs.StayLemmas.{SlotsStay, begun-stays, read-stays, written-stays, allocated-stays, checked-stays, back-stays, noted-stays, cut-stays, tall-stays, refused-stays, undone-stays, gone-stays, ended-stays, left-stays, visited-stays}
+use Rattle.ame_worker.specs.Slots.{SlotsStay}
+use Rattle.ame_worker.proofs.StayLemmas.{begun-stays, read-stays, written-stays, allocated-stays, checked-stays, back-stays, noted-stays, cut-stays, tall-stays, refused-stays, undone-stays, gone-stays, ended-stays, left-stays, visited-stays}
 use Rattle.ame_machine.specs.Meaning.{Meaning}
 
 module _ {C V M : Type 0} (meaning : Meaning C V M) where

@@ -35,12 +35,8 @@ use Rattle.ame_protocol.specs.Waits.Noted.{has_noted}
 use Rattle.ame_protocol.specs.Visits.Stops.{told_task, has_been_cut, has_grown_tall}
 use Rattle.ame_protocol.specs.Visits.Visit.{has_visited, has_been_refused}
 use Rattle.ame_turn.proofs.EndsLemmas.{term-home}
-use Rattle.ame_worker.proofs.Slots.{start_of, slot_at}
+use Rattle.ame_worker.specs.Slots.{SlotsStay, start_of, slot_at}
 use Rattle.ame_worker.proofs.IdleLemmas.{slot-same}
-
--- the slot of each other seat stays
-abbrev pub SlotsStay : ℕ → Parts → Parts → Type 0
-SlotsStay seat old new = (other : ℕ) → other ≢ seat → slot_at new other ≡ slot_at old other
 
 -- the member of each other seat keeps its term
 abbrev TermsStay : ℕ → Parts → Roster Tree → Type 0

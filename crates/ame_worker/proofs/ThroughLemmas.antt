@@ -1,5 +1,5 @@
 -- A seat that tells that it has stopped has nothing at work, and a stop is kept.
-use Rattle.std.proofs.Common.{◌≡◌, ℕ, Bool, true, false, List, IsSome, refl, sym, ap, ◌∙◌, subst}
+use Rattle.std.proofs.Common.{◌≡◌, ℕ, Bool, true, false, List, Option, IsSome, refl, sym, ap, ◌∙◌, subst}
 use Rattle.std.specs.Prelude.{is_some, nat_lt, if◌then◌else◌}
 use Rattle.ame_journal.specs.declared.entry.Entry.{Entry}
 use Rattle.ame_pool.specs.declared.oldest.Oldest.{Oldest}
@@ -24,10 +24,12 @@ use Rattle.ame_worker.specs.declared.gate.Point.{Point}
 use Rattle.ame_worker.specs.declared.worker.Turned.{Turned}
 use Rattle.ame_worker.specs.declared.shared.Opened.{Opened}
 use Rattle.ame_worker.specs.Rows.{Kept, SeatRow, row_of}
+use Rattle.ame_worker.specs.Leads.{HasStopped}
 use Rattle.ame_worker.specs.Points.{point_of}
 use Rattle.ame_worker.specs.Shared.{keeping}
 use Rattle.ame_worker.specs.Turns.{HasGivenRow, MakesTurn}
 use Rattle.ame_worker.specs.Workers.{IsThrough}
+use Rattle.ame_machine.specs.MachineView.{MachineView}
 use Rattle.ame_machine.specs.Meaning.{Meaning}
 
 pub did-is : (p q : Point) → Turned.Did p ≡ Turned.Did q → p ≡ q
@@ -67,26 +69,27 @@ module _ {C V M : Type 0} where
   stops-so certificates (Pick.Member number) old new met is = absurd is
 
 module _ {C V M : Type 0} (meaning : Meaning C V M) where
+  -- a seat that tells that it has stopped
+  pub has-stopped : (seat : ℕ) (hand : Option MachineView) (old new : ShellView C V M) (deed : Deed) → HasTurned meaning seat hand old new deed
+      → (point : Point) (before after : ℕ) → point ≡ point_of deed before after → point ≡ Point.Stopped → HasStopped new.core seat
+  has-stopped seat hand old new deed turned point before after told e =
+      let is : deed ≡ Deed.Stopped = point-stopped deed before after (sym told ∙ e) in
+      let t : HasTurned meaning seat hand old new Deed.Stopped = subst (λ (d : Deed). HasTurned meaning seat hand old new d) is turned in
+      let event = (rowed meaning seat hand old.core t.core old.ends.told new.ends.told Deed.Stopped t.done).event in
+      let stops = stops-so (certificates_in (parts_of meaning old.core)) event.0 old.core t.core event.1.meets event.2 in
+      let core : new.core ≡ t.core = ap (λ (s : ShellView C V M). s.core) (t.stays refl) in
+      record {
+        idle = ap (λ (c : Core C V M). task_at c.tasks seat) core ∙ ap (λ (ts : List Task). task_at ts seat) stops.tasks ∙ event.1.idle;
+        stop = ap (λ (c : Core C V M). is_some c.stop) core ∙ stops.stop;
+      }
+
   pub is-through : (code : C) (lacks : Bool) (old new : Work M) (holding after : Knows (Opened C) (SeatRow M) Entry) (taken : ShellView C V M) (places : List (Kept M))
       (given : ShellView C V M) (kept : List (Kept M)) (point : Point) → MakesTurn meaning code lacks old new holding taken places given kept point
       → HasGivenRow (row_of given.core holding.number (keeping given.core new)) holding after → point ≡ Point.Stopped → IsThrough after
   is-through code lacks old new holding after taken places given kept point m gave e =
-      let seat = holding.number in
-      let deed : m.deed ≡ Deed.Stopped = point-stopped m.deed _ _ (sym m.told ∙ e) in
-      let turned : HasTurned meaning seat (stage_at meaning.stage code old) taken given Deed.Stopped =
-      subst (λ (d : Deed). HasTurned meaning seat (stage_at meaning.stage code old) taken given d) deed m.turned in
-      let event = (rowed meaning seat (stage_at meaning.stage code old) taken.core turned.core taken.ends.told given.ends.told Deed.Stopped turned.done).event in
-      let stops = stops-so (certificates_in (parts_of meaning taken.core)) event.0 taken.core turned.core event.1.meets event.2 in
-      let core : given.core ≡ turned.core = ap (λ (s : ShellView C V M). s.core) (turned.stays refl) in
+      let has = has-stopped holding.number (stage_at meaning.stage code old) taken given m.deed m.turned point _ _ m.told e in
       record {
         free = gave.free;
-        idle =
-            ap (λ (r : SeatRow M). r.task) gave.row
-            ∙ ap (λ (c : Core C V M). task_at c.tasks seat) core
-            ∙ ap (λ (ts : List Task). task_at ts seat) stops.tasks
-            ∙ event.1.idle;
-        marked =
-            ap (λ (r : SeatRow M). r.marked) gave.row
-            ∙ ap (λ (c : Core C V M). is_some c.stop) core
-            ∙ stops.stop;
+        idle = ap (λ (r : SeatRow M). r.task) gave.row ∙ has.idle;
+        marked = ap (λ (r : SeatRow M). r.marked) gave.row ∙ has.stop;
       }

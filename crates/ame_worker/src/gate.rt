@@ -19,7 +19,7 @@ pub enum Point {
     Stopped,
 }
 
-/// What each worker calls after each of its turns, once it has given the turn back. It may hold the worker.
+/// What each worker calls after each of its turns, once it has given the turn back, and one that leads after each event. It may hold the worker.
 pub trait Gate {
     fn pass(&self, seat: u32, point: Point);
 

@@ -3,6 +3,7 @@
 
 mod gate;
 mod hand;
+mod leading;
 mod opening;
 mod pause;
 mod points;

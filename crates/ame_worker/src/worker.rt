@@ -13,6 +13,7 @@ ghost use Rattle.ame_worker.specs.Workers.{IsSeated, IsReadyToTurn, IsThrough};
 
 use crate::gate::{Gate, Point};
 use crate::hand::{Played, hand};
+use crate::leading::{Led, lead_on};
 use crate::pause::pause;
 use crate::shared::{Opened, SeatRow, Shared};
 use ame_baton::{AnyRow, Baton, Seat, SeatAt};
@@ -27,11 +28,7 @@ use std::alloc::Global;
 use std::mem;
 use std::sync::{Arc, Wait};
 
-/// A fragment of so many steps is work enough for others to help: it takes as long as its turns, which only one worker has at a time.
-const HEAVY: u64 = 100;
-
-/// A worker: a seat at a shared shell, what it has at hand, the code, the limits, and how many steps its fragment had made when it last
-/// asked for the turn.
+/// A worker: a seat at a shared shell, what it has at hand, the code and the limits.
 pub struct Worker<M: Runner, K, D>
 where
     M::Code: Drop,
@@ -40,7 +37,6 @@ where
     pub work: Work<M>,
     pub code: Arc<M::Code>,
     pub limits: Limits,
-    pub steps: u64,
 }
 
 impl<M: Runner, K, D> Drop for Worker<M, K, D>
@@ -53,16 +49,7 @@ where
             work: _,
             code: _,
             limits: _,
-            steps: _,
         } = self;
-    }
-}
-
-/// The steps that the fragment at hand made.
-fn steps_of<M: Runner>(work: &Work<M>) -> u64 {
-    match work {
-        Work::Running(machine) => machine.steps(),
-        Work::Idle | Work::Undoing => 0,
     }
 }
 
@@ -94,7 +81,6 @@ where
             work: Work::Idle,
             code,
             limits,
-            steps: 0,
         }
     }
 
@@ -123,7 +109,6 @@ where
     {
         let code: &M::Code = &self.code;
         let lacks = prepare(alloc, code, self.limits.slice, &mut self.work).is_err();
-        self.steps = steps_of(&self.work);
         let Some(mut shared) = baton.try_take(rt, &mut self.seat) else {
             return Turned::Busy;
         };
@@ -135,16 +120,16 @@ where
         Turned::Did(point)
     }
 
-    /// Has turns while no other worker has any, until a stop is kept and its seat has nothing at work, which it tells, or until others
-    /// could help: a fragment made many steps, and there may be more of them, since the run began with some (`are_more`) or one was
-    /// committed.
+    /// Has turns while no other worker has any, and holds the turn from the first to the last: until a stop is kept and its seat has
+    /// nothing at work, which it tells, or until others could help: a fragment made many steps, and there may be more of them, since the
+    /// run began with some (`are_more`) or one was committed. Passes the gate after each.
     pub fn lead<R: Wait, G: Gate>(
         &mut self,
         rt: &R,
         alloc: Global,
         baton: &Baton<Shared<M, K, D>>,
         gate: &G,
-        mut are_more: bool,
+        are_more: bool,
     ) -> bool
         requires of { IsSeatOf baton.now self.old.seat }
         requires ready { IsReadyToTurn M.meaning.signature M.meaning.is_machine M.meaning.stage (arc_value self.old.code) self.old.limits (knows self.old.seat) self.old.work }
@@ -153,19 +138,24 @@ where
         ensures keeps { KeepsSeat (knows self.old.seat) (knows self.new.seat) }
         ensures through { result ≡ true → IsThrough (knows self.new.seat) }
     {
-        for _ in rt.forever() {
-            match self.turn(rt, alloc, baton, gate) {
-                Turned::Did(Point::Stopped) => return true,
-                Turned::Did(Point::Idle) | Turned::Busy => return false,
-                Turned::Did(point) => {
-                    if are_more && self.steps >= HEAVY {
-                        return false;
-                    }
-                    are_more = are_more || matches!(point, Point::Ran(_) | Point::Freed(_));
-                }
-            }
-        }
-        unreachable!()
+        let code: &M::Code = &self.code;
+        let Some(mut shared) = baton.try_take(rt, &mut self.seat) else {
+            return false;
+        };
+        let work = mem::replace(&mut self.work, Work::Idle);
+        let Led { work, is_over } = lead_on(
+            rt,
+            alloc,
+            &self.seat,
+            &mut shared,
+            code,
+            work,
+            gate,
+            are_more,
+        );
+        baton.give::<AnyRow, R>(rt, &mut self.seat, shared);
+        self.work = work;
+        is_over
     }
 
     /// Has turns until a stop is kept and its seat has nothing at work. It may wait, and sleeps where that takes long.
@@ -205,7 +195,6 @@ where
             work: _,
             code: _,
             limits: _,
-            steps: _,
         } = self;
         seat
     }

@@ -2,8 +2,7 @@
 
 ghost use Rattle.std.specs.Prelude.{◌≡◌, ◌<◌, ◌++◌, ℕ, Some, None, IfOk, OnOk, OnErr, IsTrue};
 ghost use Rattle.ame_pool.specs.Members.{is_ready};
-ghost use Rattle.ame_pool.specs.Calls.{IsAt, held};
-ghost use Rattle.ame_pool.specs.Keeps.{is_inside_at};
+ghost use Rattle.ame_pool.specs.Calls.{IsAt};
 ghost use Rattle.ame_pool.specs.declared.oldest.Oldest.{Oldest};
 ghost use Rattle.ame_pool.specs.Begin.{oldest as oldest_of};
 ghost use Rattle.ame_protocol.specs.Engine.Parts.{task_at};
@@ -22,7 +21,6 @@ use crate::answer::Begin;
 use crate::pick::{Pick, pick_by};
 use ame_journal::Entry;
 use ame_machine::Runner;
-use ame_pool::Pool;
 use ame_protocol::{Attempt, Stop, Task, Tried};
 use ame_term::NoMemory;
 
@@ -49,24 +47,6 @@ fn begun_task(inside: bool, attempt: Attempt) -> Task
     } else {
         Task::Running(attempt)
     }
-}
-
-/// Whether a member is inside.
-fn is_inside<M: Drop>(pool: &Pool<M>, number: u64) -> bool
-    ensures { result ≡ is_inside_at pool.now.members number }
-{
-    match pool.inside(number) {
-        Some(inside) => inside,
-        None => false,
-    }
-}
-
-/// A ready member is busy.
-fn hold<M: Drop>(pool: &mut Pool<M>, number: u64)
-    requires { IsAt is_ready number pool.old }
-    ensures { pool.new ≡ held number pool.old }
-{
-    pool.hold(number);
 }
 
 impl<M: Runner> Engine<M>
@@ -110,13 +90,12 @@ where
     {
         self.tried.reserve(self.limits.seats as usize)?;
         let attempt = attempt_now(number, self.base.entries(), self.journal.entries());
-        let task = begun_task(is_inside(&self.pool, number), attempt);
-        let machine = self.pool.copy(*self.tasks.allocator(), number)?;
-        hold(&mut self.pool, number);
-        self.tasks[seat as usize] = task;
+        let copy = self.pool.copy(*self.tasks.allocator(), number)?;
+        self.pool.begin(number);
+        self.tasks[seat as usize] = begun_task(copy.inside, attempt);
         self.turns += 1;
         self.counters.begins += 1;
-        Ok(machine)
+        Ok(copy.machine)
     }
 
     /// A seat begins the oldest ready member that may begin, and runs the machine that it is given. A turn is counted where a

@@ -61,10 +61,12 @@ pub(crate) fn make_room(
     journal.room()
 }
 
-/// Appends to a list that has room.
+/// Appends to a list that has room. Mostly nothing is to be appended.
 pub(crate) fn append<T: Copy>(list: &mut Vec<T>, more: &[T])
     requires { vec_len list.old + length more.now ≤ vec_capacity list.old }
     ensures { list.new.items ≡ list.old.items ++ more.now }
 {
-    let _ = list.extend_from_slice(more);
+    if !more.is_empty() {
+        let _ = list.extend_from_slice(more);
+    }
 }

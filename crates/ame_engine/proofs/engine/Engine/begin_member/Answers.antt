@@ -20,9 +20,9 @@ invariant_of-self-2 g c =
       whole = whole-begun g.M.Runner.meaning
           g.M.Copied.same g.met.M.Runner.same_machines g.met.M.Runner.stage_shown _ c.args.self.now c.self.view_is c.self.invariant.whole c.args.seat c.args.number
           c.requires.seat c.requires.idle c.requires.oldest c.requires.ready c.requires.left _ _ _ _ _ _
-          c.begun_task-task.ensures c.is_inside.ensures c.attempt_now-attempt.ensures c.entries.ensures.entries c.entries-2.ensures.entries
-          (c.hold.ensures ∙ ap (held c.args.number) c.in_ok-machine.ensures.pool) _ c.reserve.ensures.items c.requires.going;
-      places = places-begun c.self.inside.tasks.items c.args.seat _ _ c.begun_task-task.result enough;
+          c.begun_task.ensures c.in_ok-copy.ensures.inside c.attempt_now-attempt.ensures c.entries.ensures.entries c.entries-2.ensures.entries
+          (c.begin.ensures ∙ ap (held c.args.number) c.in_ok-copy.ensures.pool) _ c.reserve.ensures.items c.requires.going;
+      places = places-begun c.self.inside.tasks.items c.args.seat _ _ c.begun_task.result enough;
     }
 
 pub returns-clause-begun : goal.returns-clause-begun
@@ -30,5 +30,5 @@ returns-clause-begun g c =
     has-begun-after g.M.Runner.meaning
     g.M.Copied.same g.met.M.Runner.same_machines g.met.M.Runner.stage_shown _ c.args.self.now c.self.view_is c.self.invariant.whole c.args.seat c.args.number
     c.requires.seat c.requires.idle c.requires.oldest c.requires.ready c.requires.left _ _ _ _ _ _
-    c.begun_task-task.ensures c.is_inside.ensures c.attempt_now-attempt.ensures c.entries.ensures.entries c.entries-2.ensures.entries
-    (c.hold.ensures ∙ ap (held c.args.number) c.copy.ensures.pool) _ c.reserve.ensures.items c.in_ok-machine.machine c.in_ok-machine.ensures.machine c.requires.going
+    c.begun_task.ensures c.in_ok-copy.ensures.inside c.attempt_now-attempt.ensures c.entries.ensures.entries c.entries-2.ensures.entries
+    (c.begin.ensures ∙ ap (held c.args.number) c.in_ok-copy.ensures.pool) _ c.reserve.ensures.items c.in_ok-copy.copy.machine c.in_ok-copy.ensures.machine c.requires.going

@@ -1,8 +1,8 @@
-use Rattle.std.proofs.Common.{◌∙◌, sym, ap, arith}
+use Rattle.std.proofs.Common.{◌∙◌, ap, arith}
 use Rattle.ame_pool.proofs.Words.{Transition, is_watching, is_away, turned_at}
 use Rattle.ame_pool.proofs.MemberLemmas.{standing_is}
 use Rattle.ame_pool.proofs.WakeLemmas.{stirred_clears}
-use Rattle.ame_pool.proofs.KeptLemmas.{passes, at_weaker}
+use Rattle.ame_pool.proofs.KeptLemmas.{opened, at_weaker}
 use Rattle.ame_pool.proofs.FindLemmas.{watched_cleared}
 use Rattle.ame_pool.proofs.pool.Pool.stir.Goals as goal
 
@@ -12,10 +12,9 @@ turn-requires g c =
 
 pub invariant_of-self : goal.invariant_of-self
 invariant_of-self g c =
-    let m = c.member-member.result.now in
-    let is = passes (is_watching c.args.l.0) c.args.number _ c.args.self.now c.self.view_is c.requires m (sym c.member-member.ensures) in
-    rw c.turn.ensures (watched_cleared c.self.invariant c.args.number m (sym c.member-member.ensures) c.untouched.result.now c.untouched.ensures
-    c.unwatch.ensures (Transition.Stir c.args.l) (stirred_clears c.args.l.0 m.standing is))
+    let o = opened (is_watching c.args.l.0) c.args.number _ c.args.self.now c.self.view_is c.requires in
+    rw c.turn.ensures (watched_cleared c.self.invariant c.args.number o.member o.found c.unlist.ensures (Transition.Stir c.args.l)
+    (stirred_clears c.args.l.0 o.member.standing o.passes))
 
 pub returns : goal.returns
 returns g c = c.turn.ensures ∙ ap (turned_at c.args.number (Transition.Stir c.args.l)) c.self.view_is

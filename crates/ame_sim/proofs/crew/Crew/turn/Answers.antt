@@ -17,10 +17,10 @@ invariant_of-self g c =
 pub returns-clause-played : goal.returns-clause-played
 returns-clause-played g c =
     let shell = c.self.inside.shell in
-    let hand = stage_at g.M.Runner.meaning.stage shell.engine.code c.lacks_memory-lacks.new.work in
+    let hand = stage_at g.M.Runner.meaning.stage shell.engine.code c.prepare_seat-lacks.new.work in
     turn-played g.M.Runner.meaning c.args.seat hand _ _ _ c.turn-deed.result.deed c.member_at-before.result c.member_at.result c.member_told.result
     c.place_wanted-wanted.result c.place_told.result c.cells.result c.self.view_is
-    (λ s e. hand-on g.M.Runner.meaning shell.engine c.args.seat c.lacks_memory-lacks.new.work c.lacks_memory-lacks.ensures.fits s e) c.turn-deed.ensures.turned
+    (λ s e. hand-on g.M.Runner.meaning shell.engine c.args.seat c.prepare_seat-lacks.new.work c.prepare_seat-lacks.ensures.fits s e) c.turn-deed.ensures.turned
     c.member_at-before.ensures c.member_at.ensures c.member_told.ensures c.cells.ensures (c.place_wanted-wanted.ensures shell.engine.code) c.place_told.ensures
 
 pub returns-clause-keeps : goal.returns-clause-keeps

@@ -10,7 +10,7 @@ use Rattle.ame_worker.specs.Rows.{SeatRow}
 use Rattle.ame_worker.specs.Turns.{maker}
 use Rattle.ame_worker.specs.Workers.{IsSeated, IsReadyToTurn}
 use Rattle.ame_worker.proofs.WorkLemmas.{prepared-twice, prepared-can, ready-unless, lacks-where}
-use Rattle.ame_worker.proofs.GivenLemmas.{still-seated, ready-again, same-limits, makes-turn-of, may-give, gave-its-row}
+use Rattle.ame_worker.proofs.GivenLemmas.{still-seated, ready-again, same-limits, makes-turn-of, turn-leaves, may-give, gave-its-row}
 use Rattle.ame_worker.proofs.ThroughLemmas.{did-is, is-through}
 use Rattle.ame_worker.proofs.worker.Worker.turn.Goals as goal
 
@@ -83,8 +83,9 @@ pub give-requires-clause-may : goal.give-requires-clause-may
 give-requires-clause-may g c =
     may-give g.M.Runner.meaning
     (λ s. shown g.K.Sink.written g.K.Sink.faults g.D.Device.device_heard g.D.Device.device_faults s.shell.value.engine s.shell.value.sent s.shell.value.sink s.shell.value.devices.items)
-    (λ s. s.places.items) _ (knows c.try_take.new.seat) c.in-Some.shared c.hand-point.new.shared c.deref-code.result.now c.is_err-lacks.result c.replace-work.result c.hand-point.result.work
-    c.hand-point.result.point c.hand-point.ensures.makes tt
+    (λ s. s.places.items) _ (knows c.try_take.new.seat) c.in-Some.shared c.hand-point.new.shared c.hand-point.result.work
+    (turn-leaves g.M.Runner.meaning c.deref-code.result.now c.is_err-lacks.result c.replace-work.result c.hand-point.result.work (knows c.try_take.new.seat) _ _ _ _
+    c.hand-point.result.point c.hand-point.ensures.makes) tt
 
 pub returns-clause-did : goal.returns-clause-did
 returns-clause-did g c = λ point e.
@@ -115,7 +116,8 @@ returns-clause-did g c = λ point e.
       gives = c.give.ensures.given;
       gave = gave-its-row r
           (λ s. shown g.K.Sink.written g.K.Sink.faults g.D.Device.device_heard g.D.Device.device_faults s.shell.value.engine s.shell.value.sent s.shell.value.sink s.shell.value.devices.items)
-          (λ s. s.places.items) _ holding shared given c.deref-code.result.now c.is_err-lacks.result c.replace-work.result c.hand-point.result.work c.hand-point.result.point c.hand-point.ensures.makes
+          (λ s. s.places.items) _ holding shared given c.hand-point.result.work
+          (turn-leaves r c.deref-code.result.now c.is_err-lacks.result c.replace-work.result c.hand-point.result.work holding _ _ _ _ c.hand-point.result.point c.hand-point.ensures.makes)
           limits code (still-seated r.signature code limits k holding found.keeps c.requires.ready.seated) k.row
           found.found (knows c.give.new.seat) c.give.ensures.given;
     }

@@ -1,8 +1,7 @@
-use Rattle.ame_turn.proofs.ReadyLemmas.{can-prepare, prepared-fits}
+use Rattle.ame_turn.proofs.ReadyLemmas.{can-prepare, can-with, prepared-fits, prepared-with}
 use Rattle.std.proofs.Common.{ap, arith}
 use Rattle.ame_protocol.specs.declared.types.Limits.{Limits}
-use Rattle.ame_sim.proofs.CrewLemmas.{can-with, prepared-with}
-use Rattle.ame_sim.proofs.hands.lacks_memory.Goals as goal
+use Rattle.ame_turn.proofs.prepares.prepare_seat.Goals as goal
 
 pub prepare-requires-clause-can : goal.prepare-requires-clause-can
 prepare-requires-clause-can g c =

@@ -1,5 +1,5 @@
 -- What an engine keeps for each of its seats.
-use Rattle.std.specs.Prelude.{ℕ, Some, None}
+use Rattle.std.specs.Prelude.{◌≡◌, ◌≢◌, ℕ, Some, None}
 use Rattle.ame_term.specs.Tree.{Val, Tree, unit_tree}
 use Rattle.ame_pool.specs.Roster.{Roster}
 use Rattle.ame_rows.specs.MemoryView.{Log, no_log, row_at}
@@ -29,3 +29,7 @@ slot_at parts seat = record {
   notes = row_at parts.memory.rows seat;
   start = start_of parts.pool (task_at parts.tasks seat);
 }
+
+-- the slot of each other seat stays
+abbrev pub SlotsStay : ℕ → Parts → Parts → Type 0
+SlotsStay seat old new = (other : ℕ) → other ≢ seat → slot_at new other ≡ slot_at old other

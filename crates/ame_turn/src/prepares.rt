@@ -1,6 +1,6 @@
 //! What is done before a turn.
 
-ghost use Rattle.std.specs.Prelude.{◌≡◌, ◌<◌, false, OnOk, OnErr};
+ghost use Rattle.std.specs.Prelude.{◌≡◌, ◌<◌, true, false, OnOk, OnErr};
 ghost use Rattle.ame_engine.specs.Whole.{AreLimits};
 ghost use Rattle.ame_turn.specs.Ready.{CanGoOn, HasAdvanced, IsReady, CanBePrepared, IsPrepared, IsReadyWork};
 ghost use Rattle.ame_turn.specs.Work.{Fits};
@@ -68,6 +68,8 @@ where
     requires limits { AreLimits engine.now.limits }
     requires fits { Fits M.meaning engine.now seat work.old }
     ensures fits { Fits M.meaning engine.now seat work.new }
+    ensures prepared { IsPrepared M.meaning.is_machine M.meaning.stage engine.now.code engine.now.limits.slice work.old work.new }
+    ensures lacks { result ≡ true → IsReadyWork M.meaning.stage engine.now.code engine.now.limits.slice work.new → ⊥ }
     ensures ready { result ≡ false → IsReadyWork M.meaning.stage engine.now.code engine.now.limits.slice work.new }
 {
     engine.stands();

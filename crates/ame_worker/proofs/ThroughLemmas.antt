@@ -24,7 +24,7 @@ use Rattle.ame_worker.specs.declared.gate.Point.{Point}
 use Rattle.ame_worker.specs.declared.worker.Turned.{Turned}
 use Rattle.ame_worker.specs.declared.shared.Opened.{Opened}
 use Rattle.ame_worker.specs.Rows.{Kept, SeatRow, row_of}
-use Rattle.ame_worker.specs.Leads.{HasStopped}
+use Rattle.ame_worker.specs.Leads.{RestsAtStop}
 use Rattle.ame_worker.specs.Points.{point_of}
 use Rattle.ame_worker.specs.Shared.{keeping}
 use Rattle.ame_worker.specs.Turns.{HasGivenRow, MakesTurn}
@@ -71,7 +71,7 @@ module _ {C V M : Type 0} where
 module _ {C V M : Type 0} (meaning : Meaning C V M) where
   -- a seat that tells that it has stopped
   pub has-stopped : (seat : ℕ) (hand : Option MachineView) (old new : ShellView C V M) (deed : Deed) → HasTurned meaning seat hand old new deed
-      → (point : Point) (before after : ℕ) → point ≡ point_of deed before after → point ≡ Point.Stopped → HasStopped new.core seat
+      → (point : Point) (before after : ℕ) → point ≡ point_of deed before after → point ≡ Point.Stopped → RestsAtStop new.core seat
   has-stopped seat hand old new deed turned point before after told e =
       let is : deed ≡ Deed.Stopped = point-stopped deed before after (sym told ∙ e) in
       let t : HasTurned meaning seat hand old new Deed.Stopped = subst (λ (d : Deed). HasTurned meaning seat hand old new d) is turned in

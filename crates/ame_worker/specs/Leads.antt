@@ -28,7 +28,7 @@ pub record Extends {C V M : Type 0} (seat : ℕ) (old new : Core C V M) : Type 0
   pub stop : IsSome old.stop → IsSome new.stop
 
 -- the seat has nothing at work, and a stop is kept
-pub record HasStopped {C V M : Type 0} (core : Core C V M) (seat : ℕ) : Type 0 where
+pub record RestsAtStop {C V M : Type 0} (core : Core C V M) (seat : ℕ) : Type 0 where
   pub idle : task_at core.tasks seat ≡ Task.Idle
   pub stop : IsSome core.stop
 

@@ -4,7 +4,7 @@ ghost use Rattle.std.specs.Prelude.{◌≡◌, false, true, Some, IsSomeAnd, sli
 ghost use Rattle.ame_shell.specs.Shell.{shown};
 ghost use Rattle.ame_baton.specs.Batons.{knows};
 ghost use Rattle.ame_turn.specs.Ready.{CanBePrepared, IsPrepared, IsReadyWork};
-ghost use Rattle.ame_worker.specs.Leads.{IsAtHand, IsLed, HasLed, HasStopped};
+ghost use Rattle.ame_worker.specs.Leads.{IsAtHand, IsLed, HasLed, RestsAtStop};
 ghost use Rattle.ame_worker.specs.Shared.{IsShared};
 ghost use Rattle.ame_worker.specs.Workers.{IsSeated};
 
@@ -72,7 +72,7 @@ where
         (shown K.written K.faults D.device_heard D.device_faults shell.old.engine shell.old.sent shell.old.sink shell.old.devices.items)
         (shown K.written K.faults D.device_heard D.device_faults shell.new.engine shell.new.sent shell.new.sink shell.new.devices.items) }
     ensures can { CanBePrepared M.meaning.is_machine M.meaning.stage shell.new.engine.code shell.new.engine.limits.slice result.work }
-    ensures through { result.point ≡ Point.Stopped → HasStopped shell.new.engine seat }
+    ensures through { result.point ≡ Point.Stopped → RestsAtStop shell.new.engine seat }
 {
     shell.engine.stands();
     let before = member_at(&shell.engine, seat);
@@ -104,7 +104,7 @@ where
         (shown K.written K.faults D.device_heard D.device_faults shell.old.engine shell.old.sent shell.old.sink shell.old.devices.items)
         (shown K.written K.faults D.device_heard D.device_faults shell.new.engine shell.new.sent shell.new.sink shell.new.devices.items) }
     ensures can { CanBePrepared M.meaning.is_machine M.meaning.stage shell.new.engine.code shell.new.engine.limits.slice result.work }
-    ensures over { result.is_over ≡ true → HasStopped shell.new.engine seat }
+    ensures over { result.is_over ≡ true → RestsAtStop shell.new.engine seat }
 {
     let has_others = shell.engine.limits().seats > 1;
     let mut hand = work;
@@ -146,7 +146,7 @@ where
         (shown K.written K.faults D.device_heard D.device_faults shared.old.shell.value.engine shared.old.shell.value.sent shared.old.shell.value.sink shared.old.shell.value.devices.items) shared.old.places.items
         (shown K.written K.faults D.device_heard D.device_faults shared.new.shell.value.engine shared.new.shell.value.sent shared.new.shell.value.sink shared.new.shell.value.devices.items) shared.new.places.items }
     ensures can { CanBePrepared M.meaning.is_machine M.meaning.stage code.now shared.old.shell.value.engine.limits.slice result.work }
-    ensures over { result.is_over ≡ true → HasStopped shared.new.shell.value.engine (knows seat.now).number }
+    ensures over { result.is_over ≡ true → RestsAtStop shared.new.shell.value.engine (knows seat.now).number }
 {
     let number = seat.number();
     let shell = &mut *shared.shell;

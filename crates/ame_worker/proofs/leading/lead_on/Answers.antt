@@ -7,7 +7,7 @@ use Rattle.ame_shell.specs.Shell.{shown}
 use Rattle.ame_turn.specs.Ready.{CanBePrepared, IsPrepared}
 use Rattle.ame_turn.specs.Work.{Fits}
 use Rattle.ame_baton.specs.Batons.{knows}
-use Rattle.ame_worker.specs.Leads.{IsLed, HasStopped}
+use Rattle.ame_worker.specs.Leads.{IsLed, RestsAtStop}
 use Rattle.ame_worker.specs.Shared.{opening_of, keeping, IsShared}
 use Rattle.ame_worker.specs.Workers.{IsSeated}
 use Rattle.ame_worker.proofs.GivenLemmas.{some-and}
@@ -83,5 +83,5 @@ returns-clause-can g c =
 
 pub returns-clause-over : goal.returns-clause-over
 returns-clause-over g c = λ e.
-    subst (λ n. HasStopped c.keep.new.self.shell.value.engine n) c.number-number.ensures
-    (subst (λ box. HasStopped box.value.engine c.number-number.result) (sym c.keep.ensures.shell) (c.lead_shell-led.ensures.over e))
+    subst (λ n. RestsAtStop c.keep.new.self.shell.value.engine n) c.number-number.ensures
+    (subst (λ box. RestsAtStop box.value.engine c.number-number.result) (sym c.keep.ensures.shell) (c.lead_shell-led.ensures.over e))

@@ -110,7 +110,7 @@ module _ {C V M : Type 0} (meaning : Meaning C V M) where
   abbrev parts : Core C V M → Parts
   parts core = parts_of meaning core
 
-  -- an event of which meaning.devices are told nothing
+  -- an event of which devices are told nothing
   pub record IsRecorded (seat : ℕ) (old new : Core C V M) : Type 0 where
     pub code : new.code ≡ old.code
     pub limits : new.limits ≡ old.limits
@@ -187,7 +187,7 @@ module _ {C V M : Type 0} (meaning : Meaning C V M) where
         refl refl (Adds.one (note_entry EntryKind.Cut seat number s.steps (place_shown s)) refl refl refl) refl
     spends-silent hand (Some s) going (inr h) = stop-silent Stop.Spent refl h.1
 
-    -- the rest of what changes neither meaning.devices nor the output
+    -- the rest of what changes neither devices nor the output
     module _ (hand : Option MachineView) (before after : List Told) where
       abbrev Makes : Deed → Type 0
       Makes deed = Row meaning seat hand old new before after deed

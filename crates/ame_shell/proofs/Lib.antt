@@ -6,3 +6,4 @@ pub mod DeedLemmas
 pub mod SendLemmas
 pub mod TurnLemmas
 pub mod OverLemmas
+pub mod OrderLemmas

@@ -12,6 +12,7 @@ use Rattle.ame_protocol.specs.declared.stop.Stop.{Stop}
 use Rattle.ame_engine.specs.Core.{Core}
 use Rattle.ame_shell.specs.Ends.{Ends, ends_of}
 use Rattle.ame_shell.specs.Heard.{HaveHeardSince, HaveFailed}
+use Rattle.ame_shell.specs.declared.shell.Shell.{Shell}
 use Rattle.ame_shell.specs.Over.{AreOfSeats}
 
 -- What contracts see of a shell: its engine, how many bytes of the text were sent, and what sink and devices tell.
@@ -23,6 +24,11 @@ pub record ShellView (C V M : Type 0) : Type 0 where
 abbrev pub shown : {C V M K D : Type 0} → (K → Option (List ℕ)) → (K → ℕ) → (D → Option (List Heard)) → (D → ℕ) → Core C V M → ℕ → K → List D → ShellView C V M
 shown written faults heard device_faults core sent sink devices =
     record { core = core; sent = sent; ends = ends_of written faults heard device_faults sink devices }
+
+-- so of a whole shell
+abbrev pub shell_view : {M K D C V : Type 0} → (K → Option (List ℕ)) → (K → ℕ) → (D → Option (List Heard)) → (D → ℕ) → Shell M K D C V → ShellView C V M
+shell_view written faults heard device_faults shell =
+    shown written faults heard device_faults shell.engine shell.sent shell.sink shell.devices.items
 
 -- how it was opened: the code, the limits, the entries that were made before, and what the ends told
 pub record Opening (C : Type 0) : Type 0 where

@@ -1,5 +1,5 @@
--- What a seat's turn makes of a shell.
-use Rattle.std.specs.Prelude.{◌≡◌, ℕ, ◌+◌, ◌<◌, Bool, true, false, length, drop, Option}
+-- What turns need of a shell, and what one makes of it.
+use Rattle.std.specs.Prelude.{◌≡◌, ℕ, ◌+◌, ◌<◌, ◌≤◌, Bool, true, false, length, drop, Option}
 use Rattle.std.specs.Io.KnownBytes.{Appends}
 use Rattle.ame_io.specs.Counts.{HasRisen}
 use Rattle.ame_io.specs.Lines.{lines}
@@ -8,6 +8,7 @@ use Rattle.ame_machine.specs.MachineView.{MachineView}
 use Rattle.ame_protocol.specs.declared.stop.Stop.{Stop}
 use Rattle.ame_engine.specs.Core.{Core}
 use Rattle.ame_engine.specs.Stops.{stopped_by}
+use Rattle.ame_engine.specs.Whole.{AreLimits}
 use Rattle.ame_turn.specs.declared.work.Deed.{Deed}
 use Rattle.ame_turn.specs.Deeds.{IsDone}
 use Rattle.ame_shell.specs.Shell.{ShellView}
@@ -30,7 +31,14 @@ is_to_flush Deed.CameHome = true
 is_to_flush _ = false
 
 module _ {C V M : Type 0} (meaning : Meaning C V M) where
-  -- A seat has made its event, in which meaning.devices alone of the ends had a part, and the lines that came of it were sent.
+  -- The code is the engine's, and its limits are in range. There are devices enough, and no more was sent than there is.
+  pub record IsInOrder (core : Core C V M) (sent : ℕ) (code : C) (devices : ℕ) : Type 0 where
+    pub same : code ≡ core.code
+    pub limits : AreLimits core.limits
+    pub enough : (meaning.signature core.code).devices ≤ devices
+    pub within : sent ≤ length (lines core.output)
+
+  -- A seat has made its event, in which devices alone of the ends had a part, and the lines that came of it were sent.
   pub record HasTurned (seat : ℕ) (hand : Option MachineView) (old new : ShellView C V M) (deed : Deed) : Type 0 where
     pub core : Core C V M
     pub done : IsDone meaning seat hand old.core core old.ends.told new.ends.told deed

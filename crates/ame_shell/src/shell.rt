@@ -14,7 +14,7 @@ ghost use Rattle.ame_turn.specs.Ready.{IsReadyWork, CanBePrepared};
 ghost use Rattle.ame_turn.specs.Work.{stage_at, Fits};
 ghost use Rattle.ame_shell.specs.Ends.{ends_of};
 ghost use Rattle.ame_shell.specs.Over.{IsOverSince};
-ghost use Rattle.ame_shell.specs.Shell.{shown, Opening, IsShell};
+ghost use Rattle.ame_shell.specs.Shell.{shell_view, Opening, IsShell};
 ghost use Rattle.ame_shell.specs.Turned.{HasFlushed, is_to_flush as flushes_after, HasTurned};
 
 use crate::remains::Remains;
@@ -64,8 +64,8 @@ where
     pub fn flush(&mut self)
         requires within { self.old.sent ≤ length (lines self.old.engine.output) }
         requires going { self.old.engine.stop ≡ None }
-        ensures flushes { HasFlushed (shown K.written K.faults D.device_heard D.device_faults self.old.engine self.old.sent self.old.sink self.old.devices.items)
-            (shown K.written K.faults D.device_heard D.device_faults self.new.engine self.new.sent self.new.sink self.new.devices.items) }
+        ensures flushes { HasFlushed (shell_view K.written K.faults D.device_heard D.device_faults self.old)
+            (shell_view K.written K.faults D.device_heard D.device_faults self.new) }
         ensures devices { self.new.devices ≡ self.old.devices }
     {
         let text = self.engine.text();
@@ -84,8 +84,8 @@ where
         requires within { self.old.sent ≤ length (lines self.old.engine.output) }
         requires going { flushes_after deed ≡ true → self.old.engine.stop ≡ None }
         ensures flushes { flushes_after deed ≡ true
-            → HasFlushed (shown K.written K.faults D.device_heard D.device_faults self.old.engine self.old.sent self.old.sink self.old.devices.items)
-            (shown K.written K.faults D.device_heard D.device_faults self.new.engine self.new.sent self.new.sink self.new.devices.items) }
+            → HasFlushed (shell_view K.written K.faults D.device_heard D.device_faults self.old)
+            (shell_view K.written K.faults D.device_heard D.device_faults self.new) }
         ensures stays { flushes_after deed ≡ false → self.new ≡ self.old }
         ensures devices { self.new.devices ≡ self.old.devices }
     {
@@ -103,13 +103,13 @@ where
         requires devices { (M.meaning.signature self.old.engine.code).devices ≤ vec_len self.old.devices }
         requires sent { self.old.sent ≤ length (lines self.old.engine.output) }
         ensures turned { HasTurned M.meaning seat (stage_at M.meaning.stage self.old.engine.code work)
-            (shown K.written K.faults D.device_heard D.device_faults self.old.engine self.old.sent self.old.sink self.old.devices.items)
-            (shown K.written K.faults D.device_heard D.device_faults self.new.engine self.new.sent self.new.sink self.new.devices.items) result.deed }
+            (shell_view K.written K.faults D.device_heard D.device_faults self.old)
+            (shell_view K.written K.faults D.device_heard D.device_faults self.new) result.deed }
         ensures lacks { lacks ≡ true → self.old.engine.stop ≡ None → result.deed ≡ Deed.Lacked }
         ensures due { lacks ≡ false → LacksWhereDue self.old.engine seat (stage_at M.meaning.stage self.old.engine.code work) result.deed }
         ensures keeps { (opening : Opening M.Code)
-            → IsShell M.meaning.program opening (shown K.written K.faults D.device_heard D.device_faults self.old.engine self.old.sent self.old.sink self.old.devices.items)
-            → IsShell M.meaning.program opening (shown K.written K.faults D.device_heard D.device_faults self.new.engine self.new.sent self.new.sink self.new.devices.items) }
+            → IsShell M.meaning.program opening (shell_view K.written K.faults D.device_heard D.device_faults self.old)
+            → IsShell M.meaning.program opening (shell_view K.written K.faults D.device_heard D.device_faults self.new) }
         ensures fits { Fits M.meaning self.new.engine seat result.work }
         ensures others { (other : ℕ) (rest : Work M) → other ≢ seat → Fits M.meaning self.old.engine other rest
             → Fits M.meaning self.new.engine other rest }
@@ -144,7 +144,7 @@ where
         requires idle { (seat : ℕ) → task_at self.engine.tasks seat ≡ Task.Idle }
         ensures told { result.ended ≡ end_of (stopped_by Stop.NoMemory self.engine) }
         ensures over { (opening : Opening M.Code)
-            → IsShell M.meaning.program opening (shown K.written K.faults D.device_heard D.device_faults self.engine self.sent self.sink self.devices.items)
+            → IsShell M.meaning.program opening (shell_view K.written K.faults D.device_heard D.device_faults self)
             → IsOverSince opening.base (M.meaning.program opening.code) (M.meaning.signature opening.code) opening.limits (M.meaning.value_of opening.code) opening.ends result.ended
             (ends_of K.written K.faults D.device_heard D.device_faults result.sink result.devices.items) }
     {
@@ -159,7 +159,7 @@ where
         requires stopped { IsSome self.engine.stop }
         ensures told { result.ended ≡ end_of self.engine }
         ensures over { (opening : Opening M.Code)
-            → IsShell M.meaning.program opening (shown K.written K.faults D.device_heard D.device_faults self.engine self.sent self.sink self.devices.items)
+            → IsShell M.meaning.program opening (shell_view K.written K.faults D.device_heard D.device_faults self)
             → IsOverSince opening.base (M.meaning.program opening.code) (M.meaning.signature opening.code) opening.limits (M.meaning.value_of opening.code) opening.ends result.ended
             (ends_of K.written K.faults D.device_heard D.device_faults result.sink result.devices.items) }
     {

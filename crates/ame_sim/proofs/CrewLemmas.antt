@@ -24,6 +24,7 @@ use Rattle.ame_engine.specs.Stops.{stopped_by}
 use Rattle.ame_engine.specs.Whole.{AreLimits}
 use Rattle.ame_shell.specs.Shell.{ShellView}
 use Rattle.ame_shell.specs.Turned.{HasTurned}
+use Rattle.ame_shell.proofs.OrderLemmas.{order-stays}
 use Rattle.ame_sim.specs.Places.{member_told, place_wanted, place_told}
 use Rattle.ame_sim.specs.Played.{HasPlayed}
 use Rattle.ame_turn.specs.declared.work.Deed.{Deed}
@@ -45,16 +46,18 @@ module _ {C V M : Type 0} (meaning : Meaning C V M) where
       → parts_of meaning core ≡ started (meaning.program code) (meaning.signature code) limits 0 → hands ≡ replicate limits.seats work.Idle
       → (meaning.signature core.code).devices ≤ tools → AreLimits limits → IsCrew meaning core 0 code hands tools
   crew-starts core code hands limits tools same starts all enough right = record {
-    same = same;
+    order = record {
+      same = same;
+      limits = subst AreLimits (ap (λ (p : Parts). p.limits) (sym starts)) right;
+      enough = enough;
+      within = omega arith;
+    };
     count = ap length all ∙ length-replicate limits.seats work.Idle ∙ ap (λ (p : Parts). p.limits.seats) (sym starts);
     fit =
         λ seat.
         let idle : task_at core.tasks seat ≡ Task.Idle = ap (λ (p : Parts). task_at p.tasks seat) starts ∙ same-all limits.seats seat Task.Idle in
         let nothing : slice_index_or hands seat work.Idle ≡ work.Idle = ap (λ (s : List (Work M)). slice_index_or s seat work.Idle) all ∙ same-all limits.seats seat work.Idle in
         subst (λ (w : Work M). Fits meaning core seat w) (sym nothing) idle;
-    limits = subst AreLimits (ap (λ (p : Parts). p.limits) (sym starts)) right;
-    enough = enough;
-    within = omega arith;
   }
 
   -- and after a seat's turn
@@ -65,12 +68,9 @@ module _ {C V M : Type 0} (meaning : Meaning C V M) where
       → after ≡ before → later ≤ length (lines new.output)
       → IsCrew meaning new later code (set (set hands seat mid) seat last) after
   crew-turned old new code hands seat mid last before after sent later crew within same limits fits others tools more = record {
-    same = crew.same ∙ sym same;
+    order = order-stays meaning old new code sent later before after crew.order same limits tools more;
     count = length-set (set hands seat mid) seat last ∙ length-set hands seat mid ∙ crew.count ∙ ap (λ (l : Limits). l.seats) (sym limits);
     fit = λ other. by other (which other seat);
-    limits = subst AreLimits (sym limits) crew.limits;
-    enough = subst (λ (n : ℕ). (meaning.signature new.code).devices ≤ n) (sym tools) (subst (λ (c : C). (meaning.signature c).devices ≤ before) (sym same) crew.enough);
-    within = more;
   }
     where
       by : (other : ℕ) → (other ≡ seat) ⊎ ((other ≡ seat) → ⊥)
@@ -105,12 +105,9 @@ module _ {C V M : Type 0} (meaning : Meaning C V M) where
   pub crew-stopped : (why : Stop) (core : Core C V M) (sent : ℕ) (code : C) (hands : List (Work M)) (tools : ℕ) → IsCrew meaning core sent code hands tools
       → IsCrew meaning (stopped_by why core) sent code hands tools
   crew-stopped why core sent code hands tools crew = record {
-    same = crew.same;
-    limits = crew.limits;
+    order = order-stays meaning core (stopped_by why core) code sent sent tools tools crew.order refl refl refl crew.order.within;
     count = crew.count;
     fit = λ seat. fits-stopped why core seat (slice_index_or hands seat work.Idle) (crew.fit seat);
-    enough = crew.enough;
-    within = crew.within;
   }
 
   -- where the machine at hand stands is where the seat's run stands

@@ -1,19 +1,18 @@
 -- What is so of a crew.
-use Rattle.std.specs.Prelude.{◌≡◌, ℕ, ◌+◌, ◌-◌, ◌*◌, ◌<◌, ◌≤◌, Bool, true, false, List, Option, Some, None, length, slice_index_or}
+use Rattle.std.specs.Prelude.{◌≡◌, ℕ, ◌+◌, ◌-◌, ◌*◌, ◌<◌, Bool, true, false, List, Option, Some, None, length, slice_index_or}
 use Rattle.ame_sim.specs.Questions.{count_of}
 use Rattle.ame_engine.specs.declared.pick.Pick.{Pick}
 use Rattle.ame_protocol.specs.declared.stop.Stop.{Stop}
 use Rattle.ame_engine.specs.Begins.{pick_of}
 use Rattle.ame_engine.specs.Core.{Core}
 use Rattle.ame_engine.specs.Stops.{stopped_by}
-use Rattle.ame_engine.specs.Whole.{AreLimits}
-use Rattle.ame_io.specs.Lines.{lines}
 use Rattle.ame_pool.specs.Begin.{oldest}
 use Rattle.ame_pool.specs.declared.oldest.Oldest.{Oldest}
 use Rattle.ame_protocol.specs.declared.types.Task.{Task}
 use Rattle.ame_protocol.specs.Engine.Parts.{task_at}
 use Rattle.ame_rows.specs.MemoryView.{row_at}
 use Rattle.ame_shell.specs.Shell.{ShellView}
+use Rattle.ame_shell.specs.Turned.{IsInOrder}
 use Rattle.ame_turn.specs.declared.work.Work.{Work}
 use Rattle.ame_turn.specs.declared.work.Work.TheVariants as work
 use Rattle.ame_turn.specs.Work.{Fits}
@@ -30,15 +29,11 @@ picks_left None turns waits = turns * (length waits + 1) + (length waits - count
 picks_left (Some why) turns waits = 0
 
 module _ {C V M : Type 0} (meaning : Meaning C V M) where
-  -- The code is the engine's, and its limits are in range. What each seat has at hand fits. There are devices enough, and no more was
-  -- sent than there is.
-  pub record IsCrew (core : Core C V M) (sent : ℕ) (code : C) (hands : List (Work M)) (tools : ℕ) : Type 0 where
-    pub same : code ≡ core.code
-    pub limits : AreLimits core.limits
+  -- The shell is in order. Something is kept for each seat, and it fits.
+  pub record IsCrew (core : Core C V M) (sent : ℕ) (code : C) (hands : List (Work M)) (devices : ℕ) : Type 0 where
+    pub order : IsInOrder meaning core sent code devices
     pub count : length hands ≡ core.limits.seats
     pub fit : (seat : ℕ) → Fits meaning core seat (slice_index_or hands seat work.Idle)
-    pub enough : (meaning.signature core.code).devices ≤ tools
-    pub within : sent ≤ length (lines core.output)
 
 module _ {C V M : Type 0} where
   -- memory was lacking, and that stop is kept

@@ -47,12 +47,12 @@ where
 {
     ghost use Rattle.std.specs.Prelude.{vec_len};
     ghost use Rattle.std.specs.Arc.{arc_value};
-    ghost use Rattle.ame_shell.specs.Shell.{ShellView, shown};
+    ghost use Rattle.ame_shell.specs.Shell.{ShellView, shell_view};
     ghost use Rattle.ame_sim.specs.Crew.{IsCrew};
 
     ghost Value = { ShellView M.Code M.Value M };
 
-    ghost view = { λ c. shown K.written K.faults D.device_heard D.device_faults c.shell.engine c.shell.sent c.shell.sink c.shell.devices.items };
+    ghost view = { λ c. shell_view K.written K.faults D.device_heard D.device_faults c.shell };
 
     ghost invariant = { λ c. IsCrew M.meaning c.shell.engine c.shell.sent (arc_value c.code) c.hands.items (vec_len c.shell.devices) };
 }

@@ -2,4 +2,4 @@ mod CrossLemmas
 mod TeamLemmas
 mod AfterLemmas
 mod EndLemmas
-pub mod ChangeLemmas
+mod ChangeLemmas

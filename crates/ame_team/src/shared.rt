@@ -5,7 +5,7 @@ ghost use Rattle.std.specs.Arc.{arc_value};
 ghost use Rattle.ame_engine.specs.Whole.{AreLimits};
 ghost use Rattle.ame_shell.specs.Ends.{ends_of};
 ghost use Rattle.ame_shell.specs.Over.{IsOverSince};
-ghost use Rattle.ame_shell.specs.Shell.{shown};
+ghost use Rattle.ame_shell.specs.Shell.{shell_view};
 ghost use Rattle.ame_worker.specs.Rows.{empty_row};
 ghost use Rattle.ame_worker.specs.Shared.{opened_as, IsShared};
 
@@ -46,7 +46,7 @@ where
     requires devices { (M.meaning.signature shared.shell.value.engine.code).devices ≤ vec_len shared.shell.value.devices }
     requires stands { IsShared M.meaning
         (opened_as shared.shell.value.engine (ends_of K.written K.faults D.device_heard D.device_faults shared.sink_before.value shared.shell.value.devices.items))
-        (shown K.written K.faults D.device_heard D.device_faults shared.shell.value.engine shared.shell.value.sent shared.shell.value.sink shared.shell.value.devices.items)
+        (shell_view K.written K.faults D.device_heard D.device_faults shared.shell.value)
         shared.places.items (replicate shared.shell.value.engine.limits.seats empty_row) [] }
     requires codes { All (λ it. arc_value it ≡ arc_value code) room.codes.items }
     requires count { vec_len room.codes + 1 ≡ shared.shell.value.engine.limits.seats }

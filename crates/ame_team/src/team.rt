@@ -39,10 +39,10 @@ where
     R: Wait,
     requires some { 0 < length workers.old }
     requires of { All (λ w. IsSeatOf baton.now w.seat) workers.old }
-    requires ready { All (λ w. IsReadyToTurn M.meaning.signature M.meaning.is_machine M.meaning.stage (arc_value w.code) w.limits (knows w.seat) w.work) workers.old }
+    requires ready { All (λ w. IsReadyToTurn M.meaning (arc_value w.code) w.limits (knows w.seat) w.work) workers.old }
     ensures count { length workers.new ≡ length workers.old }
     ensures of { All (λ w. IsSeatOf baton.now w.seat) workers.new }
-    ensures ready { All (λ w. IsReadyToTurn M.meaning.signature M.meaning.is_machine M.meaning.stage (arc_value w.code) w.limits (knows w.seat) w.work) workers.new }
+    ensures ready { All (λ w. IsReadyToTurn M.meaning (arc_value w.code) w.limits (knows w.seat) w.work) workers.new }
     ensures keeps { (i : ℕ) (d : Worker M K D M.Code M.Value) → i < length workers.old
         → KeepsSeat (knows (slice_index_or workers.old i d).seat) (knows (slice_index_or workers.new i d).seat) }
 {
@@ -70,7 +70,7 @@ where
     R: Threads + Wait + Sync,
     requires some { 0 < length workers.old }
     requires of { All (λ w. IsSeatOf baton.now w.seat) workers.old }
-    requires ready { All (λ w. IsReadyToTurn M.meaning.signature M.meaning.is_machine M.meaning.stage (arc_value w.code) w.limits (knows w.seat) w.work) workers.old }
+    requires ready { All (λ w. IsReadyToTurn M.meaning (arc_value w.code) w.limits (knows w.seat) w.work) workers.old }
     ensures count { length workers.new ≡ length workers.old }
     ensures of { (i : ℕ) (d : Worker M K D M.Code M.Value) → i < length workers.old → IsSeatOf baton.now (slice_index_or workers.new i d).seat }
     ensures keeps { (i : ℕ) (d : Worker M K D M.Code M.Value) → i < length workers.old
@@ -80,7 +80,7 @@ where
     let is_over = lead(rt, alloc, baton, gate, workers, are_more);
     let threads = if is_over { 1 } else { workers.len() };
     let work = |_: usize, w: &mut Worker<M, K, D>|
-        requires { IsSeatOf baton.now w.now.seat × IsReadyToTurn M.meaning.signature M.meaning.is_machine M.meaning.stage (arc_value w.now.code) w.now.limits (knows w.now.seat) w.now.work }
+        requires { IsSeatOf baton.now w.now.seat × IsReadyToTurn M.meaning (arc_value w.now.code) w.now.limits (knows w.now.seat) w.now.work }
         ensures of { IsSeatOf baton.entry.now w.exit.now.seat }
         ensures keeps { KeepsSeat (knows w.entry.now.seat) (knows w.exit.now.seat) }
         ensures through { IsThrough (knows w.exit.now.seat) }
@@ -109,7 +109,7 @@ where
     ensures count { vec_len result ≡ limits.seats }
     ensures seats { (i : ℕ) (w : Worker M K D M.Code M.Value) → slice_get result.items i ≡ Some w
         → IsSeatAt baton.now (knows first).fixed limits.seats i w.seat }
-    ensures ready { All (λ w. IsReadyToTurn M.meaning.signature M.meaning.is_machine M.meaning.stage (arc_value w.code) w.limits (knows w.seat) w.work) result.items }
+    ensures ready { All (λ w. IsReadyToTurn M.meaning (arc_value w.code) w.limits (knows w.seat) w.work) result.items }
 {
     let (mut first, mut workers, mut codes) = (first, room, codes);
     for _ in 1..limits.seats {

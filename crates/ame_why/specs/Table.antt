@@ -32,17 +32,17 @@ kind_words EntryKind.Cut next = codes "was cut off, and taken back"
 kind_words EntryKind.Tall next = codes "was taken back: a value would be too high"
 
 -- a number behind a space
-abbrev pub listed : ℕ → List ℕ
-listed n = codes " " ++ decimal n
+abbrev pub spaced_number : ℕ → List ℕ
+spaced_number n = codes " " ++ decimal n
 
 -- an integer behind a space
-abbrev pub listed_line : ℤ → List ℕ
-listed_line x = codes " " ++ signed_decimal x
+abbrev pub spaced_integer : ℤ → List ℕ
+spaced_integer x = codes " " ++ signed_decimal x
 
 -- which locations were made, if any were
 abbrev pub made_words : List ℕ → List ℕ
 made_words [] = []
-made_words (l ∷ made) = codes ", made" ++ flat_map listed (l ∷ made)
+made_words (l ∷ made) = codes ", made" ++ flat_map spaced_number (l ∷ made)
 
 -- what a device answered, if one was called
 abbrev pub answer_shown : Option ℤ → List ℕ
@@ -70,7 +70,7 @@ counts n entry starter = column 5 n ++ column 5 entry.seat ++ column 9 entry.num
 -- which lines were printed, if any were
 abbrev pub printed_words : List ℤ → List ℕ
 printed_words [] = []
-printed_words (x ∷ printed) = codes ", printed" ++ flat_map listed_line (x ∷ printed)
+printed_words (x ∷ printed) = codes ", printed" ++ flat_map spaced_integer (x ∷ printed)
 
 -- what an entry left: locations, an answer, lines
 unfoldable pub left_words : Entry → List ℤ → List ℕ

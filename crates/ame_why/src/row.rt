@@ -3,7 +3,7 @@
 ghost use Rattle.std.specs.Prelude.{◌≡◌, ◌++◌, OnOk, decimal, map};
 ghost use Rattle.std.specs.List.{flat_map};
 ghost use Rattle.ame_why.specs.Table as spec;
-ghost use Rattle.ame_why.specs.Table.{listed, listed_line, made_words, answer_shown, printed_words};
+ghost use Rattle.ame_why.specs.Table.{spaced_number, spaced_integer, made_words, answer_shown, printed_words};
 
 use crate::page::{append, append_column, append_told};
 use crate::starter_column::append_starter;
@@ -113,12 +113,12 @@ fn append_made(page: &mut Vec<u8>, made: &[Loc]) -> Result<(), NoMemory>
         return Ok(());
     }
     append(page, b", made")?;
-    append_listed(page, made)
+    append_numbers(page, made)
 }
 
 /// Adds each location, behind a space.
-fn append_listed(page: &mut Vec<u8>, made: &[Loc]) -> Result<(), NoMemory>
-    ensures { OnOk result (page.new.items ≡ page.old.items ++ flat_map listed (map (λ l. l.0) made.now)) }
+fn append_numbers(page: &mut Vec<u8>, made: &[Loc]) -> Result<(), NoMemory>
+    ensures { OnOk result (page.new.items ≡ page.old.items ++ flat_map spaced_number (map (λ l. l.0) made.now)) }
 {
     for location in made {
         let mut buffer = Buffer::new();
@@ -151,7 +151,7 @@ fn append_printed(page: &mut Vec<u8>, printed: &[i64]) -> Result<(), NoMemory>
 
 /// Adds each integer, behind a space.
 fn append_lines(page: &mut Vec<u8>, printed: &[i64]) -> Result<(), NoMemory>
-    ensures { OnOk result (page.new.items ≡ page.old.items ++ flat_map listed_line printed.now) }
+    ensures { OnOk result (page.new.items ≡ page.old.items ++ flat_map spaced_integer printed.now) }
 {
     for line in printed {
         append_told(page, b" ", *line)?;

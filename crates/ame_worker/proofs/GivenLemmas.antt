@@ -5,7 +5,6 @@ use Rattle.std.specs.Prelude.{IsSomeAnd}
 use Rattle.std.proofs.lemmas.List.{get_or-set_same}
 use Rattle.std.proofs.lemmas.Option.{slice_get_within}
 use Rattle.ame_journal.specs.declared.entry.Entry.{Entry}
-use Rattle.ame_machine.specs.MachineView.{MachineView}
 use Rattle.ame_protocol.specs.declared.types.Limits.{Limits}
 use Rattle.ame_turn.specs.declared.work.Deed.{Deed}
 use Rattle.ame_turn.specs.declared.work.Work.{Work}
@@ -114,16 +113,16 @@ still-seated signature code limits before after keeps s = record {
 }
 
 -- and is ready for its next turn
-pub ready-again : {C M : Type 0} (signature : C → Signature) (is_machine : C → M → Type 0) (stage : C → M → MachineView) (code : C) (limits : Limits)
-    (before after : Knows (Opened C) (SeatRow M) Entry) (left : SeatRow M) (hand : Work M) → HasGivenRow left before after → left.hand ≡ hand
-    → IsSeated signature code limits before → CanBePrepared is_machine stage code limits.slice hand
-    → IsReadyToTurn signature is_machine stage code limits after hand
-ready-again {C} {M} signature is_machine stage code limits before after left hand gave same seated can = record {
-  seated = still-seated signature code limits before after gave.keeps seated;
+pub ready-again : {C V M : Type 0} (meaning : Meaning C V M) (code : C) (limits : Limits) (before after : Knows (Opened C) (SeatRow M) Entry)
+    (left : SeatRow M) (hand : Work M) → HasGivenRow left before after → left.hand ≡ hand → IsSeated meaning.signature code limits before
+    → CanBePrepared meaning.is_machine meaning.stage code limits.slice hand → IsReadyToTurn meaning code limits after hand
+ready-again {C} {V} {M} meaning code limits before after left hand gave same seated can = record {
+  seated = still-seated meaning.signature code limits before after gave.keeps seated;
   free = gave.free;
   prepared =
-      subst (λ (w : Work M). IsPrepared is_machine stage code limits.slice w hand) (sym (ap (λ (r : SeatRow M). r.hand) gave.row ∙ same))
-      (prepared-none is_machine stage code limits.slice hand can);
+      subst (λ (w : Work M). IsPrepared meaning.is_machine meaning.stage code limits.slice w hand)
+      (sym (ap (λ (r : SeatRow M). r.hand) gave.row ∙ same))
+      (prepared-none meaning.is_machine meaning.stage code limits.slice hand can);
   can = can;
 }
 

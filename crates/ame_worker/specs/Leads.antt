@@ -1,16 +1,15 @@
 -- What a seat makes of a shell that has one turn after another, while no other seat has any.
-use Rattle.std.specs.Prelude.{◌≡◌, ◌≢◌, ℕ, ◌<◌, ◌≤◌, ◌++◌, List, length, All, Some, IsSome, slice_set}
-use Rattle.ame_io.specs.Lines.{lines}
+use Rattle.std.specs.Prelude.{◌≡◌, ◌≢◌, ℕ, ◌<◌, ◌++◌, List, All, Some, IsSome, slice_set}
 use Rattle.ame_journal.specs.declared.entry.Entry.{Entry}
 use Rattle.ame_machine.specs.Meaning.{Meaning}
 use Rattle.ame_protocol.specs.declared.types.Task.{Task}
 use Rattle.ame_protocol.specs.Engine.Parts.{task_at}
 use Rattle.ame_engine.specs.Core.{Core}
 use Rattle.ame_engine.specs.Seen.{parts_of}
-use Rattle.ame_engine.specs.Whole.{AreLimits}
 use Rattle.ame_turn.specs.declared.work.Work.{Work}
 use Rattle.ame_turn.specs.Work.{Fits}
 use Rattle.ame_shell.specs.Shell.{ShellView, Opening, IsShell}
+use Rattle.ame_shell.specs.Turned.{IsInOrder}
 use Rattle.ame_baton.specs.declared.view.Knows.{Knows}
 use Rattle.ame_worker.specs.declared.shared.Opened.{Opened}
 use Rattle.ame_worker.specs.Rows.{Kept, SeatRow, row_of}
@@ -33,15 +32,11 @@ pub record RestsAtStop {C V M : Type 0} (core : Core C V M) (seat : ℕ) : Type 
   pub stop : IsSome core.stop
 
 module _ {C V M : Type 0} (meaning : Meaning C V M) where
-  -- The code is the engine's, and its limits are in range. The seat is one of its own, and what it has at hand fits. There are devices
-  -- enough, and no more was sent than there is.
+  -- The shell is in order. The seat is one of its own, and what it has at hand fits.
   pub record IsAtHand (core : Core C V M) (sent : ℕ) (seat : ℕ) (code : C) (hand : Work M) (devices : ℕ) : Type 0 where
-    pub same : code ≡ core.code
-    pub limits : AreLimits core.limits
+    pub order : IsInOrder meaning core sent code devices
     pub there : seat < core.limits.seats
     pub fit : Fits meaning core seat hand
-    pub enough : (meaning.signature core.code).devices ≤ devices
-    pub within : sent ≤ length (lines core.output)
 
   -- What the engine has of the other seats stays, and what these have at hand fits still. The shell is as it is from its opening on.
   pub record IsLed (seat : ℕ) (old new : ShellView C V M) : Type 0 where

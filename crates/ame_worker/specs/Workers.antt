@@ -2,7 +2,7 @@
 use Rattle.ame_term.specs.Signature.{Signature}
 use Rattle.std.specs.Prelude.{◌≡◌, ◌≤◌, ◌<◌, true, false, Some, length}
 use Rattle.ame_journal.specs.declared.entry.Entry.{Entry}
-use Rattle.ame_machine.specs.MachineView.{MachineView}
+use Rattle.ame_machine.specs.Meaning.{Meaning}
 use Rattle.ame_protocol.specs.declared.types.Limits.{Limits}
 use Rattle.ame_protocol.specs.declared.types.Task.{Task}
 use Rattle.ame_engine.specs.Whole.{AreLimits}
@@ -23,13 +23,13 @@ pub record IsSeated {C M : Type 0} (signature : C → Signature) (code : C) (lim
   pub number : k.number < limits.seats
   pub seats : k.seats ≡ limits.seats
 
-module _ {C M : Type 0} (signature : C → Signature) (is_machine : C → M → Type 0) (stage : C → M → MachineView) where
+module _ {C V M : Type 0} (meaning : Meaning C V M) where
   -- It hasn't the turn. What it has at hand is what it had when it gave the turn, but for steps that its machine made alone.
   pub record IsReadyToTurn (code : C) (limits : Limits) (k : Knows (Opened C) (SeatRow M) Entry) (hand : Work M) : Type 0 where
-    pub seated : IsSeated signature code limits k
+    pub seated : IsSeated meaning.signature code limits k
     pub free : k.holds ≡ false
-    pub prepared : IsPrepared is_machine stage code limits.slice k.row.hand hand
-    pub can : CanBePrepared is_machine stage code limits.slice hand
+    pub prepared : IsPrepared meaning.is_machine meaning.stage code limits.slice k.row.hand hand
+    pub can : CanBePrepared meaning.is_machine meaning.stage code limits.slice hand
 
 -- It has nothing at work, and a stop was kept when it gave the turn.
 pub record IsThrough {C M : Type 0} (k : Knows (Opened C) (SeatRow M) Entry) : Type 0 where

@@ -2,7 +2,7 @@
 
 ghost use Rattle.std.specs.Prelude.{◌≡◌, false, Some, IsSomeAnd, slice_get};
 ghost use Rattle.ame_baton.specs.Batons.{knows};
-ghost use Rattle.ame_shell.specs.Shell.{shown};
+ghost use Rattle.ame_shell.specs.Shell.{shell_view};
 ghost use Rattle.ame_turn.specs.Ready.{CanBePrepared, IsPrepared, IsReadyWork};
 ghost use Rattle.ame_worker.specs.Shared.{IsShared};
 ghost use Rattle.ame_worker.specs.Turns.{MakesTurn};
@@ -36,17 +36,14 @@ where
     requires seated { IsSeated M.meaning.signature code.now shared.old.shell.value.engine.limits (knows seat.now) }
     requires found { slice_get (knows seat.now).rows (knows seat.now).number ≡ Some (knows seat.now).row }
     requires stands { IsSomeAnd (knows seat.now).fixed (λ opened. IsShared M.meaning opened
-        (shown K.written K.faults D.device_heard D.device_faults shared.old.shell.value.engine shared.old.shell.value.sent
-        shared.old.shell.value.sink shared.old.shell.value.devices.items)
+        (shell_view K.written K.faults D.device_heard D.device_faults shared.old.shell.value)
         shared.old.places.items (knows seat.now).rows (knows seat.now).seen) }
     requires prepared { IsPrepared M.meaning.is_machine M.meaning.stage code.now shared.old.shell.value.engine.limits.slice (knows seat.now).row.hand work }
     requires ready { lacks ≡ false → IsReadyWork M.meaning.stage code.now shared.old.shell.value.engine.limits.slice work }
     ensures makes { MakesTurn M.meaning code.now lacks work result.work (knows seat.now)
-        (shown K.written K.faults D.device_heard D.device_faults shared.old.shell.value.engine shared.old.shell.value.sent
-        shared.old.shell.value.sink shared.old.shell.value.devices.items)
+        (shell_view K.written K.faults D.device_heard D.device_faults shared.old.shell.value)
         shared.old.places.items
-        (shown K.written K.faults D.device_heard D.device_faults shared.new.shell.value.engine shared.new.shell.value.sent
-        shared.new.shell.value.sink shared.new.shell.value.devices.items)
+        (shell_view K.written K.faults D.device_heard D.device_faults shared.new.shell.value)
         shared.new.places.items result.point }
     ensures can { CanBePrepared M.meaning.is_machine M.meaning.stage code.now shared.old.shell.value.engine.limits.slice result.work }
 {

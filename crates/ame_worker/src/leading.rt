@@ -1,7 +1,7 @@
 //! A seat that has one turn after another, while no other seat has any.
 
 ghost use Rattle.std.specs.Prelude.{◌≡◌, false, true, Some, IsSomeAnd, slice_get, vec_len};
-ghost use Rattle.ame_shell.specs.Shell.{shown};
+ghost use Rattle.ame_shell.specs.Shell.{shell_view};
 ghost use Rattle.ame_baton.specs.Batons.{knows};
 ghost use Rattle.ame_turn.specs.Ready.{CanBePrepared, IsPrepared, IsReadyWork};
 ghost use Rattle.ame_worker.specs.Leads.{IsAtHand, IsLed, HasLed, RestsAtStop};
@@ -69,8 +69,8 @@ where
     requires ready { lacks ≡ false → IsReadyWork M.meaning.stage shell.old.engine.code shell.old.engine.limits.slice work }
     ensures stands { IsAtHand M.meaning shell.new.engine shell.new.sent seat code.now result.work (vec_len shell.new.devices) }
     ensures led { IsLed M.meaning seat
-        (shown K.written K.faults D.device_heard D.device_faults shell.old.engine shell.old.sent shell.old.sink shell.old.devices.items)
-        (shown K.written K.faults D.device_heard D.device_faults shell.new.engine shell.new.sent shell.new.sink shell.new.devices.items) }
+        (shell_view K.written K.faults D.device_heard D.device_faults shell.old)
+        (shell_view K.written K.faults D.device_heard D.device_faults shell.new) }
     ensures can { CanBePrepared M.meaning.is_machine M.meaning.stage shell.new.engine.code shell.new.engine.limits.slice result.work }
     ensures through { result.point ≡ Point.Stopped → RestsAtStop shell.new.engine seat }
 {
@@ -101,8 +101,8 @@ where
     requires { IsAtHand M.meaning shell.old.engine shell.old.sent seat code.now work (vec_len shell.old.devices) }
     ensures stands { IsAtHand M.meaning shell.new.engine shell.new.sent seat code.now result.work (vec_len shell.new.devices) }
     ensures led { IsLed M.meaning seat
-        (shown K.written K.faults D.device_heard D.device_faults shell.old.engine shell.old.sent shell.old.sink shell.old.devices.items)
-        (shown K.written K.faults D.device_heard D.device_faults shell.new.engine shell.new.sent shell.new.sink shell.new.devices.items) }
+        (shell_view K.written K.faults D.device_heard D.device_faults shell.old)
+        (shell_view K.written K.faults D.device_heard D.device_faults shell.new) }
     ensures can { CanBePrepared M.meaning.is_machine M.meaning.stage shell.new.engine.code shell.new.engine.limits.slice result.work }
     ensures over { result.is_over ≡ true → RestsAtStop shell.new.engine seat }
 {
@@ -139,12 +139,12 @@ where
     requires seated { IsSeated M.meaning.signature code.now shared.old.shell.value.engine.limits (knows seat.now) }
     requires found { slice_get (knows seat.now).rows (knows seat.now).number ≡ Some (knows seat.now).row }
     requires stands { IsSomeAnd (knows seat.now).fixed (λ opened. IsShared M.meaning opened
-        (shown K.written K.faults D.device_heard D.device_faults shared.old.shell.value.engine shared.old.shell.value.sent shared.old.shell.value.sink shared.old.shell.value.devices.items)
+        (shell_view K.written K.faults D.device_heard D.device_faults shared.old.shell.value)
         shared.old.places.items (knows seat.now).rows (knows seat.now).seen) }
     requires prepared { IsPrepared M.meaning.is_machine M.meaning.stage code.now shared.old.shell.value.engine.limits.slice (knows seat.now).row.hand work }
     ensures led { HasLed M.meaning result.work (knows seat.now)
-        (shown K.written K.faults D.device_heard D.device_faults shared.old.shell.value.engine shared.old.shell.value.sent shared.old.shell.value.sink shared.old.shell.value.devices.items) shared.old.places.items
-        (shown K.written K.faults D.device_heard D.device_faults shared.new.shell.value.engine shared.new.shell.value.sent shared.new.shell.value.sink shared.new.shell.value.devices.items) shared.new.places.items }
+        (shell_view K.written K.faults D.device_heard D.device_faults shared.old.shell.value) shared.old.places.items
+        (shell_view K.written K.faults D.device_heard D.device_faults shared.new.shell.value) shared.new.places.items }
     ensures can { CanBePrepared M.meaning.is_machine M.meaning.stage code.now shared.old.shell.value.engine.limits.slice result.work }
     ensures over { result.is_over ≡ true → RestsAtStop shared.new.shell.value.engine (knows seat.now).number }
 {

@@ -7,7 +7,7 @@ ghost use Rattle.ame_protocol.specs.Engine.Parts.{task_at};
 ghost use Rattle.ame_engine.specs.Resuming.{HasResumed};
 ghost use Rattle.ame_engine.specs.Whole.{AreLimits};
 ghost use Rattle.ame_shell.specs.Ends.{ends_of};
-ghost use Rattle.ame_shell.specs.Shell.{shown};
+ghost use Rattle.ame_shell.specs.Shell.{shell_view};
 ghost use Rattle.ame_worker.specs.Rows.{nothing_kept, empty_row};
 ghost use Rattle.ame_worker.specs.Shared.{opened_with, opened_as, IsShared};
 
@@ -85,7 +85,7 @@ where
         requires limits { AreLimits limits }
         ensures stands { IfOk result (λ shared. IsShared M.meaning
             (opened_with (arc_value code) limits [] (ends_of K.written K.faults D.device_heard D.device_faults sink devices.items))
-            (shown K.written K.faults D.device_heard D.device_faults shared.shell.value.engine shared.shell.value.sent shared.shell.value.sink shared.shell.value.devices.items)
+            (shell_view K.written K.faults D.device_heard D.device_faults shared.shell.value)
             shared.places.items (replicate limits.seats empty_row) []) }
         ensures code { IfOk result (λ shared. shared.shell.value.engine.code ≡ arc_value code) }
         ensures limits { IfOk result (λ shared. shared.shell.value.engine.limits ≡ limits) }
@@ -113,7 +113,7 @@ where
         requires resumed { HasResumed M.meaning engine.limits engine.base engine }
         ensures stands { IfOk result (λ shared. IsShared M.meaning
             (opened_as engine (ends_of K.written K.faults D.device_heard D.device_faults sink devices.items))
-            (shown K.written K.faults D.device_heard D.device_faults shared.shell.value.engine shared.shell.value.sent shared.shell.value.sink shared.shell.value.devices.items)
+            (shell_view K.written K.faults D.device_heard D.device_faults shared.shell.value)
             shared.places.items (replicate engine.limits.seats empty_row) []) }
         ensures idle { IfOk result (λ shared. (seat : ℕ) → task_at shared.shell.value.engine.tasks seat ≡ Task.Idle) }
         ensures code { IfOk result (λ shared. shared.shell.value.engine.code ≡ engine.code) }

@@ -116,13 +116,13 @@ where
     type Entry = Entry;
 
     ghost use Rattle.ame_shell.specs.Ends.{ends_of};
-    ghost use Rattle.ame_shell.specs.Shell.{shown};
+    ghost use Rattle.ame_shell.specs.Shell.{shell_view};
     ghost use Rattle.ame_worker.specs.Rows.{empty_row};
     ghost use Rattle.ame_worker.specs.Shared.{opened_as, IsShared};
     ghost use Rattle.ame_worker.specs.Turns.{maker};
 
     ghost stands_for = { λ s opened rows entries. IsShared M.meaning opened
-        (shown K.written K.faults D.device_heard D.device_faults s.shell.value.engine s.shell.value.sent s.shell.value.sink s.shell.value.devices.items)
+        (shell_view K.written K.faults D.device_heard D.device_faults s.shell.value)
         s.places.items rows entries };
 
     ghost opening = { λ s. opened_as s.shell.value.engine (ends_of K.written K.faults D.device_heard D.device_faults s.sink_before.value s.shell.value.devices.items) };

@@ -5,7 +5,7 @@ ghost use Rattle.std.specs.Arc.{arc_value};
 ghost use Rattle.ame_baton.specs.Batons.{knows, IsSeatOf};
 ghost use Rattle.ame_baton.specs.Keeping.{KeepsSeat};
 ghost use Rattle.ame_baton.specs.Seats.{IsElsewhere};
-ghost use Rattle.ame_shell.specs.Shell.{shown};
+ghost use Rattle.ame_shell.specs.Shell.{shell_view};
 ghost use Rattle.ame_worker.specs.declared.gate.Point.{Point};
 ghost use Rattle.ame_worker.specs.Rows.{empty_row};
 ghost use Rattle.ame_worker.specs.Turns.{HasMadeTurn};
@@ -71,7 +71,7 @@ where
         requires seated { IsSeated M.meaning.signature (arc_value code) limits (knows seat) }
         requires free { (knows seat).holds ≡ false }
         requires empty { (knows seat).row ≡ empty_row }
-        ensures ready { IsReadyToTurn M.meaning.signature M.meaning.is_machine M.meaning.stage (arc_value result.code) result.limits (knows result.seat) result.work }
+        ensures ready { IsReadyToTurn M.meaning (arc_value result.code) result.limits (knows result.seat) result.work }
         ensures seat { result.seat ≡ seat }
         ensures code { result.code ≡ code }
         ensures limits { result.limits ≡ limits }
@@ -94,14 +94,14 @@ where
         gate: &G,
     ) -> Turned
         requires of { IsSeatOf baton.now self.old.seat }
-        requires ready { IsReadyToTurn M.meaning.signature M.meaning.is_machine M.meaning.stage (arc_value self.old.code) self.old.limits (knows self.old.seat) self.old.work }
+        requires ready { IsReadyToTurn M.meaning (arc_value self.old.code) self.old.limits (knows self.old.seat) self.old.work }
         ensures of { IsSeatOf baton.now self.new.seat }
-        ensures ready { IsReadyToTurn M.meaning.signature M.meaning.is_machine M.meaning.stage (arc_value self.new.code) self.new.limits (knows self.new.seat) self.new.work }
+        ensures ready { IsReadyToTurn M.meaning (arc_value self.new.code) self.new.limits (knows self.new.seat) self.new.work }
         ensures keeps { KeepsSeat (knows self.old.seat) (knows self.new.seat) }
         ensures busy { result ≡ Turned.Busy → IsElsewhere (knows self.old.seat) }
         ensures same { result ≡ Turned.Busy → knows self.new.seat ≡ knows self.old.seat }
         ensures did { (point : Point) → result ≡ Turned.Did point → HasMadeTurn M.meaning self.old.seat self.new.seat
-            (λ s. shown K.written K.faults D.device_heard D.device_faults s.shell.value.engine s.shell.value.sent s.shell.value.sink s.shell.value.devices.items)
+            (λ s. shell_view K.written K.faults D.device_heard D.device_faults s.shell.value)
             (λ s. s.places.items) (arc_value self.old.code) self.old.limits.slice self.old.work self.new.work point }
         ensures through { result ≡ Turned.Did Point.Stopped → IsThrough (knows self.new.seat) }
         ensures code { self.new.code ≡ self.old.code }
@@ -132,9 +132,9 @@ where
         are_more: bool,
     ) -> bool
         requires of { IsSeatOf baton.now self.old.seat }
-        requires ready { IsReadyToTurn M.meaning.signature M.meaning.is_machine M.meaning.stage (arc_value self.old.code) self.old.limits (knows self.old.seat) self.old.work }
+        requires ready { IsReadyToTurn M.meaning (arc_value self.old.code) self.old.limits (knows self.old.seat) self.old.work }
         ensures of { IsSeatOf baton.now self.new.seat }
-        ensures ready { IsReadyToTurn M.meaning.signature M.meaning.is_machine M.meaning.stage (arc_value self.new.code) self.new.limits (knows self.new.seat) self.new.work }
+        ensures ready { IsReadyToTurn M.meaning (arc_value self.new.code) self.new.limits (knows self.new.seat) self.new.work }
         ensures keeps { KeepsSeat (knows self.old.seat) (knows self.new.seat) }
         ensures through { result ≡ true → IsThrough (knows self.new.seat) }
     {
@@ -167,7 +167,7 @@ where
         gate: &G,
     )
         requires of { IsSeatOf baton.now self.old.seat }
-        requires ready { IsReadyToTurn M.meaning.signature M.meaning.is_machine M.meaning.stage (arc_value self.old.code) self.old.limits (knows self.old.seat) self.old.work }
+        requires ready { IsReadyToTurn M.meaning (arc_value self.old.code) self.old.limits (knows self.old.seat) self.old.work }
         ensures of { IsSeatOf baton.now self.new.seat }
         ensures keeps { KeepsSeat (knows self.old.seat) (knows self.new.seat) }
         ensures through { IsThrough (knows self.new.seat) }

@@ -2,7 +2,7 @@ use Rattle.std.proofs.Common.{◌≡◌, ℕ, sym, ap, ◌∙◌, subst}
 use Rattle.ame_protocol.specs.declared.types.Task.{Task}
 use Rattle.ame_protocol.specs.Engine.Parts.{task_at}
 use Rattle.ame_shell.specs.Ends.{ends_of}
-use Rattle.ame_shell.specs.Shell.{shown, IsShell}
+use Rattle.ame_shell.specs.Shell.{shell_view, IsShell}
 use Rattle.ame_worker.specs.Shared.{opened_as, opening_of}
 use Rattle.ame_team.proofs.run.resume_by_workers.Goals as goal
 
@@ -19,5 +19,5 @@ returns-in-Err-clause-over g c =
     let ends = ends_of g.K.Sink.written g.K.Sink.faults g.D.Device.device_heard g.D.Device.device_faults c.args.sink c.args.devices.items in
     let opening = opening_of (opened_as c.args.engine ends) in
     c.give_up.ensures.over opening
-    (subst (λ sh. IsShell r.program opening (shown g.K.Sink.written g.K.Sink.faults g.D.Device.device_heard g.D.Device.device_faults sh.engine sh.sent sh.sink sh.devices.items))
+    (subst (λ sh. IsShell r.program opening (shell_view g.K.Sink.written g.K.Sink.faults g.D.Device.device_heard g.D.Device.device_faults sh))
     (sym (c.into_shell.ensures ∙ ap (λ shared. shared.shell.value) c.in-Err.ensures.back)) c.in_ok-shared.ensures.stands.shell)

@@ -4,7 +4,7 @@ use Rattle.std.proofs.lemmas.List.{length-map, take_at}
 use Rattle.std.proofs.lemmas.Option.{slice_get-get_or}
 use Rattle.ame_shell.specs.Ends.{ends_of}
 use Rattle.ame_engine.specs.Whole.{AreLimits}
-use Rattle.ame_shell.specs.Shell.{shown, IsShell}
+use Rattle.ame_shell.specs.Shell.{shell_view, IsShell}
 use Rattle.ame_protocol.specs.declared.types.Limits.{Limits}
 use Rattle.ame_protocol.specs.declared.types.Task.{Task}
 use Rattle.ame_protocol.specs.Engine.Parts.{task_at}
@@ -57,7 +57,7 @@ work_all-requires-clause-of g c κs lives = λ i d in_range.
 
 pub work_all-requires-clause-ready : goal.work_all-requires-clause-ready
 work_all-requires-clause-ready g c κs lives =
-    subst (All (λ w. IsReadyToTurn g.M.Runner.meaning.signature g.M.Runner.meaning.is_machine g.M.Runner.meaning.stage (arc_value w.code) w.limits (knows w.seat) w.work)) (sym c.as_mut_slice.ensures.value)
+    subst (All (λ w. IsReadyToTurn g.M.Runner.meaning (arc_value w.code) w.limits (knows w.seat) w.work)) (sym c.as_mut_slice.ensures.value)
     c.team-workers.ensures.ready
 
 pub end-requires-clause-first : goal.end-requires-clause-first
@@ -131,7 +131,7 @@ finish-requires-clause-idle g c =
     let all = ap (map (λ (w : Worker g.row.M.Denot g.row.K.Denot g.row.D.Denot g.row.M-Code.Denot g.row.M-Value.Denot). w.seat))
     (sym (take_at new _ c.team-workers.result.len (after.count ∙ ap length c.as_mut_slice.ensures.value ∙ sym c.team-workers.result.ok.0))) ∙ c.seats_of-first.ensures.all in
     let state = c.end.result in
-    let shell = shown g.K.Sink.written g.K.Sink.faults g.D.Device.device_heard g.D.Device.device_faults state.shell.value.engine state.shell.value.sent state.shell.value.sink state.shell.value.devices.items in
+    let shell = shell_view g.K.Sink.written g.K.Sink.faults g.D.Device.device_heard g.D.Device.device_faults state.shell.value in
     let before = c.args.shared.shell.value in
     let opening = opened_as before.engine (ends_of g.K.Sink.written g.K.Sink.faults g.D.Device.device_heard g.D.Device.device_faults c.args.shared.sink_before.value before.devices.items) in
     let is = (first-done baton opened count old new len after.count placed after.of after.keeps after.through first rest all).at.fixed ∙ ap (λ k. k.fixed) c.in-Ok.ensures.first in
@@ -159,7 +159,7 @@ finish-requires-clause-stopped g c =
     let all = ap (map (λ (w : Worker g.row.M.Denot g.row.K.Denot g.row.D.Denot g.row.M-Code.Denot g.row.M-Value.Denot). w.seat))
     (sym (take_at new _ c.team-workers.result.len (after.count ∙ ap length c.as_mut_slice.ensures.value ∙ sym c.team-workers.result.ok.0))) ∙ c.seats_of-first.ensures.all in
     let state = c.end.result in
-    let shell = shown g.K.Sink.written g.K.Sink.faults g.D.Device.device_heard g.D.Device.device_faults state.shell.value.engine state.shell.value.sent state.shell.value.sink state.shell.value.devices.items in
+    let shell = shell_view g.K.Sink.written g.K.Sink.faults g.D.Device.device_heard g.D.Device.device_faults state.shell.value in
     let before = c.args.shared.shell.value in
     let opening = opened_as before.engine (ends_of g.K.Sink.written g.K.Sink.faults g.D.Device.device_heard g.D.Device.device_faults c.args.shared.sink_before.value before.devices.items) in
     let is = (first-done baton opened count old new len after.count placed after.of after.keeps after.through first rest all).at.fixed ∙ ap (λ k. k.fixed) c.in-Ok.ensures.first in
@@ -186,11 +186,11 @@ returns-clause-over g c =
     let all = ap (map (λ (w : Worker g.row.M.Denot g.row.K.Denot g.row.D.Denot g.row.M-Code.Denot g.row.M-Value.Denot). w.seat))
     (sym (take_at new _ c.team-workers.result.len (after.count ∙ ap length c.as_mut_slice.ensures.value ∙ sym c.team-workers.result.ok.0))) ∙ c.seats_of-first.ensures.all in
     let state = c.end.result in
-    let shell = shown g.K.Sink.written g.K.Sink.faults g.D.Device.device_heard g.D.Device.device_faults state.shell.value.engine state.shell.value.sent state.shell.value.sink state.shell.value.devices.items in
+    let shell = shell_view g.K.Sink.written g.K.Sink.faults g.D.Device.device_heard g.D.Device.device_faults state.shell.value in
     let before = c.args.shared.shell.value in
     let opening = opened_as before.engine (ends_of g.K.Sink.written g.K.Sink.faults g.D.Device.device_heard g.D.Device.device_faults c.args.shared.sink_before.value before.devices.items) in
     let is = (first-done baton opened count old new len after.count placed after.of after.keeps after.through first rest all).at.fixed ∙ ap (λ k. k.fixed) c.in-Ok.ensures.first in
     let shared = some-and _ (knows first).fixed opening is c.end.ensures.stands in
     c.finish.ensures.over (opening_of opening)
-    (subst (λ sh. IsShell r.program (opening_of opening) (shown g.K.Sink.written g.K.Sink.faults g.D.Device.device_heard g.D.Device.device_faults sh.engine sh.sent sh.sink sh.devices.items))
+    (subst (λ sh. IsShell r.program (opening_of opening) (shell_view g.K.Sink.written g.K.Sink.faults g.D.Device.device_heard g.D.Device.device_faults sh))
     (sym c.into_shell-shell.ensures) shared.shell)

@@ -9,7 +9,7 @@ use Rattle.ame_team.proofs.team.lead.Goals as goal
 
 pub returns-then-not-may_hold-clause-ready : goal.returns-then-not-may_hold-clause-ready
 returns-then-not-may_hold-clause-ready g c =
-    All-set (λ w. IsReadyToTurn g.M.Runner.meaning.signature g.M.Runner.meaning.is_machine g.M.Runner.meaning.stage (arc_value w.code) w.limits (knows w.seat) w.work)
+    All-set (λ w. IsReadyToTurn g.M.Runner.meaning (arc_value w.code) w.limits (knows w.seat) w.work)
     c.args.workers.now (length c.args.workers.now - 1) c.lead.new.self c.lead.ensures.ready c.requires.ready
 
 pub returns-then-not-may_hold-clause-keeps : goal.returns-then-not-may_hold-clause-keeps

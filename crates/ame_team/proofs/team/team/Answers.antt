@@ -50,8 +50,8 @@ loop-preserved g c =
             numbered = ap (λ s. (knows s).number) c.new.ensures.seat ∙ number ∙ (let a = inv.count in omega (arith, a, len));
           }));
       ready =
-          subst (All (λ w. IsReadyToTurn g.M.Runner.meaning.signature g.M.Runner.meaning.is_machine g.M.Runner.meaning.stage (arc_value w.code) w.limits (knows w.seat) w.work)) (sym more.items)
-          (All-push (λ w. IsReadyToTurn g.M.Runner.meaning.signature g.M.Runner.meaning.is_machine g.M.Runner.meaning.stage (arc_value w.code) w.limits (knows w.seat) w.work)
+          subst (All (λ w. IsReadyToTurn g.M.Runner.meaning (arc_value w.code) w.limits (knows w.seat) w.work)) (sym more.items)
+          (All-push (λ w. IsReadyToTurn g.M.Runner.meaning (arc_value w.code) w.limits (knows w.seat) w.work)
           c.loop.workers.items w inv.ready c.new.ensures.ready);
     }
 
@@ -71,6 +71,6 @@ returns-clause-seats g c =
 
 pub returns-clause-ready : goal.returns-clause-ready
 returns-clause-ready g c =
-    subst (All (λ w. IsReadyToTurn g.M.Runner.meaning.signature g.M.Runner.meaning.is_machine g.M.Runner.meaning.stage (arc_value w.code) w.limits (knows w.seat) w.work)) (sym c.push_reserved-2.ensures.items)
-    (All-push (λ w. IsReadyToTurn g.M.Runner.meaning.signature g.M.Runner.meaning.is_machine g.M.Runner.meaning.stage (arc_value w.code) w.limits (knows w.seat) w.work)
+    subst (All (λ w. IsReadyToTurn g.M.Runner.meaning (arc_value w.code) w.limits (knows w.seat) w.work)) (sym c.push_reserved-2.ensures.items)
+    (All-push (λ w. IsReadyToTurn g.M.Runner.meaning (arc_value w.code) w.limits (knows w.seat) w.work)
     c.loop.workers.items c.new-2.result c.loop.invariant.ready c.new-2.ensures.ready)

@@ -17,5 +17,5 @@ invariant-loop g l = record {
   left : vec_len l.codes + l.counter ≡ l.limits.seats;
   codes : All (λ it. arc_value it ≡ arc_value l.fn.code) l.codes.items;
   others : AreOthers l.baton (knows l.fn.first).fixed l.workers.items;
-  ready : All (λ w. IsReadyToTurn g.M.Runner.meaning.signature g.M.Runner.meaning.is_machine g.M.Runner.meaning.stage (arc_value w.code) w.limits (knows w.seat) w.work) l.workers.items;
+  ready : All (λ w. IsReadyToTurn g.M.Runner.meaning (arc_value w.code) w.limits (knows w.seat) w.work) l.workers.items;
 }

@@ -38,7 +38,7 @@ for_each_mut-requires-sync-F g c κs within =
 pub for_each_mut-requires-clause-accepts : goal.for_each_mut-requires-clause-accepts
 for_each_mut-requires-clause-accepts g c κs within = λ i p in_range same. (
   subst (λ w. IsSeatOf c.args.baton.now w.seat) (sym same) (c.lead-is_over.ensures.of i p.now in_range),
-  subst (λ w. IsReadyToTurn g.M.Runner.meaning.signature g.M.Runner.meaning.is_machine g.M.Runner.meaning.stage (arc_value w.code) w.limits (knows w.seat) w.work) (sym same) (c.lead-is_over.ensures.ready i p.now in_range),
+  subst (λ w. IsReadyToTurn g.M.Runner.meaning (arc_value w.code) w.limits (knows w.seat) w.work) (sym same) (c.lead-is_over.ensures.ready i p.now in_range),
 )
 
 pub returns-clause-keeps : goal.returns-clause-keeps

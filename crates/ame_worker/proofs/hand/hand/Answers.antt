@@ -1,7 +1,7 @@
 use Rattle.std.proofs.Common.{◌≢◌, ℕ, set, sym, ap, ◌∙◌, subst}
 use Rattle.ame_io.specs.Lines.{lines}
 use Rattle.ame_protocol.specs.declared.types.Limits.{Limits}
-use Rattle.ame_shell.specs.Shell.{shown}
+use Rattle.ame_shell.specs.Shell.{shown, shell_view}
 use Rattle.ame_shell.specs.Turned.{HasTurned}
 use Rattle.ame_turn.specs.declared.work.Work.{Work}
 use Rattle.ame_turn.specs.Asked.{LacksWhereDue}
@@ -27,7 +27,7 @@ turn-deed-requires-clause-fits g c =
     let engine = sh.engine in
     let old = shown g.K.Sink.written g.K.Sink.faults g.D.Device.device_heard g.D.Device.device_faults engine sh.sent sh.sink sh.devices.items in
     let was = subst (λ it. IsShared r seated.opened
-    (shown g.K.Sink.written g.K.Sink.faults g.D.Device.device_heard g.D.Device.device_faults it.engine it.sent it.sink it.devices.items) c.args.shared.now.places.items k.rows k.seen)
+    (shell_view g.K.Sink.written g.K.Sink.faults g.D.Device.device_heard g.D.Device.device_faults it) c.args.shared.now.places.items k.rows k.seen)
     to_shell (some-and _ k.fixed seated.opened seated.is c.requires.stands) in
     subst (λ n. Fits r engine n c.args.work) (sym c.number-number.ensures)
     (hand-fits r seated.opened old old c.args.shared.now.places.items k.rows k.seen was k.number seated.number
@@ -44,7 +44,7 @@ turn-deed-requires-clause-sent g c =
     let seated = subst (λ it. IsSeated r.signature c.args.code.now it.engine.limits k) to_shell c.requires.seated in
     let opened = seated.opened in
     let was = subst (λ it. IsShared r opened
-    (shown g.K.Sink.written g.K.Sink.faults g.D.Device.device_heard g.D.Device.device_faults it.engine it.sent it.sink it.devices.items) c.args.shared.now.places.items k.rows k.seen)
+    (shell_view g.K.Sink.written g.K.Sink.faults g.D.Device.device_heard g.D.Device.device_faults it) c.args.shared.now.places.items k.rows k.seen)
     to_shell (some-and _ k.fixed opened seated.is c.requires.stands) in
     sent-within sh.engine.stop sh.sent (opening_of opened).ends.write_faults (g.K.Sink.faults sh.sink) (lines sh.engine.output) was.shell.sends.goes
 
@@ -58,14 +58,14 @@ returns-clause-makes g c =
     let engine = sh.engine in
     let old = shown g.K.Sink.written g.K.Sink.faults g.D.Device.device_heard g.D.Device.device_faults engine sh.sent sh.sink sh.devices.items in
     let s = c.turn-deed.new.self in
-    let new = shown g.K.Sink.written g.K.Sink.faults g.D.Device.device_heard g.D.Device.device_faults s.engine s.sent s.sink s.devices.items in
+    let new = shell_view g.K.Sink.written g.K.Sink.faults g.D.Device.device_heard g.D.Device.device_faults s in
     let t = c.turn-deed.ensures in
     let same = c.number-number.ensures in
     let opened = seated.opened in
     let places = c.args.shared.now.places.items in
     let work = c.turn-deed.result.work in
     let was = subst (λ it. IsShared r opened
-    (shown g.K.Sink.written g.K.Sink.faults g.D.Device.device_heard g.D.Device.device_faults it.engine it.sent it.sink it.devices.items) places k.rows k.seen)
+    (shell_view g.K.Sink.written g.K.Sink.faults g.D.Device.device_heard g.D.Device.device_faults it) places k.rows k.seen)
     to_shell (some-and _ k.fixed opened seated.is c.requires.stands) in
     let turned = subst (λ n. HasTurned r n (stage_at r.stage engine.code c.args.work) old new c.turn-deed.result.deed) same t.turned in
     let fits = subst (λ n. Fits r s.engine n work) same t.fits in
@@ -77,8 +77,8 @@ returns-clause-makes g c =
     (t.keeps (opening_of opened) was.shell) in
     makes-turn r c.args.code.now c.args.lacks c.args.work work k _ old new _ places c.keep.new.self.places.items c.point_of.result
     opened seated.is
-    (ap (λ it. shown g.K.Sink.written g.K.Sink.faults g.D.Device.device_heard g.D.Device.device_faults it.engine it.sent it.sink it.devices.items) c.deref_mut-shell.ensures.value)
-    (ap (λ box. shown g.K.Sink.written g.K.Sink.faults g.D.Device.device_heard g.D.Device.device_faults box.value.engine box.value.sent box.value.sink box.value.devices.items)
+    (ap (λ it. shell_view g.K.Sink.written g.K.Sink.faults g.D.Device.device_heard g.D.Device.device_faults it) c.deref_mut-shell.ensures.value)
+    (ap (λ box. shell_view g.K.Sink.written g.K.Sink.faults g.D.Device.device_heard g.D.Device.device_faults box.value)
     c.keep.ensures.shell)
     (c.keep.ensures.places ∙ ap (λ n. set places n (keeping s.engine work)) same) was c.turn-deed.result.deed
     (subst (λ code. HasTurned r k.number (stage_at r.stage code c.args.work) old new c.turn-deed.result.deed) (was.shell.opened.code ∙ seated.of_code) turned)

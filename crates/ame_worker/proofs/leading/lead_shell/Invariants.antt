@@ -1,5 +1,5 @@
 use Rattle.std.proofs.Common.{vec_len}
-use Rattle.ame_shell.specs.Shell.{shown}
+use Rattle.ame_shell.specs.Shell.{shell_view}
 use Rattle.ame_worker.specs.Leads.{IsAtHand, IsLed}
 use Rattle.ame_worker.proofs.leading.lead_shell.Given as goal
 
@@ -7,6 +7,6 @@ abbrev pub invariant-loop : goal.invariant-loop
 invariant-loop g l = record {
   stands : IsAtHand g.M.Runner.meaning l.shell.engine l.shell.sent l.seat l.code l.hand (vec_len l.shell.devices);
   led : IsLed g.M.Runner.meaning l.seat
-      (shown g.K.Sink.written g.K.Sink.faults g.D.Device.device_heard g.D.Device.device_faults l.fn.shell.engine l.fn.shell.sent l.fn.shell.sink l.fn.shell.devices.items)
-      (shown g.K.Sink.written g.K.Sink.faults g.D.Device.device_heard g.D.Device.device_faults l.shell.engine l.shell.sent l.shell.sink l.shell.devices.items);
+      (shell_view g.K.Sink.written g.K.Sink.faults g.D.Device.device_heard g.D.Device.device_faults l.fn.shell)
+      (shell_view g.K.Sink.written g.K.Sink.faults g.D.Device.device_heard g.D.Device.device_faults l.shell);
 }

@@ -3,7 +3,7 @@ use Rattle.ame_io.specs.Lines.{lines}
 use Rattle.ame_device.specs.Calls.{all_told}
 use Rattle.ame_turn.specs.Work.{stage_at, Fits}
 use Rattle.ame_turn.proofs.DeedRows.{rowed}
-use Rattle.ame_shell.specs.Shell.{shown}
+use Rattle.ame_shell.specs.Shell.{shell_view}
 use Rattle.ame_shell.specs.Turned.{is_to_flush}
 use Rattle.ame_shell.proofs.DeedLemmas.{deed-more}
 use Rattle.ame_shell.proofs.TurnLemmas.{turned-made, sent-still, turn-keeps, hand-stands, by-flush, flushed-fits, flushed-within}
@@ -20,7 +20,7 @@ returns-clause-turned g c =
     _ _ c.act-turned.new.engine _ c.act-turned.result.deed
     (ap (λ ds. all_told g.D.Device.device_heard g.D.Device.device_faults ds.items) (sym c.flush_after.ensures.devices)) c.act-turned.ensures.done
     c.flush_after.ensures.flushes
-    (λ e. ap (λ s. shown g.K.Sink.written g.K.Sink.faults g.D.Device.device_heard g.D.Device.device_faults s.engine s.sent s.sink s.devices.items) (c.flush_after.ensures.stays e))
+    (λ e. ap (λ s. shell_view g.K.Sink.written g.K.Sink.faults g.D.Device.device_heard g.D.Device.device_faults s) (c.flush_after.ensures.stays e))
 
 pub returns-clause-keeps : goal.returns-clause-keeps
 returns-clause-keeps g c = λ opening h.
@@ -30,7 +30,7 @@ returns-clause-keeps g c = λ opening h.
     _ _ c.act-turned.new.engine _ c.act-turned.result.deed
     (ap (λ ds. all_told g.D.Device.device_heard g.D.Device.device_faults ds.items) (sym c.flush_after.ensures.devices)) c.act-turned.ensures.done
     c.flush_after.ensures.flushes
-    (λ e. ap (λ s. shown g.K.Sink.written g.K.Sink.faults g.D.Device.device_heard g.D.Device.device_faults s.engine s.sent s.sink s.devices.items) (c.flush_after.ensures.stays e)))
+    (λ e. ap (λ s. shell_view g.K.Sink.written g.K.Sink.faults g.D.Device.device_heard g.D.Device.device_faults s) (c.flush_after.ensures.stays e)))
     opening c.stands.ensures c.requires.seat
     (hand-stands g.M.Runner.meaning g.met.M.Runner.sound c.args.self.now.engine c.args.seat c.args.work c.requires.fits) h
 

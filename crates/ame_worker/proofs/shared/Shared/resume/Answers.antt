@@ -1,7 +1,7 @@
 use Rattle.std.proofs.Common.{[], replicate, sym, ap, ◌∙◌, subst}
 use Rattle.ame_device.specs.Calls.{all_told}
 use Rattle.ame_shell.specs.Ends.{ends_of}
-use Rattle.ame_shell.specs.Shell.{shown}
+use Rattle.ame_shell.specs.Shell.{shell_view}
 use Rattle.ame_shell.specs.Turned.{HasFlushed}
 use Rattle.ame_worker.specs.Rows.{empty_row}
 use Rattle.ame_worker.specs.Shared.{opened_as, IsShared}
@@ -14,7 +14,7 @@ returns-clause-stands g c =
     let made = c.in_ok-shared.ensures in
     let ends = ends_of g.K.Sink.written g.K.Sink.faults g.D.Device.device_heard g.D.Device.device_faults c.args.sink c.args.devices.items in
     let now = c.flush.new.self in
-    let new = shown g.K.Sink.written g.K.Sink.faults g.D.Device.device_heard g.D.Device.device_faults now.engine now.sent now.sink now.devices.items in
+    let new = shell_view g.K.Sink.written g.K.Sink.faults g.D.Device.device_heard g.D.Device.device_faults now in
     let was = c.deref_mut-shell.ensures.value in
     let devices = ap (λ it. it.devices) was ∙ made.kept_devices in
     let told = ap (λ ds. all_told g.D.Device.device_heard g.D.Device.device_faults ds.items) (c.flush.ensures.devices ∙ devices) in
@@ -29,7 +29,7 @@ returns-clause-idle g c =
     let made = c.in_ok-shared.ensures in
     let ends = ends_of g.K.Sink.written g.K.Sink.faults g.D.Device.device_heard g.D.Device.device_faults c.args.sink c.args.devices.items in
     let now = c.flush.new.self in
-    let new = shown g.K.Sink.written g.K.Sink.faults g.D.Device.device_heard g.D.Device.device_faults now.engine now.sent now.sink now.devices.items in
+    let new = shell_view g.K.Sink.written g.K.Sink.faults g.D.Device.device_heard g.D.Device.device_faults now in
     let was = c.deref_mut-shell.ensures.value in
     let unsent =
     shown-same g.K.Sink.written g.K.Sink.faults g.D.Device.device_heard g.D.Device.device_faults _ _ _ _ _ _ _ _ (ap (λ it. it.engine) was ∙ made.engine)

@@ -1,7 +1,7 @@
 use Rattle.std.proofs.Common.{refl, sym, ap, ◌∙◌, subst}
 use Rattle.std.specs.Arc.{arc_value}
 use Rattle.ame_protocol.specs.declared.types.Limits.{Limits}
-use Rattle.ame_shell.specs.Shell.{shown}
+use Rattle.ame_shell.specs.Shell.{shell_view}
 use Rattle.ame_turn.specs.Ready.{CanBePrepared, IsPrepared}
 use Rattle.ame_baton.specs.Batons.{knows}
 use Rattle.ame_baton.proofs.Keeping.{keeps_both, take_finds}
@@ -19,7 +19,7 @@ lead_on-work-requires-clause-seated g c =
     let k = knows c.args.self.now.seat in
     let holding = knows c.try_take.new.seat in
     let shared = c.in-Some.shared in
-    let shows = shown g.K.Sink.written g.K.Sink.faults g.D.Device.device_heard g.D.Device.device_faults shared.shell.value.engine shared.shell.value.sent shared.shell.value.sink shared.shell.value.devices.items in
+    let shows = shell_view g.K.Sink.written g.K.Sink.faults g.D.Device.device_heard g.D.Device.device_faults shared.shell.value in
     let same = same-limits r limits code k c.requires.ready.seated shows shared.places.items holding.rows holding.seen
     c.in-Some.ensures.taken.stands in
     let found = take_finds _ maker k holding shared c.in-Some.ensures.taken in
@@ -34,7 +34,7 @@ lead_on-work-requires-clause-prepared g c =
     let k = knows c.args.self.now.seat in
     let holding = knows c.try_take.new.seat in
     let shared = c.in-Some.shared in
-    let shows = shown g.K.Sink.written g.K.Sink.faults g.D.Device.device_heard g.D.Device.device_faults shared.shell.value.engine shared.shell.value.sent shared.shell.value.sink shared.shell.value.devices.items in
+    let shows = shell_view g.K.Sink.written g.K.Sink.faults g.D.Device.device_heard g.D.Device.device_faults shared.shell.value in
     let same = same-limits r limits code k c.requires.ready.seated shows shared.places.items holding.rows holding.seen
     c.in-Some.ensures.taken.stands in
     let found = take_finds _ maker k holding shared c.in-Some.ensures.taken in
@@ -46,7 +46,7 @@ lead_on-work-requires-clause-prepared g c =
 pub give-requires-clause-may : goal.give-requires-clause-may
 give-requires-clause-may g c =
     may-give g.M.Runner.meaning
-    (λ s. shown g.K.Sink.written g.K.Sink.faults g.D.Device.device_heard g.D.Device.device_faults s.shell.value.engine s.shell.value.sent s.shell.value.sink s.shell.value.devices.items)
+    (λ s. shell_view g.K.Sink.written g.K.Sink.faults g.D.Device.device_heard g.D.Device.device_faults s.shell.value)
     (λ s. s.places.items) _ (knows c.try_take.new.seat) c.in-Some.shared c.lead_on-work.new.shared c.lead_on-work.result.work c.lead_on-work.ensures.led tt
 
 pub returns-clause-keeps : goal.returns-clause-keeps
@@ -57,13 +57,13 @@ returns-clause-keeps g c =
     let k = knows c.args.self.now.seat in
     let holding = knows c.try_take.new.seat in
     let shared = c.in-Some.shared in
-    let shows = shown g.K.Sink.written g.K.Sink.faults g.D.Device.device_heard g.D.Device.device_faults shared.shell.value.engine shared.shell.value.sent shared.shell.value.sink shared.shell.value.devices.items in
+    let shows = shell_view g.K.Sink.written g.K.Sink.faults g.D.Device.device_heard g.D.Device.device_faults shared.shell.value in
     let same = same-limits r limits code k c.requires.ready.seated shows shared.places.items holding.rows holding.seen
     c.in-Some.ensures.taken.stands in
     let found = take_finds _ maker k holding shared c.in-Some.ensures.taken in
     let seated = still-seated r.signature code limits k holding found.keeps c.requires.ready.seated in
     let gave = gave-its-row r
-    (λ s. shown g.K.Sink.written g.K.Sink.faults g.D.Device.device_heard g.D.Device.device_faults s.shell.value.engine s.shell.value.sent s.shell.value.sink s.shell.value.devices.items)
+    (λ s. shell_view g.K.Sink.written g.K.Sink.faults g.D.Device.device_heard g.D.Device.device_faults s.shell.value)
     (λ s. s.places.items) _ holding shared c.lead_on-work.new.shared c.lead_on-work.result.work c.lead_on-work.ensures.led
     limits code seated k.row found.found (knows c.give.new.seat) c.give.ensures.given in
     keeps_both _ _ _ found.keeps gave.keeps
@@ -76,17 +76,17 @@ returns-clause-ready g c =
     let k = knows c.args.self.now.seat in
     let holding = knows c.try_take.new.seat in
     let shared = c.in-Some.shared in
-    let shows = shown g.K.Sink.written g.K.Sink.faults g.D.Device.device_heard g.D.Device.device_faults shared.shell.value.engine shared.shell.value.sent shared.shell.value.sink shared.shell.value.devices.items in
+    let shows = shell_view g.K.Sink.written g.K.Sink.faults g.D.Device.device_heard g.D.Device.device_faults shared.shell.value in
     let same = same-limits r limits code k c.requires.ready.seated shows shared.places.items holding.rows holding.seen
     c.in-Some.ensures.taken.stands in
     let found = take_finds _ maker k holding shared c.in-Some.ensures.taken in
     let seated = still-seated r.signature code limits k holding found.keeps c.requires.ready.seated in
     let gave = gave-its-row r
-    (λ s. shown g.K.Sink.written g.K.Sink.faults g.D.Device.device_heard g.D.Device.device_faults s.shell.value.engine s.shell.value.sent s.shell.value.sink s.shell.value.devices.items)
+    (λ s. shell_view g.K.Sink.written g.K.Sink.faults g.D.Device.device_heard g.D.Device.device_faults s.shell.value)
     (λ s. s.places.items) _ holding shared c.lead_on-work.new.shared c.lead_on-work.result.work c.lead_on-work.ensures.led
     limits code seated k.row found.found (knows c.give.new.seat) c.give.ensures.given in
     let work = c.lead_on-work.result.work in
-    ready-again r.signature r.is_machine r.stage code limits holding (knows c.give.new.seat) _ work gave refl seated
+    ready-again r code limits holding (knows c.give.new.seat) _ work gave refl seated
     (subst (λ (l : Limits). CanBePrepared r.is_machine r.stage code l.slice work) (sym same)
     (subst (λ code. CanBePrepared r.is_machine r.stage code shared.shell.value.engine.limits.slice work) c.deref-code.ensures c.lead_on-work.ensures.can))
 
@@ -98,13 +98,13 @@ returns-clause-through g c = λ e.
     let k = knows c.args.self.now.seat in
     let holding = knows c.try_take.new.seat in
     let shared = c.in-Some.shared in
-    let shows = shown g.K.Sink.written g.K.Sink.faults g.D.Device.device_heard g.D.Device.device_faults shared.shell.value.engine shared.shell.value.sent shared.shell.value.sink shared.shell.value.devices.items in
+    let shows = shell_view g.K.Sink.written g.K.Sink.faults g.D.Device.device_heard g.D.Device.device_faults shared.shell.value in
     let same = same-limits r limits code k c.requires.ready.seated shows shared.places.items holding.rows holding.seen
     c.in-Some.ensures.taken.stands in
     let found = take_finds _ maker k holding shared c.in-Some.ensures.taken in
     let seated = still-seated r.signature code limits k holding found.keeps c.requires.ready.seated in
     let gave = gave-its-row r
-    (λ s. shown g.K.Sink.written g.K.Sink.faults g.D.Device.device_heard g.D.Device.device_faults s.shell.value.engine s.shell.value.sent s.shell.value.sink s.shell.value.devices.items)
+    (λ s. shell_view g.K.Sink.written g.K.Sink.faults g.D.Device.device_heard g.D.Device.device_faults s.shell.value)
     (λ s. s.places.items) _ holding shared c.lead_on-work.new.shared c.lead_on-work.result.work c.lead_on-work.ensures.led
     limits code seated k.row found.found (knows c.give.new.seat) c.give.ensures.given in
     let over = c.lead_on-work.ensures.over e in

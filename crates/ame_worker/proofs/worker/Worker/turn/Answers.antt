@@ -1,6 +1,6 @@
 use Rattle.std.proofs.Common.{refl, sym, ◌∙◌, subst}
 use Rattle.std.specs.Arc.{arc_value}
-use Rattle.ame_shell.specs.Shell.{shown}
+use Rattle.ame_shell.specs.Shell.{shell_view}
 use Rattle.ame_protocol.specs.declared.types.Limits.{Limits}
 use Rattle.ame_turn.specs.Ready.{CanBePrepared, IsPrepared, IsReadyWork}
 use Rattle.ame_baton.specs.Batons.{knows}
@@ -20,7 +20,7 @@ returns-in_default-clause-ready g c =
     let code = arc_value c.args.self.now.code in
     let slice = c.args.self.now.limits.slice in
     let done = subst (λ code. IsPrepared r.is_machine r.stage code slice c.args.self.now.work c.prepare.new.work) c.deref-code.ensures c.prepare.ensures.prepared in
-    subst (λ k. IsReadyToTurn r.signature r.is_machine r.stage code c.args.self.now.limits k c.prepare.new.work) (sym c.in_default.ensures.same)
+    subst (λ k. IsReadyToTurn r code c.args.self.now.limits k c.prepare.new.work) (sym c.in_default.ensures.same)
     (record {
       seated = c.requires.ready.seated;
       free = c.requires.ready.free;
@@ -36,7 +36,7 @@ hand-point-requires-clause-seated g c =
     let k = knows c.args.self.now.seat in
     let holding = knows c.try_take.new.seat in
     let shared = c.in-Some.shared in
-    let shows = shown g.K.Sink.written g.K.Sink.faults g.D.Device.device_heard g.D.Device.device_faults shared.shell.value.engine shared.shell.value.sent shared.shell.value.sink shared.shell.value.devices.items in
+    let shows = shell_view g.K.Sink.written g.K.Sink.faults g.D.Device.device_heard g.D.Device.device_faults shared.shell.value in
     let same = same-limits r limits code k c.requires.ready.seated shows shared.places.items holding.rows holding.seen
     c.in-Some.ensures.taken.stands in
     let found = take_finds _ maker k holding shared c.in-Some.ensures.taken in
@@ -51,7 +51,7 @@ hand-point-requires-clause-prepared g c =
     let k = knows c.args.self.now.seat in
     let holding = knows c.try_take.new.seat in
     let shared = c.in-Some.shared in
-    let shows = shown g.K.Sink.written g.K.Sink.faults g.D.Device.device_heard g.D.Device.device_faults shared.shell.value.engine shared.shell.value.sent shared.shell.value.sink shared.shell.value.devices.items in
+    let shows = shell_view g.K.Sink.written g.K.Sink.faults g.D.Device.device_heard g.D.Device.device_faults shared.shell.value in
     let same = same-limits r limits code k c.requires.ready.seated shows shared.places.items holding.rows holding.seen
     c.in-Some.ensures.taken.stands in
     let found = take_finds _ maker k holding shared c.in-Some.ensures.taken in
@@ -71,7 +71,7 @@ hand-point-requires-clause-ready g c = λ fine.
     let k = knows c.args.self.now.seat in
     let holding = knows c.try_take.new.seat in
     let shared = c.in-Some.shared in
-    let shows = shown g.K.Sink.written g.K.Sink.faults g.D.Device.device_heard g.D.Device.device_faults shared.shell.value.engine shared.shell.value.sent shared.shell.value.sink shared.shell.value.devices.items in
+    let shows = shell_view g.K.Sink.written g.K.Sink.faults g.D.Device.device_heard g.D.Device.device_faults shared.shell.value in
     let same = same-limits r limits code k c.requires.ready.seated shows shared.places.items holding.rows holding.seen
     c.in-Some.ensures.taken.stands in
     let ready = ready-unless c.prepare.result (IsReadyWork r.stage c.deref-code.result.now limits.slice c.prepare.new.work) (sym c.is_err-lacks.ensures.value ∙ fine)
@@ -82,7 +82,7 @@ hand-point-requires-clause-ready g c = λ fine.
 pub give-requires-clause-may : goal.give-requires-clause-may
 give-requires-clause-may g c =
     may-give g.M.Runner.meaning
-    (λ s. shown g.K.Sink.written g.K.Sink.faults g.D.Device.device_heard g.D.Device.device_faults s.shell.value.engine s.shell.value.sent s.shell.value.sink s.shell.value.devices.items)
+    (λ s. shell_view g.K.Sink.written g.K.Sink.faults g.D.Device.device_heard g.D.Device.device_faults s.shell.value)
     (λ s. s.places.items) _ (knows c.try_take.new.seat) c.in-Some.shared c.hand-point.new.shared c.hand-point.result.work
     (turn-leaves g.M.Runner.meaning c.deref-code.result.now c.is_err-lacks.result c.replace-work.result c.hand-point.result.work (knows c.try_take.new.seat) _ _ _ _
     c.hand-point.result.point c.hand-point.ensures.makes) tt
@@ -115,7 +115,7 @@ returns-clause-did g c = λ point e.
           holding _ _ _ _ c.hand-point.result.point point (did-is c.hand-point.result.point point e) c.hand-point.ensures.makes;
       gives = c.give.ensures.given;
       gave = gave-its-row r
-          (λ s. shown g.K.Sink.written g.K.Sink.faults g.D.Device.device_heard g.D.Device.device_faults s.shell.value.engine s.shell.value.sent s.shell.value.sink s.shell.value.devices.items)
+          (λ s. shell_view g.K.Sink.written g.K.Sink.faults g.D.Device.device_heard g.D.Device.device_faults s.shell.value)
           (λ s. s.places.items) _ holding shared given c.hand-point.result.work
           (turn-leaves r c.deref-code.result.now c.is_err-lacks.result c.replace-work.result c.hand-point.result.work holding _ _ _ _ c.hand-point.result.point c.hand-point.ensures.makes)
           limits code (still-seated r.signature code limits k holding found.keeps c.requires.ready.seated) k.row
@@ -134,11 +134,11 @@ returns-clause-ready g c =
     let holding = knows c.try_take.new.seat in
     let shared = c.in-Some.shared in
     let work = c.hand-point.result.work in
-    let shows = shown g.K.Sink.written g.K.Sink.faults g.D.Device.device_heard g.D.Device.device_faults shared.shell.value.engine shared.shell.value.sent shared.shell.value.sink shared.shell.value.devices.items in
+    let shows = shell_view g.K.Sink.written g.K.Sink.faults g.D.Device.device_heard g.D.Device.device_faults shared.shell.value in
     let same = same-limits r limits code k c.requires.ready.seated shows shared.places.items holding.rows holding.seen
     c.in-Some.ensures.taken.stands in
     let made = returns-clause-did g c c.hand-point.result.point refl in
-    ready-again r.signature r.is_machine r.stage code limits made.holding (knows c.give.new.seat) _ work made.gave refl
+    ready-again r code limits made.holding (knows c.give.new.seat) _ work made.gave refl
     (still-seated r.signature code limits k made.holding made.took.keeps c.requires.ready.seated)
     (subst (λ (l : Limits). CanBePrepared r.is_machine r.stage code l.slice work) (sym same)
     (subst (λ code. CanBePrepared r.is_machine r.stage code shared.shell.value.engine.limits.slice work) c.deref-code.ensures c.hand-point.ensures.can))

@@ -7,6 +7,6 @@ use Rattle.ame_worker.proofs.worker.Worker.work.Given as goal
 abbrev pub invariant-loop : goal.invariant-loop
 invariant-loop g l = record {
   of : IsSeatOf l.baton l.self.seat;
-  ready : IsReadyToTurn g.M.Runner.meaning.signature g.M.Runner.meaning.is_machine g.M.Runner.meaning.stage (arc_value l.self.code) l.self.limits (knows l.self.seat) l.self.work;
+  ready : IsReadyToTurn g.M.Runner.meaning (arc_value l.self.code) l.self.limits (knows l.self.seat) l.self.work;
   keeps : KeepsSeat (knows l.fn.self.seat) (knows l.self.seat);
 }

@@ -2,4 +2,5 @@
 
 mod baton;
 mod memories;
+mod pools;
 mod std_ends;

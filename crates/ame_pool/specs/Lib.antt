@@ -14,4 +14,3 @@ pub mod Queues
 pub mod Counts
 pub mod Stirs
 pub mod Keeps
-pub mod Lends

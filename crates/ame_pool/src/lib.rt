@@ -11,8 +11,6 @@ mod oldest;
 mod pool;
 mod ready;
 mod roll;
-#[cfg(test)]
-mod tests;
 mod theorems;
 mod turn;
 

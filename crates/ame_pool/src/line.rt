@@ -11,9 +11,6 @@ use std::alloc::Global;
 use std::collections::VecDeque;
 use std::marker::Model;
 
-#[cfg(test)]
-mod probe;
-
 /// A number, or a gap where one left. Tickets rise along the line.
 #[derive(Clone, Copy)]
 pub struct Entry {

@@ -14,11 +14,6 @@ use slab::Slab;
 use std::alloc::Global;
 use std::marker::Model;
 
-#[cfg(test)]
-mod probe;
-#[cfg(test)]
-mod tests;
-
 /// What a member's turn tells: its slot, what the turn left, and whether the member stands inside then.
 #[derive(Drop)]
 pub struct Turned<M> {

@@ -1,7 +1,6 @@
 //! The pool.
 
 ghost use Rattle.std.specs.Prelude.{◌≡◌, ◌<◌, ℕ, Some, None, IsSome, false, IfOk, OnOk, OnErr, IsTrue, option_copied, map};
-ghost use Rattle.std.specs.Borrow.{sem};
 ghost use Rattle.std.specs.Option.{ForSome};
 ghost use Rattle.std.specs.List.{list_any};
 ghost use Rattle.ame_pool.specs.Members.{find as found_at};
@@ -17,9 +16,6 @@ use ame_term::{Copied, Loc, Locs, NoMemory};
 use std::alloc::Global;
 use std::collections::BTreeSet;
 use std::marker::Model;
-
-#[cfg(test)]
-mod probe;
 
 /// Who is there and who is ready, the index of those that watch locations, and a machine that isn't needed any more, in whose memory
 /// the next copy is made.
@@ -74,7 +70,6 @@ fn unlist<M: Drop>(index: &mut BTreeSet<(u32, u64)>, roll: &Roll<M>, number: u64
 }
 
 impl<M: Drop> Pool<M> {
-    ghost use Rattle.ame_pool.specs.Lends.{ends_as};
     ghost use Rattle.ame_pool.specs.Members.{find, is_ready, is_busy};
     ghost use Rattle.ame_pool.specs.Roster.{nobody};
     ghost use Rattle.ame_pool.specs.Begin.{oldest as oldest_of};
@@ -110,8 +105,8 @@ impl<M: Drop> Pool<M> {
         self.roll.add(number, machine, inside);
     }
 
-    /// The member with a number.
-    pub(crate) fn member(&self, number: u64) -> Option<&Member<M>>
+    /// Returns the member with a number, if the pool has one.
+    pub fn member(&self, number: u64) -> Option<&Member<M>>
         ensures { option_copied result ≡ find number self.now.members }
     {
         self.roll.get(number)
@@ -163,19 +158,6 @@ impl<M: Drop> Pool<M> {
         ensures { self.new ≡ held number self.old }
     {
         self.roll.begin(number);
-    }
-
-    /// Makes a ready member busy, and lends its machine.
-    pub fn hold(&mut self, number: u64) -> &M
-        requires { IsAt is_ready number self.old }
-        ensures* held { sem 𝓛 (ends_as M.row self.entry (held number self.old)) }
-        ensures machine { Some result.now ≡ machine_of number self.old }
-    {
-        self.begin(number);
-        match self.machine(number) {
-            Some(machine) => machine,
-            None => unreachable!(),
-        }
     }
 
     /// A busy member without a watch list is the youngest ready one.

@@ -8,9 +8,6 @@ use ame_term::NoMemory;
 use std::alloc::Global;
 use std::marker::Model;
 
-#[cfg(test)]
-mod probe;
-
 /// Their numbers, and apart from them the numbers of those that stand inside, in the same order.
 #[derive(Drop)]
 pub struct Ready {

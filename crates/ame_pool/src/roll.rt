@@ -16,9 +16,6 @@ use ame_term::NoMemory;
 use std::alloc::Global;
 use std::marker::Model;
 
-#[cfg(test)]
-mod probe;
-
 /// Members by their numbers, those that are ready from the oldest on, and how many are busy or parked.
 #[derive(Drop)]
 pub struct Roll<M> {

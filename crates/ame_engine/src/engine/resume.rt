@@ -82,11 +82,12 @@ where
         ensures state { IfOk result (HasResumed M.meaning limits base.entries) }
     {
         let (cells, members, output, next) = replay.into_parts();
+        // What takes most code to drop comes last, where the fewest steps can still fail.
+        let text = lines_of(alloc, output.as_slice())?;
+        let tasks = idle_tasks(alloc, limits.seats)?;
         let store = Store::from_cells(cells_of(alloc, cells)?);
         let memory = Memory::new(alloc, store, limits.seats)?;
-        let tasks = idle_tasks(alloc, limits.seats)?;
         let pool = pool_of::<M>(alloc, &code, members)?;
-        let text = lines_of(alloc, output.as_slice())?;
         Ok(Engine {
             code,
             limits,

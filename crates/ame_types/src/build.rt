@@ -12,6 +12,7 @@ use std::alloc::Global;
 pub const LARGEST: usize = 1 << 20;
 
 /// The type itself, which has at most so many nodes; as many are left.
+#[cycle(build)]
 pub fn build(ty: &Shared<'_>, alloc: Global, room: &mut usize) -> Result<Ty, NoMemory>
     ensures { IfOk result (λ t. typ_of t ≡ shared_type ty.now) }
 {
@@ -23,18 +24,24 @@ pub fn build(ty: &Shared<'_>, alloc: Global, room: &mut usize) -> Result<Ty, NoM
         Shared::Unit => Ok(Ty::Unit),
         Shared::Bool => Ok(Ty::Bool),
         Shared::Int => Ok(Ty::Int),
-        Shared::Ref(_, sort, content) => {
-            Ok(Ty::Ref(*sort, boxed(alloc, build(content, alloc, room)?)?))
-        }
+        Shared::Ref(_, sort, content) => Ok(Ty::Ref(*sort, part(content, alloc, room)?)),
         Shared::Fun(_, effect, param, answer) => {
-            let param = boxed(alloc, build(param, alloc, room)?)?;
-            Ok(Ty::Fun(*effect, param, boxed(alloc, build(answer, alloc, room)?)?))
+            let param = part(param, alloc, room)?;
+            Ok(Ty::Fun(*effect, param, part(answer, alloc, room)?))
         }
         Shared::Pair(_, first, second) => {
-            let first = boxed(alloc, build(first, alloc, room)?)?;
-            Ok(Ty::Pair(first, boxed(alloc, build(second, alloc, room)?)?))
+            let first = part(first, alloc, room)?;
+            Ok(Ty::Pair(first, part(second, alloc, room)?))
         }
     }
+}
+
+/// Builds a part of a type, as `build` does, in a box.
+#[cycle(build)]
+fn part(ty: &Shared<'_>, alloc: Global, room: &mut usize) -> Result<Box<Ty>, NoMemory>
+    ensures { IfOk result (λ b. typ_of b.value ≡ shared_type ty.now) }
+{
+    boxed(alloc, build(ty, alloc, room)?)
 }
 
 /// The types themselves, which have at most `LARGEST` nodes together.

@@ -1,6 +1,6 @@
 //! The check of a program.
 
-ghost use Rattle.std.specs.Prelude.{◌≡◌, ◌≤◌, map, IfOk, IfErr};
+ghost use Rattle.std.specs.Prelude.{◌≡◌, ◌≤◌, [], map, IfOk, IfErr};
 ghost use Rattle.ame_term.specs.View.{typ_of, tree_of};
 ghost use Rattle.ame_term.specs.Typing.{typing, Accepts};
 ghost use Rattle.ame_types.specs.Limits.{max_devices};
@@ -40,18 +40,28 @@ fn ref_tys(alloc: Global, program: &Program, devices: u32) -> Result<Vec<Ty>, Ty
     ensures fault { IfErr result (IsFirstFault (typing devices program.now.places.items (tree_of program.now.term))) }
 {
     let arena = Bump::new(alloc);
-    let checker = Checker {
-        devices,
-        places: &program.places,
-    };
     let mut seen = Seen {
         next: 0,
         ref_tys: Vec::new(alloc),
         types: Types::new(alloc, &arena),
     };
-    let place = checker.place(&seen, &program.term);
-    let found = checker.term(&mut seen, &Scope::Empty, Effect::Protected, &program.term)?;
+    stored(&mut seen, program, devices)
+}
+
+/// Checks a program, of which nothing was seen so far, and returns the types that its `ref` forms store.
+fn stored(seen: &mut Seen<'_>, program: &Program, devices: u32) -> Result<Vec<Ty>, TypesFail>
+    requires next { seen.old.next ≡ 0 }
+    requires none { seen.old.ref_tys.items ≡ [] }
+    ensures accepts { IfOk result (λ tys. Accepts devices program.now.places.items (tree_of program.now.term) (map typ_of tys.items)) }
+    ensures fault { IfErr result (IsFirstFault (typing devices program.now.places.items (tree_of program.now.term))) }
+{
+    let checker = Checker {
+        devices,
+        places: &program.places,
+    };
+    let place = checker.place(&*seen, &program.term);
+    let found = checker.term(&mut *seen, &Scope::Empty, Effect::Protected, &program.term)?;
     require(&seen.types, rule::NOT_UNIT, place, &found, &Shared::Unit)?;
-    let tys = build_all(&seen.ref_tys, alloc)?;
+    let tys = build_all(&seen.ref_tys, seen.types.alloc)?;
     Ok(tys)
 }

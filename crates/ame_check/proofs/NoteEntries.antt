@@ -1,5 +1,5 @@
 -- A note, by what its call finds.
-use Rattle.std.proofs.Common.{All, ◌<◌, ◌≡◌, ℕ, ◌≤◌, ◌++◌, ◌∷◌, [], ℤ, Bool, true, false, List, Option, Some, None, refl, sym, ap, ◌∙◌, subst, is_some, arith}
+use Rattle.std.proofs.Common.{All, ◌<◌, ◌≡◌, ℕ, ◌≤◌, ◌++◌, ◌∷◌, [], ℤ, Bool, true, false, if◌then◌else◌, List, Option, Some, None, refl, sym, ap, ◌∙◌, subst, is_some, arith}
 use Rattle.ame_term.specs.Frame.{Side}
 use Rattle.ame_term.specs.Maps.{at}
 use Rattle.ame_term.specs.State.{State}
@@ -17,11 +17,12 @@ use Rattle.ame_machine.specs.declared.wants.Wants.{Wants}
 use Rattle.ame_check.specs.Shows.{ReplayView, ShowsMember, StandsForEntries}
 use Rattle.ame_check.specs.Walk.{steps_on, begun_on, StaysLow}
 use Rattle.ame_check.specs.Walked.{place_with, IsAtStep, RunsAlong}
-use Rattle.ame_check.specs.Entries.{BeginsSteps, MeetsTall, MeetsNoTall, is_confirmed}
+use Rattle.ame_check.specs.Entries.{BeginsSteps, MeetsTall, MeetsNoTall, CameOf, is_confirmed, noted_as}
 use Rattle.ame_check.specs.Standing.{TellsReads, StandsAt}
 use Rattle.ame_check.specs.Reasons.{MeetsReason, IsMet, entry_side, is_shut}
 use Rattle.ame_check.specs.declared.reason.Reason.{Reason}
 use Rattle.ame_check.specs.declared.reason.Reason.TheVariants as reason
+use Rattle.ame_check.specs.declared.replay.Made.TheVariants as made
 use Rattle.ame_check.specs.declared.walk.Walked.{Walked}
 use Rattle.ame_check.specs.declared.walk.Walked.TheVariants as walked
 use Rattle.ame_check.proofs.EntryLemmas.{behind-journal, stands-as, whole-leads}
@@ -149,13 +150,13 @@ module _ {C V M : Type 0} (meaning : Meaning C V M) (code : C) (accepted : IsAcc
               meets-low (meaning.program code) entries entry st.led st.replayed (meaning.stage code machine).term calm.idle term
               (subst (λ (z : Side). StaysLow z entry.number entry.steps entry.fresh st.led.state) its_side low)
 
-          pub noted-no-run : (why : Reason) → found_as ≡ walked.Undefined why → FailsBy (meaning.program code) entries entry why
+          noted-no-run : (why : Reason) → found_as ≡ walked.Undefined why → FailsBy (meaning.program code) entries entry why
           noted-no-run why is =
               let none = to (walked.Undefined why) is in
               fails why (low-so none.0)
               (none-there (as-quiet ∙ note-undefined st.led entry.number entry.steps entry.fresh (meaning.stage code machine).term calm.idle term entry.kind note none.1)) (on-side why none.2)
 
-          pub noted-tall : found_as ≡ walked.Tall → (r : Replayed) × (replay (meaning.program code) entries ≡ Some r) × MeetsTall r entry
+          noted-tall : found_as ≡ walked.Tall → (r : Replayed) × (replay (meaning.program code) entries ≡ Some r) × MeetsTall r entry
           noted-tall is = (
             st.led,
             st.replayed,
@@ -197,7 +198,7 @@ module _ {C V M : Type 0} (meaning : Meaning C V M) (code : C) (accepted : IsAcc
               told = told;
             }
 
-            pub noted-so : is_confirmed entry.kind next ≡ true → MeetsNoTall (meaning.program code) entries entry × StandsForEntries meaning code (entries ++ entry ∷ []) place
+            noted-so : is_confirmed entry.kind next ≡ true → MeetsNoTall (meaning.program code) entries entry × StandsForEntries meaning code (entries ++ entry ∷ []) place
             noted-so so = (
               has-low,
               record {
@@ -211,9 +212,19 @@ module _ {C V M : Type 0} (meaning : Meaning C V M) (code : C) (accepted : IsAcc
               },
             )
 
-            pub noted-not : is_confirmed entry.kind next ≡ false → FailsBy (meaning.program code) entries entry (reason.Stops entry.steps next)
+            noted-not : is_confirmed entry.kind next ≡ false → FailsBy (meaning.program code) entries entry (reason.Stops entry.steps next)
             noted-not wrong =
                 let least : entry.steps ≤ entry.steps = omega arith in
                 fails (reason.Stops entry.steps next) has-low (none-there (tells ∙ ap (λ (b : Bool). note_where b st.led) wrong))
                 (on-side (reason.Stops entry.steps next)
                 (stops-met meaning code sound st.led.state entry.number entry.fresh place.cells later m (side_at entry.number st.led.state) entry.steps whole.0 entry.steps least entry.steps (sym whole.0.counted) next whole.2))
+
+          by-confirmed : (next : Wants) → found_as ≡ walked.Whole next → (so : Bool) → is_confirmed entry.kind next ≡ so →
+              CameOf meaning code entries entry place (if so then made.Made else made.Undefined (reason.Stops entry.steps next))
+          by-confirmed next is true so = noted-so next is so
+          by-confirmed next is false so = noted-not next is so
+
+          pub noted-all : (w : Walked) → found_as ≡ w → CameOf meaning code entries entry place (noted_as entry.kind entry.steps w)
+          noted-all (walked.Whole next) is = by-confirmed next is (is_confirmed entry.kind next) refl
+          noted-all (walked.Undefined why) is = noted-no-run why is
+          noted-all walked.Tall is = noted-tall is

@@ -1,5 +1,5 @@
 -- What a replay comes to at its next entry.
-use Rattle.std.specs.Prelude.{◌≡◌, ℕ, ◌<◌, ℤ, ◌++◌, [], ◌∷◌, List, Bool, true, false, Option, Some, None}
+use Rattle.std.specs.Prelude.{◌≡◌, ℕ, ◌<◌, ℤ, ◌++◌, [], ◌∷◌, List, Bool, true, false, if◌then◌else◌, Option, Some, None}
 use Rattle.ame_term.specs.Tree.{Tree}
 use Rattle.ame_term.specs.State.{State}
 use Rattle.ame_journal.specs.Replayed.{Replayed, is_inside, side_at, is_tall}
@@ -13,6 +13,9 @@ use Rattle.ame_check.specs.Shows.{ReplayView, StandsForEntries}
 use Rattle.ame_check.specs.Reasons.{entry_side, IsMet}
 use Rattle.ame_check.specs.declared.replay.Made.{Made}
 use Rattle.ame_check.specs.declared.replay.Made.TheVariants as made
+use Rattle.ame_check.specs.declared.reason.Reason.TheVariants as reason
+use Rattle.ame_check.specs.declared.walk.Walked.{Walked}
+use Rattle.ame_check.specs.declared.walk.Walked.TheVariants as walked
 
 -- whether the steps of an entry are begun, by its kind, whether its member is inside, and its answer
 abbrev pub BeginsSteps : EntryKind → Bool → Option ℤ → Type 0
@@ -57,3 +60,9 @@ is_confirmed EntryKind.Stuck wants.Block = true
 is_confirmed EntryKind.Stuck _ = false
 is_confirmed EntryKind.Tall wants.Tall = true
 is_confirmed EntryKind.Tall _ = false
+
+-- what a note of a kind and of so many steps comes to, by what these came to
+abbrev pub noted_as : EntryKind → ℕ → Walked → Made
+noted_as kind steps (walked.Whole want) = if is_confirmed kind want then made.Made else made.Undefined (reason.Stops steps want)
+noted_as kind steps (walked.Undefined why) = made.Undefined why
+noted_as kind steps walked.Tall = made.Tall

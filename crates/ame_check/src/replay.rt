@@ -10,7 +10,7 @@ ghost use Rattle.ame_machine.specs.Run.AgreesWith.{with_members};
 ghost use Rattle.ame_journal.specs.declared.entry.Entry.{Entry};
 ghost use Rattle.ame_journal.specs.declared.entry.EntryKind.{EntryKind};
 ghost use Rattle.ame_journal.specs.Totals.{is_note};
-ghost use Rattle.ame_check.specs.Entries.{is_confirmed};
+ghost use Rattle.ame_check.specs.Entries.{is_confirmed, noted_as};
 ghost use Rattle.ame_check.specs.Reasons.{is_shut};
 ghost use Rattle.ame_check.specs.Shows.{ShowsMembers, Adopts};
 
@@ -64,12 +64,29 @@ fn shuts(kind: EntryKind, standing: bool) -> bool
     }
 }
 
+/// Returns what a note of a kind and of so many steps comes to, by what these came to.
+fn noted(kind: EntryKind, steps: u64, walked: Walked) -> Made
+    ensures { result ≡ noted_as kind steps walked }
+{
+    match walked {
+        Walked::Whole(want) => {
+            if confirms(kind, want) {
+                Made::Made
+            } else {
+                Made::Undefined(Reason::Stops(steps, want))
+            }
+        }
+        Walked::Undefined(why) => Made::Undefined(why),
+        Walked::Tall => Made::Tall,
+    }
+}
+
 /// Puts what was set into the cells.
 fn merge<V: Drop>(
     cells: &mut BTreeMap<u32, V>,
-    overlay: &mut BTreeMap<u32, V>,
+    mut overlay: BTreeMap<u32, V>,
 ) -> Result<(), NoMemory>
-    ensures { OnOk result ((l : ℕ) → at cells.new.entries l ≡ or_else (at overlay.old.entries l) (at cells.old.entries l)) }
+    ensures { OnOk result ((l : ℕ) → at cells.new.entries l ≡ or_else (at overlay.entries l) (at cells.old.entries l)) }
 {
     while let Some((l, value)) = overlay.pop_first() {
         cells.insert(l, value)?;
@@ -153,10 +170,10 @@ where
         &mut self,
         alloc: Global,
         code: &M::Code,
-        overlay: &mut BTreeMap<u32, Stored<M::Value>>,
+        overlay: BTreeMap<u32, Stored<M::Value>>,
         machine: &mut M,
     ) -> Result<(), NoMemory>
-        ensures cells { OnOk result ((l : ℕ) → at self.new.cells.entries l ≡ or_else (at overlay.old.entries l) (at self.old.cells.entries l)) }
+        ensures cells { OnOk result ((l : ℕ) → at self.new.cells.entries l ≡ or_else (at overlay.entries l) (at self.old.cells.entries l)) }
         ensures output { OnOk result (self.new.output.items ≡ self.old.output.items ++ (M.meaning.stage code.now machine.old).prints) }
         ensures adopts { OnOk result ((before : List (ℕ × Tree)) (inside : ℕ → Bool)
             → M.meaning.is_machine code.now machine.old → ShowsMembers M.meaning code.now inside self.old.members.entries before
@@ -194,11 +211,11 @@ where
         match run(alloc, code, &self.cells, entry, &mut overlay, &mut machine)? {
             Walked::Whole(want) => match want {
                 Wants::Done => {
-                    self.keep(alloc, code, &mut overlay, &mut machine)?;
+                    self.keep(alloc, code, overlay, &mut machine)?;
                     Ok(Made::Made)
                 }
                 Wants::Leave => {
-                    self.keep(alloc, code, &mut overlay, &mut machine)?;
+                    self.keep(alloc, code, overlay, &mut machine)?;
                     machine.settle();
                     self.members.insert(entry.number, machine)?;
                     Ok(Made::Made)
@@ -232,7 +249,7 @@ where
         let mut overlay = BTreeMap::new(alloc);
         match self.visit(alloc, code, entry, &mut overlay, &mut machine)? {
             Visited::Stays | Visited::Closes => {
-                self.keep(alloc, code, &mut overlay, &mut machine)?;
+                self.keep(alloc, code, overlay, &mut machine)?;
                 machine.settle();
                 self.members.insert(entry.number, machine)?;
                 Ok(Made::Made)
@@ -266,17 +283,8 @@ where
             return Ok(Made::Undefined(Reason::Inside));
         }
         let mut overlay = BTreeMap::new(alloc);
-        match run(alloc, code, &self.cells, entry, &mut overlay, &mut machine)? {
-            Walked::Whole(want) => {
-                if confirms(entry.kind, want) {
-                    Ok(Made::Made)
-                } else {
-                    Ok(Made::Undefined(Reason::Stops(entry.steps, want)))
-                }
-            }
-            Walked::Undefined(why) => Ok(Made::Undefined(why)),
-            Walked::Tall => Ok(Made::Tall),
-        }
+        let walked = run(alloc, code, &self.cells, entry, &mut overlay, &mut machine)?;
+        Ok(noted(entry.kind, entry.steps, walked))
     }
 
     /// One more entry.

@@ -1,7 +1,8 @@
-use Rattle.std.proofs.Common.{[], refl, sym, ap, ◌∙◌, arith}
+use Rattle.std.proofs.Common.{[], refl, sym, ap, ◌∙◌, subst, arith}
 use Rattle.ame_check.specs.Reasons.{is_shut}
+use Rattle.ame_check.specs.Entries.{CameOf}
 use Rattle.ame_check.proofs.RanEntries.{quiet-of}
-use Rattle.ame_check.proofs.NoteEntries.{noted-answer, noted-none, copy-good, copy-steps, copy-runs, begins-note, noted-no-run, noted-shut, noted-tall, noted-so, noted-not}
+use Rattle.ame_check.proofs.NoteEntries.{noted-answer, noted-none, copy-good, copy-steps, copy-runs, begins-note, noted-shut, noted-all}
 use Rattle.ame_check.proofs.replay.Replay.note.Goals as goal
 
 pub returns-then-is_some : goal.returns-then-is_some
@@ -51,38 +52,12 @@ run-requires-clause-walking g c = (
       (c.settle.ensures.machine c.args.code.now c.advance.ensures.machine) (c.settle.ensures.stage c.args.code.now) c.new-overlay.result.entries c.new-overlay.ensures.empty).walking,
 )
 
-pub returns-then-confirms : goal.returns-then-confirms
-returns-then-confirms g c = λ entries st.
-    noted-so g.M.Runner.meaning c.args.code.now (g.met.M.Runner.accepted c.args.code.now) (g.met.M.Runner.sound c.args.code.now) c.args.entry.now c.requires.note _ entries st (quiet-of c.args.entry.now.answer (sym c.is_some.ensures ∙ c.if-is_some.false))
-    c.in-Some.member.now c.in-Some.ensures.value c.in_ok-machine.machine (g.met.M.Runner.same_machines c.args.code.now c.in-Some.member.now c.in_ok-machine.machine c.in_ok-machine.ensures)
-    (g.met.M.Runner.stage_shown c.args.code.now c.in-Some.member.now c.in_ok-machine.machine c.in_ok-machine.ensures)
-    c.advance.new.self c.advance.ensures.machine c.advance.ensures.ran c.in_ok-_next._next c.in_ok-_next.ensures.told c.settle.new.self
-    (c.settle.ensures.machine c.args.code.now c.advance.ensures.machine) (c.settle.ensures.stage c.args.code.now) c.new-overlay.result.entries c.new-overlay.ensures.empty
-    (ap (is_shut c.args.entry.now.kind) (sym (c.inside.ensures c.args.code.now)) ∙ sym c.shuts.ensures ∙ c.if-shuts.false) c.run.new.overlay.entries c.run.new.machine c.in_ok-want.field-0 c.in_ok-want.ensures c.in-Whole.want c.in-Whole.is (sym c.confirms.ensures ∙ c.if-confirms.true)
-
-pub returns-in-Whole : goal.returns-in-Whole
-returns-in-Whole g c = λ entries st.
-    noted-not g.M.Runner.meaning c.args.code.now (g.met.M.Runner.accepted c.args.code.now) (g.met.M.Runner.sound c.args.code.now) c.args.entry.now c.requires.note _ entries st (quiet-of c.args.entry.now.answer (sym c.is_some.ensures ∙ c.if-is_some.false))
-    c.in-Some.member.now c.in-Some.ensures.value c.in_ok-machine.machine (g.met.M.Runner.same_machines c.args.code.now c.in-Some.member.now c.in_ok-machine.machine c.in_ok-machine.ensures)
-    (g.met.M.Runner.stage_shown c.args.code.now c.in-Some.member.now c.in_ok-machine.machine c.in_ok-machine.ensures)
-    c.advance.new.self c.advance.ensures.machine c.advance.ensures.ran c.in_ok-_next._next c.in_ok-_next.ensures.told c.settle.new.self
-    (c.settle.ensures.machine c.args.code.now c.advance.ensures.machine) (c.settle.ensures.stage c.args.code.now) c.new-overlay.result.entries c.new-overlay.ensures.empty
-    (ap (is_shut c.args.entry.now.kind) (sym (c.inside.ensures c.args.code.now)) ∙ sym c.shuts.ensures ∙ c.if-shuts.false) c.run.new.overlay.entries c.run.new.machine c.in_ok-want.field-0 c.in_ok-want.ensures c.in-Whole.want c.in-Whole.is (sym c.confirms.ensures ∙ c.if-confirms.false)
-
-pub returns-in-Undefined : goal.returns-in-Undefined
-returns-in-Undefined g c = λ entries st.
-    noted-no-run g.M.Runner.meaning c.args.code.now (g.met.M.Runner.accepted c.args.code.now) (g.met.M.Runner.sound c.args.code.now) c.args.entry.now c.requires.note _ entries st (quiet-of c.args.entry.now.answer (sym c.is_some.ensures ∙ c.if-is_some.false))
-    c.in-Some.member.now c.in-Some.ensures.value c.in_ok-machine.machine (g.met.M.Runner.same_machines c.args.code.now c.in-Some.member.now c.in_ok-machine.machine c.in_ok-machine.ensures)
-    (g.met.M.Runner.stage_shown c.args.code.now c.in-Some.member.now c.in_ok-machine.machine c.in_ok-machine.ensures)
-    c.advance.new.self c.advance.ensures.machine c.advance.ensures.ran c.in_ok-_next._next c.in_ok-_next.ensures.told c.settle.new.self
-    (c.settle.ensures.machine c.args.code.now c.advance.ensures.machine) (c.settle.ensures.stage c.args.code.now) c.new-overlay.result.entries c.new-overlay.ensures.empty
-    (ap (is_shut c.args.entry.now.kind) (sym (c.inside.ensures c.args.code.now)) ∙ sym c.shuts.ensures ∙ c.if-shuts.false) c.run.new.overlay.entries c.run.new.machine c.in_ok-want.field-0 c.in_ok-want.ensures c.in-Undefined.why c.in-Undefined.is
-
 pub returns : goal.returns
 returns g c = λ entries st.
-    noted-tall g.M.Runner.meaning c.args.code.now (g.met.M.Runner.accepted c.args.code.now) (g.met.M.Runner.sound c.args.code.now) c.args.entry.now c.requires.note _ entries st (quiet-of c.args.entry.now.answer (sym c.is_some.ensures ∙ c.if-is_some.false))
+    subst (CameOf g.M.Runner.meaning c.args.code.now entries c.args.entry.now (record { cells = c.args.self.now.cells.entries; members = c.args.self.now.members.entries; output = c.args.self.now.output.items; next = c.args.self.now.next })) (sym c.noted.ensures)
+    (noted-all g.M.Runner.meaning c.args.code.now (g.met.M.Runner.accepted c.args.code.now) (g.met.M.Runner.sound c.args.code.now) c.args.entry.now c.requires.note _ entries st (quiet-of c.args.entry.now.answer (sym c.is_some.ensures ∙ c.if-is_some.false))
     c.in-Some.member.now c.in-Some.ensures.value c.in_ok-machine.machine (g.met.M.Runner.same_machines c.args.code.now c.in-Some.member.now c.in_ok-machine.machine c.in_ok-machine.ensures)
     (g.met.M.Runner.stage_shown c.args.code.now c.in-Some.member.now c.in_ok-machine.machine c.in_ok-machine.ensures)
     c.advance.new.self c.advance.ensures.machine c.advance.ensures.ran c.in_ok-_next._next c.in_ok-_next.ensures.told c.settle.new.self
     (c.settle.ensures.machine c.args.code.now c.advance.ensures.machine) (c.settle.ensures.stage c.args.code.now) c.new-overlay.result.entries c.new-overlay.ensures.empty
-    (ap (is_shut c.args.entry.now.kind) (sym (c.inside.ensures c.args.code.now)) ∙ sym c.shuts.ensures ∙ c.if-shuts.false) c.run.new.overlay.entries c.run.new.machine c.in_ok-want.field-0 c.in_ok-want.ensures c.in-Tall.is
+    (ap (is_shut c.args.entry.now.kind) (sym (c.inside.ensures c.args.code.now)) ∙ sym c.shuts.ensures ∙ c.if-shuts.false) c.run.new.overlay.entries c.run.new.machine c.in_ok-walked.walked c.in_ok-walked.ensures c.in_ok-walked.walked refl)

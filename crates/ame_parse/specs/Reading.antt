@@ -38,6 +38,15 @@ module _ (part : Parser Tree) where
     which ← device
     alone (Tree.One (unary.Call which))
 
+  -- a part in which a name is bound, and the parenthesis that closes the form
+  unfoldable pub scoped : ℕ → Parser Tree
+  scoped x = do
+    bind_name x
+    whole ← part
+    closing
+    unbind
+    pure whole
+
   -- two parts
   unfoldable pub two : Binary → Parser Tree
   two op = do

@@ -8,11 +8,10 @@ ghost use Rattle.ame_parse.specs.Forms as spec;
 use ame_term::{Binary, Effect, Function, Name, Own, Term, Ty, Unary, Value};
 use std::alloc::{AllocError, Global};
 
-pub fn one(alloc: Global, op: Unary, part: Term) -> Result<Term, AllocError>
-    ensures { IfOk result (λ t. tree_of t ≡ tree.Tree.One op (tree_of part)) }
+pub fn one(op: Unary, part: Box<Term>) -> Term
+    ensures { tree_of result ≡ tree.Tree.One op (tree_of part.value) }
 {
-    let part = Box::new(alloc, part)?;
-    Ok(match op {
+    match op {
         Unary::Not => Term::Not(part),
         Unary::Ref(sort, number) => Term::Ref(sort, number, part),
         Unary::Get => Term::Get(part),
@@ -22,56 +21,18 @@ pub fn one(alloc: Global, op: Unary, part: Term) -> Result<Term, AllocError>
         Unary::Call(device) => Term::Call(device, part),
         Unary::First => Term::First(part),
         Unary::Second => Term::Second(part),
-    })
+    }
 }
 
-pub fn two(alloc: Global, op: Binary, first: Term, second: Term) -> Result<Term, AllocError>
-    ensures { IfOk result (λ t. tree_of t ≡ tree.Tree.Two op (tree_of first) (tree_of second)) }
+pub fn two(op: Binary, first: Box<Term>, second: Box<Term>) -> Term
+    ensures { tree_of result ≡ tree.Tree.Two op (tree_of first.value) (tree_of second.value) }
 {
-    let first = Box::new(alloc, first)?;
-    let second = Box::new(alloc, second)?;
-    Ok(match op {
+    match op {
         Binary::App => Term::App(first, second),
         Binary::Bin(op) => Term::Bin(op, first, second),
         Binary::Set => Term::Set(first, second),
         Binary::Pair => Term::Pair(first, second),
-    })
-}
-
-pub fn spawning(alloc: Global, body: Term) -> Result<Term, AllocError>
-    ensures { IfOk result (λ t. tree_of t ≡ tree.Tree.Async (tree_of body)) }
-{
-    let body = Box::new(alloc, body)?;
-    Ok(Term::Async(body))
-}
-
-pub fn unprotected(alloc: Global, part: Term) -> Result<Term, AllocError>
-    ensures { IfOk result (λ t. tree_of t ≡ tree.Tree.Unprotected (tree_of part)) }
-{
-    let part = Box::new(alloc, part)?;
-    Ok(Term::Unprotected(part))
-}
-
-pub fn choice(
-    alloc: Global,
-    test: Term,
-    then_part: Term,
-    else_part: Term,
-) -> Result<Term, AllocError>
-    ensures { IfOk result (λ t. tree_of t ≡ tree.Tree.If (tree_of test) (tree_of then_part) (tree_of else_part)) }
-{
-    let test = Box::new(alloc, test)?;
-    let then_part = Box::new(alloc, then_part)?;
-    let else_part = Box::new(alloc, else_part)?;
-    Ok(Term::If(test, then_part, else_part))
-}
-
-pub fn binding(alloc: Global, name: Name, bound: Term, body: Term) -> Result<Term, AllocError>
-    ensures { IfOk result (λ t. tree_of t ≡ tree.Tree.Let name.0 (tree_of bound) (tree_of body)) }
-{
-    let bound = Box::new(alloc, bound)?;
-    let body = Box::new(alloc, body)?;
-    Ok(Term::Let(name, bound, body))
+    }
 }
 
 pub fn sequence(parts: Vec<Term>) -> Term
@@ -84,7 +45,8 @@ pub fn sequence(parts: Vec<Term>) -> Term
 pub fn yielding(alloc: Global) -> Result<Term, AllocError>
     ensures { IfOk result (λ t. tree_of t ≡ tree.Tree.Unprotected tree.unit_tree) }
 {
-    unprotected(alloc, Term::Held(Value::Unit))
+    let unit = Box::new(alloc, Term::Held(Value::Unit))?;
+    Ok(Term::Unprotected(unit))
 }
 
 pub fn function(

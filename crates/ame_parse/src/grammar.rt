@@ -15,7 +15,7 @@ use crate::letters::{device, effect, numbered_sort};
 use crate::reader::Reader;
 use crate::ty::{param, ty};
 use crate::words::Word;
-use ame_term::{Binary, Own, Term, Unary, Value};
+use ame_term::{Binary, Name, Own, Term, Unary, Value};
 use std::alloc::Global;
 
 /// A name that is bound.
@@ -80,15 +80,42 @@ fn atom(alloc: Global, reader: &mut Reader<'_>, next: Ahead) -> Result<Term, Par
     }
 }
 
+/// Reads a term into a box, since a box is dropped by one call if a later step fails.
+#[cycle(grammar)]
+fn boxed_term(alloc: Global, reader: &mut Reader<'_>, depth: usize) -> Result<Box<Term>, ParseFault>
+    ensures { Reads (λ b. tree_of b.value) (spec.term depth reader.old) result reader.new }
+{
+    let part = term(alloc, reader, depth)?;
+    let part = Box::new(alloc, part)?;
+    Ok(part)
+}
+
+/// Reads a term in which a name is bound, and the closing parenthesis.
+#[cycle(grammar)]
+#[tactic(auto, unfolding(crate::specs::Reading::scoped))]
+fn scoped(
+    alloc: Global,
+    reader: &mut Reader<'_>,
+    depth: usize,
+    name: Name,
+) -> Result<Term, ParseFault>
+    ensures { Reads tree_of (spec.scoped (spec.term depth) name.0 reader.old) result reader.new }
+{
+    reader.bind(name)?;
+    let part = term(alloc, reader, depth)?;
+    reader.closing()?;
+    reader.unbind();
+    Ok(part)
+}
+
 #[cycle(grammar)]
 #[tactic(auto, unfolding(crate::specs::Reading::alone))]
 fn one(alloc: Global, reader: &mut Reader<'_>, depth: usize, op: Unary) -> Result<Term, ParseFault>
     ensures { Reads tree_of (spec.alone (spec.term depth) (Tree.One op) reader.old) result reader.new }
 {
-    let part = term(alloc, reader, depth)?;
+    let part = boxed_term(alloc, reader, depth)?;
     reader.closing()?;
-    let whole = build::one(alloc, op, part)?;
-    Ok(whole)
+    Ok(build::one(op, part))
 }
 
 #[cycle(grammar)]
@@ -114,10 +141,9 @@ fn call(alloc: Global, reader: &mut Reader<'_>, depth: usize) -> Result<Term, Pa
 fn spawning(alloc: Global, reader: &mut Reader<'_>, depth: usize) -> Result<Term, ParseFault>
     ensures { Reads tree_of (spec.alone (spec.term depth) Tree.Async reader.old) result reader.new }
 {
-    let body = term(alloc, reader, depth)?;
+    let body = boxed_term(alloc, reader, depth)?;
     reader.closing()?;
-    let whole = build::spawning(alloc, body)?;
-    Ok(whole)
+    Ok(Term::Async(body))
 }
 
 #[cycle(grammar)]
@@ -125,10 +151,9 @@ fn spawning(alloc: Global, reader: &mut Reader<'_>, depth: usize) -> Result<Term
 fn unprotected(alloc: Global, reader: &mut Reader<'_>, depth: usize) -> Result<Term, ParseFault>
     ensures { Reads tree_of (spec.alone (spec.term depth) Tree.Unprotected reader.old) result reader.new }
 {
-    let part = term(alloc, reader, depth)?;
+    let part = boxed_term(alloc, reader, depth)?;
     reader.closing()?;
-    let whole = build::unprotected(alloc, part)?;
-    Ok(whole)
+    Ok(Term::Unprotected(part))
 }
 
 #[cycle(grammar)]
@@ -136,11 +161,10 @@ fn unprotected(alloc: Global, reader: &mut Reader<'_>, depth: usize) -> Result<T
 fn two(alloc: Global, reader: &mut Reader<'_>, depth: usize, op: Binary) -> Result<Term, ParseFault>
     ensures { Reads tree_of (spec.two (spec.term depth) op reader.old) result reader.new }
 {
-    let first = term(alloc, reader, depth)?;
-    let second = term(alloc, reader, depth)?;
+    let first = boxed_term(alloc, reader, depth)?;
+    let second = boxed_term(alloc, reader, depth)?;
     reader.closing()?;
-    let whole = build::two(alloc, op, first, second)?;
-    Ok(whole)
+    Ok(build::two(op, first, second))
 }
 
 #[cycle(grammar)]
@@ -148,27 +172,23 @@ fn two(alloc: Global, reader: &mut Reader<'_>, depth: usize, op: Binary) -> Resu
 fn choice(alloc: Global, reader: &mut Reader<'_>, depth: usize) -> Result<Term, ParseFault>
     ensures { Reads tree_of (spec.choice (spec.term depth) reader.old) result reader.new }
 {
-    let test = term(alloc, reader, depth)?;
-    let then_part = term(alloc, reader, depth)?;
-    let else_part = term(alloc, reader, depth)?;
+    let test = boxed_term(alloc, reader, depth)?;
+    let then_part = boxed_term(alloc, reader, depth)?;
+    let else_part = boxed_term(alloc, reader, depth)?;
     reader.closing()?;
-    let whole = build::choice(alloc, test, then_part, else_part)?;
-    Ok(whole)
+    Ok(Term::If(test, then_part, else_part))
 }
 
 #[cycle(grammar)]
-#[tactic(auto, unfolding(crate::specs::Reading::binding))]
+#[tactic(auto, unfolding(crate::specs::Reading::binding, crate::specs::Reading::scoped))]
 fn binding(alloc: Global, reader: &mut Reader<'_>, depth: usize) -> Result<Term, ParseFault>
     ensures { Reads tree_of (spec.binding (spec.term depth) reader.old) result reader.new }
 {
     let name = reader.name(alloc)?;
-    let bound = term(alloc, reader, depth)?;
-    reader.bind(name)?;
-    let body = term(alloc, reader, depth)?;
-    reader.closing()?;
-    reader.unbind();
-    let whole = build::binding(alloc, name, bound, body)?;
-    Ok(whole)
+    let bound = boxed_term(alloc, reader, depth)?;
+    let body = scoped(alloc, reader, depth, name)?;
+    let body = Box::new(alloc, body)?;
+    Ok(Term::Let(name, bound, body))
 }
 
 /// The parts up to the closing parenthesis, after those that are there.
@@ -216,22 +236,19 @@ fn sequence(alloc: Global, reader: &mut Reader<'_>, depth: usize) -> Result<Term
 }
 
 #[cycle(grammar)]
-#[tactic(auto, unfolding(crate::specs::Reading::function))]
+#[tactic(auto, unfolding(crate::specs::Reading::function, crate::specs::Reading::scoped))]
 fn function(alloc: Global, reader: &mut Reader<'_>, depth: usize) -> Result<Term, ParseFault>
     ensures { Reads tree_of (spec.function (spec.term depth) (types.param depth) reader.old) result reader.new }
 {
     let effect = effect(reader)?;
     let (name, param_ty) = param(alloc, reader, depth)?;
-    reader.bind(name)?;
-    let body = term(alloc, reader, depth)?;
-    reader.closing()?;
-    reader.unbind();
+    let body = scoped(alloc, reader, depth, name)?;
     let whole = build::function(alloc, effect, name, param_ty, body)?;
     Ok(whole)
 }
 
 #[cycle(grammar)]
-#[tactic(auto, unfolding(crate::specs::Reading::recursive))]
+#[tactic(auto, unfolding(crate::specs::Reading::recursive, crate::specs::Reading::scoped))]
 fn recursive(alloc: Global, reader: &mut Reader<'_>, depth: usize) -> Result<Term, ParseFault>
     ensures { Reads tree_of (spec.recursive (spec.term depth) (types.param depth) (types.ty depth) reader.old) result reader.new }
 {
@@ -240,10 +257,7 @@ fn recursive(alloc: Global, reader: &mut Reader<'_>, depth: usize) -> Result<Ter
     let (name, param_ty) = param(alloc, reader, depth)?;
     let result_ty = ty(alloc, reader, depth)?;
     reader.bind(own)?;
-    reader.bind(name)?;
-    let body = term(alloc, reader, depth)?;
-    reader.closing()?;
-    reader.unbind();
+    let body = scoped(alloc, reader, depth, name)?;
     reader.unbind();
     let own = Own {
         name: own,

@@ -7,7 +7,7 @@ use crate::words::{Word, word_of};
 use ame_lex::Kind;
 
 /// What comes next.
-#[derive(Clone, Copy, Debug, PartialEq, Eq)]
+#[derive(Clone, Copy)]
 pub enum Ahead {
     Opening,
     Closing,

@@ -1,11 +1,11 @@
 //! Terms over their parts.
 
-ghost use Rattle.std.specs.Prelude.{◌≡◌, map, None, Some, IfOk};
+ghost use Rattle.std.specs.Prelude.{◌≡◌, map, IfOk};
 ghost use Rattle.ame_term.specs.Tree as tree;
-ghost use Rattle.ame_term.specs.View.{own_of, tree_of, typ_of};
+ghost use Rattle.ame_term.specs.View.{tree_of};
 ghost use Rattle.ame_parse.specs.Forms as spec;
 
-use ame_term::{Binary, Effect, Function, Name, Own, Term, Ty, Unary, Value};
+use ame_term::{Binary, Term, Unary, Value};
 use std::alloc::{AllocError, Global};
 
 pub fn one(op: Unary, part: Box<Term>) -> Term
@@ -47,47 +47,4 @@ pub fn yielding(alloc: Global) -> Result<Term, AllocError>
 {
     let unit = Box::new(alloc, Term::Held(Value::Unit))?;
     Ok(Term::Unprotected(unit))
-}
-
-pub fn function(
-    alloc: Global,
-    effect: Effect,
-    param: Name,
-    param_ty: Ty,
-    body: Term,
-) -> Result<Term, AllocError>
-    ensures { IfOk result (λ t. tree_of t
-        ≡ tree.Tree.Lambda (record { effect = effect; own = None; param = param.0; param_type = typ_of param_ty }) (tree_of body)) }
-{
-    let function = Function {
-        effect,
-        own: None,
-        param,
-        param_ty,
-        body,
-    };
-    let function = Box::new(alloc, function)?;
-    Ok(Term::Fun(function))
-}
-
-pub fn recursive(
-    alloc: Global,
-    effect: Effect,
-    own: Own,
-    param: Name,
-    param_ty: Ty,
-    body: Term,
-) -> Result<Term, AllocError>
-    ensures { IfOk result (λ t. tree_of t
-        ≡ tree.Tree.Lambda (record { effect = effect; own = Some (own_of own); param = param.0; param_type = typ_of param_ty }) (tree_of body)) }
-{
-    let function = Function {
-        effect,
-        own: Some(own),
-        param,
-        param_ty,
-        body,
-    };
-    let function = Box::new(alloc, function)?;
-    Ok(Term::Fun(function))
 }

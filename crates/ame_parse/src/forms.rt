@@ -8,7 +8,7 @@ use crate::words::Word;
 use ame_term::{Binary, Op, Unary};
 
 /// What the word or the symbol after an opening parenthesis begins.
-#[derive(Clone, Copy, Debug, PartialEq, Eq)]
+#[derive(Clone, Copy)]
 pub enum Opener {
     /// A form that is its word and one part.
     One(Unary),

@@ -15,7 +15,7 @@ use crate::letters::{device, effect, numbered_sort};
 use crate::reader::Reader;
 use crate::ty::{param, ty};
 use crate::words::Word;
-use ame_term::{Binary, Name, Own, Term, Unary, Value};
+use ame_term::{Binary, Function, Name, Own, Term, Unary, Value};
 use std::alloc::Global;
 
 /// A name that is bound.
@@ -82,7 +82,11 @@ fn atom(alloc: Global, reader: &mut Reader<'_>, next: Ahead) -> Result<Term, Par
 
 /// Reads a term into a box, since a box is dropped by one call if a later step fails.
 #[cycle(grammar)]
-fn boxed_term(alloc: Global, reader: &mut Reader<'_>, depth: usize) -> Result<Box<Term>, ParseFault>
+pub fn boxed_term(
+    alloc: Global,
+    reader: &mut Reader<'_>,
+    depth: usize,
+) -> Result<Box<Term>, ParseFault>
     ensures { Reads (λ b. tree_of b.value) (spec.term depth reader.old) result reader.new }
 {
     let part = term(alloc, reader, depth)?;
@@ -98,11 +102,11 @@ fn scoped(
     reader: &mut Reader<'_>,
     depth: usize,
     name: Name,
-) -> Result<Term, ParseFault>
-    ensures { Reads tree_of (spec.scoped (spec.term depth) name.0 reader.old) result reader.new }
+) -> Result<Box<Term>, ParseFault>
+    ensures { Reads (λ b. tree_of b.value) (spec.scoped (spec.term depth) name.0 reader.old) result reader.new }
 {
     reader.bind(name)?;
-    let part = term(alloc, reader, depth)?;
+    let part = boxed_term(alloc, reader, depth)?;
     reader.closing()?;
     reader.unbind();
     Ok(part)
@@ -187,7 +191,6 @@ fn binding(alloc: Global, reader: &mut Reader<'_>, depth: usize) -> Result<Term,
     let name = reader.name(alloc)?;
     let bound = boxed_term(alloc, reader, depth)?;
     let body = scoped(alloc, reader, depth, name)?;
-    let body = Box::new(alloc, body)?;
     Ok(Term::Let(name, bound, body))
 }
 
@@ -243,8 +246,15 @@ fn function(alloc: Global, reader: &mut Reader<'_>, depth: usize) -> Result<Term
     let effect = effect(reader)?;
     let (name, param_ty) = param(alloc, reader, depth)?;
     let body = scoped(alloc, reader, depth, name)?;
-    let whole = build::function(alloc, effect, name, param_ty, body)?;
-    Ok(whole)
+    let function = Function {
+        effect,
+        own: None,
+        param: name,
+        param_ty,
+        body: Box::into_inner(body),
+    };
+    let function = Box::new(alloc, function)?;
+    Ok(Term::Fun(function))
 }
 
 #[cycle(grammar)]
@@ -263,8 +273,15 @@ fn recursive(alloc: Global, reader: &mut Reader<'_>, depth: usize) -> Result<Ter
         name: own,
         result: result_ty,
     };
-    let whole = build::recursive(alloc, effect, own, name, param_ty, body)?;
-    Ok(whole)
+    let function = Function {
+        effect,
+        own: Some(own),
+        param: name,
+        param_ty,
+        body: Box::into_inner(body),
+    };
+    let function = Box::new(alloc, function)?;
+    Ok(Term::Fun(function))
 }
 
 /// What stands after an opening parenthesis.
@@ -307,7 +324,7 @@ fn nested(alloc: Global, reader: &mut Reader<'_>, depth: usize) -> Result<Term, 
 /// A term, where at most so many parentheses may be open in it.
 #[cycle(grammar)]
 #[tactic(auto, unfolding(crate::specs::Reading::term, crate::specs::Reading::atom))]
-pub fn term(alloc: Global, reader: &mut Reader<'_>, depth: usize) -> Result<Term, ParseFault>
+fn term(alloc: Global, reader: &mut Reader<'_>, depth: usize) -> Result<Term, ParseFault>
     ensures { Reads tree_of (spec.term depth reader.old) result reader.new }
 {
     reader.mark()?;

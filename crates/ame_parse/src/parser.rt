@@ -9,7 +9,7 @@ ghost use Rattle.ame_parse.specs.Text.{AnswersProgram};
 ghost use Rattle.ame_term.specs.View.{tree_of};
 
 use crate::fault::ParseFault;
-use crate::grammar::term;
+use crate::grammar::boxed_term;
 use crate::reader::Reader;
 use ame_lex::{Token, tokens_lie_within};
 use ame_term::{Program, Term};
@@ -34,7 +34,7 @@ pub fn parse(alloc: Global, text: &[u8], tokens: &[Token]) -> Result<Program, Pa
             Ok(Program {
                 names,
                 places,
-                term,
+                term: Box::into_inner(term),
             })
         }
         Err(fault) => Err(fault),
@@ -43,10 +43,10 @@ pub fn parse(alloc: Global, text: &[u8], tokens: &[Token]) -> Result<Program, Pa
 
 /// A term, and nothing after it.
 #[tactic(auto, unfolding(crate::specs::Reading::program))]
-fn program(alloc: Global, reader: &mut Reader<'_>) -> Result<Term, ParseFault>
-    ensures { Reads tree_of (spec.program reader.old) result reader.new }
+fn program(alloc: Global, reader: &mut Reader<'_>) -> Result<Box<Term>, ParseFault>
+    ensures { Reads (λ b. tree_of b.value) (spec.program reader.old) result reader.new }
 {
-    let term = term(alloc, reader, MAX_OPEN)?;
+    let term = boxed_term(alloc, reader, MAX_OPEN)?;
     reader.finish()?;
     Ok(term)
 }

@@ -1,7 +1,5 @@
 //! Types, by recursive descent.
 
-ghost use Rattle.std.specs.Prelude.{◌≡◌, IfOk};
-ghost use Rattle.ame_term.specs.Tree as tree;
 ghost use Rattle.ame_term.specs.View.{typ_of};
 ghost use Rattle.ame_parse.specs.Input.{Reads};
 ghost use Rattle.ame_parse.specs.Types as spec;
@@ -11,30 +9,17 @@ use crate::fault::{ParseFault, Want};
 use crate::letters::{effect, sort};
 use crate::reader::Reader;
 use crate::words::Word;
-use ame_term::{Effect, Name, Sort, Ty};
-use std::alloc::{AllocError, Global};
+use ame_term::{Name, Ty};
+use std::alloc::Global;
 
-fn build_reference(alloc: Global, sort: Sort, content: Ty) -> Result<Ty, AllocError>
-    ensures { IfOk result (λ t. typ_of t ≡ tree.Typ.Ref sort (typ_of content)) }
+/// Reads a type into a box, since a box is dropped by one call if a later step fails.
+#[cycle(types)]
+fn boxed_ty(alloc: Global, reader: &mut Reader<'_>, depth: usize) -> Result<Box<Ty>, ParseFault>
+    ensures { Reads (λ b. typ_of b.value) (spec.ty depth reader.old) result reader.new }
 {
-    let content = Box::new(alloc, content)?;
-    Ok(Ty::Ref(sort, content))
-}
-
-fn build_function(alloc: Global, effect: Effect, param: Ty, gives: Ty) -> Result<Ty, AllocError>
-    ensures { IfOk result (λ t. typ_of t ≡ tree.Typ.Fun effect (typ_of param) (typ_of gives)) }
-{
-    let param = Box::new(alloc, param)?;
-    let gives = Box::new(alloc, gives)?;
-    Ok(Ty::Fun(effect, param, gives))
-}
-
-fn build_pair(alloc: Global, first: Ty, second: Ty) -> Result<Ty, AllocError>
-    ensures { IfOk result (λ t. typ_of t ≡ tree.Typ.Pair (typ_of first) (typ_of second)) }
-{
-    let first = Box::new(alloc, first)?;
-    let second = Box::new(alloc, second)?;
-    Ok(Ty::Pair(first, second))
+    let part = ty(alloc, reader, depth)?;
+    let part = Box::new(alloc, part)?;
+    Ok(part)
 }
 
 #[cycle(types)]
@@ -43,10 +28,9 @@ fn reference(alloc: Global, reader: &mut Reader<'_>, depth: usize) -> Result<Ty,
     ensures { Reads typ_of (spec.reference (spec.ty depth) reader.old) result reader.new }
 {
     let sort = sort(reader)?;
-    let content = ty(alloc, reader, depth)?;
+    let content = boxed_ty(alloc, reader, depth)?;
     reader.closing()?;
-    let whole = build_reference(alloc, sort, content)?;
-    Ok(whole)
+    Ok(Ty::Ref(sort, content))
 }
 
 #[cycle(types)]
@@ -55,11 +39,10 @@ fn function(alloc: Global, reader: &mut Reader<'_>, depth: usize) -> Result<Ty, 
     ensures { Reads typ_of (spec.function (spec.ty depth) reader.old) result reader.new }
 {
     let effect = effect(reader)?;
-    let param = ty(alloc, reader, depth)?;
-    let gives = ty(alloc, reader, depth)?;
+    let param = boxed_ty(alloc, reader, depth)?;
+    let gives = boxed_ty(alloc, reader, depth)?;
     reader.closing()?;
-    let whole = build_function(alloc, effect, param, gives)?;
-    Ok(whole)
+    Ok(Ty::Fun(effect, param, gives))
 }
 
 #[cycle(types)]
@@ -67,11 +50,10 @@ fn function(alloc: Global, reader: &mut Reader<'_>, depth: usize) -> Result<Ty, 
 fn pair(alloc: Global, reader: &mut Reader<'_>, depth: usize) -> Result<Ty, ParseFault>
     ensures { Reads typ_of (spec.pair (spec.ty depth) reader.old) result reader.new }
 {
-    let first = ty(alloc, reader, depth)?;
-    let second = ty(alloc, reader, depth)?;
+    let first = boxed_ty(alloc, reader, depth)?;
+    let second = boxed_ty(alloc, reader, depth)?;
     reader.closing()?;
-    let whole = build_pair(alloc, first, second)?;
-    Ok(whole)
+    Ok(Ty::Pair(first, second))
 }
 
 /// What stands after the opening parenthesis of a type.

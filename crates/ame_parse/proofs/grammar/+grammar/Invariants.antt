@@ -13,7 +13,7 @@ abbrev pub decreases-boxed_term : goal.decreases-boxed_term
 decreases-boxed_term l = 6 * l.depth + 2
 
 abbrev pub decreases-scoped : goal.decreases-scoped
-decreases-scoped l = 6 * l.depth + 2
+decreases-scoped l = 6 * l.depth + 3
 
 abbrev pub decreases-one : goal.decreases-one
 decreases-one l = 6 * l.depth + 3
@@ -25,7 +25,7 @@ abbrev pub decreases-choice : goal.decreases-choice
 decreases-choice l = 6 * l.depth + 3
 
 abbrev pub decreases-binding : goal.decreases-binding
-decreases-binding l = 6 * l.depth + 3
+decreases-binding l = 6 * l.depth + 4
 
 abbrev pub decreases-more : goal.decreases-more
 decreases-more l = 6 * l.depth + 3
@@ -37,10 +37,10 @@ abbrev pub decreases-sequence : goal.decreases-sequence
 decreases-sequence l = 6 * l.depth + 4
 
 abbrev pub decreases-function : goal.decreases-function
-decreases-function l = 6 * l.depth + 3
+decreases-function l = 6 * l.depth + 4
 
 abbrev pub decreases-recursive : goal.decreases-recursive
-decreases-recursive l = 6 * l.depth + 3
+decreases-recursive l = 6 * l.depth + 4
 
 abbrev pub decreases-reference : goal.decreases-reference
 decreases-reference l = 6 * l.depth + 4

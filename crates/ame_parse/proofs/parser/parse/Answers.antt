@@ -14,17 +14,17 @@ returns-in-Err c =
 
 pub returns-in_ok-names-in-Ok : goal.returns-in_ok-names-in-Ok
 returns-in_ok-names-in-Ok c = record {
-  exact = rw (c.in_ok-names-in-Ok.ensures.0, c.in_ok-names-in-Ok.ensures.1) (program_answers _ _ _ _ _ c.requires.of_text c.new-reader.ensures c.in-Ok.ensures);
+  exact = rw (c.in_ok-names-in-Ok.ensures.0, c.in_ok-names-in-Ok.ensures.1, c.into_inner.ensures) (program_answers _ _ _ _ _ c.requires.of_text c.new-reader.ensures c.in-Ok.ensures);
 }
 
 pub invariant_of-result-clause-placed : goal.invariant_of-result-clause-placed
-invariant_of-result-clause-placed c = rw c.in_ok-names-in-Ok.ensures.1 (program_is _ _ _ _ _ c.new-reader.ensures c.in-Ok.ensures).placed
+invariant_of-result-clause-placed c = rw (c.in_ok-names-in-Ok.ensures.1, c.into_inner.ensures) (program_is _ _ _ _ _ c.new-reader.ensures c.in-Ok.ensures).placed
 
 pub invariant_of-result-clause-source : goal.invariant_of-result-clause-source
-invariant_of-result-clause-source c = (program_is _ _ _ _ _ c.new-reader.ensures c.in-Ok.ensures).source
+invariant_of-result-clause-source c = rw c.into_inner.ensures (program_is _ _ _ _ _ c.new-reader.ensures c.in-Ok.ensures).source
 
 pub invariant_of-result-clause-bound : goal.invariant_of-result-clause-bound
-invariant_of-result-clause-bound c = (program_is _ _ _ _ _ c.new-reader.ensures c.in-Ok.ensures).bound
+invariant_of-result-clause-bound c = rw c.into_inner.ensures (program_is _ _ _ _ _ c.new-reader.ensures c.in-Ok.ensures).bound
 
 pub invariant_of-result-clause-numbered : goal.invariant_of-result-clause-numbered
-invariant_of-result-clause-numbered c = (program_is _ _ _ _ _ c.new-reader.ensures c.in-Ok.ensures).numbered
+invariant_of-result-clause-numbered c = rw c.into_inner.ensures (program_is _ _ _ _ _ c.new-reader.ensures c.in-Ok.ensures).numbered

@@ -161,7 +161,7 @@ class Build:
         if not left:
             return
         what = f"{left} of {count} crates are left" if self.done else f"{count} crates"
-        self.screen.say(f"{named(self.crates.programs)} proved first: {what}, {self.minutes_left()} on this machine")
+        self.screen.say(f"{named(self.crates.programs)} proved first: {what}, {self.minutes_left()} on this machine; ./try needs no proof")
 
     def how_far(self):
         count = len(self.crates.row)
@@ -319,8 +319,9 @@ def make(programs, screen):
 
 def main():
     programs = sys.argv[1:] or PROGRAMS
-    if any(word.startswith("-") for word in programs):
-        sys.exit(__doc__)
+    if "--help" in programs:
+        print(__doc__)
+        return
     open_streams()
     screen = Screen()
     for number in (signal.SIGINT, signal.SIGTERM, signal.SIGHUP):

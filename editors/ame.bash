@@ -1,6 +1,9 @@
-# Completion of ./ame, ./try and ./why: `source PATH/editors/ame.bash`.
+# Completion of ame, try and why, also as ./ame: `source PATH/editors/ame.bash`.
 
-# Numbers in the range of a word, the least and the greatest among them.
+_AME_COMMANDS='run bench sim replay check resume weak'
+_AME_VIEWS='--journal --trace --schedule --counts --store --steps --picture --events'
+
+# Numbers in the range of an option or a number, with the least and the greatest.
 _ame_numbers() {
   case $1 in
   --workers) echo {1..32} ;;
@@ -16,44 +19,49 @@ _ame_offer() {
   mapfile -t COMPREPLY < <(compgen -W "$*" -- "$cur")
 }
 
-# Offers programs and folders, and these words.
+# Offers files of this pattern, folders, and these words.
 _ame_offer_files() {
-  local hidden='.*'
+  local hidden='.*' pattern=$1
+  shift
   [[ $cur == .* ]] && hidden=
   compopt -o filenames 2>/dev/null
-  mapfile -t COMPREPLY < <(compgen -d -X "$hidden" -- "$cur"; compgen -f -X '!*.ame' -- "$cur"; compgen -W "$*" -- "$cur")
+  mapfile -t COMPREPLY < <(compgen -d -X "$hidden" -- "$cur"; compgen -f -X "!$pattern" -- "$cur"; compgen -W "$*" -- "$cur")
 }
 
-# What may follow a command word: options that aren't given yet, the numbers of `bench`, `sim` and `weak`, and these words.
+# Offers what may follow a command: its numbers, options that are not given yet, a file if none is given, and these words.
 _ame_offer_parts() {
-  local option given offered=() numbers=0
+  local command=${words[0]} option given offered=() numbers=0
   for given in "${words[@]:1}"; do
     [[ $given == [0-9]* ]] && ((numbers++))
   done
-  if [[ ${words[0]-} == bench && $cur != -* ]]; then
-    ((numbers == 0)) && offered+=($(_ame_numbers seed))
-    ((numbers == 1)) && offered+=($(_ame_numbers size))
+  if [[ $cur != -* ]]; then
+    [[ $command == @(bench|sim|weak) && $numbers == 0 ]] && { _ame_offer "$(_ame_numbers seed)"; return; }
+    [[ $command == bench && $numbers == 1 ]] && { _ame_offer "$(_ame_numbers size)"; return; }
   fi
-  [[ ${words[0]-} == @(sim|weak) && $cur != -* && $numbers == 0 ]] && offered+=($(_ame_numbers seed))
   for option in --workers --turns --slice; do
-    [[ ${words[0]-} == weak && $option != --turns ]] && continue
+    [[ $command == check || $command == weak && $option != --turns ]] && continue
     [[ " ${words[*]} " == *" $option"[\ =]* ]] || offered+=("$option")
   done
-  _ame_offer "${offered[@]}" "$@"
+  [[ $command != check ]] && offered+=("$@")
+  case $file$command in
+  bench | file*) _ame_offer "${offered[@]}" ;;
+  replay | check | resume) _ame_offer_files '*' "${offered[@]}" ;;
+  *) _ame_offer_files '*.ame' "${offered[@]}" ;;
+  esac
 }
 
 _ame() {
-  local program=${1##*/} cur=${COMP_WORDS[COMP_CWORD]} word last='' words=() views='' rest=() at
+  local program=${1##*/} cur=${COMP_WORDS[COMP_CWORD]} word last='' words=() others=() file='' rest=() at
   COMPREPLY=()
-  # The words before the one at the cursor: redirections are left out, and an option's value stands in its word.
+  # The words before the one at the cursor: redirections and certificates are left out, and an option's value stands in its word.
   for ((at = 1; at < COMP_CWORD; at++)); do
     word=${COMP_WORDS[at]}
     case $last in
-    [\<\>]*) ;;
+    [\<\>]* | --certificate) ;;
     = | --workers | --turns | --slice)
       if [[ $word == = ]]; then last='='; continue; fi
       words[-1]+="=$word" ;;
-    *) [[ $word == [\<\>]* ]] || words+=("$word") ;;
+    *) [[ $word == [\<\>]* || $word == --certificate ]] || words+=("$word") ;;
     esac
     last=$word
     [[ $word == --*=* ]] && last=
@@ -63,38 +71,32 @@ _ame() {
   =) cur= ;;
   esac
   case $last in
-  \<*)
-    case ${words[0]-} in
-    replay | check | resume) compopt -o default 2>/dev/null ;;
-    *) _ame_offer_files ;;
-    esac
-    return ;;
-  \>*) compopt -o default 2>/dev/null; return ;;
+  [\<\>]* | --certificate) compopt -o default 2>/dev/null; return ;;
+  = | --workers | --turns | --slice) _ame_offer "$(_ame_numbers "${words[-1]}")"; return ;;
   esac
-  if [[ $last == = || $last == --workers || $last == --turns || $last == --slice ]]; then
-    _ame_offer "$(_ame_numbers "${words[-1]}")"
-    return
-  fi
-  if [[ $program == why ]]; then
-    views='--journal --trace --schedule --counts --store --steps --picture --events'
-    for word in "${words[@]}"; do
-      case $word in
-      --journal | --trace | --schedule | --counts | --store | --steps | --picture | --events) views= ;;
-      *) rest+=("$word") ;;
-      esac
-    done
-    words=("${rest[@]}")
-    case ${words[0]-} in
-    '') _ame_offer_files run bench sim replay check resume weak $views ${views:+--help --explain --version}; return ;;
-    run | bench | sim | replay | check | resume | weak) ;;
-    *) words=("${words[@]:1}") ;;
-    esac
-  fi
-  case ${words[0]-} in
-  '') _ame_offer run bench sim replay check resume weak $views ;;
-  run | bench | sim | replay | resume | weak) _ame_offer_parts $views ;;
-  check) _ame_offer $views ;;
+  case $program in
+  why) others=($_AME_VIEWS) ;;
+  ame) others=(--certificate) ;;
   esac
+  for word in "${words[@]}"; do
+    case $word in
+    --journal | --trace | --schedule | --counts | --store | --steps | --picture | --events) others=() ;;
+    *) rest+=("$word") ;;
+    esac
+  done
+  words=("${rest[@]}")
+  # A file may stand before the command.
+  if [[ ${words[0]-} && " $_AME_COMMANDS " != *" ${words[0]} "* ]]; then
+    file=file words=("${words[@]:1}")
+  fi
+  if [[ ${words[0]-} ]]; then
+    _ame_offer_parts "${others[@]}"
+  elif [[ $file ]]; then
+    _ame_offer $_AME_COMMANDS "${others[@]}"
+  else
+    [[ $program == why ]] && others+=(--explain)
+    _ame_offer_files '*.ame' $_AME_COMMANDS "${others[@]}" --help --version
+  fi
 }
 
 complete -F _ame ame try why

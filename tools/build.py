@@ -1,15 +1,14 @@
 #!/usr/bin/env python3
-"""Proves the crates of which a program is made, as many at a time as the machine has room for, and builds it.
+"""build.py [PROGRAM ..]: proves the crates of programs (ame and ame_why_main, if none is named), and builds these.
 
-build.py PROGRAM tells on standard error how far it is. It calls the compiler as `rt` does, crate by crate, each as soon as
-those that it uses are there. A crate that is done keeps in out/ the checksum of its sources and of those below it, so
-a later run goes on with what is left. What `rt ci` proved of the same files on this machine is taken over (tools/kept.py).
-The file tools/weights has how long each crate takes one processor; from these come the order, the number of jobs of each
-crate, and the time that is told.
+It runs as many proofs at a time as the machine has room for, and reports on standard error how far it is. Programs of one call
+share what both use. It calls the compiler as `rt` does, crate by crate, each as soon as those that it uses are there. A crate
+that is done keeps in out/ the checksum of its sources and of those below it, so a later run goes on with what is left. What
+`rt ci` proved of the same files on this machine is taken over (tools/kept.py). The file tools/weights has how long each crate
+takes one processor; from these come the order, the number of jobs of each crate, and the time that is reported.
 """
 import contextlib
 import fcntl
-import hashlib
 import math
 import os
 import shutil
@@ -19,8 +18,11 @@ import sys
 import time
 from collections import namedtuple
 
-TOP = os.path.dirname(os.path.dirname(os.path.abspath(__file__)))
-PARTS = ("src", "specs", "proofs")
+sys.dont_write_bytecode = True
+
+from crates import TOP, Crates, Failure, Kit, folder_of, note_start, sum_of_file, text_of, write
+
+PROGRAMS = ("ame", "ame_why_main")
 FAILED = 70
 
 LINES_A_SECOND = 15
@@ -32,44 +34,12 @@ LEAST_IDLE = 0.5
 FIRST_GUESS = 60
 # How many seconds the search for what `rt ci` kept may take.
 SEARCH = 120
-# Longer than the clock of the files' times stands still.
-TICK = 0.02
-
-COMPILER, LINKER, LIBRARIES = "bin/rattle", "bin/rattle-link", "rlibs"
-LOGIC, BUILT_LOGIC, TOOLCHAIN = "rattle/logic/antt-project.json", "logic_built", "toolchain"
-C_CODE = ("c/libos_c.a", "c/liblibc_c.a")
 
 Work = namedtuple("Work", "process jobs since")
 
 
-class Failure(Exception):
-    """Why there is no program."""
-
-
 class Interrupt(Exception):
     """The number of a signal that asks this process to end."""
-
-
-def folder_of(crate):
-    return f"{TOP}/crates/{crate}"
-
-
-def text_of(file):
-    try:
-        with open(file, encoding="utf-8") as it:
-            return it.read()
-    except OSError:
-        return ""
-
-
-def sum_of_file(file):
-    with open(file, "rb") as it:
-        return hashlib.sha256(it.read()).hexdigest()
-
-
-def write(file, text):
-    with open(file, "w", encoding="utf-8") as it:
-        it.write(text)
 
 
 class Screen:
@@ -93,137 +63,6 @@ class Screen:
         if self.is_live and text != self.shown:
             self.put(text)
             self.shown = text
-
-
-class Kit:
-    """The toolchain of the command `rt`."""
-
-    def __init__(self):
-        command = shutil.which("rt")
-        if not command:
-            raise Failure("the toolchain's command rt isn't found")
-        self.folder = os.path.dirname(os.path.dirname(os.path.realpath(command)))
-        for part in (COMPILER, LINKER, LIBRARIES, LOGIC, BUILT_LOGIC, TOOLCHAIN, *C_CODE):
-            if not os.path.exists(self.at(part)):
-                raise Failure(f"the toolchain of {command} has no {self.at(part)}")
-        compiler = os.stat(self.at(COMPILER))
-        self.identity = f"{compiler.st_size} {compiler.st_mtime_ns} {text_of(self.at('WHAT'))}"
-
-    def at(self, part):
-        return f"{self.folder}/{part}"
-
-    def library(self, name):
-        found = self.at(f"{LIBRARIES}/{name}.rlib")
-        if not os.path.isdir(found):
-            raise Failure(f"crates.txt names {name}, which is no crate of it and no library of the toolchain")
-        return found
-
-
-class Crates:
-    """The crates of a program, by the rows of crates.txt: each stands in the row after those that it uses."""
-
-    def __init__(self, program, kit):
-        self.program, self.kit, self.named = program, kit, {}
-        for row in text_of(f"{TOP}/crates.txt").splitlines():
-            head, colon, names = row.partition("#")[0].partition(":")
-            if colon:
-                self.named[head.split()[0]] = names.split()
-        if program not in self.named:
-            raise Failure(f"crates.txt has no {program}")
-        self.row = self.put_into([], program)
-        self.own, self.sums = {}, {}
-        for crate in self.row:
-            self.libraries(crate)
-            self.own[crate] = self.own_sum(crate)
-            parts = [kit.identity, self.own[crate], *(self.sums[name] for name in self.uses(crate))]
-            self.sums[crate] = hashlib.sha256("\n".join(parts).encode()).hexdigest()
-
-    def uses(self, crate):
-        return [name for name in self.named[crate] if name in self.named]
-
-    def libraries(self, crate):
-        """The toolchain's libraries that the crate uses, by their names."""
-        return {name: self.kit.library(name) for name in ["std", *self.named[crate]] if name not in self.named}
-
-    def put_into(self, row, crate):
-        """Appends the crate to the row, after those that it uses."""
-        if crate not in row:
-            for name in self.uses(crate):
-                self.put_into(row, name)
-            row.append(crate)
-        return row
-
-    def files(self, crate):
-        for part in PARTS:
-            for folder, inner, names in os.walk(f"{folder_of(crate)}/{part}"):
-                inner.sort()
-                yield from (f"{folder}/{name}" for name in sorted(names))
-
-    def own_sum(self, crate):
-        found = hashlib.sha256(" ".join(self.named[crate]).encode())
-        for file in self.files(crate):
-            found.update(f"{os.path.relpath(file, TOP)} {sum_of_file(file)}\n".encode())
-        return found.hexdigest()
-
-    def lines(self, crate):
-        return sum(text_of(file).count("\n") for file in self.files(crate))
-
-    def made(self, crate):
-        """What is built of the crate, in its folder."""
-        return f"out/{crate}" if crate == self.program else f"out/rlib/{crate}.rlib"
-
-    def stamp(self, crate):
-        """The file that tells from which sources it is built; of a library it lies where `rt` removes it with the library."""
-        return f"{folder_of(crate)}/out/{'' if crate == self.program else 'rlib/'}built-from"
-
-    def stamp_text(self, crate):
-        if crate != self.program:
-            return self.sums[crate]
-        return f"{self.sums[crate]} {sum_of_file(f'{folder_of(crate)}/{self.made(crate)}')}"
-
-    def is_built(self, crate):
-        is_there = os.path.exists(f"{folder_of(crate)}/{self.made(crate)}")
-        return is_there and text_of(self.stamp(crate)) == self.stamp_text(crate)
-
-    def built(self):
-        """The crates that are done: what is built of each fits its sources, and those below it are done."""
-        found = []
-        for crate in self.row:
-            if all(name in found for name in self.uses(crate)) and self.is_built(crate):
-                found.append(crate)
-        return found
-
-    def words(self, crate, jobs):
-        """The call of the compiler that proves the crate and builds it, in its folder."""
-        kit, is_program = self.kit, crate == self.program
-        words = [kit.at(COMPILER), "build", "--crate-name", crate, f"src/{'main' if is_program else 'lib'}.rt"]
-        built = {name: f"{folder_of(name)}/{self.made(name)}" for name in self.uses(crate)}
-        for name, library in {**self.libraries(crate), **built}.items():
-            words += ["--extern", f"{name}={library}"]
-        for folder in [kit.at(LIBRARIES), *(f"{folder_of(name)}/out/rlib" for name in self.put_into([], crate)[:-1])]:
-            words += ["-L", f"dependency={folder}"]
-        words += ["--antt-project", kit.at(LOGIC), "--logic-built", kit.at(BUILT_LOGIC)]
-        words += ["--incremental", "out/incremental", "--jobs", str(jobs), "--links", f"{crate}="]
-        if is_program:
-            return [*words, "--toolchain", kit.at(TOOLCHAIN), "--backend", "llvm", "-o", f"{self.made(crate)}.o"]
-        return [*words, "-o", self.made(crate)]
-
-    def words_of_linker(self):
-        made, kit = self.made(self.program), self.kit
-        words = [kit.at(LINKER), "--target", "x86_64-unknown-linux-gnu", "--toolchain", kit.at(TOOLCHAIN)]
-        return [*words, "-o", made, f"{made}.o", *map(kit.at, C_CODE)]
-
-
-def note_start(crates):
-    """Writes out/made-from, by which tools/start sees that nothing was changed since; unless something just was."""
-    program, folder = crates.program, f"{folder_of(crates.program)}/out"
-    parts = ["crates.txt", *(f"crates/{crate}" for crate in crates.row), f"crates/{program}/{crates.made(program)}"]
-    with contextlib.suppress(OSError):
-        write(f"{folder}/made-from.new", " ".join(parts) + "\n")
-        time.sleep(TICK)
-        now = Crates(program, crates.kit)
-        if now.sums == crates.sums and now.is_built(program):
-            os.replace(f"{folder}/made-from.new", f"{folder}/made-from")
 
 
 def processors():
@@ -322,15 +161,15 @@ class Build:
         if not left:
             return
         what = f"{left} of {count} crates are left" if self.done else f"{count} crates"
-        self.screen.say(f"{self.crates.program} is proved first: {what}, {self.minutes_left()} on this machine")
+        self.screen.say(f"{named(self.crates.programs)} proved first: {what}, {self.minutes_left()} on this machine; ./try needs no proof")
 
     def how_far(self):
         count = len(self.crates.row)
         return f"{len(self.done)} of {count}" + f", {self.minutes_left()} left" * (len(self.done) < count)
 
     def begin(self, crate, jobs):
-        folder, program = folder_of(crate), self.crates.program
-        if crate == program:
+        folder = folder_of(crate)
+        if crate in self.crates.programs:
             for old in (self.crates.stamp(crate), f"{folder}/{self.crates.made(crate)}", f"{folder}/out/made-from"):
                 with contextlib.suppress(FileNotFoundError):
                     os.remove(old)
@@ -356,8 +195,8 @@ class Build:
             self.plan.room = max(1, (it.jobs + sum(self.jobs().values())) // 2)
             self.screen.say(f"{crate} was killed, most likely for memory: fewer checks run at a time from here on")
             return
-        if crate == self.crates.program and not status:
-            status = self.call(crate, self.crates.words_of_linker(), "ab").wait()
+        if crate in self.crates.programs and not status:
+            status = self.call(crate, self.crates.words_of_linker(crate), "ab").wait()
         if status:
             raise Failure(f"{crate} failed with status {status} after {seconds:.0f} s; see {folder_of(crate)}/out/build.log")
         if self.crates.own_sum(crate) != self.crates.own[crate]:
@@ -382,10 +221,10 @@ class Build:
         self.tell_end()
 
     def tell_end(self):
-        program = self.crates.program
         minutes, seconds = divmod(round(time.monotonic() - self.since), 60)
-        found = sum_of_file(f"{folder_of(program)}/{self.crates.made(program)}")
-        self.screen.say(f"{program} is proved and built, in {minutes} min {seconds} s; its sha256 is {found}")
+        for program in self.crates.programs:
+            found = sum_of_file(f"{folder_of(program)}/{self.crates.made(program)}")
+            self.screen.say(f"{program} is proved and built, in {minutes} min {seconds} s; its sha256 is {found}")
 
     def stop(self):
         for it in self.at_work.values():
@@ -396,16 +235,19 @@ class Build:
 
 def take_kept(crates, screen):
     """Takes over what `rt ci` proved and built of the same files on this machine."""
-    words = [sys.executable, f"{TOP}/tools/kept.py", crates.program, *crates.built()]
     how = {"stdin": subprocess.DEVNULL, "stdout": subprocess.PIPE, "stderr": subprocess.DEVNULL}
-    with contextlib.suppress(OSError, subprocess.TimeoutExpired):
-        found = subprocess.run(words, text=True, timeout=SEARCH, **how)
-        names = [] if found.returncode else found.stdout.split()
-        for crate in names:
-            if crates.own_sum(crate) == crates.own[crate]:
-                write(crates.stamp(crate), crates.stamp_text(crate))
-        if names:
-            screen.say(f"`rt ci` proved {len(names)} of the {len(crates.row)} crates of {crates.program} on this machine")
+    taken = []
+    for program in crates.programs:
+        words = [sys.executable, f"{TOP}/tools/kept.py", program, *crates.built()]
+        with contextlib.suppress(OSError, subprocess.TimeoutExpired):
+            found = subprocess.run(words, text=True, timeout=SEARCH, **how)
+            names = [] if found.returncode else found.stdout.split()
+            for crate in names:
+                if crates.own_sum(crate) == crates.own[crate]:
+                    write(crates.stamp(crate), crates.stamp_text(crate))
+            taken += names
+    if taken:
+        screen.say(f"`rt ci` proved {len(taken)} of the {len(crates.row)} crates on this machine")
 
 
 def hold(crates, screen):
@@ -433,34 +275,60 @@ def interrupt(number, _):
     raise Interrupt(number)
 
 
-def make(program, screen):
-    """Builds the program, unless it is built from these sources already."""
+def named(programs):
+    """Returns the names of programs, with the verb that follows."""
+    return f"{' and '.join(programs)} {'is' if len(programs) == 1 else 'are'}"
+
+
+def unbuilt(programs, kit):
+    """Returns the programs that are not built from these sources."""
+    return [program for program in programs if not Crates([program], kit).is_built(program)]
+
+
+def build(programs, kit, screen):
+    """Builds programs that are not built from these sources."""
+    held = hold(Crates(programs, kit), screen)
+    # (the build that was waited for may have built them, of other sources too)
+    programs = unbuilt(programs, kit)
+    if programs:
+        crates = Crates(programs, kit)
+        take_kept(crates, screen)
+        it = Build(crates, screen, held)
+        try:
+            it.run()
+        finally:
+            it.stop()
+
+
+def note_starts(program, kit):
+    """Has tools/start run the program at once until a file of its crates is changed."""
+    crates = Crates([program], kit)
+    parts = ["crates.txt", *(f"crates/{crate}" for crate in crates.row), f"crates/{program}/{crates.made(program)}"]
+    note_start(f"{folder_of(program)}/out", parts, lambda: not unbuilt([program], kit))
+
+
+def make(programs, screen):
+    """Builds those of the programs that are not built from these sources already."""
     kit = Kit()
-    crates = Crates(program, kit)
-    if not crates.is_built(program):
-        held = hold(crates, screen)
-        # (what was waited for may have built it, of other sources too)
-        crates = Crates(program, kit)
-        if not crates.is_built(program):
-            take_kept(crates, screen)
-            build = Build(crates, screen, held)
-            try:
-                build.run()
-            finally:
-                build.stop()
-    note_start(crates)
+    left = unbuilt(programs, kit)
+    if left:
+        build(left, kit, screen)
+    for program in programs:
+        note_starts(program, kit)
 
 
 def main():
-    if len(sys.argv) != 2:
-        sys.exit(__doc__)
+    programs = sys.argv[1:] or PROGRAMS
+    if "--help" in programs:
+        print(__doc__)
+        return
     open_streams()
     screen = Screen()
     for number in (signal.SIGINT, signal.SIGTERM, signal.SIGHUP):
         if signal.getsignal(number) != signal.SIG_IGN:
             signal.signal(number, interrupt)
     try:
-        make(sys.argv[1], screen)
+        make([*dict.fromkeys(programs)], screen)
     except (Failure, OSError) as it:
         screen.say(str(it))
         sys.exit(FAILED)
@@ -469,4 +337,5 @@ def main():
         sys.exit(128 + it.args[0])
 
 
-main()
+if __name__ == "__main__":
+    main()

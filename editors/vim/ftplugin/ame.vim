@@ -5,6 +5,7 @@ endif
 let b:did_ftplugin = 1
 
 setlocal commentstring=;\ %s comments=:; lisp
-setlocal makeprg=./why\ %:S errorformat=%f:%l:%c:\ %m
+let &l:makeprg = (executable('./why') ? './why' : 'why') . ' %:S'
+setlocal errorformat=%f:%l:%c:\ %m
 setlocal lispwords=fn,rec,let,do,if,async,unprotected
 let b:undo_ftplugin = 'setlocal commentstring< comments< lisp< lispwords< makeprg< errorformat<'

@@ -49,7 +49,8 @@ class Page:
     def __init__(self, path: Path):
         self.path = path
         self.name = str(path.relative_to(TOP)) if TOP in path.parents else str(path)
-        self.lines = list(read_lines(path.read_text(encoding="utf-8")))
+        self.text = path.read_text(encoding="utf-8", errors="replace")
+        self.lines = list(read_lines(self.text))
 
     def of_kind(self, kind: Kind) -> Iterator[Line]:
         return (line for line in self.lines if line.kind is kind)
@@ -97,7 +98,7 @@ class Page:
         return found
 
     def word_count(self) -> int:
-        return len(self.path.read_text(encoding="utf-8").split())
+        return len(self.text.split())
 
 
 LINK_TEXT = re.compile(r"\[([^\]]*)\]\([^)]*\)")

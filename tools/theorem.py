@@ -57,7 +57,7 @@ class ShortPage:
         parts = {heading: part(sources, heading, told, files[heading], given) for heading, told, _ in groups}
         total = size(first) + sum(map(size, parts.values()))
         if total > self.most:
-            raise Failure(f"{self.path}: {total} lines, where at most {self.most} may stand")
+            raise Failure(f"{total} lines of code, where at most {self.most} may stand")
         return self.laid_out(notes, first, parts, total, words)
 
     def laid_out(self, notes, first, parts, total, words):

@@ -1,8 +1,9 @@
 //! The program: its words are a command, standard input is the text of a program, standard output its lines.
 #![tactic(auto)]
 
-use ame_app::{process_words, run_process};
+use ame_app::process_words;
 use ame_io::{StdSink, StdSource};
+use ame_one_run::run_process;
 use std::io;
 use std::process::ExitCode;
 

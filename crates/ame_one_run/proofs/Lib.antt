@@ -1,0 +1,7 @@
+pub mod CallLemmas
+pub mod ReachedLemmas
+pub mod WordLemmas
+pub mod TypeLemmas
+pub mod JournalLemmas
+pub mod EndingLemmas
+pub mod OneRunLemmas

@@ -1,0 +1,4 @@
+pub mod Calls
+pub mod Reached
+pub mod OneRun
+pub mod Commands

@@ -1,0 +1,10 @@
+//! What a run promises by the rules alone, from the text that it reads to the lines that it writes.
+#![tactic(auto)]
+
+mod call;
+mod process;
+mod theorems;
+
+pub use call::run_by_the_rules;
+pub use process::run_process;
+pub use theorems::{each_run, one_run};

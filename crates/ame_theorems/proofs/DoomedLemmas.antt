@@ -1,0 +1,155 @@
+-- Events without entries, and rows whose reads are valid.
+use Rattle.std.proofs.Common.{◌≡◌, ℕ, zero, suc, ◌++◌, List, [], ◌∷◌, Bool, true, false, Option, Some, None, if◌then◌else◌, option_and_then, refl, sym, ap, ◌∙◌, subst, append-nil, append_assoc}
+use Rattle.ame_term.specs.Tree.{Tree}
+use Rattle.ame_term.specs.Context.{focus}
+use Rattle.ame_term.specs.Frame.{Side}
+use Rattle.ame_term.specs.Maps.{at}
+use Rattle.ame_term.specs.State.{State, at_unprotected}
+use Rattle.ame_journal.specs.declared.entry.Entry.{Entry}
+use Rattle.ame_journal.specs.Replayed.{Replayed, begun_at, has_such, is_at_unprotected}
+use Rattle.ame_journal.specs.Replay.{replay, replay_from}
+use Rattle.ame_journal.specs.Totals.{without_notes}
+use Rattle.ame_journal.specs.UnderWay.{UnderWay}
+use Rattle.ame_journal.proofs.NoteLemmas.{notes-dropped}
+use Rattle.ame_journal.proofs.OneLemmas.{one}
+use Rattle.ame_journal.proofs.ReachedLemmas.{calm-replayed}
+use Rattle.ame_journal.proofs.ReplayLemmas.{replay_from-append}
+use Rattle.ame_machine.specs.Run.Local.{LocalState, begun_with, local}
+use Rattle.ame_machine.specs.Run.AgreesWith.{IsAfterRun}
+use Rattle.ame_machine.proofs.Run.ReplayLemmas.{active_run}
+use Rattle.ame_rows.specs.LettingGo.{undone_last}
+use Rattle.ame_protocol.specs.declared.types.Attempt.{Attempt}
+use Rattle.ame_protocol.specs.declared.types.Task.{Task}
+use Rattle.ame_protocol.specs.Row.SeatRun.{HasUsed, SeatRun}
+use Rattle.ame_protocol.specs.Engine.Events.{brought_home, one_turn, undo_turn, with_memory, with_task, with_try}
+use Rattle.ame_protocol.specs.Engine.Parts.{Parts, whole_journal, heap_in, task_at, run_in, term_at}
+use Rattle.ame_protocol.specs.Engine.StandsFor.{StandsFor}
+use Rattle.ame_protocol.specs.Engine.Tasks.{RunsProtected}
+use Rattle.ame_protocol.specs.Event.State.{State as Runtime}
+use Rattle.ame_protocol.specs.Event.Event.{Event}
+use Rattle.ame_protocol.specs.Event.After.{after}
+use Rattle.ame_protocol.specs.Event.May.{May, ReadsAreValid}
+use Rattle.ame_protocol.specs.Event.Runs.{Follows, entries_along, entries_told}
+use Rattle.ame_protocol.specs.Event.Sound.{Sound}
+use Rattle.ame_protocol.specs.Event.Undoing.{reason_to_undo}
+use Rattle.ame_protocol.proofs.Engine.AccessLemmas.{runs}
+use Rattle.ame_protocol.proofs.Engine.MemoryLemmas.{memory-committed}
+use Rattle.ame_protocol.proofs.Engine.PoolLemmas.{found-machine}
+use Rattle.ame_protocol.proofs.Engine.TurnLemmas.{no-run}
+use Rattle.ame_protocol.proofs.Event.RunLemmas.{sound-along, run-tells}
+use Rattle.ame_protocol.proofs.Row.ValidLemmas.{agrees}
+use Rattle.ame_theorems.specs.Shows.{ShowsTheSame}
+
+-- No event changes the program or the base.
+
+pub record IsOfOne (old new : Parts) : Type 0 where
+  pub program : new.program ≡ old.program
+  pub base : new.base ≡ old.base
+
+undo-one : (old next : Parts) → IsOfOne old next → IsOfOne old (undo_turn next)
+undo-one old next same = by next.stopped
+  where
+    by : (b : Bool) → IsOfOne old (if b then next else one_turn next)
+    by true = same
+    by false = record { program = same.program; base = same.base }
+
+event-one : (e : Event) (s : Runtime) → IsOfOne s.parts (after e s).parts
+event-one (Event.Undo seat attempt) s =
+    undo-one s.parts (with_task seat (Task.Undoing attempt (reason_to_undo (task_at s.parts.tasks seat))) (with_memory (undone_last seat s.parts.memory) s.parts))
+    (record { program = refl; base = refl })
+event-one (Event.Home seat attempt) s =
+    undo-one s.parts (with_task seat Task.Idle (record s.parts {
+      memory = undone_last seat s.parts.memory;
+      pool = brought_home (reason_to_undo (task_at s.parts.tasks seat)) attempt.tried.number s.parts.pool;
+      tried = with_try attempt s.parts.tried;
+    })) (record { program = refl; base = refl })
+event-one _ s = record { program = refl; base = refl }
+
+along-one : (es : List Event) (s end : Runtime) → Follows s es end → IsOfOne s.parts end.parts
+along-one [] s end run = record { program = ap (λ (x : Runtime). x.parts.program) run; base = ap (λ (x : Runtime). x.parts.base) run }
+along-one (e ∷ es) s end run =
+    let rest = along-one es (after e s) end run.1 in
+    let first = event-one e s in
+    record { program = rest.program ∙ first.program; base = rest.base ∙ first.base }
+
+-- Two states that stand for one strong state show the same.
+same-shown : (old new : Parts) (r : Replayed) → StandsFor old r → StandsFor new r → ShowsTheSame old new
+same-shown old new r a b = record {
+  output = sym b.output ∙ a.output;
+  next = sym b.next ∙ a.next;
+  terms = λ i. sym (b.members i) ∙ a.members i;
+  inside = λ i. sym (b.inside i) ∙ a.inside i;
+  committed = λ l. b.store l ∙ sym (a.store l);
+}
+
+-- notes lead nowhere
+notes-stay : (program : Tree) (entries more : List Entry) (r t : Replayed) → without_notes more ≡ [] → replay program entries ≡ Some r
+    → replay program (entries ++ more) ≡ Some t → r ≡ t
+notes-stay program entries more r t notes was is =
+    let from : replay_from r more ≡ Some t =
+    sym (ap (λ (o : Option Replayed). option_and_then (λ x. replay_from x more) o) was) ∙ sym (replay_from-append (begun_at program) entries more) ∙ is in
+    let none : replay_from r [] ≡ Some t = sym (ap (replay_from r) notes) ∙ notes-dropped r more t from in
+    cc
+
+pub shows-along : (es : List Event) (s end : Runtime) → Follows s es end → Sound s → without_notes (entries_along es) ≡ [] → ShowsTheSame s.parts end.parts
+shows-along es s end run h notes =
+    let was = h.stands in
+    let is = (sound-along es s end run h).stands in
+    let same = along-one es s end run in
+    let journal : whole_journal end.parts ≡ whole_journal s.parts ++ entries_along es =
+    ap (λ (xs : List Entry). xs ++ end.parts.entries) same.base ∙ ap (λ (xs : List Entry). s.parts.base ++ xs) (run-tells es s end run)
+    ∙ sym (append_assoc s.parts.base s.parts.entries (entries_along es)) in
+    let there : replay s.parts.program (whole_journal s.parts ++ entries_along es) ≡ Some is.r =
+    sym (ap (λ (x : Tree). replay x (whole_journal end.parts)) same.program ∙ ap (replay s.parts.program) journal) ∙ is.stands.replayed in
+    let one-state : was.r ≡ is.r = notes-stay s.parts.program (whole_journal s.parts) (entries_along es) was.r is.r notes was.stands.replayed there in
+    same-shown s.parts end.parts was.r was.stands (subst (StandsFor end.parts) (sym one-state) is.stands)
+
+pub shows-after : (e : Event) (s : Runtime) → May e s → Sound s → without_notes (entries_told e) ≡ [] → ShowsTheSame s.parts (after e s).parts
+shows-after e s may h notes =
+    shows-along (e ∷ []) s (after e s) (may, refl) h (ap without_notes (append-nil (entries_told e)) ∙ notes)
+
+-- A row whose reads are valid
+
+module _ (s : Runtime) (r : Replayed) (seat : ℕ) (attempt : Attempt) (n : ℕ) (p : LocalState) (h : Sound s)
+    (there : replay s.parts.program (whole_journal s.parts) ≡ Some r) (task : task_at s.parts.tasks seat ≡ Task.Running attempt)
+    (place : HasUsed (run_in s.parts seat attempt.tried.number) n p) where
+  abbrev number : ℕ
+  number = attempt.tried.number
+
+  abbrev its_run : SeatRun
+  its_run = run_in s.parts seat number
+
+  its_runs : RunsProtected s.parts h.stands.types seat attempt
+  its_runs = runs s.parts h.stands seat attempt task
+
+  stands : StandsFor s.parts r
+  stands =
+      subst (StandsFor s.parts)
+      (one h.stands.r r (replay s.parts.program (whole_journal s.parts)) h.stands.stands.replayed there) h.stands.stands
+
+  term-there : at r.state.members number ≡ Some (term_at s.parts.pool number)
+  term-there = stands.members number ∙ found-machine s.parts.pool number false its_runs.work.busy
+
+  side-of-start : (b : Bool) → is_at_unprotected number r.state ≡ b → at_unprotected (focus its_run.start) ≡ b
+  side-of-start b is = sym (ap (has_such (λ (term : Tree). at_unprotected (focus term))) term-there) ∙ is
+
+  pub row-under-way : ReadsAreValid s seat → is_at_unprotected number r.state ≡ false
+      → (t : State) × UnderWay r.state number n p.fresh t × IsAfterRun r.state number p t × (at t.members number ≡ Some p.term)
+  row-under-way valid calm =
+      let a =
+      active_run r.state number its_run.start its_run.inputs term-there (calm-replayed s.parts.program (whole_journal s.parts) r there).idle
+      (side-of-start false calm) n p place.ran
+      (agrees (heap_in s.parts) seat r.state.store (memory-committed s.parts.memory) stands.store its_run.reads p valid (its_runs.owes.given n p place)) in
+      (a.behind, a.way, a.after_run, a.member)
+
+  -- a run that stands at `unprotected` from the first has made no step
+  stays-there : (m : ℕ) (q : LocalState) → local Side.Protected its_run.start its_run.inputs m ≡ Some q → at_unprotected (focus its_run.start) ≡ true
+      → (m ≡ 0) × (q.term ≡ its_run.start)
+  stays-there zero q ran at_it = let same : begun_with its_run.start its_run.inputs ≡ q = cc in (refl, sym (ap (λ (x : LocalState). x.term) same))
+  stays-there (suc m) q ran at_it =
+      absurd (let clash : ◌≡◌ {A = Option LocalState} None (Some q) = sym (no-run (begun_with its_run.start its_run.inputs) m at_it) ∙ ran in cc)
+
+  pub row-at-unprotected : is_at_unprotected number r.state ≡ true → (n ≡ 0) × (at r.state.members number ≡ Some p.term)
+  row-at-unprotected is =
+      let there = stays-there n p place.ran (side-of-start true is) in
+      (there.0, term-there ∙ ap Some (sym there.1))

@@ -1,0 +1,2 @@
+pub mod DoomedLemmas
+pub mod JournalLemmas

@@ -1,0 +1,29 @@
+//! How journals are put together and cut.
+
+ghost use Rattle.std.specs.Prelude.{◌≡◌, ◌++◌, ℕ, List, Some, IsSome, take};
+ghost use Rattle.ame_term.specs.Tree.{Tree};
+ghost use Rattle.ame_term.specs.declared.semantics.Label.{Label};
+ghost use Rattle.ame_journal.specs.declared.entry.Entry.{Entry};
+ghost use Rattle.ame_journal.specs.Labels.{UnfoldsAll};
+ghost use Rattle.ame_journal.specs.Replayed.{Replayed};
+ghost use Rattle.ame_journal.specs.Replay.{replay, replay_from};
+
+/// Entries that can be replayed from where a journal leads make a longer journal with it, which leads where they lead.
+/// Its labels are those of the journal, then theirs.
+pub fn journals_compose()
+    ensures replayed { (program : Tree) (entries more : List Entry) (r t : Replayed) → replay program entries ≡ Some r
+        → replay_from r more ≡ Some t → replay program (entries ++ more) ≡ Some t }
+    ensures unfolded { (r s t : Replayed) (entries more : List Entry) (labels others : List Label) → UnfoldsAll r entries labels s
+        → UnfoldsAll s more others t → UnfoldsAll r (entries ++ more) (labels ++ others) t }
+{}
+
+/// Each prefix of a journal is a journal, and the other entries can be replayed from where it leads. The labels of the journal are
+/// those of the prefix, then those of the other entries.
+pub fn prefixes_replay()
+    ensures replayed { (program : Tree) (entries more : List Entry) (t : Replayed) → replay program (entries ++ more) ≡ Some t
+        → (r : Replayed) × (replay program entries ≡ Some r) × (replay_from r more ≡ Some t) }
+    ensures unfolded { (r t : Replayed) (entries more : List Entry) (labels : List Label) → UnfoldsAll r (entries ++ more) labels t
+        → (s : Replayed) × (first : List Label) × (rest : List Label) × UnfoldsAll r entries first s × UnfoldsAll s more rest t × (labels ≡ first ++ rest) }
+    ensures cut { (program : Tree) (entries : List Entry) (t : Replayed) (n : ℕ) → replay program entries ≡ Some t
+        → IsSome (replay program (take n entries)) }
+{}

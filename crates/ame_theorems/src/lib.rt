@@ -1,0 +1,8 @@
+//! Theorems over the theory of the engine: each a function with no body whose contract is the statement.
+#![tactic(auto)]
+
+mod doomed;
+mod journals;
+
+pub use doomed::{events_without_entries_show_nothing, valid_rows_are_fragments};
+pub use journals::{journals_compose, prefixes_replay};

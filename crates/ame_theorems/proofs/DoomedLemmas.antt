@@ -20,7 +20,7 @@ use Rattle.ame_machine.proofs.Run.ReplayLemmas.{active_run}
 use Rattle.ame_rows.specs.LettingGo.{undone_last}
 use Rattle.ame_protocol.specs.declared.types.Attempt.{Attempt}
 use Rattle.ame_protocol.specs.declared.types.Task.{Task}
-use Rattle.ame_protocol.specs.Row.SeatRun.{HasUsed, SeatRun}
+use Rattle.ame_protocol.specs.Row.SeatRun.{AreValid, HasUsed, SeatRun}
 use Rattle.ame_protocol.specs.Engine.Events.{brought_home, one_turn, undo_turn, with_memory, with_task, with_try}
 use Rattle.ame_protocol.specs.Engine.Parts.{Parts, whole_journal, heap_in, task_at, run_in, term_at}
 use Rattle.ame_protocol.specs.Engine.StandsFor.{StandsFor}
@@ -28,7 +28,7 @@ use Rattle.ame_protocol.specs.Engine.Tasks.{RunsProtected}
 use Rattle.ame_protocol.specs.Event.State.{State as Runtime}
 use Rattle.ame_protocol.specs.Event.Event.{Event}
 use Rattle.ame_protocol.specs.Event.After.{after}
-use Rattle.ame_protocol.specs.Event.May.{May, ReadsAreValid}
+use Rattle.ame_protocol.specs.Event.May.{May, MayNote, ReadsAreValid}
 use Rattle.ame_protocol.specs.Event.Runs.{Follows, entries_along, entries_told}
 use Rattle.ame_protocol.specs.Event.Sound.{Sound}
 use Rattle.ame_protocol.specs.Event.Undoing.{reason_to_undo}
@@ -38,6 +38,9 @@ use Rattle.ame_protocol.proofs.Engine.PoolLemmas.{found-machine}
 use Rattle.ame_protocol.proofs.Engine.TurnLemmas.{no-run}
 use Rattle.ame_protocol.proofs.Event.RunLemmas.{sound-along, run-tells}
 use Rattle.ame_protocol.proofs.Row.ValidLemmas.{agrees}
+use Rattle.ame_protocol.specs.Visits.Stops.{MayBeNoted}
+use Rattle.ame_rows.specs.MemoryView.{row_at}
+use Rattle.ame_theorems.specs.Doomed.{IsDoomed, seat_of}
 use Rattle.ame_theorems.specs.Shows.{ShowsTheSame}
 
 -- No event changes the program or the base.
@@ -153,3 +156,38 @@ module _ (s : Runtime) (r : Replayed) (seat : ℕ) (attempt : Attempt) (n : ℕ)
   row-at-unprotected is =
       let there = stays-there n p place.ran (side-of-start true is) in
       (there.0, term-there ∙ ap Some (sym there.1))
+
+-- What a doomed attempt can't do
+
+noted-valid : (parts : Parts) (seat : ℕ) (t : Task) (side : Side) (i n : ℕ) (p : LocalState) (a : Attempt) → t ≡ Task.Running a → MayBeNoted parts seat t side i n p
+    → AreValid (heap_in parts) seat (row_at parts.memory.rows seat).reads
+noted-valid parts seat _ _ _ _ _ a is (MayBeNoted.running attempt n p used valid) = valid
+noted-valid parts seat _ _ _ _ _ a is (MayBeNoted.free attempt n p steps) = absurd (let clash : Task.Free attempt ≡ Task.Running a = is in cc)
+
+module _ (s : Runtime) (seat : ℕ) (d : IsDoomed s seat) where
+  invalid : (other : ℕ) → Some other ≡ Some seat → ReadsAreValid s other → ⊥
+  invalid other is valid = let same : other ≡ seat = cc in d.stale (subst (ReadsAreValid s) same valid)
+
+  not-free : (other : ℕ) (attempt : Attempt) → Some other ≡ Some seat → task_at s.parts.tasks other ≡ Task.Free attempt → ⊥
+  not-free other attempt is free =
+      let same : other ≡ seat = cc in
+      let clash : Task.Running d.attempt ≡ Task.Free attempt = sym d.runs ∙ ap (task_at s.parts.tasks) (sym same) ∙ free in
+      cc
+
+  not-noted : (other : ℕ) (attempt : Attempt) (side : Side) (steps : ℕ) (place : LocalState) → Some other ≡ Some seat → MayNote s other attempt side steps place → ⊥
+  not-noted other attempt side steps place is may =
+      let same : other ≡ seat = cc in
+      let runs-there : task_at s.parts.tasks other ≡ Task.Running d.attempt = ap (task_at s.parts.tasks) same ∙ d.runs in
+      invalid other is (noted-valid s.parts other (task_at s.parts.tasks other) side attempt.tried.number steps place d.attempt runs-there may.may)
+
+  pub doomed-tell-none : (e : Event) → seat_of e ≡ Some seat → May e s → entries_told e ≡ []
+  doomed-tell-none (Event.End other attempt steps place woken) is may = absurd (invalid other is may.2)
+  doomed-tell-none (Event.Leave other attempt steps place woken) is may = absurd (invalid other is may.2)
+  doomed-tell-none (Event.Note other attempt steps place) is may = absurd (invalid other is may.2)
+  doomed-tell-none (Event.Visit other attempt steps place inside memory) is may = absurd (not-free other attempt is may.1.task)
+  doomed-tell-none (Event.Cut other attempt steps place) is may = absurd (not-noted other attempt may.2.0 steps place is may.2.1)
+  doomed-tell-none (Event.Tall other attempt steps place) is may = absurd (not-noted other attempt may.1.0 steps place is may.1.1)
+  doomed-tell-none _ is may = refl
+
+  pub doomed-show : (e : Event) → seat_of e ≡ Some seat → May e s → Sound s → (entries_told e ≡ []) × ShowsTheSame s.parts (after e s).parts
+  doomed-show e is may h = let none = doomed-tell-none e is may in (none, shows-after e s may h (ap without_notes none))

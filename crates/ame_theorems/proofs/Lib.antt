@@ -1,2 +1,3 @@
 pub mod DoomedLemmas
 pub mod JournalLemmas
+pub mod StraightLemmas

@@ -19,6 +19,7 @@ ghost use Rattle.ame_protocol.specs.Event.After.{after};
 ghost use Rattle.ame_protocol.specs.Event.May.{May, ReadsAreValid};
 ghost use Rattle.ame_protocol.specs.Event.Sound.{Sound};
 ghost use Rattle.ame_protocol.specs.Event.Runs.{Follows, entries_along, entries_told};
+ghost use Rattle.ame_theorems.specs.Doomed.{IsDoomed, seat_of};
 ghost use Rattle.ame_theorems.specs.Shows.{ShowsTheSame};
 
 /// An event that adds no entry to the journal shows nothing: output, numbers, terms of members and committed values
@@ -28,6 +29,12 @@ pub fn events_without_entries_show_nothing()
     ensures note { (e : Event) (s : Runtime) → May e s → Sound s → without_notes (entries_told e) ≡ [] → ShowsTheSame s.parts (after e s).parts }
     ensures run { (es : List Event) (s end : Runtime) → Follows s es end → Sound s → without_notes (entries_along es) ≡ []
         → ShowsTheSame s.parts end.parts }
+{}
+
+/// No event of a seat whose attempt is doomed adds an entry, and so each of them shows nothing.
+pub fn doomed_attempts_show_nothing()
+    ensures { (e : Event) (s : Runtime) (seat : ℕ) → IsDoomed s seat → seat_of e ≡ Some seat → May e s → Sound s
+        → (entries_told e ≡ []) × ShowsTheSame s.parts (after e s).parts }
 {}
 
 /// If all reads of a running row are valid now, its attempt is a fragment under way in the state to which the journal leads:

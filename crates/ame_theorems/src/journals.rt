@@ -1,12 +1,25 @@
 //! How journals are put together and cut.
 
-ghost use Rattle.std.specs.Prelude.{◌≡◌, ◌++◌, ℕ, List, Some, IsSome, take};
+ghost use Rattle.std.specs.Prelude.{◌≡◌, ◌++◌, ◌↔◌, ℕ, List, Some, None, IsSome, take};
 ghost use Rattle.ame_term.specs.Tree.{Tree};
+ghost use Rattle.ame_term.specs.State.{State, IsRun};
 ghost use Rattle.ame_term.specs.declared.semantics.Label.{Label};
 ghost use Rattle.ame_journal.specs.declared.entry.Entry.{Entry};
 ghost use Rattle.ame_journal.specs.Labels.{UnfoldsAll};
-ghost use Rattle.ame_journal.specs.Replayed.{Replayed};
+ghost use Rattle.ame_journal.specs.Replayed.{Replayed, begun_at};
 ghost use Rattle.ame_journal.specs.Replay.{replay, replay_from};
+ghost use Rattle.ame_theorems.specs.Straight.{straight};
+
+/// Each strong run that ends with nothing active has a journal, which unfolds into exactly the labels of the run and leads to its state.
+/// So the states at rest to which strong runs of a program lead are exactly those to which its journals lead.
+pub fn runs_have_journals()
+    ensures journal { (program : Tree) (labels : List Label) (s : State) → IsRun program labels s → s.active ≡ None
+        → (r : Replayed) × UnfoldsAll (begun_at program) (straight labels) labels r × (r.state ≡ s) }
+    ensures run { (program : Tree) (entries : List Entry) (labels : List Label) (r : Replayed) → UnfoldsAll (begun_at program) entries labels r
+        → IsRun program labels r.state × (r.state.active ≡ None) }
+    ensures states { (program : Tree) (s : State) → ((labels : List Label) × IsRun program labels s × (s.active ≡ None))
+        ↔ ((entries : List Entry) × (r : Replayed) × (replay program entries ≡ Some r) × (r.state ≡ s)) }
+{}
 
 /// Entries that can be replayed from where a journal leads make a longer journal with it, which leads where they lead.
 /// Its labels are those of the journal, then theirs.

@@ -4,5 +4,7 @@
 mod doomed;
 mod journals;
 
-pub use doomed::{events_without_entries_show_nothing, valid_rows_are_fragments};
-pub use journals::{journals_compose, prefixes_replay};
+pub use doomed::{
+    doomed_attempts_show_nothing, events_without_entries_show_nothing, valid_rows_are_fragments,
+};
+pub use journals::{journals_compose, prefixes_replay, runs_have_journals};

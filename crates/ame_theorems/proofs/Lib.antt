@@ -1,3 +1,4 @@
 pub mod DoomedLemmas
 pub mod JournalLemmas
 pub mod StraightLemmas
+pub mod SoFarLemmas

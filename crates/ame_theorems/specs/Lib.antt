@@ -1,3 +1,4 @@
 pub mod Shows
 pub mod Doomed
 pub mod Straight
+pub mod SoFar

@@ -1,30 +1,21 @@
--- Events without entries, and rows whose reads are valid.
-use Rattle.std.proofs.Common.{◌≡◌, ℕ, zero, suc, ◌++◌, List, [], ◌∷◌, Bool, true, false, Option, Some, None, if◌then◌else◌, option_and_then, refl, sym, ap, ◌∙◌, subst, append-nil, append_assoc}
+-- Events without entries.
+use Rattle.std.proofs.Common.{◌≡◌, ℕ, ◌++◌, List, [], ◌∷◌, Bool, true, false, Option, Some, if◌then◌else◌, option_and_then, refl, sym, ap, ◌∙◌, subst, append-nil, append_assoc}
 use Rattle.ame_term.specs.Tree.{Tree}
-use Rattle.ame_term.specs.Context.{focus}
 use Rattle.ame_term.specs.Frame.{Side}
-use Rattle.ame_term.specs.Maps.{at}
-use Rattle.ame_term.specs.State.{State, at_unprotected}
 use Rattle.ame_journal.specs.declared.entry.Entry.{Entry}
-use Rattle.ame_journal.specs.Replayed.{Replayed, begun_at, has_such, is_at_unprotected}
+use Rattle.ame_journal.specs.Replayed.{Replayed, begun_at}
 use Rattle.ame_journal.specs.Replay.{replay, replay_from}
 use Rattle.ame_journal.specs.Totals.{without_notes}
-use Rattle.ame_journal.specs.UnderWay.{UnderWay}
 use Rattle.ame_journal.proofs.NoteLemmas.{notes-dropped}
-use Rattle.ame_journal.proofs.OneLemmas.{one}
-use Rattle.ame_journal.proofs.ReachedLemmas.{calm-replayed}
 use Rattle.ame_journal.proofs.ReplayLemmas.{replay_from-append}
-use Rattle.ame_machine.specs.Run.Local.{LocalState, begun_with, local}
-use Rattle.ame_machine.specs.Run.AgreesWith.{IsAfterRun}
-use Rattle.ame_machine.proofs.Run.ReplayLemmas.{active_run}
+use Rattle.ame_machine.specs.Run.Local.{LocalState}
 use Rattle.ame_rows.specs.LettingGo.{undone_last}
 use Rattle.ame_protocol.specs.declared.types.Attempt.{Attempt}
 use Rattle.ame_protocol.specs.declared.types.Task.{Task}
-use Rattle.ame_protocol.specs.Row.SeatRun.{AreValid, HasUsed, SeatRun}
+use Rattle.ame_protocol.specs.Row.SeatRun.{AreValid}
 use Rattle.ame_protocol.specs.Engine.Events.{brought_home, one_turn, undo_turn, with_memory, with_task, with_try}
-use Rattle.ame_protocol.specs.Engine.Parts.{Parts, whole_journal, heap_in, task_at, run_in, term_at}
+use Rattle.ame_protocol.specs.Engine.Parts.{Parts, whole_journal, heap_in, task_at}
 use Rattle.ame_protocol.specs.Engine.StandsFor.{StandsFor}
-use Rattle.ame_protocol.specs.Engine.Tasks.{RunsProtected}
 use Rattle.ame_protocol.specs.Event.State.{State as Runtime}
 use Rattle.ame_protocol.specs.Event.Event.{Event}
 use Rattle.ame_protocol.specs.Event.After.{after}
@@ -32,12 +23,7 @@ use Rattle.ame_protocol.specs.Event.May.{May, MayNote, ReadsAreValid}
 use Rattle.ame_protocol.specs.Event.Runs.{Follows, entries_along, entries_told}
 use Rattle.ame_protocol.specs.Event.Sound.{Sound}
 use Rattle.ame_protocol.specs.Event.Undoing.{reason_to_undo}
-use Rattle.ame_protocol.proofs.Engine.AccessLemmas.{runs}
-use Rattle.ame_protocol.proofs.Engine.MemoryLemmas.{memory-committed}
-use Rattle.ame_protocol.proofs.Engine.PoolLemmas.{found-machine}
-use Rattle.ame_protocol.proofs.Engine.TurnLemmas.{no-run}
 use Rattle.ame_protocol.proofs.Event.RunLemmas.{sound-along, run-tells}
-use Rattle.ame_protocol.proofs.Row.ValidLemmas.{agrees}
 use Rattle.ame_protocol.specs.Visits.Stops.{MayBeNoted}
 use Rattle.ame_rows.specs.MemoryView.{row_at}
 use Rattle.ame_theorems.specs.Doomed.{IsDoomed, seat_of}
@@ -110,52 +96,6 @@ shows-along es s end run h notes =
 pub shows-after : (e : Event) (s : Runtime) → May e s → Sound s → without_notes (entries_told e) ≡ [] → ShowsTheSame s.parts (after e s).parts
 shows-after e s may h notes =
     shows-along (e ∷ []) s (after e s) (may, refl) h (ap without_notes (append-nil (entries_told e)) ∙ notes)
-
--- A row whose reads are valid
-
-module _ (s : Runtime) (r : Replayed) (seat : ℕ) (attempt : Attempt) (n : ℕ) (p : LocalState) (h : Sound s)
-    (there : replay s.parts.program (whole_journal s.parts) ≡ Some r) (task : task_at s.parts.tasks seat ≡ Task.Running attempt)
-    (place : HasUsed (run_in s.parts seat attempt.tried.number) n p) where
-  abbrev number : ℕ
-  number = attempt.tried.number
-
-  abbrev its_run : SeatRun
-  its_run = run_in s.parts seat number
-
-  its_runs : RunsProtected s.parts h.stands.types seat attempt
-  its_runs = runs s.parts h.stands seat attempt task
-
-  stands : StandsFor s.parts r
-  stands =
-      subst (StandsFor s.parts)
-      (one h.stands.r r (replay s.parts.program (whole_journal s.parts)) h.stands.stands.replayed there) h.stands.stands
-
-  term-there : at r.state.members number ≡ Some (term_at s.parts.pool number)
-  term-there = stands.members number ∙ found-machine s.parts.pool number false its_runs.work.busy
-
-  side-of-start : (b : Bool) → is_at_unprotected number r.state ≡ b → at_unprotected (focus its_run.start) ≡ b
-  side-of-start b is = sym (ap (has_such (λ (term : Tree). at_unprotected (focus term))) term-there) ∙ is
-
-  pub row-under-way : ReadsAreValid s seat → is_at_unprotected number r.state ≡ false
-      → (t : State) × UnderWay r.state number n p.fresh t × IsAfterRun r.state number p t × (at t.members number ≡ Some p.term)
-  row-under-way valid calm =
-      let a =
-      active_run r.state number its_run.start its_run.inputs term-there (calm-replayed s.parts.program (whole_journal s.parts) r there).idle
-      (side-of-start false calm) n p place.ran
-      (agrees (heap_in s.parts) seat r.state.store (memory-committed s.parts.memory) stands.store its_run.reads p valid (its_runs.owes.given n p place)) in
-      (a.behind, a.way, a.after_run, a.member)
-
-  -- a run that stands at `unprotected` from the first has made no step
-  stays-there : (m : ℕ) (q : LocalState) → local Side.Protected its_run.start its_run.inputs m ≡ Some q → at_unprotected (focus its_run.start) ≡ true
-      → (m ≡ 0) × (q.term ≡ its_run.start)
-  stays-there zero q ran at_it = let same : begun_with its_run.start its_run.inputs ≡ q = cc in (refl, sym (ap (λ (x : LocalState). x.term) same))
-  stays-there (suc m) q ran at_it =
-      absurd (let clash : ◌≡◌ {A = Option LocalState} None (Some q) = sym (no-run (begun_with its_run.start its_run.inputs) m at_it) ∙ ran in cc)
-
-  pub row-at-unprotected : is_at_unprotected number r.state ≡ true → (n ≡ 0) × (at r.state.members number ≡ Some p.term)
-  row-at-unprotected is =
-      let there = stays-there n p place.ran (side-of-start true is) in
-      (there.0, term-there ∙ ap Some (sym there.1))
 
 -- What a doomed attempt can't do
 

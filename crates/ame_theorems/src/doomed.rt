@@ -1,6 +1,6 @@
 //! What an attempt that leaves no entry shows.
 
-ghost use Rattle.std.specs.Prelude.{◌≡◌, [], ℕ, List, Some, true, false};
+ghost use Rattle.std.specs.Prelude.{◌≡◌, ◌++◌, [], ℕ, List, Some, true, false};
 ghost use Rattle.ame_term.specs.State.{State};
 ghost use Rattle.ame_term.specs.Maps.{at};
 ghost use Rattle.ame_journal.specs.Replayed.{Replayed, is_at_unprotected};
@@ -19,8 +19,13 @@ ghost use Rattle.ame_protocol.specs.Event.After.{after};
 ghost use Rattle.ame_protocol.specs.Event.May.{May, ReadsAreValid};
 ghost use Rattle.ame_protocol.specs.Event.Sound.{Sound};
 ghost use Rattle.ame_protocol.specs.Event.Runs.{Follows, entries_along, entries_told};
+ghost use Rattle.ame_engine.specs.AtWork.{IsOn};
+ghost use Rattle.ame_engine.specs.Makes.{state_of};
 ghost use Rattle.ame_theorems.specs.Doomed.{IsDoomed, seat_of};
 ghost use Rattle.ame_theorems.specs.Shows.{ShowsTheSame};
+
+use ame_engine::Engine;
+use ame_machine::Runner;
 
 /// An event that adds no entry to the journal shows nothing: output, numbers, terms of members and committed values
 /// are as before. An event that adds a note shows nothing either, and neither does a run of such events.
@@ -51,3 +56,17 @@ pub fn valid_rows_are_fragments()
         → HasUsed (run_in s.parts seat attempt.tried.number) n p → is_at_unprotected attempt.tried.number r.state ≡ true
         → (n ≡ 0) × (at r.state.members attempt.tried.number ≡ Some p.term) }
 {}
+
+/// So it is of the machine that runs such a row: it has made the steps of the fragment under way, and stands for the term of the active member.
+pub fn machines_on_valid_rows_are_under_way<M: Runner>(engine: &Engine<M>)
+where
+    M::Code: Drop,
+    ensures { (seat : ℕ) (m : M) (attempt : Attempt) (r : Replayed) → IsOn M.meaning engine.now seat m
+        → task_at engine.now.tasks seat ≡ Task.Running attempt → ReadsAreValid (state_of M.meaning engine.now) seat
+        → replay (M.meaning.program engine.now.code) (engine.now.base ++ engine.now.entries) ≡ Some r
+        → is_at_unprotected attempt.tried.number r.state ≡ false
+        → (t : State) × UnderWay r.state attempt.tried.number (M.meaning.stage engine.now.code m).steps (M.meaning.stage engine.now.code m).fresh t
+        × (at t.members attempt.tried.number ≡ Some (M.meaning.stage engine.now.code m).term) }
+{
+    engine.stands();
+}

@@ -1,26 +1,25 @@
 -- Each strong run that ends at rest has a journal, which unfolds into its labels.
-use Rattle.std.proofs.Common.{◌≡◌, ℕ, ◌+◌, ◌==◌, ◌||◌, ◌++◌, Bool, true, false, not, filter, List, [], ◌∷◌, map, Option, Some, None, is_none, option_and_then, option_map, if◌then◌else◌, refl, sym, ap, ◌∙◌, subst, arith, append-nil, append_assoc, length-append}
+use Rattle.std.proofs.Common.{◌≡◌, ℕ, ◌+◌, ◌==◌, ◌||◌, ◌++◌, Bool, true, false, not, filter, List, [], ◌∷◌, map, Option, Some, None, is_none, option_and_then, if◌then◌else◌, refl, sym, ap, ◌∙◌, subst, arith, append-nil, append_assoc, length-append}
 use Rattle.std.specs.Prelude.{◌↔◌}
 use Rattle.std.proofs.lemmas.Option.{option_and_then_some}
 use Rattle.std.proofs.lemmas.List.Concat.{flat_map-append}
-use Rattle.ame_term.specs.Tree.{Val, Tree}
+use Rattle.ame_term.specs.Tree.{Tree}
 use Rattle.ame_term.specs.Frame.{Side}
-use Rattle.ame_term.specs.Context.{Focus, focus, fill}
 use Rattle.ame_term.specs.Act.{device_answer}
-use Rattle.ame_term.specs.Maps.{change}
-use Rattle.ame_term.specs.State.{State, after, run, IsRun, at_unprotected, activated, reduce, closed, closed_value, departed, ended}
+use Rattle.ame_term.specs.State.{State, after, run, IsRun, activated, reduce, closed, departed, ended}
 use Rattle.ame_term.specs.declared.semantics.StepKind.{StepKind}
 use Rattle.ame_term.specs.declared.semantics.Label.{Label}
 use Rattle.ame_journal.specs.declared.entry.Entry.{Entry}
 use Rattle.ame_journal.specs.declared.entry.EntryKind.{EntryKind}
 use Rattle.ame_journal.specs.Labels.{fresh_of, made_by, IsAnswered, AreSteps, fragment_labels, Unfolds, UnfoldsAll}
-use Rattle.ame_journal.specs.Replayed.{Replayed, begun_at, is_inside, has_such, is_at_unprotected, entering, staying, leaving}
+use Rattle.ame_journal.specs.Replayed.{Replayed, begun_at, is_inside, is_at_unprotected, entering, staying, leaving}
 use Rattle.ame_journal.specs.Replay.{replay}
-use Rattle.ame_journal.proofs.StepLemmas.{free-reduced, step-reduced, step-keeps, no_answer, activate-is, activated-resting}
+use Rattle.ame_journal.proofs.StepLemmas.{step-reduced, step-keeps, no_answer, activate-is, activated-resting}
 use Rattle.ame_journal.proofs.LabelLemmas.{run-two, run-one, unfold-all, unfolds_all-run}
 use Rattle.ame_journal.proofs.UnfoldLemmas.{all-back}
 use Rattle.ame_journal.proofs.ReachedLemmas.{IsCalm, calm-entry, calm-all, calm-replayed}
-use Rattle.ame_theorems.specs.Straight.{Place, outset, ran, freed, arrival, arrival_where, came, came_where, entries_of_label, past, straight_from, straight}
+use Rattle.ame_weak.proofs.EntryLemmas.{free-stands, close-stands}
+use Rattle.ame_weak.specs.Straight.{Place, outset, ran, freed, arrival, arrival_where, came, came_where, entries_of_label, past, straight_from, straight}
 
 -- Which labels aren't legal
 
@@ -105,22 +104,6 @@ one-more r s t entry entries all labels more same first rest =
 
 -- Labels of unprotected code
 
-free-stands : (i : ℕ) (kind : StepKind) (s t : State) → after s (Label.Free i kind) ≡ Some t → is_at_unprotected i s ≡ true
-free-stands i kind s t e =
-    let x = free-reduced kind i s t e in
-    ap (has_such (λ (term : Tree). at_unprotected (focus term))) x.is_member ∙ ap at_unprotected x.stands
-
-closed-focus : (f : Focus) (o : Option State) (go : Val → State) (t : State) → option_map go (closed_value f) ≡ Some t → at_unprotected f ≡ true
-closed-focus (Focus.AtRedex Side.Protected (Tree.Unprotected (Tree.Held w))) o go t e = refl
-closed-focus _ o go t e = no-state t e
-
-close-stands : (i : ℕ) (s t : State) → s.active ≡ None → after s (Label.Close i) ≡ Some t → is_at_unprotected i s ≡ true
-unfolding after
-close-stands i s t idle e =
-    option_and_then_some _ _ _ (ap (λ (o : Option ℕ). if is_none o then closed i s else None) (sym idle) ∙ e) (λ term is_member e1.
-    ap (has_such (λ (z : Tree). at_unprotected (focus z))) is_member
-    ∙ closed-focus (focus term) None (λ v. record s { members = change s.members i (fill term (Tree.Held v)) }) t e1)
-
 itself : (n : ℕ) → (n == n) ≡ true
 itself n = grind arith
 
@@ -193,7 +176,7 @@ module _ (r : Replayed) (p : Place) (calm : IsCalm r) (inside : p.inside ≡ r.i
       let entry = freed i [] None in
       let label = Label.Close i in
       let to : Replayed → Replayed = λ q. leaving q i t in
-      let stands = close-stands i r.state t calm.idle e in
+      let stands = close-stands i r.state t e in
       let unfolds : (q : Replayed) → q.state ≡ r.state → is_inside q i ≡ true → Unfolds q i EntryKind.Free 1 [] None (label ∷ []) (to q) =
       λ q same is.
       Unfolds.closes [] 0 [] t is (record { count = refl; made = refl; answered = refl }) (run-one q.state t label (ap (λ (s : State). after s label) same ∙ e)) in

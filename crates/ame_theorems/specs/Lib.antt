@@ -1,4 +1,3 @@
 pub mod Shows
 pub mod Doomed
-pub mod Straight
 pub mod SoFar

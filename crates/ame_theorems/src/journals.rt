@@ -8,7 +8,7 @@ ghost use Rattle.ame_journal.specs.declared.entry.Entry.{Entry};
 ghost use Rattle.ame_journal.specs.Labels.{UnfoldsAll};
 ghost use Rattle.ame_journal.specs.Replayed.{Replayed, begun_at};
 ghost use Rattle.ame_journal.specs.Replay.{replay, replay_from};
-ghost use Rattle.ame_theorems.specs.Straight.{straight};
+ghost use Rattle.ame_weak.specs.Straight.{straight};
 
 /// Each strong run that ends with nothing active has a journal, which unfolds into exactly the labels of the run and leads to its state.
 /// So the states at rest to which strong runs of a program lead are exactly those to which its journals lead.

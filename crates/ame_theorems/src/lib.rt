@@ -1,4 +1,4 @@
-//! Theorems over the theory of the engine: each a function with no body whose contract is the statement.
+//! Theorems over the theory of the engine: each a function that does nothing, whose contract is the statement.
 #![tactic(auto)]
 
 mod doomed;

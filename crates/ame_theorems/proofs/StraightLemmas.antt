@@ -6,7 +6,7 @@ use Rattle.std.proofs.lemmas.List.Concat.{flat_map-append}
 use Rattle.ame_term.specs.Tree.{Tree}
 use Rattle.ame_term.specs.Frame.{Side}
 use Rattle.ame_term.specs.Act.{device_answer}
-use Rattle.ame_term.specs.State.{State, after, run, IsRun, activated, reduce, closed, departed, ended}
+use Rattle.ame_term.specs.State.{State, start, after, run, IsRun, activated, reduce, closed, departed, ended}
 use Rattle.ame_term.specs.declared.semantics.StepKind.{StepKind}
 use Rattle.ame_term.specs.declared.semantics.Label.{Label}
 use Rattle.ame_journal.specs.declared.entry.Entry.{Entry}
@@ -14,6 +14,8 @@ use Rattle.ame_journal.specs.declared.entry.EntryKind.{EntryKind}
 use Rattle.ame_journal.specs.Labels.{fresh_of, made_by, IsAnswered, AreSteps, fragment_labels, Unfolds, UnfoldsAll}
 use Rattle.ame_journal.specs.Replayed.{Replayed, begun_at, is_inside, is_at_unprotected, entering, staying, leaving}
 use Rattle.ame_journal.specs.Replay.{replay}
+use Rattle.ame_journal.specs.Calls.{calls_along, device_calls}
+use Rattle.ame_journal.proofs.CallLemmas.{calls-unfolded}
 use Rattle.ame_journal.proofs.StepLemmas.{step-reduced, step-keeps, no_answer, activate-is, activated-resting}
 use Rattle.ame_journal.proofs.LabelLemmas.{run-two, run-one, unfold-all, unfolds_all-run}
 use Rattle.ame_journal.proofs.UnfoldLemmas.{all-back}
@@ -293,6 +295,10 @@ has-journal program labels s e idle =
     let begun = begun_at program in
     let x = follow labels begun outset begun.state s [] (calm-replayed program [] begun refl) refl StandsBehind.rests e idle in
     (x.reached, x.unfolds, x.is)
+
+pub same-calls : (program : Tree) (labels : List Label) (s : State) (k : ℕ) → IsRun program labels s → s.active ≡ None
+    → device_calls k program (straight labels) ≡ calls_along k (start program) labels
+same-calls program labels s k e idle = let j = has-journal program labels s e idle in calls-unfolded k (begun_at program) (straight labels) labels j.0 j.1
 
 pub is-run : (program : Tree) (entries : List Entry) (labels : List Label) (r : Replayed) → UnfoldsAll (begun_at program) entries labels r
     → IsRun program labels r.state × (r.state.active ≡ None)

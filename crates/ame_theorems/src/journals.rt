@@ -2,19 +2,22 @@
 
 ghost use Rattle.std.specs.Prelude.{◌≡◌, ◌++◌, ◌↔◌, ℕ, List, Some, None, IsSome, take};
 ghost use Rattle.ame_term.specs.Tree.{Tree};
-ghost use Rattle.ame_term.specs.State.{State, IsRun};
+ghost use Rattle.ame_term.specs.State.{State, start, IsRun};
 ghost use Rattle.ame_term.specs.declared.semantics.Label.{Label};
 ghost use Rattle.ame_journal.specs.declared.entry.Entry.{Entry};
+ghost use Rattle.ame_journal.specs.Calls.{calls_along, device_calls};
 ghost use Rattle.ame_journal.specs.Labels.{UnfoldsAll};
 ghost use Rattle.ame_journal.specs.Replayed.{Replayed, begun_at};
 ghost use Rattle.ame_journal.specs.Replay.{replay, replay_from};
 ghost use Rattle.ame_weak.specs.Straight.{straight};
 
-/// Each strong run that ends with nothing active has a journal, which unfolds into exactly the labels of the run and leads to its state.
+/// Each strong run that ends with nothing active has a journal, which unfolds into exactly the labels of the run, leads to its state and makes its calls.
 /// So the states at rest to which strong runs of a program lead are exactly those to which its journals lead.
 pub fn runs_have_journals()
     ensures journal { (program : Tree) (labels : List Label) (s : State) → IsRun program labels s → s.active ≡ None
         → (r : Replayed) × UnfoldsAll (begun_at program) (straight labels) labels r × (r.state ≡ s) }
+    ensures calls { (program : Tree) (labels : List Label) (s : State) (device : ℕ) → IsRun program labels s → s.active ≡ None
+        → device_calls device program (straight labels) ≡ calls_along device (start program) labels }
     ensures run { (program : Tree) (entries : List Entry) (labels : List Label) (r : Replayed) → UnfoldsAll (begun_at program) entries labels r
         → IsRun program labels r.state × (r.state.active ≡ None) }
     ensures states { (program : Tree) (s : State) → ((labels : List Label) × IsRun program labels s × (s.active ≡ None))

@@ -1,0 +1,5 @@
+pub mod DoomedLemmas
+pub mod RowLemmas
+pub mod JournalLemmas
+pub mod StraightLemmas
+pub mod SoFarLemmas

@@ -1,0 +1,3 @@
+pub mod Shows
+pub mod Doomed
+pub mod SoFar

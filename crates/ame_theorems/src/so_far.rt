@@ -1,0 +1,22 @@
+//! What a call has shown that hasn't returned.
+
+ghost use Rattle.std.specs.Prelude.{◌≡◌, []};
+ghost use Rattle.ame_shell.specs.Shell.{shell_view, Opening, IsShell};
+ghost use Rattle.ame_theorems.specs.SoFar.{HasShownARun};
+
+use ame_device::Device;
+use ame_io::Sink;
+use ame_machine::Runner;
+use ame_shell::Shell;
+
+/// Between two turns of a call that began its program, a strong run of the program has been shown. So it is if the call never returns.
+pub fn shells_tell_a_run_so_far<M: Runner, K: Sink, D: Device>(shell: &Shell<M, K, D>)
+where
+    M::Code: Drop,
+    ensures { (opening : Opening M.Code) → IsShell M.meaning.program opening (shell_view K.written K.faults D.device_heard D.device_faults shell.now)
+        → opening.base ≡ []
+        → HasShownARun (M.meaning.program opening.code) shell.now.engine.stop opening.ends
+        (shell_view K.written K.faults D.device_heard D.device_faults shell.now).ends }
+{
+    shell.engine.stands();
+}

@@ -22,7 +22,7 @@ use Rattle.ame_one_run.specs.Calls.{Asked, RunsAsking, heard_by}
 abbrev pub calling : ℕ → ℤ → Tree
 calling device argument = Tree.One (unary.Call device) (Tree.Held (Val.Int argument))
 
--- what is reduced by a step with a device's answer is a call
+-- a step with a device's answer reduces a call
 pub called_form : (s : State) (side : Side) (answer : ℤ) (redex part : Tree) (t : State) → Reduces s side (StepKind.Device answer) redex part t →
     (device : ℕ) × (argument : ℤ) × (redex ≡ calling device argument)
 called_form s _ _ _ _ _ (Reduces.answering device n reply) = (device, n, refl)
@@ -46,7 +46,7 @@ runs-ask _ _ _ (Runs.none s) = ([], RunsAsking.none s)
 runs-ask _ _ _ (Runs.more s t u label labels rule runs) =
     let rest = runs-ask t labels u runs in asking s t u label labels rest.0 rule rest.1
 
--- What devices hear of them
+-- Calls that devices hear
 
 -- a label that isn't a call of a device makes none
 quiet : (k : ℕ) (s : State) (label : Label) → ((i : ℕ) (answer : ℤ) → label ≢ Label.Free i (StepKind.Device answer)) → label_call k s label ≡ []

@@ -54,7 +54,7 @@ status-named program options end final before after replays (Some Stop.NoMemory)
 status-named program options end final before after replays (Some Stop.WriteFault) cause = record { ending = Ending.WriteFault; cause = cause; line_is = refl }
 status-named program options end final before after replays None cause = record { ending = Ending.NoMemory; cause = tt; line_is = refl }
 
--- What was written
+-- Bytes that were written
 
 fault-or_none : (status : Status) → (status ≡ Status.WriteFault) ⊎ (status ≢ Status.WriteFault)
 fault-or_none Status.WriteFault = inl refl

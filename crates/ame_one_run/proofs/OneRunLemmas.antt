@@ -40,7 +40,7 @@ use Rattle.ame_one_run.proofs.TypeLemmas.{typing-unit}
 use Rattle.ame_one_run.proofs.JournalLemmas.{replayed-shown}
 use Rattle.ame_one_run.proofs.EndingLemmas.{status-named, written-prefix, written-whole}
 
--- What the tables have of such a command
+-- Rows of the tables for such a command
 
 anew-base : (command : Command) (front : Front) (program : Tree) (base : List Entry) → BeginsAnew command → BeginsFrom command front program base → base ≡ []
 anew-base (Command.Run options) front program base anew e = e

@@ -1,4 +1,4 @@
--- The same of each command whose run begins with the program.
+-- The promise of each command whose run begins with the program.
 use Rattle.std.specs.Prelude.{⊤}
 use Rattle.ame_value.specs.declared.val.Val.{Val}
 use Rattle.ame_cli.specs.declared.command.Command.{Command}

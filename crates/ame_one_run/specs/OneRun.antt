@@ -1,4 +1,4 @@
--- What `run` promises by the rules alone, from the bytes that it reads to the bytes that it writes.
+-- The promise of `run` by the rules alone, from the bytes that it reads to the bytes that it writes.
 use Rattle.std.specs.Prelude.{◌≡◌, ◌≢◌, ◌++◌, ◌⊎◌, ⊤, [], ◌∷◌, ℕ, List, length, None, codes, decimal}
 use Rattle.std.specs.Io.KnownBytes.{Appends}
 use Rattle.ame_io.specs.Lines.{lines}

@@ -1,4 +1,4 @@
--- What the members of a state come to from there, by the rules.
+-- Runs from a state to a false condition, to a call of a device, and to a value that is too high.
 use Rattle.std.specs.Prelude.{◌≡◌, ◌≢◌, ◌⊎◌, ℕ, ◌+◌, ℤ, false, List, [], ◌∷◌, map, replicate, Some}
 use Rattle.std.specs.Map.{lookup}
 use Rattle.std.specs.BTreeMap.{is_at}

@@ -1,4 +1,4 @@
-//! What a run promises by the rules alone, from the text that it reads to the lines that it writes.
+//! The promise of a run by the rules alone, from the text that it reads to the lines that it writes.
 #![tactic(auto)]
 
 mod call;

@@ -1,4 +1,4 @@
-//! Theorems: what a call promises is one run by the rules.
+//! Theorems: a call that began a run made one run by the rules.
 
 ghost use Rattle.std.specs.Prelude.{[], Option, IfSome};
 ghost use Rattle.ame_io.specs.Reads.{IsReadWhole};
@@ -17,7 +17,7 @@ ghost use Rattle.ame_one_run.specs.Commands.{BeginsAnew, IsRunOf};
 use ame_cli::spells_one_command;
 use ame_parse::spelled_is_read;
 
-/// A call with the words of `run`, if it began a run, read its whole text, and made one run of it by the rules.
+/// Shows that a call with the words of `run`, if it began a run, read its whole text, and made one run of it by the rules.
 pub fn one_run()
     ensures { (call : Call) (report : Reported) (ended : Option (End Val)) (before after : Ends) → IsPromised call report ended before after
         → AskForRun call.words → IfSome ended (λ end. IsReadWhole call.source.left call.source_after.left report.text
@@ -26,7 +26,7 @@ pub fn one_run()
     spelled_is_read();
 }
 
-/// A call with the words of `run`, `bench`, `sim` or `replay`, if it began a run, made one run of its text by the rules.
+/// Shows that a call with the words of `run`, `bench`, `sim` or `replay`, if it began a run, made one run of its text by the rules.
 pub fn each_run()
     ensures { (call : Call) (report : Reported) (ended : Option (End Val)) (before after : Ends) (command : Command)
         → IsPromised call report ended before after → SpellsCommand call.words command → BeginsAnew command

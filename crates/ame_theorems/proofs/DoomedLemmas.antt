@@ -97,7 +97,7 @@ pub shows-after : (e : Event) (s : Runtime) → May e s → Sound s → without_
 shows-after e s may h notes =
     shows-along (e ∷ []) s (after e s) (may, refl) h (ap without_notes (append-nil (entries_told e)) ∙ notes)
 
--- What a doomed attempt can't do
+-- A doomed attempt adds no entry
 
 noted-valid : (parts : Parts) (seat : ℕ) (t : Task) (side : Side) (i n : ℕ) (p : LocalState) (a : Attempt) → t ≡ Task.Running a → MayBeNoted parts seat t side i n p
     → AreValid (heap_in parts) seat (row_at parts.memory.rows seat).reads

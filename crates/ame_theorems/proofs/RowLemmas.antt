@@ -1,4 +1,4 @@
--- Rows whose reads are valid, and machines that stand where they stand.
+-- Rows whose reads are valid, and the machines that run them.
 use Rattle.std.proofs.Common.{◌≡◌, ℕ, zero, suc, List, [], Bool, true, false, Option, Some, None, option_map, refl, sym, ap, ◌∙◌, subst}
 use Rattle.ame_term.specs.Tree.{Val, Tree}
 use Rattle.ame_term.specs.Context.{focus}

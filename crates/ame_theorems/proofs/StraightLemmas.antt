@@ -23,7 +23,7 @@ use Rattle.ame_journal.proofs.ReachedLemmas.{IsCalm, calm-entry, calm-all, calm-
 use Rattle.ame_weak.proofs.EntryLemmas.{free-stands, close-stands}
 use Rattle.ame_weak.specs.Straight.{Place, outset, ran, freed, arrival, arrival_where, came, came_where, entries_of_label, past, straight_from, straight}
 
--- Which labels aren't legal
+-- Labels that aren't legal
 
 no-state : {P : Type 0} (u : State) → ◌≡◌ {A = Option State} None (Some u) → P
 no-state u e = absurd (cc)
@@ -79,10 +79,9 @@ fragment-more : (i : ℕ) (kinds : List StepKind) (kind : StepKind) (labels : Li
     → fragment_labels i (kinds ++ kind ∷ []) ++ labels ≡ fragment_labels i kinds ++ Label.Step kind ∷ labels
 fragment-more i kinds kind labels = ap (λ (ls : List Label). Label.Activate i ∷ ls) (map-more kinds kind labels)
 
--- Where labels have come to
+-- The labels so far
 
--- The state is the one that the entries so far lead to; or a fragment is under way from there, which the entries don't tell yet. The labels
--- are those that they don't tell.
+-- The entries so far lead to the state; or a fragment is under way from their state, which has no entry yet. The labels are those without an entry.
 data StandsBehind (r : Replayed) (p : Place) : State → List Label → Type 0 where
   rests : StandsBehind r p r.state []
   under_way : (s : State) (kinds : List StepKind) → is_inside r p.number ≡ false → AreSteps kinds p.steps p.fresh None
@@ -112,7 +111,7 @@ itself n = grind arith
 now-inside : (r : Replayed) (i : ℕ) → is_inside (entering r i r.state) i ≡ true
 now-inside r i = ap (λ (b : Bool). b || is_inside r i) (itself i)
 
--- where a member has come in
+-- the state after a member has come in
 abbrev arrived : Replayed → ℕ → Bool → Replayed
 arrived r i b = record { state = r.state; inside = came_where b r.inside i }
 

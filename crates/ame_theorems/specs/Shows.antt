@@ -1,4 +1,4 @@
--- What a runtime shows of what is committed.
+-- Committed work of a runtime, as it is shown.
 use Rattle.std.specs.Prelude.{◌≡◌, ℕ}
 use Rattle.ame_pool.specs.Calls.{machine_of}
 use Rattle.ame_pool.specs.Keeps.{is_inside_at}

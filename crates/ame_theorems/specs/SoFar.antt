@@ -1,4 +1,4 @@
--- What a call has shown so far.
+-- The run that a call has shown so far.
 use Rattle.std.specs.Prelude.{◌≡◌, ℕ, List, Option, Some, None}
 use Rattle.std.specs.Io.KnownBytes.{Appends}
 use Rattle.ame_io.specs.Lines.{lines}

@@ -1,4 +1,4 @@
-//! What an attempt that leaves no entry shows.
+//! Theorems on attempts that leave no entry.
 
 ghost use Rattle.std.specs.Prelude.{◌≡◌, ◌++◌, [], ℕ, List, Some, true, false};
 ghost use Rattle.ame_term.specs.State.{State};
@@ -27,8 +27,8 @@ ghost use Rattle.ame_theorems.specs.Shows.{ShowsTheSame};
 use ame_engine::Engine;
 use ame_machine::Runner;
 
-/// An event that adds no entry to the journal shows nothing: output, numbers, terms of members and committed values
-/// are as before. An event that adds a note shows nothing either, and neither does a run of such events.
+/// Says that an event that adds no entry to the journal shows nothing: output, numbers, terms of members and committed
+/// values are as before. An event that adds a note shows nothing either, and neither does a run of such events.
 pub fn events_without_entries_show_nothing()
     ensures event { (e : Event) (s : Runtime) → May e s → Sound s → entries_told e ≡ [] → ShowsTheSame s.parts (after e s).parts }
     ensures note { (e : Event) (s : Runtime) → May e s → Sound s → without_notes (entries_told e) ≡ [] → ShowsTheSame s.parts (after e s).parts }
@@ -36,15 +36,15 @@ pub fn events_without_entries_show_nothing()
         → ShowsTheSame s.parts end.parts }
 {}
 
-/// No event of a seat whose attempt is doomed adds an entry, and so each of them shows nothing.
+/// Says that no event of a seat with a doomed attempt adds an entry, and so each of them shows nothing.
 pub fn doomed_attempts_show_nothing()
     ensures { (e : Event) (s : Runtime) (seat : ℕ) → IsDoomed s seat → seat_of e ≡ Some seat → May e s → Sound s
         → (entries_told e ≡ []) × ShowsTheSame s.parts (after e s).parts }
 {}
 
-/// If all reads of a running row are valid now, its attempt is a fragment under way in the state to which the journal leads:
-/// the member becomes active there and makes as many steps, its term is then the attempt's, and the attempt's writes,
-/// prints and new members are those of the steps. A member that stands at `unprotected` already has made no step.
+/// Says that an attempt with valid reads is a fragment under way in the state to which the journal leads: the member becomes
+/// active there and makes as many steps. Its term is then the attempt's, and the attempt's writes, prints and new members are
+/// those of the steps. A member that stands at `unprotected` already has made no step.
 pub fn valid_rows_are_fragments()
     ensures under_way { (s : Runtime) (r : Replayed) (seat : ℕ) (attempt : Attempt) (n : ℕ) (p : LocalState) → Sound s
         → replay s.parts.program (whole_journal s.parts) ≡ Some r → task_at s.parts.tasks seat ≡ Task.Running attempt
@@ -57,7 +57,8 @@ pub fn valid_rows_are_fragments()
         → (n ≡ 0) × (at r.state.members attempt.tried.number ≡ Some p.term) }
 {}
 
-/// So it is of the machine that runs such a row: it has made the steps of the fragment under way, and stands for the term of the active member.
+/// Says the same of the machine that runs such a row: it has made the steps of the fragment under way, and stands for the
+/// term of the active member.
 pub fn machines_on_valid_rows_are_under_way<M: Runner>(engine: &Engine<M>)
 where
     M::Code: Drop,

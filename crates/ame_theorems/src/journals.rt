@@ -1,4 +1,4 @@
-//! How journals are put together and cut.
+//! Theorems on journals and strong runs.
 
 ghost use Rattle.std.specs.Prelude.{◌≡◌, ◌++◌, ◌↔◌, ℕ, List, Some, None, IsSome, take};
 ghost use Rattle.ame_term.specs.Tree.{Tree};
@@ -11,8 +11,9 @@ ghost use Rattle.ame_journal.specs.Replayed.{Replayed, begun_at};
 ghost use Rattle.ame_journal.specs.Replay.{replay, replay_from};
 ghost use Rattle.ame_weak.specs.Straight.{straight};
 
-/// Each strong run that ends with nothing active has a journal, which unfolds into exactly the labels of the run, leads to its state and makes its calls.
-/// So the states at rest to which strong runs of a program lead are exactly those to which its journals lead.
+/// Says that each strong run that ends with nothing active has a journal, which unfolds into exactly the labels of the run,
+/// leads to its state and makes its calls. So strong runs of a program reach exactly those states at rest to which its
+/// journals lead.
 pub fn runs_have_journals()
     ensures journal { (program : Tree) (labels : List Label) (s : State) → IsRun program labels s → s.active ≡ None
         → (r : Replayed) × UnfoldsAll (begun_at program) (straight labels) labels r × (r.state ≡ s) }
@@ -24,8 +25,8 @@ pub fn runs_have_journals()
         ↔ ((entries : List Entry) × (r : Replayed) × (replay program entries ≡ Some r) × (r.state ≡ s)) }
 {}
 
-/// Entries that can be replayed from where a journal leads make a longer journal with it, which leads where they lead.
-/// Its labels are those of the journal, then theirs.
+/// Says that entries that can be replayed from the state of a journal make a longer journal with it, which leads to their
+/// state. Its labels are those of the journal, then theirs.
 pub fn journals_compose()
     ensures replayed { (program : Tree) (entries more : List Entry) (r t : Replayed) → replay program entries ≡ Some r
         → replay_from r more ≡ Some t → replay program (entries ++ more) ≡ Some t }
@@ -33,8 +34,8 @@ pub fn journals_compose()
         → UnfoldsAll s more others t → UnfoldsAll r (entries ++ more) (labels ++ others) t }
 {}
 
-/// Each prefix of a journal is a journal, and the other entries can be replayed from where it leads. The labels of the journal are
-/// those of the prefix, then those of the other entries.
+/// Says that each prefix of a journal is a journal, and that the other entries can be replayed from its state. The labels of
+/// the journal are those of the prefix, then those of the other entries.
 pub fn prefixes_replay()
     ensures replayed { (program : Tree) (entries more : List Entry) (t : Replayed) → replay program (entries ++ more) ≡ Some t
         → (r : Replayed) × (replay program entries ≡ Some r) × (replay_from r more ≡ Some t) }

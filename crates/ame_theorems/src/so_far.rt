@@ -1,4 +1,4 @@
-//! What a call has shown that hasn't returned.
+//! The theorem on calls that haven't returned.
 
 ghost use Rattle.std.specs.Prelude.{◌≡◌, []};
 ghost use Rattle.ame_shell.specs.Shell.{shell_view, Opening, IsShell};
@@ -9,7 +9,8 @@ use ame_io::Sink;
 use ame_machine::Runner;
 use ame_shell::Shell;
 
-/// Between two turns of a call that began its program, a strong run of the program has been shown. So it is if the call never returns.
+/// Says that a call that began its program has shown a strong run of the program between any two turns, also if it never
+/// returns.
 pub fn shells_tell_a_run_so_far<M: Runner, K: Sink, D: Device>(shell: &Shell<M, K, D>)
 where
     M::Code: Drop,

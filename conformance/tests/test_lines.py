@@ -123,7 +123,7 @@ AFTER_PROGRAM = [
     ("all read read", "3:10", "each at most once"),
     ("output 1\nall read", "4:1", "only directly after the program"),
     ("all read\nall read", "4:1", "only directly after the program"),
-    ("program", "3:1", "a line that begins with ran"),
+    ("program", "3:8", "how many bytes"),
 ]
 HEADS = [
     (b"ran 0 0 _\n", "1:1", "program SIZE"),
@@ -141,7 +141,7 @@ HEADS = [
     (b"program 9\n(print x)\n", "2:8", "docs/LANGUAGE.md"),
     (b"program 9\n(print 1$\n", "2:9", "docs/LANGUAGE.md"),
     (b"program 8\n(print 1\n", "2:9", "docs/LANGUAGE.md"),
-    (b"program 16\n(do unit\n  (+ 1))\n", "3:7", "docs/LANGUAGE.md"),
+    (b"program 17\n(do unit\n  (+ 1))\n", "3:7", "docs/LANGUAGE.md"),
     (b"program 12\n(print true)\n", "2:8", "a part of the type"),
     (b"program 1\n7\n", "2:1", "a part of type Unit"),
     (b"\xff\xfe\n", "1:1", "program SIZE"),

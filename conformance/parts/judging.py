@@ -1,4 +1,6 @@
 """Judges a recording: goes through the strong semantics by its entries, and compares what it claims besides."""
+import functools
+
 from . import explain, lines, steps, strong, values
 from .answers import Answer, Failure, Reason, Sign, Verdict
 from .names import Names
@@ -116,24 +118,35 @@ class Judging:
         self.waiting, self.observations, self.stores, self.end, self.entries = None, [], {}, None, 0
         self.line = 0  # the last line taken
 
-    def take(self, line):
-        """Takes a line, and judges what it makes certain."""
-        if isinstance(line, lines.Observation):
-            self.observations.append(line)
-            return
+    def take(self, line, text):
+        """Takes a line, and judges what it makes certain; raises Bad where it can't follow those before it."""
+        TAKES[type(line)](self, line, text)
+        self.line = line.line
+
+    def observe(self, line, text):
+        if self.waiting is None:
+            raise lines.Bad(line.line, 3, "observation without an entry", lines.shown(text), "an observation only below an entry")
+        self.observations.append(line)
+
+    def enter(self, line, text):
         self.close()
-        if isinstance(line, lines.Entry):
-            self.waiting = line
-        elif isinstance(line, lines.Output):
-            self.world.wrote(line)
-        elif isinstance(line, lines.Heard):
-            self.world.heard(line)
-        elif isinstance(line, lines.Store):
-            self.check_store(line)
-        elif isinstance(line, lines.Whole):
-            self.state.whole = line.kinds
-        else:
-            self.check_end(line)
+        if self.stores:
+            expected = "only `store`, `output`, `heard` and `end` lines after a `store` line"
+            raise lines.Bad(line.line, 1, "entry after the store", lines.shown(text), expected)
+        self.waiting = line
+
+    def write(self, line, text):
+        self.close()
+        self.world.wrote(line)
+
+    def hear(self, line, text):
+        self.close()
+        self.world.heard(line)
+
+    def say_whole(self, line, text):
+        if self.line:
+            raise lines.Bad(line.line, 1, "`all` after other lines", lines.shown(text), "`all` only directly after the program")
+        self.state.whole = line.kinds
 
     def close(self, is_last=False):
         """Judges the entry whose observations are complete now."""
@@ -148,8 +161,12 @@ class Judging:
         if len(self.state.output) > printed:
             self.world.printed(entry.line, self.state.output[printed:])
 
-    def check_store(self, line):
+    def check_store(self, line, text):
         """Compares a location with what it holds; one that has no number yet may be any of those without."""
+        self.close()
+        if line.location in self.stores:
+            expected = f"each location once: line {self.stores[line.location].line} has this one"
+            raise lines.Bad(line.line, 7, "location of the store twice", lines.shown(text), expected)
         self.stores[line.location] = line
         cells, store = self.state.names.cells, self.state.store
         cell = cells.get(line.location)
@@ -158,8 +175,9 @@ class Judging:
         if cell is None or not values.fits(line.value, store[cell], self.state.names):
             raise Failure(explain.other_store(self.state, line, cell))
 
-    def check_end(self, line):
+    def check_end(self, line, text):
         """Judges the claim of the end, and what the end makes certain."""
+        self.close()
         self.end = line
         self.world.check_end(line, self.state.whole)
         if "store" in self.state.whole:
@@ -189,6 +207,10 @@ class Judging:
             self.state.enter(entry, ())
         except Failure as failure:
             raise Failure(Reason(Sign.TALL, line.line, 1, failure.reason.problem, failure.reason.details)) from None
+
+
+TAKES = {lines.Observation: Judging.observe, lines.Entry: Judging.enter, lines.Output: Judging.write, lines.Heard: Judging.hear,
+         lines.Whole: Judging.say_whole, lines.Store: Judging.check_store, lines.End: Judging.check_end}
 
 
 class Settings:
@@ -236,32 +258,22 @@ def judge_lines(source, judging):
         if isinstance(line, lines.Program):
             source.back(text)
             break
-        order(line, judging, text)
-        judging.take(line)
+        judging.take(line, text)
         if isinstance(line, lines.End):
             return
         text = source.line()
     judging.close(is_last=True)
 
 
-def order(line, judging, text):
-    """Raises Bad where a line can't follow those before it."""
-    if isinstance(line, lines.Whole) and judging.line:
-        raise lines.Bad(line.line, 1, "`all` after other lines", lines.shown(text), "`all` only directly after the program")
-    if isinstance(line, lines.Observation) and judging.waiting is None:
-        raise lines.Bad(line.line, 3, "observation without an entry", lines.shown(text), "an observation only below an entry")
-    if isinstance(line, lines.Entry) and judging.stores:
-        raise lines.Bad(line.line, 1, "entry after the store", lines.shown(text), "only `store`, `output`, `heard` and `end` lines after a `store` line")
-    if isinstance(line, lines.Store) and line.location in judging.stores:
-        expected = f"each location once: line {judging.stores[line.location].line} has this one"
-        raise lines.Bad(line.line, 7, "location of the store twice", lines.shown(text), expected)
-    judging.line = line.line
+@functools.lru_cache(maxsize=64)
+def remembered_program(text):
+    return strong.JUDGE.program_of(text)
 
 
 def program_of(text, line):
     """Returns the program that a text spells; raises Bad where it has none, or where its types are refused. The text begins after a line."""
     try:
-        return strong.JUDGE.program_of(text)
+        return remembered_program(text)
     except strong.Verdict as verdict:
         problem, _, place = verdict.args[1].rpartition(" at ")
         row, column = Places(text).line_and_column(int(place))

@@ -1,4 +1,5 @@
 """The lines of a recording: what each says, and what is expected of one that can't be read."""
+import functools
 from typing import List, NamedTuple, Optional
 
 from . import values
@@ -8,6 +9,7 @@ ENTRY_KINDS = (b"ran", b"free", b"stuck", b"cut", b"tall")
 OBSERVED = ("read", "wrote", "print", "starts", "call")
 WHOLE = (*OBSERVED, "output", "heard", "store")
 VERDICTS = ("finished", "blocked", "spent", "tall")
+MOST_REMEMBERED = 40
 NATURAL = "a decimal number without leading zeros, "
 
 
@@ -273,7 +275,22 @@ READERS = {
 
 
 def read(text, line):
-    """Returns what a line says, given without its line feed; raises Bad."""
+    """Returns what a line says, given without its line feed; raises Bad. What short lines say is remembered, since many are alike."""
+    if len(text) > MOST_REMEMBERED:
+        return said(text, line)
+    try:
+        found = remembered(text)
+    except Bad as fault:
+        raise Bad(line, fault.column, fault.problem, fault.found, fault.expected) from None
+    return type(found)(line, *found[1:])
+
+
+@functools.lru_cache(maxsize=20_000)
+def remembered(text):
+    return said(text, 0)
+
+
+def said(text, line):
     words = Words(text, line)
     reader = READERS.get(words.next())
     if text.startswith(b" ") and not (text.startswith(b"  ") and text[2:3] != b" "):

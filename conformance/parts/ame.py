@@ -9,6 +9,7 @@ from .answers import Answer, Reason, Sign, Verdict
 
 VERDICT = re.compile(rb"finished|blocked [0-9]+|spent|tall [0-9]+")
 INTEGER = re.compile(rb"-?[0-9]+")
+SEEDS = 100
 RUN_WORDS = (("run", "--workers", "1"), ("run", "--workers", "4"), ("run", "--workers", "32"))
 
 
@@ -20,7 +21,7 @@ def add(parser):
     """Adds the options of a campaign against ame."""
     group = parser.add_argument_group("against ame")
     group.add_argument("--why", default=os.path.join(strong.TOP, "why"), metavar="PATH", help="the program that prints journals (./why)")
-    group.add_argument("--sims", type=int, default=100, metavar="N", help="under how many seeds of `sim` each program is run (100)")
+    group.add_argument("--sims", type=int, default=100, metavar="N", help="under how many seeds of `sim` each program is run, of the seeds 0 to 99 (100)")
     group.add_argument("--workers", type=int, default=4, metavar="N", help="the seats of `sim` (4)")
 
 
@@ -29,7 +30,7 @@ class Ame:
 
     def __init__(self, given, settings):
         self.why, self.seconds, self.settings = given.why, given.timeout, settings
-        self.sims = [("sim", str(seed), "--workers", str(given.workers)) for seed in range(given.sims)]
+        self.sims, self.workers = given.sims, str(given.workers)
         if not os.path.exists(self.why):
             raise Missing(f"{self.why}: the program isn't there; --why names another")
 
@@ -38,9 +39,11 @@ class Ame:
         with tempfile.NamedTemporaryFile(suffix=".ame") as file:
             file.write(case.text)
             file.flush()
-            calls = [*RUN_WORDS, *self.sims]
+            first = case.seed * self.sims
+            sims = [("sim", str(seed % SEEDS), "--workers", self.workers) for seed in range(first, first + self.sims)]
+            calls = [*RUN_WORDS, *sims]
             journals, verdicts = self.asked(file.name, calls, "--journal")
-            written, _ = self.asked(file.name, self.sims, None) if self.sims else (b"", b"")
+            written, _ = self.asked(file.name, sims, None) if sims else (b"", b"")
         try:
             recordings = self.recordings(case, calls, journals, verdicts.splitlines(), outputs(written))
         except ValueError as fault:
@@ -70,7 +73,7 @@ class Ame:
         """Yields each journal as a recording; of `sim` with the integers that the program wrote."""
         end = b"program\n" + case.text
         parts = journals.split(end)[:-1]
-        if len(parts) != len(calls) or len(verdicts) != len(calls) or len(written) != len(self.sims):
+        if len(parts) != len(calls) or len(verdicts) != len(calls) or len(written) != self.sims:
             raise ValueError(f"{len(parts)} journals, {len(verdicts)} verdicts and {len(written)} outputs for {len(calls)} calls")
         head = b"program %d\n%s\n" % (len(case.text), case.text)
         for at, (journal, verdict) in enumerate(zip(parts, verdicts)):

@@ -2,7 +2,7 @@
 from . import strong
 
 SHAPES = strong.JUDGE.SHAPES
-WIDTH = 88
+WIDTH = 80
 EMPTY = frozenset()
 
 
@@ -37,7 +37,7 @@ def flat(tree):
 
 
 def show(tree):
-    """Returns a program's text on lines of some 88 characters, with a line feed at its end."""
+    """Returns a program's text on lines of some 80 characters, with a line feed at its end."""
     return "\n".join(shown(tree, 0)) + "\n"
 
 

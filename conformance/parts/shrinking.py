@@ -76,16 +76,31 @@ def cuts(tree, path):
     if isinstance(part, tuple):
         yield from (put(tree, path, constant) for constant in CONSTANTS)
         yield from (put(tree, path, part[place]) for place in programs.terms(part))
-        if part[0] == "let" and not isinstance(part[2], tuple):
-            yield put(tree, path, with_value(part[3], part[1], part[2]))
+        yield from (put(tree, path, less) for less in unbound(part))
     elif isinstance(part, int):
         yield from (put(tree, path, less) for less in dict.fromkeys((0, 1, abs(part) // 2)) if less < abs(part) or part < 0 < less + 1)
     elif part not in CONSTANTS:
         yield from (put(tree, path, constant) for constant in CONSTANTS)
 
 
+def unbound(form):
+    """Yields a form without its binding: a value in the place of the name, or `let` in the place of a call."""
+    if form[0] == "let" and (not isinstance(form[2], tuple) or uses(form[3], form[1]) == 1):
+        yield with_value(form[3], form[1], form[2])
+    function = form[1] if form[0] == "app" else None
+    if isinstance(function, tuple) and function[0] == "fn":
+        yield ("let", function[2][0], form[2], function[3])
+    if isinstance(function, tuple) and function[0] == "rec" and uses(function[5], function[2]) == 0:
+        yield ("let", function[3][0], form[2], function[5])
+
+
+def uses(tree, name):
+    """Returns how often a name stands in a term."""
+    return sum(uses(part, name) for part in tree) if isinstance(tree, tuple) else tree == name
+
+
 def with_value(tree, name, value):
-    """Returns a term with an atom for a name."""
+    """Returns a term with another for a name."""
     if tree == name:
         return value
     if not isinstance(tree, tuple):

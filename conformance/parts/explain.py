@@ -143,8 +143,8 @@ def unlike(state, made, fault):
     expected = f"expected: {shown_act(act)}, at {state.places.at(act.place)}{by_whom(state, act)}"
     task = task_of(state, entry.number)
     details = [f"found: {shown_seen(seen) if seen else 'no further observation'}", expected]
-    kind = seen.kind if seen else act.kind
-    problem = f"{task} {DOES[kind]}" if not seen or seen.kind == act.kind else f"{task} does something else first"
+    kind = act.kind
+    problem = f"{task} {DOES[kind]}" if not seen or seen.kind == kind else f"{task} does something else first"
     line, column = (seen.line, 3) if seen else (entry.line, 1)
     return Reason(SIGNS[kind], line, column, problem, details + reads_of(state, made.acts[:-1]))
 

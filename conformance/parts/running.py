@@ -70,7 +70,7 @@ def how_it_ended(status):
 
 
 def answered(case, recording, end, settings):
-    """Judges a recording, and then how the command ended and the outcome."""
+    """Judges a recording, and then how the command ended, unless the recording has its end, and the outcome."""
     lines_of_it = source.Source(BytesIO(recording), case.name)
     answer, judged = judging.judge(lines_of_it, settings)
     if answer is None or not recording.startswith(source.HEAD):
@@ -79,7 +79,9 @@ def answered(case, recording, end, settings):
     if judged and judged.state.places.text != case.text:
         reason = Reason(Sign.TEXT, 1, 1, "the recording has another program", ["expected: the bytes of the standard input"])
         return Answer(Verdict.BAD, case.name, 1, reason=reason)
-    reason = end or (other_outcome(case, answer) if answer.verdict is Verdict.VALID else None)
+    reason = end if end and (answer.end is None or end.sign is Sign.TIME) else None
+    if answer.verdict is Verdict.VALID:
+        reason = reason or other_outcome(case, answer)
     if reason and answer.verdict is not Verdict.INVALID:
         answer.verdict, answer.reason = Verdict.INVALID, reason
     return answer

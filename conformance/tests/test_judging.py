@@ -114,7 +114,7 @@ class Invalid(unittest.TestCase):
         (CELL, ["ran 0 0 _ 0", "ran 0 2 _", "  print 5"], Sign.PRINT, "5:3", "expected: print 3"),
         (CELL, ["ran 0 0 _ 0", "  starts 3"], Sign.STARTS, "4:3", "expected: starts 1"),
         (CELL, ["all starts", "ran 0 0 _ 0", "  starts 1", "ran 0 1 _"], Sign.STARTS, "4:1", "no further observation"),
-        (CELL, ["all read wrote", "ran 0 0 _ 0", "ran 0 1 _", "  wrote 0 4", "end spent"], Sign.WROTE, "6:3", "does something else first"),
+        (CELL, ["all read wrote", "ran 0 0 _ 0", "ran 0 1 _", "  wrote 0 4", "end spent"], Sign.READ, "6:3", "does something else first"),
         (CELL, ["ran 0 0 _ 0", "ran 0 1 _", "  wrote 0 4", "  read 0 3"], Sign.READ, "6:3", "expected: read 0 3"),
         (OUTSIDE, ["ran 0 0 _ _", "free 0 0 _", "free 0 0 _", "free 0 0 _"], Sign.ANSWER, "6:10", "the answer is missing"),
         (OUTSIDE, ["ran 0 0 _ _", "free 0 0 5 = 5"], Sign.ANSWER, "4:10", "only in the last step"),

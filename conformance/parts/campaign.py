@@ -90,4 +90,7 @@ class Tally:
             failed = [result for result in self.failures if result.case.name.split()[0] == kind]
             if failed:
                 lines.append(f"failed, {kind}: {len(failed)}, the first is {failed[0].case.name} under seed {failed[0].case.seed}")
+        names = collections.Counter(result.case.name for result in self.failures if not result.case.name.startswith("random "))
+        if names:
+            lines.append("failed by name: " + ", ".join(f"{name} {count}" for name, count in names.items()))
         return "\n".join(lines)

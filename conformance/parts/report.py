@@ -10,7 +10,7 @@ def least(found):
     result = found.result
     program = result.case.text.decode("utf-8", "replace").rstrip("\n")
     lines = result.recording.decode("utf-8", "replace").splitlines()
-    after = len(result.case.text.splitlines()) + 1 if lines and lines[0].startswith("program ") else 0
+    after = result.case.text.count(b"\n") + 2 if lines and lines[0].startswith("program ") else 0
     shown = [f"{number:4}  {line}" for number, line in enumerate(lines, 1)][after:]
     if len(shown) > MOST_LINES:
         shown = [*shown[:MOST_LINES // 2], "      ..", *shown[-MOST_LINES // 2:]]

@@ -49,7 +49,7 @@ class Certificates(unittest.TestCase):
             self.assertEqual(says(certificate), b"valid %d" % entries)
             self.assertEqual(judged(as_recording(certificate))[0].entries, entries)
             changed = COMPARE.with_a_change(certificate, chance.choice(COMPARE.CHANGES), chance)
-            said, here = says(changed), verdict_of(judged(as_recording(changed))[0])
+            said, here = says(changed), verdict_of(judged(as_recording(changed), common.judging.Settings())[0])
             invalid += said.startswith(b"invalid")
             if said.startswith(b"bad journal"):  # tools/judge reads all lines first
                 self.assertIn(here.split(b" ")[0], (b"bad", b"invalid"))

@@ -1,5 +1,6 @@
 """Nothing is reported for the runtime without a bug, and each of its bugs is found by litmus programs or 200 random ones."""
 import io
+import random
 import time
 import unittest
 
@@ -20,6 +21,29 @@ def finds(bug):
     return None
 
 
+def split(recording, program):
+    """Returns the head of a recording, and its other lines with their line feeds."""
+    size = recording.index(b"\n") + len(program) + 2
+    return recording[:size], recording[size:].splitlines(keepends=True)
+
+
+def blank(line):
+    """Returns a line with `_` for its new locations."""
+    words = line[:-1].split(b" ")
+    if words[0] not in (b"ran", b"free"):
+        return line
+    rest = words[words.index(b"="):] if b"=" in words else []
+    return b" ".join([*words[:4], b"_", *rest]) + b"\n"
+
+
+def with_gaps(recording, program, chance):
+    """Returns a recording with parts left out."""
+    head, lines = split(recording, program)
+    dropped = {kind for kind in (b"output", b"heard", b"store") if chance.random() < 0.3}
+    kept = [line for line in lines[1:] if not (line.startswith(b"  ") and chance.random() < 0.4) and line.split(b" ")[0] not in dropped]
+    return head + b"".join(blank(line) if chance.random() < 0.3 else line for line in kept)
+
+
 class Runtime(unittest.TestCase):
     def test_without_a_bug(self):
         for seed in range(common.count(200, 5_000)):
@@ -33,16 +57,18 @@ class Runtime(unittest.TestCase):
             self.assertIsNotNone(finds(bug), bug)
 
     def test_a_part_of_what_is_recorded_is_never_reported(self):
-        """Leaves out kinds of observations, without a line `all`: what is left has to be accepted."""
-        for seed in range(common.count(60, 600)):
-            lines = recorded(generated(seed), seed).split(b"\n")
-            kept = [line for place, line in enumerate(lines) if not (
-                line.startswith(b"all ") or line[:3] == b"  " + b"rwpsc"[seed % 5:seed % 5 + 1] or line.startswith(b"  ") and (place * 7 + seed) % 3 == 0)
-                and not (seed % 2 and line.startswith((b"store", b"output", b"heard")))]
-            if kept[0] == lines[0] and b"\n".join(kept).startswith(b"\n".join(lines[:generated(seed).count(b"\n") + 1])):
-                answer, _ = judged(b"\n".join(kept))
-                if answer.verdict is not Verdict.VALID:
-                    self.assertIn("the answer is missing", answer.text())
+        """Leaves out observations, what the world saw, and numbers of locations, by chance: what is left has to be accepted."""
+        for seed in range(common.count(100, 2_000)):
+            chance, program = random.Random(seed), generated(seed)
+            answer, _ = judged(with_gaps(recorded(program, seed, is_exact=seed % 2 == 0), program, chance))
+            self.assertIs(answer.verdict, Verdict.VALID, answer.text())
+
+    def test_locations_get_their_numbers_by_observations(self):
+        for seed in range(common.count(100, 2_000)):
+            program = generated(seed)
+            head, lines = split(recorded(program, seed), program)
+            answer, _ = judged(head + b"".join(blank(line) for line in lines))
+            self.assertIs(answer.verdict, Verdict.VALID, answer.text())
 
     def test_speed(self):
         """Says how many recordings a second one process judges."""

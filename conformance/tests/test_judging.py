@@ -24,7 +24,8 @@ class Valid(unittest.TestCase):
         self.assertEqual(certificates.of(judging_.state), b"ran 0 0 5 0\nran 0 2 2\nran 0 1 3\nprogram\n" + CELL.encode())
 
     def test_unprotected_code_makes_one_act_a_line(self):
-        _, judging_ = self.check(OUTSIDE, "ran 0 0 _ _", "free 1 0 _", "free 1 0 _", "free 1 0 _", "  call 1 5 = 5", "free 1 0 _", "free 1 0 _", "ran 1 0 _", "end finished")
+        _, judging_ = self.check(OUTSIDE, "ran 0 0 _ _", "free 1 0 _", "free 1 0 _", "free 1 0 _", "  call 1 5 = 5", "free 1 0 _", "free 1 0 _",
+                                 "ran 1 0 _", "end finished")
         self.assertEqual(certificates.of(judging_.state).split(b"program")[0],
                          b"ran 0 0 2 0\nfree 1 0 1\nfree 1 0 1\nfree 1 0 2 = 5\nfree 1 0 1\nfree 1 0 1\nran 1 0 0\n")
 
@@ -70,7 +71,8 @@ class Valid(unittest.TestCase):
         self.check(FIRST, "output 1", "ran 0 0 _", "output 2", "ran 0 1 _", "end finished")
 
     def test_devices(self):
-        self.check(OUTSIDE, "all heard", "ran 0 0 _ _", "free 0 0 _", "free 0 0 _", "heard 1 5 = 5", "free 0 0 _ = 5", "free 0 0 _", "free 0 0 _", "ran 0 0 _", "end finished")
+        self.check(OUTSIDE, "all heard", "ran 0 0 _ _", "free 0 0 _", "free 0 0 _", "heard 1 5 = 5", "free 0 0 _ = 5", "free 0 0 _", "free 0 0 _",
+                   "ran 0 0 _", "end finished")
 
     def test_a_crash_leaves_what_was_seen(self):
         whole = recording(CELL, "all read wrote", "ran 0 0 _ 9", "ran 0 1 3", "  read 9 3", "  wrote 9 4")

@@ -79,7 +79,7 @@ def of_tokens(text):
     open_pairs, at = [], 0
     while True:
         if text.startswith(b"(pair ", at):
-            if len(open_pairs) > strong.MOST_HEIGHT:
+            if len(open_pairs) == strong.MOST_HEIGHT:
                 raise NoValue(at)
             open_pairs.append([])
             at += len(b"(pair ")

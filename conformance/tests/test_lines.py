@@ -86,7 +86,7 @@ AFTER_PROGRAM = [
     ("ran 0 0 _ _\n  read 0 (pair x 2)", "4:16", "a value"),
     ("ran 0 0 _ _\n  read 0 (1 2)", "4:10", "a value"),
     ("ran 0 0 _ _\n  read 0 (fn a (x Int) x)", "4:10", "a value"),
-    ("ran 0 0 _ _\n  read 0 " + "(pair " * 1100 + "1", "4:6016", "a value"),
+    ("ran 0 0 _ _\n  read 0 " + "(pair " * 1100 + "1", "4:6010", "a value"),
     ("ran 0 0 _ _\n  wrote 0", "4:10", "a value"),
     ("ran 0 0 _ _\n  print", "4:8", "a 64-bit integer"),
     ("ran 0 0 _ _\n  print true", "4:9", "a 64-bit integer"),

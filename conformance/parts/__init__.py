@@ -1,0 +1,1 @@
+"""The parts of the programs in this folder, a concept a file."""

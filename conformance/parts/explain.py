@@ -145,12 +145,17 @@ def unlike(state, made, fault):
     details = [f"found: {shown_seen(seen) if seen else 'no further observation'}", expected]
     kind = act.kind
     problem = f"{task} {DOES[kind]}" if not seen or seen.kind == kind else f"{task} does something else first"
-    line, column = (seen.line, 3) if seen else (entry.line, 1)
+    line, column = (line_of_next(made), 3) if seen else (entry.line, 1)
     return Reason(SIGNS[kind], line, column, problem, details + reads_of(state, made.acts[:-1]))
 
 
 DOES = {"read": "reads something else", "wrote": "writes something else", "print": "prints something else",
         "starts": "starts another task", "call": "makes another call"}
+
+
+def line_of_next(made):
+    """Returns the line of the next observation: they stand directly below the line of their entry."""
+    return made.entry.line + 1 + made.seen
 
 
 def not_seen(state, made):
@@ -161,7 +166,7 @@ def not_seen(state, made):
     acts = [f"{shown_act(act)}, at {state.places.at(act.place)}{by_whom(state, act)}" for act in (same or alike)[:MOST_READS]]
     details = [f"found: {shown_seen(seen)}", "expected: " + ("; or ".join(acts) if acts else f"no `{seen.kind}` in these steps")]
     details.append(f"after {made.count} steps it is {standing_of(state, made.member)}")
-    return Reason(SIGNS[seen.kind], seen.line, 3, f"{task_of(state, made.entry.number)} {DOES[seen.kind]}", details)
+    return Reason(SIGNS[seen.kind], line_of_next(made), 3, f"{task_of(state, made.entry.number)} {DOES[seen.kind]}", details)
 
 
 def bad_fresh(state, made, number):

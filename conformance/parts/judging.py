@@ -84,9 +84,11 @@ class State(strong.Run):
             for cell in made.made:
                 self.names.drop(cell)
             return
-        self.writers.update(dict.fromkeys(walk.sets, entry.line))
-        places = [act.place for act in made.acts if act.kind == "starts"]
-        self.started.update((number, (entry.line, place)) for number, place in enumerate(places, first))
+        for cell in walk.sets:
+            self.writers[cell] = entry.line
+        if walk.spawned:
+            places = [act.place for act in made.acts if act.kind == "starts"]
+            self.started.update((number, (entry.line, place)) for number, place in enumerate(places, first))
         if entry.number not in self.members:
             self.ended[entry.number] = entry.line
 
@@ -118,15 +120,15 @@ class Judging:
         self.waiting, self.observations, self.stores, self.end, self.entries = None, [], {}, None, 0
         self.line = 0  # the last line taken
 
-    def take(self, line, text):
+    def take(self, number, line, text):
         """Takes a line, and judges what it makes certain; raises Bad where it can't follow those before it."""
-        TAKES[type(line)](self, line, text)
-        self.line = line.line
-
-    def observe(self, line, text):
-        if self.waiting is None:
-            raise lines.Bad(line.line, 3, "observation without an entry", lines.shown(text), "an observation only below an entry")
-        self.observations.append(line)
+        if type(line) is not lines.Observation:
+            TAKES[type(line)](self, line, text)
+        elif self.waiting is None:
+            raise lines.Bad(number, 3, "observation without an entry", lines.shown(text), "an observation only below an entry")
+        else:
+            self.observations.append(line)
+        self.line = number
 
     def enter(self, line, text):
         self.close()
@@ -209,8 +211,8 @@ class Judging:
             raise Failure(Reason(Sign.TALL, line.line, 1, failure.reason.problem, failure.reason.details)) from None
 
 
-TAKES = {lines.Observation: Judging.observe, lines.Entry: Judging.enter, lines.Output: Judging.write, lines.Heard: Judging.hear,
-         lines.Whole: Judging.say_whole, lines.Store: Judging.check_store, lines.End: Judging.check_end}
+TAKES = {lines.Entry: Judging.enter, lines.Output: Judging.write, lines.Heard: Judging.hear, lines.Whole: Judging.say_whole,
+         lines.Store: Judging.check_store, lines.End: Judging.check_end}
 
 
 class Settings:
@@ -255,11 +257,12 @@ def judge_lines(source, judging):
     text = source.line()
     while text is not None:
         line = lines.read(text, source.number)
-        if isinstance(line, lines.Program):
+        kind = type(line)
+        if kind is lines.Program:
             source.back(text)
             break
-        judging.take(line, text)
-        if isinstance(line, lines.End):
+        judging.take(source.number, line, text)
+        if kind is lines.End:
             return
         text = source.line()
     judging.close(is_last=True)

@@ -26,9 +26,8 @@ class Entry(NamedTuple):
 
 
 class Observation(NamedTuple):
-    """What the task of an entry did, in the words of LANGUAGE: the subject is a location or a device."""
+    """What the task of an entry did, in the words of LANGUAGE: the subject is a location or a device. Its line is known by that of the entry."""
 
-    line: int
     kind: str
     subject: Optional[int]
     value: object
@@ -209,7 +208,7 @@ def observation(words):
     else:
         subject, value, answer = call(words)
     words.done("the observation")
-    return Observation(words.line, kind, subject, value, answer)
+    return Observation(kind, subject, value, answer)
 
 
 def call(words):
@@ -282,7 +281,7 @@ def read(text, line):
         found = remembered(text)
     except Bad as fault:
         raise Bad(line, fault.column, fault.problem, fault.found, fault.expected) from None
-    return type(found)(line, *found[1:])
+    return found if type(found) is Observation else type(found)(line, *found[1:])
 
 
 @functools.lru_cache(maxsize=20_000)

@@ -1,7 +1,7 @@
 """Programs as trees: an atom is a text or an integer; a form, a type or a parameter is a tuple. Reading, showing, and the parts of a form."""
 from . import strong
 
-SHAPES = strong.JUDGE.SHAPES
+TERMS = {"fn": [3], "rec": [5], "let": [2, 3], "ref": [2], "call": [2]}  # the places of terms, in forms that have other parts too
 WIDTH = 80
 EMPTY = frozenset()
 
@@ -63,9 +63,7 @@ def terms(tree):
     """Returns the places in a form at which terms are."""
     if not isinstance(tree, tuple):
         return []
-    if tree[0] == "do":
-        return list(range(1, len(tree)))
-    return [place for place, piece in enumerate(SHAPES[tree[0]], 1) if piece in ("term", "body")]
+    return TERMS.get(tree[0]) or list(range(1, len(tree)))
 
 
 def bound(tree, place):

@@ -42,51 +42,39 @@ class Steps:
 
     def go(self, most):
         """Makes steps until as many as the entry says are made (`most` at most), or the member can't go on."""
-        member, entry, reductions, acts = self.member, self.entry, strong.REDUCTIONS, ACTS
-        is_open = entry.steps is None and entry.kind in (b"free", b"cut")
+        member, entry, walk, reductions, acts = self.member, self.entry, self.walk, strong.REDUCTIONS, ACTS
+        is_open, is_tall = entry.steps is None and entry.kind in (b"free", b"cut"), entry.kind == b"tall"
         most = most if entry.steps is None else min(most, entry.steps)
         while self.count < most and not (is_open and self.is_over()):
             term, names, parts = member.redex
-            if term.form in acts:
+            form = term.form
+            if form in acts:
                 self.count, self.is_at_act = self.count + 1, True
-                acts[term.form](self, term, names, parts)
-            elif self.can_reduce(term.form, parts):
-                self.count += 1
-                reductions[term.form](self.walk, term, names, *parts)
-            else:
+                acts[form](self, term, *parts)
+            elif form not in reductions or form == "blockUntil" and not parts[0] or is_tall and member.coming_height() > strong.MOST_HEIGHT:
                 break
+            else:
+                self.count += 1
+            reductions[form](walk, term, names, *parts)
 
     def is_over(self):
         """Returns whether an entry without a number of steps ends here: unprotected code at each act, a cut after what was observed."""
         return self.is_at_act if self.entry.kind == b"free" else self.seen == len(self.observations)
 
-    def can_reduce(self, form, parts):
-        if form not in strong.REDUCTIONS or form == "blockUntil" and not parts[0]:
-            return False
-        return self.entry.kind != b"tall" or self.member.coming_height() <= strong.MOST_HEIGHT
-
-    def reduce(self, term, names, parts):
-        strong.REDUCTIONS[term.form](self.walk, term, names, *parts)
-
-    def reads(self, term, names, parts):
-        cell = parts[0]
+    def reads(self, term, cell):
         value = self.walk.sets[cell] if cell in self.walk.sets else self.state.store.get(cell)
         self.saw(Act("read", cell, value, None, term.place))
-        self.reduce(term, names, parts)
 
-    def writes(self, term, names, parts):
-        self.saw(Act("wrote", *parts, None, term.place))
-        self.reduce(term, names, parts)
+    def writes(self, term, cell, value):
+        self.saw(Act("wrote", cell, value, None, term.place))
 
-    def prints(self, term, names, parts):
-        self.saw(Act("print", None, parts[0], None, term.place))
-        self.reduce(term, names, parts)
+    def prints(self, term, integer):
+        self.saw(Act("print", None, integer, None, term.place))
 
-    def starts(self, term, names, parts):
+    def starts(self, term):
         self.saw(Act("starts", None, self.state.next + len(self.walk.spawned), None, term.place))
-        self.reduce(term, names, parts)
 
-    def makes(self, term, names, parts):
+    def makes(self, term, value):
         cell = values.Cell()
         if self.entry.fresh is not None:
             if len(self.made) == len(self.entry.fresh):
@@ -96,19 +84,17 @@ class Steps:
                 raise BadFresh(number)
             self.state.names.give(number, cell)
         self.made.append(cell)
-        self.acts.append(Act("made", cell, parts[0], None, term.place))
+        self.acts.append(Act("made", cell, value, None, term.place))
         self.walk.fresh = [cell]
-        self.reduce(term, names, parts)
 
-    def calls(self, term, names, parts):
+    def calls(self, term, argument):
         device = term.data[0]
         if self.answer is None:
             self.answer = next((seen.answer for seen in self.observations[self.seen:] if seen.kind == "call"), None)
         if self.entry.kind != b"free" or self.answer is None or self.entry.steps not in (None, self.count):
-            raise NoAnswer(Act("call", device, parts[0], None, term.place))
-        self.saw(Act("call", device, parts[0], self.answer, term.place))
+            raise NoAnswer(Act("call", device, argument, None, term.place))
+        self.saw(Act("call", device, argument, self.answer, term.place))
         self.walk.left, self.walk.answer = 0, self.answer
-        self.reduce(term, names, parts)
 
     def saw(self, act):
         """Compares an act with the next observation, which may leave out acts of kinds that are recorded with gaps."""
@@ -139,4 +125,5 @@ def fits(seen, act, names):
 def name(seen, act, names):
     if act.kind in ("read", "wrote"):
         names.give(seen.subject, act.subject)
-        values.name(seen.value, act.value, names)
+        if type(seen.value) is not type(act.value):  # it may be a location, or have some
+            values.name(seen.value, act.value, names)

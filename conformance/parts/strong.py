@@ -1,7 +1,9 @@
 """The strong semantics, imported from tools/judge: reader, types, members and their reductions. Nothing of it is written again here."""
+import gc
 import importlib.machinery
 import importlib.util
 import os
+import sys
 
 TOP = os.path.dirname(os.path.dirname(os.path.dirname(os.path.abspath(__file__))))
 
@@ -19,3 +21,10 @@ Entry, Function, Member, Pair, Run, Walk = JUDGE.Entry, JUDGE.Function, JUDGE.Me
 Undefined, Verdict = JUDGE.Undefined, JUDGE.Verdict
 MOST_BYTES, MOST_HEIGHT, REDUCTIONS = JUDGE.MOST_BYTES, JUDGE.MOST_HEIGHT, JUDGE.REDUCTIONS
 MOST_RECURSION = 10_000  # Python's own calls, for programs of 200 open parentheses and values 1,000 high
+MOST_GARBAGE = 100_000
+
+
+def prepare():
+    """Allows as many calls as deep programs and values need, and makes the search for cycles of garbage rare, since the judge makes few."""
+    sys.setrecursionlimit(MOST_RECURSION)
+    gc.set_threshold(MOST_GARBAGE)

@@ -111,13 +111,13 @@ def fits(spelled, value, names):
     """Returns whether a value is what is spelled, where `names` says which number a location may have."""
     if spelled is Any:
         return True
+    if type(spelled) is type(value):
+        return spelled == value
     if isinstance(value, Cell):
         return isinstance(spelled, Spelled) and names.may_be(spelled.number, value)
     if isinstance(value, strong.Pair):
         return isinstance(spelled, Both) and fits(spelled.first, value.first, names) and fits(spelled.second, value.second, names)
-    if isinstance(value, strong.Function):
-        return spelled is SomeFunction
-    return type(spelled) is type(value) and spelled == value
+    return isinstance(value, strong.Function) and spelled is SomeFunction
 
 
 def name(spelled, value, names):

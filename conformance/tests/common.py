@@ -1,7 +1,6 @@
 """What the tests share: runs of the runtime in this process, and answers on bytes."""
 import io
 import os
-import sys
 
 import runtime
 from parts import generating, judging, source, strong
@@ -10,7 +9,7 @@ from recorder import Recorder
 HERE = os.path.dirname(os.path.dirname(os.path.abspath(__file__)))
 IS_LONG = "CONFORM_LONG" in os.environ
 SETTINGS = judging.Settings(1_000_000, True)
-sys.setrecursionlimit(strong.MOST_RECURSION)
+strong.prepare()
 
 
 def count(usual, long):

@@ -1,11 +1,10 @@
 """Nothing is reported for the runtime without a bug, and each of its bugs is found by litmus programs or 200 random ones."""
-import io
 import random
 import time
 import unittest
 
 import runtime
-from parts import judging, litmus, running, source
+from parts import judging, litmus, running
 from parts.answers import Verdict
 from parts.running import Case
 from tests import common
@@ -71,13 +70,18 @@ class Runtime(unittest.TestCase):
             self.assertIs(answer.verdict, Verdict.VALID, answer.text())
 
     def test_speed(self):
-        """Says how many recordings a second one process judges."""
-        wholes = [recorded(generated(seed, tasks=7), seed) for seed in range(common.count(60, 600))]
-        lines, begun, entries = source.Source(io.BytesIO(b"".join(wholes)), "x"), time.process_time(), 0
-        for _ in wholes:
-            entries += judging.judge(lines, common.SETTINGS)[0].entries
-        seconds = time.process_time() - begun
-        print(f"\n{len(wholes) / seconds:.0f} recordings a second of processor time, {entries / len(wholes):.1f} entries each")
+        """Says how many recordings a second one process judges: of programs that are new to it, and of programs that it remembers."""
+        seconds, entries, total = [0.0, 0.0], 0, common.count(60, 600)
+        for seed in range(total):
+            whole = recorded(generated(seed, tasks=12), seed)
+            judging.remembered_program.cache_clear()
+            for turn in range(2):
+                begun = time.process_time()
+                answer, _ = judged(whole)
+                seconds[turn] += time.process_time() - begun
+            entries += answer.entries
+        first, again = (round(total / each) for each in seconds)
+        print(f"\n{first} recordings a second of processor time, of new programs, {again} of remembered ones; {entries / total:.1f} entries each")
 
 
 if __name__ == "__main__":

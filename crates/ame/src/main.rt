@@ -1,7 +1,7 @@
 //! The program: its words are a command, standard input is the text of a program, standard output its lines.
 #![tactic(auto)]
 
-use ame_app::process_words;
+use ame_app::{exit_of, process_words};
 use ame_io::{StdSink, StdSource};
 use ame_one_run::run_process;
 use std::io;
@@ -10,5 +10,5 @@ use std::process::ExitCode;
 fn main(rt: HostRuntime) -> ExitCode {
     let (mut source, sink) = (StdSource::new(rt.reader()), StdSink::new(io::writer(&rt)));
     let report = run_process(&rt, rt.alloc(), process_words(&rt), &mut source, sink);
-    ExitCode::from(report.into_number())
+    exit_of(report)
 }

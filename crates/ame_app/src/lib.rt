@@ -4,6 +4,7 @@
 mod asked;
 mod call;
 mod code;
+mod exit;
 mod fault;
 mod limits;
 mod lists;
@@ -18,6 +19,7 @@ mod verbs;
 mod verdict;
 
 pub use call::{run_words, run_words_over};
+pub use exit::{exit_of, exit_with};
 pub use fault::{TextFault, WordsFault};
 pub use lists::{Mades, Picks};
 pub use parts::{Front, Own, Weakened};

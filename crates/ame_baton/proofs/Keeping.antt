@@ -1,13 +1,14 @@
 -- What a seat keeps when it takes the turn and gives it, and which rows there are at the end: for callers.
 use Rattle.std.proofs.Common.{◌≡◌, ℕ, ◌<◌, ◌≤◌, List, ◌++◌, length, map, set, Option, Some, slice_get, option_map, sym, ap, ◌∙◌, inl, inr, ⊎_elim, subst}
 use Rattle.std.proofs.lemmas.Bool.{cases_lt}
-use Rattle.std.proofs.lemmas.List.{append_cancel_left, map-set}
+use Rattle.std.proofs.lemmas.List.{append_cancel_left}
 use Rattle.std.proofs.lemmas.Option.{slice_get-map}
 use Rattle.ame_baton.specs.declared.view.Knows.{Knows}
 use Rattle.ame_baton.specs.declared.view.LastSeen.{LastSeen}
 use Rattle.ame_baton.specs.Seats.{entries_by, Takes, Gives, HasEnded}
 use Rattle.ame_baton.specs.Keeping.{KeepsSeat, FindsAsLeft, HasGiven, ShowsRows, ShowsEntries, IsLeftOrEmpty}
 use Rattle.ame_baton.proofs.Lookups.{get_set_here, get_there, get_within}
+use Rattle.ame_baton.proofs.Staying.{entries_of_others}
 use Rattle.ame_baton.proofs.Taking.{and_of, row_now, stands_now}
 
 some_is : {A : Type 0} (a b : A) → Some a ≡ Some b → a ≡ b
@@ -39,6 +40,9 @@ module _ {S F R E : Type 0} (stands_for : S → F → List R → List E → Type
     found = row_now stands_for seat_of before after state t ∙ ap Some row;
     goes_on = t.stays.goes_on;
     each = ap (λ n. entries_by seat_of n after.seen) number ∙ t.stays.own;
+    others = t.stays.goes_on.0;
+    seen = sym t.stays.goes_on.1;
+    apart = entries_of_others seat_of before.number before.seen t.stays.goes_on.0 after.seen before.own (sym t.stays.goes_on.1) t.stays.seen t.stays.own;
   }
 
   module _ (leaves : R → Type 0) where
@@ -58,10 +62,6 @@ module _ {S F R E : Type 0} (stands_for : S → F → List R → List E → Type
       seen = ap (λ (k : Knows F R E). k.seen) same;
       own = ap (λ (k : Knows F R E). k.own) same;
     }
-
-    pub turn_keeps : (before holding after : Knows F R E) (taken given : S) → Takes stands_for seat_of before taken holding → Gives stands_for seat_of leaves holding given after → KeepsSeat before after
-    turn_keeps before holding after taken given t g =
-        keeps_both before holding after (take_finds before holding taken t).keeps (give_leaves holding after given g).keeps
 
     -- where the state determines its entries
     pub entries_given : (entries_in : S → List E) → ShowsEntries stands_for entries_in → (before holding after : Knows F R E) (taken given : S) → Takes stands_for seat_of before taken holding
@@ -98,11 +98,6 @@ module _ {S F R E : Type 0} (stands_for : S → F → List R → List E → Type
           ap (slice_get (rows_in given)) number_is ∙ ap (λ l. slice_get l holding.number) rows_given ∙ slice_get-map shown (set holding.rows holding.number g.0.row) holding.number
           ∙ ap (option_map shown) (get_set_here holding.rows holding.number g.0.row within) ∙ ap (λ r. Some (shown r)) (sym row_is)
 
-      pub others_given : rows_in given ≡ set (rows_in taken) after.number (shown after.row)
-      others_given =
-          rows_given ∙ map-set shown holding.rows holding.number g.0.row ∙ ap (λ l. set l holding.number (shown g.0.row)) (sym rows_taken)
-          ∙ ap (λ n. set (rows_in taken) n (shown g.0.row)) (sym number_is) ∙ ap (λ r. set (rows_in taken) after.number (shown r)) (sym row_is)
-
       pub row_kept : slice_get (rows_in given) before.number ≡ slice_get (rows_in taken) before.number → shown after.row ≡ shown before.row
       row_kept same =
           let finds = take_finds before holding taken t in
@@ -114,8 +109,3 @@ module _ {S F R E : Type 0} (stands_for : S → F → List R → List E → Type
   pub row_at_end : (n : ℕ) (row : R) → slice_get e.rows n ≡ Some row → IsLeftOrEmpty empty seats n row
   row_at_end n row at = ⊎_elim (λ (lt : n < length seats). let there = get_there seats n lt in inl (there.0, there.1, some_is row there.0.row (sym at ∙ (e.stays n there.0 there.1).row)))
       (λ (le : length seats ≤ n). inr (le, (e.not_made n le).row row at)) (cases_lt n (length seats))
-
-  -- what each row that was left is, and the empty one, each row at the end is
-  pub rows_at_end : (P : R → Type 0) → P empty → ((n : ℕ) (it : LastSeen R E) → slice_get seats n ≡ Some it → P it.row) → (n : ℕ) (row : R) → slice_get e.rows n ≡ Some row → P row
-  rows_at_end P none each n row at = ⊎_elim (λ (x : (it : LastSeen R E) × (slice_get seats n ≡ Some it) × (row ≡ it.row)). subst P (sym x.2) (each n x.0 x.1))
-      (λ (x : (length seats ≤ n) × (row ≡ empty)). subst P (sym x.1) none) (row_at_end n row at)

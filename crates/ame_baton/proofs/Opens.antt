@@ -20,7 +20,7 @@ module _ {S F R E : Type 0} (stands_for : S → F → List R → List E → Type
           number = refl;
           opening = refl;
           seats = sym (length-replicate seats empty);
-          stays = record { row = get_replicate_in seats empty 0 some_seat; goes_on = ([], refl); own = refl };
+          stays = record { row = get_replicate_in seats empty 0 some_seat; goes_on = ([], refl); own = refl; seen = refl };
           leads = λ _. (refl, refl);
         },
       ) in

@@ -56,7 +56,7 @@ module _ {S F R E : Type 0} (stands_for : S → F → List R → List E → Type
           number = s.1.number;
           opening = s.1.opening;
           seats = s.1.seats;
-          stays = record { row = s.1.stays.row; goes_on = prefix_self t.entries; own = s.1.stays.own };
+          stays = record { row = s.1.stays.row; goes_on = prefix_self t.entries; own = s.1.stays.own; seen = s.1.stays.own };
           leads = s.1.leads;
         },
       ) in (

@@ -1,13 +1,12 @@
 -- Seats in the order of their numbers, and what they left.
-use Rattle.std.proofs.Common.{◌≡◌, ℕ, zero, suc, ◌+◌, List, [], ◌∷◌, ◌++◌, length, map, Some, slice_get, refl, sym, ap, ◌∙◌, ⊎_elim, subst, arith}
+use Rattle.std.proofs.Common.{◌≡◌, ℕ, zero, suc, ◌+◌, List, [], ◌∷◌, ◌++◌, length, map, Some, slice_get, refl, ap, ◌∙◌, ⊎_elim, subst, arith}
 use Rattle.ame_baton.specs.declared.view.Knows.{Knows}
 use Rattle.ame_baton.specs.declared.view.LastSeen.{LastSeen}
 use Rattle.ame_baton.specs.declared.seats.SeatAt.{SeatAt}
 use Rattle.ame_baton.specs.declared.turn.Baton.{Baton}
-use Rattle.ame_baton.specs.Seats.{left_by, Stays, IsElsewhere, HasEnded}
+use Rattle.ame_baton.specs.Seats.{left_by, Stays, HasEnded}
 use Rattle.ame_baton.specs.Rule.{OthersStay, Popped}
 use Rattle.ame_baton.specs.Batons.{IsReadySeat, AreReady}
-use Rattle.ame_baton.proofs.Lookups.{get_snoc}
 
 module _ {S F R E : Type 0} (baton : Baton S F R E) (n : ℕ) (seat : SeatAt S F R E) (seats : List (SeatAt S F R E)) where
   pub ready_head : AreReady baton n (seat ∷ seats) → IsReadySeat baton n seat
@@ -15,11 +14,6 @@ module _ {S F R E : Type 0} (baton : Baton S F R E) (n : ℕ) (seat : SeatAt S F
 
   pub ready_tail : AreReady baton n (seat ∷ seats) → AreReady baton (n + 1) seats
   ready_tail ready i s e = let P : ℕ → Type 0 = λ k. IsReadySeat baton k s in let e' : n + suc i ≡ n + 1 + i = omega arith in subst P e' (ready (suc i) s e)
-
-  -- the next seat is pushed
-  pub ready_push : AreReady baton n seats → IsReadySeat baton (n + length seats) seat → AreReady baton n (seats ++ seat ∷ [])
-  ready_push ready next i s e = ⊎_elim (λ (x : slice_get seats i ≡ Some s). ready i s x)
-      (λ (x : (i ≡ length seats) × (seat ≡ s)). subst (λ (y : ℕ × SeatAt S F R E). IsReadySeat baton (n + y.0) y.1) (λ k. (sym x.0 k, x.1 k)) next) (get_snoc seats seat s i e)
 
 pub length_map : {A B : Type 0} (f : A → B) (l : List A) → length (map f l) ≡ length l
 length_map f [] = refl
@@ -34,15 +28,7 @@ pub kept_more : {A F R E : Type 0} (before now next : Knows F R E) (f : A → La
 kept_more {A} {F} {R} {E} before now next f ys y is more = let grown : Knows F R E → Knows F R E = λ k. record k { ended = k.ended ++ f y ∷ [] } in
     let ended : List (LastSeen R E) → Knows F R E = λ l. record before { ended = l } in more ∙ (ap grown is ∙ ap ended (map_snoc f ys y))
 
-pub nothing_left : {A : Type 0} (l : List A) → length l ≡ 0 → l ≡ []
-nothing_left [] h = refl
-nothing_left (x ∷ xs) h = absurd (omega arith)
-
 module _ {S F R E : Type 0} (stands_for : S → F → List R → List E → Type 0) (empty : R) (seat_of : E → ℕ) (first : Knows F R E) (left : List (LastSeen R E)) where
-  -- once every seat is joined the turn is nowhere else
-  pub none_elsewhere : first.number ≡ 0 → first.made ≡ length left + 1 → IsElsewhere (record first { ended = left }) → ⊥
-  none_elsewhere zero_is all it = let range = it.3 zero_is in let least = range.0 in let most = range.1 in omega arith
-
   -- what the first seat pops then is the end
   pub ends : (state : S) (after : Knows F R E) → first.number ≡ 0 → first.made ≡ length left + 1 → Popped stands_for empty seat_of (record first { ended = left }) state after
       → HasEnded stands_for empty seat_of first.fixed (left_by first ∷ left) state

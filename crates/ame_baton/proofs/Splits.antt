@@ -8,6 +8,7 @@ use Rattle.ame_baton.specs.declared.view.Knows.{Knows}
 use Rattle.ame_baton.specs.Seats.{left_by, Stays, next_seat}
 use Rattle.ame_baton.specs.Rule.{Truth, Agrees, KnowsTruth, TurnIs}
 use Rattle.ame_baton.proofs.Lookups.{get_there, all_set, all_snoc}
+use Rattle.ame_baton.proofs.Staying.{entries_before}
 use Rattle.ame_baton.proofs.Reading.{Rule, not_holder, opened, seated, not_both, Place}
 
 module _ {S F R E : Type 0} (stands_for : S → F → List R → List E → Type 0) (empty : R) (seat_of : E → ℕ) where
@@ -54,6 +55,7 @@ module _ {S F R E : Type 0} (stands_for : S → F → List R → List E → Type
             row = there.1 ∙ ap Some (untouched.row there.0 there.1);
             goes_on = a.stays.goes_on;
             own = untouched.none;
+            seen = entries_before seat_of v.made v.seen t.entries a.stays.goes_on untouched.none;
           });
           leads = λ z. absurd (omega arith);
         },

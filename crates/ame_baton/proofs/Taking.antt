@@ -1,7 +1,5 @@
 -- What a seat that took the turn knows, and what it may give: for callers.
 use Rattle.std.proofs.Common.{◌≡◌, ℕ, zero, suc, List, [], ◌∷◌, ◌++◌, set, All, Option, Some, None, IsSomeAnd, slice_get, sym, refl, ap, ◌∙◌, subst}
-use Rattle.std.proofs.lemmas.List.{append-nil}
-use Rattle.std.proofs.lemmas.List.Elements.{All-nil}
 use Rattle.ame_baton.specs.declared.view.Knows.{Knows}
 use Rattle.ame_baton.specs.Seats.{Takes, MayGive}
 
@@ -34,11 +32,6 @@ module _ {S F R E : Type 0} (stands_for : S → F → List R → List E → Type
     by_seat = all;
     leaves_row = left;
   }
-
-  -- nothing changes
-  pub may_return : (leaves : R → Type 0) (state : S) → slice_get k.rows k.number ≡ Some k.row → IsSomeAnd k.fixed (Stands state) → leaves k.row → MayGive stands_for seat_of leaves k state
-  may_return leaves state row stands left = may_give leaves state state k.row [] stands left (All-nil (λ e. seat_of e ≡ k.number))
-      (λ f h. subst (λ (y : List R × List E). stands_for state f y.0 y.1) (λ i. (sym (set_again k.rows k.number k.row row) i, sym (append-nil k.seen) i)) h)
 
 module _ {S F R E : Type 0} (stands_for : S → F → List R → List E → Type 0) (seat_of : E → ℕ) (before after : Knows F R E) (state : S) (taken : Takes stands_for seat_of before state after) where
   pub stands_now : IsSomeAnd after.fixed (λ f. stands_for state f after.rows after.seen)

@@ -1,5 +1,5 @@
 -- What a seat keeps when it takes the turn and gives it, and which rows there are at the end.
-use Rattle.std.specs.Prelude.{◌≡◌, ℕ, ◌≤◌, ◌⊎◌, true, false, List, ◌++◌, length, map, All, Some, slice_get}
+use Rattle.std.specs.Prelude.{◌≡◌, ◌≢◌, ℕ, ◌≤◌, ◌⊎◌, true, false, List, ◌++◌, length, map, All, Some, slice_get}
 use mathlib.Core.List.{IsPrefix}
 use Rattle.ame_baton.specs.declared.view.Knows.{Knows}
 use Rattle.ame_baton.specs.declared.view.LastSeen.{LastSeen}
@@ -13,7 +13,7 @@ pub record KeepsSeat {F R E : Type 0} (before after : Knows F R E) : Type 0 wher
   pub made : after.made ≡ before.made
   pub ended : after.ended ≡ before.ended
 
--- the seat took the turn, and finds its row and its entries as it left them
+-- the seat took the turn, and finds its row and its entries as it left them; what other seats added meanwhile is behind those that it had seen
 pub record FindsAsLeft {F R E : Type 0} (seat_of : E → ℕ) (before after : Knows F R E) : Type 0 where
   pub keeps : KeepsSeat before after
   pub holds : after.holds ≡ true
@@ -22,6 +22,9 @@ pub record FindsAsLeft {F R E : Type 0} (seat_of : E → ℕ) (before after : Kn
   pub found : slice_get after.rows after.number ≡ Some before.row
   pub goes_on : IsPrefix before.seen after.seen
   pub each : entries_by seat_of after.number after.seen ≡ before.own
+  pub others : List E
+  pub seen : after.seen ≡ before.seen ++ others
+  pub apart : All (λ e. seat_of e ≢ before.number) others
 
 -- the seat gave the turn: its row is one that it may leave, and behind the entries are new ones of its own
 pub record HasGiven {F R E : Type 0} (seat_of : E → ℕ) (leaves : R → Type 0) (before after : Knows F R E) : Type 0 where

@@ -13,11 +13,12 @@ abbrev pub left_by : {F R E : Type 0} → Knows F R E → LastSeen R E
 left_by k = record { row = k.row; seen = k.seen; own = k.own }
 
 -- What was left under a number is there: its row is the row that was left, the entries go on from those that were seen,
--- and the entries of that number are its own, each once and in order.
+-- and the entries of that number are its own, each once and in order. All of these were seen.
 pub record Stays {R E : Type 0} (seat_of : E → ℕ) (number : ℕ) (it : LastSeen R E) (rows : List R) (entries : List E) : Type 0 where
   pub row : slice_get rows number ≡ Some it.row
   pub goes_on : IsPrefix it.seen entries
   pub own : entries_by seat_of number entries ≡ it.own
+  pub seen : entries_by seat_of number it.seen ≡ it.own
 
 -- no seat has had the number: its row, if there is one, is the empty one, and it has no entries
 pub record IsUntouched {R E : Type 0} (empty : R) (seat_of : E → ℕ) (number : ℕ) (rows : List R) (entries : List E) : Type 0 where

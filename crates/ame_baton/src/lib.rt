@@ -15,5 +15,5 @@ pub use state::{AnyRow, Leaves, Rowed, SEAT_LIMIT};
 pub use theorems::{
     give_leaves_row_and_entries, rows_at_the_end_were_left, take_finds_what_was_left,
 };
-pub use turn::Baton;
+pub use turn::{Baton, Elsewhere};
 pub use view::{Knows, LastSeen};

@@ -8,6 +8,8 @@ mod ending;
 mod opening;
 mod passing;
 
+pub use passing::Elsewhere;
+
 /// The one shared state, in a queue of capacity one. What is in the queue is the turn.
 #[derive(Drop)]
 pub struct Baton<S: Rowed> {

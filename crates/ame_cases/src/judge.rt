@@ -3,16 +3,17 @@
 use crate::call::report_of;
 use crate::case::{Case, Fact};
 use crate::device::{Boxed, Kind};
+use crate::failing::{FailsAt, Tape};
 use crate::fault::Fault;
 use crate::own_ends::Watch;
 use crate::told::{CaseReport, told};
-use ame_device::{Adder, Counter, FailsAt, Tape};
+use ame_device::{Adder, Counter};
 use ame_worker::{Gate, NoGate};
 use std::sync::Wait;
 use std::thread::Threads;
 
-/// Runs a case, with each number of workers that it tells: whether all was as it must be. Those come all at once, since a gate could
-/// hold one.
+/// Runs a case, with each number of workers that it tells: whether all was as it must be. Those come all at once, where a gate could
+/// hold one, and once more behind one that leads.
 pub fn is_as_told<R>(rt: &R, case: &Case) -> Result<bool, Fault>
 where
     R: Print + AllocGlobal + Threads + Wait + Sync,
@@ -22,7 +23,9 @@ where
     }
     let mut is_right = true;
     for workers in &case.workers {
-        is_right = is_call_as_told(rt, case, Some(workers.as_str()), &Watch)? && is_right;
+        let workers = Some(workers.as_str());
+        is_right = is_call_as_told(rt, case, workers, &Watch)? && is_right;
+        is_right = is_call_as_told(rt, case, workers, &NoGate)? && is_right;
     }
     Ok(is_right)
 }

@@ -10,6 +10,7 @@ mod dropped;
 mod embedded;
 mod ends;
 mod example;
+mod failing;
 mod fault;
 mod field;
 mod files;
@@ -30,7 +31,7 @@ use crate::embedded::run_embedded;
 use crate::example::run_example;
 use crate::fault::Fault;
 use crate::files::{files_of, text_of};
-use crate::held::two_are_inside;
+use crate::held::{two_are_inside, two_are_inside_once_led};
 use crate::judge::is_as_told;
 use crate::tally::Tally;
 use std::env::{self, Env};
@@ -120,6 +121,7 @@ where
     }
     match word {
         "held" => run_check(rt, word, two_are_inside(rt)?),
+        "led" => run_check(rt, word, two_are_inside_once_led(rt)?),
         "dropped" => run_check(rt, word, devices_are_dropped_once(rt)?),
         "embedded" => {
             run_embedded(rt)?;

@@ -2,7 +2,7 @@
 
 use crate::fault::Fault;
 use ame_app::Own;
-use ame_turn::Deed;
+use ame_shell::Outcome;
 use std::alloc::Global;
 
 /// The seats in the order of their picks, and what each did, with a line for picks of the same seat in a row.
@@ -21,36 +21,36 @@ pub fn picks(alloc: Global, own: &Own) -> Result<String, Fault> {
             write!(text, "{}", made.seat)?;
             last = Some(made.seat);
         }
-        let word = word_of(made.deed);
+        let word = word_of(made.outcome);
         write!(text, " {word}")?;
     }
     text.push_str("\n")?;
     Ok(text)
 }
 
-fn word_of(deed: Deed) -> &'static str {
-    match deed {
-        Deed::Began => "began",
-        Deed::Waited => "waited",
-        Deed::Stopped => "stopped",
-        Deed::Read => "read",
-        Deed::Wrote => "wrote",
-        Deed::Met(_) => "met",
-        Deed::Allocated => "made",
-        Deed::Checked => "checked",
-        Deed::FoundInvalid(_) => "found-stale",
-        Deed::Ended => "ended",
-        Deed::Left => "left",
-        Deed::Refused(_) => "refused",
-        Deed::Noted => "noted",
-        Deed::NotNoted(_) => "not-noted",
-        Deed::GrewTall => "grew-tall",
-        Deed::NotTall(_) => "not-tall",
-        Deed::CameHome => "came-home",
-        Deed::DeviceFailed(_) => "device-failed",
-        Deed::Spent => "spent",
-        Deed::Undid => "undid",
-        Deed::WentHome => "went-home",
-        Deed::Lacked => "lacked",
+fn word_of(outcome: Outcome) -> &'static str {
+    match outcome {
+        Outcome::Began => "began",
+        Outcome::Waited => "waited",
+        Outcome::Stopped => "stopped",
+        Outcome::Read => "read",
+        Outcome::Wrote => "wrote",
+        Outcome::Met(_) => "met",
+        Outcome::Allocated => "made",
+        Outcome::Checked => "checked",
+        Outcome::FoundInvalid(_) => "found-stale",
+        Outcome::Ended => "ended",
+        Outcome::Left => "left",
+        Outcome::Refused(_) => "refused",
+        Outcome::Noted => "noted",
+        Outcome::NotNoted(_) => "not-noted",
+        Outcome::GrewTall => "grew-tall",
+        Outcome::NotTall(_) => "not-tall",
+        Outcome::CameHome => "came-home",
+        Outcome::DeviceFailed(_) => "device-failed",
+        Outcome::Spent => "spent",
+        Outcome::Undid => "undid",
+        Outcome::WentHome => "went-home",
+        Outcome::Lacked => "lacked",
     }
 }

@@ -23,14 +23,8 @@ pub behind-journal : (program : Tree) (entries : List Entry) (entry : Entry) (r 
 behind-journal program entries entry r e =
     replay_from-one _ entries entry ∙ ap (option_and_then (λ (t : Replayed). replay_entry t entry)) e
 
-pub no-such-none : {X Y : Type 0} (f : X → Option Y) (o : Option X) → o ≡ None → option_and_then f o ≡ None
-no-such-none f o e = ap (option_and_then f) e
-
 -- A member while nothing is active
 module _ (s : State) (i : ℕ) (idle : s.active ≡ None) where
-  begun : State
-  begun = record s { active = Some i }
-
   activate-is : after s (Label.Activate i) ≡ activated i s
   unfolding after
   activate-is = ap (λ (o : Option ℕ). if is_none o then activated i s else None) idle

@@ -79,9 +79,6 @@ module _ {C V M : Type 0} (meaning : Meaning C V M) (code : C) (accepted : IsAcc
         fails reason.Outside
         (meets-unbegun (meaning.program code) entries entry st.led st.replayed (λ begins. let clash : true ≡ false = sym (begun-so begins) ∙ outside in cc)) (none-there (free-outside st.led entry kind outside)) (kind, outside)
 
-    pub rests-free : (meaning.stage code machine).steps ≡ 0
-    rests-free = ap (λ (z : MachineView). z.steps) rest
-
     module _ (flag : (meaning.stage code machine).inside ≡ true) (overlay : List (ℕ × Stored V)) (empty : overlay ≡ []) where
       inside : is_inside st.led entry.number ≡ true
       inside = sym (ap (λ (z : MachineView). z.inside) rest) ∙ flag

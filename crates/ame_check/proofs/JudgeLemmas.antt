@@ -70,9 +70,6 @@ module _ (entries : List Entry) (index : ℕ) (below : index < length entries) (
 abbrev pub NoneIsTall : Tree → List Entry → ℕ → Type 0
 NoneIsTall program entries index = (m : ℕ) → m ≤ index → PassesTallAt program entries m → ⊥
 
-pub none-is_tall : (program : Tree) (entries : List Entry) → NoneIsTall program entries 0
-none-is_tall program entries m within tall = let first : 1 ≤ m = tall.place.0 in omega arith
-
 pub all-low : (program : Tree) (entries : List Entry) (index : ℕ) → NoneIsTall program entries index → length entries ≤ index → (n : ℕ) → PassesTallAt program entries n → ⊥
 all-low program entries index none within n tall = none n (let last : n ≤ length entries = tall.place.1 in omega arith) tall
 

@@ -1,5 +1,5 @@
 -- The next of some locations, and what is lent.
-use Rattle.std.proofs.Common.{◌≡◌, ℕ, ◌<◌, ◌≤◌, true, false, List, [], ◌∷◌, ◌++◌, Option, Some, None, is_some, option_copied, MatchOption, refl, sym, arith, map, length, get_or, Bor}
+use Rattle.std.proofs.Common.{◌≡◌, ℕ, ◌<◌, ◌≤◌, true, false, List, [], ◌∷◌, ◌++◌, Option, Some, None, is_some, option_copied, refl, sym, arith, map, length, get_or, Bor}
 use Rattle.ame_term.specs.declared.types.Loc.{Loc}
 
 module _ where
@@ -30,11 +30,3 @@ module _ {X : Type 0} where
   pub lent-none : (o : Option (Bor X)) → is_some o ≡ false → option_copied o ≡ None
   lent-none None e = refl
   lent-none (Some b) e = cc
-
-  pub match-none : (o : Option (Bor X)) (P : Type 0) (Q : Bor X → Type 0) → None ≡ option_copied o → MatchOption o P Q → P
-  match-none None P Q e m = m
-  match-none (Some b) P Q e m = cc
-
-  pub match-some : (o : Option (Bor X)) (x : X) (P : Type 0) (Q : Bor X → Type 0) → Some x ≡ option_copied o → MatchOption o P Q → (b : Bor X) × (b.now ≡ x) × Q b
-  match-some None x P Q e m = cc
-  match-some (Some b) x P Q e m = (b, cc, m)

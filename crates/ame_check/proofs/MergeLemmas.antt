@@ -1,31 +1,14 @@
 -- Overlays and new members, one after another.
-use Rattle.std.proofs.Common.{◌≡◌, ℕ, ◌+◌, ◌<◌, ◌≤◌, ◌⊎◌, inl, inr, Bool, true, false, List, [], ◌∷◌, Option, Some, None, refl, sym, ap, ◌∙◌, subst, arith, length, drop, slice_get, if◌then◌else◌}
+use Rattle.std.proofs.Common.{◌≡◌, ℕ, ◌+◌, ◌≤◌, ◌⊎◌, inl, inr, Bool, false, List, [], ◌∷◌, Option, Some, None, refl, sym, ap, ◌∙◌, subst, arith, length, drop, slice_get}
 use Rattle.std.specs.Option.{option_map}
-use Rattle.std.specs.BTreeMap.{is_at}
-use Rattle.std.specs.Ordering.{nat_cmp}
 use Rattle.ame_term.specs.Tree.{Tree}
 use Rattle.ame_term.specs.Maps.{at, put}
-use Rattle.ame_laws.proofs.MapLemmas.{at-put, is_at-here, is_at-apart}
-use Rattle.ame_journal.specs.Replay.{or_else}
+use Rattle.ame_laws.proofs.MapLemmas.{at-put}
 use Rattle.ame_machine.specs.Run.AgreesWith.{with_members}
 use Rattle.ame_machine.specs.Meaning.{Meaning}
 use Rattle.ame_machine.specs.MachineView.{MachineView, starting_at}
 use Rattle.ame_machine.specs.Move.{first_spawn, after_first_spawn}
 use Rattle.ame_check.specs.Shows.{ShowsMember, ShowsMembers, Adopts}
-
--- the first entry of an overlay is moved into the cells, where no other has its number
-pub merged-one : {V : Type 0} (overlay rest cells : List (ℕ × V)) (l : ℕ) (v : V) → overlay ≡ (l, v) ∷ rest → at rest l ≡ None → (k : ℕ)
-    → or_else (at rest k) (at (put cells l v) k) ≡ or_else (at overlay k) (at cells k)
-merged-one {V} overlay rest cells l v is none k = by (at-put cells l k v) ∙ ap (λ (o : List (ℕ × V)). or_else (at o k) (at cells k)) (sym is)
-  where
-    by : ((l ≡ k) × (at (put cells l v) k ≡ Some v)) ⊎ (((l ≡ k) → ⊥) × (at (put cells l v) k ≡ at cells k))
-        → or_else (at rest k) (at (put cells l v) k) ≡ or_else (at ((l, v) ∷ rest) k) (at cells k)
-    by (inl (same, e)) =
-        ap (λ (o : Option V). or_else o (at (put cells l v) k)) (ap (at rest) (sym same) ∙ none) ∙ e
-        ∙ ap (λ (b : Bool). or_else (if b then Some v else at rest k) (at cells k)) (sym (subst (λ (z : ℕ). is_at (nat_cmp z) l ≡ true) same (is_at-here l)))
-    by (inr (apart, e)) =
-        ap (λ (o : Option V). or_else (at rest k) o) e
-        ∙ ap (λ (b : Bool). or_else (if b then Some v else at rest k) (at cells k)) (sym (is_at-apart k l apart))
 
 module _ {C V M : Type 0} (meaning : Meaning C V M) (code : C) (inside : ℕ → Bool) where
   -- the first new member takes the next number
@@ -61,10 +44,6 @@ module _ {C V M : Type 0} (meaning : Meaning C V M) (code : C) (inside : ℕ →
     pub later : next ≤ number
     pub good : meaning.is_machine code machine
     pub stays : record (meaning.stage code machine) { spawns = [] } ≡ record m { spawns = [] }
-
-  pub adopting-begins : (before : List (ℕ × Tree)) (next : ℕ) (machines : List (ℕ × M)) (machine : M) → meaning.is_machine code machine → ShowsMembers meaning code inside machines before
-      → Adopting before next (meaning.stage code machine) machines next machine
-  adopting-begins before next machines machine good shows = record { so_far = before; shown = shows; rest = refl; count = refl; later = omega arith; good = good; stays = refl }
 
   no-spawns : (bodies : List Tree) → None ≡ option_map starting_at (slice_get bodies 0) → bodies ≡ []
   no-spawns [] e = refl
@@ -111,11 +90,3 @@ module _ {C V M : Type 0} (meaning : Meaning C V M) (code : C) (inside : ℕ →
         good = good;
         stays = ap (λ (z : MachineView). record z { spawns = [] }) is ∙ a.stays;
       }
-
-  pub fewer-spawns : (machine last member : M) → Some (meaning.stage code member) ≡ first_spawn (meaning.stage code machine) → meaning.stage code last ≡ after_first_spawn (meaning.stage code machine)
-      → length (meaning.stage code last).spawns < length (meaning.stage code machine).spawns
-  fewer-spawns machine last member first is =
-      let d = split-first (meaning.stage code machine).spawns (meaning.stage code member) first in
-      let one : length (meaning.stage code machine).spawns ≡ length (d.0 ∷ drop 1 (meaning.stage code machine).spawns) = ap length d.2 in
-      let rest : length (meaning.stage code last).spawns ≡ length (drop 1 (meaning.stage code machine).spawns) = ap (λ (z : MachineView). length z.spawns) is in
-      omega arith

@@ -122,9 +122,6 @@ module _ (m : MachineView) (sound : IsSoundStage m) (want : Wants) (told : m.wan
 
 -- What a note tells is so or not
 
-some-is : (r : Replayed) (s : State) (o : Option State) → o ≡ Some s → note_where (is_some o) r ≡ Some r
-some-is r s o e = ap (λ (z : Option State). note_where (is_some z) r) e
-
 module _ (r : Replayed) (i n : ℕ) (fresh : List ℕ) (term : Tree) (idle : r.state.active ≡ None) (member : at r.state.members i ≡ Some term) where
   stuck-calm : (o : Option State) → at_unprotected (focus term) ≡ false → steps_on (side_at i r.state) i n fresh None (begun_on (side_at i r.state) i r.state) ≡ o
       → fragment i n fresh r.state ≡ o

@@ -63,12 +63,6 @@ pub plain-no_close : (want : Wants) → is_plain want ≡ true → want ≡ want
 plain-no_close wants.Close e is = cc
 plain-no_close _ e is = cc
 
-pub plain-other : (want : Wants) → ((k : ℕ) (n : ℤ) → want ≡ wants.Device k n → ⊥) → (want ≡ wants.Close → ⊥) → (want ≡ wants.Tall → ⊥) → is_plain want ≡ true
-plain-other (wants.Device k n) a b c = absurd (a k n refl)
-plain-other wants.Close a b c = absurd (b refl)
-plain-other wants.Tall a b c = absurd (c refl)
-plain-other _ a b c = refl
-
 module _ {C V M : Type 0} (meaning : Meaning C V M) (code : C) where
   -- a walk under `unprotected`, by the steps that are counted
   pub stepping : (s : State) (i : ℕ) (fresh : List ℕ) (cells overlay : List (ℕ × Stored V)) (m : M) (n : ℕ) (a : IsAtStep meaning code s i fresh cells overlay m Side.Unprotected n)

@@ -107,9 +107,6 @@ no_sub (option id) word = refl
 no_sub positional word = refl
 
 module _ (rows : List Row) (mode : Mode) (word : Word) where
-  abbrev here : Walk
-  here = walk_in rows mode
-
   abbrev stepped : Held × Step → Walk
   stepped met = after_step built_rules word (walk_in rows mode) met.0 met.1
 

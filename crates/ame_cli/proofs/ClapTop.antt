@@ -6,7 +6,7 @@ use Rattle.std.specs.Option.{option_map_or}
 use Rattle.std.specs.Str.{bytes_eq}
 use Rattle.clap.specs.Lexer.{long_of}
 use Rattle.clap.specs.Words.{App, Row, Rule, Shape, subcommand_of}
-use Rattle.clap.specs.Simple.{built, entered, label_of, names_of, new_shape}
+use Rattle.clap.specs.Simple.{entered, label_of, names_of, new_shape}
 use Rattle.clap.specs.Walk.{Walk, Names, answers_to, idle, nothing_held, walk, walk_from, settled, finished, walked, with_default, has_row, trailing, subcommand_met, subcommand_or_other, long_or_other, short_or_plain}
 use Rattle.clap.specs.Faults.{check_fault, default_fault, defaults_fault, entered_fault, fault_of, flag_word_fault, given_default_fault, level_fault, other_fault, settle_fault, step_fault, turn_fault, walk_fault, bundle_fault}
 use Rattle.clap.specs.Kinds.{Kinds, or_else}
@@ -70,10 +70,6 @@ built_top = record (new_shape (codes "ame")) {
 
 abbrev built_app : App
 built_app = record { top = built_top; subs = map built_verb verbs }
-
-built_is : built syntax ≡ built_app
-unfolding verbs
-built_is = refl
 
 abbrev verb_names : Names
 verb_names = names_of built_app

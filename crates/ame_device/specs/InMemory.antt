@@ -1,6 +1,6 @@
 -- What contracts see of a device in memory.
-use Rattle.std.specs.Prelude.{ℕ, ℤ, pos, ◌+ℤ◌, List, [], ◌∷◌, map}
-use Rattle.std.specs.Int.{w64, saturate_signed, int_wrapping_add}
+use Rattle.std.specs.Prelude.{ℕ, ℤ, pos, List, [], ◌∷◌, map}
+use Rattle.std.specs.Int.{w64, int_wrapping_add}
 use Rattle.ame_device.specs.declared.told.Heard.{Heard}
 
 -- the calls that were answered, in order, and how many failed
@@ -19,20 +19,3 @@ wrapping_sum_from sum (n ∷ ns) = wrapping_sum_from (int_wrapping_add w64 sum n
 
 abbrev pub wrapping_sum : List ℤ → ℤ
 wrapping_sum ns = wrapping_sum_from (pos 0) ns
-
--- the calls of a device that has a list of answers, and those still to be given
-pub record TapeState : Type 0 where
-  pub heard : List Heard
-  pub faults : ℕ
-  pub left : List ℤ
-
--- the calls of a device that fails at one of them, how many there were, and the number of that one
-pub record FailsAtState : Type 0 where
-  pub heard : List Heard
-  pub faults : ℕ
-  pub calls : ℕ
-  pub fails_at : ℕ
-
--- the number of lines after one more, which stays at the greatest answer
-abbrev pub next_line : ℤ → ℤ
-next_line lines = saturate_signed w64 (lines +ℤ pos 1)

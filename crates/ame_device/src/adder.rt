@@ -10,7 +10,7 @@ use crate::told::Heard;
 use std::alloc::Global;
 use std::marker::Model;
 
-/// AnswersCall the sum of all arguments that it heard, this one among them, which wraps at 64 bits. It never
+/// Answers the sum of all arguments that it heard, this one among them, which wraps at 64 bits. It never
 /// fails.
 #[derive(Drop)]
 pub struct Adder {

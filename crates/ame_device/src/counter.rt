@@ -9,7 +9,7 @@ use crate::told::Heard;
 use std::alloc::Global;
 use std::marker::Model;
 
-/// AnswersCall how many calls it answered, this one among them. It never fails.
+/// Answers how many calls it answered, this one among them. It never fails.
 #[derive(Drop)]
 pub struct Counter {
     log: Log,

@@ -15,7 +15,7 @@ pub trait Device: Drop {
     // How many calls have failed. It never falls, and a counter of 64 bits stays at its last value.
     ghost device_faults: { Self → ℕ };
 
-    /// AnswersCall an argument.
+    /// Answers an argument.
     fn call(&mut self, argument: i64) -> Result<i64, DeviceFail>
         ensures answers { AnswersCall (told (device_heard self.old) (device_faults self.old)) argument result (told (device_heard self.new) (device_faults self.new)) };
 

@@ -16,15 +16,3 @@ pub fn call_device<D: Device>(
 {
     devices[number].call(argument)
 }
-
-/// The same for boxed devices.
-pub fn call_boxed(
-    devices: &mut Vec<Box<dyn Device + Send>>,
-    number: usize,
-    argument: i64,
-) -> Result<i64, DeviceFail>
-    requires { number < vec_len devices.old }
-    ensures { CallsDevice device_heard device_faults devices.old.items number argument result devices.new.items }
-{
-    call_device(devices, number, argument)
-}

@@ -10,7 +10,7 @@ use std::marker::Model;
 
 /// The calls that were answered, and the count of those that failed.
 #[derive(Drop)]
-pub(crate) struct Log {
+pub struct Log {
     calls: Vec<Heard>,
     faults: u64,
 }
@@ -24,7 +24,8 @@ impl Model for Log {
 }
 
 impl Log {
-    pub(crate) fn new(alloc: Global) -> Log
+    /// Makes an empty log, without memory.
+    pub fn new(alloc: Global) -> Log
         ensures { result ≡ record { heard = []; faults = 0 } }
     {
         Log {
@@ -33,14 +34,15 @@ impl Log {
         }
     }
 
-    pub(crate) fn calls(&self) -> &[Heard]
+    /// Returns the calls that were answered, in order.
+    pub fn calls(&self) -> &[Heard]
         ensures { result.now ≡ self.now.heard }
     {
         &self.calls
     }
 
     /// Keeps a call that is answered.
-    pub(crate) fn answer(&mut self, argument: i64, answer: i64) -> Result<i64, DeviceFail>
+    pub fn answer(&mut self, argument: i64, answer: i64) -> Result<i64, DeviceFail>
         ensures answer { result ≢ Ok answer → result ≡ Err DeviceFail.NoMemory }
         ensures ok { OnOk result (self.new ≡ record self.old { heard = self.old.heard ++ answered argument answer ∷ [] }) }
         ensures err { OnErr result (self.new ≡ self.old) }
@@ -52,7 +54,7 @@ impl Log {
     }
 
     /// Counts a call that fails.
-    pub(crate) fn fail(&mut self) -> Result<i64, DeviceFail>
+    pub fn fail(&mut self) -> Result<i64, DeviceFail>
         ensures err { result ≡ Err DeviceFail.Failed }
         ensures heard { self.new.heard ≡ self.old.heard }
         ensures risen { HasRisen self.old.faults self.new.faults }

@@ -141,21 +141,6 @@ module _ {C V M : Type 0} (meaning : Meaning C V M) where
   whole-roomy core whole tried e =
       subst (λ (tries : List Tried). IsSound meaning (record core { tried = tries })) (sym e) whole
 
--- what a seat meets that may begin a member
-pub pick_member : (spent : Bool) (o : Oldest) (n : ℕ) → pick_by spent o ≡ Pick.Member n → (spent ≡ false) × (o ≡ Oldest.Member n)
-pick_member true (Oldest.Member k) n e = absurd (cc)
-pick_member true Oldest.Wait n e = absurd (cc)
-pick_member true Oldest.Parked n e = absurd (cc)
-pick_member true Oldest.Empty n e = absurd (cc)
-pick_member false (Oldest.Member k) n e = (refl, ap Oldest.Member (ap number-in e))
-  where
-    number-in : Pick → ℕ
-    number-in (Pick.Member k) = k
-    number-in _ = 0
-pick_member false Oldest.Wait n e = absurd (cc)
-pick_member false Oldest.Parked n e = absurd (cc)
-pick_member false Oldest.Empty n e = absurd (cc)
-
 module _ {C V M : Type 0} (meaning : Meaning C V M) (same : M → M → Type 0)
     (keeps : (code : C) (m n : M) → same m n → meaning.is_machine code m → meaning.is_machine code n)
     (shows : (code : C) (m n : M) → same m n → meaning.stage code m ≡ meaning.stage code n)
@@ -363,10 +348,6 @@ module _ {C V M : Type 0} (meaning : Meaning C V M) (core now : Core C V M) (vie
       subst (λ (x : Core C V M). kept why x) view
       (fault-cause why e (parts_of meaning core) (parts_of meaning (stopped_by why core))
       core.certificates (none-kept (subst (λ (x : Core C V M). x.stop ≡ None) (sym view) none)) refl)
-
-  -- a seat that begins a member: no stop is kept
-  pub member-going : (number : ℕ) → pick_of now ≡ Pick.Member number → now.stop ≡ None
-  member-going number e = none-met now (Pick.Member number) e (λ c. cc)
 
   -- where a seat is idle, and it is the only one, nobody is at work
   pub idle-leaves : (seat : ℕ) → seat < now.limits.seats → task_at now.tasks seat ≡ Task.Idle

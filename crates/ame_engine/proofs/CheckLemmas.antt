@@ -10,26 +10,22 @@ use Rattle.ame_rows.specs.declared.notes.ReadNote.{ReadNote}
 use Rattle.ame_rows.specs.Valid.{IsValidAt, IsValidRead, IsValid}
 use Rattle.ame_journal.specs.declared.entry.Entry.{Entry}
 use Rattle.ame_machine.specs.Run.Local.{LocalState, local}
-use Rattle.ame_pool.specs.Members.{find}
 use Rattle.ame_rows.specs.MemoryView.{Log, row_at}
 use Rattle.ame_protocol.specs.Row.Shown.{shown_cell}
 use Rattle.ame_protocol.specs.Row.SeatRun.{HasUsed, AreValid}
 use Rattle.ame_machine.specs.MachineView.{MachineView, running_side}
 use Rattle.ame_protocol.specs.declared.types.Attempt.{Attempt}
-use Rattle.ame_protocol.specs.declared.types.Reason.{Reason}
 use Rattle.ame_protocol.specs.declared.types.Task.{Task}
 use Rattle.ame_protocol.specs.Engine.Parts.{Parts, heap_in, task_at, term_at, run_in, working}
 use Rattle.ame_protocol.specs.Engine.Events.{has_checked}
 use Rattle.ame_protocol.proofs.Engine.ShownMemoryLemmas.{row-shown}
-use Rattle.ame_protocol.proofs.Engine.MemoryEvents.{memory-valid, valid-memory}
+use Rattle.ame_protocol.proofs.Engine.MemoryEvents.{memory-valid}
 use Rattle.ame_protocol.specs.declared.stop.Stop.{Stop}
-use Rattle.ame_protocol.specs.declared.counters.Counters.{Counters}
 use Rattle.ame_engine.specs.Core.{Core}
 use Rattle.ame_engine.specs.Stops.{stopped_by}
 use Rattle.ame_protocol.specs.Event.Causes.{HasCause, AreOrdinary}
-use Rattle.ame_protocol.specs.Event.Counting.{Counted, one_counted, one_invalid}
-use Rattle.ame_protocol.specs.Event.Event.{Event, Find, Reverse}
-use Rattle.ame_protocol.specs.Event.After.{counted_find}
+use Rattle.ame_protocol.specs.Event.Counting.{Counted, one_counted}
+use Rattle.ame_protocol.specs.Event.Event.{Event}
 use Rattle.ame_protocol.specs.Event.May.{May}
 use Rattle.ame_engine.specs.Seen.{parts_of}
 use Rattle.ame_engine.specs.Makes.{state_of, Makes}
@@ -125,45 +121,6 @@ module _ {C V M : Type 0} (meaning : Meaning C V M) where
     its-attempt a e =
         ap (λ (t : Task). unwrap_or (working t) attempt) (sym is ∙ subst (λ (x : Core C V M). task_at x.tasks seat ≡ Task.Running a) (sym view) e)
 
-    -- it turns back, and is counted so
-    abbrev after-bad : Counters → Core C V M
-    after-bad counters =
-        record core { tasks = slice_set core.tasks seat (Task.Undoing attempt Reason.RolledBack); turns = core.turns + 1; counters = counters }
-
-    valid-by_parts : AreValid (heap_in parts) seat (row_at parts.memory.rows seat).reads → IsValid core.memory.cells seat (row_at core.memory.rows seat).reads
-    valid-by_parts valid =
-        shown-valid (meaning.value_of core.code) core.memory.cells seat (row_at core.memory.rows seat).reads
-        (subst (IsValid parts.memory.cells seat) (ap (λ (n : Log Val). n.reads) (row-shown (meaning.value_of core.code) core.memory.rows seat))
-        (valid-memory parts.memory seat (row_at parts.memory.rows seat).reads valid))
-
-    -- where one of its reads isn't valid it may turn back, whatever it was asked
-    makes-back : (find : Find) → (IsValid core.memory.cells seat (row_at core.memory.rows seat).reads → ⊥) → now.stop ≡ None
-        → Makes meaning (Event.TurnBack seat attempt (Reverse.Stale find)) now (after-bad (one_invalid (counted_find find) core.counters))
-    makes-back find invalid going =
-        subst (λ (x : Core C V M). Makes meaning (Event.TurnBack seat attempt (Reverse.Stale find)) x (after-bad (one_invalid (counted_find find) core.counters))) view
-        (record {
-          code = refl;
-          may = (
-            record { going = subst (λ (x : Core C V M). x.stop ≡ None) (sym view) going; left = left' },
-            is,
-            (λ valid. invalid (valid-by_parts valid)),
-          );
-          state = refl;
-        })
-
-    pub makes-stale : (find : Find) → (IsValid core.memory.cells seat (row_at core.memory.rows seat).reads → ⊥) → now.stop ≡ None
-        → (a : Attempt) → task_at now.tasks seat ≡ Task.Running a → Makes meaning (Event.TurnBack seat a (Reverse.Stale find)) now (after-bad (one_invalid (counted_find find) core.counters))
-    makes-stale find invalid going a e =
-        subst (λ (x : Attempt). Makes meaning (Event.TurnBack seat x (Reverse.Stale find)) now (after-bad (one_invalid (counted_find find) core.counters))) (its-attempt a e)
-        (makes-back find invalid going)
-
-    pub whole-stale : (find : Find) → (IsValid core.memory.cells seat (row_at core.memory.rows seat).reads → ⊥) → now.stop ≡ None
-        → IsSound meaning (after-bad (one_invalid (counted_find find) core.counters))
-    whole-stale find invalid going =
-        sound-next meaning core now (after-bad (one_invalid (counted_find find) core.counters)) view whole (Event.TurnBack seat attempt (Reverse.Stale find))
-        (makes-back find invalid going) whole.memory whole.members whole.text
-
-    -- or its row is valid
     module _ (full : (meaning.stage now.code m).since ≡ now.limits.slice) (steps : ℕ) (steps_are : steps ≡ (meaning.stage now.code m).steps)
         (valid : IsValid core.memory.cells seat (row_at core.memory.rows seat).reads) (later : Attempt) (base entries : List Entry)
         (later_is : later ≡ record attempt { tried = record attempt.tried { at = length (base ++ entries); steps = steps } })

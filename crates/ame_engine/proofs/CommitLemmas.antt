@@ -3,7 +3,6 @@ use Rattle.std.proofs.Common.{◌≡◌, ℕ, ◌+◌, ◌<◌, ◌≤◌, ◌�
 use Rattle.std.specs.Prelude.{ℤ, Contains, slice_set, unwrap_or, max}
 use Rattle.std.specs.List.Sorted.{IsPermutation, IsStrictlyIncreasing}
 use Rattle.std.specs.Option.{option_map_or}
-use Rattle.std.proofs.lemmas.List.{length-map}
 use Rattle.std.proofs.lemmas.List.Elements.{All-map, All-set, All-nil, All-cons, All-head, All-tail, All-weaker}
 use Rattle.ame_io.specs.Lines.{lines}
 use Rattle.ame_io.proofs.LinesLemmas.{lines-append}
@@ -41,7 +40,7 @@ use Rattle.ame_machine.proofs.NeedLemmas.{comes_as}
 use Rattle.ame_protocol.specs.declared.types.Attempt.{Attempt}
 use Rattle.ame_protocol.specs.declared.types.Task.{Task}
 use Rattle.ame_protocol.specs.Engine.Parts.{Parts, heap_in, task_at, term_at, attempt_of, member_of, run_in, working}
-use Rattle.ame_protocol.specs.Engine.Shown.{shown_memory, shown_notes, shown_pool}
+use Rattle.ame_protocol.specs.Engine.Shown.{shown_memory, shown_pool}
 use Rattle.ame_protocol.specs.Engine.Tasks.{is_busy_as, RunsProtected}
 use Rattle.ame_protocol.specs.Engine.Events.{woken_for, with_newcomers, ran_entry, has_ended, has_left}
 use Rattle.ame_protocol.proofs.Engine.StepLemmas.{seat_within}
@@ -214,14 +213,6 @@ module _ {C V M : Type 0} (meaning : Meaning C V M)
 
   pub commit-within : seat < length core.tasks
   commit-within = seat_within core.tasks seat attempt (ap attempt_of is)
-
-  pub commit-seat : seat < length core.memory.rows
-  commit-seat =
-      let within = commit-within in
-      let tasks : length core.tasks ≡ core.limits.seats = whole.state.stands.bounded.tasks in
-      let rows : length parts.memory.rows ≡ core.limits.seats = whole.state.stands.bounded.rows in
-      let plain : length parts.memory.rows ≡ length core.memory.rows = length-map core.memory.rows (shown_notes (meaning.value_of core.code)) in
-      omega (arith, within, tasks, rows, plain)
 
   pub commit-few : seat < 32
   commit-few =

@@ -47,18 +47,6 @@ module _ {C M : Type 0} (is_machine : C → M → Type 0) (stage : C → M → M
     pub machine : (code : C) → is_machine code began → is_machine code at
     pub kept : (code : C) → ◌≡◌ {A = MachineView} (record (stage code at) { spawns = [] }) (record (stage code began) { spawns = [] })
 
-  pub joining-starts : ((code : C) → first + length (stage code began).spawns ≡ end) → end ≤ first + start.room
-      → ((k : ℕ) → first ≤ k → find k start.members ≡ None) → Joining first start began
-  joining-starts count room fresh = record {
-    becomes = λ code. refl;
-    count = count;
-    room = room;
-    fresh = fresh;
-    rests = λ code machine all. all;
-    machine = λ code machine. machine;
-    kept = λ code. refl;
-  }
-
   module _ (number : ℕ) (pool : Roster M) (at : M) (j : Joining number pool at) (below : number < end) (later : M)
       (rest : (code : C) → stage code later ≡ after_first_spawn (stage code at)) (keeps : (code : C) → is_machine code at → is_machine code later) where
     none-left : (told : Option M) → ((code : C) → option_map (stage code) told ≡ first_spawn (stage code at)) → told ≡ None → (code : C) → ⊥
@@ -132,12 +120,3 @@ module _ {C M : Type 0} (is_machine : C → M → Type 0) (stage : C → M → M
         by : (xs : List Tree) → end + length xs ≡ end → xs ≡ []
         by [] e = refl
         by (x ∷ xs) e = absurd (omega arith)
-
-    pub joined-all : (code : C) → shown_pool (term_shown stage code) pool ≡ with_newcomers first (stage code began).spawns (shown_pool (term_shown stage code) start)
-    joined-all code = sym (ap (λ (xs : List Tree). with_newcomers end xs (shown_pool (term_shown stage code) pool)) (ended code)) ∙ j.becomes code
-
-    pub joined-stage : (code : C) → ◌≡◌ {A = MachineView} (stage code at) (record (stage code began) { spawns = [] })
-    joined-stage code =
-        let s = stage code at in
-        let with-spawns : List Tree → MachineView = λ (xs : List Tree). record s { spawns = xs } in
-        ap with-spawns (ended code) ∙ j.kept code

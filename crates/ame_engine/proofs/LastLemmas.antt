@@ -120,10 +120,6 @@ module _ {C V M : Type 0} (meaning : Meaning C V M)
               sym (ap (λ (n : Log Val). n.reads) (row-shown (meaning.value_of core.code) core.memory.rows seat)) ∙ ap (λ (n : Log Val). n.reads) visits.clear
       by (Task.Undoing a reason) e h = absurd (let clash : ◌≡◌ {A = Option Attempt} None (Some attempt) = h in cc)
 
-  pub invalid-outside : (IsValid core.memory.cells seat (row_at core.memory.rows seat).reads → ⊥) → (meaning.stage now.code m).inside ≡ false
-  invalid-outside invalid =
-      subst (λ (x : Core C V M). (meaning.stage x.code m).inside ≡ false) view (on'.side ∙ ap is_free (invalid-runs invalid))
-
   pub turned-runs : (IsValid core.memory.cells seat (row_at core.memory.rows seat).reads → ⊥) → (t : Task) → t ≡ get_or core.tasks seat t
       → (its : Attempt) → attempt_of t ≡ Some its → task ≡ Task.Running its
   turned-runs invalid t e its is = invalid-runs invalid ∙ ap Task.Running (sym (last-its t e its is))

@@ -11,6 +11,7 @@ pub mod RunLemmas
 pub mod BeginLemmas
 pub mod ReadingLemmas
 pub mod CheckLemmas
+pub mod TurnLemmas
 pub mod WriteLemmas
 pub mod AllocLemmas
 pub mod UndoLemmas

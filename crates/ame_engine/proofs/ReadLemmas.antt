@@ -1,5 +1,5 @@
 -- A seat reads.
-use Rattle.std.proofs.Common.{◌≡◌, ℕ, zero, suc, ◌+◌, ◌<◌, false, List, [], ◌∷◌, map, length, All, Option, Some, None, option_map, refl, sym, ap, ◌∙◌, subst, arith}
+use Rattle.std.proofs.Common.{◌≡◌, ℕ, zero, suc, ◌+◌, ◌<◌, false, List, [], ◌∷◌, length, All, Option, Some, None, option_map, refl, sym, ap, ◌∙◌, subst, arith}
 use Rattle.std.specs.Prelude.{slice_get}
 use Rattle.std.specs.Option.{option_map_or}
 use Rattle.std.proofs.lemmas.List.{length-map}
@@ -23,14 +23,12 @@ use Rattle.ame_machine.specs.Comes.{HasNextAct}
 use Rattle.ame_machine.proofs.NeedLemmas.{comes_as}
 use Rattle.ame_protocol.specs.declared.types.Attempt.{Attempt}
 use Rattle.ame_protocol.specs.declared.types.Task.{Task}
-use Rattle.ame_protocol.specs.Engine.Parts.{Parts, heap_in, task_at, attempt_of, run_in, term_at, working}
+use Rattle.ame_protocol.specs.Engine.Parts.{Parts, heap_in, task_at, run_in, term_at, working}
 use Rattle.ame_protocol.specs.Engine.Events.{has_read}
-use Rattle.ame_protocol.proofs.Engine.StepLemmas.{seat_within}
 use Rattle.ame_protocol.proofs.Engine.AccessLemmas.{read-there}
 use Rattle.ame_engine.specs.Core.{Core}
 use Rattle.ame_protocol.specs.Event.Counting.{Counted, one_counted}
 use Rattle.ame_protocol.specs.Row.Shown.{shown_cell}
-use Rattle.ame_protocol.specs.Engine.Shown.{shown_notes}
 use Rattle.ame_protocol.proofs.Engine.ShownMemoryLemmas.{read-shown}
 use Rattle.ame_rows.specs.Access.{IsRead}
 use Rattle.ame_rows.proofs.LookupLemmas.{get_there, all_at}
@@ -116,16 +114,6 @@ has-come st seat s on act outside next early =
 -- The whole engine
 
 module _ {C V M : Type 0} (meaning : Meaning C V M) where
-  -- a seat that runs code is one of the memory
-  pub seat-in_rows : (core : Core C V M) → IsSound meaning core → (seat : ℕ) (attempt : Attempt)
-      → task_at core.tasks seat ≡ Task.Running attempt → seat < length core.memory.rows
-  seat-in_rows core whole seat attempt task =
-      let within : seat < length core.tasks = seat_within core.tasks seat attempt (ap attempt_of task) in
-      let tasks : length core.tasks ≡ core.limits.seats = whole.state.stands.bounded.tasks in
-      let rows : length (map (shown_notes (meaning.value_of core.code)) core.memory.rows) ≡ core.limits.seats = whole.state.stands.bounded.rows in
-      let plain = length-map core.memory.rows (shown_notes (meaning.value_of core.code)) in
-      omega (arith, within, tasks, rows, plain)
-
   module _ (core : Core C V M) (whole : IsSound meaning core) (seat : ℕ) (m : M) (l : Loc)
       (on : IsOnSeat (parts_of meaning core) seat (meaning.stage core.code m)) (outside : (meaning.stage core.code m).inside ≡ false)
       (need : Need.Read l.0 ≡ need_of (meaning.stage core.code m)) where

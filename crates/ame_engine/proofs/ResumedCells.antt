@@ -62,13 +62,6 @@ module _ {V : Type 0} (same : V → V → Type 0) where
     pub each : (k : ℕ) (d : Cell V) → k < l → IsCellOf same first (at origin k) (get_or cells k d)
     pub rest : (k : ℕ) → l ≤ k → at left k ≡ at origin k
 
-  pub fills-none : (origin : List (ℕ × Stored V)) (first : Option (Stored V)) (cells : List (Cell V)) → cells ≡ [] → Fills origin origin first 0 cells
-  fills-none origin first cells none = record {
-    count = ap length none;
-    each = λ k d below. absurd (omega arith);
-    rest = λ k far. refl;
-  }
-
   pub fills-more : (origin left later : List (ℕ × Stored V)) (first : Option (Stored V)) (l : ℕ) (cells more : List (Cell V)) (cell : Cell V) (taken : Option (Stored V))
       → Fills origin left first l cells → taken ≡ at left l → ((k : ℕ) → (l ≡ k → ⊥) → at later k ≡ at left k) → IsCellOf same first taken cell → more ≡ cells ++ cell ∷ []
       → Fills origin later first (l + 1) more
@@ -142,9 +135,6 @@ module _ {C V M : Type 0} (meaning : Meaning C V M) (code : C) (same : V → V �
       by : (cs : List (Cell V)) → cs ≡ cells → (cell : Cell V) × IsCellOf same (at stored are.least) (at stored l) cell × (cell_of shown l ≡ shown_cell (meaning.value_of code) cell)
       by [] e = absurd (let none : 0 ≡ length cells = ap length e in omega arith)
       by (c ∷ cs) e = (get_or cells l c, are.each l c under, get_or-map (shown_cell (meaning.value_of code)) cells l c no_cell under)
-
-  pub cells-fresh : (d : Cell V) → All IsFresh cells
-  cells-fresh d = All-from_get_or IsFresh cells d (λ l under. cell-fresh same (at stored are.least) (at stored l) (get_or cells l d) (are.each l d under))
 
   fresh-at : (l : ℕ) → IsFresh (cell_of shown l)
   fresh-at l = by (which l)

@@ -14,8 +14,8 @@ use Rattle.ame_laws.proofs.MapLemmas.{is_at-eq, lt-from_less}
 use Rattle.ame_pool.specs.declared.member.Member.{Member}
 use Rattle.ame_pool.specs.declared.member.Standing.{Standing}
 use Rattle.ame_pool.specs.Members.{find, placed, IsRising}
-use Rattle.ame_pool.specs.Roster.{Roster, nobody}
-use Rattle.ame_pool.specs.Calls.{newcomer, joined, with_room}
+use Rattle.ame_pool.specs.Roster.{Roster}
+use Rattle.ame_pool.specs.Calls.{newcomer, joined}
 use Rattle.ame_machine.specs.MachineView.{MachineView}
 use Rattle.ame_engine.specs.Resuming.{AreMembersOf}
 
@@ -64,11 +64,6 @@ module _ {C M : Type 0} (stage : C → M → MachineView) (code : C) where
   rising-members [] rise = tt
   rising-members (e ∷ es) rise = (above-all e.0 es rise.0, rising-members es rise.1)
 
-  pub gathers-none : (origin : List (ℕ × M)) (empty roomy : Roster M) (places : ℕ) → places ≡ length origin → empty ≡ nobody → roomy ≡ with_room places empty → Gathers origin origin roomy
-  gathers-none origin empty roomy places count none roomy_is =
-      let is : roomy ≡ with_room places nobody = roomy_is ∙ ap (with_room places) none in
-      subst (Gathers origin origin) (sym is) (record { list = refl; order = refl; room = omega (arith, count) })
-
   module _ (origin rest behind : List (ℕ × M)) (pool : Roster M) (rise : NumbersRise origin) (g : Gathers origin rest pool) (number : ℕ) (machine : M)
       (first : rest ≡ (number, machine) ∷ behind) where
     list-first : map as_member origin ≡ pool.members ++ as_member (number, machine) ∷ map as_member behind
@@ -76,9 +71,6 @@ module _ {C M : Type 0} (stage : C → M → MachineView) (code : C) where
 
     below : All (λ m. m.number < number) pool.members
     below = rising-below pool.members (as_member (number, machine)) (map as_member behind) (subst IsRising list-first (rising-members origin rise))
-
-    pub has-room : 0 < pool.room
-    has-room = let few = g.room in let count : length rest ≡ suc (length behind) = ap length first in omega arith
 
     pub is-absent : find number pool.members ≡ None
     is-absent = absent-last number pool.members below

@@ -1,5 +1,5 @@
 -- A seat's undo, by what the calls tell.
-use Rattle.std.proofs.Common.{◌≡◌, ℕ, ◌+◌, ◌<◌, ◌≤◌, Bool, true, false, List, get_or, length, All, Option, Some, None, IsTrue, IsSome, IsSomeAnd, option_map, refl, sym, ap, ◌∙◌, subst, arith}
+use Rattle.std.proofs.Common.{◌≡◌, ℕ, ◌+◌, ◌<◌, Bool, true, false, List, get_or, length, All, Option, Some, None, IsTrue, IsSome, IsSomeAnd, option_map, refl, sym, ap, ◌∙◌, subst, arith}
 use Rattle.std.specs.Prelude.{slice_set, is_some, if◌then◌else◌}
 use Rattle.std.proofs.lemmas.List.{length-map}
 use Rattle.ame_term.specs.Tree.{Val, Tree}
@@ -15,7 +15,7 @@ use Rattle.ame_protocol.specs.declared.types.Reason.{Reason}
 use Rattle.ame_protocol.specs.declared.types.Task.{Task}
 use Rattle.ame_protocol.specs.declared.types.Tried.{Tried}
 use Rattle.ame_protocol.specs.Engine.Parts.{task_at, attempt_of}
-use Rattle.ame_protocol.specs.Engine.Shown.{shown_notes, shown_member, shown_pool}
+use Rattle.ame_protocol.specs.Engine.Shown.{shown_member, shown_pool}
 use Rattle.ame_protocol.specs.Engine.Tasks.{is_busy_as, is_noted_for, MeetsTask}
 use Rattle.ame_protocol.specs.Engine.Events.{with_try, has_undone, has_gone_home}
 use Rattle.ame_protocol.proofs.Engine.StepLemmas.{seat_within}
@@ -74,14 +74,6 @@ module _ {C V M : Type 0} (meaning : Meaning C V M)
   pub undo-within : seat < length core.tasks
   undo-within = seat_within core.tasks seat busy'.0 busy'.1
 
-  pub undo-rows : seat < length core.memory.rows
-  undo-rows =
-      let within = undo-within in
-      let tasks : length core.tasks ≡ core.limits.seats = whole.state.stands.bounded.tasks in
-      let rows : length (parts_of meaning core).memory.rows ≡ core.limits.seats = whole.state.stands.bounded.rows in
-      let plain : length (parts_of meaning core).memory.rows ≡ length core.memory.rows = length-map core.memory.rows (shown_notes (meaning.value_of core.code)) in
-      omega (arith, within, tasks, rows, plain)
-
   pub undo-grows : All CanGrow core.memory.cells
   undo-grows =
       grow-shown (meaning.value_of core.code) core.memory.cells
@@ -89,10 +81,6 @@ module _ {C V M : Type 0} (meaning : Meaning C V M)
 
   pub undo-few : is_some core.stop ≡ false → core.turns < 4000000
   undo-few going = let h = left' going in let limit = whole.limits.turns in omega arith
-
-  -- the count of undos is at most that of the turns
-  pub undo-counted : core.counters.undos ≤ core.turns
-  undo-counted = let all = whole.state.counters.all in omega arith
 
   module _ (t : Task) (read : t ≡ get_or core.tasks seat t) (attempt : Attempt) (its : attempt_of t ≡ Some attempt) (reason : Reason) (why : reason ≡ reason_to_undo t) where
     is : task_at core.tasks seat ≡ t

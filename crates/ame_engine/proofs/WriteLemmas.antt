@@ -1,6 +1,6 @@
 -- A seat writes.
-use Rattle.std.proofs.Common.{Result, Ok, ◌≡◌, ◌≢◌, ℕ, ◌+◌, ◌<◌, ◌==◌, ◌⊎◌, inl, inr, Bool, true, false, cond, [], ◌∷◌, ◌++◌, set, length, All, Option, Some, None, option_map, refl, sym, ap, ◌∙◌, subst, arith}
-use Rattle.std.specs.Prelude.{slice_get, slice_set, unwrap_or}
+use Rattle.std.proofs.Common.{Result, Ok, List, ◌≡◌, ◌≢◌, ℕ, ◌+◌, ◌<◌, ◌==◌, ◌⊎◌, inl, inr, Bool, true, false, cond, [], ◌∷◌, ◌++◌, set, length, All, Option, Some, None, option_map, refl, sym, ap, ◌∙◌, subst, arith}
+use Rattle.std.specs.Prelude.{slice_get, unwrap_or}
 use Rattle.std.specs.Option.{ForSome, option_map_or}
 use Rattle.std.proofs.lemmas.List.{length-map}
 use Rattle.std.proofs.lemmas.Option.{slice_get-map, get_or_from_slice_get}
@@ -14,12 +14,10 @@ use Rattle.ame_store.specs.declared.cell.Cell.{Cell}
 use Rattle.ame_store.specs.Cells.{IsFree, IsOwnedBy, CanGrow}
 use Rattle.ame_rows.specs.declared.notes.Undo.TheVariants.{Wrote}
 use Rattle.ame_machine.specs.Run.Local.{LocalState}
-use Rattle.ame_rows.specs.declared.answer.WriteAnswer.{WriteAnswer}
-use Rattle.ame_rows.specs.declared.answer.WriteAnswer.TheVariants as told
 use Rattle.ame_rows.specs.MemoryView.{Log, MemoryView, row_at}
-use Rattle.ame_rows.specs.Access.{overwritten, noted_write, told_write, written_by}
+use Rattle.ame_rows.specs.Access.{other_owner, IsOpenTo, overwritten, noted_write, written_by}
 use Rattle.ame_rows.proofs.LookupLemmas.{get_there, all_at}
-use Rattle.ame_rows.proofs.AccessLemmas.{told_first, told_again, told_refused, written_refused}
+use Rattle.ame_rows.proofs.AccessLemmas.{other_none, other_own, other_apart, open_not_owned}
 use Rattle.ame_protocol.specs.Row.Heap.{no_cell, cell_at, IsCell}
 use Rattle.ame_protocol.specs.Row.Shown.{shown_cell}
 use Rattle.ame_protocol.specs.Row.SeatRun.{ComesTo}
@@ -33,9 +31,8 @@ use Rattle.ame_machine.specs.Comes.{HasNextAct}
 use Rattle.ame_machine.specs.Sound.{IsSoundStage, CanRun}
 use Rattle.ame_machine.proofs.NeedLemmas.{comes_as}
 use Rattle.ame_protocol.specs.declared.types.Attempt.{Attempt}
-use Rattle.ame_protocol.specs.declared.types.Reason.{Reason}
 use Rattle.ame_protocol.specs.declared.types.Task.{Task}
-use Rattle.ame_protocol.specs.Engine.Parts.{Parts, heap_in, task_at, attempt_of, run_in}
+use Rattle.ame_protocol.specs.Engine.Parts.{Parts, heap_in, task_at, run_in}
 use Rattle.ame_protocol.specs.Engine.Shown.{shown_memory}
 use Rattle.ame_protocol.specs.Engine.Events.{has_written}
 use Rattle.ame_protocol.proofs.Engine.AccessLemmas.{write-there}
@@ -43,17 +40,21 @@ use Rattle.ame_protocol.proofs.Engine.ToldLemmas.{cells-grow}
 use Rattle.ame_protocol.proofs.Engine.ShownMemoryLemmas.{write-shown}
 use Rattle.ame_engine.specs.declared.answer.Wrote.{Wrote as Answer}
 use Rattle.ame_engine.specs.declared.answer.Wrote.TheVariants as answer
+use Rattle.ame_engine.specs.declared.engine.turn.Setback.{Setback}
 use Rattle.ame_engine.specs.Core.{Core}
 use Rattle.ame_protocol.specs.Event.Counting.{Counted, one_counted}
 use Rattle.ame_protocol.specs.Event.Event.{Event, Reverse}
 use Rattle.ame_protocol.specs.Event.May.{May}
+use Rattle.ame_protocol.specs.Event.Sound.{Sound}
+use Rattle.ame_protocol.proofs.Event.SoundLemmas.{sound-after}
 use Rattle.ame_engine.specs.Seen.{parts_of}
 use Rattle.ame_engine.specs.Makes.{state_of, Makes}
 use Rattle.ame_engine.specs.Whole.{IsGoodUndo, IsGoodLog, IsGoodMemory, IsSound}
 use Rattle.ame_engine.specs.AtWork.{IsOnSeat, IsOn}
-use Rattle.ame_engine.specs.Writing.{answer_to_write, refused_by}
+use Rattle.ame_engine.specs.Turning.{HasMet}
+use Rattle.ame_engine.specs.Writing.{answer_to_write}
 use Rattle.ame_engine.proofs.MakesLemmas.{made-event}
-use Rattle.ame_engine.proofs.ReadLemmas.{row-good, runs-as, comes-to, has-come, seat-in_rows}
+use Rattle.ame_engine.proofs.ReadLemmas.{row-good, runs-as, comes-to, has-come}
 use Rattle.ame_engine.proofs.RunLemmas.{can-run}
 use Rattle.ame_machine.specs.Meaning.{Meaning}
 use Rattle.ame_machine.specs.RefSorts.{IsRefForm}
@@ -79,57 +80,61 @@ pub one-owner : {E : Type 0} (owner other : ℕ) → ◌≡◌ {A = Result Answe
 unfolding owner-in
 one-owner {E} owner other e = ap (λ (r : Result Answer E). owner-in r owner) e
 
--- What is told
+-- Who owns the cell
 
-module _ {V : Type 0} (seat : ℕ) (value : V) (cell : Cell V) where
-  pub done-cell : None ≡ refused_by (told_write seat value cell.owner) → IsFree cell ⊎ IsOwnedBy seat cell
+module _ {V : Type 0} (seat : ℕ) (cell : Cell V) where
+  done-cell : None ≡ other_owner seat cell.owner → IsFree cell ⊎ IsOwnedBy seat cell
   done-cell h = by cell.owner refl
     where
       its : (owner : ℕ) → cell.owner ≡ Some owner → (owner ≡ seat) ⊎ ((owner ≡ seat) → ⊥) → IsFree cell ⊎ IsOwnedBy seat cell
       its owner e (inl same) = inr (e ∙ ap Some same)
-      its owner e (inr n) =
-          absurd (let clash : ◌≡◌ {A = Option ℕ} None (Some owner) = h ∙ ap (λ (a : WriteAnswer V). refused_by a) (told_refused seat owner value cell e n) in cc)
+      its owner e (inr n) = absurd (open_not_owned seat owner cell e n (sym h))
 
       by : (o : Option ℕ) → cell.owner ≡ o → IsFree cell ⊎ IsOwnedBy seat cell
       by None e = inl e
       by (Some owner) e = its owner e (which owner seat)
 
-  pub conflict-cell : (owner : ℕ) → Some owner ≡ refused_by (told_write seat value cell.owner) → IsOwnedBy owner cell × (owner ≢ seat)
+  conflict-cell : (owner : ℕ) → Some owner ≡ other_owner seat cell.owner → IsOwnedBy owner cell × (owner ≢ seat)
   conflict-cell owner h = by cell.owner refl
     where
-      no-done : told_write seat value cell.owner ≡ told.Done → ⊥
-      no-done e = let clash : ◌≡◌ {A = Option ℕ} (Some owner) None = h ∙ ap (λ (a : WriteAnswer V). refused_by a) e in cc
+      some : other_owner seat cell.owner ≡ None → ⊥
+      some e = let clash : ◌≡◌ {A = Option ℕ} (Some owner) None = h ∙ e in cc
 
       its : (other : ℕ) → cell.owner ≡ Some other → (other ≡ seat) ⊎ ((other ≡ seat) → ⊥) → IsOwnedBy owner cell × (owner ≢ seat)
-      its other e (inl same) = absurd (no-done (told_again seat value cell (e ∙ ap Some same)))
+      its other e (inl same) = absurd (some (other_own seat cell (e ∙ ap Some same)))
       its other e (inr n) =
-          let told : Some owner ≡ Some other = h ∙ ap (λ (a : WriteAnswer V). refused_by a) (told_refused seat other value cell e n) in
-          let one : owner ≡ other = ap (λ (o : Option ℕ). unwrap_or o owner) told in
-          (e ∙ sym told, λ same. n (sym one ∙ same))
+          let one : owner ≡ other = ap (λ (o : Option ℕ). unwrap_or o owner) (h ∙ other_apart seat other cell e n) in
+          (e ∙ ap Some (sym one), λ same. n (sym one ∙ same))
 
       by : (o : Option ℕ) → cell.owner ≡ o → IsOwnedBy owner cell × (owner ≢ seat)
-      by None e = absurd (no-done (told_first seat value cell e))
+      by None e = absurd (some (other_none seat cell e))
       by (Some other) e = its other e (which other seat)
+
+pub write-open : {V : Type 0} (cells : List (Cell V)) (seat l : ℕ) (o : Option ℕ) → ForSome (slice_get cells l) (λ cell. o ≡ other_owner seat cell.owner) → o ≡ None
+    → ForSome (slice_get cells l) (IsOpenTo seat)
+write-open cells seat l o owns none = λ cell at. sym (owns cell at) ∙ none
+
+-- What is answered
 
 answered : Option ℕ → Answer
 answered None = answer.Wrote
 answered (Some owner) = answer.Conflict owner
 
-module _ {V : Type 0} (seat : ℕ) (value : V) where
-  answered-so : (o : Option ℕ) → answered (refused_by (told_write seat value o)) ≡ answer_to_write seat o
+module _ (seat : ℕ) where
+  answered-so : (o : Option ℕ) → answered (other_owner seat o) ≡ answer_to_write seat o
   unfolding answered
   answered-so None = refl
   answered-so (Some owner) = by (owner == seat)
     where
-      by : (b : Bool) → answered (refused_by (cond b told.Done (told.Conflict owner value))) ≡ cond b answer.Wrote (answer.Conflict owner)
+      by : (b : Bool) → answered (cond b None (Some owner)) ≡ cond b answer.Wrote (answer.Conflict owner)
       by true = refl
       by false = refl
 
-  done-so : (o : Option ℕ) → None ≡ refused_by (told_write seat value o) → answer.Wrote ≡ answer_to_write seat o
+  done-so : (o : Option ℕ) → None ≡ other_owner seat o → answer.Wrote ≡ answer_to_write seat o
   unfolding answered
   done-so o h = ap answered h ∙ answered-so o
 
-  conflict-so : (o : Option ℕ) (owner : ℕ) → Some owner ≡ refused_by (told_write seat value o) → answer.Conflict owner ≡ answer_to_write seat o
+  conflict-so : (o : Option ℕ) (owner : ℕ) → Some owner ≡ other_owner seat o → answer.Conflict owner ≡ answer_to_write seat o
   unfolding answered
   conflict-so o owner h = ap answered h ∙ answered-so o
 
@@ -233,9 +238,6 @@ module _ {C V M : Type 0} (meaning : Meaning C V M) (same : V → V → Type 0)
   pub write-location : l.0 < length core.memory.cells
   write-location = subst (λ (n : ℕ). l.0 < n) (length-map core.memory.cells (shown_cell (meaning.value_of core.code))) there
 
-  pub write-seat : seat < length core.memory.rows
-  write-seat = seat-in_rows meaning core whole seat on'.attempt task
-
   shown-there : (cell : Cell V) → slice_get core.memory.cells l.0 ≡ Some cell → slice_get parts.memory.cells l.0 ≡ Some (shown_cell (meaning.value_of core.code) cell)
   shown-there cell e = slice_get-map (shown_cell (meaning.value_of core.code)) core.memory.cells l.0 ∙ ap (option_map (shown_cell (meaning.value_of core.code))) e
 
@@ -277,15 +279,14 @@ module _ {C V M : Type 0} (meaning : Meaning C V M) (same : V → V → Type 0)
         (ap (shown_memory (meaning.value_of core.code)) is ∙ write-shown (meaning.value_of core.code) seat l value input core.memory
         ∙ ap (λ (u : Val). written_by seat l (meaning.value_of core.code value) u parts.memory) unit)
 
-    module _ (written : WriteAnswer V) (tells : ForSome (slice_get core.memory.cells l.0) (λ cell. written ≡ told_write seat value cell.owner))
-        (o : Option ℕ) (o-is : o ≡ refused_by written) (none : o ≡ None) where
-      done : None ≡ refused_by (told_write seat value found.0.owner)
-      done = sym none ∙ o-is ∙ ap (λ (a : WriteAnswer V). refused_by a) (tells found.0 found.1)
+    module _ (o : Option ℕ) (owns : ForSome (slice_get core.memory.cells l.0) (λ cell. o ≡ other_owner seat cell.owner)) (none : o ≡ None) where
+      done : None ≡ other_owner seat found.0.owner
+      done = sym none ∙ owns found.0 found.1
 
       owned : IsFree (cell_at (heap_in parts) l.0) ⊎ IsOwnedBy seat (cell_at (heap_in parts) l.0)
       owned =
           subst (λ (c : Cell Val). IsFree c ⊎ IsOwnedBy seat c) (sym found-is)
-          (by (done-cell seat value found.0 done))
+          (by (done-cell seat found.0 done))
         where
           by : IsFree found.0 ⊎ IsOwnedBy seat found.0 → IsFree (shown_cell (meaning.value_of core.code) found.0) ⊎ IsOwnedBy seat (shown_cell (meaning.value_of core.code) found.0)
           by (inl free) = inl free
@@ -333,73 +334,41 @@ module _ {C V M : Type 0} (meaning : Meaning C V M) (same : V → V → Type 0)
           subst (λ (x : Loc). answer.Wrote ≡ answer_to_write seat (cell_at (heap_in (parts_of meaning now)) x.0).owner)
           (write-same l k (meaning.stage now.code m).want wants-it e)
           (subst (λ (x : Core C V M). answer.Wrote ≡ answer_to_write seat (cell_at (heap_in (parts_of meaning x)) l.0).owner) view
-          (done-so seat value found.0.owner done ∙ ap (λ (c : Cell Val). answer_to_write seat c.owner) (sym found-is)))
+          (done-so seat found.0.owner done ∙ ap (λ (c : Cell Val). answer_to_write seat c.owner) (sym found-is)))
 
-    module _ (written : WriteAnswer V) (tells : ForSome (slice_get core.memory.cells l.0) (λ cell. written ≡ told_write seat value cell.owner))
-        (o : Option ℕ) (o-is : o ≡ refused_by written) (owner : ℕ) (some : o ≡ Some owner) (attempt : Attempt) (runs : task_at core.tasks seat ≡ Task.Running attempt) where
-      refused : Some owner ≡ refused_by (told_write seat value found.0.owner)
-      refused = sym some ∙ o-is ∙ ap (λ (a : WriteAnswer V). refused_by a) (tells found.0 found.1)
+  -- another seat owns the cell
+  module _ (o : Option ℕ) (owns : ForSome (slice_get core.memory.cells l.0) (λ cell. o ≡ other_owner seat cell.owner)) (owner : ℕ) (some : o ≡ Some owner) where
+    refused : Some owner ≡ other_owner seat found.0.owner
+    refused = sym some ∙ owns found.0 found.1
 
-      memory-stays : memory ≡ core.memory
-      memory-stays =
-          let other = conflict-cell seat value found.0 owner refused in
-          is ∙ written_refused seat owner l value input core.memory found.0 write-seat found.1 other.0 other.1
+    pub conflict-met : HasMet meaning now seat (Setback.Conflict l owner)
+    conflict-met =
+        let other = conflict-cell seat found.0 owner refused in
+        subst (λ (x : Core C V M). IsOwnedBy owner (cell_at (heap_in (parts_of meaning x)) l.0) × (owner ≡ seat → ⊥)) view
+        (ap (λ (c : Cell Val). c.owner) found-is ∙ other.0, other.1)
 
-      its-attempt : (a : Attempt) → task_at now.tasks seat ≡ Task.Running a → attempt ≡ a
-      its-attempt a e =
-          ap (λ (t : Task). unwrap_or (attempt_of t) attempt) (sym runs ∙ subst (λ (x : Core C V M). task_at x.tasks seat ≡ Task.Running a) (sym view) e)
+    pub answer-conflict : (k : Loc) → (meaning.stage now.code m).want ≡ Some (wants.Write k)
+        → answer.Conflict owner ≡ answer_to_write seat (cell_at (heap_in (parts_of meaning now)) k.0).owner
+    answer-conflict k e =
+        subst (λ (x : Loc). answer.Conflict owner ≡ answer_to_write seat (cell_at (heap_in (parts_of meaning now)) x.0).owner)
+        (write-same l k (meaning.stage now.code m).want wants-it e)
+        (subst (λ (x : Core C V M). answer.Conflict owner ≡ answer_to_write seat (cell_at (heap_in (parts_of meaning x)) l.0).owner) view
+        (conflict-so seat found.0.owner owner refused ∙ ap (λ (c : Cell Val). answer_to_write seat c.owner) (sym found-is)))
 
-      abbrev after-conflict : Core C V M
-      after-conflict = record core {
-        memory = memory;
-        tasks = slice_set core.tasks seat (Task.Undoing attempt Reason.RolledBack);
-        turns = core.turns + 1;
-        counters = one_counted Counted.Conflict core.counters;
-      }
+    -- so the seat has turned back
+    module _ (new : Core C V M)
+        (makes : (a : Attempt) → task_at now.tasks seat ≡ Task.Running a → Makes meaning (Event.TurnBack seat a (Reverse.Met l owner)) now new) where
+      pub makes-conflict : (k : Loc) (a : Attempt) → (meaning.stage now.code m).want ≡ Some (wants.Write k) → task_at now.tasks seat ≡ Task.Running a
+          → (other : ℕ) → owner ≡ other → Makes meaning (Event.TurnBack seat a (Reverse.Met k other)) now new
+      makes-conflict k a e runs-it other one =
+          subst (λ (n : ℕ). Makes meaning (Event.TurnBack seat a (Reverse.Met k n)) now new) one
+          (subst (λ (x : Loc). Makes meaning (Event.TurnBack seat a (Reverse.Met x owner)) now new) (write-same l k (meaning.stage now.code m).want wants-it e)
+          (makes a runs-it))
 
-      with-memory : MemoryView V → Core C V M
-      with-memory d = record core {
-        memory = d;
-        tasks = slice_set core.tasks seat (Task.Undoing attempt Reason.RolledBack);
-        turns = core.turns + 1;
-        counters = one_counted Counted.Conflict core.counters;
-      }
-
-      -- so the seat may turn back
-      may-turn : now.stop ≡ None → May (Event.TurnBack seat attempt (Reverse.Met l owner)) (state_of meaning core)
-      may-turn going =
-          let other = conflict-cell seat value found.0 owner refused in (
-            record { going = subst (λ (x : Core C V M). x.stop ≡ None) (sym view) going; left = left' },
-            runs,
-            (ap (λ (c : Cell Val). c.owner) found-is ∙ other.0, other.1),
-          )
-
-      makes-back : now.stop ≡ None → Makes meaning (Event.TurnBack seat attempt (Reverse.Met l owner)) now after-conflict
-      unfolding with-memory
-      makes-back going =
-          subst (λ (x : Core C V M). Makes meaning (Event.TurnBack seat attempt (Reverse.Met l owner)) x after-conflict) view
-          (subst (λ (d : MemoryView V). Makes meaning (Event.TurnBack seat attempt (Reverse.Met l owner)) core (with-memory d)) (sym memory-stays)
-          (record { code = refl; may = may-turn going; state = refl }))
-
-      pub makes-conflict : now.stop ≡ None → (k : Loc) (a : Attempt) → (meaning.stage now.code m).want ≡ Some (wants.Write k) → task_at now.tasks seat ≡ Task.Running a
-          → (other : ℕ) → owner ≡ other → Makes meaning (Event.TurnBack seat a (Reverse.Met k other)) now after-conflict
-      makes-conflict going k a e runs-it other one =
-          subst (λ (n : ℕ). Makes meaning (Event.TurnBack seat a (Reverse.Met k n)) now after-conflict) one
-          (subst (λ (x : Loc). Makes meaning (Event.TurnBack seat a (Reverse.Met x owner)) now after-conflict) (write-same l k (meaning.stage now.code m).want wants-it e)
-          (subst (λ (x : Attempt). Makes meaning (Event.TurnBack seat x (Reverse.Met l owner)) now after-conflict) (its-attempt a runs-it) (makes-back going)))
-
-      pub whole-conflict : now.stop ≡ None → IsSound meaning after-conflict
-      whole-conflict going =
-          sound-next meaning core now after-conflict view whole (Event.TurnBack seat attempt (Reverse.Met l owner)) (makes-back going)
-          (subst (IsGoodMemory (meaning.is_value core.code) (IsRefForm (meaning.program core.code))) (sym memory-stays) whole.memory) whole.members whole.text
-
-      pub runs-conflict : now.stop ≡ None → (t : MachineView) → IsOnSeat (parts_of meaning after-conflict) seat t → t.inside ≡ false → CanRun t
-      runs-conflict going t stands out = can-run (parts_of meaning after-conflict) (whole-conflict going).state.stands seat t stands out
-
-      pub answer-conflict : (k : Loc) → (meaning.stage now.code m).want ≡ Some (wants.Write k)
-          → answer.Conflict owner ≡ answer_to_write seat (cell_at (heap_in (parts_of meaning now)) k.0).owner
-      answer-conflict k e =
-          subst (λ (x : Loc). answer.Conflict owner ≡ answer_to_write seat (cell_at (heap_in (parts_of meaning now)) x.0).owner)
-          (write-same l k (meaning.stage now.code m).want wants-it e)
-          (subst (λ (x : Core C V M). answer.Conflict owner ≡ answer_to_write seat (cell_at (heap_in (parts_of meaning x)) l.0).owner) view
-          (conflict-so seat value found.0.owner owner refused ∙ ap (λ (c : Cell Val). answer_to_write seat c.owner) (sym found-is)))
+      pub runs-conflict : (t : MachineView) → IsOnSeat (parts_of meaning new) seat t → t.inside ≡ false → CanRun t
+      runs-conflict t stands out =
+          let made = makes on.stands.attempt (runs-as (parts_of meaning now) seat (meaning.stage now.code m) on.stands outside) in
+          let sound : Sound (state_of meaning new) = subst Sound (sym made.state)
+          (sound-after (Event.TurnBack seat on.stands.attempt (Reverse.Met l owner)) (state_of meaning now) made.may
+          (subst (λ (x : Core C V M). Sound (state_of meaning x)) view whole.state)) in
+          can-run (parts_of meaning new) sound.stands seat t stands out

@@ -8,6 +8,7 @@ pub mod AtWork
 pub mod Begins
 pub mod Stops
 pub mod Writing
+pub mod Turning
 pub mod Committing
 pub mod Visiting
 pub mod Ending

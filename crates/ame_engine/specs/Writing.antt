@@ -1,7 +1,5 @@
 -- What a write answers.
 use Rattle.std.specs.Prelude.{ℕ, ◌==◌, cond, Option, Some, None}
-use Rattle.ame_rows.specs.declared.answer.WriteAnswer.{WriteAnswer}
-use Rattle.ame_rows.specs.declared.answer.WriteAnswer.TheVariants.{Done, Conflict}
 use Rattle.ame_engine.specs.declared.answer.Wrote.{Wrote}
 use Rattle.ame_engine.specs.declared.answer.Wrote.TheVariants as answer
 
@@ -9,8 +7,3 @@ use Rattle.ame_engine.specs.declared.answer.Wrote.TheVariants as answer
 abbrev pub answer_to_write : ℕ → Option ℕ → Wrote
 answer_to_write seat None = answer.Wrote
 answer_to_write seat (Some owner) = cond (owner == seat) answer.Wrote (answer.Conflict owner)
-
--- the seat for which a shared memory refused a write
-abbrev pub refused_by : {V : Type 0} → WriteAnswer V → Option ℕ
-refused_by Done = None
-refused_by (Conflict owner value) = Some owner

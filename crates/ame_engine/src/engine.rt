@@ -32,6 +32,7 @@ mod spend;
 mod start;
 mod stop;
 mod tall;
+mod turn;
 mod undo;
 mod write;
 

@@ -1,5 +1,5 @@
 -- Lines of a text, and the words of a line, are told apart by line feeds and spaces.
-use Rattle.std.proofs.Common.{◌≡◌, ℕ, ℤ, pos, negsuc, suc, ◌+◌, ◌-◌, ◌<◌, ◌≤◌, ◌^◌, Bool, true, false, true≢false, not, cond, ◌&&◌, ◌==◌, eqb, eqb-true, List, [], ◌∷◌, ◌++◌, All, map, length, get_or, take, drop, decimal, codes, Option, Some, None, IfSome, FitsSigned, w64, refl, sym, ap, subst, ◌∙◌, arith, append-nil, append_assoc, length-append}
+use Rattle.std.proofs.Common.{◌≡◌, ℕ, ℤ, pos, negsuc, suc, ◌+◌, ◌-◌, ◌<◌, ◌≤◌, ◌^◌, Bool, true, false, true≢false, not, cond, ◌&&◌, ◌==◌, eqb, eqb-true, List, [], ◌∷◌, ◌++◌, All, map, length, get_or, take, drop, decimal, codes, Option, Some, None, IfSome, FitsSigned, w64, refl, sym, ap, ◌∙◌, arith, append-nil, append_assoc, length-append}
 use Rattle.std.specs.Fmt.{signed_decimal}
 use Rattle.std.specs.List.{flat_map, join_with_byte, position_or_len}
 use Rattle.std.proofs.lemmas.Bool.{ne_eqb}
@@ -14,7 +14,7 @@ use Rattle.ame_journal.specs.declared.entry.EntryKind.{EntryKind}
 use Rattle.ame_journal.specs.Kinds.{kind_word}
 use Rattle.ame_journal.specs.Words.{line_words, ReadsWord}
 use Rattle.ame_journal.specs.Lines.{Lacks, IsCut, ReadsLine, ReadsNoLine, part_of}
-use Rattle.ame_journal.specs.Text.{answer_words, words_of, entry_line, text_of, IsSpellable, IsText, IsFirstBadLine}
+use Rattle.ame_journal.specs.Text.{answer_words, words_of, entry_line, text_of, IsSpellable, IsText}
 use Rattle.ame_journal.proofs.SpellingLemmas.{join-parts}
 
 -- Where the first line ends
@@ -65,11 +65,6 @@ cut-some text front (b ∷ back) n len front_is back_is some =
       split = f.whole ∙ ap (λ t. t ++ drop (feed_len text) text) (sym a) ∙ ap (λ t. front ++ t) (d ∙ ap (λ c. c ∷ back) feed ∙ ap (λ t. 10 ∷ t) (sym whole));
       no_feed = All-same (λ x. (x == 10) ≡ false) _ _ a f.lacks;
     }
-
--- no byte string that lacks a line feed has one
-pub lacks-not : (xs ys : List ℕ) → Lacks 10 (xs ++ 10 ∷ ys) → ⊥
-lacks-not [] ys lacks = true≢false (All-head (λ x. (x == 10) ≡ false) 10 ys lacks)
-lacks-not (x ∷ xs) ys lacks = lacks-not xs ys (All-tail (λ x. (x == 10) ≡ false) x (xs ++ 10 ∷ ys) lacks)
 
 -- the first line feed is one place
 pub first-same : (xs ys us vs : List ℕ) → Lacks 10 xs → Lacks 10 ys → xs ++ 10 ∷ us ≡ ys ++ 10 ∷ vs → (xs ≡ ys) × (us ≡ vs)
@@ -192,10 +187,6 @@ line-cut entry after = append_assoc (bare entry) (codes "\n") after
 
 -- What the first line is
 
-pub no_line : (text : List ℕ) → Lacks 10 text → ReadsNoLine text
-no_line text lacks entry after is e =
-    lacks-not (bare entry) after (subst (Lacks 10) (e ∙ line-cut entry after) lacks)
-
 pub reads_none : (text line behind : List ℕ) → IsCut text line behind → ReadsWord words_of IsSpellable (line_words line) None → ReadsNoLine text
 reads_none text line behind cut none entry after is e =
     let same = first-same line (bare entry) behind after cut.no_feed (bare-lacks entry is) (sym cut.split ∙ e ∙ line-cut entry after) in
@@ -230,15 +221,6 @@ one_more text entries rest behind entry way read =
       spellable = All-push IsSpellable entries entry way.spellable read.spellable;
       count = omega arith;
     }
-
-pub is_text : (text : List ℕ) (entries : List Entry) (rest : List ℕ) → IsUnderWay text entries rest → length rest ≡ 0 → IsText text entries
-is_text text entries [] way none = record { spelled = way.split ∙ append-nil (text_of entries); spellable = way.spellable }
-is_text text entries (b ∷ rest) way none = cc
-
-pub first_bad : (text : List ℕ) (entries : List Entry) (rest : List ℕ) (n : ℕ) → IsUnderWay text entries rest → (length rest ≡ 0 → ⊥) → n ≡ length entries + 1 → ReadsNoLine rest →
-    IsFirstBadLine text n
-first_bad text entries rest n way some is bad =
-    record { before = entries; left = rest; reads = way.spellable; split = way.split; count = is; follows = λ e. some (ap length e); bad = bad }
 
 -- Writing a whole text
 

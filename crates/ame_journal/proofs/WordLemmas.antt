@@ -1,5 +1,5 @@
 -- How a line is cut into words.
-use Rattle.std.proofs.Common.{◌≡◌, ◌≢◌, ℕ, suc, ◌+◌, ◌<◌, ◌≤◌, ◌^◌, Bool, true, false, not, cond, eqb, List, [], ◌∷◌, length, take, drop, decimal, Option, Some, None, IsTrue, is_none, is_some, ◌-◌, refl, sym, ap, ◌∙◌, arith}
+use Rattle.std.proofs.Common.{◌≡◌, ◌≢◌, ℕ, suc, ◌+◌, ◌<◌, ◌≤◌, ◌^◌, Bool, true, false, not, cond, eqb, List, [], ◌∷◌, length, take, drop, decimal, Option, Some, None, IsTrue, is_some, ◌-◌, refl, sym, ap, ◌∙◌, arith}
 use Rattle.std.specs.List.{onto_first}
 use Rattle.std.proofs.lemmas.Fmt.{decimal_injective}
 use Rattle.std.proofs.lemmas.List.{take_all}
@@ -28,10 +28,6 @@ words-cut (b ∷ rest) = cut_at b rest (eqb b 32) (words-cut rest)
 -- each line has a word
 pub words-some : (line : List ℕ) → line_words line ≢ []
 words-some line e = let c = words-cut line in cc
-
-pub rest_words-none : (rest : Option (Bor (List ℕ))) → rest_words rest ≡ [] → is_none rest ≡ true
-rest_words-none None e = refl
-rest_words-none (Some rest) e = absurd (words-some rest.now e)
 
 pub is_empty-words : (rest : Option (Bor (List ℕ))) (old : List (List ℕ)) (r : Bool) → rest_words rest ≡ old → is_some rest ≡ not r → (IsTrue r → old ≡ []) × (old ≡ [] → IsTrue r)
 is_empty-words None old true is e = (λ _. sym is, λ _. refl)

@@ -1,8 +1,7 @@
 //! A list of entries that grows at its end.
 
-ghost use Rattle.std.specs.Prelude.{◌≡◌, ◌+◌, ◌-◌, ◌^◌, ◌<◌, ◌≤◌, min, [], ◌∷◌, ◌++◌, All, OnOk, OnErr};
+ghost use Rattle.std.specs.Prelude.{◌≡◌, ◌+◌, ◌<◌, ◌≤◌, [], ◌∷◌, ◌++◌, All, OnOk, OnErr};
 ghost use Rattle.ame_journal.specs.JournalView.{IsFit};
-ghost use Rattle.ame_journal.specs.Totals.{without_notes, total_steps};
 
 use crate::entry::Entry;
 use ame_term::NoMemory;
@@ -65,23 +64,5 @@ impl Journal {
         ensures room { self.old.room ≤ self.new.room + 1 }
     {
         let _ = self.entries.push(entry);
-    }
-    /// Leaves the notes out. It takes no memory.
-    pub fn drop_notes(&mut self)
-        ensures { self.new.entries ≡ without_notes self.old.entries }
-    {
-        self.entries.retain(|entry| !entry.kind.is_note());
-    }
-
-    /// The steps of all entries and one more for each, or the greatest `u128` where that doesn't fit.
-    pub fn total(&self) -> u128
-        ensures { result ≡ min (total_steps self.now.entries) (2 ^ 128 - 1) }
-    {
-        let mut total: u128 = 0;
-        let entries = self.entries();
-        for entry in entries {
-            total = total.saturating_add(u128::from(entry.steps) + 1);
-        }
-        total
     }
 }

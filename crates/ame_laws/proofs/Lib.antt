@@ -2,13 +2,11 @@ pub mod Tests
 pub mod Sound
 pub mod Complete
 pub mod NamesLemmas
-pub mod SizeLemmas
 pub mod StandingLemmas
 pub mod FrameLemmas
 pub mod Followed
 pub mod RuleEffects
 pub mod PutsLemmas
-pub mod FramedNames
 pub mod BoundNames
 pub mod MapLemmas
 pub mod OrderlyLemmas
@@ -16,5 +14,4 @@ pub mod HeightLemmas
 pub mod EnclosedLemmas
 pub mod NextLemmas
 pub mod RefsLemmas
-pub mod ScopedNames
 pub mod Typed

@@ -33,9 +33,6 @@ some_such test (Some x) e = (x, refl, e)
 
 -- False conditions
 
-blocking : Tree
-blocking = Tree.One unary.Block (Tree.Held (Val.Bool false))
-
 condition_is_false : (f : Focus) → is_false_condition f ≡ true → f ≡ Focus.AtRedex Side.Protected (Tree.One unary.Block (Tree.Held (Val.Bool false)))
 condition_is_false (Focus.AtRedex Side.Protected (Tree.One unary.Block (Tree.Held (Val.Bool false)))) e = refl
 condition_is_false _ e = cc

@@ -189,11 +189,6 @@ constant_leads n w.False i e = leads_pure (Tree.Held (Val.Bool false)) (advanced
 constant_leads n w.Yield i e = leads_pure (Tree.Unprotected unit_tree) (advanced (marked (marked i))) (IsTerm n i) (g.yield e)
 constant_leads n _ i e = λ x j read. absurd (cc)
 
--- a mark changes neither the next token nor what is bound
-ahead_marked : (i : Input) → ahead (marked i) ≡ ahead i
-unfolding ahead marked
-ahead_marked i = refl
-
 number_marked : (i : Input) → name_number (marked i) ≡ name_number i
 unfolding name_number spelling marked
 number_marked i = refl

@@ -2,8 +2,8 @@
 use Rattle.std.proofs.Common.{◌≡◌, ◌<◌, ◌≤◌, ◌+◌, ◌-◌, ◌^◌, ℕ, Bool, true, false, cond, List, [], ◌∷◌, ◌++◌, length, Option, Some, None, option_map, IsSomeAnd, IsTrue, refl, sym, ap, subst, ◌∙◌, arith}
 use Rattle.std.proofs.lemmas.Option.{none-some, same_Some}
 use Rattle.ame_pool.specs.Standings.{max_rollbacks}
-use Rattle.ame_pool.proofs.Words.{IsFoundAfter, Member, Transition, Counts, find, altered, placed, except, is_ready, Register, Roster, Queues, HasPlace, pushed, taken, counted, IsRecounted, IsAt, skipping, begun, after_transition, is_readied, is_readied_at, turned_at, IsOrderOf, is_inside_at, IsKept, filter, count_by-le-length, length-filter}
-use Rattle.ame_pool.proofs.MemberLemmas.{count_all, find_passes, which, all_after, found_altered, length_altered, found_placed, length_placed, found_except, length_except}
+use Rattle.ame_pool.proofs.Words.{IsFoundAfter, Member, Transition, Counts, find, altered, placed, except, is_ready, Register, Roster, Queues, HasPlace, pushed, taken, counted, IsRecounted, IsAt, skipping, after_transition, is_readied, is_readied_at, turned_at, IsOrderOf, is_inside_at, IsKept, filter, count_by-le-length, length-filter}
+use Rattle.ame_pool.proofs.MemberLemmas.{count_all, find_passes, all_after, found_altered, length_altered, found_placed, length_placed, found_except, length_except}
 use Rattle.ame_pool.proofs.OrderLemmas.{filter_push, filter_skipping, absent, unready, order_short, order_shorter, ordered_same, ordered_readied, ordered_held, ordered_placed, ordered_except, inside_at, inside_same, inside_but}
 use Rattle.ame_pool.proofs.CountLemmas.{kinds, counted_altered, counted_placed, counted_except}
 use Rattle.ame_pool.proofs.StandingLemmas.{turned_number, turn_is}
@@ -168,13 +168,3 @@ module _ {M : Type 0} {reg : Register M} {q : Queues} {c : Counts} (h : IsKept r
         fits = omega (arith, h.fits, room, length_placed new reg.list);
         small = h.small;
       }
-
-module _ {M : Type 0} where
-  -- its machine
-  pub machine_begun : (n : ℕ) (ms : List (Member M)) → option_map (λ m. m.machine) (find n (altered n begun ms)) ≡ option_map (λ m. m.machine) (find n ms)
-  machine_begun n ms = rw (found_altered n begun (λ _. refl) ms).here (grind (arith, which (find n ms)))
-
-  -- a member that is there has a machine
-  pub machine_there : (o : Option (Member M)) (P : Member M → Type 0) → IsSomeAnd o P → None ≡ option_map (λ m. m.machine) o → ⊥
-  machine_there None P h e = h
-  machine_there (Some m) P h e = cc

@@ -112,17 +112,6 @@ impl<M: Drop> Pool<M> {
         self.roll.get(number)
     }
 
-    /// The machine of a member.
-    pub fn machine(&self, number: u64) -> Option<&M>
-        ensures machine { option_copied result ≡ machine_of number self.now }
-        ensures sound { AreInOrder self.now.members self.now.order }
-    {
-        match self.roll.get(number) {
-            Some(member) => Some(&member.machine),
-            None => None,
-        }
-    }
-
     /// A copy of the machine of a ready member, and whether it stands inside. It takes the memory of a machine in whose place another
     /// one came, where there is such.
     pub fn copy(&mut self, alloc: Global, number: u64) -> Result<MachineCopy<M>, NoMemory>

@@ -83,23 +83,6 @@ mutual
 pub param_grows : {n : ℕ} {i j : Input} {x : ℕ} {type : Typ} → IsParam n i x type j → Grows i j
 param_grows (g.param {i = i} {j = j} e e' h shut) = grows_after i ▸ grows_named (advanced i) ▸ type_grows h ▸ grows_after j
 
-names_after : (i : Input) → (advanced i).names ≡ i.names
-unfolding advanced
-names_after i = refl
-
--- a type has no names
-mutual
-  pub type_names : {n : ℕ} {i j : Input} {type : Typ} → IsType n i type j → j.names ≡ i.names
-  type_names (g.unit_type {i = i} e) = names_after i
-  type_names (g.bool_type {i = i} e) = names_after i
-  type_names (g.int_type {i = i} e) = names_after i
-  type_names (g.type_form {i = i} e form) = type_form_names form ∙ names_after i
-
-  type_form_names : {n : ℕ} {i j : Input} {type : Typ} → IsTypeForm n i type j → j.names ≡ i.names
-  type_form_names (g.ref_type {i = i} {j = j} e s h shut) = names_after j ∙ type_names h ∙ names_after (advanced i) ∙ names_after i
-  type_form_names (g.fun_type {i = i} {k = k} e s h h' shut) = names_after k ∙ type_names h' ∙ type_names h ∙ names_after (advanced i) ∙ names_after i
-  type_form_names (g.pair_type {i = i} {k = k} e h h' shut) = names_after k ∙ type_names h' ∙ type_names h ∙ names_after i
-
 -- ---- terms
 
 -- what grows from the names of a head, and loses them

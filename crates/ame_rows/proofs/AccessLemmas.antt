@@ -1,5 +1,5 @@
 -- Reads, writes and allocations: what the calls of a store and of a row make, and that cells and logs stay consistent.
-use Rattle.std.proofs.Common.{◌≡◌, ◌≢◌, ◌==◌, ℕ, ◌<◌, ◌≤◌, true, false, cond, List, [], ◌∷◌, ◌++◌, length, set, Option, Some, None, slice_get, sym, refl, ap}
+use Rattle.std.proofs.Common.{◌≡◌, ◌≢◌, ◌==◌, ℕ, ◌<◌, ◌≤◌, true, false, cond, List, [], ◌∷◌, ◌++◌, length, Option, Some, None, slice_get, sym, refl, ap}
 use Rattle.std.proofs.Common.{subst, ◌∙◌, arith, length-append}
 use Rattle.std.specs.Option.{option_map_or}
 use Rattle.std.proofs.lemmas.Bool.{eq-eqb, ne_eqb}
@@ -9,50 +9,36 @@ use Rattle.ame_term.specs.declared.types.Loc.{Loc}
 use Rattle.ame_term.specs.declared.types.Sort.{Sort}
 use Rattle.ame_term.specs.declared.types.TyNo.{TyNo}
 use Rattle.ame_store.specs.declared.cell.Cell.{Cell}
-use Rattle.ame_store.specs.declared.taken.Taken.{Taken}
-use Rattle.ame_store.specs.declared.taken.Taken.TheVariants.{First, Again, Owned}
 use Rattle.ame_store.specs.Cells.{IsOwnedBy, IsFree}
 use Rattle.ame_store.specs.Changes.{made, replaced}
-use Rattle.ame_store.specs.Writes.{Tells, written, taken_by}
+use Rattle.ame_store.specs.Writes.{taken_by}
 use Rattle.ame_rows.specs.declared.notes.ReadNote.{ReadNote}
 use Rattle.ame_rows.specs.declared.notes.Undo.{Undo}
 use Rattle.ame_rows.specs.declared.notes.Undo.TheVariants.{Wrote, Made}
-use Rattle.ame_rows.specs.declared.answer.WriteAnswer.{WriteAnswer}
 use Rattle.ame_rows.specs.MemoryView.{Log, MemoryView, row_at, by_seat}
 use Rattle.ame_rows.specs.Entries.{entry_at, OwnsAsLogged, IsLogOf}
 use Rattle.ame_rows.specs.Consistent.{IsConsistent}
-use Rattle.ame_rows.specs.Access.{changed_at, is_owned_by, noted_read, notes_read, overwritten, noted_write, told_write, notes_written, written_by}
+use Rattle.ame_rows.specs.Access.{other_owner, IsOpenTo, changed_at, is_owned_by, noted_read, notes_read, overwritten, noted_write, notes_written, written_by}
 use Rattle.ame_rows.specs.Access.{next_place, notes_allocated, allocated_by, put_at, born}
-use Rattle.ame_rows.proofs.LookupLemmas.{set_again, row_set_again, get_push_here, get_push_else, changed_is, changed_here, changed_else, changed_length}
+use Rattle.ame_rows.proofs.LookupLemmas.{get_push_here, get_push_else, changed_here, changed_else, changed_length}
 use Rattle.ame_rows.proofs.LogLemmas.{no_entry, no_cell_no_entry, neither_owned, value_apart, not_of_another, free_not_owned, log_along, log_more}
 use Rattle.ame_rows.proofs.KeptLemmas.{AreWithin, within_more, StaysFor, stays_at, stays_push, kept_by_seat, kept_by_none}
 
 module _ {V : Type 0} where
-  -- ---- what a write of the store makes
-  pub told_first : (seat : ℕ) (value : V) (cell : Cell V) → IsFree cell → told_write seat value cell.owner ≡ WriteAnswer.Done
-  told_first seat value cell free = ap (told_write seat value) free
+  -- ---- who owns a cell
+  pub other_none : (seat : ℕ) (cell : Cell V) → IsFree cell → other_owner seat cell.owner ≡ None
+  other_none seat cell free = ap (other_owner seat) free
 
-  pub told_again : (seat : ℕ) (value : V) (cell : Cell V) → IsOwnedBy seat cell → told_write seat value cell.owner ≡ WriteAnswer.Done
-  told_again seat value cell its = ap (told_write seat value) its
-      ∙ ap (λ b. cond b WriteAnswer.Done (WriteAnswer.Conflict seat value)) (eq-eqb seat seat refl)
+  pub other_own : (seat : ℕ) (cell : Cell V) → IsOwnedBy seat cell → other_owner seat cell.owner ≡ None
+  other_own seat cell its = ap (other_owner seat) its ∙ ap (λ b. cond b None (Some seat)) (eq-eqb seat seat refl)
 
-  pub told_refused : (seat other : ℕ) (value : V) (cell : Cell V) → IsOwnedBy other cell → other ≢ seat
-      → told_write seat value cell.owner ≡ WriteAnswer.Conflict other value
-  told_refused seat other value cell its n =
-      ap (told_write seat value) its ∙ ap (λ b. cond b WriteAnswer.Done (WriteAnswer.Conflict other value)) (ne_eqb other seat n)
+  pub other_apart : (seat other : ℕ) (cell : Cell V) → IsOwnedBy other cell → other ≢ seat → other_owner seat cell.owner ≡ Some other
+  other_apart seat other cell its n = ap (other_owner seat) its ∙ ap (λ b. cond b None (Some other)) (ne_eqb other seat n)
 
-  pub cells_written : (seat l : ℕ) (value : V) (t : Taken V) (cells : List (Cell V)) (cell : Cell V) → slice_get cells l ≡ Some cell → Tells seat value cell t
-      → written seat l value t cells cell ≡ changed_at l (λ c. overwritten seat value c.owner c) cells
-  cells_written seat l value (First had number) cells cell at tells =
-      ap (λ o. set cells l (overwritten seat value o cell)) (sym tells.0) ∙ sym (changed_is l (λ c. overwritten seat value c.owner c) cells cell at)
-  cells_written seat l value (Again had) cells cell at tells =
-      ap (λ b. set cells l (cond b (record cell { value = value }) cell)) (sym (eq-eqb seat seat refl))
-      ∙ ap (λ o. set cells l (overwritten seat value o cell)) (sym tells.0) ∙ sym (changed_is l (λ c. overwritten seat value c.owner c) cells cell at)
-  cells_written seat l value (Owned other back) cells cell at tells =
-      sym (set_again cells l cell at)
-      ∙ ap (λ b. set cells l (cond b (record cell { value = value }) cell)) (sym (ne_eqb other seat tells.1))
-      ∙ ap (λ o. set cells l (overwritten seat value o cell)) (sym tells.0) ∙ sym (changed_is l (λ c. overwritten seat value c.owner c) cells cell at)
+  pub open_not_owned : (seat other : ℕ) (cell : Cell V) → IsOwnedBy other cell → other ≢ seat → IsOpenTo seat cell → ⊥
+  open_not_owned seat other cell its n none = let clash : ◌≡◌ {A = Option ℕ} None (Some other) = sym none ∙ other_apart seat other cell its n in cc
 
+  -- ---- what a write makes
   pub notes_at : (seat : ℕ) (l : Loc) (input : V) (cells : List (Cell V)) (notes : Log V) (cell : Cell V) → slice_get cells l.0 ≡ Some cell
       → notes_written seat l input cells notes ≡ noted_write seat l input cell.owner cell notes
   notes_at seat l input cells notes cell at = ap (λ o. option_map_or (λ c. noted_write seat l input c.owner c notes) o notes) at
@@ -71,28 +57,6 @@ module _ {V : Type 0} where
   notes_again seat l input cells notes cell at its =
       notes_at seat l input cells notes cell at ∙ ap (λ o. noted_write seat l input o cell notes) its
       ∙ ap (λ b. cond b (record notes { inputs = notes.inputs ++ input ∷ [] }) notes) (eq-eqb seat seat refl)
-
-  pub notes_refused : (seat other : ℕ) (l : Loc) (input : V) (cells : List (Cell V)) (notes : Log V) (cell : Cell V) → slice_get cells l.0 ≡ Some cell
-      → IsOwnedBy other cell → other ≢ seat
-      → notes_written seat l input cells notes ≡ notes
-  notes_refused seat other l input cells notes cell at its n =
-      notes_at seat l input cells notes cell at ∙ ap (λ o. noted_write seat l input o cell notes) its
-      ∙ ap (λ b. cond b (record notes { inputs = notes.inputs ++ input ∷ [] }) notes) (ne_eqb other seat n)
-
-  -- a write that is refused changes nothing
-  pub written_refused : (seat owner : ℕ) (l : Loc) (value input : V) (c : MemoryView V) (cell : Cell V) → seat < length c.rows
-      → slice_get c.cells l.0 ≡ Some cell → IsOwnedBy owner cell → owner ≢ seat → written_by seat l value input c ≡ c
-  written_refused seat owner l value input c cell within at its n =
-      let row = row_at c.rows seat in
-      let notes = notes_written seat l input c.cells row in
-      let cells_same : changed_at l.0 (λ x. overwritten seat value x.owner x) c.cells ≡ c.cells =
-      changed_is l.0 (λ x. overwritten seat value x.owner x) c.cells cell at
-      ∙ ap (λ o. set c.cells l.0 (overwritten seat value o cell)) its
-      ∙ ap (λ b. set c.cells l.0 (cond b (record cell { value = value }) cell)) (ne_eqb owner seat n)
-      ∙ set_again c.cells l.0 cell at in
-      ap (λ cells. by_seat seat cells notes c) cells_same
-      ∙ ap (λ x. by_seat seat c.cells x c) (notes_refused seat owner l input c.cells row cell at its n)
-      ∙ ap (λ rows. record c { rows = rows }) (row_set_again c.rows seat within)
 
   -- ---- consistent still
   -- after a write

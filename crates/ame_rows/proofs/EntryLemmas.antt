@@ -40,15 +40,6 @@ module _ {V : Type 0} where
   apart_entry p (u ∷ us) h =
       ap (λ b. cond b (Some u) (entry_at us p)) (ne_eqb (named_by u) p (λ e. eqb-false p (named_by u) h.0 (sym e))) ∙ apart_entry p us h.1
 
-  entry_apart : (p : ℕ) (us : List (Undo V)) → entry_at us p ≡ None → AllByRecursion (λ q. nat_eq p q ≡ false) (places us)
-  entry_apart p [] = λ _. tt
-  entry_apart p (u ∷ us) =
-      elim (named_by u == p) as (λ b. (named_by u == p) ≡ b → cond b (Some u) (entry_at us p) ≡ None
-      → AllByRecursion (λ q. nat_eq p q ≡ false) (places (u ∷ us))) [
-        | true ↦ λ t e. cc
-        | false ↦ λ t e. (ne_eqb p (named_by u) (λ same. eqb-false (named_by u) p t (sym same)), entry_apart p us e)
-      ] refl
-
   pub once_tail : (u : Undo V) (us : List (Undo V)) → IsDistinct nat_eq (places (u ∷ us)) → IsDistinct nat_eq (places us) × (entry_at us (named_by u) ≡ None)
   unfolding IsDistinct
   once_tail u us h = (h.1, apart_entry (named_by u) us h.0)

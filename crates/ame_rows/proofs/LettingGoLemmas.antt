@@ -42,10 +42,6 @@ module _ {V : Type 0} where
     pub can_grow : All (λ cell. IsOwnedBy seat cell → CanGrow cell) cells
     pub same : map (released_by seat) cells ≡ map (released_by seat) start
 
-  pub releasing_starts : (seat : ℕ) (cells : List (Cell V)) (undos : List (Undo V)) → IsLogOf seat cells undos → All CanGrow cells
-      → Releasing seat cells cells undos
-  releasing_starts seat cells undos log grow = record { log = log; can_grow = λ k d h its. grow k d h; same = refl }
-
   pub releasing_step : (seat : ℕ) (start cells new : List (Cell V)) (u : Undo V) (us : List (Undo V)) (cell : Cell V) → Releasing seat start cells (u ∷ us)
       → slice_get cells (named_by u) ≡ Some cell → IsOwnedBy seat cell → new ≡ set cells (named_by u) (released cell) → Releasing seat start new us
   releasing_step seat start cells new u us cell before at its e =

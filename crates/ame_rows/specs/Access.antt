@@ -8,11 +8,18 @@ use Rattle.ame_store.specs.declared.cell.Cell.{Cell}
 use Rattle.ame_store.specs.Changes.{made, replaced}
 use Rattle.ame_store.specs.Writes.{taken_by}
 use Rattle.ame_rows.specs.declared.notes.Undo.TheVariants.{Wrote, Made}
-use Rattle.ame_rows.specs.declared.answer.WriteAnswer.{WriteAnswer}
-use Rattle.ame_rows.specs.declared.answer.WriteAnswer.TheVariants.{Done, Conflict}
 use Rattle.ame_rows.specs.MemoryView.{Log, MemoryView, row_at, by_seat}
 
+-- the other seat among the owners of a cell, if one is
+abbrev pub other_owner : ℕ → Option ℕ → Option ℕ
+other_owner seat None = None
+other_owner seat (Some owner) = cond (owner == seat) None (Some owner)
+
 module _ {V : Type 0} where
+  -- no other seat owns the cell, so this one may write it
+  abbrev pub IsOpenTo : ℕ → Cell V → Type 0
+  IsOpenTo seat cell = other_owner seat cell.owner ≡ None
+
   -- the cell at a location, if one is there, becomes another one
   abbrev pub changed_at : ℕ → (Cell V → Cell V) → List (Cell V) → List (Cell V)
   changed_at l change cells = option_map_or (λ cell. slice_set cells l (change cell)) (slice_get cells l) cells
@@ -52,11 +59,6 @@ module _ {V : Type 0} where
     undos = notes.undos ++ Wrote l cell.number cell.value ∷ [];
   }
   noted_write seat l input (Some owner) cell notes = cond (owner == seat) (record notes { inputs = notes.inputs ++ input ∷ [] }) notes
-
-  -- what a write tells, by the owner of the cell: another seat is in conflict
-  abbrev pub told_write : ℕ → V → Option ℕ → WriteAnswer V
-  told_write seat value None = Done
-  told_write seat value (Some owner) = cond (owner == seat) Done (Conflict owner value)
 
   -- the logs after a write that is given this input
   abbrev pub notes_written : ℕ → Loc → V → List (Cell V) → Log V → Log V

@@ -3,10 +3,9 @@ use Rattle.std.specs.Prelude.{ℕ, ◌<◌, ◌≤◌, List, []}
 use Rattle.ame_rows.specs.declared.notes.ReadNote.{ReadNote}
 use Rattle.ame_rows.specs.declared.notes.Undo.{Undo}
 
--- the places that are free in each log
+-- the places that are free in each log that is kept
 pub record Room : Type 0 where
   pub reads : ℕ
-  pub inputs : ℕ
   pub undos : ℕ
 
 -- what was read, what was given, and what to undo, each from the first on
@@ -16,16 +15,14 @@ pub record RoomyLog (V : Type 0) : Type 0 where
   pub undos : List (Undo V)
   pub room : Room
 
--- there is a place in each log
+-- there is a place in each log that is kept
 pub record HasPlaces (room : Room) : Type 0 where
   pub for_read : 0 < room.reads
-  pub for_input : 0 < room.inputs
   pub for_undo : 0 < room.undos
 
 -- no log lost a place
 pub record Keeps (old new : Room) : Type 0 where
   pub for_reads : old.reads ≤ new.reads
-  pub for_inputs : old.inputs ≤ new.inputs
   pub for_undos : old.undos ≤ new.undos
 
 -- nothing was read, given or written

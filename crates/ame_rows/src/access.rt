@@ -1,18 +1,18 @@
 //! Reads, writes and allocations of a seat, on the cells and its own row.
 
-ghost use Rattle.std.specs.Prelude.{◌≡◌, ◌<◌, ◌∷◌, ◌++◌, ◌↔◌, [], Some, IsTrue, IfOk, OnOk, OnErr, length, slice_get};
+ghost use Rattle.std.specs.Prelude.{◌≡◌, ◌<◌, ◌∷◌, ◌++◌, [], Some, IfOk, OnOk, OnErr, length, slice_get};
 ghost use Rattle.std.specs.Option.{ForSome};
 ghost use Rattle.ame_store.specs.Cells.{CanGrow};
 ghost use Rattle.ame_store.specs.Changes.{made};
 ghost use Rattle.ame_rows.specs.MemoryView.{without_room};
-ghost use Rattle.ame_rows.specs.Access.{changed_at, is_owned_by, noted_read, IsRead, overwritten, told_write, notes_written, notes_allocated, next_place};
+ghost use Rattle.ame_rows.specs.Access.{changed_at, is_owned_by, noted_read, IsRead, IsOpenTo, other_owner as other_owner_of, overwritten, notes_written, notes_allocated, next_place};
 
-use crate::answer::WriteAnswer;
 use crate::{Row, Undo};
 use ame_store::{Cell, Store, Taken};
 use ame_term::{Copied, Loc, NoMemory, Sort, TyNo};
+use std::alloc::Global;
 
-/// Whether a seat owns the cell.
+/// Returns whether a seat owns the cell.
 fn owns<V>(seat: u32, cell: &Cell<V>) -> bool
     ensures { result ≡ is_owned_by seat cell.now }
 {
@@ -22,11 +22,21 @@ fn owns<V>(seat: u32, cell: &Cell<V>) -> bool
     }
 }
 
-/// RoomyLog a read, with the number of the cell unless the seat owns it.
-fn note<V>(row: &mut Row<V>, seat: u32, l: Loc, cell: &Cell<V>, input: V)
-    requires for_read { 0 < row.old.room.reads }
-    requires for_input { 0 < row.old.room.inputs }
-    ensures { without_room row.new ≡ noted_read seat l input cell.now (without_room row.old) }
+/// Returns the other seat that owns the cell, if one does.
+pub(crate) fn other_owner<V>(seat: u32, cell: &Cell<V>) -> Option<u32>
+    ensures { result ≡ other_owner_of seat cell.now.owner }
+{
+    match cell.owner {
+        Some(owner) if owner != seat => Some(owner),
+        Some(_) => None,
+        None => None,
+    }
+}
+
+/// Logs a read, with the number of the cell unless the seat owns it.
+fn note<V>(row: &mut Row<V>, seat: u32, l: Loc, cell: &Cell<V>, input: &V)
+    requires { 0 < row.old.room.reads }
+    ensures { without_room row.new ≡ noted_read seat l input.now cell.now (without_room row.old) }
 {
     if owns(seat, cell) {
         row.note_input(input);
@@ -35,8 +45,9 @@ fn note<V>(row: &mut Row<V>, seat: u32, l: Loc, cell: &Cell<V>, input: V)
     }
 }
 
-/// A read of a seat.
+/// Reads for a seat.
 pub(crate) fn read<V: Copied + Drop>(
+    alloc: Global,
     store: &Store<V>,
     row: &mut Row<V>,
     seat: u32,
@@ -48,29 +59,28 @@ pub(crate) fn read<V: Copied + Drop>(
     ensures err { OnErr result (without_room row.new ≡ without_room row.old) }
 {
     row.room()?;
-    let (value, _) = store.read(l)?;
-    let (input, _) = store.read(l)?;
-    note(row, seat, l, store.cell(l), input);
+    let cell = store.cell(l);
+    let value = cell.value.copy(alloc)?;
+    note(row, seat, l, cell, &value);
     Ok(value)
 }
 
-/// A write of a seat.
+/// Writes a cell that no other seat owns, for a seat.
 pub(crate) fn write<V: Drop>(
     store: &mut Store<V>,
     row: &mut Row<V>,
     seat: u32,
     l: Loc,
     value: V,
-    input: V,
-) -> Result<WriteAnswer<V>, NoMemory>
+    input: &V,
+) -> Result<(), NoMemory>
     requires location { l.0 < length store.old }
     requires can_grow { ForSome (slice_get store.old l.0) CanGrow }
-    ensures answer { IfOk result (λ answer.
-        ForSome (slice_get store.old l.0) (λ cell. answer ≡ told_write seat value cell.owner)) }
+    requires unowned { ForSome (slice_get store.old l.0) (IsOpenTo seat) }
     ensures cells { OnOk result (store.new ≡
         changed_at l.0 (λ cell. overwritten seat value cell.owner cell) store.old) }
     ensures notes { OnOk result (without_room row.new ≡
-        notes_written seat l input store.old (without_room row.old)) }
+        notes_written seat l input.now store.old (without_room row.old)) }
     ensures err_cells { OnErr result (store.new ≡ store.old) }
     ensures err_notes { OnErr result (without_room row.new ≡ without_room row.old) }
 {
@@ -79,17 +89,17 @@ pub(crate) fn write<V: Drop>(
         Taken::First(old, number) => {
             row.note_write(Undo::Wrote(l, number, old));
             row.note_input(input);
-            Ok(WriteAnswer::Done)
+            Ok(())
         }
         Taken::Again(_) => {
             row.note_input(input);
-            Ok(WriteAnswer::Done)
+            Ok(())
         }
-        Taken::Owned(owner, value) => Ok(WriteAnswer::Conflict(owner, value)),
+        Taken::Owned(..) => unreachable!(),
     }
 }
 
-/// A new cell, owned by a seat.
+/// Makes a cell that a seat owns.
 pub(crate) fn allocate<V: Drop>(
     store: &mut Store<V>,
     row: &mut Row<V>,
@@ -97,13 +107,13 @@ pub(crate) fn allocate<V: Drop>(
     sort: Sort,
     ty: TyNo,
     value: V,
-    input: V,
+    input: &V,
 ) -> Result<Loc, NoMemory>
     requires { length store.old < 4294967295 }
     ensures location { IfOk result (λ l. l ≡ next_place store.old) }
     ensures cells { OnOk result (store.new ≡ store.old ++ made sort ty value (Some seat) ∷ []) }
     ensures notes { OnOk result (without_room row.new ≡
-        notes_allocated (next_place store.old) input (without_room row.old)) }
+        notes_allocated (next_place store.old) input.now (without_room row.old)) }
     ensures err_cells { OnErr result (store.new ≡ store.old) }
     ensures err_notes { OnErr result (without_room row.new ≡ without_room row.old) }
 {

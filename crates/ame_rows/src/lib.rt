@@ -2,7 +2,6 @@
 #![tactic(auto)]
 
 mod access;
-mod answer;
 mod letting_go;
 mod memory;
 mod notes;
@@ -10,7 +9,6 @@ mod row;
 mod rows;
 mod theorems;
 
-pub use answer::WriteAnswer;
 pub use memory::Memory;
 pub use notes::{Bad, ReadNote, Undo};
 pub use row::Row;

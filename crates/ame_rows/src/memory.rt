@@ -10,11 +10,10 @@ ghost use Rattle.ame_rows.specs.MemoryView.{no_log, without_room, row_at, by_sea
 ghost use Rattle.ame_rows.specs.Entries.{places};
 ghost use Rattle.ame_rows.specs.Consistent.{IsConsistent};
 ghost use Rattle.ame_rows.specs.Committed.{committed as committed_at};
-ghost use Rattle.ame_rows.specs.Access.{IsRead, told_write, written_by, next_place, allocated_by, put_at, born as born_in};
+ghost use Rattle.ame_rows.specs.Access.{IsRead, IsOpenTo, other_owner as other_owner_of, written_by, next_place, allocated_by, put_at, born as born_in};
 ghost use Rattle.ame_rows.specs.LettingGo.{released_all, undone_last};
 
-use crate::access::{allocate, read, write};
-use crate::answer::WriteAnswer;
+use crate::access::{allocate, other_owner, read, write};
 use crate::letting_go::{release_all, undo_last};
 use crate::rows::{empty_rows, old_value, sorted_locations};
 use crate::{Bad, Row};
@@ -117,44 +116,45 @@ impl<V> Memory<V> {
         }
     }
 
-    /// A write of a seat: the value is in place and the next input is this one, unless another seat owns the cell.
-    pub fn write(
-        &mut self,
-        seat: u32,
-        l: Loc,
-        value: V,
-        input: V,
-    ) -> Result<WriteAnswer<V>, NoMemory>
+    /// Returns the other seat that owns the cell at a location, if one does.
+    pub fn other_owner(&self, seat: u32, l: Loc) -> Option<u32>
+        requires { l.0 < length self.now.cells }
+        ensures { ForSome (slice_get self.now.cells l.0) (λ cell. result ≡ other_owner_of seat cell.owner) }
+    {
+        other_owner(seat, self.store.cell(l))
+    }
+
+    /// Writes a cell that no other seat owns, for a seat, which owns it from then on. The input is the seat's next one.
+    pub fn write(&mut self, seat: u32, l: Loc, value: V, input: &V) -> Result<(), NoMemory>
     where
         V: Drop,
         requires seat { seat < length self.old.rows }
         requires location { l.0 < length self.old.cells }
         requires can_grow { ForSome (slice_get self.old.cells l.0) CanGrow }
-        ensures answer { IfOk result (λ answer.
-            ForSome (slice_get self.old.cells l.0) (λ cell. answer ≡ told_write seat value cell.owner)) }
-        ensures contents { OnOk result (self.new ≡ written_by seat l value input self.old) }
+        requires unowned { ForSome (slice_get self.old.cells l.0) (IsOpenTo seat) }
+        ensures contents { OnOk result (self.new ≡ written_by seat l value input.now self.old) }
         ensures err { OnErr result (self.new ≡ self.old) }
     {
         let row = &mut self.rows[seat as usize];
-        let answer = write(&mut self.store, row, seat, l, value, input)?;
-        Ok(answer)
+        write(&mut self.store, row, seat, l, value, input)?;
+        Ok(())
     }
 
-    /// A new cell that a seat owns, and this is its next input. Its location is the number of cells before.
+    /// Makes a cell that a seat owns. The input is the seat's next one. The location is the number of cells before.
     pub fn allocate(
         &mut self,
         seat: u32,
         sort: Sort,
         ty: TyNo,
         value: V,
-        input: V,
+        input: &V,
     ) -> Result<Loc, NoMemory>
     where
         V: Drop,
         requires seat { seat < length self.old.rows }
         requires few { length self.old.cells < 4294967295 }
         ensures location { IfOk result (λ l. l ≡ next_place self.old.cells) }
-        ensures contents { OnOk result (self.new ≡ allocated_by seat sort ty value input self.old) }
+        ensures contents { OnOk result (self.new ≡ allocated_by seat sort ty value input.now self.old) }
         ensures err { OnErr result (self.new ≡ self.old) }
     {
         let row = &mut self.rows[seat as usize];
@@ -223,8 +223,8 @@ impl<V> Memory<V> {
 }
 
 impl<V: Copied> Memory<V> {
-    /// A read of a seat: a copy of the value in place, whoever owns the cell. Another copy is the seat's next input; the
-    /// read is logged with the number of the cell unless the seat owns it.
+    /// Reads for a seat: returns a copy of the value in place, even if another seat owns the cell. It is the seat's next input. The
+    /// read is logged with the number of the cell, unless the seat owns it.
     pub fn read(&mut self, seat: u32, l: Loc) -> Result<V, NoMemory>
     where
         V: Drop,
@@ -236,8 +236,9 @@ impl<V: Copied> Memory<V> {
         ensures others { OnOk result (self.new ≡ by_seat seat self.old.cells (row_at self.new.rows seat) self.old) }
         ensures err { OnErr result (self.new ≡ self.old) }
     {
+        let alloc = *self.rows.allocator();
         let row = &mut self.rows[seat as usize];
-        let value = read(&self.store, row, seat, l)?;
+        let value = read(alloc, &self.store, row, seat, l)?;
         Ok(value)
     }
 

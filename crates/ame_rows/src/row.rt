@@ -7,16 +7,17 @@ ghost use Rattle.ame_rows.specs.Valid.{IsValid, IsFirstBad};
 use crate::notes::{Bad, ReadNote, Undo};
 use ame_store::Store;
 use ame_term::{Loc, NoMemory};
+use ame_trace::Trace;
 use std::alloc::Global;
 use std::marker::Model;
 
-/// What a seat read, what it was given, and how to undo what it wrote, each in its order. Contracts
-/// see a record of these lists and of the places that are free in each. Only `room` takes memory, and
-/// only `valid` and `clear` take longer for longer logs.
+/// What a seat read, what it was given, and how to undo what it wrote, each in its order. Contracts see a record of these
+/// lists, and of the places that are free in those that are kept: what the seat was given is told to contracts alone. Only
+/// `room` takes memory, and only `valid` and `clear` take longer for longer logs.
 #[derive(Drop)]
 pub struct Row<V> {
     reads: Vec<ReadNote>,
-    inputs: Vec<V>,
+    inputs: Trace<V>,
     undos: Vec<Undo<V>>,
 }
 
@@ -28,66 +29,59 @@ impl<V> Model for Row<V> {
 
     ghost view = { λ r. record {
       reads = r.reads.items;
-      inputs = r.inputs.items;
+      inputs = r.inputs;
       undos = r.undos.items;
       room = record {
         reads = vec_capacity r.reads - vec_len r.reads;
-        inputs = vec_capacity r.inputs - vec_len r.inputs;
         undos = vec_capacity r.undos - vec_len r.undos;
       };
     } };
 }
 
 impl<V> Row<V> {
-    /// Empty logs, without memory.
+    /// Makes empty logs, without memory.
     pub fn new(alloc: Global) -> Row<V>
         ensures { result ≡ empty result.room }
     {
         Row {
             reads: Vec::new(alloc),
-            inputs: Vec::new(alloc),
+            inputs: Trace::new(),
             undos: Vec::new(alloc),
         }
     }
 
-    /// Makes a place in each log. Where there is no memory for one, the places in others may have been made.
+    /// Makes a place in each log that is kept. Where there is no memory for one, the places in others may have been made.
     pub fn room(&mut self) -> Result<(), NoMemory>
         ensures logs { self.new ≡ record self.old { room = self.new.room } }
         ensures keeps { Keeps self.old.room self.new.room }
         ensures ok { OnOk result (HasPlaces self.new.room) }
     {
         self.reads.reserve(1)?;
-        self.inputs.reserve(1)?;
         self.undos.reserve(1)?;
         Ok(())
     }
 
-    /// RoomyLog a read, whose value is the next input.
-    pub fn note_read(&mut self, loc: Loc, number: u64, input: V)
-        requires for_read { 0 < self.old.room.reads }
-        requires for_input { 0 < self.old.room.inputs }
+    /// Logs a read, whose value is the next input.
+    pub fn note_read(&mut self, loc: Loc, number: u64, input: &V)
+        requires { 0 < self.old.room.reads }
         ensures { self.new ≡ record self.old {
           reads = self.old.reads ++ record { loc = loc; number = number } ∷ [];
-          inputs = self.old.inputs ++ input ∷ [];
-          room = record self.old.room { reads = self.old.room.reads - 1; inputs = self.old.room.inputs - 1 };
+          inputs = self.old.inputs ++ input.now ∷ [];
+          room = record self.old.room { reads = self.old.room.reads - 1 };
         } }
     {
         self.reads.push_reserved(ReadNote { loc, number });
-        self.inputs.push_reserved(input);
+        self.inputs.push(input);
     }
 
     /// Adds an input that needs no read of the log.
-    pub fn note_input(&mut self, input: V)
-        requires { 0 < self.old.room.inputs }
-        ensures { self.new ≡ record self.old {
-          inputs = self.old.inputs ++ input ∷ [];
-          room = record self.old.room { inputs = self.old.room.inputs - 1 };
-        } }
+    pub fn note_input(&mut self, input: &V)
+        ensures { self.new ≡ record self.old { inputs = self.old.inputs ++ input.now ∷ [] } }
     {
-        self.inputs.push_reserved(input);
+        self.inputs.push(input);
     }
 
-    /// RoomyLog how to undo a write or a new cell.
+    /// Logs how to undo a write or a new cell.
     pub fn note_write(&mut self, undo: Undo<V>)
         requires { 0 < self.old.room.undos }
         ensures { self.new ≡ record self.old {
@@ -150,7 +144,7 @@ impl<V> Row<V> {
         ensures keeps { Keeps self.old.room self.new.room }
     {
         self.reads.clear();
-        self.inputs.clear();
+        self.inputs = Trace::new();
         self.undos.clear();
     }
 }

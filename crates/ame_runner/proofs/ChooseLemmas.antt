@@ -23,7 +23,6 @@ use Rattle.ame_laws.proofs.MapLemmas.{numbers-at}
 use Rattle.ame_journal.specs.Replay.{fragment, fails_after}
 use Rattle.ame_journal.specs.Replayed.{begun_at}
 use Rattle.ame_strong.specs.Pool.{pool}
-use Rattle.ame_strong.specs.Next.{next_of}
 use Rattle.ame_strong.specs.declared.next_label.Next.{Next}
 use Rattle.ame_strong.specs.declared.next_label.Next.TheVariants as next
 use Rattle.ame_strong.proofs.PoolLemmas.{at-pool_idle}
@@ -292,15 +291,6 @@ pub absent-so : {X : Type 0} (f : X → Tree) (o : Option X) (w v : Weak) (n : �
     → is_some (at (pool v.state) n) ≡ false
 absent-so f None w v n b found same is there = ap (λ (z : Weak). is_some (at (pool z.state) n)) (sym same) ∙ ap is_some (sym found)
 absent-so f (Some x) w v n b found same is there = absurd (let clash : true ≡ false = is ∙ ap not there in cc)
-
--- who stands at a call
-pub stands-so : (w v : Weak) (i device called : ℕ) (argument : ℤ) (told : Next) → told ≡ next_of w.state (Some i) → w ≡ v → told ≡ next.Device called argument → called ≡ device
-    → StandsAtCall v device
-stands-so w v i device called argument told is same stands alike = record {
-  number = i;
-  argument = argument;
-  stands = subst (λ (z : Weak). next_of z.state (Some i) ≡ next.Device device argument) same (sym is ∙ stands ∙ ap (λ d. next.Device d argument) alike);
-}
 
 pub certified-none : (r : RunView) (certificates : List Certificate) → certificates ≡ [] → AreCertified r 0 certificates
 certified-none r certificates none = record {

@@ -26,10 +26,6 @@ above-all : (xs ys : List Label) → location_above (xs ++ ys) ≡ max (location
 above-all [] ys = omega arith
 above-all (x ∷ xs) ys = let more = above-all xs ys in omega arith
 
-next-low : (a : ℕ) (ls : List ℕ) (b : ℕ) → AreNext a ls b → a ≤ b
-next-low a [] b is = omega arith
-next-low a (l ∷ ls) b is = let more = next-low (a + 1) ls b is.1 in omega arith
-
 -- what new locations of steps come to
 pub record AreCounted (a : ℕ) (kinds : List StepKind) (b : ℕ) : Type 0 where
   pub from : a ≤ b

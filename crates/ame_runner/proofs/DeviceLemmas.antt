@@ -5,13 +5,12 @@ use Rattle.std.proofs.lemmas.Option.{option_and_then_some}
 use Rattle.ame_term.specs.Tree.{Typ, Tree}
 use Rattle.ame_term.specs.Signature.{listed}
 use Rattle.ame_term.specs.Context.{focus}
-use Rattle.ame_term.specs.Act.{Act, act_of, device_answer}
+use Rattle.ame_term.specs.Act.{Act, act_of}
 use Rattle.ame_term.specs.Maps.{at}
 use Rattle.ame_term.specs.SourceTerm.{IsSourceTerm}
 use Rattle.ame_term.specs.Numbered.{IsNumbered}
 use Rattle.ame_term.specs.State.{State}
 use Rattle.ame_term.specs.Typing.{Accepts}
-use Rattle.ame_term.specs.declared.semantics.StepKind.{StepKind}
 use Rattle.ame_term.specs.declared.semantics.Label.{Label}
 use Rattle.ame_device.specs.declared.told.Told.{Told}
 use Rattle.ame_journal.specs.Replay.{redex_act, member_act}
@@ -34,9 +33,6 @@ use Rattle.ame_shell.proofs.HeardLemmas.{heard-silent, heard-failed, heard-call}
 use Rattle.ame_runner.specs.Freeing.{IsSilent, FailsFor, HasCalledFor}
 use Rattle.ame_runner.specs.Run.{IsOwn}
 use Rattle.ame_runner.proofs.PlayLemmas.{run-more}
-
-pub free-silent : (i : ℕ) (kind : StepKind) → device_answer kind ≡ None → IsSilent (Label.Free i kind)
-free-silent i kind none = λ k s. ap (λ (o : Option ℤ). call_at k o (member_act i s)) none
 
 pub own-silent : (label : Label) → IsOwn label → IsSilent label
 own-silent (Label.Activate i) own = λ k s. refl

@@ -119,7 +119,3 @@ module _ (program : Tree) (labels : List Label) (aside : ℕ → Bool) (ts : Lis
       still : (t : Try) → (aside t.certificate.number ≡ true) ⊎ HasChange (drop t.after labels) → (later t.certificate.number ≡ true) ⊎ HasChange (drop t.after labels)
       still t (inl is) = inl (grows t.certificate.number is)
       still t (inr change) = inr change
-
--- before the first label
-pub kept-none : (program : Tree) (aside : ℕ → Bool) → AreKept program [] aside []
-kept-none program aside = record { order = tt; hold = tt; spaced = tt; put = tt }

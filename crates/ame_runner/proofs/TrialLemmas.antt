@@ -1,11 +1,11 @@
 -- A fragment that is tried goes on by a step.
-use Rattle.std.proofs.Common.{◌≡◌, ℕ, ◌+◌, ◌<◌, ◌≤◌, ◌++◌, List, [], ◌∷◌, length, map, Some, option_and_then, refl, sym, ap, ◌∙◌, subst, arith, append-nil, length-append}
+use Rattle.std.proofs.Common.{◌≡◌, ℕ, ◌+◌, ◌<◌, ◌≤◌, ◌++◌, List, [], ◌∷◌, length, map, refl, sym, ap, ◌∙◌, subst, arith, append-nil, length-append}
 use Rattle.std.proofs.lemmas.List.Concat.{flat_map-append}
 use Rattle.std.specs.Prelude.{Result, Ok, Err, IfOk}
 use Rattle.ame_term.specs.declared.semantics.StepKind.{StepKind}
 use Rattle.ame_term.specs.declared.semantics.Label.{Label}
 use Rattle.ame_journal.specs.Labels.{fresh_of, made_by, fragment_labels}
-use Rattle.ame_weak.specs.Weak.{Weak, weak_after, weak_run}
+use Rattle.ame_weak.specs.Weak.{Weak, weak_run}
 use Rattle.ame_weak.specs.Bounds.{AreWithinBounds}
 use Rattle.ame_runner.specs.Trial.{AreNext, IsTrial, HasTriedOn, StandsAs, IsDecided, last_turn, IsEndedAtLast, IsTriedOut}
 use Rattle.ame_runner.specs.declared.trial.Outcome.{Outcome}
@@ -22,9 +22,6 @@ made-more kinds kind = flat_map-append fresh_of kinds (kind ∷ []) ∙ ap (λ x
 steps-more : (kinds : List StepKind) (kind : StepKind) → map Label.Step (kinds ++ kind ∷ []) ≡ map Label.Step kinds ++ Label.Step kind ∷ []
 steps-more [] kind = refl
 steps-more (k ∷ kinds) kind = ap (λ ls. Label.Step k ∷ ls) (steps-more kinds kind)
-
-pub trial-begun : (w v : Weak) (i first : ℕ) → weak_after w (Label.Activate i) ≡ Some v → IsTrial w i first v [] first
-trial-begun w v i first e = record { leads = ap (option_and_then (λ z. weak_run z [])) e; within = (tt, λ u goes. tt); made = refl }
 
 pub trial-more : (w : Weak) (i first : ℕ) (v : Weak) (kinds : List StepKind) (above : ℕ) (later : Weak) (more : List StepKind) (next_above : ℕ)
     → IsTrial w i first v kinds above → HasTriedOn v kinds above later more next_above → IsTrial w i first later more next_above

@@ -32,13 +32,6 @@ impl Notes {
         }
     }
 
-    /// The tries, in order.
-    pub fn tries(&self) -> &[Try]
-        ensures { result.now ≡ tries_made self.now }
-    {
-        self.tries.as_slice()
-    }
-
     /// The members that are put aside.
     pub fn aside(&self) -> &BTreeSet<u64>
         ensures { contains nat_cmp result.now ≡ aside_of self.now }

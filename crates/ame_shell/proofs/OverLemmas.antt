@@ -1,5 +1,5 @@
 -- What a run tells that is over.
-use Rattle.std.proofs.Common.{◌≡◌, ℕ, ◌<◌, List, [], length, Option, Some, None, append-nil, refl, sym, ap, subst}
+use Rattle.std.proofs.Common.{◌≡◌, ℕ, ◌<◌, List, [], length, Option, Some, None, append-nil, inl, inr, refl, sym, ap, subst}
 use Rattle.std.specs.Prelude.{ℤ, is_some, unwrap_or, false}
 use Rattle.std.proofs.lemmas.List.Elements.{All-nil}
 use Rattle.ame_device.specs.declared.told.Told.{Told}
@@ -9,9 +9,12 @@ use Rattle.ame_journal.specs.declared.entry.Entry.{Entry}
 use Rattle.ame_protocol.specs.declared.types.Limits.{Limits}
 use Rattle.ame_protocol.specs.Engine.Parts.{Parts}
 use Rattle.ame_protocol.specs.Engine.Events.{started}
+use Rattle.ame_protocol.specs.Event.State.{started_state}
 use Rattle.ame_protocol.specs.declared.stop.Stop.{Stop}
 use Rattle.ame_engine.specs.Core.{Core}
 use Rattle.ame_engine.specs.Ending.{End, end_of, IsEnd}
+use Rattle.ame_engine.specs.Makes.{state_of}
+use Rattle.ame_engine.specs.Resuming.{HasResumed}
 use Rattle.ame_engine.specs.Seen.{parts_of}
 use Rattle.ame_engine.specs.Stops.{stopped_by}
 use Rattle.ame_shell.specs.Ends.{Ends}
@@ -24,6 +27,7 @@ use Rattle.ame_shell.proofs.HeardLemmas.{heard-nothing}
 use Rattle.ame_shell.proofs.StopLemmas.{stops-by, quiet-failed, quiet-goes}
 use Rattle.ame_shell.proofs.SendLemmas.{flush-keeps, sent-over}
 use Rattle.ame_shell.proofs.TurnLemmas.{flush-opened}
+use Rattle.ame_shell.proofs.RanLemmas.{ran-flushed, ran-over, ran-starts, ran-stopped, resumed-start}
 use Rattle.ame_machine.specs.Meaning.{Meaning}
 
 -- nothing of a text is appended
@@ -56,8 +60,9 @@ module _ {C V M : Type 0} (meaning : Meaning C V M) where
   -- where an engine has just started nothing was sent or heard
   pub shell-starts : (core : Core C V M) (code : C) (limits : Limits) (ends : Ends) → core.code ≡ code
       → parts core ≡ started (meaning.program code) (meaning.signature code) limits 0
-      → IsShell meaning.program (record { code = code; limits = limits; base = []; ends = ends }) (record { core = core; sent = 0; ends = ends })
-  shell-starts core code limits ends same starts =
+      → state_of meaning core ≡ started_state (meaning.program code) (meaning.signature code) limits
+      → IsShell meaning (record { code = code; limits = limits; base = []; ends = ends }) (record { core = core; sent = 0; ends = ends })
+  shell-starts core code limits ends same starts fresh =
       let going : core.stop ≡ None = not-stopped core.stop (ap (λ (p : Parts). p.stopped) starts) in
       let output : core.output ≡ [] = ap (λ (p : Parts). p.output) starts in
       record {
@@ -69,15 +74,17 @@ module _ {C V M : Type 0} (meaning : Meaning C V M) where
           goes = subst (λ (o : Option Stop). GoesTo o 0 (lines core.output) ends.write_faults ends.write_faults) (sym going)
               (sym (ap (λ (xs : List ℤ). length (lines xs)) output), refl);
         };
+        ran = ran-starts meaning (record { code = code; limits = limits; base = []; ends = ends }) core (inl (refl, fresh));
       }
 
   -- where an engine was opened from a base and nothing was run yet, and then the lines of the base were sent
-  module _ (core : Core C V M) (ends : Ends) (none : core.entries ≡ []) (going : core.stop ≡ None) where
+  module _ (core : Core C V M) (ends : Ends) (none : core.entries ≡ []) (going : core.stop ≡ None)
+      (resumed : HasResumed meaning core.limits core.base core) where
     abbrev opening : Opening C
     opening = record { code = core.code; limits = core.limits; base = core.base; ends = ends }
 
     pub shell-resumes : (new : ShellView C V M) → new.ends.told ≡ ends.told → HasFlushed (record { core = core; sent = 0; ends = ends }) new
-        → IsShell meaning.program opening new
+        → IsShell meaning opening new
     shell-resumes new same flushed =
         let old : ShellView C V M = record { core = core; sent = 0; ends = ends } in
         record {
@@ -87,11 +94,14 @@ module _ {C V M : Type 0} (meaning : Meaning C V M) where
           sends =
               flush-keeps ends old new [] (lines core.output) refl going
               (record { first = nothing-appended ends.written []; goes = (refl, refl) }) flushed;
+          ran =
+              ran-flushed meaning opening old new flushed
+              (ran-starts meaning opening core (inr (resumed-start meaning core.limits core.base core resumed)));
         }
 
   -- where memory is lacking nothing else changes
-  pub lacking-keeps : (opening : Opening C) (shell : ShellView C V M) → IsShell meaning.program opening shell
-      → IsShell meaning.program opening (record shell { core = stopped_by Stop.NoMemory shell.core })
+  pub lacking-keeps : (opening : Opening C) (shell : ShellView C V M) → IsShell meaning opening shell
+      → IsShell meaning opening (record shell { core = stopped_by Stop.NoMemory shell.core })
   lacking-keeps opening shell h =
       let quiet = stops-by Stop.NoMemory refl shell.core.stop in
       let stop : Option Stop = Some (unwrap_or shell.core.stop Stop.NoMemory) in
@@ -108,9 +118,10 @@ module _ {C V M : Type 0} (meaning : Meaning C V M) where
           first = h.sends.first;
           goes = quiet-goes shell.sent (lines shell.core.output) opening.ends.write_faults shell.ends.write_faults shell.core.stop stop quiet h.sends.goes;
         };
+        ran = ran-stopped meaning opening Stop.NoMemory refl shell.core h.ran;
       }
 
-  pub is-over : (opening : Opening C) (shell : ShellView C V M) (end : End V) → IsShell meaning.program opening shell → end ≡ end_of shell.core
+  pub is-over : (opening : Opening C) (shell : ShellView C V M) (end : End V) → IsShell meaning opening shell → end ≡ end_of shell.core
       → IsEnd (meaning.program shell.core.code) (meaning.signature shell.core.code) shell.core.limits (meaning.value_of shell.core.code) end
       → IsOverSince opening.base (meaning.program opening.code) (meaning.signature opening.code) opening.limits (meaning.value_of opening.code) opening.ends end shell.ends
   is-over opening shell end h is e =
@@ -133,4 +144,5 @@ module _ {C V M : Type 0} (meaning : Meaning C V M) where
             h.opened.base h.opened.heard;
         failed = h.opened.failed;
         lone = at-end.lone;
+        ran = ran-over meaning opening shell.core h.opened.code h.opened.limits h.ran;
       }

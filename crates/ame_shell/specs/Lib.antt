@@ -1,6 +1,11 @@
+pub mod Work
+pub mod Ready
+pub mod Asked
+pub mod Outcomes
 pub mod Ends
 pub mod Sent
 pub mod Heard
+pub mod Ran
 pub mod Over
 pub mod Shell
 pub mod Turned

@@ -11,6 +11,7 @@ use Rattle.ame_protocol.specs.Event.Lone.{IsUndisturbed}
 use Rattle.ame_shell.specs.Ends.{Ends}
 use Rattle.ame_shell.specs.Sent.{IsSent}
 use Rattle.ame_shell.specs.Heard.{HaveHeardSince, HaveFailed}
+use Rattle.ame_shell.specs.Ran.{IsRanBy}
 
 -- each entry is of one of so many seats
 abbrev pub AreOfSeats : ℕ → List Entry → Type 0
@@ -23,7 +24,7 @@ NoneWereInTheWay counters = IsUndisturbed counters
 -- A run of a program that went on from a base, with what its ends told before and after. Base and journal replay, and its stop has
 -- its cause in the state that is left. The lines of what was printed were sent, those of the base among them, all of them unless the
 -- sink failed; each device has heard what the journal tells behind the base, and none failed unless that is the stop. One seat by
--- itself has nobody in its way.
+-- itself has nobody in its way. Events led to the end, each where it may be.
 pub record IsOverSince (since : List Entry) (program : Tree) (signature : Signature) (limits : Limits) {V : Type 0} (value : V → Val) (before : Ends) (end : End V)
     (after : Ends) : Type 0 where
   pub ends : IsEnd program signature limits value end
@@ -33,6 +34,7 @@ pub record IsOverSince (since : List Entry) (program : Tree) (signature : Signat
   pub heard : HaveHeardSince program since end.entries before.told after.told
   pub failed : HaveFailed end.stop before.told after.told
   pub lone : limits.seats ≡ 1 → NoneWereInTheWay end.counters
+  pub ran : IsRanBy program signature limits since value end
 
 -- a run of a program from its beginning
 abbrev pub IsOver : Tree → Signature → Limits → {V : Type 0} → (V → Val) → Ends → End V → Ends → Type 0

@@ -9,7 +9,13 @@ use Rattle.ame_device.specs.declared.told.Told.{Told}
 use Rattle.ame_journal.specs.declared.entry.Entry.{Entry}
 use Rattle.ame_protocol.specs.declared.types.Limits.{Limits}
 use Rattle.ame_protocol.specs.declared.stop.Stop.{Stop}
+use Rattle.ame_protocol.specs.Event.Event.{Event}
+use Rattle.ame_protocol.specs.Event.Runs.{Follows}
+use Rattle.ame_protocol.specs.Event.State.{State}
+use Rattle.ame_machine.specs.Meaning.{Meaning}
 use Rattle.ame_engine.specs.Core.{Core}
+use Rattle.ame_engine.specs.Makes.{state_of}
+use Rattle.ame_shell.specs.Ran.{IsStart}
 use Rattle.ame_shell.specs.Ends.{Ends, ends_of}
 use Rattle.ame_shell.specs.Heard.{HaveHeardSince, HaveFailed}
 use Rattle.ame_shell.specs.declared.shell.Shell.{Shell}
@@ -58,7 +64,16 @@ module _ {C V M : Type 0} (program : C → Tree) where
     pub heard : HaveHeardSince (program core.code) core.base core.entries opening.ends.told told
     pub failed : HaveFailed core.stop opening.ends.told told
 
+module _ {C V M : Type 0} (meaning : Meaning C V M) where
+  -- Events led to an engine from a state from which a run may go on from the base, each where it may be.
+  pub record HasRun (opening : Opening C) (core : Core C V M) : Type 0 where
+    pub start : State
+    pub starts : IsStart (meaning.program opening.code) (meaning.signature opening.code) opening.limits opening.base start
+    pub events : List Event
+    pub follows : Follows start events (state_of meaning core)
+
   -- So it is of a shell, and the lines of what was printed are sent.
   pub record IsShell (opening : Opening C) (shell : ShellView C V M) : Type 0 where
-    pub opened : IsOpenedSo opening shell.core shell.ends.told
+    pub opened : IsOpenedSo meaning.program opening shell.core shell.ends.told
     pub sends : IsSentSince opening.ends shell.ends shell.core.stop shell.sent (lines shell.core.output)
+    pub ran : HasRun opening shell.core

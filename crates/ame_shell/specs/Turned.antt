@@ -1,5 +1,5 @@
 -- What turns need of a shell, and what one makes of it.
-use Rattle.std.specs.Prelude.{◌≡◌, ℕ, ◌+◌, ◌<◌, ◌≤◌, Bool, true, false, length, drop, Option}
+use Rattle.std.specs.Prelude.{◌≡◌, ℕ, ◌+◌, ◌<◌, ◌≤◌, Bool, true, false, length, drop, Option, Some, None}
 use Rattle.std.specs.Io.KnownBytes.{Appends}
 use Rattle.ame_io.specs.Counts.{HasRisen}
 use Rattle.ame_io.specs.Lines.{lines}
@@ -9,8 +9,8 @@ use Rattle.ame_protocol.specs.declared.stop.Stop.{Stop}
 use Rattle.ame_engine.specs.Core.{Core}
 use Rattle.ame_engine.specs.Stops.{stopped_by}
 use Rattle.ame_engine.specs.Whole.{AreLimits}
-use Rattle.ame_turn.specs.declared.work.Deed.{Deed}
-use Rattle.ame_turn.specs.Deeds.{IsDone}
+use Rattle.ame_shell.specs.declared.work.Outcome.{Outcome}
+use Rattle.ame_shell.specs.Outcomes.{IsDone}
 use Rattle.ame_shell.specs.Shell.{ShellView}
 use Rattle.ame_machine.specs.Meaning.{Meaning}
 
@@ -24,11 +24,16 @@ module _ {C V M : Type 0} where
         → new.core ≡ stopped_by Stop.WriteFault old.core → new.sent ≡ old.sent + gone → HasFlushed old new
 
 -- whether a seat did something of which lines may come
-abbrev pub is_to_flush : Deed → Bool
-is_to_flush Deed.Ended = true
-is_to_flush Deed.Left = true
-is_to_flush Deed.CameHome = true
+abbrev pub is_to_flush : Outcome → Bool
+is_to_flush Outcome.Ended = true
+is_to_flush Outcome.Left = true
+is_to_flush Outcome.CameHome = true
 is_to_flush _ = false
+
+-- the member that a seat had at work, else the one that it has now
+abbrev pub member_told : Option ℕ → Option ℕ → Option ℕ
+member_told (Some number) after = Some number
+member_told None after = after
 
 module _ {C V M : Type 0} (meaning : Meaning C V M) where
   -- The code is the engine's, and its limits are in range. There are devices enough, and no more was sent than there is.
@@ -39,8 +44,8 @@ module _ {C V M : Type 0} (meaning : Meaning C V M) where
     pub within : sent ≤ length (lines core.output)
 
   -- A seat has made its event, in which devices alone of the ends had a part, and the lines that came of it were sent.
-  pub record HasTurned (seat : ℕ) (hand : Option MachineView) (old new : ShellView C V M) (deed : Deed) : Type 0 where
+  pub record HasTurned (seat : ℕ) (hand : Option MachineView) (old new : ShellView C V M) (outcome : Outcome) : Type 0 where
     pub core : Core C V M
-    pub done : IsDone meaning seat hand old.core core old.ends.told new.ends.told deed
-    pub flushes : is_to_flush deed ≡ true → HasFlushed (record { core = core; sent = old.sent; ends = record old.ends { told = new.ends.told } }) new
-    pub stays : is_to_flush deed ≡ false → new ≡ record { core = core; sent = old.sent; ends = record old.ends { told = new.ends.told } }
+    pub done : IsDone meaning seat hand old.core core old.ends.told new.ends.told outcome
+    pub flushes : is_to_flush outcome ≡ true → HasFlushed (record { core = core; sent = old.sent; ends = record old.ends { told = new.ends.told } }) new
+    pub stays : is_to_flush outcome ≡ false → new ≡ record { core = core; sent = old.sent; ends = record old.ends { told = new.ends.told } }

@@ -3,26 +3,27 @@
 ghost use Rattle.std.specs.Prelude.{◌≡◌, ◌≢◌, ◌≤◌, ◌<◌, ℕ, None, IsSome, true, false, length, vec_len};
 ghost use Rattle.ame_io.specs.Lines.{lines};
 ghost use Rattle.ame_protocol.specs.declared.types.Task.{Task};
-ghost use Rattle.ame_protocol.specs.Engine.Parts.{task_at};
+ghost use Rattle.ame_protocol.specs.Engine.Parts.{member_of, task_at};
 ghost use Rattle.ame_protocol.specs.declared.stop.Stop.{Stop};
 ghost use Rattle.ame_engine.specs.Ending.{end_of};
 ghost use Rattle.ame_engine.specs.Stops.{stopped_by};
-ghost use Rattle.ame_turn.specs.declared.work.Deed.{Deed};
-ghost use Rattle.ame_turn.specs.declared.work.Work.{Work};
-ghost use Rattle.ame_turn.specs.Asked.{LacksWhereDue};
-ghost use Rattle.ame_turn.specs.Ready.{IsReadyWork, CanBePrepared};
-ghost use Rattle.ame_turn.specs.Work.{stage_at, Fits};
+ghost use Rattle.ame_shell.specs.declared.work.Work.{Work};
+ghost use Rattle.ame_shell.specs.Asked.{LacksAsDue};
+ghost use Rattle.ame_shell.specs.Ready.{CanBePrepared};
+ghost use Rattle.ame_shell.specs.Work.{stage_at, Fits};
 ghost use Rattle.ame_shell.specs.Ends.{ends_of};
 ghost use Rattle.ame_shell.specs.Over.{IsOverSince};
 ghost use Rattle.ame_shell.specs.Shell.{shell_view, Opening, IsShell};
-ghost use Rattle.ame_shell.specs.Turned.{HasFlushed, is_to_flush as flushes_after, HasTurned};
+ghost use Rattle.ame_shell.specs.Turned.{HasFlushed, is_to_flush as flushes_after, IsInOrder, HasTurned, member_told};
 
+use crate::acts::act;
 use crate::remains::Remains;
+use crate::work::{Outcome, Turn, Work};
 use ame_device::Device;
 use ame_engine::{Engine, Stop};
 use ame_io::{Sink, WriteFault, write_all};
 use ame_machine::Runner;
-use ame_turn::{Deed, Turned, Work, act};
+use ame_protocol::Task;
 
 /// An engine, the sink to which the lines of its output go, with how many bytes were sent, and its devices.
 pub struct Shell<M: Runner, K, D>
@@ -50,10 +51,25 @@ where
 }
 
 /// Whether lines may have come of what a seat did.
-fn is_to_flush(deed: Deed) -> bool
-    ensures { result ≡ flushes_after deed }
+fn is_to_flush(outcome: Outcome) -> bool
+    ensures { result ≡ flushes_after outcome }
 {
-    matches!(deed, Deed::Ended | Deed::Left | Deed::CameHome)
+    matches!(outcome, Outcome::Ended | Outcome::Left | Outcome::CameHome)
+}
+
+/// The member that a seat has at work.
+fn member_at<M: Runner>(engine: &Engine<M>, seat: u32) -> Option<u64>
+where
+    M::Code: Drop,
+    requires { seat < engine.now.limits.seats }
+    ensures { result ≡ member_of (task_at engine.now.tasks seat) }
+{
+    match engine.task(seat) {
+        Task::Idle => None,
+        Task::Running(attempt) | Task::Free(attempt) | Task::Undoing(attempt, _) => {
+            Some(attempt.tried.number)
+        }
+    }
 }
 
 impl<M: Runner, K: Sink, D: Device> Shell<M, K, D>
@@ -80,49 +96,50 @@ where
     }
 
     /// Sends the lines that came of what a seat did.
-    fn flush_after(&mut self, deed: Deed)
+    fn flush_after(&mut self, outcome: Outcome)
         requires within { self.old.sent ≤ length (lines self.old.engine.output) }
-        requires going { flushes_after deed ≡ true → self.old.engine.stop ≡ None }
-        ensures flushes { flushes_after deed ≡ true
+        requires going { flushes_after outcome ≡ true → self.old.engine.stop ≡ None }
+        ensures flushes { flushes_after outcome ≡ true
             → HasFlushed (shell_view K.written K.faults D.device_heard D.device_faults self.old)
             (shell_view K.written K.faults D.device_heard D.device_faults self.new) }
-        ensures stays { flushes_after deed ≡ false → self.new ≡ self.old }
+        ensures stays { flushes_after outcome ≡ false → self.new ≡ self.old }
         ensures devices { self.new.devices ≡ self.old.devices }
     {
-        if is_to_flush(deed) {
+        if is_to_flush(outcome) {
             self.flush();
         }
     }
 
-    /// One event of a seat, as `act` makes it. Lines that come of it are sent then; where the sink fails, that stop is kept.
-    pub fn turn(&mut self, code: &M::Code, seat: u32, work: Work<M>, lacks: bool) -> Turned<M>
-        requires code { code.now ≡ self.old.engine.code }
+    /// One event of a seat, exactly the one that the engine, the seat's work in flight and what its machine wants name. Lines that come
+    /// of it are sent then; where the sink fails, that stop is kept. Where the machine isn't ready, memory was lacking.
+    pub fn turn(&mut self, code: &M::Code, seat: u32, work: &mut Work<M>) -> Turn
+        requires order { IsInOrder M.meaning self.old.engine self.old.sent code.now (vec_len self.old.devices) }
         requires seat { seat < self.old.engine.limits.seats }
-        requires fits { Fits M.meaning self.old.engine seat work }
-        requires ready { lacks ≡ false → IsReadyWork M.meaning.stage self.old.engine.code self.old.engine.limits.slice work }
-        requires devices { (M.meaning.signature self.old.engine.code).devices ≤ vec_len self.old.devices }
-        requires sent { self.old.sent ≤ length (lines self.old.engine.output) }
-        ensures turned { HasTurned M.meaning seat (stage_at M.meaning.stage self.old.engine.code work)
+        requires fits { Fits M.meaning self.old.engine seat work.old }
+        ensures turned { HasTurned M.meaning seat (stage_at M.meaning.stage self.old.engine.code work.old)
             (shell_view K.written K.faults D.device_heard D.device_faults self.old)
-            (shell_view K.written K.faults D.device_heard D.device_faults self.new) result.deed }
-        ensures lacks { lacks ≡ true → self.old.engine.stop ≡ None → result.deed ≡ Deed.Lacked }
-        ensures due { lacks ≡ false → LacksWhereDue self.old.engine seat (stage_at M.meaning.stage self.old.engine.code work) result.deed }
+            (shell_view K.written K.faults D.device_heard D.device_faults self.new) result.outcome }
+        ensures member { result.member ≡ member_told (member_of (task_at self.old.engine.tasks seat)) (member_of (task_at self.new.engine.tasks seat)) }
+        ensures lacks { LacksAsDue M.meaning.stage self.old.engine seat work.old result.outcome }
         ensures keeps { (opening : Opening M.Code)
-            → IsShell M.meaning.program opening (shell_view K.written K.faults D.device_heard D.device_faults self.old)
-            → IsShell M.meaning.program opening (shell_view K.written K.faults D.device_heard D.device_faults self.new) }
-        ensures fits { Fits M.meaning self.new.engine seat result.work }
+            → IsShell M.meaning opening (shell_view K.written K.faults D.device_heard D.device_faults self.old)
+            → IsShell M.meaning opening (shell_view K.written K.faults D.device_heard D.device_faults self.new) }
+        ensures order { IsInOrder M.meaning self.new.engine self.new.sent code.now (vec_len self.new.devices) }
+        ensures limits { self.new.engine.limits ≡ self.old.engine.limits }
+        ensures fits { Fits M.meaning self.new.engine seat work.new }
         ensures others { (other : ℕ) (rest : Work M) → other ≢ seat → Fits M.meaning self.old.engine other rest
             → Fits M.meaning self.new.engine other rest }
-        ensures can { CanBePrepared M.meaning.is_machine M.meaning.stage self.new.engine.code self.new.engine.limits.slice result.work }
-        ensures code { self.new.engine.code ≡ self.old.engine.code }
-        ensures limits { self.new.engine.limits ≡ self.old.engine.limits }
-        ensures count { vec_len self.new.devices ≡ vec_len self.old.devices }
-        ensures sent { self.new.sent ≤ length (lines self.new.engine.output) }
+        ensures can { CanBePrepared M.meaning.is_machine M.meaning.stage self.new.engine.code self.new.engine.limits.slice work.new }
     {
         self.engine.stands();
-        let turned = act(&mut self.engine, code, seat, work, lacks, &mut self.devices);
-        self.flush_after(turned.deed);
-        turned
+        let before = member_at(&self.engine, seat);
+        let outcome = act(&mut self.engine, code, seat, work, &mut self.devices);
+        self.flush_after(outcome);
+        let after = member_at(&self.engine, seat);
+        Turn {
+            member: before.or(after),
+            outcome,
+        }
     }
 
     /// Sink and devices, as they are.
@@ -144,7 +161,7 @@ where
         requires idle { (seat : ℕ) → task_at self.engine.tasks seat ≡ Task.Idle }
         ensures told { result.ended ≡ end_of (stopped_by Stop.NoMemory self.engine) }
         ensures over { (opening : Opening M.Code)
-            → IsShell M.meaning.program opening (shell_view K.written K.faults D.device_heard D.device_faults self)
+            → IsShell M.meaning opening (shell_view K.written K.faults D.device_heard D.device_faults self)
             → IsOverSince opening.base (M.meaning.program opening.code) (M.meaning.signature opening.code) opening.limits (M.meaning.value_of opening.code) opening.ends result.ended
             (ends_of K.written K.faults D.device_heard D.device_faults result.sink result.devices.items) }
     {
@@ -159,7 +176,7 @@ where
         requires stopped { IsSome self.engine.stop }
         ensures told { result.ended ≡ end_of self.engine }
         ensures over { (opening : Opening M.Code)
-            → IsShell M.meaning.program opening (shell_view K.written K.faults D.device_heard D.device_faults self)
+            → IsShell M.meaning opening (shell_view K.written K.faults D.device_heard D.device_faults self)
             → IsOverSince opening.base (M.meaning.program opening.code) (M.meaning.signature opening.code) opening.limits (M.meaning.value_of opening.code) opening.ends result.ended
             (ends_of K.written K.faults D.device_heard D.device_faults result.sink result.devices.items) }
     {

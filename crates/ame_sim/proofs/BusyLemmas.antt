@@ -24,7 +24,7 @@ module _ {M : Type 0} where
       same : (n : ℕ) → (n == n) ≡ true
       same n = grind arith
 
-  -- one that is found behind has a higher number
+  -- a member that is found after it has a higher number
   above : (m : Member M) (ms : List (Member M)) (number : ℕ) → All (λ k. m.number < k.number) ms → IsBusyAt number ms → IsBusyAt number (m ∷ ms)
   above m ms number low at = by (cases_Bool (m.number == number))
     where

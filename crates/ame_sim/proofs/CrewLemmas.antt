@@ -1,10 +1,9 @@
--- What seats have at hand.
-use Rattle.std.proofs.Common.{◌≡◌, ◌≢◌, ℕ, zero, suc, ◌<◌, ◌≤◌, ◌⊎◌, inl, inr, true, false, List, Option, Some, length, set, IsTrue, refl, sym, ap, ◌∙◌, subst, arith}
+-- The work in flight of the seats of a crew.
+use Rattle.std.proofs.Common.{◌≡◌, ◌≢◌, ℕ, zero, suc, ◌<◌, ◌≤◌, ◌⊎◌, inl, inr, List, Option, Some, length, set, IsTrue, refl, sym, ap, ◌∙◌, subst, arith}
 use Rattle.std.specs.Prelude.{slice_index_or, replicate}
 use Rattle.std.specs.List.{list_any}
 use Rattle.std.proofs.lemmas.List.{get_or-set_same, get_or-set_other, length-set, length-replicate}
 use Rattle.ame_protocol.specs.Event.Seated.{AreSeated}
-use Rattle.ame_io.specs.Lines.{lines}
 use Rattle.ame_machine.specs.MachineView.{MachineView}
 use Rattle.ame_machine.specs.Meaning.{Meaning}
 use Rattle.ame_pool.specs.Begin.{oldest}
@@ -23,15 +22,15 @@ use Rattle.ame_engine.specs.Seen.{parts_of, term_shown}
 use Rattle.ame_engine.specs.Stops.{stopped_by}
 use Rattle.ame_engine.specs.Whole.{AreLimits}
 use Rattle.ame_shell.specs.Shell.{ShellView}
-use Rattle.ame_shell.specs.Turned.{HasTurned}
+use Rattle.ame_shell.specs.Turned.{IsInOrder, HasTurned, member_told}
 use Rattle.ame_shell.proofs.OrderLemmas.{order-stays}
-use Rattle.ame_sim.specs.Places.{member_told, place_wanted, place_told}
+use Rattle.ame_sim.specs.Places.{place_wanted, place_told}
 use Rattle.ame_sim.specs.Played.{HasPlayed}
-use Rattle.ame_turn.specs.declared.work.Deed.{Deed}
-use Rattle.ame_turn.specs.declared.work.Work.{Work}
-use Rattle.ame_turn.specs.declared.work.Work.TheVariants as work
-use Rattle.ame_turn.specs.Work.{Fits, stage_at}
-use Rattle.ame_turn.proofs.OthersLemmas.{stays-on}
+use Rattle.ame_shell.specs.declared.work.Outcome.{Outcome}
+use Rattle.ame_shell.specs.declared.work.Work.{Work}
+use Rattle.ame_shell.specs.declared.work.Work.TheVariants as work
+use Rattle.ame_shell.specs.Work.{Fits}
+use Rattle.ame_shell.proofs.RestLemmas.{by-stop}
 use Rattle.ame_sim.specs.Crew.{IsCrew, SomeSeatIsAtWork}
 use Rattle.ame_sim.proofs.BusyLemmas.{busy-there, busy-shown, busy-seat}
 
@@ -61,81 +60,54 @@ module _ {C V M : Type 0} (meaning : Meaning C V M) where
   }
 
   -- and after a seat's turn
-  pub crew-turned : (old new : Core C V M) (code : C) (hands : List (Work M)) (seat : ℕ) (mid last : Work M) (before after sent later : ℕ)
-      → IsCrew meaning old sent code hands before
-      → seat < length hands → new.code ≡ old.code → new.limits ≡ old.limits → Fits meaning new seat last
+  pub crew-turned : (old new : Core C V M) (code : C) (hands : List (Work M)) (seat : ℕ) (last : Work M) (before after sent later : ℕ)
+      → IsCrew meaning old sent code hands before → seat < length hands → IsInOrder meaning new later code after → new.limits ≡ old.limits
+      → Fits meaning new seat last
       → ((other : ℕ) (rest : Work M) → other ≢ seat → Fits meaning old other rest → Fits meaning new other rest)
-      → after ≡ before → later ≤ length (lines new.output)
-      → IsCrew meaning new later code (set (set hands seat mid) seat last) after
-  crew-turned old new code hands seat mid last before after sent later crew within same limits fits others tools more = record {
-    order = order-stays meaning old new code sent later before after crew.order same limits tools more;
-    count = length-set (set hands seat mid) seat last ∙ length-set hands seat mid ∙ crew.count ∙ ap (λ (l : Limits). l.seats) (sym limits);
+      → IsCrew meaning new later code (set hands seat last) after
+  crew-turned old new code hands seat last before after sent later crew within order limits fits others = record {
+    order = order;
+    count = length-set hands seat last ∙ crew.count ∙ ap (λ (l : Limits). l.seats) (sym limits);
     fit = λ other. by other (which other seat);
   }
     where
-      by : (other : ℕ) → (other ≡ seat) ⊎ ((other ≡ seat) → ⊥)
-          → Fits meaning new other (slice_index_or (set (set hands seat mid) seat last) other work.Idle)
+      by : (other : ℕ) → (other ≡ seat) ⊎ ((other ≡ seat) → ⊥) → Fits meaning new other (slice_index_or (set hands seat last) other work.Idle)
       by other (inl here) =
-          let is : slice_index_or (set (set hands seat mid) seat last) seat work.Idle ≡ last =
-          get_or-set_same (set hands seat mid) seat last work.Idle (subst (λ (n : ℕ). seat < n) (sym (length-set hands seat mid)) within) in
-          subst (λ (k : ℕ). Fits meaning new k (slice_index_or (set (set hands seat mid) seat last) k work.Idle)) (sym here)
+          let is : slice_index_or (set hands seat last) seat work.Idle ≡ last = get_or-set_same hands seat last work.Idle within in
+          subst (λ (k : ℕ). Fits meaning new k (slice_index_or (set hands seat last) k work.Idle)) (sym here)
           (subst (λ (w : Work M). Fits meaning new seat w) (sym is) fits)
       by other (inr apart) =
-          let is : slice_index_or (set (set hands seat mid) seat last) other work.Idle ≡ slice_index_or hands other work.Idle =
-          get_or-set_other (set hands seat mid) seat other last work.Idle apart ∙ get_or-set_other hands seat other mid work.Idle apart in
+          let is : slice_index_or (set hands seat last) other work.Idle ≡ slice_index_or hands other work.Idle =
+          get_or-set_other hands seat other last work.Idle apart in
           subst (λ (w : Work M). Fits meaning new other w) (sym is)
           (others other (slice_index_or hands other work.Idle) apart (crew.fit other))
 
-  -- what is at hand fits once a stop is kept
-  fits-stopped : (why : Stop) (core : Core C V M) (seat : ℕ) (w : Work M) → Fits meaning core seat w → Fits meaning (stopped_by why core) seat w
-  fits-stopped why core seat work.Idle h = h
-  fits-stopped why core seat (work.Running m) h = record {
-    on = record {
-      machine = h.on.machine;
-      stands =
-          stays-on (parts_of meaning core) (parts_of meaning (stopped_by why core)) seat (meaning.stage core.code m) refl refl (λ a e. refl) h.on.stands;
-    };
-    within = h.within;
-  }
-  fits-stopped why core seat work.Undoing h = record {
-    busy = h.busy;
-    undoes = λ going. absurd (let clash : true ≡ false = going in cc);
-  }
-
+  -- and once a stop is kept
   pub crew-stopped : (why : Stop) (core : Core C V M) (sent : ℕ) (code : C) (hands : List (Work M)) (tools : ℕ) → IsCrew meaning core sent code hands tools
       → IsCrew meaning (stopped_by why core) sent code hands tools
   crew-stopped why core sent code hands tools crew = record {
     order = order-stays meaning core (stopped_by why core) code sent sent tools tools crew.order refl refl refl crew.order.within;
     count = crew.count;
-    fit = λ seat. fits-stopped why core seat (slice_index_or hands seat work.Idle) (crew.fit seat);
+    fit = λ seat. by-stop meaning core (stopped_by why core) seat why refl (slice_index_or hands seat work.Idle) (crew.fit seat);
   }
 
-  -- where the machine at hand stands is where the seat's run stands
-  pub hand-on : (core : Core C V M) (seat : ℕ) (w : Work M) → Fits meaning core seat w → (s : MachineView) → stage_at meaning.stage core.code w ≡ Some s
-      → IsOnSeat (parts_of meaning core) seat s
-  hand-on core seat (work.Running m) fits s e =
-      let is : meaning.stage core.code m ≡ s = cc in
-      subst (IsOnSeat (parts_of meaning core) seat) is fits.on.stands
-  hand-on core seat work.Idle fits s e = cc
-  hand-on core seat work.Undoing fits s e = cc
-
-  -- what a turn tells, piece by piece
-  pub turn-played : (seat : ℕ) (hand : Option MachineView) (old seen new : ShellView C V M) (deed : Deed) (before after member wanted place : Option ℕ) (cells : ℕ)
-      → seen ≡ old → ((s : MachineView) → hand ≡ Some s → IsOnSeat (parts_of meaning seen.core) seat s) → HasTurned meaning seat hand seen new deed
-      → before ≡ member_of (task_at seen.core.tasks seat) → after ≡ member_of (task_at new.core.tasks seat) → member ≡ member_told before after
-      → cells ≡ length seen.core.memory.cells → wanted ≡ place_wanted cells hand → place ≡ place_told deed wanted
-      → HasPlayed meaning (record { seat = seat; member = member; deed = deed; place = place }) old new
-  turn-played seat hand old seen new deed before after member wanted place cells is on turned was now its many wants told =
-      subst (λ (v : ShellView C V M). HasPlayed meaning (record { seat = seat; member = member; deed = deed; place = place }) v new) is
+  -- the effect of a turn, from its parts
+  pub turn-played : (seat : ℕ) (hand : Option MachineView) (old seen new : ShellView C V M) (outcome : Outcome) (member wanted place : Option ℕ) (cells : ℕ)
+      → seen ≡ old → ((s : MachineView) → hand ≡ Some s → IsOnSeat (parts_of meaning seen.core) seat s) → HasTurned meaning seat hand seen new outcome
+      → member ≡ member_told (member_of (task_at seen.core.tasks seat)) (member_of (task_at new.core.tasks seat))
+      → cells ≡ length seen.core.memory.cells → wanted ≡ place_wanted cells hand → place ≡ place_told outcome wanted
+      → HasPlayed meaning (record { seat = seat; member = member; outcome = outcome; place = place }) old new
+  turn-played seat hand old seen new outcome member wanted place cells is on turned named many wants told =
+      subst (λ (v : ShellView C V M). HasPlayed meaning (record { seat = seat; member = member; outcome = outcome; place = place }) v new) is
       (record {
         hand = hand;
         stands = on;
         turned = turned;
-        member = its ∙ ap (λ (b : Option ℕ). member_told b after) was ∙ ap (member_told (member_of (task_at seen.core.tasks seat))) now;
-        place = told ∙ ap (place_told deed) (wants ∙ ap (λ (n : ℕ). place_wanted n hand) many);
+        member = named;
+        place = told ∙ ap (place_told outcome) (wants ∙ ap (λ (n : ℕ). place_wanted n hand) many);
       })
 
-  -- somebody is waited for that a seat has at work
+  -- a member is waited for that some seat has at work
   pub waits-for-seat : (core : Core C V M) → Simulates (parts_of meaning core) → AreSeated (parts_of meaning core) → IsRising core.pool.members
       → (oldest core.pool ≡ Oldest.Wait → IsTrue (list_any is_busy core.pool.members)) → SomeSeatIsAtWork core
   waits-for-seat core stands seated rising some waits =

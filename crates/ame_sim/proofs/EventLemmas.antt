@@ -22,10 +22,10 @@ use Rattle.ame_engine.specs.Stops.{stopped_by}
 use Rattle.ame_engine.proofs.HaltLemmas.{makes-halted, outside-apart}
 use Rattle.ame_shell.specs.Shell.{Opening, ShellView}
 use Rattle.ame_shell.specs.Turned.{HasFlushed, is_to_flush, HasTurned}
-use Rattle.ame_shell.proofs.DeedLemmas.{deed-more}
-use Rattle.ame_turn.specs.declared.work.Deed.{Deed}
-use Rattle.ame_turn.specs.Deeds.{IsDeedOf, IsMade}
-use Rattle.ame_turn.proofs.DeedRows.{rowed}
+use Rattle.ame_shell.proofs.OutcomeLemmas.{outcome-more}
+use Rattle.ame_shell.specs.declared.work.Outcome.{Outcome}
+use Rattle.ame_shell.specs.Outcomes.{IsOutcomeOf, IsMade}
+use Rattle.ame_shell.proofs.OutcomeRows.{rowed}
 use Rattle.ame_sim.specs.declared.made.Made.{Made}
 use Rattle.ame_sim.specs.Crew.{lacking}
 use Rattle.ame_sim.specs.Events.{AreHalts, AreEventsOfPicks, IsRunOfPicks}
@@ -39,7 +39,7 @@ follows-then : (es rest : List Event) (s mid end : State) → Follows s es mid �
 follows-then [] rest s mid end run on = subst (λ (x : State). Follows x rest end) run on
 follows-then (e ∷ es) rest s mid end run on = (run.0, follows-then es rest (after e s) mid end run.1 on)
 
--- where a run ends with a halt that stop is kept
+-- if a run ends with a halt, its stop is kept
 halted-last : (es : List Event) (s end : State) (why : Stop) → Follows s (es ++ Event.Halt why ∷ []) end → end.stop ≡ Some why
 halted-last [] s end why run = ap (λ (x : State). x.stop) run.1
 halted-last (e ∷ es) s end why run = halted-last es (after e s) end why run.1
@@ -60,18 +60,18 @@ module _ {C V M : Type 0} (meaning : Meaning C V M) where
       (subst (λ (o : Option Stop). HasCause o core.certificates (parts_of meaning core)) going sound.caused) refl)
       (outside-leaves why (parts_of meaning core) outside)
 
-  -- A deed, while no stop is kept
+  -- An outcome, while no stop is kept
 
   module _ (seat : ℕ) (hand : Option MachineView) (old new : Core C V M) (before after : List Told) (going : old.stop ≡ None) where
     -- what it makes
-    record HasEvents (deed : Deed) : Type 0 where
+    record HasEvents (outcome : Outcome) : Type 0 where
       events : List Event
-      its : ((is_waited deed ≡ true) × (events ≡ []))
-          ⊎ ((e : Event) × (events ≡ e ∷ []) × IsDeedOf meaning seat hand old new before after deed e)
+      its : ((is_waited outcome ≡ true) × (events ≡ []))
+          ⊎ ((e : Event) × (events ≡ e ∷ []) × IsOutcomeOf meaning seat hand old new before after outcome e)
       follows : Follows (state_of meaning old) events (state_of meaning new)
 
-    made-events : (deed : Deed) → IsMade meaning seat hand old new before after deed → HasEvents deed
-    made-events _ (IsMade.makes deed e tells m) = record { events = e ∷ []; its = inr (e, refl, tells); follows = (m.may, m.state) }
+    made-events : (outcome : Outcome) → IsMade meaning seat hand old new before after outcome → HasEvents outcome
+    made-events _ (IsMade.makes outcome e tells m) = record { events = e ∷ []; its = inr (e, refl, tells); follows = (m.may, m.state) }
     made-events _ (IsMade.waits meets is) = record { events = []; its = inl (refl, refl); follows = ap (state_of meaning) is }
     made-events _ (IsMade.rests meets is) =
         absurd (let clash : false ≡ true = sym (ap is_some going) ∙ stopped-met old meets.meets in cc)
@@ -80,22 +80,22 @@ module _ {C V M : Type 0} (meaning : Meaning C V M) where
   abbrev Sent : Core C V M → Core C V M → Type 0
   Sent old new = (new ≡ old) ⊎ ((old.stop ≡ None) × (new ≡ stopped_by Stop.WriteFault old))
 
-  sent-so : (seat : ℕ) (hand : Option MachineView) (old new : ShellView C V M) (deed : Deed) (turned : HasTurned meaning seat hand old new deed)
+  sent-so : (seat : ℕ) (hand : Option MachineView) (old new : ShellView C V M) (outcome : Outcome) (turned : HasTurned meaning seat hand old new outcome)
       → Sent turned.core new.core
-  sent-so seat hand old new deed turned = by (is_to_flush deed) refl
+  sent-so seat hand old new outcome turned = by (is_to_flush outcome) refl
     where
       flushed : turned.core.stop ≡ None → HasFlushed (record { core = turned.core; sent = old.sent; ends = record old.ends { told = new.ends.told } }) new
           → Sent turned.core new.core
       flushed going (HasFlushed.sends appended stays same sent) = inl same
       flushed going (HasFlushed.fails gone first short risen same sent) = inr (going, same)
 
-      by : (b : Bool) → is_to_flush deed ≡ b → Sent turned.core new.core
+      by : (b : Bool) → is_to_flush outcome ≡ b → Sent turned.core new.core
       by true e =
-          flushed (deed-more meaning seat hand old.core turned.core old.ends.told new.ends.told deed e
-          (rowed meaning seat hand old.core turned.core old.ends.told new.ends.told deed turned.done)).going (turned.flushes e)
+          flushed (outcome-more meaning seat hand old.core turned.core old.ends.told new.ends.told outcome e
+          (rowed meaning seat hand old.core turned.core old.ends.told new.ends.told outcome turned.done)).going (turned.flushes e)
       by false e = inl (ap (λ (x : ShellView C V M). x.core) (turned.stays e))
 
-  -- Picks make events, of which a halt may be the last.
+  -- Picks make events. The last of them may be a halt.
   record HasRun (mades : List Made) (first last : ShellView C V M) (plays : Plays meaning mades first last) : Type 0 where
     events : List Event
     its : AreEventsOfPicks meaning mades first last plays events
@@ -105,7 +105,7 @@ module _ {C V M : Type 0} (meaning : Meaning C V M) where
 
   -- one pick more in front
   run-on : (made : Made) (mades : List Made) (first mid last : ShellView C V M) (going : first.core.stop ≡ None) (p : HasPlayed meaning made first mid)
-      (plays : Plays meaning mades mid last) (d : HasEvents made.seat p.hand first.core p.turned.core first.ends.told mid.ends.told going made.deed)
+      (plays : Plays meaning mades mid last) (d : HasEvents made.seat p.hand first.core p.turned.core first.ends.told mid.ends.told going made.outcome)
       → mid.core ≡ p.turned.core → HasRun mades mid last plays → HasRun (made ∷ mades) first last (mid, going, p, plays)
   run-on made mades first mid last going p plays d same run = record {
     events = d.events ++ run.events;
@@ -118,9 +118,9 @@ module _ {C V M : Type 0} (meaning : Meaning C V M) where
         (subst (λ (c : Core C V M). Follows (state first) d.events (state_of meaning c)) (sym same) d.follows) run.follows);
   }
 
-  -- the sink fails, and nobody is picked since
+  -- the sink fails, and no seat is picked since
   run-fails : (made : Made) (mades : List Made) (first mid last : ShellView C V M) (going : first.core.stop ≡ None) (p : HasPlayed meaning made first mid)
-      (plays : Plays meaning mades mid last) (d : HasEvents made.seat p.hand first.core p.turned.core first.ends.told mid.ends.told going made.deed)
+      (plays : Plays meaning mades mid last) (d : HasEvents made.seat p.hand first.core p.turned.core first.ends.told mid.ends.told going made.outcome)
       → p.turned.core.stop ≡ None → mid.core ≡ stopped_by Stop.WriteFault p.turned.core → Sound (state_of meaning p.turned.core)
       → HasRun (made ∷ mades) first last (mid, going, p, plays)
   run-fails made [] first mid last going p plays d none is sound =
@@ -141,11 +141,11 @@ module _ {C V M : Type 0} (meaning : Meaning C V M) where
   plays-run : (mades : List Made) (first last : ShellView C V M) (plays : Plays meaning mades first last) → Sound (state first) → HasRun mades first last plays
   plays-run [] first last plays sound = record { events = []; its = refl; halts = []; outside = inl refl; follows = ap state plays }
   plays-run (made ∷ mades) first last plays sound =
-      by (sent-so made.seat plays.2.hand first plays.0 made.deed plays.2.turned) (λ same. plays-run mades plays.0 last plays.3 (still same))
+      by (sent-so made.seat plays.2.hand first plays.0 made.outcome plays.2.turned) (λ same. plays-run mades plays.0 last plays.3 (still same))
     where
-      does : HasEvents made.seat plays.2.hand first.core plays.2.turned.core first.ends.told plays.0.ends.told plays.1 made.deed
+      does : HasEvents made.seat plays.2.hand first.core plays.2.turned.core first.ends.told plays.0.ends.told plays.1 made.outcome
       does =
-          made-events made.seat plays.2.hand first.core plays.2.turned.core first.ends.told plays.0.ends.told plays.1 made.deed plays.2.turned.done.event
+          made-events made.seat plays.2.hand first.core plays.2.turned.core first.ends.told plays.0.ends.told plays.1 made.outcome plays.2.turned.done.event
 
       so : Sound (state_of meaning plays.2.turned.core)
       so = sound-along does.events (state first) (state_of meaning plays.2.turned.core) does.follows sound
@@ -158,7 +158,7 @@ module _ {C V M : Type 0} (meaning : Meaning C V M) where
       by (inl same) rest = run-on made mades first plays.0 last plays.1 plays.2 plays.3 does same (rest same)
       by (inr fails) rest = run-fails made mades first plays.0 last plays.1 plays.2 plays.3 does fails.0 fails.1 so
 
-  -- Memory may be lacking at the end.
+  -- A run may be out of memory at the end.
   module _ (opening : Opening C) (mades : List Made) (first last now : ShellView C V M) (plays : Plays meaning mades first last)
       (fresh : state first ≡ started_state (meaning.program opening.code) (meaning.signature opening.code) opening.limits) (sound : Sound (state first)) where
     abbrev begun : State
@@ -167,7 +167,7 @@ module _ {C V M : Type 0} (meaning : Meaning C V M) where
     from-start : (es : List Event) (end : State) → Follows (state first) es end → Follows begun es end
     from-start es end h = subst (λ (s : State). Follows s es end) fresh h
 
-    -- where no stop is kept there was no halt
+    -- if no stop is kept, there was no halt
     run-lacks : (run : HasRun mades first last plays) → last.core.stop ≡ None → now ≡ lacking last → run.halts ≡ []
         → IsRunOfPicks meaning opening mades first last now plays
     run-lacks run going is none =

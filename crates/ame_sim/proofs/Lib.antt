@@ -1,6 +1,4 @@
 pub mod StrategyLemmas
-pub mod DrawnLemmas
-pub mod ListedLemmas
 pub mod WaitsLemmas
 pub mod QuestionsLemmas
 pub mod SignLemmas

@@ -1,4 +1,4 @@
--- Lists of which some items are left out.
+-- Lists without some of their items.
 use Rattle.std.proofs.Common.{ℕ, inl, inr, List, [], ◌∷◌, ◌++◌, refl}
 use Rattle.ame_sim.specs.Run.{IsSubsequence}
 

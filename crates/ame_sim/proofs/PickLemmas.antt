@@ -41,11 +41,6 @@ answered-more seats before after mades made once strategy was rest =
     (seats_of (picks_of mades)) (made.seat ∷ []) was once rest
     ∙ ap (λ picked. picked ++ after rest) (sym (seats-push mades made))
 
--- or that goes on as it did
-pub answered-none : (seats : ℕ) (before after : List (List ℕ) → List ℕ) (mades : List Made) → PicksSeats before [] [] after
-    → HasAnswered seats before mades after mades
-answered-none seats before after mades same strategy was rest = was rest ∙ ap (λ t. seats_of (picks_of mades) ++ t) (same rest)
-
 -- one answer more
 asked-along : (waits : List Bool) (picks : List Picked) (pick : Picked) → AreAnswers waits picks → Contains (may_be_picked (waits_along waits picks)) pick.seat
     → AreAnswers waits (picks ++ pick ∷ [])
@@ -60,13 +55,7 @@ asked-push seats mades made all one =
 
 -- Counts
 
-pub idles-push : (mades : List Made) (made : Made) → idles_of (picks_of (mades ++ made ∷ [])) ≡ idles_of (picks_of mades) + cond (is_waited made.deed) 1 0
-idles-push mades made =
-    let both = sum_by-append (λ (p : Picked). cond p.waited 1 0) (picks_of mades) (picked_by made ∷ []) in
-    let same = ap idles_of (picks-push mades made) in
-    omega (arith, both, same)
-
-pub turns-push : (mades : List Made) (made : Made) → turns_of (picks_of (mades ++ made ∷ [])) ≡ turns_of (picks_of mades) + cond (not (is_waited made.deed)) 1 0
+pub turns-push : (mades : List Made) (made : Made) → turns_of (picks_of (mades ++ made ∷ [])) ≡ turns_of (picks_of mades) + cond (not (is_waited made.outcome)) 1 0
 turns-push mades made =
     let both = sum_by-append (λ (p : Picked). cond (not p.waited) 1 0) (picks_of mades) (picked_by made ∷ []) in
     let same = ap turns_of (picks-push mades made) in

@@ -69,7 +69,7 @@ module _ {C V M : Type 0} (meaning : Meaning C V M) where
     going = λ _. sym fresh;
   }
 
-  -- while no stop is kept a run is where its picks lead
+  -- while no stop is kept, a run is at the shell to which its picks lead
   module _ (seats : ℕ) (first old : ShellView C V M) (mades : List Made) (h : IsPlaying meaning seats first old mades) (going : old.core.stop ≡ None) where
     last-is : old ≡ h.last
     last-is = by h.ends
@@ -106,7 +106,7 @@ module _ {C V M : Type 0} (meaning : Meaning C V M) where
       counts-on : turns_of (picks_of (mades ++ made ∷ [])) ≡ new.core.turns → HasCounted
       counts-on is = record { all = inl is; while = λ _. is }
 
-      none-waits : is_waited made.deed ≡ false → count_of (who_waits seats (picks_of (mades ++ made ∷ []))) ≡ 0
+      none-waits : is_waited made.outcome ≡ false → count_of (who_waits seats (picks_of (mades ++ made ∷ []))) ≡ 0
       none-waits did =
           ap count_of (waits-push seats mades made)
           ∙ ap (λ (b : Bool). count_of (cond b (set (who_waits seats (picks_of mades)) made.seat true)
@@ -114,9 +114,9 @@ module _ {C V M : Type 0} (meaning : Meaning C V M) where
           ∙ count-none (length (who_waits seats (picks_of mades)))
 
       has-counted : HasCounted
-      has-counted = by (cases_Bool (is_waited made.deed))
+      has-counted = by (cases_Bool (is_waited made.outcome))
         where
-          goes : is_waited made.deed ≡ false → GoesBy old.core.turns new.core.turns new.core.stop → HasCounted
+          goes : is_waited made.outcome ≡ false → GoesBy old.core.turns new.core.turns new.core.stop → HasCounted
           goes did (GoesBy.more up) =
               counts-on (let push = turns-push mades made in
               let by_one = ap {B = ℕ} (λ (b : Bool). cond (not b) 1 0) did in
@@ -132,13 +132,13 @@ module _ {C V M : Type 0} (meaning : Meaning C V M) where
             while = λ going. absurd (let clash : true ≡ false = sym kept ∙ ap is_some going in cc);
           }
 
-          by : (is_waited made.deed ≡ true) ⊎ (is_waited made.deed ≡ false) → HasCounted
+          by : (is_waited made.outcome ≡ true) ⊎ (is_waited made.outcome ≡ false) → HasCounted
           by (inl waits) =
-              let still = ap (λ (c : Core C V M). c.turns) (turn-waits meaning made.seat p.hand old new made.deed p.turned waits).same in
+              let still = ap (λ (c : Core C V M). c.turns) (turn-waits meaning made.seat p.hand old new made.outcome p.turned waits).same in
               counts-on (let push = turns-push mades made in
               let by_none = ap {B = ℕ} (λ (b : Bool). cond (not b) 1 0) waits in
               let before = was in omega (arith, push, by_none, before, still))
-          by (inr did) = goes did (turn-counts meaning made.seat p.hand old new made.deed p.turned going did)
+          by (inr did) = goes did (turn-counts meaning made.seat p.hand old new made.outcome p.turned going did)
 
       pub playing-more : IsPlaying meaning seats first new (mades ++ made ∷ [])
       playing-more =
@@ -154,28 +154,28 @@ module _ {C V M : Type 0} (meaning : Meaning C V M) where
               order =
                   subst (IsSubsequence (makers new.core.entries)) (sym (seats-push mades made))
                   (order-adds made.seat old.core.entries new.core.entries (seats_of (picks_of mades))
-                  (turn-adds meaning made.seat p.hand old new made.deed p.turned) h.told.order);
+                  (turn-adds meaning made.seat p.hand old new made.outcome p.turned) h.told.order);
               counted = all-counted seats new.core.turns (mades ++ made ∷ []) answered counts.all;
               few = few-idles seats new.core.turns (mades ++ made ∷ []) answered counts.all;
             };
             going = counts.while;
           }
 
-  -- Who waits
+  -- Waiting seats
 
   module _ (old new : ShellView C V M) (made : Made) (waits : List Bool) (p : HasPlayed meaning made old new) where
-    -- who waits still finds nobody who may begin
+    -- a seat that waits still finds no member that may begin
     pub resting-more : AreResting waits old.core → AreResting (waits_after waits (picked_by made)) new.core
-    resting-more rests seat = by (cases_Bool (is_waited made.deed))
+    resting-more rests seat = by (cases_Bool (is_waited made.outcome))
       where
-        by : (is_waited made.deed ≡ true) ⊎ (is_waited made.deed ≡ false) → get_or (waits_after waits (picked_by made)) seat false ≡ true → Rests new.core seat
+        by : (is_waited made.outcome ≡ true) ⊎ (is_waited made.outcome ≡ false) → get_or (waits_after waits (picked_by made)) seat false ≡ true → Rests new.core seat
         by (inl told) wait =
-            let w = turn-waits meaning made.seat p.hand old new made.deed p.turned told in
+            let w = turn-waits meaning made.seat p.hand old new made.outcome p.turned told in
             let here : get_or (set waits made.seat true) seat false ≡ true =
             sym (ap (λ (b : Bool). get_or (cond b (set waits made.seat true) (replicate (length waits) false)) seat false) told) ∙ wait in
             subst (λ (c : Core C V M). Rests c seat) (sym w.same) (at w here (which seat made.seat))
           where
-            at : HasWaited meaning made.seat p.hand old new made.deed p.turned → get_or (set waits made.seat true) seat false ≡ true
+            at : HasWaited meaning made.seat p.hand old new made.outcome p.turned → get_or (set waits made.seat true) seat false ≡ true
                 → (seat ≡ made.seat) ⊎ ((seat ≡ made.seat) → ⊥) → Rests old.core seat
             at w here (inl same) = subst (Rests old.core) (sym same) (record { idle = w.idle; met = w.met })
             at w here (inr apart) = rests seat (sym (get_or-set_other waits made.seat seat true false apart) ∙ here)
@@ -200,9 +200,9 @@ module _ {C V M : Type 0} (meaning : Meaning C V M) where
       limit = ap (λ (l : Limits). l.turns) limits
 
       less-going : new.core.stop ≡ None → picks_left None (new.core.limits.turns - new.core.turns) later < left_to_play old.core waits
-      less-going left_going = by (cases_Bool (is_waited made.deed))
+      less-going left_going = by (cases_Bool (is_waited made.outcome))
         where
-          goes : is_waited made.deed ≡ false → GoesBy old.core.turns new.core.turns new.core.stop
+          goes : is_waited made.outcome ≡ false → GoesBy old.core.turns new.core.turns new.core.stop
               → picks_left None (new.core.limits.turns - new.core.turns) later < left_to_play old.core waits
           goes did (GoesBy.none same kept) = absurd (let clash : true ≡ false = sym kept ∙ ap is_some left_going in cc)
           goes did (GoesBy.more up) =
@@ -219,10 +219,10 @@ module _ {C V M : Type 0} (meaning : Meaning C V M) where
               subst (λ (n : ℕ). n < left_to_play old.core waits) (sym now)
               (subst (λ (n : ℕ). left * (length waits + 1) + (length waits - 0) + 1 < n) (sym (left-before ∙ had)) falls)
 
-          by : (is_waited made.deed ≡ true) ⊎ (is_waited made.deed ≡ false)
+          by : (is_waited made.outcome ≡ true) ⊎ (is_waited made.outcome ≡ false)
               → picks_left None (new.core.limits.turns - new.core.turns) later < left_to_play old.core waits
           by (inl told) =
-              let w = turn-waits meaning made.seat p.hand old new made.deed p.turned told in
+              let w = turn-waits meaning made.seat p.hand old new made.outcome p.turned told in
               let left = new.core.limits.turns - new.core.turns in
               let same : left ≡ before = ap (λ (c : Core C V M). c.limits.turns - c.turns) w.same in
               let longer : later ≡ set waits made.seat true =
@@ -238,7 +238,7 @@ module _ {C V M : Type 0} (meaning : Meaning C V M) where
               ∙ ap (λ (n : ℕ). before * (length waits + 1) + (length waits - n) + 1) count in
               let had = left-before in
               omega (arith, now, had, count, long, few)
-          by (inr did) = goes did (turn-counts meaning made.seat p.hand old new made.deed p.turned going did)
+          by (inr did) = goes did (turn-counts meaning made.seat p.hand old new made.outcome p.turned going did)
 
       pub play-less : left_to_play new.core later < left_to_play old.core waits
       play-less = by new.core.stop refl
@@ -250,7 +250,7 @@ module _ {C V M : Type 0} (meaning : Meaning C V M) where
               subst (λ (o : Option Stop). picks_left o (new.core.limits.turns - new.core.turns) later < left_to_play old.core waits) (sym e)
               (let had = left-before in omega (arith, had))
 
--- Some seat may be picked: else all rest, and somebody is waited for whom a seat has at work.
+-- Some seat may be picked: if all rested, a member would be waited for that some seat has at work.
 pub some-may : {C V M : Type 0} (core : Core C V M) (waits : List Bool) → AreResting waits core → SomeSeatIsAtWork core → 1 ≤ core.limits.seats
     → length waits ≡ core.limits.seats → 0 < length (may_be_picked waits)
 some-may core waits rests work some long = by (cases_Bool (get_or waits 0 false))

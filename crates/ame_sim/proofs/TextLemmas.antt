@@ -1,28 +1,15 @@
 -- The text of a schedule.
-use Rattle.std.proofs.Common.{◌≡◌, ◌≢◌, ℕ, List, ◌++◌, codes, refl, sym, ap, ◌∙◌, append_assoc, arith}
+use Rattle.std.proofs.Common.{◌≡◌, ◌≢◌, ℕ, List, ◌++◌, codes, refl, sym, ◌∙◌, append_assoc, arith}
 use Rattle.std.proofs.lemmas.List.{append_cancel_left}
 use Rattle.ame_sim.specs.declared.schedule.fault.ScheduleFault.{ScheduleFault}
 use Rattle.ame_sim.specs.Schedule.{signs, schedule_line, IsScheduled, ExplainsSchedule, TakesSigns}
 use Rattle.ame_sim.proofs.SignLemmas.{signs-same, low-no_sign}
 
--- the text in three parts: what stands before the signs, the signs, and what stands behind them
+-- the text in three parts: the text before the signs, the signs, and the text after them
 parts : (picks program : List ℕ) → schedule_line picks ++ (codes "program\n" ++ program) ≡ codes "schedule " ++ (signs picks ++ (codes "\nprogram\n" ++ program))
 parts picks program = simp append_assoc refl
 
--- a text that was read, part by part, is that of a schedule
-pub scheduled-read : (text line picks rest program : List ℕ) → text ≡ codes "schedule " ++ line → TakesSigns line picks rest →
-    rest ≡ codes "\nprogram\n" ++ program → IsScheduled text picks program
-scheduled-read text line picks rest program front taken last = record {
-  seats = taken.seats;
-  spelled =
-      front ∙ ap (λ t. codes "schedule " ++ t) (taken.spelled ∙ ap (λ t. signs picks ++ t) last) ∙ sym (parts picks program);
-}
-
--- a text that doesn't begin as a schedule does
-pub no_front : (text : List ℕ) → ((line : List ℕ) → text ≢ codes "schedule " ++ line) → ExplainsSchedule text ScheduleFault.BadSchedule
-no_front text none picks program is = none _ (is.spelled ∙ parts picks program)
-
--- What stands behind the signs is one text, so where it doesn't begin with two line ends, the whole is no schedule's.
+-- The text after the signs is determined, so if it doesn't begin with these lines, the whole is no schedule's.
 pub no_program : (text line picks rest : List ℕ) → text ≡ codes "schedule " ++ line → TakesSigns line picks rest →
     ((program : List ℕ) → rest ≢ codes "\nprogram\n" ++ program) → ExplainsSchedule text ScheduleFault.BadSchedule
 no_program text line picks rest front taken none others program is =

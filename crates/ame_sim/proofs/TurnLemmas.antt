@@ -1,4 +1,4 @@
--- What a turn of a seat leaves of an engine: one entry of the seat at most, and one turn more, or none.
+-- A turn of a seat adds at most one entry of that seat to an engine, and at most one turn.
 use Rattle.std.proofs.Common.{◌≡◌, ℕ, ◌+◌, inl, inr, Bool, true, false, List, [], ◌∷◌, ◌++◌, Option, Some, None, IsSome, refl, sym, ap, ◌∙◌, subst}
 use Rattle.std.specs.Prelude.{is_some, nat_lt, if◌then◌else◌}
 use Rattle.ame_device.specs.declared.told.Told.{Told}
@@ -27,12 +27,12 @@ use Rattle.ame_engine.specs.Seen.{parts_of, MakesEvent, MakesLastEvent}
 use Rattle.ame_engine.specs.Stops.{stopped_by}
 use Rattle.ame_protocol.specs.Event.Undoing.{reason_to_undo}
 use Rattle.ame_engine.specs.Visiting.{visited_at}
-use Rattle.ame_turn.specs.declared.work.Deed.{Deed}
-use Rattle.ame_turn.specs.Deeds.{StopsBy}
-use Rattle.ame_turn.proofs.DeedRows.{Spends, HasRow, rowed}
+use Rattle.ame_shell.specs.declared.work.Outcome.{Outcome}
+use Rattle.ame_shell.specs.Outcomes.{StopsBy}
+use Rattle.ame_shell.proofs.OutcomeRows.{Spends, HasRow, rowed}
 use Rattle.ame_shell.specs.Shell.{ShellView}
 use Rattle.ame_shell.specs.Turned.{HasFlushed, is_to_flush, HasTurned}
-use Rattle.ame_shell.proofs.DeedLemmas.{Adds, deed-silent}
+use Rattle.ame_shell.proofs.OutcomeLemmas.{Adds, outcome-silent}
 use Rattle.ame_sim.specs.Picks.{is_waited}
 
 -- an entry of this seat joins, or none
@@ -59,7 +59,7 @@ by-stop false false (Oldest.Member number) e = cc
 by-stop false true Oldest.Wait e = cc
 by-stop false false Oldest.Wait e = cc
 
--- nobody who may begin is met only where all wait
+-- a seat finds no member that may begin only if all wait
 by-idle : (stopped spent : Bool) (o : Oldest) → (if stopped then Pick.Stopped else pick_by spent o) ≡ Pick.Idle → o ≡ Oldest.Wait
 by-idle true spent o e = cc
 by-idle false spent Oldest.Empty e = cc
@@ -75,7 +75,7 @@ module _ {C V M : Type 0} where
   pub stopped-met : (core : Core C V M) → pick_of core ≡ Pick.Stopped → is_some core.stop ≡ true
   stopped-met core met = by-stop (is_some core.stop) (if nat_lt core.turns core.limits.turns then false else true) (oldest core.pool) met
 
-  -- where a stop is kept that is met
+  -- a seat that begins finds a stop that is kept
   pub stop-met : (core : Core C V M) → is_some core.stop ≡ true → pick_of core ≡ Pick.Stopped
   stop-met core kept =
       ap (λ (b : Bool). if b then Pick.Stopped else pick_by (if nat_lt core.turns core.limits.turns then false else true) (oldest core.pool)) kept
@@ -87,25 +87,25 @@ module _ {C V M : Type 0} (meaning : Meaning C V M) where
   -- An event
 
   module _ (seat : ℕ) (hand : Option MachineView) (old new : Core C V M) (before after : List Told) where
-    abbrev Done : Deed → Type 0
-    Done deed = HasRow meaning seat hand old new before after deed
+    abbrev Done : Outcome → Type 0
+    Done outcome = HasRow meaning seat hand old new before after outcome
 
-    deed-adds : (deed : Deed) → Done deed → AddsOne seat old.entries new.entries
-    deed-adds Deed.Ended h =
+    outcome-adds : (outcome : Outcome) → Done outcome → AddsOne seat old.entries new.entries
+    outcome-adds Outcome.Ended h =
         let e = h.event in
         AddsOne.one (ran_entry seat e.2.tried.number e.0.steps (place_shown e.0)) (ap (λ (p : Parts). p.entries) e.4.parts) refl
-    deed-adds Deed.Left h =
+    outcome-adds Outcome.Left h =
         let e = h.event in
         AddsOne.one (ran_entry seat e.2.tried.number e.0.steps (place_shown e.0)) (ap (λ (p : Parts). p.entries) e.4.parts) refl
-    deed-adds Deed.CameHome h =
+    outcome-adds Outcome.CameHome h =
         let e = h.event in
         let home = e.4 in
         AddsOne.one (free_entry seat e.2.tried.number home.comes.steps (with_answer home.answer (place_shown home.comes)))
         (ap (λ (p : Parts). p.entries) home.event.parts) refl
-    deed-adds (Deed.DeviceFailed device) h = AddsOne.nothing (ap (λ (p : Parts). p.entries) h.event.4.event.parts)
-    deed-adds deed h = adds-so seat old.entries new.entries (deed-silent meaning seat old new hand before after deed refl refl h.event).recorded.adds
+    outcome-adds (Outcome.DeviceFailed device) h = AddsOne.nothing (ap (λ (p : Parts). p.entries) h.event.4.event.parts)
+    outcome-adds outcome h = adds-so seat old.entries new.entries (outcome-silent meaning seat old new hand before after outcome refl refl h.event).recorded.adds
 
-    -- Turns, where no stop is kept
+    -- Turns, if no stop is kept
 
     module _ (going : old.stop ≡ None) where
       abbrev Goes : Type 0
@@ -140,40 +140,40 @@ module _ {C V M : Type 0} (meaning : Meaning C V M) where
       undo-counts next same =
           ap (λ (b : Bool). (if b then next else one_turn next).turns) (ap is_some going) ∙ ap (λ (n : ℕ). n + 1) same
 
-      pub deed-counts : (deed : Deed) → is_waited deed ≡ false → Done deed → Goes
-      deed-counts Deed.Began w h = let e = h.event in counted (one_counted Counted.Begin) (has_begun seat e.0) e.2 refl
-      deed-counts Deed.Waited w h = absurd (let clash : true ≡ false = w in cc)
-      deed-counts Deed.Stopped w h = let e = h.event in stops-so (certificates_in (parts old)) e.0 e.1.meets e.2
-      deed-counts Deed.Read w h = let e = h.event in counted (one_counted Counted.Read) (has_read seat e.1) e.3 refl
-      deed-counts Deed.Wrote w h = let e = h.event in counted (one_counted Counted.Write) (has_written seat e.1 e.2) e.6 refl
-      deed-counts (Deed.Met owner) w h = let e = h.event in counted (one_counted Counted.Conflict) (has_turned_back seat e.2) e.6 refl
-      deed-counts Deed.Allocated w h = let e = h.event in counted (one_counted Counted.Alloc) (has_allocated seat e.1 e.2 e.3) e.6 refl
-      deed-counts Deed.Checked w h = let e = h.event in counted (one_counted Counted.Check) (has_checked seat e.0.steps e.2) e.4 refl
-      deed-counts (Deed.FoundInvalid bad) w h = let t = h.event.2 in counted (one_invalid Counted.Check) (has_turned_back seat t.attempt) t.event refl
-      deed-counts Deed.Ended w h = let e = h.event in counted (one_counted Counted.Commit) (ended_at seat e.2.tried.number e.0) e.4 refl
-      deed-counts Deed.Left w h = let e = h.event in counted (one_counted Counted.Commit) (left_at seat e.2.tried.number e.0) e.4 refl
-      deed-counts (Deed.Refused bad) w h = let t = h.event.2 in counted (one_invalid Counted.Commit) (has_turned_back seat t.attempt) t.event refl
-      deed-counts Deed.Noted w h =
+      pub outcome-counts : (outcome : Outcome) → is_waited outcome ≡ false → Done outcome → Goes
+      outcome-counts Outcome.Began w h = let e = h.event in counted (one_counted Counted.Begin) (has_begun seat e.0) e.2 refl
+      outcome-counts Outcome.Waited w h = absurd (let clash : true ≡ false = w in cc)
+      outcome-counts Outcome.Stopped w h = let e = h.event in stops-so (certificates_in (parts old)) e.0 e.1.meets e.2
+      outcome-counts Outcome.Read w h = let e = h.event in counted (one_counted Counted.Read) (has_read seat e.1) e.3 refl
+      outcome-counts Outcome.Wrote w h = let e = h.event in counted (one_counted Counted.Write) (has_written seat e.1 e.2) e.6 refl
+      outcome-counts (Outcome.Met owner) w h = let e = h.event in counted (one_counted Counted.Conflict) (has_turned_back seat e.2) e.6 refl
+      outcome-counts Outcome.Allocated w h = let e = h.event in counted (one_counted Counted.Alloc) (has_allocated seat e.1 e.2 e.3) e.6 refl
+      outcome-counts Outcome.Checked w h = let e = h.event in counted (one_counted Counted.Check) (has_checked seat e.0.steps e.2) e.4 refl
+      outcome-counts (Outcome.FoundInvalid bad) w h = let t = h.event.2 in counted (one_invalid Counted.Check) (has_turned_back seat t.attempt) t.event refl
+      outcome-counts Outcome.Ended w h = let e = h.event in counted (one_counted Counted.Commit) (ended_at seat e.2.tried.number e.0) e.4 refl
+      outcome-counts Outcome.Left w h = let e = h.event in counted (one_counted Counted.Commit) (left_at seat e.2.tried.number e.0) e.4 refl
+      outcome-counts (Outcome.Refused bad) w h = let t = h.event.2 in counted (one_invalid Counted.Commit) (has_turned_back seat t.attempt) t.event refl
+      outcome-counts Outcome.Noted w h =
           let e = h.event in counted (one_counted Counted.Block) (has_noted seat e.2 e.0.steps (place_shown e.0)) e.4 refl
-      deed-counts (Deed.NotNoted bad) w h = let t = h.event.2 in counted (one_invalid Counted.Block) (has_turned_back seat t.attempt) t.event refl
-      deed-counts Deed.GrewTall w h =
+      outcome-counts (Outcome.NotNoted bad) w h = let t = h.event.2 in counted (one_invalid Counted.Block) (has_turned_back seat t.attempt) t.event refl
+      outcome-counts Outcome.GrewTall w h =
           let e = h.event in
           last (Stop.Tall e.2.tried.number) (one_counted Counted.Tall)
           (has_grown_tall seat e.2.tried.number e.0.steps (place_shown e.0) (task_at old.tasks seat)) e.5 refl
-      deed-counts (Deed.NotTall bad) w h = let t = h.event.2 in counted (one_invalid Counted.Tall) (has_turned_back seat t.attempt) t.event refl
-      deed-counts Deed.CameHome w h =
+      outcome-counts (Outcome.NotTall bad) w h = let t = h.event.2 in counted (one_invalid Counted.Tall) (has_turned_back seat t.attempt) t.event refl
+      outcome-counts Outcome.CameHome w h =
           let e = h.event in
           let home = e.4 in
           counted (one_counted Counted.Free) (visited_at seat e.2.tried.number home.answer home.comes home.memory) home.event refl
-      deed-counts (Deed.DeviceFailed device) w h =
+      outcome-counts (Outcome.DeviceFailed device) w h =
           let e = h.event in last (Stop.DeviceFault device) (one_counted Counted.Free) (has_been_refused seat e.2.tried.number) e.4.event refl
-      deed-counts Deed.Spent w h = spends hand h.event.1
-      deed-counts Deed.Undid w h =
+      outcome-counts Outcome.Spent w h = spends hand h.event.1
+      outcome-counts Outcome.Undid w h =
           let e = h.event in
           let task = task_at old.tasks seat in
           let next = with_task seat (Task.Undoing e.0 (reason_to_undo task)) (with_memory (undone_last seat (parts old).memory) (parts old)) in
           counted (one_undone (is_some old.stop)) (has_undone seat e.0 (reason_to_undo task)) e.2.event (undo-counts next refl)
-      deed-counts Deed.WentHome w h =
+      outcome-counts Outcome.WentHome w h =
           let e = h.event in
           let task = task_at old.tasks seat in
           let next = with_task seat Task.Idle (record (parts old) {
@@ -182,48 +182,48 @@ module _ {C V M : Type 0} (meaning : Meaning C V M) where
             tried = with_try e.0 (parts old).tried;
           }) in
           counted (one_undone (is_some old.stop)) (has_gone_home seat e.0 (reason_to_undo task)) e.2.event (undo-counts next refl)
-      deed-counts Deed.Lacked w h = stopped Stop.NoMemory h.event.1
+      outcome-counts Outcome.Lacked w h = stopped Stop.NoMemory h.event.1
 
   -- A turn
 
-  module _ (seat : ℕ) (hand : Option MachineView) (old new : ShellView C V M) (deed : Deed) (turned : HasTurned meaning seat hand old new deed) where
+  module _ (seat : ℕ) (hand : Option MachineView) (old new : ShellView C V M) (outcome : Outcome) (turned : HasTurned meaning seat hand old new outcome) where
     -- what is so after the event, with one more stop too, is so after the turn
     pub turn-on : (P : Core C V M → Type 0) → ((core : Core C V M) → P core → P (stopped_by Stop.WriteFault core)) → P turned.core → P new.core
-    turn-on P stops h = by (is_to_flush deed) refl
+    turn-on P stops h = by (is_to_flush outcome) refl
       where
         flushed : (mid : ShellView C V M) → P mid.core → HasFlushed mid new → P new.core
         flushed mid h (HasFlushed.sends appended stays same sent) = subst P (sym same) h
         flushed mid h (HasFlushed.fails gone first short risen same sent) = subst P (sym same) (stops mid.core h)
 
-        by : (b : Bool) → is_to_flush deed ≡ b → P new.core
+        by : (b : Bool) → is_to_flush outcome ≡ b → P new.core
         by true e = flushed (record { core = turned.core; sent = old.sent; ends = record old.ends { told = new.ends.told } }) h (turned.flushes e)
         by false e = subst P (sym (ap (λ (x : ShellView C V M). x.core) (turned.stays e))) h
 
     pub turn-adds : AddsOne seat old.core.entries new.core.entries
     turn-adds =
         turn-on (λ (core : Core C V M). AddsOne seat old.core.entries core.entries) (λ core x. x)
-        (deed-adds seat hand old.core turned.core old.ends.told new.ends.told deed
-        (rowed meaning seat hand old.core turned.core old.ends.told new.ends.told deed turned.done))
+        (outcome-adds seat hand old.core turned.core old.ends.told new.ends.told outcome
+        (rowed meaning seat hand old.core turned.core old.ends.told new.ends.told outcome turned.done))
 
-    pub turn-counts : old.core.stop ≡ None → is_waited deed ≡ false → GoesBy old.core.turns new.core.turns new.core.stop
+    pub turn-counts : old.core.stop ≡ None → is_waited outcome ≡ false → GoesBy old.core.turns new.core.turns new.core.stop
     turn-counts going did =
         turn-on (λ (core : Core C V M). GoesBy old.core.turns core.turns core.stop) still
-        (deed-counts seat hand old.core turned.core old.ends.told new.ends.told going deed did
-        (rowed meaning seat hand old.core turned.core old.ends.told new.ends.told deed turned.done))
+        (outcome-counts seat hand old.core turned.core old.ends.told new.ends.told going outcome did
+        (rowed meaning seat hand old.core turned.core old.ends.told new.ends.told outcome turned.done))
       where
         still : (core : Core C V M) → GoesBy old.core.turns core.turns core.stop → GoesBy old.core.turns core.turns (stopped_by Stop.WriteFault core).stop
         still core (GoesBy.more counted) = GoesBy.more counted
         still core (GoesBy.none same kept) = GoesBy.none same refl
 
-    -- who is told to wait is idle, and nothing changes
+    -- a seat that has to wait is idle, and nothing changes
     pub record HasWaited : Type 0 where
       pub idle : task_at old.core.tasks seat ≡ Task.Idle
       pub met : pick_of old.core ≡ Pick.Idle
       pub same : new.core ≡ old.core
 
-  pub turn-waits : (seat : ℕ) (hand : Option MachineView) (old new : ShellView C V M) (deed : Deed) (turned : HasTurned meaning seat hand old new deed)
-      → is_waited deed ≡ true → HasWaited seat hand old new deed turned
-  turn-waits seat hand old new Deed.Waited turned w =
-      let e = (rowed meaning seat hand old.core turned.core old.ends.told new.ends.told Deed.Waited turned.done).event in
+  pub turn-waits : (seat : ℕ) (hand : Option MachineView) (old new : ShellView C V M) (outcome : Outcome) (turned : HasTurned meaning seat hand old new outcome)
+      → is_waited outcome ≡ true → HasWaited seat hand old new outcome turned
+  turn-waits seat hand old new Outcome.Waited turned w =
+      let e = (rowed meaning seat hand old.core turned.core old.ends.told new.ends.told Outcome.Waited turned.done).event in
       record { idle = e.0.idle; met = e.0.meets; same = ap (λ (x : ShellView C V M). x.core) (turned.stays refl) ∙ e.1 }
   turn-waits seat hand old new _ turned w = cc

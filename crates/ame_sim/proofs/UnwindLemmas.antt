@@ -1,4 +1,4 @@
--- What undoing under a kept stop leaves.
+-- The effect of undoing under a kept stop.
 use Rattle.std.proofs.Common.{◌≡◌, ℕ, ◌+◌, ◌<◌, ◌≤◌, ◌⊎◌, inl, inr, Bool, true, false, List, length, set, Option, Some, None, refl, sym, ap, ◌∙◌, subst, arith}
 use Rattle.std.specs.Prelude.{◌-◌, cond, is_some, if◌then◌else◌}
 use Rattle.std.proofs.lemmas.Bool.{cases_lt, lt-ltb}
@@ -24,12 +24,12 @@ use Rattle.ame_protocol.specs.Event.Causes.{certificates_in}
 use Rattle.ame_engine.specs.Core.{Core}
 use Rattle.ame_engine.specs.Seen.{parts_of}
 use Rattle.ame_protocol.specs.Event.Undoing.{reason_to_undo}
-use Rattle.ame_turn.specs.declared.work.Deed.{Deed}
-use Rattle.ame_turn.specs.Deeds.{StopsBy}
-use Rattle.ame_turn.proofs.DeedRows.{HasRow, rowed}
+use Rattle.ame_shell.specs.declared.work.Outcome.{Outcome}
+use Rattle.ame_shell.specs.Outcomes.{StopsBy}
+use Rattle.ame_shell.proofs.OutcomeRows.{HasRow, rowed}
 use Rattle.ame_shell.specs.Shell.{ShellView}
 use Rattle.ame_shell.specs.Turned.{is_to_flush, HasTurned}
-use Rattle.ame_shell.proofs.DeedLemmas.{deed-more}
+use Rattle.ame_shell.proofs.OutcomeLemmas.{outcome-more}
 use Rattle.ame_sim.specs.Crew.{IsUnwound, undos_to_make, left_to_undo}
 use Rattle.ame_sim.proofs.TurnLemmas.{stop-met}
 
@@ -123,8 +123,8 @@ module _ {C V M : Type 0} (meaning : Meaning C V M) where
               absurd (let contra : ◌≡◌ {A = Option Attempt} None (Some attempt) = none in cc)
           by (inr apart) = ap (λ (ts : List Task). task_at ts other) new-tasks ∙ task_else old.tasks seat task other apart ∙ idle
 
-    deed-undid : HasRow meaning seat hand old new before after Deed.Undid → Unwinds seat old new
-    deed-undid h =
+    outcome-undid : HasRow meaning seat hand old new before after Outcome.Undid → Unwinds seat old new
+    outcome-undid h =
         let e = h.event in
         let reason = reason_to_undo (task_at old.tasks seat) in
         let task = Task.Undoing e.0 reason in
@@ -146,8 +146,8 @@ module _ {C V M : Type 0} (meaning : Meaning C V M) where
           less = λ busy. omega (arith, shorter, rows, left, had, was, is);
         }
 
-    deed-gone : HasRow meaning seat hand old new before after Deed.WentHome → Unwinds seat old new
-    deed-gone h =
+    outcome-gone : HasRow meaning seat hand old new before after Outcome.WentHome → Unwinds seat old new
+    outcome-gone h =
         let e = h.event in
         let next = with_task seat Task.Idle (record (parts old) {
           memory = undone_last seat (parts old).memory;
@@ -164,8 +164,8 @@ module _ {C V M : Type 0} (meaning : Meaning C V M) where
           less = λ busy. omega (arith, left, had);
         }
 
-    deed-stopped : HasRow meaning seat hand old new before after Deed.Stopped → Unwinds seat old new
-    deed-stopped h =
+    outcome-stopped : HasRow meaning seat hand old new before after Outcome.Stopped → Unwinds seat old new
+    outcome-stopped h =
         let e = h.event in
         let same : new ≡ old = by e.0 (met-clash e.0 e.1.meets) e.2 in
         record {
@@ -188,57 +188,52 @@ module _ {C V M : Type 0} (meaning : Meaning C V M) where
         by Pick.Idle met is = absurd is
         by (Pick.Member number) met is = absurd is
 
-    pub deed-unwinds : (deed : Deed) → HasRow meaning seat hand old new before after deed → Unwinds seat old new
-    deed-unwinds Deed.Undid h = deed-undid h
-    deed-unwinds Deed.WentHome h = deed-gone h
-    deed-unwinds Deed.Stopped h = deed-stopped h
-    deed-unwinds Deed.Began h = absurd (let contra : Pick.Stopped ≡ Pick.Member h.event.0 = met-clash (Pick.Member h.event.0) h.event.1.meets in cc)
-    deed-unwinds Deed.Waited h = absurd (let contra : Pick.Stopped ≡ Pick.Idle = met-clash Pick.Idle h.event.0.meets in cc)
-    deed-unwinds Deed.Read h = absurd (clash h.event.2.runs.asks.goes.going)
-    deed-unwinds Deed.Wrote h = absurd (clash h.event.3.runs.asks.goes.going)
-    deed-unwinds (Deed.Met owner) h = absurd (clash h.event.3.runs.asks.goes.going)
-    deed-unwinds Deed.Allocated h = absurd (clash h.event.4.runs.asks.goes.going)
-    deed-unwinds Deed.Checked h = absurd (clash h.event.1.goes.going)
-    deed-unwinds (Deed.FoundInvalid bad) h = absurd (clash h.event.1.goes.going)
-    deed-unwinds Deed.Ended h = absurd (clash h.event.1.asks.goes.going)
-    deed-unwinds Deed.Left h = absurd (clash h.event.1.asks.goes.going)
-    deed-unwinds (Deed.Refused bad) h = absurd (clash h.event.1.goes.going)
-    deed-unwinds Deed.Noted h = absurd (clash h.event.1.asks.goes.going)
-    deed-unwinds (Deed.NotNoted bad) h = absurd (clash h.event.1.asks.goes.going)
-    deed-unwinds Deed.GrewTall h = absurd (clash h.event.1.goes.going)
-    deed-unwinds (Deed.NotTall bad) h = absurd (clash h.event.1.asks.goes.going)
-    deed-unwinds Deed.CameHome h = absurd (clash h.event.1.goes.going)
-    deed-unwinds (Deed.DeviceFailed device) h = absurd (clash h.event.1.goes.going)
-    deed-unwinds Deed.Spent h = absurd (clash h.event.0.going)
-    deed-unwinds Deed.Lacked h = absurd (clash h.event.0)
+    pub outcome-unwinds : (outcome : Outcome) → HasRow meaning seat hand old new before after outcome → Unwinds seat old new
+    outcome-unwinds Outcome.Undid h = outcome-undid h
+    outcome-unwinds Outcome.WentHome h = outcome-gone h
+    outcome-unwinds Outcome.Stopped h = outcome-stopped h
+    outcome-unwinds Outcome.Began h = absurd (let contra : Pick.Stopped ≡ Pick.Member h.event.0 = met-clash (Pick.Member h.event.0) h.event.1.meets in cc)
+    outcome-unwinds Outcome.Waited h = absurd (let contra : Pick.Stopped ≡ Pick.Idle = met-clash Pick.Idle h.event.0.meets in cc)
+    outcome-unwinds Outcome.Read h = absurd (clash h.event.2.runs.asks.goes.going)
+    outcome-unwinds Outcome.Wrote h = absurd (clash h.event.3.runs.asks.goes.going)
+    outcome-unwinds (Outcome.Met owner) h = absurd (clash h.event.3.runs.asks.goes.going)
+    outcome-unwinds Outcome.Allocated h = absurd (clash h.event.4.runs.asks.goes.going)
+    outcome-unwinds Outcome.Checked h = absurd (clash h.event.1.goes.going)
+    outcome-unwinds (Outcome.FoundInvalid bad) h = absurd (clash h.event.1.goes.going)
+    outcome-unwinds Outcome.Ended h = absurd (clash h.event.1.asks.goes.going)
+    outcome-unwinds Outcome.Left h = absurd (clash h.event.1.asks.goes.going)
+    outcome-unwinds (Outcome.Refused bad) h = absurd (clash h.event.1.goes.going)
+    outcome-unwinds Outcome.Noted h = absurd (clash h.event.1.asks.goes.going)
+    outcome-unwinds (Outcome.NotNoted bad) h = absurd (clash h.event.1.asks.goes.going)
+    outcome-unwinds Outcome.GrewTall h = absurd (clash h.event.1.goes.going)
+    outcome-unwinds (Outcome.NotTall bad) h = absurd (clash h.event.1.asks.goes.going)
+    outcome-unwinds Outcome.CameHome h = absurd (clash h.event.1.goes.going)
+    outcome-unwinds (Outcome.DeviceFailed device) h = absurd (clash h.event.1.goes.going)
+    outcome-unwinds Outcome.Spent h = absurd (clash h.event.0.going)
+    outcome-unwinds Outcome.Lacked h = absurd (clash h.event.0)
 
   -- A turn under a kept stop sends nothing.
-  pub turn-unwinds : (seat : ℕ) (hand : Option MachineView) (old new : ShellView C V M) (deed : Deed) → Simulates (parts old.core)
-      → seat < old.core.limits.seats → is_some old.core.stop ≡ true → HasTurned meaning seat hand old new deed → Unwinds seat old.core new.core
-  turn-unwinds seat hand old new deed stands within kept turned = by (is_to_flush deed) refl
+  turn-unwinds : (seat : ℕ) (hand : Option MachineView) (old new : ShellView C V M) (outcome : Outcome) → Simulates (parts old.core)
+      → seat < old.core.limits.seats → is_some old.core.stop ≡ true → HasTurned meaning seat hand old new outcome → Unwinds seat old.core new.core
+  turn-unwinds seat hand old new outcome stands within kept turned = by (is_to_flush outcome) refl
     where
-      by : (b : Bool) → is_to_flush deed ≡ b → Unwinds seat old.core new.core
+      by : (b : Bool) → is_to_flush outcome ≡ b → Unwinds seat old.core new.core
       by true e =
           absurd (clash seat hand old.core turned.core old.ends.told new.ends.told stands within kept
-          (deed-more meaning seat hand old.core turned.core old.ends.told new.ends.told deed e
-          (rowed meaning seat hand old.core turned.core old.ends.told new.ends.told deed turned.done)).was)
+          (outcome-more meaning seat hand old.core turned.core old.ends.told new.ends.told outcome e
+          (rowed meaning seat hand old.core turned.core old.ends.told new.ends.told outcome turned.done)).was)
       by false e =
           subst (Unwinds seat old.core) (sym (ap (λ (x : ShellView C V M). x.core) (turned.stays e)))
-          (deed-unwinds seat hand old.core turned.core old.ends.told new.ends.told stands within kept deed
-          (rowed meaning seat hand old.core turned.core old.ends.told new.ends.told deed turned.done))
+          (outcome-unwinds seat hand old.core turned.core old.ends.told new.ends.told stands within kept outcome
+          (rowed meaning seat hand old.core turned.core old.ends.told new.ends.told outcome turned.done))
 
-  -- one after the other
-  pub unwound-none : (core : Core C V M) → IsUnwound core core
-  unwound-none core = record { limits = refl; stop = refl; turns = refl; entries = refl; output = refl }
-
-  pub unwound-then : (old mid new : Core C V M) → IsUnwound old mid → IsUnwound mid new → IsUnwound old new
-  unwound-then old mid new a b = record {
-    limits = b.limits ∙ a.limits;
-    stop = b.stop ∙ a.stop;
-    turns = b.turns ∙ a.turns;
-    entries = b.entries ∙ a.entries;
-    output = b.output ∙ a.output;
-  }
+  -- so it is of a crew, which contracts see as its shell
+  pub crew-unwinds : (seat : ℕ) (hand : Option MachineView) (old seen new : ShellView C V M) (outcome : Outcome) → seen ≡ old → Simulates (parts seen.core)
+      → seat < old.core.limits.seats → is_some old.core.stop ≡ true → HasTurned meaning seat hand seen new outcome → Unwinds seat old.core new.core
+  crew-unwinds seat hand old seen new outcome is stands within kept turned =
+      subst (λ (v : ShellView C V M). Unwinds seat v.core new.core) is
+      (turn-unwinds seat hand seen new outcome stands (subst (λ (v : ShellView C V M). seat < v.core.limits.seats) (sym is) within)
+      (subst (λ (v : ShellView C V M). is_some v.core.stop ≡ true) (sym is) kept) turned)
 
   -- who is no seat has nothing at work
   pub all-idle : (core : Core C V M) (last : ℕ) → Simulates (parts core) → core.limits.seats ≡ last

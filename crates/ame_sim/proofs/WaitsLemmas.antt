@@ -1,4 +1,4 @@
--- Who may be picked, where some seats wait.
+-- The seats that may be picked, while others wait.
 use Rattle.std.proofs.Common.{◌≡◌, ℕ, zero, suc, ◌⊎◌, inl, inr, ⊎_elim, true≢false, ◌+◌, ◌<◌, ◌≤◌, Bool, true, false, cond, List, [], ◌∷◌, ◌++◌, length, take, get_or, set, replicate, refl, sym, ap, ◌∙◌, append-nil, add-zero, arith}
 use Rattle.std.specs.List.{Contains, remove}
 use Rattle.std.proofs.lemmas.List.{take_more, length-take}
@@ -29,7 +29,7 @@ module _ (waits : List Bool) (i : ℕ) (below : i < length waits) where
   pub may-same : get_or waits i false ≡ true → may_be_picked (take (i + 1) waits) ≡ may_be_picked (take i waits)
   may-same is = more true is ∙ append-nil (may_be_picked (take i waits))
 
--- One that waits from now on is left out, behind those before it that don't wait.
+-- A seat that waits from now on is left out, after those before it that don't wait.
 pub left-out : (first i : ℕ) (waits : List Bool) → i < length waits → get_or waits i false ≡ false
     → remove (seats_from first waits) (length (seats_from first (take i waits))) ≡ seats_from first (set waits i true)
 left-out first i [] below free = absurd (omega arith)
@@ -53,7 +53,7 @@ length-seats_from seat [] = omega arith
 length-seats_from seat (true ∷ waits) = omega (arith, length-seats_from (seat + 1) waits)
 length-seats_from seat (false ∷ waits) = omega (arith, length-seats_from (seat + 1) waits)
 
--- Where all seats may be picked, none waits.
+-- If all seats may be picked, none waits.
 pub none-wait : (seat : ℕ) (waits : List Bool) → length waits ≤ length (seats_from seat waits) → waits ≡ replicate (length waits) false
 none-wait seat [] all = refl
 none-wait seat (true ∷ waits) all = absurd (omega (arith, length-seats_from (seat + 1) waits))
@@ -67,7 +67,7 @@ tail-contains y x xs (zero, below, is) = inl is
 tail-contains y x xs (suc place, below, is) =
     let shorter : place < length xs = omega arith in inr (place, shorter, is)
 
--- Who may be picked is a seat, and doesn't wait.
+-- A seat that may be picked is one of the seats, and doesn't wait.
 record IsFree (first seat : ℕ) (waits : List Bool) : Type 0 where
   place : ℕ
   is : seat ≡ first + place
@@ -96,7 +96,7 @@ free-seat seat waits has =
     let at = free-from 0 seat waits has in
     let same : at.place ≡ seat = omega (arith, at.is) in (omega (arith, at.below), ap (λ s. get_or waits s false) (sym same) ∙ at.free)
 
--- Where a seat doesn't wait, some may be picked.
+-- If a seat doesn't wait, some may be picked.
 some-from : (first place : ℕ) (waits : List Bool) → place < length waits → get_or waits place false ≡ false → 0 < length (seats_from first waits)
 some-from first place [] below free = absurd (omega arith)
 some-from first place (false ∷ waits) below free = omega arith

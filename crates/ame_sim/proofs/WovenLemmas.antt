@@ -1,4 +1,4 @@
--- What picks did, kept as picks and mades.
+-- Picks with their outcomes, kept as picks and mades.
 use Rattle.std.proofs.Common.{◌≡◌, ℕ, ◌+◌, Bool, true, false, not, cond, List, [], ◌∷◌, ◌++◌, length, refl, sym, ap, ◌∙◌, subst, append-nil, arith}
 use Rattle.std.proofs.lemmas.List.{length-append, map-append}
 use Rattle.std.proofs.lemmas.List.Sums.{sum_by-append, sum_by-cons}
@@ -43,37 +43,37 @@ woven-append (pick ∷ picks) more mades rest all = goes-by pick.seat pick.waite
 
 -- One pick more
 
--- what it did stands behind the others
+-- its made stands after the others
 pub record HasGrown (picks : List Picked) (mades : List Made) (made : Made) (more : List Picked) (later : List Made) : Type 0 where
   pub items : woven more later ≡ woven picks mades ++ made ∷ []
   pub kept : AreOfPicks more later
 
 module _ (picks : List Picked) (mades : List Made) (made : Made) (are : AreOfPicks picks mades) where
   grown : (later : List Made) → woven (picks ++ picked_by made ∷ []) later ≡ woven picks mades ++ made ∷ []
-      → length later ≡ length mades + cond (is_waited made.deed) 0 1 → HasGrown picks mades made (picks ++ picked_by made ∷ []) later
+      → length later ≡ length mades + cond (is_waited made.outcome) 0 1 → HasGrown picks mades made (picks ++ picked_by made ∷ []) later
   grown later items long = record {
     items = items;
     kept = record {
       told = ap picks_of items ∙ map-append picked_by (woven picks mades) (made ∷ []) ∙ ap (λ ps. ps ++ picked_by made ∷ []) are.told;
-      all = by (is_waited made.deed) refl;
+      all = by (is_waited made.outcome) refl;
     };
   }
     where
-      by : (waited : Bool) → is_waited made.deed ≡ waited → turns_of (picks ++ picked_by made ∷ []) ≡ length later
+      by : (waited : Bool) → is_waited made.outcome ≡ waited → turns_of (picks ++ picked_by made ∷ []) ≡ length later
       by waited is =
           let both = sum_by-append (λ (p : Picked). cond (not p.waited) 1 0) picks (picked_by made ∷ []) in
           let was = are.all in
           grind (arith, both, was, long, is)
 
 -- by whether it waited
-module _ (picks more : List Picked) (mades : List Made) (made : Made) (waited : Bool) (are : AreOfPicks picks mades) (is : waited ≡ is_waited made.deed)
+module _ (picks more : List Picked) (mades : List Made) (made : Made) (waited : Bool) (are : AreOfPicks picks mades) (is : waited ≡ is_waited made.outcome)
     (pushed : more ≡ picks ++ record { seat = made.seat; waited = waited } ∷ []) where
   one-more : picks ++ picked_by made ∷ [] ≡ more
   one-more = ap (λ (w : Bool). picks ++ record { seat = made.seat; waited = w } ∷ []) (sym is) ∙ sym pushed
 
   pub grown-waited : WaitsPlainly made → waited ≡ true → HasGrown picks mades made more mades
   grown-waited plain waits =
-      let told : is_waited made.deed ≡ true = sym is ∙ waits in
+      let told : is_waited made.outcome ≡ true = sym is ∙ waits in
       let one : woven (picked_by made ∷ []) [] ≡ made ∷ [] =
       ap (λ (w : Bool). woven (record { seat = made.seat; waited = w } ∷ []) []) told ∙ ap (λ m. m ∷ []) (sym (plain told)) in
       subst (λ ps. HasGrown picks mades made ps mades) one-more
@@ -84,7 +84,7 @@ module _ (picks more : List Picked) (mades : List Made) (made : Made) (waited : 
 
   pub grown-did : (later : List Made) → later ≡ mades ++ made ∷ [] → waited ≡ false → HasGrown picks mades made more later
   grown-did later its goes =
-      let did : is_waited made.deed ≡ false = sym is ∙ goes in
+      let did : is_waited made.outcome ≡ false = sym is ∙ goes in
       let one : woven (picked_by made ∷ []) (made ∷ []) ≡ made ∷ [] =
       ap (λ (w : Bool). woven (record { seat = made.seat; waited = w } ∷ []) (made ∷ [])) did in
       subst (λ ms. HasGrown picks mades made more ms) (sym its)

@@ -1,4 +1,4 @@
--- What the chooser of a seed picks.
+-- The strategy of the chooser of a seed.
 use Rattle.std.specs.Prelude.{ℕ, ◌+◌, ◌%◌, List, [], ◌∷◌, length, slice_index_or}
 use Rattle.ame_gen.specs.Stream.{next, stream_at}
 

@@ -1,4 +1,4 @@
--- What a run tells that one chooser made.
+-- The run that one chooser made.
 use Rattle.std.specs.Prelude.{◌≡◌, ℕ, ◌+◌, ◌*◌, ◌<◌, ◌≤◌, ◌⊎◌, false, List, [], ◌∷◌, length, map, replicate, All, None, IsSome}
 use Rattle.ame_sim.specs.Questions.{AreAnswers, idles_of, seats_of, turns_of}
 use Rattle.ame_journal.specs.declared.entry.Entry.{Entry}
@@ -13,7 +13,7 @@ use Rattle.ame_sim.specs.Picks.{picks_of}
 use Rattle.ame_sim.specs.Played.{Plays}
 use Rattle.ame_machine.specs.Meaning.{Meaning}
 
--- a list is the other one, of which some items are left out
+-- a list is the other one without some of its items
 abbrev pub IsSubsequence : List ℕ → List ℕ → Type 0
 IsSubsequence [] ys = Unit {0}
 IsSubsequence (x ∷ xs) [] = ⊥
@@ -23,9 +23,9 @@ IsSubsequence (x ∷ xs) (y ∷ ys) = ((x ≡ y) × IsSubsequence xs ys) ⊎ IsS
 abbrev pub makers : List Entry → List ℕ
 makers entries = map (λ entry. entry.seat) entries
 
--- Each pick was of a seat that might be picked, and so is no seat that was told to wait, until a turn was counted. The seats of the
+-- Each pick was of a seat that might be picked. So a seat that has to wait isn't picked until a turn was counted. The seats of the
 -- entries are, in order, among those that were picked. Picks are the turns and those that found nothing to do, or one more, which
--- stopped the run; those that found nothing to do are at most the seats times one more than the turns.
+-- stopped the run. Those that found nothing to do are at most the seats times one more than the turns.
 pub record AreTold (seats turns : ℕ) (mades : List Made) (entries : List Entry) : Type 0 where
   pub within : All (λ made. made.seat < seats) mades
   pub asked : AreAnswers (replicate seats false) (picks_of mades)
@@ -34,7 +34,7 @@ pub record AreTold (seats turns : ℕ) (mades : List Made) (entries : List Entry
   pub few : idles_of (picks_of mades) ≤ seats * (turns + 1)
 
 module _ {C V M : Type 0} (meaning : Meaning C V M) where
-  -- The picks of a run under way lead from its first shell to where it is now, but that memory may have been lacking since. Until it
+  -- The picks of a run under way lead from its first shell to its shell now, except that it may have run out of memory since. Until it
   -- stops, each pick that found something to do is a turn.
   pub record IsPlaying (seats : ℕ) (first now : ShellView C V M) (mades : List Made) : Type 0 where
     pub last : ShellView C V M
@@ -43,11 +43,11 @@ module _ {C V M : Type 0} (meaning : Meaning C V M) where
     pub told : AreTold seats now.core.turns mades now.core.entries
     pub going : now.core.stop ≡ None → turns_of (picks_of mades) ≡ now.core.turns
 
-  -- The picks of a run from its opening on lead to where a stop is kept, by events that follow one another. Stop, turns, entries and
-  -- output are those of the end: what is undone since tells nothing.
+  -- The picks of a run from its opening on lead to a shell with a kept stop, by events that follow one another. Stop, turns, entries and
+  -- output are those of the end: undoing changes none of them.
   pub record IsPlayed (opening : Opening C) (mades : List Made) (end : End V) : Type 0 where
     pub first : ShellView C V M
-    pub opened : IsShell meaning.program opening first
+    pub opened : IsShell meaning opening first
     pub fresh : state_of meaning first.core ≡ started_state (meaning.program opening.code) (meaning.signature opening.code) opening.limits
     pub now : ShellView C V M
     pub playing : IsPlaying opening.limits.seats first now mades

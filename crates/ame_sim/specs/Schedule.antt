@@ -13,7 +13,7 @@ signs picks = map sign picks
 abbrev pub AreSeats : List ℕ → Type 0
 AreSeats picks = All (λ seat. seat < 32) picks
 
--- the line of a schedule; where nobody was picked, its space stands all the same
+-- the line of a schedule; it has its space even if no seat was picked
 abbrev pub schedule_line : List ℕ → List ℕ
 schedule_line picks = codes "schedule " ++ signs picks ++ codes "\n"
 
@@ -35,7 +35,7 @@ pub record IsSignOf (byte seat : ℕ) : Type 0 where
 abbrev pub IsNoSign : ℕ → Type 0
 IsNoSign byte = (seat : ℕ) → seat < 32 → byte ≢ sign seat
 
--- no sign stands in front
+-- a text doesn't begin with a sign
 abbrev pub BeginsWithNoSign : List ℕ → Type 0
 BeginsWithNoSign text = (seat : ℕ) (rest : List ℕ) → seat < 32 → text ≢ sign seat ∷ rest
 

@@ -1,4 +1,4 @@
--- What choosers pick. A strategy says what would be picked, were these questions asked one after the other. A question is the
+-- The picks of choosers. A strategy says what would be picked, were these questions asked one after the other. A question is the
 -- list of the seats that may be picked.
 use Rattle.std.specs.Prelude.{◌≡◌, ℕ, List, ◌++◌}
 

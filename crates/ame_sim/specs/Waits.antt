@@ -1,8 +1,8 @@
--- Who may be picked, where some seats wait.
+-- The seats that may be picked, while others wait.
 use Rattle.std.specs.Prelude.{◌≡◌, ◌+◌, ◌<◌, ◌≤◌, ◌^◌, ℕ, Bool, true, false, List, [], ◌∷◌, Vec, vec_len, vec_capacity}
 use Rattle.std.specs.declared.alloc.Global.{Global}
 
--- the seats that don't wait, rising, where the first flag is of this seat
+-- the seats that don't wait, rising, if the first flag is that of this seat
 abbrev pub seats_from : ℕ → List Bool → List ℕ
 seats_from seat [] = []
 seats_from seat (true ∷ waits) = seats_from (seat + 1) waits

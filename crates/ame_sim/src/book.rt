@@ -1,4 +1,4 @@
-//! The book of a run: what each pick did, and so who may be picked next.
+//! The book of a run: what each pick did, and so which seats may be picked next.
 
 ghost use Rattle.std.specs.Prelude.{◌≡◌, ◌<◌, ◌++◌, ◌∷◌, [], false, true, length, IfOk, OnOk, replicate};
 ghost use Rattle.ame_sim.specs.Questions.{waits_after};
@@ -11,7 +11,7 @@ use crate::waits::Waits;
 use ame_term::NoMemory;
 use std::alloc::Global;
 
-/// What each pick did, and which of the seats wait.
+/// Records what each pick did, and which of the seats wait.
 #[derive(Drop)]
 pub struct Book {
     pub waits: Waits,
@@ -19,7 +19,7 @@ pub struct Book {
 }
 
 impl Book {
-    /// The book of a run of so many seats in which nobody was picked yet.
+    /// Opens the book of a run by this number of seats, before the first pick.
     pub fn new(alloc: Global, seats: u32) -> Result<Book, NoMemory>
         ensures waits { IfOk result (λ book. book.waits ≡ replicate seats false) }
         ensures none { IfOk result (λ book. book.mades.items ≡ []) }
@@ -30,7 +30,7 @@ impl Book {
         })
     }
 
-    /// Makes room for one pick more.
+    /// Makes room for one more pick.
     pub fn make_room(&mut self) -> Result<(), NoMemory>
         ensures room { OnOk result (self.new.mades.has_room ≡ true) }
         ensures waits { self.new.waits ≡ self.old.waits }
@@ -39,7 +39,7 @@ impl Book {
         self.mades.make_room()
     }
 
-    /// Notes what a pick did, in room that is there.
+    /// Notes what a pick did, in the reserved room.
     pub fn note(&mut self, made: Made)
         requires room { self.old.mades.has_room ≡ true }
         requires byte { made.seat < 256 }
@@ -48,7 +48,7 @@ impl Book {
         ensures waits { self.new.waits ≡ waits_after self.old.waits (picked_by made) }
         ensures noted { self.new.mades.items ≡ self.old.mades.items ++ made ∷ [] }
     {
-        if is_waited(made.deed) {
+        if is_waited(made.outcome) {
             self.waits.wait(made.seat);
         } else {
             self.waits.go_on();

@@ -1,4 +1,4 @@
-//! What a chooser promises.
+//! The trait of choosers, with their promises.
 ghost use Rattle.std.specs.Prelude.{ℕ, ◌<◌, List, [], ◌∷◌, Contains, length, IfOk, OnErr};
 ghost use Rattle.ame_sim.specs.Strategy.{PicksSeats};
 
@@ -9,7 +9,7 @@ use ame_term::NoMemory;
 pub trait Chooser: Drop {
     ghost strategy: { Self → List (List ℕ) → List ℕ };
 
-    /// Picks one of these seats. Where memory lacked, the same question may be asked again.
+    /// Picks one of these seats. If it runs out of memory, the same question may be asked again.
     fn choose(&mut self, may: &[u32]) -> Result<u32, NoMemory>
         requires some { 0 < length may.now }
         ensures picks { IfOk result (Contains may.now) }

@@ -13,24 +13,22 @@ ghost use Rattle.ame_shell.specs.Over.{IsOverSince};
 ghost use Rattle.ame_shell.specs.Shell.{Opening, IsShell};
 ghost use Rattle.ame_sim.specs.Crew.{lacking, left_to_undo, IsUnwound, SomeSeatIsAtWork};
 ghost use Rattle.ame_sim.specs.Played.{HasPlayed};
-ghost use Rattle.ame_turn.specs.declared.work.Work.TheVariants as work;
+ghost use Rattle.ame_shell.specs.declared.work.Work.TheVariants as work;
 
 use crate::hands::idle_hands;
 use crate::made::Made;
-use crate::places::{member_at, member_told, place_told, place_wanted};
+use crate::places::{place_told, place_wanted};
 use ame_device::Device;
 use ame_engine::{Engine, Stop};
 use ame_io::Sink;
 use ame_machine::Runner;
 use ame_protocol::{Limits, Task};
-use ame_shell::{Remains, Shell};
-use ame_turn::{Turned, Work, prepare_seat};
+use ame_shell::{Remains, Shell, Turn, Work, prepare_seat};
 use std::alloc::Global;
 use std::marker::Model;
-use std::mem;
 use std::sync::Arc;
 
-/// An engine with its sink and its devices, its code, and what each of its seats has at hand. Contracts see the shell.
+/// An engine with its sink and its devices, its code, and the work in flight of each seat. Contracts see the shell.
 #[derive(Drop)]
 pub struct Crew<M: Runner, K: Sink, D: Device>
 where
@@ -61,7 +59,7 @@ impl<M: Runner, K: Sink, D: Device> Crew<M, K, D>
 where
     M::Code: Drop,
 {
-    /// A crew whose seats are idle, and of which nothing was run. Where memory is lacking, sink and devices come back.
+    /// Opens a crew before its first turn, with idle seats. If it runs out of memory, it returns sink and devices.
     pub fn open(
         alloc: Global,
         code: Arc<M::Code>,
@@ -71,7 +69,7 @@ where
     ) -> Result<Crew<M, K, D>, (K, Vec<D>)>
         requires limits { AreLimits limits }
         requires devices { (M.meaning.signature (arc_value code)).devices ≤ vec_len devices }
-        ensures opens { IfOk result (IsShell M.meaning.program (record {
+        ensures opens { IfOk result (IsShell M.meaning (record {
           code = arc_value code;
           limits = limits;
           base = [];
@@ -100,40 +98,30 @@ where
         Ok(Crew { shell, code, hands })
     }
 
-    /// The engine.
-    pub fn engine(&self) -> &Engine<M>
-        ensures { result.now ≡ self.now.core }
-    {
-        &self.shell.engine
-    }
-
-    /// A seat has its turn, for which its machine is prepared first.
+    /// Prepares the machine of a seat, and gives the seat its turn.
     pub fn turn(&mut self, seat: u32) -> Made
         requires { seat < self.old.core.limits.seats }
         ensures seat { result.seat ≡ seat }
         ensures played { HasPlayed M.meaning result self.old self.new }
-        ensures keeps { (opening : Opening M.Code) → IsShell M.meaning.program opening self.old → IsShell M.meaning.program opening self.new }
+        ensures keeps { (opening : Opening M.Code) → IsShell M.meaning opening self.old → IsShell M.meaning opening self.new }
         ensures limits { self.new.core.limits ≡ self.old.core.limits }
         ensures within { self.new.core.turns ≤ self.new.core.limits.turns }
     {
         let alloc = *self.hands.allocator();
-        let mut work = mem::replace(&mut self.hands[seat as usize], Work::Idle);
-        let lacks = prepare_seat(&self.shell.engine, alloc, &self.code, seat, &mut work);
-        let wanted = place_wanted(self.shell.engine.cells(), &work);
-        let before = member_at(&self.shell.engine, seat);
+        let work = &mut self.hands[seat as usize];
+        prepare_seat(&self.shell.engine, alloc, &self.code, seat, work);
+        let wanted = place_wanted(self.shell.engine.cells(), work);
+        let Turn { member, outcome } = self.shell.turn(&self.code, seat, work);
         self.shell.engine.stands();
-        let Turned { deed, work } = self.shell.turn(&self.code, seat, work, lacks);
-        self.shell.engine.stands();
-        self.hands[seat as usize] = work;
         Made {
             seat,
-            member: member_told(before, member_at(&self.shell.engine, seat)),
-            deed,
-            place: place_told(deed, wanted),
+            member,
+            outcome,
+            place: place_told(outcome, wanted),
         }
     }
 
-    /// Where members are left that may not begin and aren't all parked, some seat has a member at work.
+    /// Shows that some seat has a member at work, if members are left that may not begin and aren't all parked.
     pub fn who_waits_waits_for_a_seat(&self)
         ensures { SomeSeatIsAtWork self.now.core }
     {
@@ -143,7 +131,7 @@ where
         self.shell.engine.who_waits_waits_for_somebody();
     }
 
-    /// Whether no stop is kept.
+    /// Returns whether no stop is kept.
     pub fn goes_on(&self) -> bool
         ensures going { result ≡ true → self.now.core.stop ≡ None }
         ensures stopped { result ≡ false → IsSome self.now.core.stop }
@@ -151,32 +139,32 @@ where
         self.shell.engine.stopped().is_none()
     }
 
-    /// Memory was lacking, and that stop is kept.
+    /// Keeps the stop for running out of memory.
     pub fn give_up(&mut self)
         requires { self.old.core.stop ≡ None }
         ensures lacks { self.new ≡ lacking self.old }
-        ensures keeps { (opening : Opening M.Code) → IsShell M.meaning.program opening self.old → IsShell M.meaning.program opening self.new }
+        ensures keeps { (opening : Opening M.Code) → IsShell M.meaning opening self.old → IsShell M.meaning opening self.new }
     {
         self.shell.engine.stands();
         self.shell.engine.stop(Stop::NoMemory);
     }
 
-    /// A seat undoes an entry of what it has at work, once a stop is kept.
+    /// Undoes an entry of what a seat has at work, once a stop is kept.
     fn undo(&mut self, seat: u32)
         requires seat { seat < self.old.core.limits.seats }
         requires stopped { IsSome self.old.core.stop }
         ensures unwound { IsUnwound self.old.core self.new.core }
         ensures others { (other : ℕ) → task_at self.old.core.tasks other ≡ Task.Idle → task_at self.new.core.tasks other ≡ Task.Idle }
         ensures less { task_at self.old.core.tasks seat ≢ Task.Idle → left_to_undo self.new.core seat < left_to_undo self.old.core seat }
-        ensures keeps { (opening : Opening M.Code) → IsShell M.meaning.program opening self.old → IsShell M.meaning.program opening self.new }
+        ensures keeps { (opening : Opening M.Code) → IsShell M.meaning opening self.old → IsShell M.meaning opening self.new }
     {
-        let work = mem::replace(&mut self.hands[seat as usize], Work::Idle);
         self.shell.engine.stands();
-        let Turned { deed: _, work } = self.shell.turn(&self.code, seat, work, true);
-        self.hands[seat as usize] = work;
+        let _ = self
+            .shell
+            .turn(&self.code, seat, &mut self.hands[seat as usize]);
     }
 
-    /// Whether a seat has nothing at work.
+    /// Returns whether a seat has nothing at work.
     fn is_idle(&self, seat: u32) -> bool
         requires { seat < self.now.core.limits.seats }
         ensures idle { result ≡ true → task_at self.now.core.tasks seat ≡ Task.Idle }
@@ -185,26 +173,26 @@ where
         matches!(self.shell.engine.task(seat), Task::Idle)
     }
 
-    /// A seat undoes all that it has at work, once a stop is kept.
+    /// Undoes all that a seat has at work, once a stop is kept.
     fn unwind(&mut self, seat: u32)
         requires seat { seat < self.old.core.limits.seats }
         requires stopped { IsSome self.old.core.stop }
         ensures unwound { IsUnwound self.old.core self.new.core }
         ensures others { (other : ℕ) → task_at self.old.core.tasks other ≡ Task.Idle → task_at self.new.core.tasks other ≡ Task.Idle }
         ensures idle { task_at self.new.core.tasks seat ≡ Task.Idle }
-        ensures keeps { (opening : Opening M.Code) → IsShell M.meaning.program opening self.old → IsShell M.meaning.program opening self.new }
+        ensures keeps { (opening : Opening M.Code) → IsShell M.meaning opening self.old → IsShell M.meaning opening self.new }
     {
         while !self.is_idle(seat) {
             self.undo(seat);
         }
     }
 
-    /// All that seats have at work is undone, seat by seat, once a stop is kept. It counts no turn, and takes no memory.
+    /// Undoes all that the seats have at work, seat by seat, once a stop is kept. It counts no turn, and takes no memory.
     pub fn unwind_all(&mut self)
         requires { IsSome self.old.core.stop }
         ensures unwound { IsUnwound self.old.core self.new.core }
         ensures idle { (seat : ℕ) → task_at self.new.core.tasks seat ≡ Task.Idle }
-        ensures keeps { (opening : Opening M.Code) → IsShell M.meaning.program opening self.old → IsShell M.meaning.program opening self.new }
+        ensures keeps { (opening : Opening M.Code) → IsShell M.meaning opening self.old → IsShell M.meaning opening self.new }
     {
         for seat in 0..self.shell.engine.limits().seats {
             self.unwind(seat);
@@ -212,12 +200,12 @@ where
         self.shell.engine.stands();
     }
 
-    /// What is left once a stop is kept and all seats are idle. Takes no memory.
+    /// Returns what is left once a stop is kept and all seats are idle. It takes no memory.
     pub fn finish(self) -> Remains<M::Value, K, D>
         requires idle { (seat : ℕ) → task_at self.core.tasks seat ≡ Task.Idle }
         requires stopped { IsSome self.core.stop }
         ensures told { result.ended ≡ end_of self.core }
-        ensures over { (opening : Opening M.Code) → IsShell M.meaning.program opening self
+        ensures over { (opening : Opening M.Code) → IsShell M.meaning opening self
             → IsOverSince opening.base (M.meaning.program opening.code) (M.meaning.signature opening.code) opening.limits (M.meaning.value_of opening.code) opening.ends result.ended
             (ends_of K.written K.faults D.device_heard D.device_faults result.sink result.devices.items) }
     {

@@ -8,8 +8,8 @@ use ame_gen::{Numbers, SEED_LIMIT};
 use ame_term::NoMemory;
 use std::marker::Model;
 
-/// Draws a number for each question, and picks the seat at that place of the list, counted round and round. It draws also
-/// where one seat alone may be picked. Contracts see it as the number that it drew last, which is the seed at first.
+/// Draws a number for each question, and picks the seat at that place of the list, counted round and round. It draws even
+/// if only one seat may be picked. Contracts see it as the number that it drew last, which is the seed at first.
 #[derive(Drop)]
 pub struct Drawn {
     numbers: Numbers,
@@ -24,7 +24,7 @@ impl Model for Drawn {
 }
 
 impl Drawn {
-    /// The chooser of a seed, without memory.
+    /// Makes the chooser of a seed. It takes no memory.
     pub fn new(seed: u32) -> Drawn
         requires { seed ≤ SEED_LIMIT }
         ensures { result ≡ seed }
@@ -38,7 +38,7 @@ impl Drawn {
 impl Chooser for Drawn {
     ghost strategy = { drawn };
 
-    /// It takes no memory.
+    /// Picks by the next number. It takes no memory.
     fn choose(&mut self, may: &[u32]) -> Result<u32, NoMemory>
         requires some { 0 < length may.now }
         ensures picks { IfOk result (Contains may.now) }

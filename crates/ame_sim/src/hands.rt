@@ -1,13 +1,13 @@
-//! What seats have at hand.
+//! The work in flight of seats.
 
 ghost use Rattle.std.specs.Prelude.{◌≡◌, IfOk, replicate};
-ghost use Rattle.ame_turn.specs.declared.work.Work.TheVariants as work;
+ghost use Rattle.ame_shell.specs.declared.work.Work.TheVariants as work;
 
+use ame_shell::Work;
 use ame_term::NoMemory;
-use ame_turn::Work;
 use std::alloc::Global;
 
-/// So many seats with nothing at hand.
+/// Returns the work of this number of idle seats.
 pub(crate) fn idle_hands<M: Drop>(alloc: Global, seats: u32) -> Result<Vec<Work<M>>, NoMemory>
     ensures { IfOk result (λ hands. hands.items ≡ replicate seats work.Idle) }
 {

@@ -1,4 +1,4 @@
-//! Many seats of a speculating engine, driven on one thread under a chooser that is handed in; choosers, what each of them would pick,
+//! Many seats of a speculating engine, driven on one thread by a chooser that the caller supplies. Choosers with their strategies,
 //! and schedules.
 #![tactic(auto)]
 

@@ -7,8 +7,8 @@ use crate::chooser::Chooser;
 use ame_term::NoMemory;
 use std::marker::Model;
 
-/// Takes the next seat of its list for each question, and picks it where it may be picked; else, and where none is left, the
-/// first that may. Contracts see it as the seats that are left.
+/// Takes the next seat of its list for each question, and picks it if it may be picked. If it may not, or the list has no seat
+/// left, it picks the first seat that may. Contracts see it as the seats that are left.
 #[derive(Drop)]
 pub struct Listed {
     seats: Vec<u32>,
@@ -26,14 +26,14 @@ impl Model for Listed {
 }
 
 impl Listed {
-    /// The chooser of these picks, over their memory.
+    /// Makes the chooser of these picks, in the memory of their list.
     pub fn new(seats: Vec<u32>) -> Listed
         ensures { result ≡ seats.items }
     {
         Listed { seats, at: 0 }
     }
 
-    /// The next seat of the list.
+    /// Takes the next seat of the list.
     fn take(&mut self) -> Option<u32>
         ensures none { IfNone result (self.old ≡ []) }
         ensures rest { self.old ≡ option_to_list result ++ self.new }
@@ -47,7 +47,7 @@ impl Listed {
 impl Chooser for Listed {
     ghost strategy = { picked_as_listed };
 
-    /// It takes no memory.
+    /// Picks as the list says. It takes no memory.
     fn choose(&mut self, may: &[u32]) -> Result<u32, NoMemory>
         requires some { 0 < length may.now }
         ensures picks { IfOk result (Contains may.now) }

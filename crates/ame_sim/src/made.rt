@@ -1,14 +1,14 @@
-//! What a pick did.
+//! A pick with its outcome.
 
-use ame_turn::Deed;
+use ame_shell::Outcome;
 
-/// What the seat did that was picked. A list of them tells a run, step by step.
+/// A pick with its outcome. A list of them describes a run, step by step.
 #[derive(Clone, Copy, PartialEq, Eq, Debug)]
 pub struct Made {
     pub seat: u32,
-    /// The member that the seat had at work, else the one that it has now.
+    /// The member that the seat had at work before, or otherwise the one that it has now.
     pub member: Option<u64>,
-    pub deed: Deed,
+    pub outcome: Outcome,
     /// The location that it read, wrote, met, made or visited, or whose read it found stale.
     pub place: Option<u32>,
 }

@@ -1,20 +1,20 @@
-//! What picks did, one after the other.
+//! A list of picks with their outcomes, in little memory.
 
 ghost use Rattle.std.specs.Prelude.{◌≡◌, ◌<◌, ◌++◌, ◌∷◌, [], true, length, OnOk};
 ghost use Rattle.std.specs.Iterator.{YieldsFirst, item_count};
 ghost use Rattle.ame_sim.specs.Picks.{is_waited as has_waited, picks_of};
 ghost use Rattle.ame_sim.specs.Woven.{WaitsPlainly, waited_at};
-ghost use Rattle.ame_turn.specs.declared.work.Deed.{Deed as Done};
+ghost use Rattle.ame_shell.specs.declared.work.Outcome.{Outcome as Done};
 
 use crate::made::Made;
 use crate::picked::Picked;
+use ame_shell::Outcome;
 use ame_term::NoMemory;
-use ame_turn::Deed;
 use std::alloc::Global;
 use std::marker::Model;
 
-/// What picks did, one after the other. One that found nothing to do takes 2 bytes, another one 66. Contracts see the list, and whether there is room
-/// for one more.
+/// Keeps picks with their outcomes, in order. A pick that found nothing to do takes 2 bytes, any other 66. Contracts see the list,
+/// and whether there is room for one more.
 #[derive(Drop)]
 pub struct PackedMades {
     picks: Vec<Picked>,
@@ -35,27 +35,27 @@ impl Model for PackedMades {
     ghost invariant = { λ m. AreOfPicks m.picks.items m.mades.items };
 }
 
-/// Whether a seat was told to wait.
-pub(crate) fn is_waited(deed: Deed) -> bool
-    ensures { result ≡ has_waited deed }
+/// Returns whether a seat has to wait, by the outcome of its pick.
+pub(crate) fn is_waited(outcome: Outcome) -> bool
+    ensures { result ≡ has_waited outcome }
 {
-    matches!(deed, Deed::Waited)
+    matches!(outcome, Outcome::Waited)
 }
 
-/// What a pick did that found nothing to do.
+/// Returns a pick of this seat that found nothing to do.
 fn waited_at(seat: u8) -> Made
     ensures { result ≡ waited_at seat }
 {
     Made {
         seat: u32::from(seat),
         member: None,
-        deed: Deed::Waited,
+        outcome: Outcome::Waited,
         place: None,
     }
 }
 
 impl PackedMades {
-    /// Of no pick.
+    /// Makes a list without picks.
     pub(crate) fn new(alloc: Global) -> PackedMades
         ensures { result.items ≡ [] }
     {
@@ -65,7 +65,7 @@ impl PackedMades {
         }
     }
 
-    /// Makes room for one pick more.
+    /// Makes room for one more pick.
     pub(crate) fn make_room(&mut self) -> Result<(), NoMemory>
         ensures room { OnOk result (self.new.has_room ≡ true) }
         ensures same { self.new.items ≡ self.old.items }
@@ -75,14 +75,14 @@ impl PackedMades {
         Ok(())
     }
 
-    /// Adds what one pick more did, in room that is there.
+    /// Appends a pick with its outcome, in the reserved room.
     pub(crate) fn push_reserved(&mut self, made: Made)
         requires room { self.old.has_room ≡ true }
         requires seat { made.seat < 256 }
         requires plain { WaitsPlainly made }
         ensures { self.new.items ≡ self.old.items ++ made ∷ [] }
     {
-        let waited = is_waited(made.deed);
+        let waited = is_waited(made.outcome);
         self.picks.push_reserved(Picked {
             seat: made.seat as u8,
             waited,
@@ -92,21 +92,21 @@ impl PackedMades {
         }
     }
 
-    /// How many there are.
+    /// Returns the number of picks.
     pub fn len(&self) -> usize
         ensures { result ≡ length self.now.items }
     {
         self.picks.len()
     }
 
-    /// The picks.
+    /// Returns the picks.
     pub fn picks(&self) -> &[Picked]
         ensures { result.now ≡ picks_of self.now.items }
     {
         &self.picks
     }
 
-    /// What each pick did, in order.
+    /// Returns the picks with their outcomes, in order.
     pub fn iter(&self) -> MadesIter<'_>
         ensures { result ≡ self.now.items }
     {
@@ -117,7 +117,7 @@ impl PackedMades {
     }
 }
 
-/// What picks did, in order. Contracts see those that are left.
+/// Yields picks with their outcomes, in order. Contracts see those that are left.
 #[derive(Drop)]
 pub struct MadesIter<'a> {
     picks: &'a [Picked],

@@ -1,6 +1,6 @@
 //! A pick.
 
-/// A pick, as far as it tells who may be picked next: its seat, and whether that found nothing to do and was told to wait.
+/// A pick, as far as it decides which seats may be picked next: its seat, and whether the seat found nothing to do and has to wait.
 #[derive(Clone, Copy, PartialEq, Eq, Debug)]
 pub struct Picked {
     pub seat: u8,

@@ -25,14 +25,14 @@ use ame_term::NoMemory;
 use std::alloc::Global;
 use std::sync::Arc;
 
-/// What a run on one thread leaves, and what each pick did.
+/// The remains of a run on one thread, and its picks with their outcomes.
 #[derive(Drop)]
 pub struct Played<V, K, D> {
     pub left: Remains<V, K, D>,
     pub mades: PackedMades,
 }
 
-/// One question is asked, and the seat that is picked has its turn. Where memory is lacking nothing was done.
+/// Asks the chooser one question, and gives the seat that it picks its turn. If it runs out of memory, it has done nothing.
 fn pick<M: Runner, K: Sink, D: Device, H: Chooser>(
     crew: &mut Crew<M, K, D>,
     book: &mut Book,
@@ -47,7 +47,7 @@ where
     ensures plays { (first : ShellView M.Code M.Value M) → IsPlaying M.meaning crew.old.core.limits.seats first crew.old book.old.mades.items
         → IsPlaying M.meaning crew.old.core.limits.seats first crew.new book.new.mades.items }
     ensures answers { HasAnswered crew.old.core.limits.seats (H.strategy chooser.old) book.old.mades.items (H.strategy chooser.new) book.new.mades.items }
-    ensures keeps { (opening : Opening M.Code) → IsShell M.meaning.program opening crew.old → IsShell M.meaning.program opening crew.new }
+    ensures keeps { (opening : Opening M.Code) → IsShell M.meaning opening crew.old → IsShell M.meaning opening crew.new }
     ensures limits { crew.new.core.limits ≡ crew.old.core.limits }
     ensures waits { book.new.waits ≡ who_waits crew.old.core.limits.seats (picks_of book.new.mades.items) }
     ensures rests { crew.new.core.stop ≡ None → AreResting book.new.waits crew.new.core }
@@ -62,7 +62,7 @@ where
     Ok(())
 }
 
-/// Seats are picked until a stop is kept.
+/// Gives turns to the seats that the chooser picks, until a stop is kept.
 fn play<M: Runner, K: Sink, D: Device, H: Chooser>(
     crew: &mut Crew<M, K, D>,
     book: &mut Book,
@@ -76,7 +76,7 @@ where
     ensures plays { (first : ShellView M.Code M.Value M) → IsPlaying M.meaning crew.old.core.limits.seats first crew.old book.old.mades.items
         → IsPlaying M.meaning crew.old.core.limits.seats first crew.new book.new.mades.items }
     ensures answers { HasAnswered crew.old.core.limits.seats (H.strategy chooser.old) book.old.mades.items (H.strategy chooser.new) book.new.mades.items }
-    ensures keeps { (opening : Opening M.Code) → IsShell M.meaning.program opening crew.old → IsShell M.meaning.program opening crew.new }
+    ensures keeps { (opening : Opening M.Code) → IsShell M.meaning opening crew.old → IsShell M.meaning opening crew.new }
     ensures stopped { IsSome crew.new.core.stop }
 {
     while crew.goes_on() {
@@ -87,8 +87,8 @@ where
     }
 }
 
-/// Runs a program to its end, by as many seats as the limits have, on one thread. Who has the next turn is the chooser's pick. Where
-/// nothing was begun, for want of memory, it hands sink and devices back as they were.
+/// Runs a program to its end, by as many seats as the limits have, on one thread. The chooser picks the seat of each turn. If it
+/// runs out of memory before the run begins, it returns sink and devices as they were.
 pub fn run_by_chooser<M, K, D, H>(
     alloc: Global,
     code: Arc<M::Code>,

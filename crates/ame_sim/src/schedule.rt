@@ -1,4 +1,4 @@
-//! Schedules as text: the seats that were picked, one after the other, as one line, both ways.
+//! Reads and writes schedules as text: the seats that were picked, in order, as one line.
 mod fault;
 mod read;
 mod sign;

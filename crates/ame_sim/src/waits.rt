@@ -1,4 +1,4 @@
-//! Who may be picked.
+//! The seats that may be picked.
 ghost use Rattle.std.specs.Prelude.{◌≡◌, ◌<◌, ◌≤◌, ◌^◌, true, false, length, IfOk, replicate, slice_set, vec_capacity};
 ghost use Rattle.ame_sim.specs.Waits as spec;
 
@@ -6,7 +6,7 @@ use ame_term::NoMemory;
 use std::alloc::Global;
 use std::marker::Model;
 
-/// Which of the seats wait. Contracts see a flag for each, which is true where it waits.
+/// Keeps which of the seats wait. Contracts see a flag for each seat, which is true if it waits.
 #[derive(Drop)]
 pub struct Waits {
     waits: Vec<bool>,
@@ -25,7 +25,7 @@ impl Model for Waits {
 }
 
 impl Waits {
-    /// So many seats, none of which waits.
+    /// Makes this number of seats. None of them waits.
     pub fn new(alloc: Global, seats: u32) -> Result<Waits, NoMemory>
         ensures { IfOk result (λ waits. waits ≡ replicate seats false) }
     {
@@ -35,7 +35,7 @@ impl Waits {
         Ok(Waits { waits, may })
     }
 
-    /// The seats that don't wait, rising.
+    /// Returns the seats that don't wait, rising.
     pub fn may_be_picked(&self) -> &[u32]
         ensures { result.now ≡ spec.may_be_picked self.now }
     {
@@ -55,7 +55,7 @@ impl Waits {
         }
     }
 
-    /// Lets no seat wait any more. It costs nothing where none does.
+    /// Lets no seat wait any more. It costs nothing if none does.
     pub fn go_on(&mut self)
         ensures { self.new ≡ replicate (length self.old) false }
     {
@@ -66,7 +66,7 @@ impl Waits {
     }
 }
 
-/// How many don't wait.
+/// Counts the seats that don't wait.
 fn free_among(waits: &[bool]) -> usize
     ensures { result ≡ length (spec.may_be_picked waits.now) }
 {
@@ -79,7 +79,7 @@ fn free_among(waits: &[bool]) -> usize
     free
 }
 
-/// Lists the seats that don't wait, in room that is there.
+/// Lists the seats that don't wait, in the reserved room.
 fn list_seats(may: &mut Vec<u32>, waits: &[bool])
     requires room { length waits.now ≤ vec_capacity may.old }
     requires range { length waits.now < 2 ^ 32 }

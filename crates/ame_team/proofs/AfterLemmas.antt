@@ -3,17 +3,16 @@ use Rattle.std.proofs.Common.{◌≡◌, ℕ, zero, suc, ◌+◌, ◌<◌, List,
 use Rattle.std.specs.Prelude.{option_map}
 use Rattle.std.proofs.lemmas.List.{length-map, length-append}
 use Rattle.std.proofs.lemmas.Option.{slice_get-map, slice_get_within, slice_get-get_or, get_or_from_slice_get}
-use Rattle.ame_journal.specs.declared.entry.Entry.{Entry}
+use Rattle.ame_worker.specs.Turns.{TurnView}
 use Rattle.ame_baton.specs.declared.seats.SeatAt.{SeatAt}
 use Rattle.ame_baton.specs.declared.turn.Baton.{Baton}
 use Rattle.ame_baton.specs.Batons.{knows, IsSeatOf, IsReadySeat, AreReady}
 use Rattle.ame_baton.specs.Keeping.{KeepsSeat}
-use Rattle.ame_worker.specs.declared.shared.Opened.{Opened}
+use Rattle.ame_worker.specs.Shared.{OpenedView}
 use Rattle.ame_worker.specs.declared.shared.Shared.{Shared}
 use Rattle.ame_worker.specs.declared.worker.Worker.{Worker}
 use Rattle.ame_worker.specs.Rows.{SeatRow}
 use Rattle.ame_worker.specs.Workers.{IsThrough}
-use Rattle.ame_worker.proofs.HandLemmas.{some-is}
 use Rattle.ame_team.specs.Teams.{IsSeatAt}
 
 append-at : {A : Type 0} (xs : List A) (y : A) → slice_get (xs ++ y ∷ []) (length xs) ≡ Some y
@@ -25,15 +24,29 @@ append-before [] ys i x e = cc
 append-before (z ∷ xs) ys zero x e = e
 append-before (z ∷ xs) ys (suc i) x e = append-before xs ys i x e
 
+some-is : {A : Type 0} (a b : A) → Some a ≡ Some b → a ≡ b
+some-is a b e = cc
+
 map-there : {A B : Type 0} (f : A → B) (o : Option A) (y : B) → option_map f o ≡ Some y → (x : A) × (o ≡ Some x) × (f x ≡ y)
 map-there f None y e = cc
 map-there f (Some x) y e = (x, refl, some-is (f x) y e)
 
-module _ {M K D C V : Type 0} (baton : Baton (Shared M K D C V) (Opened C) (SeatRow M) Entry) (opened : Option (Opened C)) (count : ℕ) where
+module _ {M K D C V : Type 0} (baton : Baton (Shared M K D C V) (OpenedView C V M) (SeatRow M) (TurnView C V M)) (opened : Option (OpenedView C V M)) (count : ℕ) where
   -- a seat at its place that is through
-  pub record IsDoneAt (place : ℕ) (seat : SeatAt (Shared M K D C V) (Opened C) (SeatRow M) Entry) : Type 0 where
+  pub record IsDoneAt (place : ℕ) (seat : SeatAt (Shared M K D C V) (OpenedView C V M) (SeatRow M) (TurnView C V M)) : Type 0 where
     pub at : IsSeatAt baton opened count place seat
     pub through : IsThrough (knows seat)
+
+  -- seat 0 and the others, all of which are through
+  pub record AreThrough (first : SeatAt (Shared M K D C V) (OpenedView C V M) (SeatRow M) (TurnView C V M))
+      (rest : List (SeatAt (Shared M K D C V) (OpenedView C V M) (SeatRow M) (TurnView C V M))) : Type 0 where
+    pub first_ready : IsReadySeat baton 0 first
+    pub rest_ready : AreReady baton 1 rest
+    pub made : (knows first).made ≡ length rest + 1
+    pub all : length rest + 1 ≡ count
+    pub fixed : (knows first).fixed ≡ opened
+    pub first_through : IsThrough (knows first)
+    pub rest_through : (i : ℕ) (s : SeatAt (Shared M K D C V) (OpenedView C V M) (SeatRow M) (TurnView C V M)) → slice_get rest i ≡ Some s → IsThrough (knows s)
 
   module _ (old new : List (Worker M K D C V)) (len : length old ≡ count) (len_new : length new ≡ length old)
       (placed : (i : ℕ) (w : Worker M K D C V) → slice_get old i ≡ Some w → IsSeatAt baton opened count i w.seat)
@@ -60,36 +73,38 @@ module _ {M K D C V : Type 0} (baton : Baton (Shared M K D C V) (Opened C) (Seat
           through = subst (λ (x : Worker M K D C V). IsThrough (knows x.seat)) same (through i w in_old);
         }
 
-    module _ (first : SeatAt (Shared M K D C V) (Opened C) (SeatRow M) Entry) (rest : List (SeatAt (Shared M K D C V) (Opened C) (SeatRow M) Entry))
+    module _ (first : SeatAt (Shared M K D C V) (OpenedView C V M) (SeatRow M) (TurnView C V M)) (rest : List (SeatAt (Shared M K D C V) (OpenedView C V M) (SeatRow M) (TurnView C V M)))
         (all : map (λ w. w.seat) new ≡ rest ++ first ∷ []) where
-      done-seat : (i : ℕ) (s : SeatAt (Shared M K D C V) (Opened C) (SeatRow M) Entry) → slice_get (rest ++ first ∷ []) i ≡ Some s → IsDoneAt i s
+      done-seat : (i : ℕ) (s : SeatAt (Shared M K D C V) (OpenedView C V M) (SeatRow M) (TurnView C V M)) → slice_get (rest ++ first ∷ []) i ≡ Some s → IsDoneAt i s
       done-seat i s e =
           let there = map-there (λ (w : Worker M K D C V). w.seat) (slice_get new i) s
-          (sym (slice_get-map (λ (w : Worker M K D C V). w.seat) new i) ∙ ap (λ (l : List (SeatAt (Shared M K D C V) (Opened C) (SeatRow M) Entry)). slice_get l i) all ∙ e) in
+          (sym (slice_get-map (λ (w : Worker M K D C V). w.seat) new i) ∙ ap (λ (l : List (SeatAt (Shared M K D C V) (OpenedView C V M) (SeatRow M) (TurnView C V M))). slice_get l i) all ∙ e) in
           subst (IsDoneAt i) there.2 (done-worker i there.0 there.1)
 
-      pub rest-count : length rest + 1 ≡ count
+      rest-count : length rest + 1 ≡ count
       rest-count =
           let seats : length (map (λ (w : Worker M K D C V). w.seat) new) ≡ length new = length-map new (λ (w : Worker M K D C V). w.seat) in
           let both : length (rest ++ first ∷ []) ≡ length rest + 1 = length-append rest (first ∷ []) in
           let same : length (map (λ (w : Worker M K D C V). w.seat) new) ≡ length (rest ++ first ∷ []) = ap length all in
           omega (arith, seats, both, same, len, len_new)
 
-      pub first-done : IsDoneAt (length rest) first
+      first-done : IsDoneAt (length rest) first
       first-done = done-seat (length rest) first (append-at rest first)
 
-      pub rest-done : (i : ℕ) (s : SeatAt (Shared M K D C V) (Opened C) (SeatRow M) Entry) → slice_get rest i ≡ Some s → IsDoneAt i s
+      rest-done : (i : ℕ) (s : SeatAt (Shared M K D C V) (OpenedView C V M) (SeatRow M) (TurnView C V M)) → slice_get rest i ≡ Some s → IsDoneAt i s
       rest-done i s e = done-seat i s (append-before rest (first ∷ []) i s e)
 
-      pub first-ready : IsReadySeat baton 0 first
-      first-ready = record { of = first-done.at.of; numbered = (first-done.at.placed.first rest-count).0; free = first-done.through.free }
-
-      pub first-made : (knows first).made ≡ length rest + 1
-      first-made = (first-done.at.placed.first rest-count).1 ∙ sym rest-count
-
-      pub rest-ready : AreReady baton 1 rest
-      rest-ready i s e =
-          let done = rest-done i s e in
-          let within = slice_get_within rest i s e in
-          let number : (knows s).number ≡ i + 1 = done.at.placed.others (let c = rest-count in omega (arith, c, within)) in
-          record { of = done.at.of; numbered = omega (arith, number); free = done.through.free }
+      pub are-through : AreThrough first rest
+      are-through = record {
+        first_ready = record { of = first-done.at.of; numbered = (first-done.at.placed.first rest-count).0; free = first-done.through.free };
+        rest_ready = λ i s e.
+            let done = rest-done i s e in
+            let within = slice_get_within rest i s e in
+            let number : (knows s).number ≡ i + 1 = done.at.placed.others (let c = rest-count in omega (arith, c, within)) in
+            record { of = done.at.of; numbered = omega (arith, number); free = done.through.free };
+        made = (first-done.at.placed.first rest-count).1 ∙ sym rest-count;
+        all = rest-count;
+        fixed = first-done.at.fixed;
+        first_through = first-done.through;
+        rest_through = λ i s e. (rest-done i s e).through;
+      }

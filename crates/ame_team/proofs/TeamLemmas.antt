@@ -1,10 +1,10 @@
 -- The workers of a team while it is made.
 use Rattle.ame_term.specs.Signature.{Signature}
 use Rattle.std.proofs.Common.{◌≡◌, ℕ, ◌+◌, ◌<◌, List, ◌++◌, ◌∷◌, [], ◌⊎◌, inl, inr, length, Option, Some, slice_get, sym, ap, subst, arith}
-use Rattle.ame_journal.specs.declared.entry.Entry.{Entry}
+use Rattle.ame_worker.specs.Turns.{TurnView}
 use Rattle.ame_baton.specs.declared.turn.Baton.{Baton}
 use Rattle.ame_baton.specs.Batons.{knows, IsSeatOf}
-use Rattle.ame_worker.specs.declared.shared.Opened.{Opened}
+use Rattle.ame_worker.specs.Shared.{OpenedView}
 use Rattle.ame_worker.specs.declared.shared.Shared.{Shared}
 use Rattle.ame_worker.specs.declared.worker.Worker.{Worker}
 use Rattle.ame_worker.specs.Rows.{SeatRow}
@@ -16,18 +16,18 @@ use Rattle.ame_baton.proofs.Lookups.{get_snoc, get_within}
 use Rattle.ame_team.specs.Teams.{IsFirstSeat, IsSeatAt}
 
 -- the seats of the workers are those with the numbers from 1 on, in order
-pub record IsOther {M K D C V : Type 0} (baton : Baton (Shared M K D C V) (Opened C) (SeatRow M) Entry) (opened : Option (Opened C)) (number : ℕ)
+pub record IsOther {M K D C V : Type 0} (baton : Baton (Shared M K D C V) (OpenedView C V M) (SeatRow M) (TurnView C V M)) (opened : Option (OpenedView C V M)) (number : ℕ)
     (w : Worker M K D C V) : Type 0 where
   pub of : IsSeatOf baton w.seat
   pub fixed : (knows w.seat).fixed ≡ opened
   pub numbered : (knows w.seat).number ≡ number
 
-abbrev pub AreOthers : {M K D C V : Type 0} → Baton (Shared M K D C V) (Opened C) (SeatRow M) Entry → Option (Opened C) → List (Worker M K D C V) → Type 0
+abbrev pub AreOthers : {M K D C V : Type 0} → Baton (Shared M K D C V) (OpenedView C V M) (SeatRow M) (TurnView C V M) → Option (OpenedView C V M) → List (Worker M K D C V) → Type 0
 AreOthers {M} {K} {D} {C} {V} baton opened workers =
     (i : ℕ) (w : Worker M K D C V) → slice_get workers i ≡ Some w → IsOther baton opened (i + 1) w
 
 -- the next seat is one of the shell, too
-pub next-seated : {C M : Type 0} (signature : C → Signature) (code : C) (limits : Limits) (k : Knows (Opened C) (SeatRow M) Entry) (row : SeatRow M) → k.made < limits.seats
+pub next-seated : {C V M : Type 0} (signature : C → Signature) (code : C) (limits : Limits) (k : Knows (OpenedView C V M) (SeatRow M) (TurnView C V M)) (row : SeatRow M) → k.made < limits.seats
     → IsSeated signature code limits k → IsSeated signature code limits (next_seat k row)
 next-seated signature code limits k row within s = record {
   opened = s.opened;
@@ -41,7 +41,7 @@ next-seated signature code limits k row within s = record {
 }
 
 -- seat 0 made one more
-pub first-seated : {C M : Type 0} (signature : C → Signature) (code : C) (limits : Limits) (k : Knows (Opened C) (SeatRow M) Entry) (made : ℕ)
+pub first-seated : {C V M : Type 0} (signature : C → Signature) (code : C) (limits : Limits) (k : Knows (OpenedView C V M) (SeatRow M) (TurnView C V M)) (made : ℕ)
     → IsSeated signature code limits k → IsSeated signature code limits (record k { made = made })
 first-seated signature code limits k made s = record {
   opened = s.opened;
@@ -54,7 +54,7 @@ first-seated signature code limits k made s = record {
   seats = s.seats;
 }
 
-pub first-more : {C M : Type 0} (made : ℕ) (k : Knows (Opened C) (SeatRow M) Entry) → IsFirstSeat made k → IsFirstSeat (made + 1) (record k { made = k.made + 1 })
+pub first-more : {C V M : Type 0} (made : ℕ) (k : Knows (OpenedView C V M) (SeatRow M) (TurnView C V M)) → IsFirstSeat made k → IsFirstSeat (made + 1) (record k { made = k.made + 1 })
 first-more made k f = record {
   numbered = f.numbered;
   free = f.free;
@@ -63,7 +63,7 @@ first-more made k f = record {
   none_ended = f.none_ended;
 }
 
-module _ {M K D C V : Type 0} (baton : Baton (Shared M K D C V) (Opened C) (SeatRow M) Entry) (opened : Option (Opened C)) where
+module _ {M K D C V : Type 0} (baton : Baton (Shared M K D C V) (OpenedView C V M) (SeatRow M) (TurnView C V M)) (opened : Option (OpenedView C V M)) where
   -- one more worker
   pub others-more : (workers : List (Worker M K D C V)) (w : Worker M K D C V) → AreOthers baton opened workers → IsOther baton opened (length workers + 1) w
       → AreOthers baton opened (workers ++ w ∷ [])

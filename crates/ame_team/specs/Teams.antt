@@ -1,15 +1,22 @@
 -- The seats of a team of workers.
-use Rattle.std.specs.Prelude.{◌≡◌, ℕ, ◌+◌, ◌<◌, false, [], Option}
-use Rattle.ame_journal.specs.declared.entry.Entry.{Entry}
+use Rattle.std.specs.Prelude.{◌≡◌, ℕ, ◌+◌, ◌<◌, false, List, [], length, All, Option, Some, IsSome, slice_get}
+use Rattle.ame_machine.specs.Meaning.{Meaning}
+use Rattle.ame_protocol.specs.declared.types.Task.{Task}
+use Rattle.ame_protocol.specs.Engine.Parts.{task_at}
+use Rattle.ame_engine.specs.Ending.{End, end_of}
+use Rattle.ame_shell.specs.Shell.{ShellView}
+use Rattle.ame_baton.specs.declared.view.LastSeen.{LastSeen}
+use Rattle.ame_baton.specs.Seats.{Stays}
 use Rattle.ame_baton.specs.declared.seats.SeatAt.{SeatAt}
 use Rattle.ame_baton.specs.declared.turn.Baton.{Baton}
 use Rattle.ame_baton.specs.declared.view.Knows.{Knows}
 use Rattle.ame_baton.specs.Batons.{knows, IsSeatOf}
-use Rattle.ame_worker.specs.declared.shared.Opened.{Opened}
 use Rattle.ame_worker.specs.Rows.{SeatRow, empty_row}
+use Rattle.ame_worker.specs.Shared.{OpenedView}
+use Rattle.ame_worker.specs.Turns.{TurnView, Turns, maker}
 
 -- seat 0 as its baton was made, or as it made others
-pub record IsFirstSeat {C M : Type 0} (made : ℕ) (k : Knows (Opened C) (SeatRow M) Entry) : Type 0 where
+pub record IsFirstSeat {C V M : Type 0} (made : ℕ) (k : Knows (OpenedView C V M) (SeatRow M) (TurnView C V M)) : Type 0 where
   pub numbered : k.number ≡ 0
   pub free : k.holds ≡ false
   pub row : k.row ≡ empty_row
@@ -17,13 +24,28 @@ pub record IsFirstSeat {C M : Type 0} (made : ℕ) (k : Knows (Opened C) (SeatRo
   pub none_ended : k.ended ≡ []
 
 -- Of so many seats those of the others stand first, in the order of their numbers, and seat 0, which made them, is the last.
-pub record IsPlaced {C M : Type 0} (count place : ℕ) (k : Knows (Opened C) (SeatRow M) Entry) : Type 0 where
+pub record IsPlaced {C V M : Type 0} (count place : ℕ) (k : Knows (OpenedView C V M) (SeatRow M) (TurnView C V M)) : Type 0 where
   pub others : place + 1 < count → k.number ≡ place + 1
   pub first : place + 1 ≡ count → (k.number ≡ 0) × (k.made ≡ count)
 
-module _ {S C M : Type 0} (baton : Baton S (Opened C) (SeatRow M) Entry) (opened : Option (Opened C)) (count : ℕ) where
+module _ {S C V M : Type 0} (baton : Baton S (OpenedView C V M) (SeatRow M) (TurnView C V M)) (opened : Option (OpenedView C V M)) (count : ℕ) where
   -- a seat of the baton at its place, which knows what the shell was opened with
-  pub record IsSeatAt (place : ℕ) (seat : SeatAt S (Opened C) (SeatRow M) Entry) : Type 0 where
+  pub record IsSeatAt (place : ℕ) (seat : SeatAt S (OpenedView C V M) (SeatRow M) (TurnView C V M)) : Type 0 where
     pub of : IsSeatOf baton seat
     pub fixed : (knows seat).fixed ≡ opened
     pub placed : IsPlaced count place (knows seat)
+
+-- Turns of the seats of a team led from a shell to one that is at its end: a stop is kept, and no seat has anything at work. Each worker
+-- left its row and the turns that it had seen, and the turns of its seat are its own.
+pub record HasBeenLedBy {C V M : Type 0} (meaning : Meaning C V M) (seats : ℕ) (first : ShellView C V M) (end : End V) : Type 0 where
+  pub last : ShellView C V M
+  pub turns : List (TurnView C V M)
+  pub follows : Turns meaning first turns last
+  pub left : List (LastSeen (SeatRow M) (TurnView C V M))
+  pub count : length left ≡ seats
+  pub rows : List (SeatRow M)
+  pub stays : (n : ℕ) (it : LastSeen (SeatRow M) (TurnView C V M)) → slice_get left n ≡ Some it → Stays maker n it rows turns
+  pub by_seats : All (λ t. t.seat < seats) turns
+  pub idle : (seat : ℕ) → task_at last.core.tasks seat ≡ Task.Idle
+  pub stopped : IsSome last.core.stop
+  pub ended : end ≡ end_of last.core

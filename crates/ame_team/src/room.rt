@@ -4,24 +4,25 @@ ghost use Rattle.std.specs.Prelude.{◌≡◌, ◌≤◌, ◌+◌, [], All, IfOk
 ghost use Rattle.std.specs.Arc.{arc_value};
 
 use ame_baton::SeatAt;
-use ame_journal::Entry;
+use ame_device::Device;
+use ame_io::Sink;
 use ame_machine::Runner;
-use ame_worker::{Opened, SeatRow, Shared, Worker};
+use ame_worker::{Opened, SeatRow, Shared, TurnRecord, Worker};
 use std::alloc::{AllocError, Global};
 use std::sync::Arc;
 
 /// What a run by workers needs besides its shell, so that nothing is begun before it is there: a share of the code for each worker but
 /// the last, and room for the workers and for their seats.
-pub(crate) struct Room<M: Runner, K, D>
+pub(crate) struct Room<M: Runner, K: Sink, D: Device>
 where
     M::Code: Drop,
 {
     pub codes: Vec<Arc<M::Code>>,
     pub workers: Vec<Worker<M, K, D>>,
-    pub seats: Vec<SeatAt<Shared<M, K, D>, Opened<M::Code>, SeatRow<M>, Entry>>,
+    pub seats: Vec<SeatAt<Shared<M, K, D>, Opened<M, K, D>, SeatRow<M>, TurnRecord<M, K, D>>>,
 }
 
-impl<M: Runner, K, D> Drop for Room<M, K, D>
+impl<M: Runner, K: Sink, D: Device> Drop for Room<M, K, D>
 where
     M::Code: Drop,
 {
@@ -49,7 +50,7 @@ fn shares<C: Drop>(alloc: Global, code: &Arc<C>, count: usize) -> Result<Vec<Arc
     Ok(codes)
 }
 
-impl<M: Runner, K, D> Room<M, K, D>
+impl<M: Runner, K: Sink, D: Device> Room<M, K, D>
 where
     M::Code: Drop,
 {
@@ -77,7 +78,7 @@ where
     ) -> (
         Vec<Arc<M::Code>>,
         Vec<Worker<M, K, D>>,
-        Vec<SeatAt<Shared<M, K, D>, Opened<M::Code>, SeatRow<M>, Entry>>,
+        Vec<SeatAt<Shared<M, K, D>, Opened<M, K, D>, SeatRow<M>, TurnRecord<M, K, D>>>,
     )
         ensures codes { result.0 ≡ self.codes }
         ensures workers { result.1 ≡ self.workers }

@@ -7,7 +7,8 @@ ghost use Rattle.ame_shell.specs.Ends.{ends_of};
 ghost use Rattle.ame_shell.specs.Over.{IsOverSince};
 ghost use Rattle.ame_shell.specs.Shell.{shell_view};
 ghost use Rattle.ame_worker.specs.Rows.{empty_row};
-ghost use Rattle.ame_worker.specs.Shared.{opened_as, IsShared};
+ghost use Rattle.ame_worker.specs.Shared.{opened_from, opening_from, IsShared};
+ghost use Rattle.ame_team.specs.Teams.{HasBeenLedBy};
 
 use crate::room::Room;
 use crate::team::{seats_of, team, work_all};
@@ -41,23 +42,24 @@ where
     D: Device + Send,
     G: Gate + Sync,
     R: Threads + Wait + Sync,
-    requires limits { AreLimits shared.shell.value.engine.limits }
-    requires code { arc_value code ≡ shared.shell.value.engine.code }
-    requires devices { (M.meaning.signature shared.shell.value.engine.code).devices ≤ vec_len shared.shell.value.devices }
+    requires limits { AreLimits shared.made.value.engine.limits }
+    requires code { arc_value code ≡ shared.made.value.engine.code }
+    requires devices { (M.meaning.signature (arc_value code)).devices ≤ vec_len shared.made.value.devices }
     requires stands { IsShared M.meaning
-        (opened_as shared.shell.value.engine (ends_of K.written K.faults D.device_heard D.device_faults shared.sink_before.value shared.shell.value.devices.items))
+        (opened_from (shell_view K.written K.faults D.device_heard D.device_faults shared.made.value) (shell_view K.written K.faults D.device_heard D.device_faults shared.shell.value))
         (shell_view K.written K.faults D.device_heard D.device_faults shared.shell.value)
-        shared.places.items (replicate shared.shell.value.engine.limits.seats empty_row) [] }
+        shared.places.items shared.turns (replicate shared.made.value.engine.limits.seats empty_row) [] }
     requires codes { All (λ it. arc_value it ≡ arc_value code) room.codes.items }
-    requires count { vec_len room.codes + 1 ≡ shared.shell.value.engine.limits.seats }
+    requires count { vec_len room.codes + 1 ≡ shared.made.value.engine.limits.seats }
     requires no_workers { room.workers.items ≡ [] }
-    requires workers { shared.shell.value.engine.limits.seats ≤ vec_capacity room.workers }
+    requires workers { shared.made.value.engine.limits.seats ≤ vec_capacity room.workers }
     requires no_seats { room.seats.items ≡ [] }
-    requires seats { shared.shell.value.engine.limits.seats ≤ vec_capacity room.seats }
-    ensures over { IfOk result (λ left. IsOverSince shared.shell.value.engine.base (M.meaning.program shared.shell.value.engine.code)
-        (M.meaning.signature shared.shell.value.engine.code) shared.shell.value.engine.limits (M.meaning.value_of shared.shell.value.engine.code)
-        (ends_of K.written K.faults D.device_heard D.device_faults shared.sink_before.value shared.shell.value.devices.items)
-        left.ended (ends_of K.written K.faults D.device_heard D.device_faults left.sink left.devices.items)) }
+    requires seats { shared.made.value.engine.limits.seats ≤ vec_capacity room.seats }
+    ensures over { let opening = opening_from (shell_view K.written K.faults D.device_heard D.device_faults shared.made.value) in
+        IfOk result (λ left. IsOverSince opening.base (M.meaning.program opening.code) (M.meaning.signature opening.code) opening.limits (M.meaning.value_of opening.code)
+        opening.ends left.ended (ends_of K.written K.faults D.device_heard D.device_faults left.sink left.devices.items)) }
+    ensures led { IfOk result (λ left. HasBeenLedBy M.meaning shared.made.value.engine.limits.seats
+        (shell_view K.written K.faults D.device_heard D.device_faults shared.shell.value) left.ended) }
     ensures back { IfErr result (λ back. back ≡ shared) }
 {
     let limits = *shared.shell.engine.limits();

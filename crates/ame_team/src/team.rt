@@ -4,7 +4,6 @@ ghost use Rattle.std.specs.Prelude.{◌≡◌, ◌≤◌, ◌<◌, ◌+◌, ℕ,
 ghost use Rattle.std.specs.Arc.{arc_value};
 ghost use Rattle.ame_baton.specs.Batons.{knows, IsSeatOf, IsReadySeat, AreReady};
 ghost use Rattle.ame_baton.specs.Keeping.{KeepsSeat};
-ghost use Rattle.ame_worker.specs.declared.shared.Opened.{Opened};
 ghost use Rattle.ame_worker.specs.declared.worker.Worker.{Worker};
 ghost use Rattle.ame_worker.specs.Rows.{empty_row};
 ghost use Rattle.ame_team.specs.Teams.{IsFirstSeat, IsSeatAt};
@@ -22,6 +21,7 @@ use std::thread;
 use std::thread::Threads;
 
 /// The last worker of a team leads, unless the gate may hold it until others have come somewhere. Tells whether the run is over then.
+/// The others stay as they are.
 fn lead<M, K, D, G, R>(
     rt: &R,
     alloc: Global,
@@ -41,6 +41,7 @@ where
     requires of { All (λ w. IsSeatOf baton.now w.seat) workers.old }
     requires ready { All (λ w. IsReadyToTurn M.meaning (arc_value w.code) w.limits (knows w.seat) w.work) workers.old }
     ensures count { length workers.new ≡ length workers.old }
+    ensures others { (i : ℕ) (d : Worker M K D M.Code M.Value) → i + 1 < length workers.old → slice_index_or workers.new i d ≡ slice_index_or workers.old i d }
     ensures of { All (λ w. IsSeatOf baton.now w.seat) workers.new }
     ensures ready { All (λ w. IsReadyToTurn M.meaning (arc_value w.code) w.limits (knows w.seat) w.work) workers.new }
     ensures keeps { (i : ℕ) (d : Worker M K D M.Code M.Value) → i < length workers.old

@@ -27,14 +27,6 @@ impl Locs {
         Locs { items }
     }
 
-    /// The vector again, without memory.
-    pub fn into_vec(self) -> Vec<Loc>
-        ensures { self ≡ map (λ l. l.0) result.items }
-    {
-        let Locs { items } = self;
-        items
-    }
-
     /// The locations, in order.
     pub fn as_slice(&self) -> &[Loc]
         ensures { self.now ≡ map (λ l. l.0) result.now }

@@ -52,7 +52,7 @@ run-shown program entries stop before now sent output r there is h sends =
     }
 
 pub shell-shown : {C V M : Type 0} (meaning : Meaning C V M) (opening : Opening C) (shell : ShellView C V M) → Simulates (parts_of meaning shell.core)
-    → IsShell meaning.program opening shell → opening.base ≡ [] → HasShownARun (meaning.program opening.code) shell.core.stop opening.ends shell.ends
+    → IsShell meaning opening shell → opening.base ≡ [] → HasShownARun (meaning.program opening.code) shell.core.stop opening.ends shell.ends
 shell-shown {C} meaning opening shell stands h none =
     let base : shell.core.base ≡ [] = h.opened.base ∙ none in
     let program = meaning.program shell.core.code in

@@ -3,6 +3,7 @@
 
 mod doomed;
 mod journals;
+mod ran;
 mod so_far;
 
 pub use doomed::{
@@ -10,4 +11,5 @@ pub use doomed::{
     machines_on_valid_rows_are_under_way, valid_rows_are_fragments,
 };
 pub use journals::{journals_compose, prefixes_replay, runs_have_journals};
+pub use ran::{counters_tell_entries, first_stops_decide, members_turn_back_seldom};
 pub use so_far::shells_tell_a_run_so_far;

@@ -1,10 +1,10 @@
 -- A walk along the parts of a `do` form.
-use Rattle.std.proofs.Common.{◌≡◌, ℕ, ◌+◌, ◌<◌, ◌≤◌, List, [], ◌∷◌, ◌++◌, length, get_or, drop, refl, sym, ◌∙◌, subst, arith, append_assoc, append-nil, Ok, Err, true, false}
+use Rattle.std.proofs.Common.{◌≡◌, ℕ, ◌+◌, ◌<◌, ◌≤◌, List, [], ◌∷◌, ◌++◌, length, get_or, drop, refl, ◌∙◌, subst, arith, append_assoc, Ok, true, false}
 use Rattle.ame_term.specs.Tree.{Typ}
 use Rattle.ame_term.specs.View.{tree_of, trees_of}
-use Rattle.ame_term.specs.SourceTerm.{nodes, all_nodes, HasTwo, IsSourceTerm, AreSourceTerms, IsBound, AllBound}
+use Rattle.ame_term.specs.SourceTerm.{nodes, all_nodes, AreSourceTerms, AllBound}
 use Rattle.ame_term.specs.Scope.{Scope}
-use Rattle.ame_term.specs.Shown.{TypeFault, not_unit}
+use Rattle.ame_term.specs.Shown.{not_unit}
 use Rattle.ame_term.specs.Typing.{typed, typed_parts, ref_types_in, ref_types_in_parts, no_cells, same_type}
 use Rattle.ame_term.specs.declared.types.Effect.{Effect}
 use Rattle.ame_term.specs.declared.term.Term.{Term}
@@ -22,43 +22,7 @@ module _ (devices : ℕ) (places : ℕ → ℕ) (scope : Scope) (names : List �
     pub source : AreSourceTerms (trees_of rest)
     pub bound : AllBound names (trees_of rest)
 
-  two : (all : List Term) → HasTwo (trees_of all) → 0 < length all
-  two [] h = absurd h
-  two (x ∷ []) h = absurd h
-  two (x ∷ y ∷ ys) h = omega arith
-
-  pub begins : (i : ℕ) (refs : List Typ) (all : List Term) → HasTwo (trees_of all) → AreSourceTerms (trees_of all) → AllBound names (trees_of all) →
-      Left i refs all i refs all
-  begins i refs all h w b =
-      record { some = two all h; outcome = refl; stored = refl; nodes = refl; within = omega arith; source = w; bound = b }
-
   module _ {i : ℕ} {refs : List Typ} {all : List Term} {j : ℕ} {more : List Typ} where
-    -- the next part
-    pub part_nodes : (rest : List Term) (x : Term) → Left i refs all j more rest → x ≡ get_or rest 0 x → nodes (tree_of x) ≤ all_nodes (trees_of rest)
-    unfolding all_nodes
-    part_nodes [] x l e = absurd (omega (arith, l.some))
-    part_nodes (y ∷ ys) x l e = rw e (omega arith)
-
-    pub part_source : (rest : List Term) (x : Term) → Left i refs all j more rest → x ≡ get_or rest 0 x → IsSourceTerm (tree_of x)
-    unfolding AreSourceTerms
-    part_source [] x l e = absurd (omega (arith, l.some))
-    part_source (y ∷ ys) x l e = subst (λ (z : Term). IsSourceTerm (tree_of z)) (sym e) l.source.0
-
-    pub part_bound : (rest : List Term) (x : Term) → Left i refs all j more rest → x ≡ get_or rest 0 x → IsBound names (tree_of x)
-    unfolding AllBound
-    part_bound [] x l e = absurd (omega (arith, l.some))
-    part_bound (y ∷ ys) x l e = subst (λ (z : Term). IsBound names (tree_of z)) (sym e) l.bound.0
-
-    -- a part with a fault
-    pub fails : (rest : List Term) (x : Term) (f : TypeFault) → Left i refs all j more rest → x ≡ get_or rest 0 x →
-        typed devices no_cells places scope q j (tree_of x) ≡ Err f → typed_parts devices no_cells places scope q i (trees_of all) ≡ Err f
-    unfolding typed_parts
-    fails [] x f l e h = absurd (omega (arith, l.some))
-    fails (y ∷ []) x f l e h = l.outcome ∙ subst (λ (z : Term). typed devices no_cells places scope q j (tree_of z) ≡ Err f) e h
-    fails (y ∷ z ∷ zs) x f l e h =
-        let k = subst (λ (z : Term). typed devices no_cells places scope q j (tree_of z) ≡ Err f) e h in
-        l.outcome ∙ rw k refl
-
     -- a part before the last that isn't Unit
     pub gives_value : (rest : List Term) (x : Term) (t : Typ) (place : ℕ) → Left i refs all j more rest → 1 < length rest → x ≡ get_or rest 0 x →
         typed devices no_cells places scope q j (tree_of x) ≡ Ok t → place ≡ places j → same_type t Typ.Unit ≡ false →
@@ -92,19 +56,3 @@ module _ (devices : ℕ) (places : ℕ → ℕ) (scope : Scope) (names : List �
           source = l.source.1;
           bound = l.bound.1;
         })
-
-    -- the last part
-    pub ends : (rest : List Term) (x : Term) → Left i refs all j more rest → length rest ≤ 1 → x ≡ get_or rest 0 x →
-        (typed_parts devices no_cells places scope q i (trees_of all) ≡ typed devices no_cells places scope q j (tree_of x)) ×
-        (refs ++ ref_types_in_parts devices no_cells places scope q i (trees_of all) ≡ more ++ ref_types_in devices no_cells places scope q j (tree_of x)) ×
-        (i + all_nodes (trees_of all) ≡ j + nodes (tree_of x))
-    unfolding typed_parts ref_types_in_parts all_nodes
-    ends [] x l m e = absurd (omega (arith, l.some))
-    ends (y ∷ []) x l m e =
-        subst
-        (λ (z : Term). (typed_parts devices no_cells places scope q i (trees_of all) ≡ typed devices no_cells places scope q j (tree_of z)) ×
-        (refs ++ ref_types_in_parts devices no_cells places scope q i (trees_of all) ≡ more ++ ref_types_in devices no_cells places scope q j (tree_of z)) ×
-        (i + all_nodes (trees_of all) ≡ j + nodes (tree_of z)))
-        (sym e)
-        (l.outcome, l.stored ∙ rw append-nil refl, l.nodes ∙ omega arith)
-    ends (y ∷ z ∷ zs) x l m e = absurd (omega (arith, m))

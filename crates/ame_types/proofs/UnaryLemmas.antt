@@ -1,28 +1,11 @@
 -- Forms with one part: a part's fault is the form's, and the room of a `ref` form.
-use Rattle.std.proofs.Common.{◌≡◌, ℕ, true, List, [], ◌∷◌, ◌++◌, length, set, refl, ap, append_assoc, Ok, Err, ◌∙◌}
+use Rattle.std.proofs.Common.{◌≡◌, ℕ, List, [], ◌∷◌, ◌++◌, length, set, refl, ap, append_assoc, Ok, ◌∙◌}
 use Rattle.std.proofs.lemmas.List.{map-set}
 use Rattle.ame_term.specs.Tree.{Typ}
-use Rattle.ame_term.specs.Shown.{TypeFault}
-use Rattle.ame_term.specs.Typing.{unary_row, own_ref_type, no_cells}
-use Rattle.ame_term.specs.declared.types.Effect.{Effect}
+use Rattle.ame_term.specs.Typing.{own_ref_type, no_cells}
 use Rattle.ame_term.specs.declared.types.Unary.{Unary}
 use Rattle.ame_term.specs.declared.types.Unary.TheVariants as unary
-use Rattle.ame_types.specs.Unary.{stands_under, ref_room, filled}
-
--- where a form may stand, its part's fault is its own
-pub part_fails : (devices at part_at : ℕ) (op : Unary) (q : Effect) (f : TypeFault) → stands_under devices op q ≡ true →
-    unary_row devices op at part_at q (Err f) ≡ Err f
-part_fails devices at part_at unary.Not q f h = refl
-part_fails devices at part_at (unary.Ref sort number) q f h = refl
-part_fails devices at part_at unary.Get q f h = refl
-part_fails devices at part_at unary.Peek q f h = rw h refl
-part_fails devices at part_at unary.Block q f h = rw h refl
-part_fails devices at part_at unary.Print q f h = refl
-part_fails devices at part_at (unary.Call device) Effect.Unprotected f h = rw h refl
-part_fails devices at part_at (unary.Call device) Effect.Protected f h = cc
-part_fails devices at part_at (unary.Call device) Effect.Either f h = cc
-part_fails devices at part_at unary.First q f h = refl
-part_fails devices at part_at unary.Second q f h = refl
+use Rattle.ame_types.specs.Unary.{ref_room, filled}
 
 -- the item behind a front is changed
 set-behind : {X : Type 0} (front back : List X) (x y : X) → set ((front ++ x ∷ []) ++ back) (length front) y ≡ front ++ (y ∷ back)

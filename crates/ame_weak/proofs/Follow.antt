@@ -143,9 +143,6 @@ module _ (signature : Signature) (r : Replayed) (p : Place) (calm : IsCalm r) (c
   -- While a fragment is active
 
   module _ (w : Weak) (u : IsUnderWay signature r.state p.number p.steps p.fresh w) where
-    its-entry : Entry
-    its-entry = ran p.number p.steps p.fresh
-
     tells : TellsRun r (ran p.number p.steps p.fresh) Side.Protected p.steps u.place
     tells = record {
       idle = u.idle;

@@ -87,9 +87,6 @@ pub record IsBelow (s : State) (i : ℕ) (p : LocalState) (w : Weak) (v below : 
   pub stays : at below.members i ≡ at s.members i
   pub active : below.active ≡ s.active
 
-same_term : (m n : Tree) (o : Option Tree) → o ≡ Some m → o ≡ Some n → m ≡ n
-same_term m n o e f = let both : ◌≡◌ {A = Option Tree} (Some m) (Some n) = sym e ∙ f in cc
-
 module _ (signature : Signature) (cells : StoreTyping) (s : State) (i : ℕ) (p : LocalState) (w : Weak) (typed : IsTyped signature cells s)
     (h : IsLaid s i p w) (a : AgreesWith s.store p) (set : HasSetMade p) (untouched : IsApart cells p) (there : i < w.state.next) where
   its : (act : Act) (kind : StepKind) (made other : Tree × State) → Some made ≡ Some other → IsFreeActed s i p w act kind made → IsFreeActed s i p w act kind other

@@ -1,5 +1,5 @@
 -- A label of a weak state, by the parts of the code that takes it.
-use Rattle.std.proofs.Common.{◌≡◌, ℕ, ◌+◌, ◌++◌, ℤ, Bool, true, false, not, List, [], ◌∷◌, Option, Some, None, is_some, option_map, option_and_then, if◌then◌else◌, refl, sym, ap, ◌∙◌, arith, append-nil}
+use Rattle.std.proofs.Common.{◌≡◌, ℕ, ◌+◌, ◌++◌, ℤ, Bool, true, false, List, [], ◌∷◌, Option, Some, None, is_some, option_map, option_and_then, if◌then◌else◌, refl, sym, ap, ◌∙◌, arith, append-nil}
 use Rattle.std.specs.Prelude.{◌&&◌, Result, Ok, Err, IsSome, OnOk, OnErr, ◌↔◌}
 use Rattle.std.specs.Option.{option_map_or}
 use Rattle.ame_term.specs.Tree.{Tree, unit_tree}
@@ -37,14 +37,6 @@ told-in-one s t label (Ok x) ok illegal err = ok
 told-in-one s t label (Err Illegal) ok illegal err = (illegal.0 refl, err)
 told-in-one {X} s t label (Err NoMemory) ok illegal err =
     (some-of (after s label) (λ none. let clash : ◌≡◌ {A = Result X StepFail} (Err NoMemory) (Err Illegal) = illegal.1 none in cc), err)
-
-pub not-true : (b : Bool) → not b ≡ true → b ≡ false
-not-true true e = cc
-not-true false e = refl
-
-pub not-false : (b : Bool) → not b ≡ false → b ≡ true
-not-false true e = refl
-not-false false e = cc
 
 module _ (w : Weak) where
   pub activate-held : (i : ℕ) → holds_nothing w ≡ false → weak_after w (Label.Activate i) ≡ None

@@ -1,5 +1,5 @@
 -- What the loop of `straighten` has come to, label by label.
-use Rattle.std.proofs.Common.{◌≡◌, ℕ, ◌+◌, ◌<◌, ◌≤◌, ◌++◌, List, [], ◌∷◌, length, take, drop, get_or, Some, None, option_and_then, refl, sym, ap, ◌∙◌, subst, arith}
+use Rattle.std.proofs.Common.{◌≡◌, ℕ, ◌+◌, ◌<◌, ◌≤◌, ◌++◌, List, [], ◌∷◌, length, take, drop, get_or, Some, None, option_and_then, refl, sym, ap, ◌∙◌, arith}
 use Rattle.std.proofs.lemmas.Option.{option_and_then_some}
 use Rattle.std.proofs.lemmas.List.{append_assoc, take-append-drop, length-take-le, take_more, take_all, drop_more, drop_all}
 use Rattle.std.specs.Prelude.{Result, Ok, Err, IfOk}
@@ -48,16 +48,6 @@ past-steps p (Label.Free i kind) = omega arith
 past-steps p (Label.Close i) = omega arith
 
 module _ (program : Tree) (labels : List Label) (tries : List Try) where
-  pub on-begun : (w : Weak) (t : Transcript) → w ≡ weak_start program → KeepsPlace outset t → t.journal.entries ≡ [] → IsOnTheWay program labels tries 0 w t tries
-  on-begun w t is stands empty = record {
-    leads = ap Some (sym is);
-    place = outset;
-    stands = stands;
-    written = ap (λ es. es ++ straight_with 0 tries outset labels) empty;
-    room = subst (λ (z : Weak). taken_numbers z ≤ 1) (sym is) (omega arith);
-    few = let none : t.steps ≡ 0 = stands.steps in omega arith;
-  }
-
   module _ (k : ℕ) (w : Weak) (t : Transcript) (ts : List Try) (o : IsOnTheWay program labels tries k w t ts) where
     pub on-more : (d : Label) (v : Weak) (noted next : Transcript) (rest : List Try) → k < length labels → AddsEntries (noted_tries k ts) t noted → rest ≡ tries_behind k ts
         → weak_after w (get_or labels k d) ≡ Some v → Writes (get_or labels k d) noted next → IsOnTheWay program labels tries (k + 1) v next rest

@@ -63,12 +63,6 @@ ledger-same p n old new a s = record {
   number = a.number ∙ s.number;
 }
 
-pub begins-there : (i : ℕ) (old new : Ledger) → new.count ≡ old.count → new.inside ≡ old.inside → new.number ≡ i → LedgerPasses (Label.Activate i) old new
-begins-there i old new count inside number p s = (
-  record { inside = λ j. ap (λ (z : BTreeSet ℕ). contains nat_cmp z j) inside ∙ s.inside j; number = number },
-  omega (arith, count),
-)
-
 pub steps-there : (l : Ledger) (kind : StepKind) → LedgerPasses (Label.Step kind) l l
 steps-there l kind p s = (record { inside = s.inside; number = s.number }, omega arith)
 
@@ -108,13 +102,6 @@ pub record AreCountsTo (labels : List Label) (tries : List Try) (k : ℕ) (rest 
   pub counted : counts ++ counts_from k l.count rest place (drop k labels) ≡ counts_from 0 0 tries outset labels
 
 module _ (labels : List Label) (tries : List Try) where
-  pub counts-begun : (l : Ledger) (counts : List ℕ) → IsLedgerAt outset l → l.count ≡ 0 → counts ≡ [] → AreCountsTo labels tries 0 tries l counts
-  counts-begun l counts stands none empty = record {
-    place = outset;
-    stands = stands;
-    counted = ap (λ (ns : List ℕ). ns ++ counts_from 0 l.count tries outset labels) empty ∙ ap (λ (m : ℕ). counts_from 0 m tries outset labels) none;
-  }
-
   pub counts-more : (k : ℕ) (ts rest : List Try) (l noted next : Ledger) (counts more : List ℕ) (d : Label) → AreCountsTo labels tries k ts l counts → k < length labels
       → CountsMore (length (noted_tries k ts)) l noted → rest ≡ tries_behind k ts → LedgerPasses (get_or labels k d) noted next → more ≡ counts ++ next.count ∷ []
       → AreCountsTo labels tries (k + 1) rest next more

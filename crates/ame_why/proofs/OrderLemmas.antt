@@ -1,16 +1,15 @@
 -- Rows of labels, one after another.
 use Rattle.std.proofs.Common.{◌≡◌, ℕ, ◌+◌, ◌<◌, ◌≤◌, ◌++◌, List, [], ◌∷◌, length, take, drop, get_or, Option, Some, None, refl, sym, ap, subst, ◌∙◌, arith}
-use Rattle.std.proofs.lemmas.List.{append_assoc, length_push, take_more, take_all, drop_more, take-append-drop, length-take-le}
+use Rattle.std.proofs.lemmas.List.{append_assoc, take_more, take_all, drop_more, take-append-drop, length-take-le}
 use Rattle.std.specs.Prelude.{codes, decimal, option_and_then}
 use Rattle.ame_term.specs.declared.semantics.Label.{Label}
 use Rattle.ame_print.specs.Printer.{spelling_of}
 use Rattle.ame_weak.specs.Weak.{Weak, weak_after, weak_run}
 use Rattle.ame_weak.specs.View.{weak_of}
-use Rattle.ame_weak.specs.Tries.{AreTriesInOrder}
 use Rattle.ame_weak.specs.declared.tries.Try.{Try}
 use Rattle.ame_why.specs.Page.{column}
 use Rattle.ame_why.specs.Stepped.{kind_of, reduced_term}
-use Rattle.ame_why.specs.WeakOrder.{touched_at, before_label, behind_label, weak_row, taken_back_row, weak_heading, entries_after, NoneIsNext, TellsLabels, TellsOrder}
+use Rattle.ame_why.specs.WeakOrder.{touched_at, before_label, behind_label, weak_row, taken_back_row, weak_heading, entries_after, NoneIsNext, TellsLabels}
 use Rattle.ame_why.specs.Orders.{TellsOne, TellsTries, TellsAll}
 use Rattle.ame_why.specs.declared.weak_order.Order.{Order}
 
@@ -96,26 +95,6 @@ leads_there names numbers w tries _ _ _ _ _ (TellsLabels.told page labels rest e
     ∙ ap (option_and_then (λ (x : Weak). weak_run x [])) legal
 leads_there names numbers w tries _ _ _ _ _ (TellsLabels.tried page labels t rest entries v before after) =
     leads_there names numbers w tries page labels (t ∷ rest) entries v before
-
--- Tries in order from after n labels, none of which stands there, are in order from after one more.
-order_goes_on : (n m : ℕ) (tries : List Try) → NoneIsNext n tries → AreTriesInOrder n m tries → AreTriesInOrder (n + 1) m tries
-order_goes_on n m [] next order = tt
-order_goes_on n m (t ∷ tries) next order = (omega (arith, next, order.0), order.1, order.2)
-
-left_in_order : (names : List (List ℕ)) (numbers : List ℕ) (w : Weak) (tries : List Try) (page : List ℕ) (labels : List Label) (rest : List Try) (entries : ℕ) (v : Weak)
-    → TellsLabels names numbers w tries page labels rest entries v → (m : ℕ) → AreTriesInOrder 0 m tries → AreTriesInOrder (length labels) m rest
-left_in_order names numbers w tries _ _ _ _ _ TellsLabels.none m order = order
-left_in_order names numbers w tries _ _ _ _ _ (TellsLabels.told page labels rest entries v u label before next legal) m order =
-    subst (λ (n : ℕ). AreTriesInOrder n m rest) (sym (length_push labels label))
-    (order_goes_on (length labels) m rest next (left_in_order names numbers w tries page labels rest entries v before m order))
-left_in_order names numbers w tries _ _ _ _ _ (TellsLabels.tried page labels t rest entries v before after) m order =
-    subst (λ (n : ℕ). AreTriesInOrder n m rest) after (left_in_order names numbers w tries page labels (t ∷ rest) entries v before m order).2
-
--- Of tries in order all are told, except those that were made after more labels than there are.
-pub left_behind : (names : List (List ℕ)) (numbers : List ℕ) (w : Weak) (tries : List Try) (labels : List Label) (page : List ℕ)
-    (o : TellsOrder names numbers w tries labels page) (m : ℕ) → AreTriesInOrder 0 m tries → AreTriesInOrder (length labels + 1) m o.later
-left_behind names numbers w tries labels page o m order =
-    order_goes_on (length labels) m o.later o.complete (left_in_order names numbers w tries page labels o.later o.entries o.behind o.told m order)
 
 -- The first k labels are told, and these tries are left.
 pub record IsToldTo (labels : List Label) (tries : List Try) (k : ℕ) (rest : List Try) (first o : Order) : Type 0 where

@@ -1,6 +1,6 @@
 -- Notes and certificates, with where their members stand.
-use Rattle.std.proofs.Common.{◌≡◌, ℕ, ◌+◌, ◌<◌, ◌≤◌, true, List, [], ◌∷◌, ◌++◌, length, get_or, take, Option, Some, IfSome, sym, ap, ◌∙◌, subst, append_assoc}
-use Rattle.std.proofs.lemmas.List.{take_more, take_all}
+use Rattle.std.proofs.Common.{◌≡◌, ℕ, ◌+◌, ◌<◌, true, List, [], ◌∷◌, ◌++◌, length, get_or, take, Option, Some, IfSome, sym, ap, ◌∙◌, subst, append_assoc}
+use Rattle.std.proofs.lemmas.List.{take_more}
 use Rattle.ame_lex.specs.Bytes.{Text}
 use Rattle.ame_lex.specs.Reading.{tokens_of}
 use Rattle.ame_journal.specs.declared.entry.Entry.{Entry}
@@ -111,10 +111,6 @@ module _ (text : Text) (code : FlatCode) (entries : List Entry) where
         take_more certificates i c below ∙ ap (λ (z : Certificate). take i certificates ++ z ∷ []) (sym is) in
         subst (λ (cs : List Certificate). TellEach text code entries cells cs later) (sym more)
         (subst (TellEach text code entries cells (take i certificates ++ c ∷ [])) (sym added) (TellEach.more (take i certificates) page c part told here))
-
-    pub tell-ends : (i : ℕ) → length certificates ≤ i → (page : List ℕ) → TellEach text code entries cells (take i certificates) page
-        → TellEach text code entries cells certificates page
-    tell-ends i past page told = subst (λ (cs : List Certificate). TellEach text code entries cells cs page) (take_all i certificates past) told
 
 -- what is so of what is there
 pub told-some : {A : Type 0} (P : A → Type 0) (o : Option A) (x : A) → o ≡ Some x → IfSome o P → P x

@@ -1,9 +1,8 @@
-//! The lines of each entry, at the speed of a run.
+//! The lines of each entry.
 
-ghost use Rattle.std.specs.Prelude.{◌≡◌, IfOk, IfSome, map};
+ghost use Rattle.std.specs.Prelude.{◌≡◌, IfOk, IfSome, drop, map};
 ghost use Rattle.ame_why.specs.Lines as spec;
 
-use crate::lines::behind;
 use ame_check::{Made, Replay};
 use ame_journal::Entry;
 use ame_machine::Runner;
@@ -35,4 +34,15 @@ where
         }
     }
     Ok(Some(lines))
+}
+
+/// Returns the integers after the first `count`.
+fn behind(printed: &[i64], count: usize) -> &[i64]
+    ensures { result.now ≡ drop count printed.now }
+{
+    if count <= printed.len() {
+        printed.split_at(count).1
+    } else {
+        &[]
+    }
 }

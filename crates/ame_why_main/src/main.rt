@@ -21,7 +21,7 @@ use crate::help::told_alone;
 use crate::kept::Kept;
 use crate::origin::Origin;
 use crate::run::{show, write};
-use ame_app::process_words;
+use ame_app::{exit_with, process_words};
 use ame_io::StdSource;
 use std::fs;
 use std::io::{self, Eprint, Input};
@@ -64,14 +64,14 @@ where
 
 fn main(rt: HostRuntime) -> ExitCode {
     let Ok(words) = process_words(&rt) else {
-        return ExitCode::from(3);
+        return exit_with(3);
     };
     let Ok(calls) = calls_of(rt.alloc(), words) else {
-        return ExitCode::from(9);
+        return exit_with(9);
     };
     let mut number = 0;
     for words in calls {
         number = call(&rt, words);
     }
-    ExitCode::from(number)
+    exit_with(number)
 }

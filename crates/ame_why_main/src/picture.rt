@@ -5,8 +5,8 @@ use crate::views::starters_told;
 use ame_app::{Mades, Report, StandardDevice};
 use ame_journal::{Entry, EntryKind};
 use ame_picture::{Captions, Did, Pick, drawing_of, picture_of};
+use ame_shell::Outcome;
 use ame_term::{NoMemory, push};
-use ame_turn::Deed;
 use ame_why::journal_of;
 use std::alloc::Global;
 
@@ -79,7 +79,7 @@ pub fn picks_of(
             Pick {
                 seat: made.seat,
                 member: made.member.unwrap_or(0),
-                did: did_of(made.deed, is_cut),
+                did: did_of(made.outcome, is_cut),
                 place: made.place,
             },
         )?;
@@ -88,27 +88,28 @@ pub fn picks_of(
 }
 
 /// What a seat did, as a picture shows it.
-fn did_of(deed: Deed, is_cut: bool) -> Did {
-    match deed {
-        Deed::Began => Did::Began,
-        Deed::Waited | Deed::Stopped | Deed::Lacked => Did::Idled,
-        Deed::Read => Did::Read,
-        Deed::Wrote => Did::Wrote,
-        Deed::Met(owner) => Did::Met(owner),
-        Deed::Allocated => Did::Allocated,
-        Deed::Checked => Did::Checked,
-        Deed::FoundInvalid(_) | Deed::Refused(_) | Deed::NotNoted(_) | Deed::NotTall(_) => {
-            Did::FoundInvalid
-        }
-        Deed::Ended => Did::Ended,
-        Deed::Left => Did::Left,
-        Deed::Noted => Did::Noted,
-        Deed::GrewTall => Did::GrewTall,
-        Deed::CameHome => Did::CameHome,
-        Deed::DeviceFailed(device) => Did::DeviceFailed(device),
-        Deed::Spent if is_cut => Did::Cut,
-        Deed::Spent => Did::Spent,
-        Deed::Undid => Did::Undid,
-        Deed::WentHome => Did::WentHome,
+fn did_of(outcome: Outcome, is_cut: bool) -> Did {
+    match outcome {
+        Outcome::Began => Did::Began,
+        Outcome::Waited | Outcome::Stopped | Outcome::Lacked => Did::Idled,
+        Outcome::Read => Did::Read,
+        Outcome::Wrote => Did::Wrote,
+        Outcome::Met(owner) => Did::Met(owner),
+        Outcome::Allocated => Did::Allocated,
+        Outcome::Checked => Did::Checked,
+        Outcome::FoundInvalid(_)
+        | Outcome::Refused(_)
+        | Outcome::NotNoted(_)
+        | Outcome::NotTall(_) => { Did::FoundInvalid }
+        Outcome::Ended => Did::Ended,
+        Outcome::Left => Did::Left,
+        Outcome::Noted => Did::Noted,
+        Outcome::GrewTall => Did::GrewTall,
+        Outcome::CameHome => Did::CameHome,
+        Outcome::DeviceFailed(device) => Did::DeviceFailed(device),
+        Outcome::Spent if is_cut => Did::Cut,
+        Outcome::Spent => Did::Spent,
+        Outcome::Undid => Did::Undid,
+        Outcome::WentHome => Did::WentHome,
     }
 }

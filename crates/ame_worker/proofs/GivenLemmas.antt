@@ -1,106 +1,41 @@
 -- What a seat knows that gave the turn.
 use Rattle.ame_term.specs.Signature.{Signature}
-use Rattle.std.proofs.Common.{◌≡◌, ℕ, ◌<◌, Bool, true, false, List, ◌++◌, length, set, All, Option, Some, None, slice_get, refl, sym, ap, ◌∙◌, subst, arith}
+use Rattle.std.proofs.Common.{◌≡◌, ℕ, ◌<◌, List, ◌++◌, length, set, Option, Some, slice_get, slice_index_or, sym, ap, ◌∙◌, subst, arith}
 use Rattle.std.specs.Prelude.{IsSomeAnd}
-use Rattle.std.proofs.lemmas.List.{get_or-set_same}
+use Rattle.std.proofs.lemmas.List.{get_or-set_same, append_cancel_left}
 use Rattle.std.proofs.lemmas.Option.{slice_get_within}
-use Rattle.ame_journal.specs.declared.entry.Entry.{Entry}
+use Rattle.ame_machine.specs.Meaning.{Meaning}
 use Rattle.ame_protocol.specs.declared.types.Limits.{Limits}
-use Rattle.ame_turn.specs.declared.work.Deed.{Deed}
-use Rattle.ame_turn.specs.declared.work.Work.{Work}
-use Rattle.ame_turn.specs.Asked.{LacksWhereDue}
-use Rattle.ame_turn.specs.Work.{stage_at}
-use Rattle.ame_turn.specs.Ready.{CanBePrepared, IsPrepared}
+use Rattle.ame_engine.specs.Whole.{AreLimits}
+use Rattle.ame_shell.specs.declared.work.Work.{Work}
+use Rattle.ame_shell.specs.Ready.{CanBePrepared, IsPrepared}
 use Rattle.ame_shell.specs.Shell.{ShellView}
-use Rattle.ame_shell.specs.Turned.{HasTurned}
+use Rattle.ame_shell.specs.Turned.{IsInOrder}
+use Rattle.ame_shell.specs.Work.{stage_at, Fits}
 use Rattle.ame_baton.specs.declared.view.Knows.{Knows}
-use Rattle.ame_baton.specs.Seats.{MayGive, Gives}
-use Rattle.ame_baton.specs.Keeping.{KeepsSeat}
-use Rattle.ame_baton.proofs.Keeping.{give_leaves}
+use Rattle.ame_baton.specs.Seats.{Takes, MayGive, Gives}
+use Rattle.ame_baton.specs.Keeping.{KeepsSeat, FindsAsLeft, HasGiven}
+use Rattle.ame_baton.proofs.Keeping.{keeps_both, take_finds, give_leaves}
 use Rattle.ame_baton.proofs.Lookups.{get_set_here}
 use Rattle.ame_worker.specs.declared.gate.Point.{Point}
-use Rattle.ame_worker.specs.declared.shared.Opened.{Opened}
-use Rattle.ame_worker.specs.Leads.{HasLed}
-use Rattle.ame_worker.specs.Points.{member_at, point_of}
+use Rattle.ame_worker.specs.Led.{HasLed, HasHadTurn}
+use Rattle.ame_worker.specs.Leads.{RestsAtStop}
 use Rattle.ame_worker.specs.Rows.{Kept, SeatRow, nothing_kept, row_of}
-use Rattle.ame_worker.specs.Shared.{keeping, IsShared}
-use Rattle.ame_worker.specs.Turns.{maker, HasGivenRow, MakesTurn}
-use Rattle.ame_worker.specs.Workers.{IsSeated, IsReadyToTurn}
-use Rattle.ame_worker.proofs.HandLemmas.{some-is, rows-there}
+use Rattle.ame_worker.specs.Shared.{OpenedView, keeping, IsShared}
+use Rattle.ame_worker.specs.Turns.{TurnView, Turns, AreOfSeat, maker, member_of_turn}
+use Rattle.ame_worker.specs.Workers.{IsSeated, IsReadyToTurn, IsThrough}
+use Rattle.ame_worker.proofs.HandLemmas.{HasPlayed, some-is, rows-there, in-order, hand-fits, shared-on, its-turns}
+use Rattle.ame_worker.proofs.TurnLemmas.{turns-split, slot-stays}
+use Rattle.ame_worker.proofs.ThroughLemmas.{point-stopped, has-stopped}
 use Rattle.ame_worker.proofs.WorkLemmas.{prepared-none}
-use Rattle.ame_machine.specs.Meaning.{Meaning}
 
 -- what is so of the fixed part that is known
 pub some-and : {F : Type 0} (P : F → Type 0) (o : Option F) (f : F) → o ≡ Some f → IsSomeAnd o P → P f
 some-and {F} P o f e h = subst (λ (x : Option F). IsSomeAnd x P) e h
 
-module _ {C V M : Type 0} (meaning : Meaning C V M) where
-  abbrev Shares : Opened C → ShellView C V M → List (Kept M) → List (SeatRow M) → List Entry → Type 0
-  Shares = IsShared meaning
-
-  -- the row is what the engine has of the seat, and what was kept
-  row-given : (opened : Opened C) (new : ShellView C V M) (places : List (Kept M)) (rows : List (SeatRow M)) (told : List Entry) (seat : ℕ) (row : SeatRow M) (kept : Kept M)
-      → Shares opened new (set places seat kept) (set rows seat row) told → seat < length rows → seat < length places → seat < new.core.limits.seats
-      → row ≡ row_of new.core seat kept
-  row-given opened new places rows told seat row kept shared in_rows in_places within =
-      some-is row (row_of new.core seat kept)
-      (sym (get_set_here rows seat row in_rows)
-      ∙ ap (λ (all : List (SeatRow M)). slice_get all seat) (sym shared.rows)
-      ∙ rows-there new.core (set places seat kept) seat within
-      ∙ ap (λ (x : Kept M). Some (row_of new.core seat x)) (get_or-set_same places seat kept nothing_kept in_places))
-
-  module _ {S : Type 0} (shown_of : S → ShellView C V M) (places_of : S → List (Kept M)) (leaves : SeatRow M → Type 0)
-      (k after : Knows (Opened C) (SeatRow M) Entry) (state : S)
-      (gives : Gives (λ s opened rows told. Shares opened (shown_of s) (places_of s) rows told) maker leaves k state after)
-      (opened : Opened C) (is : k.fixed ≡ Some opened) (new : ShellView C V M) (shows : shown_of state ≡ new) (places : List (Kept M)) (hand : Work M)
-      (keeps : places_of state ≡ set places k.number (keeping new.core hand))
-      (in_rows : k.number < length k.rows) (in_places : k.number < length places) (within : k.number < new.core.limits.seats) where
-    it-shared : Shares opened new (set places k.number (keeping new.core hand)) (set k.rows k.number gives.0.row) (k.seen ++ gives.0.added)
-    it-shared =
-        subst (λ (ps : List (Kept M)). Shares opened new ps (set k.rows k.number gives.0.row) (k.seen ++ gives.0.added)) keeps
-        (subst (λ (s : ShellView C V M). Shares opened s (places_of state) (set k.rows k.number gives.0.row) (k.seen ++ gives.0.added)) shows
-        (some-and (λ (o : Opened C). Shares o (shown_of state) (places_of state) (set k.rows k.number gives.0.row) (k.seen ++ gives.0.added)) k.fixed opened is gives.0.stands))
-
-    it-row : gives.0.row ≡ row_of new.core k.number (keeping new.core hand)
-    it-row =
-        row-given opened new places k.rows (k.seen ++ gives.0.added) k.number gives.0.row (keeping new.core hand) it-shared in_rows in_places within
-
-    row-is : after.row ≡ gives.0.row
-    row-is = ap (λ (x : Knows (Opened C) (SeatRow M) Entry). x.row) gives.1
-
-    pub gave-row : HasGivenRow (row_of new.core k.number (keeping new.core hand)) k after
-    gave-row =
-        let left = give_leaves (λ s opened rows told. Shares opened (shown_of s) (places_of s) rows told) maker leaves k after state gives in
-        record {
-          keeps = left.keeps;
-          free = left.free;
-          row = row-is ∙ it-row;
-          added = left.added;
-          by_seat = left.by_seat;
-          seen = left.seen;
-          own = left.own;
-        }
-
-  -- and a seat may give what is so
-  pub may-give-on : {S : Type 0} (shown_of : S → ShellView C V M) (places_of : S → List (Kept M)) (leaves : SeatRow M → Type 0)
-      (k : Knows (Opened C) (SeatRow M) Entry) (state : S) (opened : Opened C) → k.fixed ≡ Some opened → (new : ShellView C V M) → shown_of state ≡ new
-      → (places : List (Kept M)) → places_of state ≡ places → (row : SeatRow M) → leaves row → (added : List Entry) → All (λ e. maker e ≡ k.number) added
-      → Shares opened new places (set k.rows k.number row) (k.seen ++ added)
-      → MayGive (λ s opened rows told. Shares opened (shown_of s) (places_of s) rows told) maker leaves k state
-  may-give-on shown_of places_of leaves k state opened is new shows places keeps row left added by_seat on = record {
-    row = row;
-    added = added;
-    stands =
-        subst (λ (x : Option (Opened C)). IsSomeAnd x (λ o. Shares o (shown_of state) (places_of state) (set k.rows k.number row) (k.seen ++ added))) (sym is)
-        (subst (λ (s : ShellView C V M). Shares opened s (places_of state) (set k.rows k.number row) (k.seen ++ added)) (sym shows)
-        (subst (λ (ps : List (Kept M)). Shares opened new ps (set k.rows k.number row) (k.seen ++ added)) (sym keeps) on));
-    by_seat = by_seat;
-    leaves_row = left;
-  }
-
 -- a seat stays one of the shell
-pub still-seated : {C M : Type 0} (signature : C → Signature) (code : C) (limits : Limits) (before after : Knows (Opened C) (SeatRow M) Entry) → KeepsSeat before after
-    → IsSeated signature code limits before → IsSeated signature code limits after
+pub still-seated : {C V M : Type 0} (signature : C → Signature) (code : C) (limits : Limits) (before after : Knows (OpenedView C V M) (SeatRow M) (TurnView C V M))
+    → KeepsSeat before after → IsSeated signature code limits before → IsSeated signature code limits after
 still-seated signature code limits before after keeps s = record {
   opened = s.opened;
   is = keeps.fixed ∙ s.is;
@@ -112,107 +47,187 @@ still-seated signature code limits before after keeps s = record {
   seats = keeps.seats ∙ s.seats;
 }
 
--- and is ready for its next turn
-pub ready-again : {C V M : Type 0} (meaning : Meaning C V M) (code : C) (limits : Limits) (before after : Knows (Opened C) (SeatRow M) Entry)
-    (left : SeatRow M) (hand : Work M) → HasGivenRow left before after → left.hand ≡ hand → IsSeated meaning.signature code limits before
-    → CanBePrepared meaning.is_machine meaning.stage code limits.slice hand → IsReadyToTurn meaning code limits after hand
-ready-again {C} {V} {M} meaning code limits before after left hand gave same seated can = record {
-  seated = still-seated meaning.signature code limits before after gave.keeps seated;
-  free = gave.free;
-  prepared =
-      subst (λ (w : Work M). IsPrepared meaning.is_machine meaning.stage code limits.slice w hand)
-      (sym (ap (λ (r : SeatRow M). r.hand) gave.row ∙ same))
-      (prepared-none meaning.is_machine meaning.stage code limits.slice hand can);
-  can = can;
-}
+module _ {C V M : Type 0} (meaning : Meaning C V M) {S : Type 0} (shown_of : S → ShellView C V M) (places_of : S → List (Kept M))
+    (turns_of : S → List (TurnView C V M)) where
+  abbrev Stands : S → OpenedView C V M → List (SeatRow M) → List (TurnView C V M) → Type 0
+  Stands s opened rows told = IsShared meaning opened (shown_of s) (places_of s) (turns_of s) rows told
 
--- a seat is one of a shell that is shared
-pub within-shell : {C V M : Type 0} (meaning : Meaning C V M)
-    (limits : Limits) (code : C) (k : Knows (Opened C) (SeatRow M) Entry) → IsSeated meaning.signature code limits k → (opened : Opened C) → k.fixed ≡ Some opened
-    → (shell : ShellView C V M) (places : List (Kept M)) (rows : List (SeatRow M)) (told : List Entry) → IsShared meaning opened shell places rows told
-    → k.number < shell.core.limits.seats
-within-shell {C} meaning limits code k seated opened is shell places rows told shared =
-    subst (λ (l : Limits). k.number < l.seats)
-    (sym (shared.shell.opened.limits ∙ ap (λ (o : Opened C). o.limits) (some-is opened seated.opened (sym is ∙ seated.is)) ∙ seated.of_limits)) seated.number
+  -- what is given by a seat that knows the same
+  pub gives-as : (leaves : SeatRow M → Type 0) (k l : Knows (OpenedView C V M) (SeatRow M) (TurnView C V M)) (given : S)
+      (after : Knows (OpenedView C V M) (SeatRow M) (TurnView C V M)) → k ≡ l → Gives Stands maker leaves k given after
+      → Gives Stands maker leaves l given after
+  gives-as leaves k l given after same gives =
+      subst (λ (x : Knows (OpenedView C V M) (SeatRow M) (TurnView C V M)). Gives Stands maker leaves x given after) same gives
 
--- the limits are those of the shell
-pub same-limits : {C V M : Type 0} (meaning : Meaning C V M)
-    (limits : Limits) (code : C) (k : Knows (Opened C) (SeatRow M) Entry) (seated : IsSeated meaning.signature code limits k) (shell : ShellView C V M) (places : List (Kept M))
-    (rows : List (SeatRow M)) (told : List Entry) → IsSomeAnd k.fixed (λ o. IsShared meaning o shell places rows told)
-    → limits ≡ shell.core.limits
-same-limits {C} meaning limits code k seated shell places rows told stands =
-    let was = some-and (λ (o : Opened C). IsShared meaning o shell places rows told) k.fixed seated.opened seated.is stands in
-    sym (was.shell.opened.limits ∙ seated.of_limits)
+  pub may-as : (leaves : SeatRow M → Type 0) (k l : Knows (OpenedView C V M) (SeatRow M) (TurnView C V M)) (given : S) → k ≡ l
+      → MayGive Stands maker leaves l given → MayGive Stands maker leaves k given
+  may-as leaves k l given same may =
+      subst (λ (x : Knows (OpenedView C V M) (SeatRow M) (TurnView C V M)). MayGive Stands maker leaves x given) (sym same) may
 
-module _ {C V M : Type 0} (meaning : Meaning C V M) where
-  -- what a seat makes of a shell
-  pub makes-turn : (code : C) (lacks : Bool) (hand new : Work M) (k : Knows (Opened C) (SeatRow M) Entry) (taken old now given : ShellView C V M) (places kept : List (Kept M)) (point : Point)
-      (opened : Opened C) → k.fixed ≡ Some opened → old ≡ taken → given ≡ now → kept ≡ set places k.number (keeping now.core new)
-      → IsShared meaning opened old places k.rows k.seen → (deed : Deed) → HasTurned meaning k.number (stage_at meaning.stage code hand) old now deed
-      → (lacks ≡ true → old.core.stop ≡ None → deed ≡ Deed.Lacked) → (lacks ≡ false → LacksWhereDue old.core k.number (stage_at meaning.stage code hand) deed)
-      → (added : List Entry) → All (λ e. maker e ≡ k.number) added
-      → IsShared meaning opened now (set places k.number (keeping now.core new)) (set k.rows k.number (row_of now.core k.number (keeping now.core new))) (k.seen ++ added)
-      → point ≡ point_of deed (member_at old.core k.number) (member_at now.core k.number) → MakesTurn meaning code lacks hand new k taken places given kept point
-  makes-turn code lacks hand new k taken old now given places kept point opened is took gives keeps was deed turned lacked due added by_seat on told =
-      subst (λ (s : ShellView C V M). MakesTurn meaning code lacks hand new k s places given kept point) took
-      (subst (λ (s : ShellView C V M). MakesTurn meaning code lacks hand new k old places s kept point) (sym gives)
-      (record {
-        opened = opened;
-        is = is;
-        was = was;
-        deed = deed;
-        turned = turned;
-        lacked = lacked;
-        due = due;
-        keeps = keeps;
-        added = added;
-        by_seat = by_seat;
-        then =
-            subst (λ (ps : List (Kept M)). IsShared meaning opened now ps (set k.rows k.number (row_of now.core k.number (keeping now.core new))) (k.seen ++ added))
-            (sym keeps) on;
-        told = told;
-      }))
+  -- A seat took the turn
+  module _ (code : C) (limits : Limits) (before holding : Knows (OpenedView C V M) (SeatRow M) (TurnView C V M)) (taken : S)
+      (seated : IsSeated meaning.signature code limits before) (takes : Takes Stands maker before taken holding) where
+    finds : FindsAsLeft maker before holding
+    finds = take_finds Stands maker before holding taken takes
 
-  -- what it is at hands and codes that are the same
-  pub makes-turn-of : (at code : C) → at ≡ code → (lacks : Bool) (work hand new : Work M) → work ≡ hand → (k : Knows (Opened C) (SeatRow M) Entry) (taken given : ShellView C V M)
-      (places kept : List (Kept M)) (said point : Point) → said ≡ point → MakesTurn meaning at lacks work new k taken places given kept said
-      → MakesTurn meaning code lacks hand new k taken places given kept point
-  makes-turn-of at code of lacks work hand new same k taken given places kept said point is made =
-      subst (λ (p : Point). MakesTurn meaning code lacks hand new k taken places given kept p) is
-      (subst (λ (w : Work M). MakesTurn meaning code lacks w new k taken places given kept said) same
-      (subst (λ (c : C). MakesTurn meaning c lacks work new k taken places given kept said) of made))
+    pub was : IsShared meaning seated.opened (shown_of taken) (places_of taken) (turns_of taken) holding.rows holding.seen
+    was =
+        some-and (λ (o : OpenedView C V M). IsShared meaning o (shown_of taken) (places_of taken) (turns_of taken) holding.rows holding.seen)
+        before.fixed seated.opened seated.is takes.stands
 
-  -- a seat that made its turn
-  pub turn-leaves : (code : C) (lacks : Bool) (hand new : Work M) (k : Knows (Opened C) (SeatRow M) Entry) (taken given : ShellView C V M) (places kept : List (Kept M)) (point : Point)
-      → MakesTurn meaning code lacks hand new k taken places given kept point → HasLed meaning new k taken places given kept
-  turn-leaves code lacks hand new k taken given places kept point made = record {
-    opened = made.opened;
-    is = made.is;
-    was = made.was;
-    keeps = made.keeps;
-    added = made.added;
-    by_seat = made.by_seat;
-    then = made.then;
-  }
+    -- the limits are those of the shell
+    pub same-limits : (shown_of taken).core.limits ≡ limits
+    same-limits = was.shell.opened.limits ∙ seated.of_limits
 
-  -- a shell in which a seat made events
-  module _ {S : Type 0} (shown_of : S → ShellView C V M) (places_of : S → List (Kept M)) (leaves : SeatRow M → Type 0) (k : Knows (Opened C) (SeatRow M) Entry)
-      (taken given : S) (new : Work M) (made : HasLed meaning new k (shown_of taken) (places_of taken) (shown_of given) (places_of given)) where
-    abbrev left : SeatRow M
-    left = row_of (shown_of given).core k.number (keeping (shown_of given).core new)
+    pub within : holding.number < (shown_of taken).core.limits.seats
+    within =
+        subst (λ (l : Limits). holding.number < l.seats) (sym same-limits) (subst (λ (n : ℕ). n < limits.seats) (sym finds.keeps.number) seated.number)
 
-    -- may be given
-    pub may-give : leaves left → MayGive (λ s opened rows told. IsShared meaning opened (shown_of s) (places_of s) rows told) maker leaves k given
-    may-give fine =
-        may-give-on meaning shown_of places_of leaves k given made.opened made.is (shown_of given) refl (places_of given) refl left fine made.added made.by_seat made.then
+    -- and it is in order
+    pub taken-order : (devices : ℕ) → length (shown_of taken).ends.told ≡ devices → IsInOrder meaning (shown_of taken).core (shown_of taken).sent code devices
+    taken-order devices all =
+        in-order meaning seated.opened (shown_of taken) (places_of taken) (turns_of taken) holding.rows holding.seen was code devices seated.of_code
+        (subst AreLimits (sym seated.of_limits) seated.ranges) seated.enough all
 
-    -- and then the seat's row is this
-    pub gave-its-row : (limits : Limits) (code : C) → IsSeated meaning.signature code limits k → (row : SeatRow M) → slice_get k.rows k.number ≡ Some row
-        → (after : Knows (Opened C) (SeatRow M) Entry)
-        → Gives (λ s opened rows told. IsShared meaning opened (shown_of s) (places_of s) rows told) maker leaves k given after → HasGivenRow left k after
-    gave-its-row limits code seated row found after gives =
-        let there = within-shell meaning limits code k seated made.opened made.is (shown_of taken) (places_of taken) k.rows k.seen made.was in
-        let count = made.was.count in
-        gave-row meaning shown_of places_of leaves k after given gives made.opened made.is (shown_of given) refl (places_of taken) new made.keeps
-        (slice_get_within k.rows k.number row found) (omega (arith, count, there))
-        (within-shell meaning limits code k seated made.opened made.is (shown_of given) (places_of given) (set k.rows k.number left) (k.seen ++ made.added) made.then)
+    -- what the seat has in flight fits
+    pub taken-fits : (hand : Work M) → IsPrepared meaning.is_machine meaning.stage code limits.slice before.row.hand hand
+        → Fits meaning (shown_of taken).core holding.number hand
+    taken-fits hand ready =
+        hand-fits meaning seated.opened (shown_of taken) (places_of taken) (turns_of taken) holding.rows holding.seen was holding.number within
+        before.row finds.found hand
+        (subst (λ (c : C). IsPrepared meaning.is_machine meaning.stage c (shown_of taken).core.limits.slice before.row.hand hand)
+        (sym (was.shell.opened.code ∙ seated.of_code))
+        (subst (λ (l : Limits). IsPrepared meaning.is_machine meaning.stage code l.slice before.row.hand hand) (sym same-limits) ready))
+
+    -- It had turns
+    module _ (old new : Work M) (given : S) (led : List (TurnView C V M))
+        (played : HasPlayed meaning code holding.number old (shown_of taken) (places_of taken) (turns_of taken)
+        (shown_of given) (places_of given) (turns_of given) new led) where
+      abbrev left : SeatRow M
+      left = row_of (shown_of given).core holding.number (keeping (shown_of given).core new)
+
+      then : IsShared meaning seated.opened (shown_of given) (places_of given) (turns_of given) (set holding.rows holding.number left) (holding.seen ++ led)
+      then =
+          shared-on meaning seated.opened (shown_of taken) (places_of taken) (turns_of taken) holding.rows holding.seen was holding.number within
+          code old new (shown_of given) (places_of given) (turns_of given) led played
+
+      pub may-give : (leaves : SeatRow M → Type 0) → leaves left → MayGive Stands maker leaves holding given
+      may-give leaves fine = record {
+        row = left;
+        added = led;
+        stands =
+            subst (λ (x : Option (OpenedView C V M)). IsSomeAnd x (λ o. Stands given o (set holding.rows holding.number left) (holding.seen ++ led)))
+            (sym (finds.keeps.fixed ∙ seated.is)) then;
+        by_seat =
+            its-turns meaning seated.opened (shown_of taken) (places_of taken) (turns_of taken) holding.rows holding.seen was holding.number within
+            code old new (shown_of given) (places_of given) (turns_of given) led played;
+        leaves_row = fine;
+      }
+
+      -- and gave the turn
+      module _ (leaves : SeatRow M → Type 0) (after : Knows (OpenedView C V M) (SeatRow M) (TurnView C V M))
+          (gives : Gives Stands maker leaves holding given after) where
+        gave : HasGiven maker leaves holding after
+        gave = give_leaves Stands maker leaves holding after given gives
+
+        it : IsShared meaning seated.opened (shown_of given) (places_of given) (turns_of given) (set holding.rows holding.number gives.0.row)
+            (holding.seen ++ gives.0.added)
+        it =
+            some-and (λ (o : OpenedView C V M). Stands given o (set holding.rows holding.number gives.0.row) (holding.seen ++ gives.0.added))
+            holding.fixed seated.opened (finds.keeps.fixed ∙ seated.is) gives.0.stands
+
+        -- its row is what the engine has of the seat, and what was kept
+        row-left : gives.0.row ≡ left
+        row-left =
+            let new-core = (shown_of given).core in
+            let kept = keeping new-core new in
+            let count = was.count in
+            let there = within in
+            let places : places_of given ≡ set (places_of taken) holding.number kept = played.keeping_it in
+            some-is gives.0.row left
+            (sym (get_set_here holding.rows holding.number gives.0.row (slice_get_within holding.rows holding.number before.row finds.found))
+            ∙ ap (λ (all : List (SeatRow M)). slice_get all holding.number) (sym it.rows)
+            ∙ rows-there new-core (places_of given) holding.number (subst (λ (l : Limits). holding.number < l.seats) (sym played.limits) within)
+            ∙ ap (λ (ps : List (Kept M)). Some (row_of new-core holding.number (slice_index_or ps holding.number nothing_kept))) places
+            ∙ ap (λ (x : Kept M). Some (row_of new-core holding.number x))
+            (get_or-set_same (places_of taken) holding.number kept nothing_kept (omega (arith, count, there))))
+
+        -- what it added are its turns
+        added-is : gives.0.added ≡ led
+        added-is =
+            append_cancel_left holding.seen gives.0.added led
+            (sym it.recorded ∙ played.joined ∙ ap (λ (ts : List (TurnView C V M)). ts ++ led) was.recorded)
+
+        pub both-keep : KeepsSeat before after
+        both-keep = keeps_both before holding after finds.keeps gave.keeps
+
+        row-after : after.row ≡ left
+        row-after = ap (λ (k : Knows (OpenedView C V M) (SeatRow M) (TurnView C V M)). k.row) gives.1 ∙ row-left
+
+        -- it is through where it has nothing at work and a stop is kept
+        pub played-through : RestsAtStop (shown_of given).core holding.number → IsThrough after
+        played-through rests = record {
+          free = gave.free;
+          idle = ap (λ (r : SeatRow M). r.task) row-after ∙ rests.idle;
+          marked = ap (λ (r : SeatRow M). r.marked) row-after ∙ rests.stop;
+        }
+
+        number-is : holding.number ≡ before.number
+        number-is = finds.keeps.number
+
+        pub has-led : HasLed meaning code limits.slice before after old new led
+        has-led =
+            let split = turns-split meaning seated.opened.first (shown_of taken) before.seen finds.others
+            (subst (λ (ts : List (TurnView C V M)). Turns meaning seated.opened.first ts (shown_of taken)) (was.recorded ∙ finds.seen) was.led) in
+            record {
+              keeps = both-keep;
+              free = gave.free;
+              opened = seated.opened;
+              is = seated.is;
+              others = finds.others;
+              apart = finds.apart;
+              seen = ap (λ (k : Knows (OpenedView C V M) (SeatRow M) (TurnView C V M)). k.seen) gives.1 ∙ ap (λ (ts : List (TurnView C V M)). holding.seen ++ ts) added-is ∙ ap (λ (ts : List (TurnView C V M)). ts ++ led) finds.seen;
+              own = ap (λ (k : Knows (OpenedView C V M) (SeatRow M) (TurnView C V M)). k.own) gives.1 ∙ ap (λ (ts : List (TurnView C V M)). holding.own ++ ts) added-is ∙ ap (λ (ts : List (TurnView C V M)). ts ++ led) finds.own;
+              left = split.0;
+              taken = shown_of taken;
+              given = shown_of given;
+              before_it = split.1;
+              meanwhile = split.2;
+              found = slot-stays meaning before.number split.0 (shown_of taken) finds.others split.2 finds.apart;
+              its = played.follows;
+              each =
+                  subst (λ (n : ℕ). AreOfSeat meaning code limits.slice n old led new) number-is
+                  (subst (λ (l : Limits). AreOfSeat meaning code l.slice holding.number old led new) same-limits played.each);
+              row = row-after ∙ ap (λ (n : ℕ). row_of (shown_of given).core n (keeping (shown_of given).core new)) number-is;
+            }
+
+module _ {C V M : Type 0} (meaning : Meaning C V M) (code : C) (limits : Limits) (before after : Knows (OpenedView C V M) (SeatRow M) (TurnView C V M))
+    (old new : Work M) where
+  module _ (led : List (TurnView C V M)) (has : HasLed meaning code limits.slice before after old new led) where
+    -- a seat that had turns is ready for the next one
+    pub ready-again : IsSeated meaning.signature code limits before → CanBePrepared meaning.is_machine meaning.stage code limits.slice new
+        → IsReadyToTurn meaning code limits after new
+    ready-again seated can = record {
+      seated = still-seated meaning.signature code limits before after has.keeps seated;
+      free = has.free;
+      prepared =
+          subst (λ (w : Work M). IsPrepared meaning.is_machine meaning.stage code limits.slice w new)
+          (sym (ap (λ (r : SeatRow M). r.hand) has.row))
+          (prepared-none meaning.is_machine meaning.stage code limits.slice new can);
+      can = can;
+    }
+
+  -- a seat that tells that it has stopped is through
+  pub had-through : HasHadTurn meaning code limits.slice before after old new Point.Stopped → IsThrough after
+  had-through h =
+      let t = h.turn in
+      let stopped = point-stopped t.outcome (member_of_turn t) (sym h.told) in
+      let rests = has-stopped meaning t.seat (stage_at meaning.stage t.old.core.code t.hand) t.old t.new t.outcome h.led.its.1.turned stopped in
+      let at-end =
+      subst (λ (s : ShellView C V M). RestsAtStop s.core before.number) (sym h.led.its.2)
+      (subst (λ (n : ℕ). RestsAtStop t.new.core n) h.led.each.0 rests) in
+      record {
+        free = h.led.free;
+        idle = ap (λ (r : SeatRow M). r.task) h.led.row ∙ at-end.idle;
+        marked = ap (λ (r : SeatRow M). r.marked) h.led.row ∙ at-end.stop;
+      }

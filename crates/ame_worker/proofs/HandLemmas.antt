@@ -1,5 +1,5 @@
--- A seat that has the turn may make its event, and may give what comes of it.
-use Rattle.std.proofs.Common.{◌≡◌, ◌≢◌, ℕ, ◌<◌, ◌≤◌, ◌⊎◌, inl, inr, Bool, true, List, ◌++◌, length, map, set, Option, Some, None, IsSome, slice_get, sym, ap, ◌∙◌, subst, arith}
+-- A seat that has the turn may have turns on the shell, and may give what comes of them.
+use Rattle.std.proofs.Common.{◌≡◌, ◌≢◌, ℕ, ◌<◌, ◌≤◌, ◌⊎◌, inl, inr, Bool, true, List, ◌++◌, All, length, map, set, Option, Some, None, IsSome, slice_get, sym, ap, ◌∙◌, subst, arith}
 use Rattle.std.specs.List.{range_with_len}
 use Rattle.std.proofs.lemmas.List.{length-set, get_or-set_same, get_or-set_other}
 use Rattle.std.proofs.lemmas.List.FromFn.{get_or-map-range_with_len, length-map-range_with_len}
@@ -8,7 +8,6 @@ use Rattle.ame_term.specs.Tree.{Val}
 use Rattle.ame_rows.specs.declared.notes.ReadNote.{ReadNote}
 use Rattle.ame_rows.specs.MemoryView.{Log}
 use Rattle.ame_protocol.proofs.Row.CellLemmas.{which}
-use Rattle.ame_journal.specs.declared.entry.Entry.{Entry}
 use Rattle.ame_protocol.specs.declared.types.Limits.{Limits}
 use Rattle.ame_protocol.specs.declared.types.Task.{Task}
 use Rattle.ame_protocol.specs.Engine.Parts.{Parts}
@@ -16,17 +15,20 @@ use Rattle.ame_protocol.proofs.Engine.ShownMemoryLemmas.{row-shown}
 use Rattle.ame_protocol.specs.declared.stop.Stop.{Stop}
 use Rattle.ame_engine.specs.Core.{Core}
 use Rattle.ame_engine.specs.Seen.{parts_of}
-use Rattle.ame_turn.specs.declared.work.Work.{Work}
-use Rattle.ame_turn.specs.Ready.{IsPrepared}
-use Rattle.ame_turn.specs.Work.{Fits}
-use Rattle.ame_turn.proofs.ReadyLemmas.{prepared-fits}
-use Rattle.ame_shell.specs.Shell.{ShellView, GoesTo, IsShell}
-use Rattle.ame_worker.specs.declared.shared.Opened.{Opened}
+use Rattle.ame_engine.specs.Whole.{AreLimits}
+use Rattle.ame_io.specs.Lines.{lines}
+use Rattle.ame_shell.specs.declared.work.Work.{Work}
+use Rattle.ame_shell.specs.Ready.{IsPrepared}
+use Rattle.ame_shell.specs.Work.{Fits}
+use Rattle.ame_shell.proofs.ReadyLemmas.{prepared-fits}
+use Rattle.ame_shell.specs.Shell.{ShellView, Opening, GoesTo, IsShell}
+use Rattle.ame_shell.specs.Turned.{IsInOrder}
 use Rattle.ame_worker.specs.Rows.{Kept, SeatRow, nothing_kept, kept_at, row_of, rows_in}
-use Rattle.ame_worker.specs.Shared.{opening_of, keeping, IsShared}
+use Rattle.ame_worker.specs.Shared.{OpenedView, opening_of, keeping, IsShared}
 use Rattle.ame_worker.specs.Slots.{Slot, SlotsStay, slot_at}
 use Rattle.ame_worker.proofs.StayLemmas.{map-set}
-use Rattle.ame_worker.specs.Leads.{Extends}
+use Rattle.ame_worker.specs.Turns.{TurnView, Turns, AreOfSeat}
+use Rattle.ame_worker.proofs.TurnLemmas.{turns-append, turns-stop, others-stay, of-seat}
 use Rattle.ame_machine.specs.Meaning.{Meaning}
 
 pub some-is : {A : Type 0} (a b : A) → Some a ≡ Some b → a ≡ b
@@ -78,75 +80,117 @@ module _ {C V M : Type 0} (meaning : Meaning C V M) where
       ∙ ap (λ (n : Log Val). n.reads) (row-shown (meaning.value_of old.code) old.memory.rows other))
       (ap (λ (x : Kept M). x.hand) kept) (ap (λ (x : Kept M). x.marked) kept)
 
-  module _ (opened : Opened C) (old new : ShellView C V M) (places : List (Kept M)) (rows : List (SeatRow M)) (told : List Entry)
-      (was : IsShared meaning opened old places rows told) (seat : ℕ) (within : seat < old.core.limits.seats) where
-    -- a seat's row says what was kept for it
-    pub found-kept : (row : SeatRow M) → slice_get rows seat ≡ Some row → row ≡ row_of old.core seat (kept_at places seat)
-    found-kept row found =
-        some-is row (row_of old.core seat (kept_at places seat))
-        (sym found ∙ ap (λ (all : List (SeatRow M)). slice_get all seat) (sym was.rows) ∙ rows-there old.core places seat within)
+  -- What a seat that has the turn made of a shell by turns of its own, and what it keeps there.
+  pub record HasPlayed (code : C) (seat : ℕ) (old : Work M) (taken : ShellView C V M) (places : List (Kept M)) (turns : List (TurnView C V M))
+      (given : ShellView C V M) (kept : List (Kept M)) (now : List (TurnView C V M)) (new : Work M) (led : List (TurnView C V M)) : Type 0 where
+    pub joined : now ≡ turns ++ led
+    pub follows : Turns meaning taken led given
+    pub each : AreOfSeat meaning code taken.core.limits.slice seat old led new
+    pub keeps : (opening : Opening C) → IsShell meaning opening taken → IsShell meaning opening given
+    pub limits : given.core.limits ≡ taken.core.limits
+    pub fits : Fits meaning given.core seat new
+    pub others : (other : ℕ) (rest : Work M) → other ≢ seat → Fits meaning taken.core other rest → Fits meaning given.core other rest
+    pub keeping_it : kept ≡ set places seat (keeping given.core new)
 
-    -- what a seat has at hand fits
-    pub hand-fits : (row : SeatRow M) → slice_get rows seat ≡ Some row → (hand : Work M)
-        → IsPrepared meaning.is_machine meaning.stage old.core.code old.core.limits.slice row.hand hand → Fits meaning old.core seat hand
-    hand-fits row found hand is =
-        prepared-fits meaning old.core seat (kept_at places seat).hand hand (was.fits seat within)
-        (subst (λ (w : Work M). IsPrepared meaning.is_machine meaning.stage old.core.code old.core.limits.slice w hand)
-        (ap (λ (r : SeatRow M). r.hand) (found-kept row found)) is)
+  module _ (opened : OpenedView C V M) (old : ShellView C V M) (places : List (Kept M)) (turns : List (TurnView C V M)) (rows : List (SeatRow M))
+      (told : List (TurnView C V M)) (was : IsShared meaning opened old places turns rows told) where
+    -- the shell is in order
+    pub in-order : (code : C) (devices : ℕ) → opened.made.core.code ≡ code → AreLimits opened.made.core.limits
+        → (meaning.signature code).devices ≤ length opened.made.ends.told → length old.ends.told ≡ devices → IsInOrder meaning old.core old.sent code devices
+    in-order code devices of_code ranges enough all =
+        let same : old.core.code ≡ code = was.shell.opened.code ∙ of_code in
+        record {
+          same = sym same;
+          limits = subst AreLimits (sym was.shell.opened.limits) ranges;
+          enough =
+              let heard = was.shell.opened.heard.count in
+              let few = subst (λ (c : C). (meaning.signature c).devices ≤ length opened.made.ends.told) (sym same) enough in
+              omega (arith, heard, all, few);
+          within =
+              sent-within old.core.stop old.sent (opening_of opened).ends.write_faults old.ends.write_faults (lines old.core.output) was.shell.sends.goes;
+        }
 
-    -- What is given once the seat made its event
-    module _ (hand : Work M) (extends : Extends seat old.core new.core) (stay : SlotsStay seat (parts old.core) (parts new.core))
-        (fits : Fits meaning new.core seat hand)
-        (others : (other : ℕ) (rest : Work M) → other ≢ seat → Fits meaning old.core other rest
-        → Fits meaning new.core other rest) (shell : IsShell meaning.program (opening_of opened) new) where
-      abbrev kept : Kept M
-      kept = keeping new.core hand
+    module _ (seat : ℕ) (within : seat < old.core.limits.seats) where
+      -- a seat's row says what was kept for it
+      pub found-kept : (row : SeatRow M) → slice_get rows seat ≡ Some row → row ≡ row_of old.core seat (kept_at places seat)
+      found-kept row found =
+          some-is row (row_of old.core seat (kept_at places seat))
+          (sym found ∙ ap (λ (all : List (SeatRow M)). slice_get all seat) (sym was.rows) ∙ rows-there old.core places seat within)
 
-      abbrev after : List (Kept M)
-      after = set places seat kept
+      -- its work in flight fits
+      pub hand-fits : (row : SeatRow M) → slice_get rows seat ≡ Some row → (hand : Work M)
+          → IsPrepared meaning.is_machine meaning.stage old.core.code old.core.limits.slice row.hand hand → Fits meaning old.core seat hand
+      hand-fits row found hand is =
+          prepared-fits meaning old.core seat (kept_at places seat).hand hand (was.fits seat within)
+          (subst (λ (w : Work M). IsPrepared meaning.is_machine meaning.stage old.core.code old.core.limits.slice w hand)
+          (ap (λ (r : SeatRow M). r.hand) (found-kept row found)) is)
 
-      seats : new.core.limits.seats ≡ old.core.limits.seats
-      seats = ap (λ (l : Limits). l.seats) extends.limits
+      -- What is given once the seat has had its turns
+      module _ (code : C) (work hand : Work M) (new : ShellView C V M) (after : List (Kept M)) (now led : List (TurnView C V M))
+          (played : HasPlayed code seat work old places turns new after now hand led) where
+        abbrev kept : Kept M
+        kept = keeping new.core hand
 
-      there : seat < length places
-      there = let count = was.count in omega (arith, count, within)
+        abbrev given : List (Kept M)
+        given = set places seat kept
 
-      fits-all : (other : ℕ) → other < new.core.limits.seats → Fits meaning new.core other (kept_at after other).hand
-      fits-all other in_range = by (which other seat)
-        where
-          by : (other ≡ seat) ⊎ ((other ≡ seat) → ⊥) → Fits meaning new.core other (kept_at after other).hand
-          by (inl same) =
-              subst (λ (n : ℕ). Fits meaning new.core n (kept_at after n).hand) (sym same)
-              (subst (λ (x : Kept M). Fits meaning new.core seat x.hand) (sym (kept-here places seat kept there)) fits)
-          by (inr apart) =
-              subst (λ (x : Kept M). Fits meaning new.core other x.hand) (sym (kept-else places seat other kept apart))
-              (others other (kept_at places other).hand apart (was.fits other (let s = seats in omega (arith, s, in_range))))
+        pub its-turns : All (λ t. t.seat ≡ seat) led
+        its-turns = of-seat meaning code old.core.limits.slice seat led work hand played.each
 
-      marks-all : (other : ℕ) → (kept_at after other).marked ≡ true → IsSome new.core.stop
-      marks-all other marked = by (which other seat)
-        where
-          by : (other ≡ seat) ⊎ ((other ≡ seat) → ⊥) → IsSome new.core.stop
-          by (inl same) =
-              ap (λ (x : Kept M). x.marked) (sym (ap (kept_at after) same ∙ kept-here places seat kept there)) ∙ marked
-          by (inr apart) = extends.stop (was.marks other (ap (λ (x : Kept M). x.marked) (sym (kept-else places seat other kept apart)) ∙ marked))
+        stay : SlotsStay seat (parts old.core) (parts new.core)
+        stay = others-stay meaning code old.core.limits.slice seat old new led played.follows its-turns
 
-      rows-set : rows_in new.core after ≡ set rows seat (row_of new.core seat kept)
-      rows-set =
-          let f = λ (n : ℕ). row_of new.core n (kept_at after n) in
-          let g = λ (n : ℕ). row_of old.core n (kept_at places n) in
-          ap (λ (n : ℕ). map f (range_with_len 0 n)) seats
-          ∙ map-set f g seat
-          (λ other apart. row-stays old.core new.core other (kept_at places other) (kept_at after other) (stay other apart) (kept-else places seat other kept apart))
-          0 old.core.limits.seats seat (omega arith)
-          ∙ ap (λ (r : SeatRow M). set (rows_in old.core places) seat r) (ap (row_of new.core seat) (kept-here places seat kept there))
-          ∙ ap (λ (all : List (SeatRow M)). set all seat (row_of new.core seat kept)) was.rows
+        seats : new.core.limits.seats ≡ old.core.limits.seats
+        seats = ap (λ (l : Limits). l.seats) played.limits
 
-      pub shared-on : IsShared meaning opened new after (set rows seat (row_of new.core seat kept)) (told ++ extends.added)
-      shared-on = record {
-        shell = shell;
-        count = length-set places seat kept ∙ was.count ∙ sym seats;
-        fits = fits-all;
-        marks = marks-all;
-        rows = rows-set;
-        entries = extends.entries ∙ ap (λ (es : List Entry). es ++ extends.added) was.entries;
-      }
+        there : seat < length places
+        there = let count = was.count in omega (arith, count, within)
+
+        fits-all : (other : ℕ) → other < new.core.limits.seats → Fits meaning new.core other (kept_at given other).hand
+        fits-all other in_range = by (which other seat)
+          where
+            by : (other ≡ seat) ⊎ ((other ≡ seat) → ⊥) → Fits meaning new.core other (kept_at given other).hand
+            by (inl same) =
+                subst (λ (n : ℕ). Fits meaning new.core n (kept_at given n).hand) (sym same)
+                (subst (λ (x : Kept M). Fits meaning new.core seat x.hand) (sym (kept-here places seat kept there)) played.fits)
+            by (inr apart) =
+                subst (λ (x : Kept M). Fits meaning new.core other x.hand) (sym (kept-else places seat other kept apart))
+                (played.others other (kept_at places other).hand apart (was.fits other (let s = seats in omega (arith, s, in_range))))
+
+        marks-all : (other : ℕ) → (kept_at given other).marked ≡ true → IsSome new.core.stop
+        marks-all other marked = by (which other seat)
+          where
+            by : (other ≡ seat) ⊎ ((other ≡ seat) → ⊥) → IsSome new.core.stop
+            by (inl same) =
+                ap (λ (x : Kept M). x.marked) (sym (ap (kept_at given) same ∙ kept-here places seat kept there)) ∙ marked
+            by (inr apart) =
+                turns-stop meaning old new led played.follows
+                (was.marks other (ap (λ (x : Kept M). x.marked) (sym (kept-else places seat other kept apart)) ∙ marked))
+
+        rows-set : rows_in new.core given ≡ set rows seat (row_of new.core seat kept)
+        rows-set =
+            let f = λ (n : ℕ). row_of new.core n (kept_at given n) in
+            let g = λ (n : ℕ). row_of old.core n (kept_at places n) in
+            ap (λ (n : ℕ). map f (range_with_len 0 n)) seats
+            ∙ map-set f g seat
+            (λ other apart. row-stays old.core new.core other (kept_at places other) (kept_at given other) (stay other apart) (kept-else places seat other kept apart))
+            0 old.core.limits.seats seat (omega arith)
+            ∙ ap (λ (r : SeatRow M). set (rows_in old.core places) seat r) (ap (row_of new.core seat) (kept-here places seat kept there))
+            ∙ ap (λ (all : List (SeatRow M)). set all seat (row_of new.core seat kept)) was.rows
+
+        set-on : IsShared meaning opened new given (turns ++ led) (set rows seat (row_of new.core seat kept)) (told ++ led)
+        set-on = record {
+          shell = played.keeps (opening_of opened) was.shell;
+          count = length-set places seat kept ∙ was.count ∙ sym seats;
+          fits = fits-all;
+          marks = marks-all;
+          rows = rows-set;
+          led = turns-append meaning opened.first old new turns led was.led played.follows;
+          recorded = ap (λ (ts : List (TurnView C V M)). ts ++ led) was.recorded;
+        }
+
+        pub shared-on : IsShared meaning opened new after now (set rows seat (row_of new.core seat kept)) (told ++ led)
+        shared-on =
+            subst (λ (ps : List (Kept M)). IsShared meaning opened new ps now (set rows seat (row_of new.core seat kept)) (told ++ led)) (sym played.keeping_it)
+            (subst (λ (ts : List (TurnView C V M)). IsShared meaning opened new given ts (set rows seat (row_of new.core seat kept)) (told ++ led)) (sym played.joined)
+            set-on)

@@ -1,86 +1,106 @@
--- What a seat makes of a shell, turn after turn.
-use Rattle.std.proofs.Common.{◌≡◌, ◌≢◌, ℕ, ◌<◌, ◌++◌, List, set, Option, Some, refl, sym, ap, ◌∙◌, subst}
-use Rattle.std.proofs.lemmas.List.{append_assoc}
-use Rattle.std.proofs.lemmas.List.Elements.{All-append}
-use Rattle.ame_journal.specs.declared.entry.Entry.{Entry}
-use Rattle.ame_machine.specs.MachineView.{MachineView}
+-- How long a seat leads.
+use Rattle.std.proofs.Common.{◌≡◌, ℕ, ◌||◌, ◌&&◌, nat_lt, Bool, true, false, List, [], ◌∷◌, ◌++◌, refl, sym, ap, ◌∙◌, subst}
+use Rattle.std.proofs.lemmas.List.{append_assoc, append-nil}
 use Rattle.ame_machine.specs.Meaning.{Meaning}
-use Rattle.ame_protocol.specs.Engine.Simulates.{Simulates}
-use Rattle.ame_engine.specs.Core.{Core}
-use Rattle.ame_engine.specs.Seen.{parts_of}
-use Rattle.ame_turn.specs.declared.work.Deed.{Deed}
-use Rattle.ame_turn.specs.declared.work.Work.{Work}
-use Rattle.ame_turn.specs.Work.{Fits}
-use Rattle.ame_shell.specs.Shell.{ShellView, Opening, IsShell}
-use Rattle.ame_shell.specs.Turned.{HasTurned}
-use Rattle.ame_baton.specs.declared.view.Knows.{Knows}
-use Rattle.ame_worker.specs.declared.shared.Opened.{Opened}
-use Rattle.ame_worker.specs.Leads.{Extends, IsLed, HasLed}
-use Rattle.ame_worker.specs.Rows.{Kept, SeatRow, row_of}
-use Rattle.ame_worker.specs.Shared.{opening_of, keeping, IsShared}
-use Rattle.ame_worker.proofs.EntryLemmas.{extends-none, turn-extends}
-use Rattle.ame_worker.proofs.HandLemmas.{shared-on}
-use Rattle.ame_worker.proofs.SlotLemmas.{turn-slots}
+use Rattle.ame_shell.specs.declared.work.Work.{Work}
+use Rattle.ame_shell.specs.Ready.{IsPrepared}
+use Rattle.ame_shell.specs.Shell.{ShellView}
+use Rattle.ame_shell.specs.Work.{Fits}
+use Rattle.ame_worker.specs.Leads.{commits, rests, is_heavy, hands_over, LeadsOn, HasLedOn, RestsAtStop}
+use Rattle.ame_worker.specs.Turns.{TurnView, IsTurn, Turns, AreOfSeat}
+use Rattle.ame_worker.proofs.TurnLemmas.{turns-append, turns-once, of-seat-more}
 
-module _ {C V M : Type 0} where
-  extends-twice : (seat : ℕ) (a b c : Core C V M) → Extends seat a b → Extends seat b c → Extends seat a c
-  extends-twice seat a b c first then = record {
-    code = then.code ∙ first.code;
-    limits = then.limits ∙ first.limits;
-    base = then.base ∙ first.base;
-    added = first.added ++ then.added;
-    entries = then.entries ∙ ap (λ (es : List Entry). es ++ then.added) first.entries ∙ append_assoc a.entries first.added then.added;
-    by_seat = All-append (λ (entry : Entry). entry.seat ≡ seat) first.added then.added first.by_seat then.by_seat;
-    stop = λ kept. then.stop (first.stop kept);
-  }
-
-module _ {C V M : Type 0} (meaning : Meaning C V M) (seat : ℕ) where
-  pub led-none : (s : ShellView C V M) → IsLed meaning seat s s
-  led-none s = record {
-    extends = extends-none seat s.core s.core refl refl refl (λ kept. kept) refl;
-    slots = λ other apart. refl;
-    others = λ other rest apart fits. fits;
-    keeps = λ opening is. is;
-  }
-
-  pub led-twice : (a b c : ShellView C V M) → IsLed meaning seat a b → IsLed meaning seat b c → IsLed meaning seat a c
-  led-twice a b c first then = record {
-    extends = extends-twice seat a.core b.core c.core first.extends then.extends;
-    slots = λ other apart. then.slots other apart ∙ first.slots other apart;
-    others = λ other rest apart fits. then.others other rest apart (first.others other rest apart fits);
-    keeps = λ opening is. then.keeps opening (first.keeps opening is);
-  }
-
-  -- one turn
-  pub led-once : (hand : Option MachineView) (old new : ShellView C V M) (deed : Deed) → Simulates (parts_of meaning old.core)
-      → HasTurned meaning seat hand old new deed
-      → ((other : ℕ) (rest : Work M) → other ≢ seat → Fits meaning old.core other rest → Fits meaning new.core other rest)
-      → ((opening : Opening C) → IsShell meaning.program opening old → IsShell meaning.program opening new) → IsLed meaning seat old new
-  led-once hand old new deed stands turned others keeps = record {
-    extends = turn-extends meaning seat hand old new deed turned;
-    slots = turn-slots meaning seat hand old new deed stands turned;
-    others = others;
-    keeps = keeps;
-  }
+tests-alike : (a b c d x : Bool) → (a || ((b && c) && d)) ≡ x → (a || (b && c && d)) ≡ x
+tests-alike true b c d x e = e
+tests-alike false true c d x e = e
+tests-alike false false c d x e = e
 
 module _ {C V M : Type 0} (meaning : Meaning C V M) where
-  -- and keeps what it has at hand then
-  pub has-led : (hand : Work M) (k : Knows (Opened C) (SeatRow M) Entry) (taken old now given : ShellView C V M) (places kept : List (Kept M)) (opened : Opened C)
-      → k.fixed ≡ Some opened → old ≡ taken → given ≡ now → kept ≡ set places k.number (keeping now.core hand)
-      → IsShared meaning opened old places k.rows k.seen → k.number < old.core.limits.seats → Fits meaning now.core k.number hand
-      → IsLed meaning k.number old now → HasLed meaning hand k taken places given kept
-  has-led hand k taken old now given places kept opened is took gives keeps was within fits led =
-      let row : SeatRow M = row_of now.core k.number (keeping now.core hand) in
-      let on = shared-on meaning opened old now places k.rows k.seen was k.number within hand led.extends led.slots fits led.others
-      (led.keeps (opening_of opened) was.shell) in
-      subst (λ (s : ShellView C V M). HasLed meaning hand k s places given kept) took
-      (subst (λ (s : ShellView C V M). HasLed meaning hand k old places s kept) (sym gives)
-      (record {
-        opened = opened;
-        is = is;
-        was = was;
-        keeps = keeps;
-        added = led.extends.added;
-        by_seat = led.extends.by_seat;
-        then = subst (λ (ps : List (Kept M)). IsShared meaning opened now ps (set k.rows k.number row) (k.seen ++ led.extends.added)) (sym keeps) on;
-      }))
+  -- whether a seat hands over, as its code finds it
+  pub hands-as : (code : C) (seats : ℕ) (more : Bool) (t : TurnView C V M) (rest many heavy x : Bool) → rest ≡ rests t.outcome → many ≡ nat_lt 1 seats
+      → heavy ≡ is_heavy meaning code t.hand → (rest || ((many && more) && heavy)) ≡ x → hands_over meaning code seats more t ≡ x
+  hands-as code seats more t rest many heavy x at_rest at_many at_heavy e =
+      tests-alike (rests t.outcome) (nat_lt 1 seats) more (is_heavy meaning code t.hand) x
+      (subst (λ (b : Bool). (b || ((nat_lt 1 seats && more) && is_heavy meaning code t.hand)) ≡ x) at_rest
+      (subst (λ (b : Bool). (rest || ((b && more) && is_heavy meaning code t.hand)) ≡ x) at_many
+      (subst (λ (b : Bool). (rest || ((many && more) && b)) ≡ x) at_heavy e)))
+
+  -- after none of these turns a seat hands over, and then there may be more members, or not
+  abbrev pub GoesOn : C → ℕ → Bool → List (TurnView C V M) → Bool → Type 0
+  GoesOn code seats are_more [] more = more ≡ are_more
+  GoesOn code seats are_more (t ∷ ts) more =
+      (hands_over meaning code seats are_more t ≡ false) × GoesOn code seats (are_more || commits t.outcome) ts more
+
+  module _ (code : C) (seats : ℕ) where
+    goes-more : (are_more : Bool) (ts : List (TurnView C V M)) (more : Bool) (t : TurnView C V M) → GoesOn code seats are_more ts more
+        → hands_over meaning code seats more t ≡ false → GoesOn code seats are_more (ts ++ t ∷ []) (more || commits t.outcome)
+    goes-more are_more [] more t is stays =
+        (subst (λ (b : Bool). hands_over meaning code seats b t ≡ false) is stays, ap (λ b. b || commits t.outcome) is)
+    goes-more are_more (u ∷ ts) more t h stays = (h.0, goes-more (are_more || commits u.outcome) ts more t h.1 stays)
+
+    -- and after the next one it does
+    goes-until : (are_more : Bool) (ts : List (TurnView C V M)) (more : Bool) (t : TurnView C V M) → GoesOn code seats are_more ts more
+        → hands_over meaning code seats more t ≡ true → LeadsOn meaning code seats are_more (ts ++ t ∷ [])
+    goes-until are_more [] more t is over = subst (λ (b : Bool). hands_over meaning code seats b t ≡ true) is over
+    goes-until are_more (u ∷ []) more t h over = (h.0, goes-until (are_more || commits u.outcome) [] more t h.1 over)
+    goes-until are_more (u ∷ v ∷ ts) more t h over = (h.0, goes-until (are_more || commits u.outcome) (v ∷ ts) more t h.1 over)
+
+  -- A seat has had turns on a shell, and goes on.
+  pub record IsLeading (code : C) (seat : ℕ) (are_more : Bool) (old : ShellView C V M) (turns : List (TurnView C V M)) (hand : Work M)
+      (new : ShellView C V M) (now : List (TurnView C V M)) (left : Work M) (more : Bool) : Type 0 where
+    pub led : List (TurnView C V M)
+    pub joined : now ≡ turns ++ led
+    pub follows : Turns meaning old led new
+    pub each : AreOfSeat meaning code old.core.limits.slice seat hand led left
+    pub goes : GoesOn code old.core.limits.seats are_more led more
+
+  module _ (code : C) (seat : ℕ) (are_more : Bool) (old : ShellView C V M) (turns : List (TurnView C V M)) (hand : Work M) where
+    pub leads-none : IsLeading code seat are_more old turns hand old turns hand are_more
+    leads-none = record {
+      led = [];
+      joined = sym (append-nil turns);
+      follows = refl;
+      each = refl;
+      goes = refl;
+    }
+
+    module _ (mid : ShellView C V M) (so_far : List (TurnView C V M)) (work : Work M) (more : Bool) (leads : IsLeading code seat are_more old turns hand mid so_far work more)
+        (t : TurnView C V M) (is : IsTurn meaning t) (from : t.old ≡ mid) (own : t.seat ≡ seat)
+        (ready : IsPrepared meaning.is_machine meaning.stage code old.core.limits.slice work t.hand)
+        (now : List (TurnView C V M)) (joins : now ≡ so_far ++ t ∷ []) (left : Work M) (fits : Fits meaning t.new.core seat left) where
+      abbrev all : List (TurnView C V M)
+      all = leads.led ++ t ∷ []
+
+      joined : now ≡ turns ++ all
+      joined = joins ∙ ap (λ ts. ts ++ t ∷ []) leads.joined ∙ append_assoc turns leads.led (t ∷ [])
+
+      follows : Turns meaning old all t.new
+      follows =
+          turns-append meaning old mid t.new leads.led (t ∷ []) leads.follows
+          (subst (λ (s : ShellView C V M). Turns meaning s (t ∷ []) t.new) from (turns-once meaning t is))
+
+      each : AreOfSeat meaning code old.core.limits.slice seat hand all left
+      each = of-seat-more meaning code old.core.limits.slice seat leads.led hand work left t leads.each own ready fits
+
+      -- it goes on
+      pub leads-more : hands_over meaning code old.core.limits.seats more t ≡ false
+          → IsLeading code seat are_more old turns hand t.new now left (more || commits t.outcome)
+      leads-more stays = record {
+        led = all;
+        joined = joined;
+        follows = follows;
+        each = each;
+        goes = goes-more code old.core.limits.seats are_more leads.led more t leads.goes stays;
+      }
+
+      -- or hands over
+      pub leads-until : (is_over : Bool) → hands_over meaning code old.core.limits.seats more t ≡ true
+          → (is_over ≡ true → RestsAtStop t.new.core seat) → HasLedOn meaning code seat are_more old turns hand t.new now left is_over
+      leads-until is_over over rests = record {
+        led = all;
+        joined = joined;
+        follows = follows;
+        each = each;
+        until = goes-until code old.core.limits.seats are_more leads.led more t leads.goes over;
+        over = rests;
+      }

@@ -1,9 +1,11 @@
 pub mod IdleLemmas
 pub mod StayLemmas
-pub mod EntryLemmas
+pub mod StopLemmas
 pub mod SlotLemmas
+pub mod TurnLemmas
 pub mod WorkLemmas
 pub mod HandLemmas
+pub mod PlayLemmas
 pub mod GivenLemmas
 pub mod ThroughLemmas
 pub mod OpenLemmas

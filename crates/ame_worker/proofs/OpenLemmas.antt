@@ -10,30 +10,31 @@ use Rattle.ame_protocol.specs.declared.types.Task.{Task}
 use Rattle.ame_protocol.specs.declared.stop.Stop.{Stop}
 use Rattle.ame_protocol.specs.Engine.Parts.{Parts, task_at}
 use Rattle.ame_protocol.specs.Engine.Events.{started}
-use Rattle.ame_protocol.specs.Event.State.{State}
+use Rattle.ame_protocol.specs.Event.State.{State, started_state}
 use Rattle.ame_protocol.proofs.Engine.ShownMemoryLemmas.{row-shown}
 use Rattle.ame_engine.specs.Core.{Core}
+use Rattle.ame_engine.specs.Makes.{state_of}
 use Rattle.ame_engine.specs.Resuming.{HasResumed}
+use Rattle.ame_journal.specs.declared.entry.Entry.{Entry}
 use Rattle.ame_engine.specs.Seen.{parts_of}
 use Rattle.ame_engine.specs.Stops.{stopped_by}
-use Rattle.ame_turn.specs.Work.{Fits}
+use Rattle.ame_shell.specs.Work.{Fits}
 use Rattle.ame_shell.specs.Ends.{Ends}
-use Rattle.ame_shell.specs.Shell.{ShellView, shown, IsShell}
+use Rattle.ame_shell.specs.Shell.{ShellView, Opening, shown, IsShell}
 use Rattle.ame_shell.specs.Turned.{HasFlushed}
 use Rattle.ame_shell.proofs.OverLemmas.{shell-starts, shell-resumes}
-use Rattle.ame_worker.specs.declared.shared.Opened.{Opened}
 use Rattle.ame_worker.specs.Rows.{Kept, nothing_kept, empty_row, kept_at, row_of}
-use Rattle.ame_worker.specs.Shared.{opening_of, opened_with, opened_as, IsShared}
+use Rattle.ame_worker.specs.Shared.{OpenedView, opened_from, opening_from, opening_of, IsShared}
 use Rattle.ame_worker.specs.Slots.{Slot, slot_at, empty_slot}
 use Rattle.ame_worker.proofs.IdleLemmas.{AreUnused, unused-slot, map-all-same, replicate-at}
 use Rattle.ame_worker.proofs.HandLemmas.{row-same}
 use Rattle.ame_machine.specs.Meaning.{Meaning}
 
--- what is so of a result by five facts of it
-pub if-ok-by : {T E : Type 0} (r : Result T E) (A B C D F G : T → Type 0) → ((x : T) → A x → B x → C x → D x → F x → G x)
-    → IfOk r A → IfOk r B → IfOk r C → IfOk r D → IfOk r F → IfOk r G
-if-ok-by (Ok x) A B C D F G by a b c d f = by x a b c d f
-if-ok-by (Err e) A B C D F G by a b c d f = tt
+-- what is so of a result by several facts of it
+pub if-ok-by : {T E : Type 0} (r : Result T E) (A B C D F H I G : T → Type 0) → ((x : T) → A x → B x → C x → D x → F x → H x → I x → G x)
+    → IfOk r A → IfOk r B → IfOk r C → IfOk r D → IfOk r F → IfOk r H → IfOk r I → IfOk r G
+if-ok-by (Ok x) A B C D F H I G by a b c d f h i = by x a b c d f h i
+if-ok-by (Err e) A B C D F H I G by a b c d f h i = tt
 
 -- what contracts see of a shell that has this engine, has sent so much, and has this sink and these devices
 pub shown-same : {C V M K D : Type 0} (written : K → Option (List ℕ)) (faults : K → ℕ) (heard : D → Option (List Heard)) (device_faults : D → ℕ)
@@ -48,7 +49,8 @@ shown-same written faults heard device_faults core was sent so_far sink before d
 
 module _ {C V M : Type 0} (meaning : Meaning C V M) where
   -- a shell is to be shared whose engine did nothing for a seat
-  module _ (opened : Opened C) (shell : ShellView C V M) (is : IsShell meaning.program (opening_of opened) shell) (unused : AreUnused (parts_of meaning shell.core)) where
+  module _ (opened : OpenedView C V M) (shell : ShellView C V M) (first : shell ≡ opened.first) (is : IsShell meaning (opening_of opened) shell)
+      (unused : AreUnused (parts_of meaning shell.core)) where
     abbrev core : Core C V M
     core = shell.core
 
@@ -74,19 +76,21 @@ module _ {C V M : Type 0} (meaning : Meaning C V M) where
         row-same (row_of core seat (kept_at places seat)) empty_row (task-here seat) (reads-here seat) (ap (λ (k : Kept M). k.hand) (kept-here seat))
         (ap (λ (k : Kept M). k.marked) (kept-here seat))
 
-    shared-opens : IsShared meaning opened shell places (replicate core.limits.seats empty_row) []
+    shared-opens : IsShared meaning opened shell places [] (replicate core.limits.seats empty_row) []
     shared-opens = record {
       shell = is;
       count = length-replicate core.limits.seats nothing_kept;
       fits = λ seat within. subst (λ (k : Kept M). Fits meaning core seat k.hand) (sym (kept-here seat)) (task-here seat);
       marks = λ seat marked. absurd (let clash : false ≡ true = sym (ap (λ (k : Kept M). k.marked) (kept-here seat)) ∙ marked in cc);
       rows = map-all-same (λ (seat : ℕ). row_of core seat (kept_at places seat)) empty_row row-here 0 core.limits.seats;
-      entries = unused.entries;
+      led = first;
+      recorded = refl;
     }
 
   -- where an engine has just started
   module _ (core : Core C V M) (code : C) (limits : Limits) (ends : Ends) (same : core.code ≡ code)
-      (starts : parts_of meaning core ≡ started (meaning.program code) (meaning.signature code) limits 0) where
+      (starts : parts_of meaning core ≡ started (meaning.program code) (meaning.signature code) limits 0)
+      (fresh : state_of meaning core ≡ started_state (meaning.program code) (meaning.signature code) limits) where
     seats : core.limits.seats ≡ limits.seats
     seats = ap (λ (p : Parts). p.limits.seats) starts
 
@@ -96,10 +100,18 @@ module _ {C V M : Type 0} (meaning : Meaning C V M) where
     unused-started : AreUnused (parts_of meaning core)
     unused-started = subst AreUnused (sym starts) (record { tasks = refl; rows = refl; entries = refl })
 
-    pub shared-starts : IsShared meaning (opened_with code limits [] ends) shell (replicate core.limits.seats nothing_kept) (replicate limits.seats empty_row) []
+    pub opening-started : opening_from shell ≡ record { code = code; limits = limits; base = []; ends = ends }
+    opening-started =
+        ap (λ (c : C). let it : Opening C = record { code = c; limits = core.limits; base = core.base; ends = ends } in it) same
+        ∙ ap (λ (l : Limits). let it : Opening C = record { code = code; limits = l; base = core.base; ends = ends } in it) (ap (λ (p : Parts). p.limits) starts)
+        ∙ ap (λ (b : List Entry). let it : Opening C = record { code = code; limits = limits; base = b; ends = ends } in it) (ap (λ (p : Parts). p.base) starts)
+
+    pub shared-starts : IsShared meaning (opened_from shell shell) shell (replicate core.limits.seats nothing_kept) [] (replicate limits.seats empty_row) []
     shared-starts =
-        subst (λ (n : ℕ). IsShared meaning (opened_with code limits [] ends) shell (replicate core.limits.seats nothing_kept) (replicate n empty_row) []) seats
-        (shared-opens (opened_with code limits [] ends) shell (shell-starts meaning core code limits ends same starts) unused-started)
+        subst (λ (n : ℕ). IsShared meaning (opened_from shell shell) shell (replicate core.limits.seats nothing_kept) [] (replicate n empty_row) []) seats
+        (shared-opens (opened_from shell shell) shell refl
+        (subst (λ (o : Opening C). IsShell meaning o shell) (sym opening-started) (shell-starts meaning core code limits ends same starts fresh))
+        unused-started)
 
   -- where an engine was opened from a base, whose lines were sent then
   module _ (core : Core C V M) (ends : Ends) (resumed : HasResumed meaning core.limits core.base core) where
@@ -129,11 +141,11 @@ module _ {C V M : Type 0} (meaning : Meaning C V M) where
         (record { tasks = u.tasks; rows = u.rows; entries = u.entries }, refl)
 
     pub shared-resumes : (new : ShellView C V M) → new.ends.told ≡ ends.told → HasFlushed unsent new
-        → IsShared meaning (opened_as core ends) new (replicate core.limits.seats nothing_kept) (replicate core.limits.seats empty_row) []
+        → IsShared meaning (opened_from unsent new) new (replicate core.limits.seats nothing_kept) [] (replicate core.limits.seats empty_row) []
     shared-resumes new told flushed =
         let still = still-unused new.core (flushed-as new flushed) in
-        subst (λ (l : Limits). IsShared meaning (opened_as core ends) new (replicate l.seats nothing_kept) (replicate l.seats empty_row) []) still.1
-        (shared-opens (opened_as core ends) new (shell-resumes meaning core ends unused-resumed.entries going new told flushed) still.0)
+        subst (λ (l : Limits). IsShared meaning (opened_from unsent new) new (replicate l.seats nothing_kept) [] (replicate l.seats empty_row) []) still.1
+        (shared-opens (opened_from unsent new) new refl (shell-resumes meaning core ends unused-resumed.entries going resumed new told flushed) still.0)
 
     pub resumed-idle : (new : ShellView C V M) → HasFlushed unsent new → (seat : ℕ) → task_at new.core.tasks seat ≡ Task.Idle
     resumed-idle new flushed seat =

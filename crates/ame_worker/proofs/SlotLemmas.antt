@@ -24,13 +24,13 @@ use Rattle.ame_engine.specs.Seen.{parts_of, MakesEvent, MakesLastEvent}
 use Rattle.ame_engine.specs.Stops.{stopped_by, blocked_by}
 use Rattle.ame_protocol.specs.Event.Undoing.{reason_to_undo}
 use Rattle.ame_engine.specs.Visiting.{visited_at, HasComeHome}
-use Rattle.ame_turn.specs.declared.work.Deed.{Deed}
-use Rattle.ame_turn.specs.Deeds.{StopsBy}
-use Rattle.ame_turn.proofs.DeedRows.{TurnsBack, Spends, Row, HasRow, rowed}
-use Rattle.ame_turn.proofs.VisitedLemmas.{visit-rows}
+use Rattle.ame_shell.specs.declared.work.Outcome.{Outcome}
+use Rattle.ame_shell.specs.Outcomes.{StopsBy}
+use Rattle.ame_shell.proofs.OutcomeRows.{TurnsBack, Spends, Row, HasRow, rowed}
+use Rattle.ame_shell.proofs.VisitedLemmas.{visit-rows}
 use Rattle.ame_shell.specs.Shell.{ShellView}
 use Rattle.ame_shell.specs.Turned.{HasTurned}
-use Rattle.ame_worker.proofs.EntryLemmas.{turn-on}
+use Rattle.ame_worker.proofs.StopLemmas.{turn-on}
 use Rattle.ame_worker.specs.Slots.{SlotsStay}
 use Rattle.ame_worker.proofs.StayLemmas.{begun-stays, read-stays, written-stays, allocated-stays, checked-stays, back-stays, noted-stays, cut-stays, tall-stays, refused-stays, undone-stays, gone-stays, ended-stays, left-stays, visited-stays}
 use Rattle.ame_machine.specs.Meaning.{Meaning}
@@ -92,56 +92,56 @@ module _ {C V M : Type 0} (meaning : Meaning C V M) where
         (visited-stays (parts old) stands seat number (ap member_of task) h.comes.steps (with_answer h.answer (place_shown h.comes)) h.comes.inside h.memory
         (visit-rows (parts old) number h.comes.steps h.visit.place h.comes.inside h.memory h.visit.visit))
 
-    made-slots : (deed : Deed) → Row meaning seat hand old new before after deed → Stay seat old new
-    made-slots Deed.Began d = by-event seat old new (one_counted Counted.Begin) (has_begun seat d.0) d.2 (begun-stays (parts old) seat d.0)
-    made-slots Deed.Waited d = by-same seat old new d.1
-    made-slots Deed.Stopped d = by-pick seat old new (certificates_in (parts old)) d.0 d.2
-    made-slots Deed.Read d = by-event seat old new (one_counted Counted.Read) (has_read seat d.1) d.3 (read-stays (parts old) seat d.1)
-    made-slots Deed.Wrote d = by-event seat old new (one_counted Counted.Write) (has_written seat d.1 d.2) d.6 (written-stays (parts old) seat d.1 d.2)
-    made-slots (Deed.Met owner) d = by-event seat old new (one_counted Counted.Conflict) (has_turned_back seat d.2) d.6 (back-stays (parts old) seat d.2)
-    made-slots Deed.Allocated d =
+    made-slots : (outcome : Outcome) → Row meaning seat hand old new before after outcome → Stay seat old new
+    made-slots Outcome.Began d = by-event seat old new (one_counted Counted.Begin) (has_begun seat d.0) d.2 (begun-stays (parts old) seat d.0)
+    made-slots Outcome.Waited d = by-same seat old new d.1
+    made-slots Outcome.Stopped d = by-pick seat old new (certificates_in (parts old)) d.0 d.2
+    made-slots Outcome.Read d = by-event seat old new (one_counted Counted.Read) (has_read seat d.1) d.3 (read-stays (parts old) seat d.1)
+    made-slots Outcome.Wrote d = by-event seat old new (one_counted Counted.Write) (has_written seat d.1 d.2) d.6 (written-stays (parts old) seat d.1 d.2)
+    made-slots (Outcome.Met owner) d = by-event seat old new (one_counted Counted.Conflict) (has_turned_back seat d.2) d.6 (back-stays (parts old) seat d.2)
+    made-slots Outcome.Allocated d =
         by-event seat old new (one_counted Counted.Alloc) (has_allocated seat d.1 d.2 d.3) d.6 (allocated-stays (parts old) seat d.1 d.2 d.3)
-    made-slots Deed.Checked d =
+    made-slots Outcome.Checked d =
         by-event seat old new (one_counted Counted.Check) (has_checked seat d.0.steps d.2) d.4 (checked-stays (parts old) seat d.0.steps d.2)
-    made-slots (Deed.FoundInvalid bad) d = by-back seat old new hand (one_invalid Counted.Check) bad d.2
-    made-slots Deed.Ended d =
+    made-slots (Outcome.FoundInvalid bad) d = by-back seat old new hand (one_invalid Counted.Check) bad d.2
+    made-slots Outcome.Ended d =
         by-event seat old new (one_counted Counted.Commit) (ended_at seat d.2.tried.number d.0) d.4
         (ended-stays (parts old) stands seat d.2.tried.number (ap member_of d.3.task) d.0.steps (place_shown d.0) (owned_places seat (parts old).memory.cells))
-    made-slots Deed.Left d =
+    made-slots Outcome.Left d =
         by-event seat old new (one_counted Counted.Commit) (left_at seat d.2.tried.number d.0) d.4
         (left-stays (parts old) stands seat d.2.tried.number (ap member_of d.3.task) d.0.steps (place_shown d.0) (owned_places seat (parts old).memory.cells))
-    made-slots (Deed.Refused bad) d = by-back seat old new hand (one_invalid Counted.Commit) bad d.2
-    made-slots Deed.Noted d =
+    made-slots (Outcome.Refused bad) d = by-back seat old new hand (one_invalid Counted.Commit) bad d.2
+    made-slots Outcome.Noted d =
         by-event seat old new (one_counted Counted.Block) (has_noted seat d.2 d.0.steps (place_shown d.0)) d.4
         (noted-stays (parts old) seat d.2 d.0.steps (place_shown d.0))
-    made-slots (Deed.NotNoted bad) d = by-back seat old new hand (one_invalid Counted.Block) bad d.2
-    made-slots Deed.GrewTall d =
+    made-slots (Outcome.NotNoted bad) d = by-back seat old new hand (one_invalid Counted.Block) bad d.2
+    made-slots Outcome.GrewTall d =
         let task = task_at old.tasks seat in
         by-last seat old new (Stop.Tall d.2.tried.number) (one_counted Counted.Tall) (has_grown_tall seat d.2.tried.number d.0.steps (place_shown d.0) task) d.5
         (tall-stays (parts old) seat d.2.tried.number d.0.steps (place_shown d.0) task)
-    made-slots (Deed.NotTall bad) d = by-back seat old new hand (one_invalid Counted.Tall) bad d.2
-    made-slots Deed.CameHome d = by-home d.2 d.3 d.0 d.4
-    made-slots (Deed.DeviceFailed device) d =
+    made-slots (Outcome.NotTall bad) d = by-back seat old new hand (one_invalid Counted.Tall) bad d.2
+    made-slots Outcome.CameHome d = by-home d.2 d.3 d.0 d.4
+    made-slots (Outcome.DeviceFailed device) d =
         by-last seat old new (Stop.DeviceFault device) (one_counted Counted.Free) (has_been_refused seat d.2.tried.number) d.4.event
         (refused-stays (parts old) seat d.2.tried.number)
-    made-slots Deed.Spent d = by-spent seat old new hand hand d.1
-    made-slots Deed.Undid d =
+    made-slots Outcome.Spent d = by-spent seat old new hand hand d.1
+    made-slots Outcome.Undid d =
         let reason = reason_to_undo (task_at old.tasks seat) in
         by-event seat old new (one_undone (is_some old.stop)) (has_undone seat d.0 reason) d.2.event (undone-stays (parts old) seat d.0 reason)
-    made-slots Deed.WentHome d =
+    made-slots Outcome.WentHome d =
         let reason = reason_to_undo (task_at old.tasks seat) in
         by-event seat old new (one_undone (is_some old.stop)) (has_gone_home seat d.0 reason) d.2.event (gone-stays (parts old) seat d.0 reason)
-    made-slots Deed.Lacked d = by-stop seat old new Stop.NoMemory d.1
+    made-slots Outcome.Lacked d = by-stop seat old new Stop.NoMemory d.1
 
-    module _ (deed : Deed) (done : HasRow meaning seat hand old new before after deed) where
-      pub deed-slots : Stay seat old new
-      deed-slots = made-slots deed done.event
+    module _ (outcome : Outcome) (done : HasRow meaning seat hand old new before after outcome) where
+      pub outcome-slots : Stay seat old new
+      outcome-slots = made-slots outcome done.event
 
   -- and so it is of a turn
-  module _ (seat : ℕ) (hand : Option MachineView) (old new : ShellView C V M) (deed : Deed) (stands : Simulates (parts old.core))
-      (turned : HasTurned meaning seat hand old new deed) where
+  module _ (seat : ℕ) (hand : Option MachineView) (old new : ShellView C V M) (outcome : Outcome) (stands : Simulates (parts old.core))
+      (turned : HasTurned meaning seat hand old new outcome) where
     pub turn-slots : Stay seat old.core new.core
     turn-slots =
-        turn-on meaning seat hand old new deed turned (λ (core : Core C V M). Stay seat old.core core) (λ core stays. stays)
-        (deed-slots seat old.core turned.core stands hand old.ends.told new.ends.told deed
-        (rowed meaning seat hand old.core turned.core old.ends.told new.ends.told deed turned.done))
+        turn-on meaning seat hand old new outcome turned (λ (core : Core C V M). Stay seat old.core core) (λ core stays. stays)
+        (outcome-slots seat old.core turned.core stands hand old.ends.told new.ends.told outcome
+        (rowed meaning seat hand old.core turned.core old.ends.told new.ends.told outcome turned.done))

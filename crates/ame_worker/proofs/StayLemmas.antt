@@ -34,7 +34,7 @@ use Rattle.ame_protocol.proofs.Engine.CommitLemmas.{free-next}
 use Rattle.ame_protocol.specs.Waits.Noted.{has_noted}
 use Rattle.ame_protocol.specs.Visits.Stops.{told_task, has_been_cut, has_grown_tall}
 use Rattle.ame_protocol.specs.Visits.Visit.{has_visited, has_been_refused}
-use Rattle.ame_turn.proofs.EndsLemmas.{term-home}
+use Rattle.ame_shell.proofs.EndsLemmas.{term-home}
 use Rattle.ame_worker.specs.Slots.{SlotsStay, start_of, slot_at}
 use Rattle.ame_worker.proofs.IdleLemmas.{slot-same}
 
@@ -76,12 +76,6 @@ both-stay : (parts new : Parts) (seat : ℕ) (task : Task) (notes : Log Val) →
 both-stay parts new seat task notes is rows terms other apart =
     slot-stays parts new other (ap (λ (ts : List Task). task_at ts other) is ∙ task_else parts.tasks seat task other apart)
     (ap (λ (all : List (Log Val)). row_at all other) rows ∙ row_set_else parts.memory.rows seat other notes apart) (terms other apart)
-
--- neither, and the pool stays
-pub same-stays : (parts new : Parts) (seat : ℕ) → new.tasks ≡ parts.tasks → new.memory ≡ parts.memory → new.pool ≡ parts.pool → SlotsStay seat parts new
-same-stays parts new seat tasks memory pool other apart =
-    slot-stays parts new other (ap (λ (ts : List Task). task_at ts other) tasks) (ap (λ (d : MemoryView Val). row_at d.rows other) memory)
-    (λ i has. ap (λ (p : Roster Tree). term_at p i) pool)
 
 -- Terms in the pool
 

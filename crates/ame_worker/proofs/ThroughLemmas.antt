@@ -1,7 +1,6 @@
 -- A seat that tells that it has stopped has nothing at work, and a stop is kept.
-use Rattle.std.proofs.Common.{◌≡◌, ℕ, Bool, true, false, List, Option, IsSome, refl, sym, ap, ◌∙◌, subst}
+use Rattle.std.proofs.Common.{◌≡◌, ℕ, Bool, true, false, List, Option, IsSome, refl, ap, ◌∙◌, subst}
 use Rattle.std.specs.Prelude.{is_some, nat_lt, if◌then◌else◌}
-use Rattle.ame_journal.specs.declared.entry.Entry.{Entry}
 use Rattle.ame_pool.specs.declared.oldest.Oldest.{Oldest}
 use Rattle.ame_pool.specs.Begin.{oldest}
 use Rattle.ame_protocol.specs.declared.types.Task.{Task}
@@ -12,32 +11,24 @@ use Rattle.ame_engine.specs.Begins.{pick_by, pick_of}
 use Rattle.ame_protocol.specs.Event.Causes.{certificates_in}
 use Rattle.ame_engine.specs.Core.{Core}
 use Rattle.ame_engine.specs.Seen.{parts_of}
-use Rattle.ame_turn.specs.declared.work.Deed.{Deed}
-use Rattle.ame_turn.specs.declared.work.Work.{Work}
-use Rattle.ame_turn.specs.Work.{stage_at}
-use Rattle.ame_turn.proofs.DeedRows.{rowed}
-use Rattle.ame_turn.specs.Deeds.{StopsBy}
+use Rattle.ame_shell.specs.declared.work.Outcome.{Outcome}
+use Rattle.ame_shell.proofs.OutcomeRows.{rowed}
+use Rattle.ame_shell.specs.Outcomes.{StopsBy}
 use Rattle.ame_shell.specs.Shell.{ShellView}
 use Rattle.ame_shell.specs.Turned.{HasTurned}
-use Rattle.ame_baton.specs.declared.view.Knows.{Knows}
 use Rattle.ame_worker.specs.declared.gate.Point.{Point}
 use Rattle.ame_worker.specs.declared.worker.Turned.{Turned}
-use Rattle.ame_worker.specs.declared.shared.Opened.{Opened}
-use Rattle.ame_worker.specs.Rows.{Kept, SeatRow, row_of}
 use Rattle.ame_worker.specs.Leads.{RestsAtStop}
 use Rattle.ame_worker.specs.Points.{point_of}
-use Rattle.ame_worker.specs.Shared.{keeping}
-use Rattle.ame_worker.specs.Turns.{HasGivenRow, MakesTurn}
-use Rattle.ame_worker.specs.Workers.{IsThrough}
 use Rattle.ame_machine.specs.MachineView.{MachineView}
 use Rattle.ame_machine.specs.Meaning.{Meaning}
 
 pub did-is : (p q : Point) → Turned.Did p ≡ Turned.Did q → p ≡ q
 did-is p q e = cc
 
-point-stopped : (deed : Deed) (before after : ℕ) → point_of deed before after ≡ Point.Stopped → deed ≡ Deed.Stopped
-point-stopped Deed.Stopped before after e = refl
-point-stopped _ before after e = cc
+pub point-stopped : (outcome : Outcome) (member : Option ℕ) → point_of outcome member ≡ Point.Stopped → outcome ≡ Outcome.Stopped
+point-stopped Outcome.Stopped member e = refl
+point-stopped _ member e = cc
 
 -- only a kept stop is met as one
 by-stop : (stopped spent : Bool) (o : Oldest) → (if stopped then Pick.Stopped else pick_by spent o) ≡ Pick.Stopped → stopped ≡ true
@@ -70,26 +61,14 @@ module _ {C V M : Type 0} where
 
 module _ {C V M : Type 0} (meaning : Meaning C V M) where
   -- a seat that tells that it has stopped
-  pub has-stopped : (seat : ℕ) (hand : Option MachineView) (old new : ShellView C V M) (deed : Deed) → HasTurned meaning seat hand old new deed
-      → (point : Point) (before after : ℕ) → point ≡ point_of deed before after → point ≡ Point.Stopped → RestsAtStop new.core seat
-  has-stopped seat hand old new deed turned point before after told e =
-      let is : deed ≡ Deed.Stopped = point-stopped deed before after (sym told ∙ e) in
-      let t : HasTurned meaning seat hand old new Deed.Stopped = subst (λ (d : Deed). HasTurned meaning seat hand old new d) is turned in
-      let event = (rowed meaning seat hand old.core t.core old.ends.told new.ends.told Deed.Stopped t.done).event in
+  pub has-stopped : (seat : ℕ) (hand : Option MachineView) (old new : ShellView C V M) (outcome : Outcome) → HasTurned meaning seat hand old new outcome
+      → outcome ≡ Outcome.Stopped → RestsAtStop new.core seat
+  has-stopped seat hand old new outcome turned is =
+      let t : HasTurned meaning seat hand old new Outcome.Stopped = subst (λ (d : Outcome). HasTurned meaning seat hand old new d) is turned in
+      let event = (rowed meaning seat hand old.core t.core old.ends.told new.ends.told Outcome.Stopped t.done).event in
       let stops = stops-so (certificates_in (parts_of meaning old.core)) event.0 old.core t.core event.1.meets event.2 in
       let core : new.core ≡ t.core = ap (λ (s : ShellView C V M). s.core) (t.stays refl) in
       record {
         idle = ap (λ (c : Core C V M). task_at c.tasks seat) core ∙ ap (λ (ts : List Task). task_at ts seat) stops.tasks ∙ event.1.idle;
         stop = ap (λ (c : Core C V M). is_some c.stop) core ∙ stops.stop;
-      }
-
-  pub is-through : (code : C) (lacks : Bool) (old new : Work M) (holding after : Knows (Opened C) (SeatRow M) Entry) (taken : ShellView C V M) (places : List (Kept M))
-      (given : ShellView C V M) (kept : List (Kept M)) (point : Point) → MakesTurn meaning code lacks old new holding taken places given kept point
-      → HasGivenRow (row_of given.core holding.number (keeping given.core new)) holding after → point ≡ Point.Stopped → IsThrough after
-  is-through code lacks old new holding after taken places given kept point m gave e =
-      let has = has-stopped holding.number (stage_at meaning.stage code old) taken given m.deed m.turned point _ _ m.told e in
-      record {
-        free = gave.free;
-        idle = ap (λ (r : SeatRow M). r.task) gave.row ∙ has.idle;
-        marked = ap (λ (r : SeatRow M). r.marked) gave.row ∙ has.stop;
       }

@@ -1,6 +1,6 @@
 -- What a worker has at hand is what it had, but for steps that its machine made alone.
-use Rattle.std.proofs.Common.{◌≡◌, ℕ, ◌+◌, ◌-◌, true, false, sym, ap, ◌∙◌, subst, arith}
-use Rattle.std.specs.Prelude.{Result, Ok, Err, is_err, OnOk, OnErr, option_and_then}
+use Rattle.std.proofs.Common.{ℕ, ◌+◌, ◌-◌, sym, ap, ◌∙◌, subst, arith}
+use Rattle.std.specs.Prelude.{option_and_then}
 use Rattle.ame_term.specs.Frame.{Side, side_told}
 use Rattle.ame_machine.specs.Run.Local.{LocalState, goes}
 use Rattle.ame_machine.proofs.Run.RunLemmas.{goes-added}
@@ -8,19 +8,9 @@ use Rattle.ame_machine.specs.MachineView.{MachineView, running_side, place_shown
 use Rattle.ame_machine.specs.Move.{Advances, GoesLow, AdvancesWithin}
 use Rattle.ame_machine.proofs.MoveLemmas.{low-none, low-added, advances-none}
 use Rattle.ame_machine.proofs.RunnableLemmas.{runs-advanced}
-use Rattle.ame_turn.specs.declared.work.Work.{Work}
-use Rattle.ame_turn.specs.declared.work.Work.TheVariants as work
-use Rattle.ame_turn.specs.Ready.{CanBePrepared, IsPrepared}
-
--- what comes of an answer that isn't an error
-pub ready-unless : {A E : Type 0} (r : Result A E) (P : Type 0) → is_err r ≡ false → OnOk r P → P
-ready-unless (Ok a) P fine h = h
-ready-unless (Err e) P fine h = cc
-
--- and of one that is
-pub lacks-where : {A E : Type 0} (r : Result A E) (P : Type 0) → is_err r ≡ true → OnErr r P → P
-lacks-where (Ok a) P is h = cc
-lacks-where (Err e) P is h = h
+use Rattle.ame_shell.specs.declared.work.Work.{Work}
+use Rattle.ame_shell.specs.declared.work.Work.TheVariants as work
+use Rattle.ame_shell.specs.Ready.{CanBePrepared, IsPrepared}
 
 -- steps, and then more steps
 both-advance : (j k : ℕ) (s t u : MachineView) → Advances j s t → Advances k t u → Advances (j + k) s u

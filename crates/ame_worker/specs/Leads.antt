@@ -1,30 +1,31 @@
--- What a seat makes of a shell that has one turn after another, while no other seat has any.
-use Rattle.std.specs.Prelude.{◌≡◌, ◌≢◌, ℕ, ◌<◌, ◌++◌, List, All, Some, IsSome, slice_set}
-use Rattle.ame_journal.specs.declared.entry.Entry.{Entry}
+-- How long a seat leads.
+use Rattle.std.specs.Prelude.{◌≡◌, ℕ, ◌||◌, ◌&&◌, ◌++◌, Bool, true, false, List, [], ◌∷◌, nat_le, nat_lt, IsSome}
 use Rattle.ame_machine.specs.Meaning.{Meaning}
 use Rattle.ame_protocol.specs.declared.types.Task.{Task}
 use Rattle.ame_protocol.specs.Engine.Parts.{task_at}
 use Rattle.ame_engine.specs.Core.{Core}
-use Rattle.ame_engine.specs.Seen.{parts_of}
-use Rattle.ame_turn.specs.declared.work.Work.{Work}
-use Rattle.ame_turn.specs.Work.{Fits}
-use Rattle.ame_shell.specs.Shell.{ShellView, Opening, IsShell}
-use Rattle.ame_shell.specs.Turned.{IsInOrder}
-use Rattle.ame_baton.specs.declared.view.Knows.{Knows}
-use Rattle.ame_worker.specs.declared.shared.Opened.{Opened}
-use Rattle.ame_worker.specs.Rows.{Kept, SeatRow, row_of}
-use Rattle.ame_worker.specs.Shared.{keeping, IsShared}
-use Rattle.ame_worker.specs.Slots.{SlotsStay}
+use Rattle.ame_shell.specs.declared.work.Outcome.{Outcome}
+use Rattle.ame_shell.specs.declared.work.Work.{Work}
+use Rattle.ame_shell.specs.declared.work.Work.TheVariants as work
+use Rattle.ame_shell.specs.Shell.{ShellView}
+use Rattle.ame_worker.specs.Turns.{TurnView, Turns, AreOfSeat}
 
--- Code, limits and base stay, the journal grows by entries of this seat alone, and a stop that is kept stays kept.
-pub record Extends {C V M : Type 0} (seat : ℕ) (old new : Core C V M) : Type 0 where
-  pub code : new.code ≡ old.code
-  pub limits : new.limits ≡ old.limits
-  pub base : new.base ≡ old.base
-  pub added : List Entry
-  pub entries : new.entries ≡ old.entries ++ added
-  pub by_seat : All (λ entry. entry.seat ≡ seat) added
-  pub stop : IsSome old.stop → IsSome new.stop
+-- a fragment of so many steps is work enough for others to help
+abbrev pub heavy : ℕ
+heavy = 100
+
+-- whether a commit came of a turn, so that there may be more members
+abbrev pub commits : Outcome → Bool
+commits Outcome.Ended = true
+commits Outcome.Left = true
+commits Outcome.CameHome = true
+commits _ = false
+
+-- whether there is nothing to lead: no ready member may begin, or a stop is kept and the seat has nothing at work
+abbrev pub rests : Outcome → Bool
+rests Outcome.Waited = true
+rests Outcome.Stopped = true
+rests _ = false
 
 -- the seat has nothing at work, and a stop is kept
 pub record RestsAtStop {C V M : Type 0} (core : Core C V M) (seat : ℕ) : Type 0 where
@@ -32,28 +33,29 @@ pub record RestsAtStop {C V M : Type 0} (core : Core C V M) (seat : ℕ) : Type 
   pub stop : IsSome core.stop
 
 module _ {C V M : Type 0} (meaning : Meaning C V M) where
-  -- The shell is in order. The seat is one of its own, and what it has at hand fits.
-  pub record IsAtHand (core : Core C V M) (sent : ℕ) (seat : ℕ) (code : C) (hand : Work M) (devices : ℕ) : Type 0 where
-    pub order : IsInOrder meaning core sent code devices
-    pub there : seat < core.limits.seats
-    pub fit : Fits meaning core seat hand
+  -- whether the fragment in flight made so many steps
+  abbrev pub is_heavy : C → Work M → Bool
+  is_heavy code (work.Running m) = nat_le heavy (meaning.stage code m).steps
+  is_heavy code _ = false
 
-  -- What the engine has of the other seats stays, and what these have at hand fits still. The shell is as it is from its opening on.
-  pub record IsLed (seat : ℕ) (old new : ShellView C V M) : Type 0 where
-    pub extends : Extends seat old.core new.core
-    pub slots : SlotsStay seat (parts_of meaning old.core) (parts_of meaning new.core)
-    pub others : (other : ℕ) (rest : Work M) → other ≢ seat → Fits meaning old.core other rest → Fits meaning new.core other rest
-    pub keeps : (opening : Opening C) → IsShell meaning.program opening old → IsShell meaning.program opening new
+  -- whether a seat that leads hands over after a turn, where there may be more members, or one is there alone
+  abbrev pub hands_over : C → ℕ → Bool → TurnView C V M → Bool
+  hands_over code seats are_more t = rests t.outcome || (nat_lt 1 seats && are_more && is_heavy code t.hand)
 
-  -- A seat that has the turn made events of this shell, and that is how it leaves the shell and what is kept for the seats. It is shared
-  -- still: the seat's row is its own, and so is what the journal has more.
-  pub record HasLed (hand : Work M) (holding : Knows (Opened C) (SeatRow M) Entry) (taken : ShellView C V M) (places : List (Kept M))
-      (given : ShellView C V M) (kept : List (Kept M)) : Type 0 where
-    pub opened : Opened C
-    pub is : holding.fixed ≡ Some opened
-    pub was : IsShared meaning opened taken places holding.rows holding.seen
-    pub keeps : kept ≡ slice_set places holding.number (keeping given.core hand)
-    pub added : List Entry
-    pub by_seat : All (λ entry. entry.seat ≡ holding.number) added
-    pub then : IsShared meaning opened given kept (slice_set holding.rows holding.number (row_of given.core holding.number (keeping given.core hand)))
-        (holding.seen ++ added)
+  -- A seat leads on until it hands over: after the last of these turns, and after none before.
+  abbrev pub LeadsOn : C → ℕ → Bool → List (TurnView C V M) → Type 0
+  LeadsOn code seats are_more [] = ⊥
+  LeadsOn code seats are_more (t ∷ []) = hands_over code seats are_more t ≡ true
+  LeadsOn code seats are_more (t ∷ more ∷ ts) =
+      (hands_over code seats are_more t ≡ false) × LeadsOn code seats (are_more || commits t.outcome) (more ∷ ts)
+
+  -- A seat had turns on a shell until it handed over. They joined the turns of the shell, which the seat left to others, and this is
+  -- whether the last one met a kept stop with nothing at work.
+  pub record HasLedOn (code : C) (seat : ℕ) (are_more : Bool) (old : ShellView C V M) (turns : List (TurnView C V M)) (hand : Work M)
+      (new : ShellView C V M) (now : List (TurnView C V M)) (left : Work M) (is_over : Bool) : Type 0 where
+    pub led : List (TurnView C V M)
+    pub joined : now ≡ turns ++ led
+    pub follows : Turns meaning old led new
+    pub each : AreOfSeat meaning code old.core.limits.slice seat hand led left
+    pub until : LeadsOn code old.core.limits.seats are_more led
+    pub over : is_over ≡ true → RestsAtStop new.core seat

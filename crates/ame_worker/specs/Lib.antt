@@ -1,7 +1,8 @@
+pub mod Slots
 pub mod Rows
+pub mod Turns
 pub mod Shared
 pub mod Points
-pub mod Turns
-pub mod Workers
-pub mod Slots
 pub mod Leads
+pub mod Led
+pub mod Workers

@@ -6,15 +6,15 @@ use Rattle.ame_rows.specs.MemoryView.{row_at}
 use Rattle.ame_protocol.specs.declared.types.Task.{Task}
 use Rattle.ame_protocol.specs.Engine.Parts.{task_at}
 use Rattle.ame_engine.specs.Core.{Core}
-use Rattle.ame_turn.specs.declared.work.Work.{Work}
-use Rattle.ame_turn.specs.declared.work.Work.TheVariants as work
+use Rattle.ame_shell.specs.declared.work.Work.{Work}
+use Rattle.ame_shell.specs.declared.work.Work.TheVariants as work
 
--- what a seat had at hand when it gave the turn last, and whether a stop was kept then
+-- a seat's work in flight when it gave the turn last, and whether a stop was kept then
 pub record Kept (M : Type 0) : Type 0 where
   pub hand : Work M
   pub marked : Bool
 
--- what a seat is at, what it read, what it had at hand when it gave the turn last, and whether a stop was kept then
+-- what a seat is at, what it read, its work in flight when it gave the turn last, and whether a stop was kept then
 pub record SeatRow (M : Type 0) : Type 0 where
   pub task : Task
   pub reads : List ReadNote

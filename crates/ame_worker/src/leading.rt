@@ -1,156 +1,107 @@
 //! A seat that has one turn after another, while no other seat has any.
 
-ghost use Rattle.std.specs.Prelude.{◌≡◌, false, true, Some, IsSomeAnd, slice_get, vec_len};
-ghost use Rattle.ame_shell.specs.Shell.{shell_view};
+ghost use Rattle.std.specs.Prelude.{◌≡◌, ◌≢◌, ◌<◌, ℕ, vec_len};
+ghost use Rattle.std.specs.Arc.{arc_value};
 ghost use Rattle.ame_baton.specs.Batons.{knows};
-ghost use Rattle.ame_turn.specs.Ready.{CanBePrepared, IsPrepared, IsReadyWork};
-ghost use Rattle.ame_worker.specs.Leads.{IsAtHand, IsLed, HasLed, RestsAtStop};
-ghost use Rattle.ame_worker.specs.Shared.{IsShared};
-ghost use Rattle.ame_worker.specs.Workers.{IsSeated};
+ghost use Rattle.ame_shell.specs.Ready.{CanBePrepared};
+ghost use Rattle.ame_shell.specs.Turned.{IsInOrder};
+ghost use Rattle.ame_shell.specs.Work.{Fits};
+ghost use Rattle.ame_worker.specs.Leads.{commits, is_heavy as is_heavy_by, rests};
 
-use crate::gate::{Gate, Point};
-use crate::hand::Played;
-use crate::points::{member_at, point_of};
+use crate::gate::Gate;
+use crate::points::point_of;
 use crate::shared::Shared;
-use ame_baton::Seat;
+use crate::worker::Worker;
 use ame_device::Device;
 use ame_io::Sink;
 use ame_machine::Runner;
-use ame_shell::Shell;
-use ame_turn::{Turned, Work, prepare_seat};
+use ame_shell::{Outcome, Work, prepare_seat};
 use std::alloc::Global;
 use std::sync::Wait;
 
 /// A fragment of so many steps is work enough for others to help: it takes as long as its turns, which only one worker has at a time.
 const HEAVY: u64 = 100;
 
-/// What a seat that led has at hand, and whether a stop is kept and it has nothing at work.
-pub(crate) struct Led<M> {
-    pub work: Work<M>,
-    pub is_over: bool,
-}
-
-/// Whether the fragment at hand made so many steps that others could help.
-fn is_heavy<M: Runner>(work: &Work<M>) -> bool {
+/// Whether the fragment in flight made so many steps that others could help.
+fn is_heavy<M: Runner>(work: &Work<M>) -> bool
+    ensures { (code : M.Code) → result ≡ is_heavy_by M.meaning code work.now }
+{
     match work {
         Work::Running(machine) => machine.steps() >= HEAVY,
         Work::Idle | Work::Undoing => false,
     }
 }
 
-/// Whether a stop is kept, and the seat has nothing at work.
-fn is_end(point: Point) -> bool
-    ensures { result ≡ true → point ≡ Point.Stopped }
+/// Whether there is nothing to lead: no ready member may begin, or a stop is kept and the seat has nothing at work.
+fn is_rest(outcome: Outcome) -> bool
+    ensures { result ≡ rests outcome }
 {
-    matches!(point, Point::Stopped)
-}
-
-/// Whether no ready member may begin.
-fn is_wait(point: Point) -> bool {
-    matches!(point, Point::Idle)
+    matches!(outcome, Outcome::Waited | Outcome::Stopped)
 }
 
 /// Whether something was committed.
-fn is_commit(point: Point) -> bool {
-    matches!(point, Point::Ran(_) | Point::Freed(_))
+fn is_commit(outcome: Outcome) -> bool
+    ensures { result ≡ commits outcome }
+{
+    matches!(outcome, Outcome::Ended | Outcome::Left | Outcome::CameHome)
 }
 
-/// A seat makes its event, for which its machine was prepared unless memory was lacking.
-fn event<M: Runner, K: Sink, D: Device>(
-    code: &M::Code,
-    shell: &mut Shell<M, K, D>,
-    seat: u32,
-    work: Work<M>,
-    lacks: bool,
-) -> Played<M>
+impl<M: Runner, K: Sink, D: Device> Worker<M, K, D>
 where
     M::Code: Drop,
-    requires stands { IsAtHand M.meaning shell.old.engine shell.old.sent seat code.now work (vec_len shell.old.devices) }
-    requires ready { lacks ≡ false → IsReadyWork M.meaning.stage shell.old.engine.code shell.old.engine.limits.slice work }
-    ensures stands { IsAtHand M.meaning shell.new.engine shell.new.sent seat code.now result.work (vec_len shell.new.devices) }
-    ensures led { IsLed M.meaning seat
-        (shell_view K.written K.faults D.device_heard D.device_faults shell.old)
-        (shell_view K.written K.faults D.device_heard D.device_faults shell.new) }
-    ensures can { CanBePrepared M.meaning.is_machine M.meaning.stage shell.new.engine.code shell.new.engine.limits.slice result.work }
-    ensures through { result.point ≡ Point.Stopped → RestsAtStop shell.new.engine seat }
 {
-    shell.engine.stands();
-    let before = member_at(&shell.engine, seat);
-    let Turned { deed, work } = shell.turn(code, seat, work, lacks);
-    let after = member_at(&shell.engine, seat);
-    Played {
-        point: point_of(deed, before, after),
-        work,
-    }
-}
+    ghost use Rattle.ame_shell.specs.declared.work.Work.{Work};
+    ghost use Rattle.ame_shell.specs.Shell.{shell_view, Opening, IsShell};
+    ghost use Rattle.ame_worker.specs.Leads.{HasLedOn};
 
-/// A seat has turns until a stop is kept and it has nothing at work, or until others could help: a fragment made many steps, and there
-/// may be more of them, since the run began with some (`are_more`) or one was committed. It passes the gate after each.
-fn lead_shell<M: Runner, K: Sink, D: Device, R: Wait, G: Gate>(
-    rt: &R,
-    alloc: Global,
-    code: &M::Code,
-    shell: &mut Shell<M, K, D>,
-    seat: u32,
-    work: Work<M>,
-    gate: &G,
-    mut are_more: bool,
-) -> Led<M>
-where
-    M::Code: Drop,
-    requires { IsAtHand M.meaning shell.old.engine shell.old.sent seat code.now work (vec_len shell.old.devices) }
-    ensures stands { IsAtHand M.meaning shell.new.engine shell.new.sent seat code.now result.work (vec_len shell.new.devices) }
-    ensures led { IsLed M.meaning seat
-        (shell_view K.written K.faults D.device_heard D.device_faults shell.old)
-        (shell_view K.written K.faults D.device_heard D.device_faults shell.new) }
-    ensures can { CanBePrepared M.meaning.is_machine M.meaning.stage shell.new.engine.code shell.new.engine.limits.slice result.work }
-    ensures over { result.is_over ≡ true → RestsAtStop shell.new.engine seat }
-{
-    let has_others = shell.engine.limits().seats > 1;
-    let mut hand = work;
-    for _ in rt.forever() {
-        let lacks = prepare_seat(&shell.engine, alloc, code, seat, &mut hand);
-        let helps = has_others & are_more & is_heavy(&hand);
-        let Played { point, work } = event(code, shell, seat, hand, lacks);
-        gate.pass(seat, point);
-        let is_over = is_end(point);
-        if is_over | helps | is_wait(point) {
-            return Led { work, is_over };
+    /// Has turns on a shell until a stop is kept and the seat has nothing at work, or no ready member may begin, or others could help:
+    /// a fragment made many steps, and there may be more of them, since the run began with some (`are_more`) or one was committed.
+    /// Passes the gate after each. Tells whether a stop is kept and the seat has nothing at work.
+    pub(crate) fn lead_on<R: Wait, G: Gate>(
+        &mut self,
+        rt: &R,
+        alloc: Global,
+        gate: &G,
+        shared: &mut Shared<M, K, D>,
+        mut are_more: bool,
+    ) -> bool
+        requires order { IsInOrder M.meaning shared.old.shell.value.engine shared.old.shell.value.sent (arc_value self.old.code) (vec_len shared.old.shell.value.devices) }
+        requires seat { (knows self.old.seat).number < shared.old.shell.value.engine.limits.seats }
+        requires fits { Fits M.meaning shared.old.shell.value.engine (knows self.old.seat).number self.old.work }
+        ensures led { HasLedOn M.meaning (arc_value self.old.code) (knows self.old.seat).number are_more
+            (shell_view K.written K.faults D.device_heard D.device_faults shared.old.shell.value) shared.old.turns self.old.work
+            (shell_view K.written K.faults D.device_heard D.device_faults shared.new.shell.value) shared.new.turns self.new.work result }
+        ensures keeps { (opening : Opening M.Code)
+            → IsShell M.meaning opening (shell_view K.written K.faults D.device_heard D.device_faults shared.old.shell.value)
+            → IsShell M.meaning opening (shell_view K.written K.faults D.device_heard D.device_faults shared.new.shell.value) }
+        ensures order { IsInOrder M.meaning shared.new.shell.value.engine shared.new.shell.value.sent (arc_value self.old.code) (vec_len shared.new.shell.value.devices) }
+        ensures limits { shared.new.shell.value.engine.limits ≡ shared.old.shell.value.engine.limits }
+        ensures fits { Fits M.meaning shared.new.shell.value.engine (knows self.old.seat).number self.new.work }
+        ensures others { (other : ℕ) (rest : Work M) → other ≢ (knows self.old.seat).number → Fits M.meaning shared.old.shell.value.engine other rest
+            → Fits M.meaning shared.new.shell.value.engine other rest }
+        ensures can { CanBePrepared M.meaning.is_machine M.meaning.stage (arc_value self.old.code) shared.new.shell.value.engine.limits.slice self.new.work }
+        ensures rest { shared.new.places ≡ shared.old.places }
+        ensures made { shared.new.made ≡ shared.old.made }
+        ensures worker { self.new ≡ record self.old { work = self.new.work } }
+    {
+        let seat = self.seat.number();
+        let has_others = shared.shell.engine.limits().seats > 1;
+        for _ in rt.forever() {
+            prepare_seat(
+                &shared.shell.engine,
+                alloc,
+                &self.code,
+                seat,
+                &mut self.work,
+            );
+            let helps = has_others & are_more & is_heavy(&self.work);
+            let turn = shared.play(&self.code, seat, &mut self.work);
+            gate.pass(seat, point_of(turn));
+            if is_rest(turn.outcome) | helps {
+                return matches!(turn.outcome, Outcome::Stopped);
+            }
+            are_more |= is_commit(turn.outcome);
         }
-        hand = work;
-        are_more |= is_commit(point);
+        unreachable!()
     }
-    unreachable!()
-}
-
-/// A seat that has the turn leads as `lead_shell` tells it, and keeps there what it has at hand then.
-pub(crate) fn lead_on<M: Runner, K: Sink, D: Device, R: Wait, G: Gate>(
-    rt: &R,
-    alloc: Global,
-    seat: &Seat<Shared<M, K, D>>,
-    shared: &mut Shared<M, K, D>,
-    code: &M::Code,
-    work: Work<M>,
-    gate: &G,
-    are_more: bool,
-) -> Led<M>
-where
-    M::Code: Drop,
-    requires seated { IsSeated M.meaning.signature code.now shared.old.shell.value.engine.limits (knows seat.now) }
-    requires found { slice_get (knows seat.now).rows (knows seat.now).number ≡ Some (knows seat.now).row }
-    requires stands { IsSomeAnd (knows seat.now).fixed (λ opened. IsShared M.meaning opened
-        (shell_view K.written K.faults D.device_heard D.device_faults shared.old.shell.value)
-        shared.old.places.items (knows seat.now).rows (knows seat.now).seen) }
-    requires prepared { IsPrepared M.meaning.is_machine M.meaning.stage code.now shared.old.shell.value.engine.limits.slice (knows seat.now).row.hand work }
-    ensures led { HasLed M.meaning result.work (knows seat.now)
-        (shell_view K.written K.faults D.device_heard D.device_faults shared.old.shell.value) shared.old.places.items
-        (shell_view K.written K.faults D.device_heard D.device_faults shared.new.shell.value) shared.new.places.items }
-    ensures can { CanBePrepared M.meaning.is_machine M.meaning.stage code.now shared.old.shell.value.engine.limits.slice result.work }
-    ensures over { result.is_over ≡ true → RestsAtStop shared.new.shell.value.engine (knows seat.now).number }
-{
-    let number = seat.number();
-    let shell = &mut *shared.shell;
-    let led = lead_shell(rt, alloc, code, shell, number, work, gate, are_more);
-    shared.keep(number, &led.work);
-    led
 }

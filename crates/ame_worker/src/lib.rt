@@ -1,15 +1,16 @@
-//! Workers, each with a seat at one shared run: the turn, threads, and a whole run of a program.
+//! Workers that share one run by passing a baton: turns, and what each row tells of them.
 #![tactic(auto)]
 
 mod gate;
-mod hand;
 mod leading;
 mod opening;
 mod pause;
 mod points;
 mod shared;
+mod turns;
 mod worker;
 
 pub use gate::{Gate, NoGate, Point};
 pub use shared::{Opened, Place, SeatRow, Shared};
+pub use turns::TurnRecord;
 pub use worker::{Turned, Worker};

@@ -9,7 +9,7 @@ ghost use Rattle.ame_engine.specs.Whole.{AreLimits};
 ghost use Rattle.ame_shell.specs.Ends.{ends_of};
 ghost use Rattle.ame_shell.specs.Shell.{shell_view};
 ghost use Rattle.ame_worker.specs.Rows.{nothing_kept, empty_row};
-ghost use Rattle.ame_worker.specs.Shared.{opened_with, opened_as, IsShared};
+ghost use Rattle.ame_worker.specs.Shared.{opened_from, opening_from, IsShared};
 
 use crate::shared::{Place, Shared};
 use ame_device::Device;
@@ -17,8 +17,8 @@ use ame_engine::Engine;
 use ame_io::Sink;
 use ame_machine::Runner;
 use ame_protocol::Limits;
-use ame_shell::Shell;
-use ame_turn::Work;
+use ame_shell::{Shell, Work};
+use ame_trace::Trace;
 use std::alloc::{AllocError, Global};
 use std::snapshot::Snapshot;
 use std::sync::Arc;
@@ -49,7 +49,8 @@ where
         ensures none_sent { IfOk result (λ shared. shared.shell.value.sent ≡ 0) }
         ensures kept_sink { IfOk result (λ shared. shared.shell.value.sink ≡ sink) }
         ensures kept_devices { IfOk result (λ shared. shared.shell.value.devices ≡ devices) }
-        ensures before { IfOk result (λ shared. shared.sink_before.value ≡ sink) }
+        ensures made { IfOk result (λ shared. shared.made.value ≡ shared.shell.value) }
+        ensures no_turns { IfOk result (λ shared. shared.turns ≡ []) }
         ensures places { IfOk result (λ shared. shared.places.items ≡ replicate engine.limits.seats nothing_kept) }
         ensures sink { IfErr result (λ back. back.0 ≡ sink) }
         ensures devices { IfErr result (λ back. back.1 ≡ devices) }
@@ -57,18 +58,19 @@ where
         let Ok(places) = empty_places(alloc, engine.limits().seats) else {
             return Err((sink, devices));
         };
-        let sink_before = Snapshot::of(&sink);
         let shell = Shell {
             engine,
             sink,
             sent: 0,
             devices,
         };
+        let made = Snapshot::of(&shell);
         match Box::new(alloc, shell) {
             Ok(shell) => Ok(Shared {
                 shell,
                 places,
-                sink_before,
+                turns: Trace::new(),
+                made,
             }),
             Err(refused) => Err(refused.value.into_ends()),
         }
@@ -84,15 +86,16 @@ where
     ) -> Result<Shared<M, K, D>, (K, Vec<D>)>
         requires limits { AreLimits limits }
         ensures stands { IfOk result (λ shared. IsShared M.meaning
-            (opened_with (arc_value code) limits [] (ends_of K.written K.faults D.device_heard D.device_faults sink devices.items))
-            (shell_view K.written K.faults D.device_heard D.device_faults shared.shell.value)
-            shared.places.items (replicate limits.seats empty_row) []) }
-        ensures code { IfOk result (λ shared. shared.shell.value.engine.code ≡ arc_value code) }
-        ensures limits { IfOk result (λ shared. shared.shell.value.engine.limits ≡ limits) }
-        ensures base { IfOk result (λ shared. shared.shell.value.engine.base ≡ []) }
+            (opened_from (shell_view K.written K.faults D.device_heard D.device_faults shared.made.value) (shell_view K.written K.faults D.device_heard D.device_faults shared.shell.value))
+            (shell_view K.written K.faults D.device_heard D.device_faults shared.shell.value) shared.places.items shared.turns (replicate limits.seats empty_row) []) }
+        ensures opening { IfOk result (λ shared. opening_from (shell_view K.written K.faults D.device_heard D.device_faults shared.made.value) ≡ record {
+          code = arc_value code;
+          limits = limits;
+          base = [];
+          ends = ends_of K.written K.faults D.device_heard D.device_faults sink devices.items;
+        }) }
         ensures kept_sink { IfOk result (λ shared. shared.shell.value.sink ≡ sink) }
         ensures kept_devices { IfOk result (λ shared. shared.shell.value.devices ≡ devices) }
-        ensures before { IfOk result (λ shared. shared.sink_before.value ≡ sink) }
         ensures sink { IfErr result (λ back. back.0 ≡ sink) }
         ensures devices { IfErr result (λ back. back.1 ≡ devices) }
     {
@@ -112,15 +115,16 @@ where
     ) -> Result<Shared<M, K, D>, (K, Vec<D>)>
         requires resumed { HasResumed M.meaning engine.limits engine.base engine }
         ensures stands { IfOk result (λ shared. IsShared M.meaning
-            (opened_as engine (ends_of K.written K.faults D.device_heard D.device_faults sink devices.items))
-            (shell_view K.written K.faults D.device_heard D.device_faults shared.shell.value)
-            shared.places.items (replicate engine.limits.seats empty_row) []) }
+            (opened_from (shell_view K.written K.faults D.device_heard D.device_faults shared.made.value) (shell_view K.written K.faults D.device_heard D.device_faults shared.shell.value))
+            (shell_view K.written K.faults D.device_heard D.device_faults shared.shell.value) shared.places.items shared.turns (replicate engine.limits.seats empty_row) []) }
+        ensures opening { IfOk result (λ shared. opening_from (shell_view K.written K.faults D.device_heard D.device_faults shared.made.value) ≡ record {
+          code = engine.code;
+          limits = engine.limits;
+          base = engine.base;
+          ends = ends_of K.written K.faults D.device_heard D.device_faults sink devices.items;
+        }) }
         ensures idle { IfOk result (λ shared. (seat : ℕ) → task_at shared.shell.value.engine.tasks seat ≡ Task.Idle) }
-        ensures code { IfOk result (λ shared. shared.shell.value.engine.code ≡ engine.code) }
-        ensures limits { IfOk result (λ shared. shared.shell.value.engine.limits ≡ engine.limits) }
-        ensures base { IfOk result (λ shared. shared.shell.value.engine.base ≡ engine.base) }
         ensures kept_devices { IfOk result (λ shared. shared.shell.value.devices ≡ devices) }
-        ensures before { IfOk result (λ shared. shared.sink_before.value ≡ sink) }
         ensures sink { IfErr result (λ back. back.0 ≡ sink) }
         ensures devices { IfErr result (λ back. back.1 ≡ devices) }
     {

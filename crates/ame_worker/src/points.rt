@@ -1,40 +1,23 @@
 //! What a worker tells of its turn.
 
-ghost use Rattle.std.specs.Prelude.{◌≡◌, ◌<◌};
-ghost use Rattle.ame_worker.specs.Points.{member_at, point_of};
+ghost use Rattle.std.specs.Prelude.{◌≡◌};
+ghost use Rattle.ame_worker.specs.Points.{point_of};
 
 use crate::gate::Point;
-use ame_engine::Engine;
-use ame_machine::Runner;
-use ame_protocol::Task;
-use ame_turn::Deed;
+use ame_shell::{Outcome, Turn};
 
-/// The member that a seat has at work, and 0 where it has none.
-pub(crate) fn member_at<M: Runner>(engine: &Engine<M>, seat: u32) -> u64
-where
-    M::Code: Drop,
-    requires { seat < engine.now.limits.seats }
-    ensures { result ≡ member_at engine.now seat }
+/// The point that tells a turn.
+pub(crate) fn point_of(turn: Turn) -> Point
+    ensures { result ≡ point_of turn.outcome turn.member }
 {
-    match engine.task(seat) {
-        Task::Idle => 0,
-        Task::Running(attempt) | Task::Free(attempt) | Task::Undoing(attempt, _) => {
-            attempt.tried.number
-        }
-    }
-}
-
-/// The point that tells a deed, with the member that the seat had at work before and has then.
-pub(crate) fn point_of(deed: Deed, before: u64, after: u64) -> Point
-    ensures { result ≡ point_of deed before after }
-{
-    match deed {
-        Deed::Began => Point::Began(after),
-        Deed::Waited => Point::Idle,
-        Deed::Stopped => Point::Stopped,
-        Deed::Ended | Deed::Left => Point::Ran(before),
-        Deed::CameHome => Point::Freed(before),
-        Deed::DeviceFailed(_) | Deed::WentHome => Point::Home(before),
+    let member = turn.member.unwrap_or(0);
+    match turn.outcome {
+        Outcome::Began => Point::Began(member),
+        Outcome::Waited => Point::Idle,
+        Outcome::Stopped => Point::Stopped,
+        Outcome::Ended | Outcome::Left => Point::Ran(member),
+        Outcome::CameHome => Point::Freed(member),
+        Outcome::DeviceFailed(_) | Outcome::WentHome => Point::Home(member),
         _ => Point::Stepped,
     }
 }

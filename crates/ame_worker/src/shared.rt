@@ -1,21 +1,25 @@
 //! A shell that workers share.
 
-ghost use Rattle.std.specs.Prelude.{◌≡◌, ◌<◌, vec_len, slice_set};
+ghost use Rattle.std.specs.Prelude.{◌≡◌, ◌≢◌, ◌<◌, ◌++◌, ◌∷◌, [], ℕ, vec_len, slice_set};
+ghost use Rattle.ame_protocol.specs.Engine.Parts.{member_of, task_at};
+ghost use Rattle.ame_shell.specs.declared.work.Work.{Work};
+ghost use Rattle.ame_shell.specs.Ready.{CanBePrepared};
+ghost use Rattle.ame_shell.specs.Shell.{shell_view, Opening, IsShell};
+ghost use Rattle.ame_shell.specs.Turned.{IsInOrder, member_told};
+ghost use Rattle.ame_shell.specs.Work.{Fits};
 ghost use Rattle.ame_worker.specs.Shared.{keeping};
 
+use crate::turns::{Before, TurnRecord};
 use ame_baton::Rowed;
-use ame_device::{Device, Told};
+use ame_device::Device;
 use ame_io::Sink;
-use ame_journal::Entry;
 use ame_machine::Runner;
-use ame_protocol::Limits;
-use ame_shell::Shell;
-use ame_turn::Work;
-use std::collections::LinkedList;
+use ame_shell::{Shell, Turn, Work};
+use ame_trace::Trace;
 use std::marker::Model;
 use std::snapshot::Snapshot;
 
-/// What is kept for a seat that gives the turn: what it has at hand, as contracts see it, and whether a stop was kept then.
+/// What is kept for a seat that gives the turn: its work in flight, as contracts see it, and whether a stop was kept then.
 #[derive(Drop)]
 pub struct Place<M> {
     hand: Snapshot<Work<M>>,
@@ -31,7 +35,7 @@ impl<M> Model for Place<M> {
 }
 
 impl<M> Place<M> {
-    /// What is kept for a seat that has this at hand.
+    /// Keeps this work in flight.
     pub(crate) fn new(hand: &Work<M>, marked: bool) -> Place<M>
         ensures hand { result.hand ≡ hand.now }
         ensures marked { result.marked ≡ marked }
@@ -43,22 +47,25 @@ impl<M> Place<M> {
     }
 }
 
-/// A shell that workers share, with a place for each seat, and its sink as it was before any line was sent. It is small, so that it
-/// passes from seat to seat at little cost.
+/// A shell that workers share, with a place for each seat, the turns that led to it, and the shell as it was made. It is small, so that
+/// it passes from seat to seat at little cost.
 #[derive(Drop)]
-pub struct Shared<M: Runner, K, D>
+pub struct Shared<M: Runner, K: Sink, D: Device>
 where
     M::Code: Drop,
 {
     pub shell: Box<Shell<M, K, D>>,
     pub places: Vec<Place<M>>,
-    pub sink_before: Snapshot<K>,
+    pub turns: Trace<TurnRecord<M, K, D>>,
+    pub made: Snapshot<Shell<M, K, D>>,
 }
 
-impl<M: Runner, K, D> Shared<M, K, D>
+impl<M: Runner, K: Sink, D: Device> Shared<M, K, D>
 where
     M::Code: Drop,
 {
+    ghost use Rattle.ame_worker.specs.Turns.{IsTurn, maker};
+
     /// The shell, which nobody shares any more.
     pub fn into_shell(self) -> Shell<M, K, D>
         ensures { result ≡ self.shell.value }
@@ -66,30 +73,86 @@ where
         let Shared {
             shell,
             places: _,
-            sink_before: _,
+            turns: _,
+            made: _,
         } = self;
         Box::into_inner(shell)
     }
 
-    /// Keeps what a seat has at hand that gives the turn.
+    /// One event of a seat that has the turn, which joins the turns.
+    pub(crate) fn play(&mut self, code: &M::Code, seat: u32, work: &mut Work<M>) -> Turn
+        requires order { IsInOrder M.meaning self.old.shell.value.engine self.old.shell.value.sent code.now (vec_len self.old.shell.value.devices) }
+        requires seat { seat < self.old.shell.value.engine.limits.seats }
+        requires fits { Fits M.meaning self.old.shell.value.engine seat work.old }
+        ensures turns { self.new.turns ≡ self.old.turns ++ record {
+          seat = seat;
+          hand = work.old;
+          old = shell_view K.written K.faults D.device_heard D.device_faults self.old.shell.value;
+          outcome = result.outcome;
+          new = shell_view K.written K.faults D.device_heard D.device_faults self.new.shell.value;
+        } ∷ [] }
+        ensures turned { IsTurn M.meaning (record {
+          seat = seat;
+          hand = work.old;
+          old = shell_view K.written K.faults D.device_heard D.device_faults self.old.shell.value;
+          outcome = result.outcome;
+          new = shell_view K.written K.faults D.device_heard D.device_faults self.new.shell.value;
+        }) }
+        ensures member { result.member ≡ member_told (member_of (task_at self.old.shell.value.engine.tasks seat))
+            (member_of (task_at self.new.shell.value.engine.tasks seat)) }
+        ensures keeps { (opening : Opening M.Code)
+            → IsShell M.meaning opening (shell_view K.written K.faults D.device_heard D.device_faults self.old.shell.value)
+            → IsShell M.meaning opening (shell_view K.written K.faults D.device_heard D.device_faults self.new.shell.value) }
+        ensures order { IsInOrder M.meaning self.new.shell.value.engine self.new.shell.value.sent code.now (vec_len self.new.shell.value.devices) }
+        ensures limits { self.new.shell.value.engine.limits ≡ self.old.shell.value.engine.limits }
+        ensures fits { Fits M.meaning self.new.shell.value.engine seat work.new }
+        ensures others { (other : ℕ) (rest : Work M) → other ≢ seat → Fits M.meaning self.old.shell.value.engine other rest
+            → Fits M.meaning self.new.shell.value.engine other rest }
+        ensures can { CanBePrepared M.meaning.is_machine M.meaning.stage code.now self.new.shell.value.engine.limits.slice work.new }
+        ensures rest { self.new.places ≡ self.old.places }
+        ensures made { self.new.made ≡ self.old.made }
+    {
+        self.shell.engine.stands();
+        let before = Before::of(work, &self.shell);
+        let turn = self.shell.turn(code, seat, work);
+        let record = before.to(seat, turn.outcome, &self.shell);
+        self.turns.push(&record);
+        turn
+    }
+
+    /// Keeps a seat's work in flight, at the end of its turns.
     pub(crate) fn keep(&mut self, seat: u32, hand: &Work<M>)
         requires there { seat < vec_len self.old.places }
         ensures places { self.new.places.items ≡ slice_set self.old.places.items seat (keeping self.old.shell.value.engine hand.now) }
-        ensures shell { self.new.shell ≡ self.old.shell }
+        ensures rest { self.new ≡ record self.old { places = self.new.places } }
     {
         let marked = self.shell.engine.stopped().is_some();
         self.places[seat as usize] = Place::new(hand, marked);
     }
 }
 
-/// How a shell was opened: its code, its limits, the entries that were made before, and what its ends told. No value of it is made.
-pub struct Opened<C> {
-    pub code: C,
-    pub limits: Limits,
-    pub base: LinkedList<Entry>,
-    pub written: Option<LinkedList<u8>>,
-    pub write_faults: u64,
-    pub told: LinkedList<Told>,
+/// How a shell came to be shared. No value of it is made.
+pub struct Opened<M: Runner, K: Sink, D: Device>
+where
+    M::Code: Drop,
+{
+    made: Snapshot<Shell<M, K, D>>,
+    first: Snapshot<Shell<M, K, D>>,
+}
+
+impl<M: Runner, K: Sink, D: Device> Model for Opened<M, K, D>
+where
+    M::Code: Drop,
+{
+    ghost use Rattle.ame_shell.specs.Shell.{shell_view};
+    ghost use Rattle.ame_worker.specs.Shared.{OpenedView};
+
+    ghost Value = { OpenedView M.Code M.Value M };
+
+    ghost view = { λ o. record {
+      made = shell_view K.written K.faults D.device_heard D.device_faults o.made.value;
+      first = shell_view K.written K.faults D.device_heard D.device_faults o.first.value;
+    } };
 }
 
 /// What is kept for a seat, and what the engine has of it. No value of it is made.
@@ -109,25 +172,26 @@ impl<M: Runner, K: Sink, D: Device> Rowed for Shared<M, K, D>
 where
     M::Code: Drop,
 {
-    type Fixed = Opened<M::Code>;
+    type Fixed = Opened<M, K, D>;
 
     type Row = SeatRow<M>;
 
-    type Entry = Entry;
+    type Entry = TurnRecord<M, K, D>;
 
-    ghost use Rattle.ame_shell.specs.Ends.{ends_of};
     ghost use Rattle.ame_shell.specs.Shell.{shell_view};
     ghost use Rattle.ame_worker.specs.Rows.{empty_row};
-    ghost use Rattle.ame_worker.specs.Shared.{opened_as, IsShared};
+    ghost use Rattle.ame_worker.specs.Shared.{IsShared};
     ghost use Rattle.ame_worker.specs.Turns.{maker};
 
-    ghost stands_for = { λ s opened rows entries. IsShared M.meaning opened
-        (shell_view K.written K.faults D.device_heard D.device_faults s.shell.value)
-        s.places.items rows entries };
+    ghost stands_for = { λ s opened rows told. IsShared M.meaning opened
+        (shell_view K.written K.faults D.device_heard D.device_faults s.shell.value) s.places.items s.turns rows told };
 
-    ghost opening = { λ s. opened_as s.shell.value.engine (ends_of K.written K.faults D.device_heard D.device_faults s.sink_before.value s.shell.value.devices.items) };
+    ghost opening = { λ s. record {
+      made = shell_view K.written K.faults D.device_heard D.device_faults s.made.value;
+      first = shell_view K.written K.faults D.device_heard D.device_faults s.shell.value;
+    } };
 
-    ghost seats_in = { λ opened. opened.limits.seats };
+    ghost seats_in = { λ opened. opened.made.core.limits.seats };
 
     ghost empty_row = { empty_row };
 

@@ -1,45 +1,43 @@
-//! A worker: a seat, what it has at hand, and the code.
+//! A worker: a seat, its work in flight, and the code.
 
 ghost use Rattle.std.specs.Prelude.{◌≡◌, true, false};
 ghost use Rattle.std.specs.Arc.{arc_value};
 ghost use Rattle.ame_baton.specs.Batons.{knows, IsSeatOf};
 ghost use Rattle.ame_baton.specs.Keeping.{KeepsSeat};
 ghost use Rattle.ame_baton.specs.Seats.{IsElsewhere};
-ghost use Rattle.ame_shell.specs.Shell.{shell_view};
+ghost use Rattle.ame_baton.specs.declared.turn.passing.Elsewhere.{Elsewhere};
 ghost use Rattle.ame_worker.specs.declared.gate.Point.{Point};
 ghost use Rattle.ame_worker.specs.Rows.{empty_row};
-ghost use Rattle.ame_worker.specs.Turns.{HasMadeTurn};
+ghost use Rattle.ame_worker.specs.Led.{HasHadTurn, HasLedOrNot};
 ghost use Rattle.ame_worker.specs.Workers.{IsSeated, IsReadyToTurn, IsThrough};
 
 use crate::gate::{Gate, Point};
-use crate::hand::{Played, hand};
-use crate::leading::{Led, lead_on};
 use crate::pause::pause;
+use crate::points::point_of;
 use crate::shared::{Opened, SeatRow, Shared};
-use ame_baton::{AnyRow, Baton, Seat, SeatAt};
+use crate::turns::TurnRecord;
+use ame_baton::{AnyRow, Baton, Elsewhere, Seat, SeatAt};
 use ame_device::Device;
 use ame_io::Sink;
-use ame_journal::Entry;
 use ame_machine::Runner;
 use ame_protocol::Limits;
-use ame_turn::{Work, prepare};
+use ame_shell::{Work, prepare};
 use crossbeam_utils::Backoff;
 use std::alloc::Global;
-use std::mem;
 use std::sync::{Arc, Wait};
 
-/// A worker: a seat at a shared shell, what it has at hand, the code and the limits.
-pub struct Worker<M: Runner, K, D>
+/// A worker: a seat at a shared shell, its work in flight, the code and the limits.
+pub struct Worker<M: Runner, K: Sink, D: Device>
 where
     M::Code: Drop,
 {
-    pub seat: SeatAt<Shared<M, K, D>, Opened<M::Code>, SeatRow<M>, Entry>,
+    pub seat: SeatAt<Shared<M, K, D>, Opened<M, K, D>, SeatRow<M>, TurnRecord<M, K, D>>,
     pub work: Work<M>,
     pub code: Arc<M::Code>,
     pub limits: Limits,
 }
 
-impl<M: Runner, K, D> Drop for Worker<M, K, D>
+impl<M: Runner, K: Sink, D: Device> Drop for Worker<M, K, D>
 where
     M::Code: Drop,
 {
@@ -59,7 +57,7 @@ pub enum Turned {
     /// It had a turn, and made the event that the point tells.
     Did(Point),
     /// Another seat had the turn. Nothing of the shared shell changed.
-    Busy,
+    Busy(Elsewhere),
 }
 
 impl<M: Runner, K: Sink, D: Device> Worker<M, K, D>
@@ -98,31 +96,33 @@ where
         ensures of { IsSeatOf baton.now self.new.seat }
         ensures ready { IsReadyToTurn M.meaning (arc_value self.new.code) self.new.limits (knows self.new.seat) self.new.work }
         ensures keeps { KeepsSeat (knows self.old.seat) (knows self.new.seat) }
-        ensures busy { result ≡ Turned.Busy → IsElsewhere (knows self.old.seat) }
-        ensures same { result ≡ Turned.Busy → knows self.new.seat ≡ knows self.old.seat }
-        ensures did { (point : Point) → result ≡ Turned.Did point → HasMadeTurn M.meaning self.old.seat self.new.seat
-            (λ s. shell_view K.written K.faults D.device_heard D.device_faults s.shell.value)
-            (λ s. s.places.items) (arc_value self.old.code) self.old.limits.slice self.old.work self.new.work point }
+        ensures busy { (elsewhere : Elsewhere) → result ≡ Turned.Busy elsewhere → IsElsewhere (knows self.old.seat) }
+        ensures same { (elsewhere : Elsewhere) → result ≡ Turned.Busy elsewhere → knows self.new.seat ≡ knows self.old.seat }
+        ensures did { (point : Point) → result ≡ Turned.Did point → HasHadTurn M.meaning (arc_value self.old.code) self.old.limits.slice
+            (knows self.old.seat) (knows self.new.seat) self.old.work self.new.work point }
         ensures through { result ≡ Turned.Did Point.Stopped → IsThrough (knows self.new.seat) }
         ensures code { self.new.code ≡ self.old.code }
         ensures limits { self.new.limits ≡ self.old.limits }
     {
         let code: &M::Code = &self.code;
-        let lacks = prepare(alloc, code, self.limits.slice, &mut self.work).is_err();
-        let Some(mut shared) = baton.try_take(rt, &mut self.seat) else {
-            return Turned::Busy;
+        // A machine that memory was refused isn't ready, which its turn finds.
+        let _ = prepare(alloc, code, self.limits.slice, &mut self.work);
+        let mut shared = match baton.try_take(rt, &mut self.seat) {
+            Ok(shared) => shared,
+            Err(elsewhere) => return Turned::Busy(elsewhere),
         };
-        let work = mem::replace(&mut self.work, Work::Idle);
-        let Played { point, work } = hand(&self.seat, &mut shared, code, work, lacks);
+        let number = self.seat.number();
+        let turn = shared.play(code, number, &mut self.work);
+        shared.keep(number, &self.work);
         baton.give::<AnyRow, R>(rt, &mut self.seat, shared);
-        self.work = work;
-        gate.pass(self.seat.number(), point);
+        let point = point_of(turn);
+        gate.pass(number, point);
         Turned::Did(point)
     }
 
     /// Has turns while no other worker has any, and holds the turn from the first to the last: until a stop is kept and its seat has
-    /// nothing at work, which it tells, or until others could help: a fragment made many steps, and there may be more of them, since the
-    /// run began with some (`are_more`) or one was committed. Passes the gate after each.
+    /// nothing at work, which it tells, or no ready member may begin, or until others could help: a fragment made many steps, and there
+    /// may be more of them, since the run began with some (`are_more`) or one was committed. Passes the gate after each.
     pub fn lead<R: Wait, G: Gate>(
         &mut self,
         rt: &R,
@@ -136,25 +136,19 @@ where
         ensures of { IsSeatOf baton.now self.new.seat }
         ensures ready { IsReadyToTurn M.meaning (arc_value self.new.code) self.new.limits (knows self.new.seat) self.new.work }
         ensures keeps { KeepsSeat (knows self.old.seat) (knows self.new.seat) }
+        ensures led { HasLedOrNot M.meaning (arc_value self.old.code) self.old.limits are_more
+            (knows self.old.seat) (knows self.new.seat) self.old.work self.new.work }
         ensures through { result ≡ true → IsThrough (knows self.new.seat) }
+        ensures code { self.new.code ≡ self.old.code }
+        ensures limits { self.new.limits ≡ self.old.limits }
     {
-        let code: &M::Code = &self.code;
-        let Some(mut shared) = baton.try_take(rt, &mut self.seat) else {
+        let Ok(mut shared) = baton.try_take(rt, &mut self.seat) else {
             return false;
         };
-        let work = mem::replace(&mut self.work, Work::Idle);
-        let Led { work, is_over } = lead_on(
-            rt,
-            alloc,
-            &self.seat,
-            &mut shared,
-            code,
-            work,
-            gate,
-            are_more,
-        );
+        let is_over = self.lead_on(rt, alloc, gate, &mut shared, are_more);
+        let seat = self.seat.number();
+        shared.keep(seat, &self.work);
         baton.give::<AnyRow, R>(rt, &mut self.seat, shared);
-        self.work = work;
         is_over
     }
 
@@ -176,7 +170,7 @@ where
         for _ in rt.forever() {
             match self.turn(rt, alloc, baton, gate) {
                 Turned::Did(Point::Stopped) => return,
-                Turned::Did(Point::Idle) | Turned::Busy => {
+                Turned::Did(Point::Idle) | Turned::Busy(_) => {
                     pause(rt, &backoff, waits);
                     waits = waits.saturating_add(1);
                 }

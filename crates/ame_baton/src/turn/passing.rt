@@ -1,5 +1,5 @@
 //! How a seat takes the turn and gives it back.
-ghost use Rattle.std.specs.Prelude.{◌≡◌, true, false, IfSome, IfNone};
+ghost use Rattle.std.specs.Prelude.{◌≡◌, true, false, IfOk, OnErr};
 ghost use Rattle.ame_baton.specs.Seats.{Takes, IsElsewhere, MayGive, Gives};
 ghost use Rattle.ame_baton.specs.Batons.{knows, IsSeatOf};
 
@@ -10,18 +10,25 @@ use crate::steps;
 use std::sync::Wait;
 use std::thread;
 
+/// Tells that the turn was elsewhere. Only a try to take it makes one.
+#[derive(Clone, Copy, PartialEq, Eq, Debug)]
+pub struct Elsewhere {
+    tried: (),
+}
+
 impl<S: Rowed> Baton<S> {
     /// One pop. It takes no memory.
-    pub fn try_take<R: Wait>(&self, rt: &R, seat: &mut Seat<S>) -> Option<S>
+    pub fn try_take<R: Wait>(&self, rt: &R, seat: &mut Seat<S>) -> Result<S, Elsewhere>
         requires of { IsSeatOf self.now seat.old }
         requires free { (knows seat.old).holds ≡ false }
         ensures of { IsSeatOf self.now seat.new }
         ensures taken { let before = knows seat.old in
-            IfSome result (λ state. Takes S.stands_for S.seat_of before state (knows seat.new)) }
-        ensures busy { IfNone result (IsElsewhere (knows seat.old)) }
-        ensures same { IfNone result (knows seat.new ≡ knows seat.old) }
+            IfOk result (λ state. Takes S.stands_for S.seat_of before state (knows seat.new)) }
+        ensures busy { OnErr result (IsElsewhere (knows seat.old)) }
+        ensures same { OnErr result (knows seat.new ≡ knows seat.old) }
     {
-        self.queue.pop_as::<steps::Takes<S>, R>(rt, &mut seat.pass)
+        let taken = self.queue.pop_as::<steps::Takes<S>, R>(rt, &mut seat.pass);
+        taken.ok_or(Elsewhere { tried: () })
     }
 
     /// Tries until the turn is there. Between two tries it yields.
@@ -32,7 +39,7 @@ impl<S: Rowed> Baton<S> {
         ensures taken { Takes S.stands_for S.seat_of (knows seat.old) result (knows seat.new) }
     {
         for _ in rt.forever() {
-            if let Some(state) = self.try_take(rt, seat) {
+            if let Ok(state) = self.try_take(rt, seat) {
                 return state;
             }
             thread::yield_now();

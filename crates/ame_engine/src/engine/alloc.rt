@@ -41,7 +41,7 @@ where
         };
         let value = at.wanted(&self.code).copy(*self.tasks.allocator())?;
         let input = M::location_value(Loc(self.memory.cells().len()));
-        let l = self.memory.allocate(seat, sort, number, value, input)?;
+        let l = self.memory.allocate(seat, sort, number, value, &input)?;
         self.turns += 1;
         self.counters.allocs += 1;
         Ok(l)

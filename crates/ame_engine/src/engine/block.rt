@@ -13,6 +13,7 @@ ghost use Rattle.ame_engine.specs.AtWork.{IsOn, IsBlocking};
 
 use super::Engine;
 use super::notes::{note_of, told};
+use super::turn::Setback;
 use crate::answer::Noted;
 use ame_journal::EntryKind;
 use ame_machine::Runner;
@@ -88,10 +89,7 @@ where
                 Ok(Noted::Noted)
             }
             Some(bad) => {
-                self.tasks[seat as usize] = Task::Undoing(attempt, Reason::RolledBack);
-                self.turns += 1;
-                self.counters.blocks += 1;
-                self.counters.invalids += 1;
+                self.turn_back(seat, attempt, Setback::Block);
                 Ok(Noted::Invalid(bad))
             }
         }

@@ -11,10 +11,11 @@ ghost use Rattle.ame_engine.specs.Makes.{Makes};
 ghost use Rattle.ame_engine.specs.AtWork.{IsOn};
 
 use super::Engine;
+use super::turn::Setback;
 use crate::answer::Checked;
 use ame_journal::Entry;
 use ame_machine::Runner;
-use ame_protocol::{Attempt, Reason, Task, Tried};
+use ame_protocol::{Attempt, Task, Tried};
 
 /// An attempt whose row was found valid after so many steps and these entries.
 fn checked_attempt(attempt: Attempt, steps: u64, base: &[Entry], entries: &[Entry]) -> Attempt
@@ -67,10 +68,7 @@ where
                 Checked::Valid
             }
             Some(bad) => {
-                self.tasks[seat as usize] = Task::Undoing(attempt, Reason::RolledBack);
-                self.turns += 1;
-                self.counters.checks += 1;
-                self.counters.invalids += 1;
+                self.turn_back(seat, attempt, Setback::Check);
                 Checked::Invalid(bad)
             }
         }

@@ -14,10 +14,11 @@ ghost use Rattle.ame_engine.specs.AtWork.{IsOn};
 ghost use Rattle.ame_engine.specs.Committing.{IsCommitting, ends_at, leaves_at};
 
 use super::Engine;
+use super::turn::Setback;
 use crate::answer::Noted;
 use ame_io::lines_of;
 use ame_machine::Runner;
-use ame_protocol::{Attempt, Reason, Task};
+use ame_protocol::{Attempt, Task};
 use ame_term::NoMemory;
 use members::{join_all, send_on, wake_all};
 use taken::{append, entry_of, make_room, number_after};
@@ -103,10 +104,7 @@ where
                 Ok(Noted::Noted)
             }
             Some(bad) => {
-                self.tasks[seat as usize] = Task::Undoing(attempt, Reason::RolledBack);
-                self.turns += 1;
-                self.counters.commits += 1;
-                self.counters.invalids += 1;
+                self.turn_back(seat, attempt, Setback::Commit);
                 Ok(Noted::Invalid(bad))
             }
         }

@@ -6,6 +6,7 @@ ghost use Rattle.ame_rows.specs.Valid.{IsValid, IsFirstBad};
 ghost use Rattle.ame_rows.specs.MemoryView.{row_at};
 ghost use Rattle.ame_machine.specs.declared.wants.Wants.{Wants};
 ghost use Rattle.ame_protocol.specs.declared.types.Attempt.{Attempt};
+ghost use Rattle.ame_protocol.specs.declared.types.Task.{Task};
 ghost use Rattle.ame_protocol.specs.Engine.Parts.{task_at, working};
 ghost use Rattle.ame_protocol.specs.Event.Event.{Event, Find, Reverse};
 ghost use Rattle.ame_engine.specs.Makes.{Makes, MakesAt};
@@ -13,11 +14,12 @@ ghost use Rattle.ame_engine.specs.AtWork.{IsOn};
 
 use super::Engine;
 use super::notes::{note_of, told_task};
+use super::turn::Setback;
 use super::undo::attempt_at;
 use crate::answer::Noted;
 use ame_journal::EntryKind;
 use ame_machine::Runner;
-use ame_protocol::{Reason, Stop, Task};
+use ame_protocol::Stop;
 use ame_term::NoMemory;
 
 impl<M: Runner> Engine<M>
@@ -73,10 +75,7 @@ where
             }
             Some(bad) => {
                 let attempt = attempt_at(self.tasks[seat as usize]);
-                self.tasks[seat as usize] = Task::Undoing(attempt, Reason::RolledBack);
-                self.turns += 1;
-                self.counters.talls += 1;
-                self.counters.invalids += 1;
+                self.turn_back(seat, attempt, Setback::Tall);
                 Ok(Noted::Invalid(bad))
             }
         }

@@ -14,32 +14,22 @@ ghost use Rattle.ame_protocol.specs.Event.Event.{Event, Reverse};
 ghost use Rattle.ame_engine.specs.Seen.{parts_of};
 ghost use Rattle.ame_engine.specs.Makes.{Makes};
 ghost use Rattle.ame_engine.specs.AtWork.{IsOn, IsOnSeat, IsWriting};
-ghost use Rattle.ame_engine.specs.Writing.{answer_to_write, refused_by};
+ghost use Rattle.ame_engine.specs.Writing.{answer_to_write};
 
 use super::Engine;
+use super::turn::Setback;
 use crate::answer::Wrote;
 use ame_machine::{Runner, Wants};
-use ame_protocol::{Reason, Task};
-use ame_rows::WriteAnswer;
+use ame_protocol::Task;
 use ame_term::{Copied, NoMemory};
-
-/// The seat that owns the cell, where a write was refused.
-fn refusal<V: Drop>(answer: WriteAnswer<V>) -> Option<u32>
-    ensures { result ≡ refused_by answer }
-{
-    match answer {
-        WriteAnswer::Done => None,
-        WriteAnswer::Conflict(owner, _) => Some(owner),
-    }
-}
 
 impl<M: Runner> Engine<M>
 where
     M::Code: Drop,
 {
-    /// Writes in place what the machine of a seat lends, with an entry to undo at the first write of a cell. Where another seat
-    /// owns the cell it is a conflict, and the seat turns back. No stop is kept, and the slice isn't full. Counts a turn. Takes memory
-    /// for the logs and the copy of a value.
+    /// Writes in place what the machine of a seat lends, with an entry to undo at the first write of a cell. If another seat owns
+    /// the cell it is a conflict, and the seat turns back. No stop is kept, and the slice isn't full. Counts a turn. Takes memory for
+    /// the logs and the copy of a value, unless it is a conflict.
     pub fn write(&mut self, seat: u32, at: &M) -> Result<Wrote, NoMemory>
         requires on { IsOn M.meaning self.old seat at.now }
         requires writes { IsWriting (M.meaning.stage self.old.code at.now) }
@@ -60,22 +50,21 @@ where
         let Some(Wants::Write(l)) = at.want() else {
             unreachable!();
         };
-        let Task::Running(attempt) = self.tasks[seat as usize] else {
-            unreachable!();
-        };
-        let value = at.wanted(&self.code).copy(*self.tasks.allocator())?;
-        let written = self.memory.write(seat, l, value, M::unit_value())?;
-        match refusal(written) {
+        match self.memory.other_owner(seat, l) {
+            Some(owner) => {
+                let Task::Running(attempt) = self.tasks[seat as usize] else {
+                    unreachable!();
+                };
+                self.turn_back(seat, attempt, Setback::Conflict(l, owner));
+                Ok(Wrote::Conflict(owner))
+            }
             None => {
+                let value = at.wanted(&self.code).copy(*self.tasks.allocator())?;
+                let unit = M::unit_value();
+                self.memory.write(seat, l, value, &unit)?;
                 self.turns += 1;
                 self.counters.writes += 1;
                 Ok(Wrote::Wrote)
-            }
-            Some(owner) => {
-                self.tasks[seat as usize] = Task::Undoing(attempt, Reason::RolledBack);
-                self.turns += 1;
-                self.counters.conflicts += 1;
-                Ok(Wrote::Conflict(owner))
             }
         }
     }

@@ -5,7 +5,7 @@ ghost use Rattle.std.specs.Option.{ForSome};
 ghost use Rattle.ame_store.specs.Cells.{CanGrow};
 
 use Step::*;
-use ame_rows::{Memory, WriteAnswer};
+use ame_rows::Memory;
 use ame_store::Store;
 use ame_term::{Loc, NoMemory, Sort, TyNo};
 use std::alloc::Global;
@@ -42,7 +42,7 @@ enum Told {
     Done,
     At(u32),
     Value(i64),
-    Conflict(u32, i64),
+    Conflict(u32),
     NotLive,
     Valid,
     Bad(u32, u64, u64),
@@ -72,7 +72,7 @@ const STEPS: &[(u32, u32, Step, Told, Option<State>)] = &[
         1,
         0,
         Write(12),
-        Told::Conflict(0, 12),
+        Told::Conflict(0),
         Some((11, 1, Some(0), true)),
     ),
     (0, 0, Peek, Told::Value(10), Some((11, 1, Some(0), true))),
@@ -143,7 +143,7 @@ fn allocate(memory: &mut Memory<i64>, seat: u32, value: i64, input: i64) -> Resu
     if memory.cells().len() == u32::MAX {
         return Ok(Told::Unmet);
     }
-    let l = memory.allocate(seat, Sort::Protected, TyNo(7), value, input)?;
+    let l = memory.allocate(seat, Sort::Protected, TyNo(7), value, &input)?;
     Ok(Told::At(l.0))
 }
 
@@ -153,9 +153,12 @@ fn write(memory: &mut Memory<i64>, call: Call, n: i64) -> Result<Told, NoMemory>
     requires location { call.l.0 < length memory.old.cells }
     requires can_grow { ForSome (slice_get memory.old.cells call.l.0) CanGrow }
 {
-    match memory.write(call.seat, call.l, n, 0)? {
-        WriteAnswer::Done => Ok(Told::Done),
-        WriteAnswer::Conflict(owner, back) => Ok(Told::Conflict(owner, back)),
+    match memory.other_owner(call.seat, call.l) {
+        Some(owner) => Ok(Told::Conflict(owner)),
+        None => {
+            memory.write(call.seat, call.l, n, &0)?;
+            Ok(Told::Done)
+        }
     }
 }
 

@@ -22,7 +22,7 @@ use Rattle.ame_laws.specs.Typed.StoreTyping.{StoreTyping}
 use Rattle.ame_laws.specs.Typed.WellFormed.{IsWellFormedValue}
 use Rattle.ame_laws.specs.Typed.Fragment.{IsFragment, IsValueOf, effect_at}
 use Rattle.ame_laws.specs.Typed.TypedAct.{IsTypedAct}
-use Rattle.ame_laws.specs.Typed.LocalRun.{LocalStep, LocalRun, HasReduction, ClosesAtValue}
+use Rattle.ame_laws.specs.Typed.LocalRun.{LocalStep, HasReduction, ClosesAtValue}
 use Rattle.ame_laws.proofs.Typed.FrameTypes.{placed}
 use Rattle.ame_laws.proofs.Typed.FragmentLemmas.{same_cell, held_fragment, unit_fragment, int_fragment}
 
@@ -63,10 +63,6 @@ module _ (signature : Signature) (cells : StoreTyping) where
       let p = placed signature cells q frames redex t typed in
       let redex_is = local_redex (side_of frames) redex part step in
       p.refilled cells (λ l cell is. is) part (local_typed (side_of frames) redex part step (effect_at (side_of frames) q) p.part_type p.part_typed (p.act_typed redex_is))
-
-  pub local_run : (q : Effect) (term last : Tree) (t : Typ) → LocalRun signature cells term last → IsFragment signature cells q term t → IsFragment signature cells q last t
-  local_run q _ _ t (LocalRun.done term) typed = typed
-  local_run q _ _ t (LocalRun.step frames redex part last step rest) typed = local_run q (plug_all frames part) last t rest (local_step q frames redex part t typed step)
 
   -- A local step is a reduction in a state that has what it is fed.
 

@@ -1,5 +1,5 @@
 -- Which kinds of steps make an act, and that they have an effect in a typed state.
-use Rattle.std.proofs.Common.{◌≡◌, ℕ, ◌+◌, ◌≤◌, Bool, true, false, ◌&&◌, List, [], ◌∷◌, Option, Some, None, refl, ◌∙◌, ap, subst, is_some, is_none, arith, pos}
+use Rattle.std.proofs.Common.{◌≡◌, ℕ, ◌+◌, ◌≤◌, Bool, true, false, ◌&&◌, List, [], ◌∷◌, Option, Some, None, refl, ◌∙◌, ap, is_some, is_none, arith, pos}
 use Rattle.std.specs.Prelude.{if◌then◌else◌, option_map, IsSome}
 use Rattle.std.specs.BTreeMap.{is_at}
 use Rattle.std.specs.Ordering.{nat_cmp}
@@ -57,10 +57,6 @@ same_step-true _ _ e = cc
 pub some_kind : (o : Option StepName) (l : Loc) → IsSome o → (name : StepName) × (o ≡ Some name) × (is_step_told o (kind_named name l) ≡ true)
 some_kind None l there = absurd (cc)
 some_kind (Some name) l there = (name, refl, kind_named-named name l)
-
-pub one_kind : (o : Option StepName) (a b : StepKind) → is_step_told o a ≡ true → is_step_told o b ≡ true → same_step (step_name a) (step_name b) ≡ true
-one_kind None a b k m = cc
-one_kind (Some name) a b k m = subst (λ (z : StepName). same_step z (step_name b) ≡ true) (same_step-true name (step_name a) k) m
 
 -- A typed act can be made where it stands.
 

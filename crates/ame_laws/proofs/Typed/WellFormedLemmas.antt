@@ -50,10 +50,6 @@ formed_entered head body v f g = own head.own (substitute body head.param v) (fo
     own None e h = h
     own (Some name) e h = either_formed (name.name == head.param) e (substitute e name.name (Val.Fun head body)) h (formed_substituted name.name (Val.Fun head body) f e h)
 
-two_replaced : (e e' : Tree) (rest : Trees) → HasTwo (Trees.More e rest) → HasTwo (Trees.More e' rest)
-two_replaced e e' Trees.None two = two
-two_replaced e e' (Trees.More next rest) two = two
-
 constant_formed : (v : Val) → IsConstant v → IsWellFormedValue v
 unfolding IsWellFormedValue
 constant_formed Val.Unit c = tt

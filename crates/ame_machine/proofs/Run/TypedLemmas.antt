@@ -230,9 +230,6 @@ module _ (signature : Signature) (cells : StoreTyping) where
   module _ (side : Side) (start p : LocalState) (redex : Tree) (t : Typ) (n : ℕ) (v : Val) (made : Tree × LocalState)
       (place : IsTypedPlace signature cells t p) (ran : goes side start n ≡ Some p) (empty : p.inputs ≡ []) (stands : focus p.term ≡ Focus.AtRedex side redex)
       (gives : fed (act_of redex) side v p ≡ Some made) (fit : IsFitFor signature cells (act_of redex) v) where
-    more : LocalState
-    more = given_more (v ∷ []) p
-
     ran-more : goes side (given_more (v ∷ []) start) n ≡ Some (given_more (v ∷ []) p)
     ran-more = goes-more side start p (v ∷ []) n ran
 

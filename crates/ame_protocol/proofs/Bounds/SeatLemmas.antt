@@ -22,11 +22,6 @@ over-one (suc n) seat old new same within = by (which n seat) (λ below. over-on
         let o : old n ≡ old seat = ap old here in let w : new n ≡ new seat = ap new here in omega arith
     by (inr apart) rest = let a = same n apart in let more = rest (omega arith) in omega arith
 
--- the numbers are the same at each seat
-pub over-same : (n : ℕ) (old new : ℕ → ℕ) → ((k : ℕ) → new k ≡ old k) → over_seats n new ≡ over_seats n old
-over-same zero old new same = refl
-over-same (suc n) old new same = let a = same n in let b = over-same n old new same in omega arith
-
 -- each is none, or at most one
 pub over-none : (n : ℕ) (f : ℕ → ℕ) → ((k : ℕ) → f k ≡ 0) → over_seats n f ≡ 0
 over-none zero f none = refl

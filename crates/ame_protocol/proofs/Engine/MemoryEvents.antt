@@ -98,9 +98,6 @@ module _ (c : MemoryView Val) (seat : ℕ) where
     abbrev was : Cell Val
     was = cell_at (heap_of c) l.0
 
-    change : Cell Val → Cell Val
-    change cell = overwritten seat v cell.owner cell
-
     write-becomes : IsCell (heap_of c) l.0 → BecomesAt (heap_of c) (heap_of wrote) l.0 (overwritten seat v was.owner was)
     write-becomes is =
         let f : Cell Val → Cell Val = λ cell. overwritten seat v cell.owner cell in

@@ -3,7 +3,7 @@ use Rattle.std.proofs.Common.{◌≡◌, ℕ, zero, suc, ◌<◌, true, false, c
 use Rattle.std.specs.Prelude.{◌==◌, Bool, nat_eq, option_and_then}
 use Rattle.std.specs.List.{AllByRecursion, IsDistinct}
 use Rattle.std.proofs.lemmas.Bool.{eqb-true}
-use Rattle.std.proofs.lemmas.Option.{slice_get-get_or, get_or_from_slice_get, slice_get_within}
+use Rattle.std.proofs.lemmas.Option.{slice_get-get_or, get_or_from_slice_get}
 use Rattle.std.proofs.lemmas.List.Elements.{All-from_recursion, Contains-append_right}
 use Rattle.ame_term.specs.Tree.{Val}
 use Rattle.ame_store.specs.declared.cell.Cell.{Cell}
@@ -29,9 +29,6 @@ found c l cell e = get_or_from_slice_get c.cells l cell no_cell e
 
 pub there : (c : MemoryView Val) (l : ℕ) → IsCell (heap_of c) l → slice_get c.cells l ≡ Some (cell_at (heap_of c) l)
 there c l within = slice_get-get_or c.cells l no_cell within
-
-pub cell_within : (c : MemoryView Val) (l : ℕ) (cell : Cell Val) → slice_get c.cells l ≡ Some cell → IsCell (heap_of c) l
-cell_within c l cell e = slice_get_within c.cells l cell e
 
 -- What is committed
 

@@ -1,11 +1,9 @@
 -- A shared memory's calls on values of any kind are those on plain data.
-use Rattle.std.proofs.Common.{◌≡◌, ℕ, ◌<◌, ◌==◌, Bool, true, false, cond, List, [], ◌∷◌, ◌++◌, length, map, set, take, All, Option, Some, None, slice_get, refl, sym, ap, ◌∙◌, subst, arith}
-use Rattle.std.specs.Prelude.{◌-◌, nat_eq, nat_lt, option_map, option_and_then, unwrap_or}
+use Rattle.std.proofs.Common.{◌≡◌, ℕ, ◌<◌, ◌==◌, Bool, true, false, cond, List, [], ◌∷◌, ◌++◌, length, map, set, take, Option, Some, None, slice_get, refl, sym, ap, ◌∙◌}
+use Rattle.std.specs.Prelude.{◌-◌, nat_lt, option_map, option_and_then, unwrap_or}
 use Rattle.std.specs.Option.{option_map_or}
-use Rattle.std.specs.List.{IsDistinct}
 use Rattle.std.proofs.lemmas.Option.{slice_get-map}
 use Rattle.std.proofs.lemmas.List.{map-set, map-append, take-map, length-map}
-use Rattle.std.proofs.lemmas.List.Elements.{All-weaker}
 use Rattle.ame_term.specs.Tree.{Val}
 use Rattle.ame_term.specs.declared.types.Loc.{Loc}
 use Rattle.ame_term.specs.declared.types.Sort.{Sort}
@@ -15,8 +13,7 @@ use Rattle.ame_store.specs.Changes.{made, released, replaced}
 use Rattle.ame_rows.specs.declared.notes.Undo.{Undo}
 use Rattle.ame_rows.specs.declared.notes.Undo.TheVariants.{Wrote, Made}
 use Rattle.ame_rows.specs.MemoryView.{Log, MemoryView, no_log, row_at, by_seat}
-use Rattle.ame_rows.specs.Entries.{named_by, places, entry_at, OwnsAsLogged, IsLogOf}
-use Rattle.ame_rows.specs.Consistent.{IsConsistent}
+use Rattle.ame_rows.specs.Entries.{named_by, entry_at}
 use Rattle.ame_rows.specs.Committed.{old_value, settled_value, committed}
 use Rattle.ame_rows.specs.Access.{changed_at, is_owned_by, noted_read, notes_read, IsRead, overwritten, noted_write, notes_written, written_by, next_place, allocated_by, put_at, born}
 use Rattle.ame_rows.specs.LettingGo.{released_by, released_all, undone_by, last_entry, but_last, cells_undone, notes_undone, undone_last}
@@ -260,33 +257,3 @@ module _ {V : Type 0} (view : V → Val) where
           where_live : (b : Bool) (o : Option V) → cond b (option_map view o) None ≡ option_map view (cond b o None)
           where_live true o = refl
           where_live false o = refl
-
-  places-shown : (us : List (Undo V)) → places (map undo_of us) ≡ places us
-  places-shown [] = refl
-  places-shown (u ∷ us) = λ i. (named-shown u) i ∷ (places-shown us) i
-
-  owns-shown : (seat : ℕ) (o : Option (Cell V)) (e : Option (Undo V)) → OwnsAsLogged seat o e → OwnsAsLogged seat (option_map cell_of o) (option_map undo_of e)
-  owns-shown seat None None h = h
-  owns-shown seat None (Some u) h = h
-  owns-shown seat (Some cell) None h = h
-  owns-shown seat (Some cell) (Some (Wrote l number old)) h = h
-  owns-shown seat (Some cell) (Some (Made l)) h = h
-
-  log-shown : (seat : ℕ) (cells : List (Cell V)) (us : List (Undo V)) → IsLogOf seat cells us → IsLogOf seat (map cell_of cells) (map undo_of us)
-  log-shown seat cells us h = record {
-    once = subst (IsDistinct nat_eq) (sym (places-shown us)) h.once;
-    owned =
-        λ l. subst (λ (o : Option (Cell Val)). OwnsAsLogged seat o (entry_at (map undo_of us) l)) (sym (slice_get-map cell_of cells l))
-        (subst (OwnsAsLogged seat (option_map cell_of (slice_get cells l))) (sym (entry-shown us l)) (owns-shown seat (slice_get cells l) (entry_at us l) (h.owned l)));
-  }
-
-  pub consistent-shown : (c : MemoryView V) → IsConsistent c → IsConsistent (shown_memory view c)
-  consistent-shown c h = record {
-    logs =
-        λ seat. subst (λ (n : Log Val). IsLogOf seat (map cell_of c.cells) n.undos) (sym (row-shown c.rows seat))
-        (log-shown seat c.cells (row_at c.rows seat).undos (h.logs seat));
-    reads =
-        λ seat. subst (λ (n : Log Val). All (λ note. note.loc.0 < length (map cell_of c.cells)) n.reads) (sym (row-shown c.rows seat))
-        (All-weaker (λ note. note.loc.0 < length c.cells) (λ note. note.loc.0 < length (map cell_of c.cells))
-        (λ note below. let e = length-map c.cells cell_of in omega arith) (row_at c.rows seat).reads (h.reads seat));
-  }

@@ -1,23 +1,20 @@
 -- What an engine that stands tells, and a stop.
-use Rattle.std.proofs.Common.{◌≡◌, ℕ, ◌+◌, ◌*◌, ◌^◌, ◌<◌, ◌≤◌, All, [], Option, Some, None, IsSome, length, MatchOption, refl, sym, ◌∙◌, arith}
+use Rattle.std.proofs.Common.{◌≡◌, ℕ, ◌+◌, ◌*◌, ◌^◌, ◌<◌, ◌≤◌, All, [], Option, Some, None, length, MatchOption, refl, sym, ◌∙◌, arith}
 use Rattle.std.proofs.lemmas.List.{append-nil}
 use Rattle.std.proofs.lemmas.List.Elements.{All-from_get_or}
 use Rattle.ame_term.specs.Tree.{Typ, Val}
 use Rattle.ame_term.specs.declared.types.Effect.{Effect}
 use Rattle.ame_laws.proofs.MapLemmas.{each-at}
-use Rattle.ame_journal.proofs.ReachedLemmas.{IsCalm, calm-replayed}
 use Rattle.ame_laws.specs.Typed.TypedState.{IsMember}
 use Rattle.ame_machine.specs.Run.Local.{LocalState}
 use Rattle.ame_machine.specs.Run.Fit.{IsTypedPlace}
 use Rattle.ame_pool.specs.Members.{find}
 use Rattle.ame_store.specs.declared.cell.Cell.{Cell}
 use Rattle.ame_store.specs.Cells.{CanGrow}
-use Rattle.ame_rows.proofs.CommittedLemmas.{live_committed}
-use Rattle.ame_protocol.specs.Row.Heap.{cell_at, no_cell, IsLive}
+use Rattle.ame_protocol.specs.Row.Heap.{cell_at, no_cell}
 use Rattle.ame_protocol.specs.Row.Framed.{IsFramedAt}
 use Rattle.ame_protocol.specs.Row.SeatRun.{HasUsed}
 use Rattle.ame_protocol.specs.Row.Scoped.{live_types}
-use Rattle.ame_protocol.proofs.Row.CellLemmas.{live_cell}
 use Rattle.ame_protocol.proofs.Row.ReachLemmas.{where-within, fragment-grown}
 use Rattle.ame_protocol.specs.declared.types.Attempt.{Attempt}
 use Rattle.ame_protocol.specs.declared.types.Task.{Task}
@@ -25,7 +22,6 @@ use Rattle.ame_protocol.specs.Engine.Parts.{Parts, whole_journal, heap_in, task_
 use Rattle.ame_protocol.specs.Engine.Tasks.{MeetsTask}
 use Rattle.ame_protocol.specs.Engine.Simulates.{HasFewChanges, Simulates}
 use Rattle.ame_protocol.specs.Engine.Events.{has_stopped}
-use Rattle.ame_protocol.proofs.Engine.MemoryLemmas.{there}
 use Rattle.ame_protocol.proofs.Engine.CarryLemmas.{GoesOn, carried, tries-on}
 use Rattle.ame_protocol.proofs.Engine.PoolLemmas.{found-machine}
 use Rattle.ame_protocol.proofs.Engine.AccessLemmas.{runs}
@@ -33,15 +29,8 @@ use Rattle.ame_protocol.proofs.Engine.HomeLemmas.{busy-of}
 use Rattle.ame_protocol.proofs.Engine.CommitLemmas.{free-next}
 
 module _ (parts : Parts) (s : Simulates parts) where
-  pub calm-now : IsCalm s.r
-  calm-now = calm-replayed parts.program (whole_journal parts) s.r s.stands.replayed
-
   pub next-free : (i : ℕ) → parts.next ≤ i → find i parts.pool.members ≡ None
   next-free = free-next parts s
-
-  pub live-told : (l : ℕ) → IsLive (cell_at (heap_in parts) l) → IsSome ((heap_in parts).committed l)
-  live-told l live =
-      live_committed parts.memory l (cell_at (heap_in parts) l) s.consistent (there parts.memory l (live_cell (heap_in parts) l live)) live
 
   few-number : (turns : ℕ) (cell : Cell Val) → turns < 2 ^ 32 → HasFewChanges turns cell → CanGrow cell
   few-number turns cell small h = by cell.owner h

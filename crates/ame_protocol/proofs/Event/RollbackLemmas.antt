@@ -15,7 +15,6 @@ use Rattle.ame_pool.specs.Calls.{IsAt, newcomer, begun, at_home, renewed, noted_
 use Rattle.ame_pool.proofs.MemberLemmas.{all_after, found_altered, found_placed, found_except, find_passes, rising_map}
 use Rattle.ame_protocol.specs.Engine.Events.{woken_for}
 use Rattle.ame_protocol.specs.Engine.Shown.{shown_member, shown_pool}
-use Rattle.ame_protocol.proofs.Engine.ShownPoolLemmas.{found-shown}
 use Rattle.ame_protocol.specs.Bounds.Rollbacks.{MayTurnBack}
 use Rattle.ame_protocol.specs.Event.Rollbacks.{IsGoodPool}
 
@@ -102,26 +101,6 @@ module _ {M : Type 0} where
       below k le ne = let apart : k ≡ max_rollbacks → ⊥ = (λ e. ne (eq-eqb k max_rollbacks e)) in omega (arith, le, apart)
 
 module _ {M : Type 0} (term : M → Tree) where
-  exhausted-by : (o : Option (Member M)) → IsSomeAnd o (λ m. IsTrue (is_exhausted m)) → IsSomeAnd (option_map (shown_member term) o) (λ m. IsTrue (is_exhausted m))
-  exhausted-by None h = h
-  exhausted-by (Some m) h = h
-
-  -- an exhausted member is so by its term
-  pub exhausted-same : (n : ℕ) (pool : Roster M) → IsAt is_exhausted n pool → IsAt is_exhausted n (shown_pool term pool)
-  exhausted-same n pool h =
-      subst (λ (o : Option (Member Tree)). IsSomeAnd o (λ m. IsTrue (is_exhausted m))) (sym (found-shown term n pool.members)) (exhausted-by (find n pool.members) h)
-
-  -- numbers rise among terms
-  pub rising-shown : (pool : Roster M) → IsRising pool.members → IsRising (shown_pool term pool).members
-  rising-shown pool rising = by pool.members rising
-    where
-      above : (n : ℕ) (ms : List (Member M)) → All (λ m. n < m.number) ms → All (λ m. n < m.number) (map (shown_member term) ms)
-      above n ms all = All-map (λ (m : Member Tree). n < m.number) (shown_member term) ms all
-
-      by : (ms : List (Member M)) → IsRising ms → IsRising (map (shown_member term) ms)
-      by [] h = h
-      by (m ∷ ms) h = (above m.number ms h.0, by ms h.1)
-
   -- a pool is good that is so by its terms
   pub good-told : (pool : Roster M) → IsGoodPool (shown_pool term pool) → IsGoodPool pool
   good-told pool good = record { rising = rising pool.members good.rising; few = few pool.members good.few }

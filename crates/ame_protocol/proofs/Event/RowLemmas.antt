@@ -63,9 +63,6 @@ module _ (s : State) (h : Sound s) (g : HasATurn s) where
   still : parts.stopped ≡ false
   still = not-stopped s h g.going
 
-  none-caused : HasCause None s.certificates parts
-  none-caused = subst (λ (o : Option Stop). HasCause o s.certificates parts) g.going h.caused
-
   -- a slice has some step
   some-slice : 1 ≤ parts.limits.slice
   some-slice =

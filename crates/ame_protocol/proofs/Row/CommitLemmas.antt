@@ -4,7 +4,7 @@ use Rattle.std.specs.Option.{ForSome}
 use Rattle.std.specs.List.{AllByRecursion}
 use Rattle.std.specs.List.Sorted.{IsStrictlySortedBy}
 use Rattle.ame_term.specs.Tree.{Typ, Val, Tree}
-use Rattle.ame_term.specs.Signature.{Signature, MayStore, unlisted}
+use Rattle.ame_term.specs.Signature.{Signature, MayStore}
 use Rattle.ame_term.specs.declared.types.TyNo.{TyNo}
 use Rattle.ame_term.specs.Maps.{at, put}
 use Rattle.ame_term.specs.State.{State}
@@ -151,11 +151,3 @@ heap-released signature types old new seat h releases count = record {
         × MayStore signature.refs (cell_at new l).ty.0 content
     by l there (inl own) = moved l (released (cell_at old l)) (releases.own l own) refl refl refl there
     by l there (inr apart) = moved l (cell_at old l) (releases.others l apart) refl refl refl there
-
--- a seat that released all owns nothing
-pub nothing-kept : (old new : Heap) (seat : ℕ) → ReleasesAll seat old new → (l : ℕ) → IsOwnedBy seat (cell_at new l) → ⊥
-nothing-kept old new seat releases l own = by (owner-cases (unlisted 0) (λ _. None) old new seat releases l)
-  where
-    by : IsOwnedBy seat (cell_at old l) ⊎ (IsOwnedBy seat (cell_at old l) → ⊥) → ⊥
-    by (inl its) = free-apart seat (cell_at new l) (ap (λ (c : Cell Val). c.owner) (releases.own l its)) own
-    by (inr apart) = apart (subst (IsOwnedBy seat) (releases.others l apart) own)

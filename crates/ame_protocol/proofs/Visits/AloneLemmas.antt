@@ -16,7 +16,6 @@ use Rattle.ame_protocol.specs.declared.types.Task.{Task}
 use Rattle.ame_protocol.specs.Engine.Parts.{Parts, heap_in, task_at, attempt_of, member_of}
 use Rattle.ame_protocol.specs.Engine.Simulates.{Simulates}
 use Rattle.ame_protocol.specs.Engine.Alone.{is_of_protected, IsExhausted, RunsExclusively}
-use Rattle.ame_protocol.specs.Engine.Events.{with_newcomers}
 use Rattle.ame_protocol.proofs.Engine.PoolLemmas.{found-at, at-found}
 use Rattle.ame_protocol.proofs.Engine.GrowthLemmas.{rollbacks_of, newcomers-keep}
 use Rattle.ame_protocol.proofs.Engine.StepLemmas.{task_else}
@@ -79,9 +78,6 @@ module _ (parts : Parts) (s : Simulates parts) (a : RunsExclusively parts) (seat
     (n : ℕ) (q : LocalState) (inside : Bool) (memory : MemoryView Val) (v : Visited parts s seat attempt.tried.number n q inside memory) where
   abbrev new : Parts
   new = has_visited seat attempt.tried.number n q inside memory parts
-
-  abbrev larger_pool : Roster Tree
-  larger_pool = with_newcomers parts.next q.spawns parts.pool
 
   exhausted-before : (k i : ℕ) → (k ≡ seat → ⊥) → member_of (task_at parts.tasks k) ≡ Some i → IsAt is_exhausted i new.pool → IsAt is_exhausted i parts.pool
   exhausted-before k i apart its exhausted =

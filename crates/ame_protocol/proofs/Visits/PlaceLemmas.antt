@@ -25,8 +25,7 @@ use Rattle.ame_protocol.specs.Row.Heap.{cell_at}
 use Rattle.ame_protocol.specs.Row.SeatRun.{StandsAt}
 use Rattle.ame_protocol.specs.Row.Scoped.{live_types}
 use Rattle.ame_protocol.specs.Row.Free.{MeetsLive}
-use Rattle.ame_protocol.proofs.Row.FreeLemmas.{read-live, peek-live, write-live, write-stored}
-use Rattle.ame_protocol.proofs.Row.ReachLemmas.{where-within, stored-grown}
+use Rattle.ame_protocol.proofs.Row.FreeLemmas.{read-live, peek-live, write-live}
 use Rattle.ame_protocol.proofs.Row.TypedRunLemmas.{act-typed}
 use Rattle.ame_protocol.specs.declared.types.Attempt.{Attempt}
 use Rattle.ame_protocol.specs.declared.types.Task.{Task}
@@ -101,9 +100,6 @@ module _ (parts : Parts) (s : Simulates parts) (seat : ℕ) (attempt : Attempt) 
     pub write-met : (l : ℕ) (v : Val) → StandsAt Side.Unprotected (Act.Writes l v) p → MeetsLive (heap_in parts) l Sort.Unprotected
     write-met l v at_it = write-live parts.signature s.types (heap_in parts) s.typed.heap p (place-typed n p ran) l v at_it
 
-    pub write-typed : (l : ℕ) (v : Val) → StandsAt Side.Unprotected (Act.Writes l v) p → IsStored parts.signature s.types l v
-    write-typed l v at_it = write-stored parts.signature s.types (heap_in parts) s.typed.heap p (place-typed n p ran) l v at_it
-
     pub peek-met : (l : ℕ) → StandsAt Side.Unprotected (Act.Peeks l) p → MeetsLive (heap_in parts) l Sort.Protected
     peek-met l at_it = peek-live parts.signature s.types (heap_in parts) s.typed.heap p (place-typed n p ran) l at_it
 
@@ -125,8 +121,3 @@ module _ (parts : Parts) (s : Simulates parts) where
   -- what is committed is of its location's type
   pub committed-live : (l : ℕ) (v : Val) → committed parts.memory l ≡ Some v → IsStored parts.signature (live_types (heap_in parts) s.types) l v
   committed-live l v is = s.typed.now.stored l v (sym (s.stands.store l) ∙ is)
-
-  pub committed-typed : (l : ℕ) (v : Val) → committed parts.memory l ≡ Some v → IsStored parts.signature s.types l v
-  committed-typed l v is =
-      stored-grown parts.signature (live_types (heap_in parts) s.types) s.types (where-within (λ m. (cell_at (heap_in parts) m).live) s.types) l v
-      (committed-live l v is)

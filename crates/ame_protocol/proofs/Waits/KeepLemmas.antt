@@ -12,7 +12,7 @@ use Rattle.ame_protocol.proofs.Row.CellLemmas.{which}
 use Rattle.ame_protocol.proofs.Row.WaitingLemmas.{waits-on}
 use Rattle.ame_protocol.specs.Engine.Parts.{Parts, heap_in, task_at, member_of}
 use Rattle.ame_protocol.specs.Waits.Left.{LeavesOthers, StaysNoted, HasWaited}
-use Rattle.ame_protocol.specs.Waits.Waiting.{watched_by, MayHave, HasFailed, AreWaiting}
+use Rattle.ame_protocol.specs.Waits.Waiting.{MayHave, HasFailed, AreWaiting}
 
 all-both : {X : Type 0} (P Q R : X → Type 0) → ((x : X) → P x → Q x → R x) → (xs : List X) → AllByRecursion P xs → AllByRecursion Q xs → AllByRecursion R xs
 all-both P Q R f [] ps qs = tt
@@ -84,7 +84,3 @@ module _ (old new : Parts) (seat : ℕ) (leaves : LeavesOthers old new seat) (i 
 pub waited : (old new : Parts) (seat : ℕ) → LeavesOthers old new seat → (i : ℕ) (watched : List ℕ) → HasWaited old new seat i watched → AreWaiting old
     → HasFailed new i watched
 waited old new seat leaves i watched w a = failed-still old new seat leaves i watched w.apart w.stays (a.failed i watched w.before)
-
-pub all-waited : (old new : Parts) (seat : ℕ) → LeavesOthers old new seat
-    → ((i : ℕ) (watched : List ℕ) → watched_by i new.pool ≡ Some watched → HasWaited old new seat i watched) → AreWaiting old → AreWaiting new
-all-waited old new seat leaves was a = record { failed = λ i watched e. waited old new seat leaves i watched (was i watched e) a }

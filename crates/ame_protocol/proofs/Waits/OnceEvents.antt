@@ -1,7 +1,6 @@
 -- Between two notes of one member somebody commits: what each event keeps of it.
-use Rattle.std.proofs.Common.{◌≡◌, ℕ, ◌+◌, ◌⊎◌, inl, inr, Bool, true, false, List, [], ◌∷◌, ◌++◌, set, All, Option, Some, None, IsSome, IsTrue, append_assoc, refl, sym, ap, ◌∙◌, subst}
+use Rattle.std.proofs.Common.{◌≡◌, ℕ, ◌+◌, ◌⊎◌, inl, inr, Bool, true, false, List, [], ◌∷◌, ◌++◌, set, Option, Some, None, IsSome, IsTrue, append_assoc, refl, sym, ap, ◌∙◌, subst}
 use Rattle.std.specs.Prelude.{option_map, if◌then◌else◌}
-use Rattle.std.proofs.lemmas.Option.{slice_get_within}
 use Rattle.ame_term.specs.Tree.{Tree}
 use Rattle.ame_term.specs.Signature.{Signature}
 use Rattle.ame_journal.specs.declared.entry.Entry.{Entry}
@@ -15,7 +14,6 @@ use Rattle.ame_pool.specs.Calls.{IsAt, begun, at_home, at_rest, noted_on, noted}
 use Rattle.ame_pool.proofs.MemberLemmas.{found_altered}
 use Rattle.ame_machine.specs.Run.Local.{LocalState}
 use Rattle.ame_rows.specs.MemoryView.{row_at}
-use Rattle.ame_rows.proofs.LookupLemmas.{all_at}
 use Rattle.ame_rows.specs.LettingGo.{undone_last}
 use Rattle.ame_protocol.specs.Row.Waiting.{read_places}
 use Rattle.ame_protocol.proofs.Row.CellLemmas.{which}
@@ -32,24 +30,12 @@ use Rattle.ame_protocol.proofs.Engine.AccessLemmas.{runs}
 use Rattle.ame_protocol.proofs.Engine.HomeLemmas.{gone_parts}
 use Rattle.ame_protocol.proofs.Engine.StepLemmas.{acted}
 use Rattle.ame_protocol.specs.Waits.Noted.{stuck_entry, has_noted}
-use Rattle.ame_protocol.specs.Waits.Waiting.{watch_list, watched_by, is_stuck}
+use Rattle.ame_protocol.specs.Waits.Waiting.{watch_list, watched_by}
 use Rattle.ame_protocol.specs.Waits.Once.{HasEntryAt, AreNotedOnce}
 use Rattle.ame_protocol.proofs.Waits.WatchLemmas.{watched-of, running-unwatched, rest-waits}
 use Rattle.ame_protocol.proofs.Waits.OnceLemmas.{once-on, once-ran, once-noted, altered-keeps}
 
 -- Start and stop
-
-pub nobody-once : (parts : Parts) → All (λ entry. is_stuck entry.kind ≡ false) (whole_journal parts) → AreNotedOnce parts
-nobody-once parts none = record {
-  recent = λ place note h. absurd (clash place note h);
-  once = λ first later note next below h k same. absurd (clash first note h);
-}
-  where
-    clash : (place : ℕ) (note : Entry) → HasEntryAt (whole_journal parts) EntryKind.Stuck place note → ⊥
-    clash place note h =
-        let within = slice_get_within (whole_journal parts) place note h.there in
-        let other : is_stuck note.kind ≡ false = all_at (λ entry. is_stuck entry.kind ≡ false) (whole_journal parts) place note within h.there none in
-        let both : true ≡ false = sym (ap is_stuck h.its) ∙ other in cc
 
 pub start-once : (program : Tree) (signature : Signature) (limits : Limits) (room : ℕ) → AreNotedOnce (started program signature limits room)
 start-once program signature limits room = record {

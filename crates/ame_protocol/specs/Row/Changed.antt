@@ -21,7 +21,3 @@ pub record ReleasesAll (seat : ℕ) (old new : Heap) : Type 0 where
   pub own : (l : ℕ) → IsOwnedBy seat (cell_at old l) → cell_at new l ≡ released (cell_at old l)
   pub others : (l : ℕ) → (IsOwnedBy seat (cell_at old l) → ⊥) → cell_at new l ≡ cell_at old l
   pub longer : length old.cells ≤ length new.cells
-
--- but at this location what is committed stays
-abbrev pub KeepsCommittedBut : ℕ → Heap → Heap → Type 0
-KeepsCommittedBut l old new = (m : ℕ) → (m ≡ l → ⊥) → new.committed m ≡ old.committed m

@@ -1,10 +1,10 @@
-//! What can go wrong with a schedule's text.
+//! The errors of a schedule's text.
 ghost use Rattle.std.specs.Prelude.{◌≡◌};
 ghost use Rattle.ame_sim.specs.declared.schedule.fault.ScheduleFault.{ScheduleFault};
 
 use ame_term::NoMemory;
 
-/// Why a text gave no schedule.
+/// The reason why a text gave no schedule.
 #[derive(Clone, Copy, PartialEq, Eq, Debug)]
 pub enum ScheduleFault {
     /// It doesn't begin with a schedule's line and the line `program`.

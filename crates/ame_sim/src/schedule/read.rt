@@ -29,14 +29,14 @@ pub fn read_schedule(alloc: Global, text: &[u8]) -> Result<Scheduled<'_>, Schedu
     }
 }
 
-/// What stands behind a front of the text.
+/// Returns the rest of the text after this prefix, if the text begins with it.
 fn behind<'a>(text: &'a [u8], front: &[u8]) -> Option<&'a [u8]>
     ensures { MatchOption result ((rest : List ℕ) → text.now ≢ front.now ++ rest) (λ rest. text.now ≡ front.now ++ rest.now) }
 {
     text.strip_prefix(front)
 }
 
-/// The seats of the signs that the text begins with, as many as there are, and what follows them.
+/// Takes the seats of all signs that the text begins with, and returns them with the rest of the text.
 fn take_signs(alloc: Global, text: &[u8]) -> Result<(Vec<u32>, &[u8]), NoMemory>
     ensures { IfOk result (λ taken. TakesSigns text.now taken.0.items taken.1.now) }
 {

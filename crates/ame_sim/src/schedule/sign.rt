@@ -2,7 +2,7 @@
 ghost use Rattle.std.specs.Prelude.{◌≡◌, ◌<◌, MatchOption};
 ghost use Rattle.ame_sim.specs.Schedule.{sign, IsNoSign, IsSignOf};
 
-/// The sign that stands for a seat.
+/// Returns the sign that stands for a seat.
 pub fn sign_of(seat: u32) -> u8
     requires { seat < 32 }
     ensures { result ≡ sign seat }
@@ -14,7 +14,7 @@ pub fn sign_of(seat: u32) -> u8
     }
 }
 
-/// The seat that a sign stands for.
+/// Returns the seat that a sign stands for.
 pub fn seat_of(byte: u8) -> Option<u32>
     ensures { MatchOption result (IsNoSign byte) (IsSignOf byte) }
 {

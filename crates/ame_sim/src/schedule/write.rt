@@ -7,7 +7,7 @@ use super::sign::sign_of;
 use ame_term::{NoMemory, push};
 use std::alloc::Global;
 
-/// The line of a schedule, with its line feed. Its cost is linear in the number of picks.
+/// Returns the line of a schedule, with its line feed. Its cost is linear in the number of picks.
 pub fn schedule_line(alloc: Global, picks: &[u32]) -> Result<Vec<u8>, NoMemory>
     requires { AreSeats picks.now }
     ensures { IfOk result (λ line. line.items ≡ spec.schedule_line picks.now) }
@@ -17,7 +17,7 @@ pub fn schedule_line(alloc: Global, picks: &[u32]) -> Result<Vec<u8>, NoMemory>
     Ok(line)
 }
 
-/// A schedule with the program that it is for, as one text that can be run again. Its cost is linear in its length.
+/// Returns a schedule with the program that it is for, as one text that can be run again. Its cost is linear in its length.
 pub fn schedule_text(alloc: Global, picks: &[u32], program: &[u8]) -> Result<Vec<u8>, NoMemory>
     requires { AreSeats picks.now }
     ensures { IfOk result (λ text. IsScheduled text.items picks.now program.now) }

@@ -103,7 +103,7 @@ const TEXTS: &[(&[u8], &[&str])] = &[
 ];
 
 /// The code of a text without devices.
-fn code_of(alloc: Global, text: &[u8]) -> Result<Code, Fail> {
+pub(crate) fn code_of(alloc: Global, text: &[u8]) -> Result<Code, Fail> {
     let program = read(alloc, text)?;
     match check(alloc, program, 0) {
         Ok(accepted) => Ok(compile(alloc, accepted)?),

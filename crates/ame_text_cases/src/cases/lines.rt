@@ -1,8 +1,9 @@
 //! The lines of a small program's entries.
 
-use crate::cases::texts::read;
+use crate::cases::code::code_of;
+use ame_eval::Fragment;
 use ame_journal::Journal;
-use ame_why::lines_of;
+use ame_why::printed_of;
 use std::alloc::Global;
 use std::test::Fail;
 
@@ -18,8 +19,8 @@ fn told(alloc: Global, journal: &[u8]) -> Result<Option<Vec<Vec<i64>>>, Fail> {
         return Err("too long".into());
     }
     let journal = Journal::from_text(alloc, journal).map_err(|_| "a journal")?;
-    let program = read(alloc, PROGRAM)?;
-    Ok(lines_of(alloc, program.term, journal.entries())?)
+    let code = code_of(alloc, PROGRAM)?;
+    Ok(printed_of::<Fragment>(alloc, &code, journal.entries())?)
 }
 
 #[test]

@@ -16,7 +16,7 @@ invariant-loop-crew g l = record {
   plays : (first : ShellView _ _ _) → IsPlaying g.M.Runner.meaning l.fn.crew.core.limits.seats first l.fn.crew l.fn.book.mades.items
       → IsPlaying g.M.Runner.meaning l.fn.crew.core.limits.seats first l.crew l.book.mades.items;
   answers : HasAnswered l.fn.crew.core.limits.seats (g.H.Chooser.strategy l.fn.chooser) l.fn.book.mades.items (g.H.Chooser.strategy l.chooser) l.book.mades.items;
-  keeps : (opening : Opening _) → IsShell g.M.Runner.meaning.program opening l.fn.crew → IsShell g.M.Runner.meaning.program opening l.crew;
+  keeps : (opening : Opening _) → IsShell g.M.Runner.meaning opening l.fn.crew → IsShell g.M.Runner.meaning opening l.crew;
 }
 
 abbrev pub decreases-loop-crew : goal.decreases-loop-crew

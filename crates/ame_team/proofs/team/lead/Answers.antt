@@ -1,11 +1,20 @@
-use Rattle.std.proofs.Common.{◌-◌, length, refl, arith}
+use Rattle.std.proofs.Common.{◌≡◌, ℕ, ◌+◌, ◌-◌, ◌<◌, length, refl, arith}
 use Rattle.std.specs.Arc.{arc_value}
+use Rattle.std.proofs.lemmas.List.{get_or-set_other}
 use Rattle.std.proofs.lemmas.List.Elements.{All-set}
-use Rattle.ame_baton.specs.Batons.{knows}
+use Rattle.ame_baton.specs.Batons.{knows, IsSeatOf}
 use Rattle.ame_baton.specs.Keeping.{KeepsSeat}
 use Rattle.ame_worker.specs.Workers.{IsReadyToTurn}
 use Rattle.ame_team.proofs.ChangeLemmas.{related_at}
 use Rattle.ame_team.proofs.team.lead.Goals as goal
+
+pub returns-then-not-may_hold-clause-others : goal.returns-then-not-may_hold-clause-others
+returns-then-not-may_hold-clause-others g c = λ i d within.
+    get_or-set_other c.args.workers.now (length c.args.workers.now - 1) i c.lead.new.self d (λ e. absurd (omega (arith, e, within)))
+
+pub returns-then-not-may_hold-clause-of : goal.returns-then-not-may_hold-clause-of
+returns-then-not-may_hold-clause-of g c =
+    All-set (λ w. IsSeatOf c.args.baton.now w.seat) c.args.workers.now (length c.args.workers.now - 1) c.lead.new.self c.lead.ensures.of c.requires.of
 
 pub returns-then-not-may_hold-clause-ready : goal.returns-then-not-may_hold-clause-ready
 returns-then-not-may_hold-clause-ready g c =

@@ -23,9 +23,9 @@ invariant_of-self-2 g c =
     let o = opened c.self.inside.store c.self.inside.rows.items c.self.view_is c.self.invariant c.requires.seat c.index_mut-row.ensures.value in
     subst IsConsistent (sym (seen o c.allocate.new.store c.allocate.new.row
     (λ cells _. cells ++ made c.args.sort c.args.ty c.args.value (Some c.args.seat) ∷ [])
-    (λ cells notes. notes_allocated (next_place cells) c.args.input notes)
+    (λ cells notes. notes_allocated (next_place cells) c.args.input.now notes)
     c.in_ok-l.ensures.cells c.in_ok-l.ensures.notes))
-    (kept_allocated c.args.self.now c.args.seat c.args.sort c.args.ty c.args.value c.args.input
+    (kept_allocated c.args.self.now c.args.seat c.args.sort c.args.ty c.args.value c.args.input.now
     (kept_in o) c.requires.seat)
 
 pub returns-clause-contents : goal.returns-clause-contents
@@ -33,5 +33,5 @@ returns-clause-contents g c =
     let o = opened c.self.inside.store c.self.inside.rows.items c.self.view_is c.self.invariant c.requires.seat c.index_mut-row.ensures.value in
     seen o c.allocate.new.store c.allocate.new.row
     (λ cells _. cells ++ made c.args.sort c.args.ty c.args.value (Some c.args.seat) ∷ [])
-    (λ cells notes. notes_allocated (next_place cells) c.args.input notes)
+    (λ cells notes. notes_allocated (next_place cells) c.args.input.now notes)
     c.in_ok-l.ensures.cells c.in_ok-l.ensures.notes

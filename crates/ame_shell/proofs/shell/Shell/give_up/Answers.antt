@@ -13,5 +13,5 @@ returns-clause-over g c = λ opening h.
     let r = g.M.Runner.meaning in
     let was = c.args.self in
     c.finish.ensures.over opening
-    (subst (λ core. IsShell r.program opening (shown g.K.Sink.written g.K.Sink.faults g.D.Device.device_heard g.D.Device.device_faults core was.sent was.sink was.devices.items))
+    (subst (λ core. IsShell r opening (shown g.K.Sink.written g.K.Sink.faults g.D.Device.device_heard g.D.Device.device_faults core was.sent was.sink was.devices.items))
     (sym c.stop.ensures.stops) (lacking-keeps r opening _ h))

@@ -10,4 +10,4 @@ finish-requires-clause-idle g c =
 
 pub returns-clause-over : goal.returns-clause-over
 returns-clause-over g c = λ opening h.
-    c.finish.ensures.over opening (subst (λ v. IsShell g.M.Runner.meaning.program opening v) (sym c.self.view_is) h)
+    c.finish.ensures.over opening (subst (λ v. IsShell g.M.Runner.meaning opening v) (sym c.self.view_is) h)

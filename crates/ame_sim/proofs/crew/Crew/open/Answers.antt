@@ -18,15 +18,15 @@ invariant_of-result g c =
     crew-starts r c.in-Ok-start.engine (arc_value c.args.code) c.in-Ok.hands.items c.args.limits (vec_len c.args.devices) (sym code) starts c.in-Ok.ensures enough
     c.requires.limits
 
+pub returns-clause-starts : goal.returns-clause-starts
+returns-clause-starts g c =
+    let r = g.M.Runner.meaning in
+    subst (λ k. state_of r c.in-Ok-start.engine ≡ started_state (r.program k) (r.signature k) c.args.limits) c.in-Ok-try_clone.ensures c.in-Ok-start.ensures.state
+
 pub returns-clause-opens : goal.returns-clause-opens
 returns-clause-opens g c =
     let r = g.M.Runner.meaning in
     let code = c.in-Ok-start.ensures.code ∙ c.in-Ok-try_clone.ensures in
     let starts = subst (λ k. parts_of r c.in-Ok-start.engine ≡ started (r.program k) (r.signature k) c.args.limits 0) c.in-Ok-try_clone.ensures c.in-Ok-start.ensures.parts in
     let ends = ends_of g.K.Sink.written g.K.Sink.faults g.D.Device.device_heard g.D.Device.device_faults c.args.sink c.args.devices.items in
-    shell-starts r c.in-Ok-start.engine (arc_value c.args.code) c.args.limits ends code starts
-
-pub returns-clause-starts : goal.returns-clause-starts
-returns-clause-starts g c =
-    let r = g.M.Runner.meaning in
-    subst (λ k. state_of r c.in-Ok-start.engine ≡ started_state (r.program k) (r.signature k) c.args.limits) c.in-Ok-try_clone.ensures c.in-Ok-start.ensures.state
+    shell-starts r c.in-Ok-start.engine (arc_value c.args.code) c.args.limits ends code starts (returns-clause-starts g c)

@@ -11,7 +11,7 @@ invariant-loop-self g l = record {
   stopped : IsSome l.self.core.stop;
   unwound : IsUnwound l.fn.self.core l.self.core;
   others : (other : ℕ) → task_at l.fn.self.core.tasks other ≡ Task.Idle → task_at l.self.core.tasks other ≡ Task.Idle;
-  keeps : (opening : Opening _) → IsShell g.M.Runner.meaning.program opening l.fn.self → IsShell g.M.Runner.meaning.program opening l.self;
+  keeps : (opening : Opening _) → IsShell g.M.Runner.meaning opening l.fn.self → IsShell g.M.Runner.meaning opening l.self;
 }
 
 abbrev pub decreases-loop-self : goal.decreases-loop-self

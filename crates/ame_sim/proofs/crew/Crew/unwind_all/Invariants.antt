@@ -10,5 +10,5 @@ invariant-loop-seat g l = record {
   stopped : IsSome l.self.core.stop;
   unwound : IsUnwound l.fn.self.core l.self.core;
   idle : (seat : ℕ) → seat < l.seat → task_at l.self.core.tasks seat ≡ Task.Idle;
-  keeps : (opening : Opening _) → IsShell g.M.Runner.meaning.program opening l.fn.self → IsShell g.M.Runner.meaning.program opening l.self;
+  keeps : (opening : Opening _) → IsShell g.M.Runner.meaning opening l.fn.self → IsShell g.M.Runner.meaning opening l.self;
 }

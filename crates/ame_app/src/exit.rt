@@ -1,0 +1,22 @@
+//! The exit status of a process.
+
+ghost use Rattle.std.specs.Prelude.{◌≡◌};
+ghost use Rattle.std.specs.Process.{exit_status};
+ghost use Rattle.ame_app.specs.Verdict.{number_of};
+
+use crate::report::Report;
+use std::process::ExitCode;
+
+/// The exit status with this number.
+pub fn exit_with(number: u8) -> ExitCode
+    ensures { exit_status result ≡ number }
+{
+    ExitCode::from(number)
+}
+
+/// The exit status of a process whose call ended with this report: the number of its status. Drops all else of the report.
+pub fn exit_of<K: Drop, D: Drop>(report: Report<K, D>) -> ExitCode
+    ensures { exit_status result ≡ number_of report.status }
+{
+    exit_with(report.into_number())
+}

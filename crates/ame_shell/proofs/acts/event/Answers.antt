@@ -1,0 +1,33 @@
+use Rattle.std.proofs.Common.{refl, ap, ◌∙◌}
+use Rattle.std.specs.Prelude.{is_some}
+use Rattle.ame_shell.proofs.DoneLemmas.{none-kept, lacked}
+use Rattle.ame_shell.proofs.acts.event.Goals as goal
+
+pub returns-then-is_some-clause-done : goal.returns-then-is_some-clause-done
+returns-then-is_some-clause-done g c = c.undo_on.ensures.done _ _
+
+pub returns-then-is_some-clause-lacks : goal.returns-then-is_some-clause-lacks
+returns-then-is_some-clause-lacks g c = record {
+  unready = λ unready going. absurd (let stops = c.if-is_some.ensures ∙ ap is_some c.stopped.ensures in let none = ap is_some going in cc);
+  due = λ _. c.undo_on.ensures.due _;
+}
+
+pub returns-then-not-is_ready-clause-done : goal.returns-then-not-is_ready-clause-done
+returns-then-not-is_ready-clause-done g c =
+    lacked g.M.Runner.meaning c.args.engine.now c.args.seat _ c.args.engine.now c.give_up.new.engine _ _ refl
+    (none-kept _ (c.if-is_some.ensures ∙ ap is_some c.stopped.ensures)) c.give_up.ensures.halts c.give_up.ensures.engine c.give_up.ensures.outcome
+
+pub returns-then-not-is_ready-clause-lacks : goal.returns-then-not-is_ready-clause-lacks
+returns-then-not-is_ready-clause-lacks g c = record {
+  unready = λ _ _. c.give_up.ensures.outcome;
+  due = λ ready. absurd (c.if-not-is_ready.ensures.no refl ready);
+}
+
+pub returns-in-Idle-work-clause-done : goal.returns-in-Idle-work-clause-done
+returns-in-Idle-work-clause-done g c = c.undo_on-in-Idle-work.ensures.done _ _
+
+pub returns-in-Idle-work-clause-lacks : goal.returns-in-Idle-work-clause-lacks
+returns-in-Idle-work-clause-lacks g c = record {
+  unready = λ unready going. absurd (unready (c.if-not-is_ready.ensures.yes refl));
+  due = λ _. c.undo_on-in-Idle-work.ensures.due _;
+}

@@ -1,0 +1,57 @@
+-- The events of a run, from where it was opened to its end.
+use Rattle.std.specs.Prelude.{◌≡◌, ◌⊎◌, List, [], map, Some}
+use Rattle.ame_term.specs.Tree.{Val, Tree}
+use Rattle.ame_term.specs.Signature.{Signature}
+use Rattle.ame_laws.specs.Typed.StoreTyping.{StoreTyping}
+use Rattle.ame_laws.specs.Typed.TypedState.{IsTyped}
+use Rattle.ame_store.specs.declared.cell.Cell.{Cell}
+use Rattle.ame_pool.specs.Roster.{Roster}
+use Rattle.ame_journal.specs.declared.entry.Entry.{Entry}
+use Rattle.ame_journal.specs.Replayed.{Replayed}
+use Rattle.ame_journal.specs.Replay.{replay}
+use Rattle.ame_protocol.specs.declared.types.Limits.{Limits}
+use Rattle.ame_protocol.specs.Row.Shown.{shown_cell}
+use Rattle.ame_protocol.specs.Visits.Opened.{AreOpened, AreReady, HasMembersOf}
+use Rattle.ame_protocol.specs.Event.Event.{Event}
+use Rattle.ame_protocol.specs.Event.Runs.{Follows, entries_along}
+use Rattle.ame_protocol.specs.Event.State.{State, started_state, opened_state}
+use Rattle.ame_engine.specs.Ending.{End}
+
+-- A base leads to this state, with all members ready and each seat idle, and nothing is counted.
+pub record GoesOnFrom (program : Tree) (signature : Signature) (limits : Limits) (base : List Entry) (s : State) : Type 0 where
+  pub led : Replayed
+  pub replayed : replay program base ≡ Some led
+  pub types : StoreTyping
+  pub typed : IsTyped signature types led.state
+  pub cells : List (Cell Val)
+  pub has_cells : AreOpened signature types cells led.state
+  pub pool : Roster Tree
+  pub has_members : HasMembersOf led pool
+  pub ready : AreReady pool
+  pub state : s ≡ opened_state program signature limits base cells pool led.state.output led.state.next
+
+-- A state from which a run goes on: the one of a program that has just started, where the base is empty, or one to which the base leads.
+abbrev pub IsStart : Tree → Signature → Limits → List Entry → State → Type 0
+IsStart program signature limits base s = ((base ≡ []) × (s ≡ started_state program signature limits)) ⊎ GoesOnFrom program signature limits base s
+
+-- an end has what a state has
+pub record EndsAs {V : Type 0} (value : V → Val) (s : State) (end : End V) : Type 0 where
+  pub base : s.parts.base ≡ end.base
+  pub entries : s.parts.entries ≡ end.entries
+  pub cells : s.parts.memory.cells ≡ map (shown_cell value) end.cells
+  pub output : s.parts.output ≡ end.output
+  pub turns : s.parts.turns ≡ end.turns
+  pub tried : s.parts.tried ≡ end.tried
+  pub counters : s.counters ≡ end.counters
+  pub stop : s.stop ≡ end.stop
+  pub certificates : s.certificates ≡ end.certificates
+
+-- Events led from a start to this end, each where it may be, and what they add to the journal are the entries of the end.
+pub record IsRanBy (program : Tree) (signature : Signature) (limits : Limits) (base : List Entry) {V : Type 0} (value : V → Val) (end : End V) : Type 0 where
+  pub start : State
+  pub starts : IsStart program signature limits base start
+  pub events : List Event
+  pub last : State
+  pub follows : Follows start events last
+  pub told : entries_along events ≡ end.entries
+  pub ends : EndsAs value last end

@@ -1,0 +1,6 @@
+//! A list that contracts alone see.
+#![tactic(auto)]
+
+mod trace;
+
+pub use trace::Trace;

@@ -1,5 +1,0 @@
-pub mod Served
-pub mod Work
-pub mod Ready
-pub mod Asked
-pub mod Deeds

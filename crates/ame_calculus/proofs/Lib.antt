@@ -1,0 +1,16 @@
+pub mod EffectLemmas
+pub mod WeakLemmas
+pub mod RenamedLemmas
+pub mod RenamedRuns
+pub mod RenamedCalls
+pub mod RenamedJournal
+pub mod AgreeLemmas
+pub mod SwapLemmas
+pub mod AlignLemmas
+pub mod DeadLemmas
+pub mod EndingLemmas
+pub mod CallLemmas
+pub mod CommuteLemmas
+pub mod SwappedJournal
+pub mod OfRunLemmas
+pub mod AlikeRuns

@@ -1,0 +1,12 @@
+pub mod JudgedLemmas
+pub mod FrontLemmas
+pub mod MetLemmas
+pub mod RowLemmas
+pub mod RunLemmas
+pub mod WayLemmas
+pub mod FreedLemmas
+pub mod WeakLemmas
+pub mod TriedLemmas
+pub mod WeakJournals
+pub mod MachineLemmas
+pub mod WorkLemmas

@@ -1,0 +1,4 @@
+pub mod Low
+pub mod RoundTrip
+pub mod LowRun
+pub mod WeakTries

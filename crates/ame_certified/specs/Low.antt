@@ -1,0 +1,9 @@
+-- Journals that pass no form that would become a value that is too high.
+use Rattle.std.specs.Prelude.{ℕ, List}
+use Rattle.ame_term.specs.Tree.{Tree}
+use Rattle.ame_journal.specs.declared.entry.Entry.{Entry}
+use Rattle.ame_check.specs.Judge.{PassesTallAt}
+
+-- no entry passes one
+abbrev pub StaysLow : Tree → List Entry → Type 0
+StaysLow program entries = (n : ℕ) → PassesTallAt program entries n → ⊥

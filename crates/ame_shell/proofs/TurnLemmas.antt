@@ -196,19 +196,22 @@ module _ {C V M : Type 0} (meaning : Meaning C V M) where
 
   -- The turn from its event and what is sent after it
 
-  module _ (seat : ℕ) (hand : Option MachineView) (old new : ShellView C V M) (mid : Core C V M) (told : List Told) (outcome : Outcome) where
-    abbrev between : List Told → ShellView C V M
-    between ts = record { core = mid; sent = old.sent; ends = record old.ends { told = ts } }
+  module _ (seat : ℕ) (hand : Option MachineView) (old new : ShellView C V M) (core : Core C V M) (ends : Ends) (outcome : Outcome) where
+    abbrev acted : Ends → ShellView C V M
+    acted told = record { core = core; sent = old.sent; ends = told }
 
-    pub turned-made : told ≡ new.ends.told → IsDone meaning seat hand old.core mid old.ends.told told outcome
-        → (is_to_flush outcome ≡ true → HasFlushed (between told) new) → (is_to_flush outcome ≡ false → new ≡ between told)
+    pub turned-made : ends ≡ record old.ends { told = ends.told } → new.ends.told ≡ ends.told
+        → IsDone meaning seat hand old.core core old.ends.told ends.told outcome
+        → (is_to_flush outcome ≡ true → HasFlushed (acted ends) new) → (is_to_flush outcome ≡ false → new ≡ acted ends)
         → HasTurned meaning seat hand old new outcome
-    turned-made same done flushes stays = record {
-      core = mid;
-      done = subst (λ (ts : List Told). IsDone meaning seat hand old.core mid old.ends.told ts outcome) same done;
-      flushes = λ e. subst (λ (ts : List Told). HasFlushed (between ts) new) same (flushes e);
-      stays = λ e. subst (λ (ts : List Told). new ≡ between ts) same (stays e);
-    }
+    turned-made alone same done flushes stays =
+        let is : ends ≡ record old.ends { told = new.ends.told } = alone ∙ ap (λ (ts : List Told). record old.ends { told = ts }) (sym same) in
+        record {
+          core = core;
+          done = subst (λ (ts : List Told). IsDone meaning seat hand old.core core old.ends.told ts outcome) (sym same) done;
+          flushes = λ e. subst (λ (x : Ends). HasFlushed (acted x) new) is (flushes e);
+          stays = λ e. subst (λ (x : Ends). new ≡ acted x) is (stays e);
+        }
 
   -- no line is taken back
   still-sent : (seat : ℕ) (hand : Option MachineView) (old new : Core C V M) (before after : List Told) (outcome : Outcome)

@@ -19,3 +19,15 @@ ends_of written faults heard device_faults sink devices =
 -- what device k of a list tells; nothing where there is none
 abbrev pub told_at : List Told → ℕ → Told
 told_at devices k = slice_index_or devices k (told None 0)
+
+-- A sink and devices as they are, and what they tell.
+pub record IoView (K D : Type 0) : Type 0 where
+  pub sink : K
+  pub devices : List D
+  pub ends : Ends
+
+-- a sink and devices, with what they tell
+abbrev pub io_of :
+    {K D : Type 0} → (K → Option (List ℕ)) → (K → ℕ) → (D → Option (List Heard)) → (D → ℕ) → K → List D → IoView K D
+io_of written faults heard device_faults sink devices =
+    record { sink = sink; devices = devices; ends = ends_of written faults heard device_faults sink devices }

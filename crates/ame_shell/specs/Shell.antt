@@ -4,7 +4,6 @@ use Rattle.ame_io.specs.Counts.{HasRisen}
 use Rattle.ame_io.specs.Lines.{lines}
 use Rattle.ame_io.specs.Writes.{AppendsFirst}
 use Rattle.ame_term.specs.Tree.{Tree}
-use Rattle.ame_device.specs.declared.told.Heard.{Heard}
 use Rattle.ame_device.specs.declared.told.Told.{Told}
 use Rattle.ame_journal.specs.declared.entry.Entry.{Entry}
 use Rattle.ame_protocol.specs.declared.types.Limits.{Limits}
@@ -14,12 +13,13 @@ use Rattle.ame_protocol.specs.Event.Runs.{Follows}
 use Rattle.ame_protocol.specs.Event.State.{State}
 use Rattle.ame_machine.specs.Meaning.{Meaning}
 use Rattle.ame_engine.specs.Core.{Core}
+use Rattle.ame_engine.specs.Ending.{End}
 use Rattle.ame_engine.specs.Makes.{state_of}
 use Rattle.ame_shell.specs.Ran.{IsStart}
-use Rattle.ame_shell.specs.Ends.{Ends, ends_of}
+use Rattle.ame_shell.specs.Ends.{Ends}
 use Rattle.ame_shell.specs.Heard.{HaveHeardSince, HaveFailed}
 use Rattle.ame_shell.specs.declared.shell.Shell.{Shell}
-use Rattle.ame_shell.specs.Over.{AreOfSeats}
+use Rattle.ame_shell.specs.Over.{AreOfSeats, IsOverSince}
 
 -- What contracts see of a shell: its engine, how many bytes of the text were sent, and what sink and devices tell.
 pub record ShellView (C V M : Type 0) : Type 0 where
@@ -27,14 +27,8 @@ pub record ShellView (C V M : Type 0) : Type 0 where
   pub sent : ℕ
   pub ends : Ends
 
-abbrev pub shown : {C V M K D : Type 0} → (K → Option (List ℕ)) → (K → ℕ) → (D → Option (List Heard)) → (D → ℕ) → Core C V M → ℕ → K → List D → ShellView C V M
-shown written faults heard device_faults core sent sink devices =
-    record { core = core; sent = sent; ends = ends_of written faults heard device_faults sink devices }
-
--- so of a whole shell
-abbrev pub shell_view : {M K D C V : Type 0} → (K → Option (List ℕ)) → (K → ℕ) → (D → Option (List Heard)) → (D → ℕ) → Shell M K D C V → ShellView C V M
-shell_view written faults heard device_faults shell =
-    shown written faults heard device_faults shell.engine shell.sent shell.sink shell.devices.items
+abbrev pub shell_view : {M K D C V : Type 0} → Shell M K D C V → ShellView C V M
+shell_view shell = record { core = shell.engine; sent = shell.sent; ends = shell.io.ends }
 
 -- how it was opened: the code, the limits, the entries that were made before, and what the ends told
 pub record Opening (C : Type 0) : Type 0 where
@@ -71,6 +65,11 @@ module _ {C V M : Type 0} (meaning : Meaning C V M) where
     pub starts : IsStart (meaning.program opening.code) (meaning.signature opening.code) opening.limits opening.base start
     pub events : List Event
     pub follows : Follows start events (state_of meaning core)
+
+  -- A run is over that went on from this opening, and this is what its ends tell then.
+  abbrev pub IsOverFrom : Opening C → End V → Ends → Type 0
+  IsOverFrom opening end after =
+      IsOverSince opening.base (meaning.program opening.code) (meaning.signature opening.code) opening.limits (meaning.value_of opening.code) opening.ends end after
 
   -- So it is of a shell, and the lines of what was printed are sent.
   pub record IsShell (opening : Opening C) (shell : ShellView C V M) : Type 0 where

@@ -1,5 +1,5 @@
 -- What turns need of a shell, and what one makes of it.
-use Rattle.std.specs.Prelude.{◌≡◌, ℕ, ◌+◌, ◌<◌, ◌≤◌, Bool, true, false, length, drop, Option, Some, None}
+use Rattle.std.specs.Prelude.{◌≡◌, ◌≢◌, ℕ, ◌+◌, ◌<◌, ◌≤◌, Bool, true, false, length, drop, Option, Some, None}
 use Rattle.std.specs.Io.KnownBytes.{Appends}
 use Rattle.ame_io.specs.Counts.{HasRisen}
 use Rattle.ame_io.specs.Lines.{lines}
@@ -11,7 +11,9 @@ use Rattle.ame_engine.specs.Stops.{stopped_by}
 use Rattle.ame_engine.specs.Whole.{AreLimits}
 use Rattle.ame_shell.specs.declared.work.Outcome.{Outcome}
 use Rattle.ame_shell.specs.Outcomes.{IsDone}
-use Rattle.ame_shell.specs.Shell.{ShellView}
+use Rattle.ame_shell.specs.declared.work.Work.{Work}
+use Rattle.ame_shell.specs.Shell.{ShellView, Opening, IsShell}
+use Rattle.ame_shell.specs.Work.{Fits}
 use Rattle.ame_machine.specs.Meaning.{Meaning}
 
 module _ {C V M : Type 0} where
@@ -37,11 +39,25 @@ member_told None after = after
 
 module _ {C V M : Type 0} (meaning : Meaning C V M) where
   -- The code is the engine's, and its limits are in range. There are devices enough, and no more was sent than there is.
-  pub record IsInOrder (core : Core C V M) (sent : ℕ) (code : C) (devices : ℕ) : Type 0 where
-    pub same : code ≡ core.code
-    pub limits : AreLimits core.limits
-    pub enough : (meaning.signature core.code).devices ≤ devices
-    pub within : sent ≤ length (lines core.output)
+  pub record IsInOrder (code : C) (shell : ShellView C V M) : Type 0 where
+    pub same : code ≡ shell.core.code
+    pub limits : AreLimits shell.core.limits
+    pub enough : (meaning.signature shell.core.code).devices ≤ length shell.ends.told
+    pub within : shell.sent ≤ length (lines shell.core.output)
+
+  -- A seat may have its turn: the shell is in order, it has this seat, and the seat's work in flight fits.
+  pub record MayTurn (code : C) (seat : ℕ) (shell : ShellView C V M) (work : Work M) : Type 0 where
+    pub order : IsInOrder code shell
+    pub there : seat < shell.core.limits.seats
+    pub fits : Fits meaning shell.core seat work
+
+  -- A seat has had turns. The shell is as its opening says, with the same limits, and the seat may turn again, with what it has in flight
+  -- now. The work in flight of other seats fits still.
+  pub record LeavesInOrder (code : C) (seat : ℕ) (old new : ShellView C V M) (work : Work M) : Type 0 where
+    pub keeps : (opening : Opening C) → IsShell meaning opening old → IsShell meaning opening new
+    pub may : MayTurn code seat new work
+    pub limits : new.core.limits ≡ old.core.limits
+    pub others : (other : ℕ) (rest : Work M) → other ≢ seat → Fits meaning old.core other rest → Fits meaning new.core other rest
 
   -- A seat has made its event, in which devices alone of the ends had a part, and the lines that came of it were sent.
   pub record HasTurned (seat : ℕ) (hand : Option MachineView) (old new : ShellView C V M) (outcome : Outcome) : Type 0 where

@@ -16,11 +16,6 @@ stage_at stage code work.Idle = None
 stage_at stage code (work.Running m) = Some (stage code m)
 stage_at stage code work.Undoing = None
 
--- a seat runs a machine
-abbrev pub IsRunning : {M : Type 0} → Work M → Type 0
-IsRunning (work.Running m) = Unit {0}
-IsRunning _ = ⊥
-
 module _ {C V M : Type 0} where
   -- a seat has a member at work, and undoes it unless a stop is kept
   pub record CanUndo (core : Core C V M) (seat : ℕ) : Type 0 where

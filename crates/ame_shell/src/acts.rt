@@ -1,8 +1,7 @@
 //! What a seat does in its turn.
 
-ghost use Rattle.std.specs.Prelude.{◌≡◌, ◌≢◌, ◌≤◌, ◌<◌, ◌+◌, ◌^◌, ℕ, List, Some, None, true, false, length, vec_len};
+ghost use Rattle.std.specs.Prelude.{◌≡◌, ◌≢◌, ◌≤◌, ◌<◌, ◌^◌, List, Some, None, true, false, length};
 ghost use Rattle.ame_device.specs.declared.told.Told.{Told};
-ghost use Rattle.ame_device.specs.Calls.{all_told};
 ghost use Rattle.ame_machine.specs.declared.wants.Wants.{Wants};
 ghost use Rattle.ame_protocol.specs.declared.types.Task.{Task};
 ghost use Rattle.ame_protocol.specs.Engine.Parts.{task_at};
@@ -10,27 +9,22 @@ ghost use Rattle.ame_shell.specs.declared.work.Outcome.{Outcome};
 ghost use Rattle.ame_shell.specs.declared.work.Work.{Work};
 ghost use Rattle.ame_shell.specs.declared.work.Work.TheVariants as spec;
 ghost use Rattle.ame_shell.specs.Asked.{waits_for_check, is_handed_in, HasNoTurnsLeft, LacksWhereDue, LacksAsDue};
-ghost use Rattle.ame_shell.specs.Ready.{IsReady, IsReadyWork, CanBePrepared};
-ghost use Rattle.ame_shell.specs.Work.{stage_at, IsRunning, CanUndo, IsAtWork, HasTurn, Fits};
+ghost use Rattle.ame_shell.specs.Ready.{IsReady, IsReadyWork};
+ghost use Rattle.ame_shell.specs.Work.{stage_at, CanUndo, IsAtWork, HasTurn, Fits};
 ghost use Rattle.ame_shell.specs.Outcomes.{is_back as turns_back, is_home as comes_home, IsDone};
 
 use crate::accesses::{alloc_on, read_on, write_on};
 use crate::events::{begin_on, give_up, undo_on};
+use crate::io::Io;
 use crate::rows::{block_on, check_on, commit_on, spend_running, tall_on};
 use crate::spends::spend_undoing;
 use crate::visits::free_on;
 use crate::work::{Outcome, Work};
 use ame_device::Device;
 use ame_engine::Engine;
+use ame_io::Sink;
 use ame_machine::{Runner, Wants};
 use std::mem;
-
-/// Shows that a list's length is the number of its items.
-fn has_its_length<D>(devices: &Vec<D>)
-    ensures { vec_len devices.now ≡ length devices.now.items }
-{
-    let _items = devices.as_slice();
-}
 
 /// Shows that a number has 32 bits.
 fn is_small(number: u32)
@@ -40,7 +34,7 @@ fn is_small(number: u32)
 }
 
 /// Shows that the limits are numbers of 32 bits.
-fn limits_are_small<M: Runner>(engine: &Engine<M>)
+pub(crate) fn limits_are_small<M: Runner>(engine: &Engine<M>)
 where
     M::Code: Drop,
     ensures slice { engine.now.limits.slice < 2 ^ 32 }
@@ -150,12 +144,12 @@ where
 }
 
 /// Hands in the machine of a seat whose fragment is over, or that is inside and visits.
-fn hand_in<M: Runner, D: Device>(
+fn hand_in<M: Runner, K: Sink, D: Device>(
     engine: &mut Engine<M>,
     seat: u32,
     machine: M,
     want: Wants,
-    devices: &mut Vec<D>,
+    io: &mut Io<K, D>,
 ) -> Outcome
 where
     M::Code: Drop,
@@ -164,17 +158,18 @@ where
     requires told { (M.meaning.stage engine.old.code machine).want ≡ Some want }
     requires over { (M.meaning.stage engine.old.code machine).inside ≡ false → (want ≡ Wants.Leave → ⊥) → want ≡ Wants.Done }
     requires short { want ≡ Wants.Tall → ⊥ }
-    requires devices { (M.meaning.signature engine.old.code).devices ≤ vec_len devices.old }
+    requires devices { (M.meaning.signature engine.old.code).devices ≤ length io.old.ends.told }
     ensures home { comes_home result ≡ true → task_at engine.new.tasks seat ≡ Task.Idle }
     ensures back { comes_home result ≡ false → CanUndo engine.new seat }
     ensures done { IsDone M.meaning seat (Some (M.meaning.stage engine.old.code machine)) engine.old engine.new
-        (all_told D.device_heard D.device_faults devices.old.items) (all_told D.device_heard D.device_faults devices.new.items) result }
+        io.old.ends.told io.new.ends.told result }
     ensures due { LacksWhereDue engine.old seat (Some (M.meaning.stage engine.old.code machine)) result }
+    ensures alone { io.new.ends ≡ record io.old.ends { told = io.new.ends.told } }
 {
     engine.stands();
     limits_are_small(engine);
     if machine.inside() {
-        return free_on(engine, seat, machine, devices);
+        return free_on(engine, seat, machine, io);
     }
     match want {
         Wants::Leave => commit_on(engine, seat, machine, Outcome::Left),
@@ -191,51 +186,6 @@ fn is_handed_in(want: Wants, inside: bool) -> bool
         Wants::Done | Wants::Leave => true,
         _ => inside,
     }
-}
-
-/// A turn of a seat that runs a machine, which isn't its last one.
-fn run<M: Runner, D: Device>(
-    engine: &mut Engine<M>,
-    code: &M::Code,
-    seat: u32,
-    work: &mut Work<M>,
-    devices: &mut Vec<D>,
-) -> Outcome
-where
-    M::Code: Drop,
-    requires same { code.now ≡ engine.old.code }
-    requires fits { Fits M.meaning engine.old seat work.old }
-    requires going { engine.old.stop ≡ None }
-    requires left { engine.old.turns < engine.old.limits.turns }
-    requires ready { IsReadyWork M.meaning.stage engine.old.code engine.old.limits.slice work.old }
-    requires runs { IsRunning work.old }
-    requires devices { (M.meaning.signature engine.old.code).devices ≤ vec_len devices.old }
-    ensures fits { Fits M.meaning engine.new seat work.new }
-    ensures done { IsDone M.meaning seat (stage_at M.meaning.stage engine.old.code work.old) engine.old engine.new
-        (all_told D.device_heard D.device_faults devices.old.items) (all_told D.device_heard D.device_faults devices.new.items) result }
-    ensures due { LacksWhereDue engine.old seat (stage_at M.meaning.stage engine.old.code work.old) result }
-{
-    let Work::Running(machine) = work else {
-        unreachable!();
-    };
-    let Some(want) = machine.want() else {
-        unreachable!();
-    };
-    if is_handed_in(want, machine.inside()) {
-        let Work::Running(machine) = mem::replace(work, Work::Undoing) else {
-            unreachable!();
-        };
-        let outcome = hand_in(engine, seat, machine, want, devices);
-        if is_home(outcome) {
-            *work = Work::Idle;
-        }
-        return outcome;
-    }
-    let outcome = serve(engine, code, seat, machine, want);
-    if is_back(outcome) {
-        *work = Work::Undoing;
-    }
-    outcome
 }
 
 /// A turn of a seat that has a member at work, once the turns are used up: that stop is kept.
@@ -261,24 +211,26 @@ where
     }
 }
 
-/// The event of a seat, by its work in flight.
-fn event<M: Runner, D: Device>(
+/// One event of a seat, exactly the one that the engine, the seat's work in flight and what its machine wants name. Where the machine
+/// isn't ready, or memory is lacking for the event itself, that stop is kept, and nothing else changes; an event that takes no memory
+/// never lacks it.
+pub(crate) fn act<M: Runner, K: Sink, D: Device>(
     engine: &mut Engine<M>,
     code: &M::Code,
     seat: u32,
     work: &mut Work<M>,
-    devices: &mut Vec<D>,
+    io: &mut Io<K, D>,
 ) -> Outcome
 where
     M::Code: Drop,
     requires code { code.now ≡ engine.old.code }
     requires seat { seat < engine.old.limits.seats }
     requires fits { Fits M.meaning engine.old seat work.old }
-    requires devices { (M.meaning.signature engine.old.code).devices ≤ vec_len devices.old }
+    requires devices { (M.meaning.signature engine.old.code).devices ≤ length io.old.ends.told }
     ensures fits { Fits M.meaning engine.new seat work.new }
-    ensures done { IsDone M.meaning seat (stage_at M.meaning.stage engine.old.code work.old) engine.old engine.new
-        (all_told D.device_heard D.device_faults devices.old.items) (all_told D.device_heard D.device_faults devices.new.items) result }
+    ensures done { IsDone M.meaning seat (stage_at M.meaning.stage engine.old.code work.old) engine.old engine.new io.old.ends.told io.new.ends.told result }
     ensures lacks { LacksAsDue M.meaning.stage engine.old seat work.old result }
+    ensures alone { io.new.ends ≡ record io.old.ends { told = io.new.ends.told } }
 {
     if let Work::Idle = work {
         return begin_on(engine, seat, work);
@@ -292,44 +244,28 @@ where
     if engine.turns() >= engine.limits().turns {
         return spend(engine, seat, work);
     }
-    match work {
-        Work::Running(_) => run(engine, code, seat, work, devices),
-        Work::Idle | Work::Undoing => undo_on(engine, seat, work),
+    if let Work::Undoing = work {
+        return undo_on(engine, seat, work);
     }
-}
-
-/// One event of a seat, exactly the one that the engine, the seat's work in flight and what its machine wants name. Where the machine
-/// isn't ready, or memory is lacking for the event itself, that stop is kept, and nothing else changes; an event that takes no memory
-/// never lacks it. The work in flight of other seats still fits.
-pub(crate) fn act<M: Runner, D: Device>(
-    engine: &mut Engine<M>,
-    code: &M::Code,
-    seat: u32,
-    work: &mut Work<M>,
-    devices: &mut Vec<D>,
-) -> Outcome
-where
-    M::Code: Drop,
-    requires code { code.now ≡ engine.old.code }
-    requires seat { seat < engine.old.limits.seats }
-    requires fits { Fits M.meaning engine.old seat work.old }
-    requires devices { (M.meaning.signature engine.old.code).devices ≤ vec_len devices.old }
-    ensures done { IsDone M.meaning seat (stage_at M.meaning.stage engine.old.code work.old) engine.old engine.new
-        (all_told D.device_heard D.device_faults devices.old.items) (all_told D.device_heard D.device_faults devices.new.items) result }
-    ensures lacks { LacksAsDue M.meaning.stage engine.old seat work.old result }
-    ensures fits { Fits M.meaning engine.new seat work.new }
-    ensures others { (other : ℕ) (rest : Work M) → other ≢ seat → Fits M.meaning engine.old other rest
-        → Fits M.meaning engine.new other rest }
-    ensures can { CanBePrepared M.meaning.is_machine M.meaning.stage engine.new.code engine.new.limits.slice work.new }
-    ensures code { engine.new.code ≡ engine.old.code }
-    ensures limits { engine.new.limits ≡ engine.old.limits }
-    ensures count { vec_len devices.new ≡ vec_len devices.old }
-{
-    engine.stands();
-    has_its_length(devices);
-    let outcome = event(engine, code, seat, work, devices);
-    engine.stands();
-    limits_are_small(engine);
-    has_its_length(devices);
+    let Work::Running(machine) = work else {
+        unreachable!();
+    };
+    let Some(want) = machine.want() else {
+        unreachable!();
+    };
+    if is_handed_in(want, machine.inside()) {
+        let Work::Running(machine) = mem::replace(work, Work::Undoing) else {
+            unreachable!();
+        };
+        let outcome = hand_in(engine, seat, machine, want, io);
+        if is_home(outcome) {
+            *work = Work::Idle;
+        }
+        return outcome;
+    }
+    let outcome = serve(engine, code, seat, machine, want);
+    if is_back(outcome) {
+        *work = Work::Undoing;
+    }
     outcome
 }

@@ -4,6 +4,7 @@
 mod accesses;
 mod acts;
 mod events;
+mod io;
 mod prepares;
 mod remains;
 mod rows;
@@ -13,6 +14,7 @@ mod theorems;
 mod visits;
 mod work;
 
+pub use io::Io;
 pub use prepares::{prepare, prepare_seat};
 pub use remains::Remains;
 pub use shell::Shell;

@@ -1,51 +1,47 @@
 //! An engine with its sink and its devices.
 
-ghost use Rattle.std.specs.Prelude.{◌≡◌, ◌≢◌, ◌≤◌, ◌<◌, ℕ, None, IsSome, true, false, length, vec_len};
+ghost use Rattle.std.specs.Prelude.{◌≡◌, ◌≤◌, ◌<◌, ℕ, None, IsSome, true, false, length};
 ghost use Rattle.ame_io.specs.Lines.{lines};
 ghost use Rattle.ame_protocol.specs.declared.types.Task.{Task};
 ghost use Rattle.ame_protocol.specs.Engine.Parts.{member_of, task_at};
 ghost use Rattle.ame_protocol.specs.declared.stop.Stop.{Stop};
 ghost use Rattle.ame_engine.specs.Ending.{end_of};
 ghost use Rattle.ame_engine.specs.Stops.{stopped_by};
-ghost use Rattle.ame_shell.specs.declared.work.Work.{Work};
 ghost use Rattle.ame_shell.specs.Asked.{LacksAsDue};
 ghost use Rattle.ame_shell.specs.Ready.{CanBePrepared};
-ghost use Rattle.ame_shell.specs.Work.{stage_at, Fits};
-ghost use Rattle.ame_shell.specs.Ends.{ends_of};
-ghost use Rattle.ame_shell.specs.Over.{IsOverSince};
-ghost use Rattle.ame_shell.specs.Shell.{shell_view, Opening, IsShell};
-ghost use Rattle.ame_shell.specs.Turned.{HasFlushed, is_to_flush as flushes_after, IsInOrder, HasTurned, member_told};
+ghost use Rattle.ame_shell.specs.Work.{stage_at};
+ghost use Rattle.ame_shell.specs.Shell.{shell_view, Opening, IsShell, IsOverFrom};
+ghost use Rattle.ame_shell.specs.Turned.{HasFlushed, is_to_flush as flushes_after, MayTurn, LeavesInOrder, HasTurned, member_told};
 
-use crate::acts::act;
+use crate::acts::{act, limits_are_small};
+use crate::io::Io;
 use crate::remains::Remains;
 use crate::work::{Outcome, Turn, Work};
 use ame_device::Device;
 use ame_engine::{Engine, Stop};
-use ame_io::{Sink, WriteFault, write_all};
+use ame_io::{Sink, WriteFault};
 use ame_machine::Runner;
 use ame_protocol::Task;
 
-/// An engine, the sink to which the lines of its output go, with how many bytes were sent, and its devices.
-pub struct Shell<M: Runner, K, D>
+/// An engine, the sink to which the lines of its output go with its devices, and how many bytes were sent.
+pub struct Shell<M: Runner, K: Sink, D: Device>
 where
     M::Code: Drop,
 {
     pub engine: Engine<M>,
-    pub sink: K,
+    pub io: Io<K, D>,
     pub sent: usize,
-    pub devices: Vec<D>,
 }
 
-impl<M: Runner, K: Drop, D: Drop> Drop for Shell<M, K, D>
+impl<M: Runner, K: Sink + Drop, D: Device> Drop for Shell<M, K, D>
 where
     M::Code: Drop,
 {
     fn drop(self) {
         let Shell {
             engine: _,
-            sink: _,
+            io: _,
             sent: _,
-            devices: _,
         } = self;
     }
 }
@@ -80,13 +76,13 @@ where
     pub fn flush(&mut self)
         requires within { self.old.sent ≤ length (lines self.old.engine.output) }
         requires going { self.old.engine.stop ≡ None }
-        ensures flushes { HasFlushed (shell_view K.written K.faults D.device_heard D.device_faults self.old)
-            (shell_view K.written K.faults D.device_heard D.device_faults self.new) }
-        ensures devices { self.new.devices ≡ self.old.devices }
+        ensures flushes { HasFlushed (shell_view self.old) (shell_view self.new) }
+        ensures told { self.new.io.ends.told ≡ self.old.io.ends.told }
+        ensures devices { self.new.io.devices ≡ self.old.io.devices }
     {
         let text = self.engine.text();
         let len = text.len();
-        match write_all(&mut self.sink, &text[self.sent..]) {
+        match self.io.write_all(&text[self.sent..]) {
             Ok(()) => self.sent = len,
             Err(WriteFault { gone }) => {
                 self.sent += gone;
@@ -99,11 +95,9 @@ where
     fn flush_after(&mut self, outcome: Outcome)
         requires within { self.old.sent ≤ length (lines self.old.engine.output) }
         requires going { flushes_after outcome ≡ true → self.old.engine.stop ≡ None }
-        ensures flushes { flushes_after outcome ≡ true
-            → HasFlushed (shell_view K.written K.faults D.device_heard D.device_faults self.old)
-            (shell_view K.written K.faults D.device_heard D.device_faults self.new) }
+        ensures flushes { flushes_after outcome ≡ true → HasFlushed (shell_view self.old) (shell_view self.new) }
         ensures stays { flushes_after outcome ≡ false → self.new ≡ self.old }
-        ensures devices { self.new.devices ≡ self.old.devices }
+        ensures told { self.new.io.ends.told ≡ self.old.io.ends.told }
     {
         if is_to_flush(outcome) {
             self.flush();
@@ -113,27 +107,19 @@ where
     /// One event of a seat, exactly the one that the engine, the seat's work in flight and what its machine wants name. Lines that come
     /// of it are sent then; where the sink fails, that stop is kept. Where the machine isn't ready, memory was lacking.
     pub fn turn(&mut self, code: &M::Code, seat: u32, work: &mut Work<M>) -> Turn
-        requires order { IsInOrder M.meaning self.old.engine self.old.sent code.now (vec_len self.old.devices) }
-        requires seat { seat < self.old.engine.limits.seats }
-        requires fits { Fits M.meaning self.old.engine seat work.old }
+        requires may { MayTurn M.meaning code.now seat (shell_view self.old) work.old }
         ensures turned { HasTurned M.meaning seat (stage_at M.meaning.stage self.old.engine.code work.old)
-            (shell_view K.written K.faults D.device_heard D.device_faults self.old)
-            (shell_view K.written K.faults D.device_heard D.device_faults self.new) result.outcome }
+            (shell_view self.old) (shell_view self.new) result.outcome }
         ensures member { result.member ≡ member_told (member_of (task_at self.old.engine.tasks seat)) (member_of (task_at self.new.engine.tasks seat)) }
         ensures lacks { LacksAsDue M.meaning.stage self.old.engine seat work.old result.outcome }
-        ensures keeps { (opening : Opening M.Code)
-            → IsShell M.meaning opening (shell_view K.written K.faults D.device_heard D.device_faults self.old)
-            → IsShell M.meaning opening (shell_view K.written K.faults D.device_heard D.device_faults self.new) }
-        ensures order { IsInOrder M.meaning self.new.engine self.new.sent code.now (vec_len self.new.devices) }
-        ensures limits { self.new.engine.limits ≡ self.old.engine.limits }
-        ensures fits { Fits M.meaning self.new.engine seat work.new }
-        ensures others { (other : ℕ) (rest : Work M) → other ≢ seat → Fits M.meaning self.old.engine other rest
-            → Fits M.meaning self.new.engine other rest }
-        ensures can { CanBePrepared M.meaning.is_machine M.meaning.stage self.new.engine.code self.new.engine.limits.slice work.new }
+        ensures leaves { LeavesInOrder M.meaning code.now seat (shell_view self.old) (shell_view self.new) work.new }
+        ensures can { CanBePrepared M.meaning.is_machine M.meaning.stage code.now self.new.engine.limits.slice work.new }
     {
         self.engine.stands();
         let before = member_at(&self.engine, seat);
-        let outcome = act(&mut self.engine, code, seat, work, &mut self.devices);
+        let outcome = act(&mut self.engine, code, seat, work, &mut self.io);
+        self.engine.stands();
+        limits_are_small(&self.engine);
         self.flush_after(outcome);
         let after = member_at(&self.engine, seat);
         Turn {
@@ -143,27 +129,22 @@ where
     }
 
     /// Sink and devices, as they are.
-    pub fn into_ends(self) -> (K, Vec<D>)
-        ensures sink { result.0 ≡ self.sink }
-        ensures devices { result.1 ≡ self.devices }
+    pub fn into_io(self) -> Io<K, D>
+        ensures { result ≡ self.io }
     {
         let Shell {
             engine: _,
-            sink,
+            io,
             sent: _,
-            devices,
         } = self;
-        (sink, devices)
+        io
     }
 
     /// What is left where memory is lacking while all seats are idle: that stop is kept, if none is. Takes no memory.
     pub fn give_up(self) -> Remains<M::Value, K, D>
         requires idle { (seat : ℕ) → task_at self.engine.tasks seat ≡ Task.Idle }
         ensures told { result.ended ≡ end_of (stopped_by Stop.NoMemory self.engine) }
-        ensures over { (opening : Opening M.Code)
-            → IsShell M.meaning opening (shell_view K.written K.faults D.device_heard D.device_faults self)
-            → IsOverSince opening.base (M.meaning.program opening.code) (M.meaning.signature opening.code) opening.limits (M.meaning.value_of opening.code) opening.ends result.ended
-            (ends_of K.written K.faults D.device_heard D.device_faults result.sink result.devices.items) }
+        ensures over { (opening : Opening M.Code) → IsShell M.meaning opening (shell_view self) → IsOverFrom M.meaning opening result.ended result.io.ends }
     {
         let mut shell = self;
         shell.engine.stop(Stop::NoMemory);
@@ -175,21 +156,16 @@ where
         requires idle { (seat : ℕ) → task_at self.engine.tasks seat ≡ Task.Idle }
         requires stopped { IsSome self.engine.stop }
         ensures told { result.ended ≡ end_of self.engine }
-        ensures over { (opening : Opening M.Code)
-            → IsShell M.meaning opening (shell_view K.written K.faults D.device_heard D.device_faults self)
-            → IsOverSince opening.base (M.meaning.program opening.code) (M.meaning.signature opening.code) opening.limits (M.meaning.value_of opening.code) opening.ends result.ended
-            (ends_of K.written K.faults D.device_heard D.device_faults result.sink result.devices.items) }
+        ensures over { (opening : Opening M.Code) → IsShell M.meaning opening (shell_view self) → IsOverFrom M.meaning opening result.ended result.io.ends }
     {
         let Shell {
             engine,
-            sink,
+            io,
             sent: _,
-            devices,
         } = self;
         Remains {
             ended: engine.finish(),
-            sink,
-            devices,
+            io,
         }
     }
 }

@@ -1,5 +1,5 @@
 -- The work in flight of the seats of a crew.
-use Rattle.std.proofs.Common.{◌≡◌, ◌≢◌, ℕ, zero, suc, ◌<◌, ◌≤◌, ◌⊎◌, inl, inr, List, Option, Some, length, set, IsTrue, refl, sym, ap, ◌∙◌, subst, arith}
+use Rattle.std.proofs.Common.{◌≡◌, ℕ, zero, suc, ◌<◌, ◌≤◌, ◌⊎◌, inl, inr, List, Option, Some, length, set, IsTrue, refl, sym, ap, ◌∙◌, subst, arith}
 use Rattle.std.specs.Prelude.{slice_index_or, replicate}
 use Rattle.std.specs.List.{list_any}
 use Rattle.std.proofs.lemmas.List.{get_or-set_same, get_or-set_other, length-set, length-replicate}
@@ -22,7 +22,8 @@ use Rattle.ame_engine.specs.Seen.{parts_of, term_shown}
 use Rattle.ame_engine.specs.Stops.{stopped_by}
 use Rattle.ame_engine.specs.Whole.{AreLimits}
 use Rattle.ame_shell.specs.Shell.{ShellView}
-use Rattle.ame_shell.specs.Turned.{IsInOrder, HasTurned, member_told}
+use Rattle.ame_shell.specs.Ends.{Ends}
+use Rattle.ame_shell.specs.Turned.{LeavesInOrder, HasTurned, member_told}
 use Rattle.ame_shell.proofs.OrderLemmas.{order-stays}
 use Rattle.ame_sim.specs.Places.{place_wanted, place_told}
 use Rattle.ame_sim.specs.Played.{HasPlayed}
@@ -34,6 +35,9 @@ use Rattle.ame_shell.proofs.RestLemmas.{by-stop}
 use Rattle.ame_sim.specs.Crew.{IsCrew, SomeSeatIsAtWork}
 use Rattle.ame_sim.proofs.BusyLemmas.{busy-there, busy-shown, busy-seat}
 
+pub some-is : {A : Type 0} (a b : A) → Some a ≡ Some b → a ≡ b
+some-is a b e = cc
+
 pub same-all : {X : Type 0} (n k : ℕ) (x : X) → slice_index_or (replicate n x) k x ≡ x
 same-all zero k x = refl
 same-all (suc n) zero x = refl
@@ -41,10 +45,10 @@ same-all (suc n) (suc k) x = same-all n k x
 
 module _ {C V M : Type 0} (meaning : Meaning C V M) where
   -- as the engine has started
-  pub crew-starts : (core : Core C V M) (code : C) (hands : List (Work M)) (limits : Limits) (tools : ℕ) → code ≡ core.code
+  pub crew-starts : (core : Core C V M) (code : C) (hands : List (Work M)) (limits : Limits) (ends : Ends) → code ≡ core.code
       → parts_of meaning core ≡ started (meaning.program code) (meaning.signature code) limits 0 → hands ≡ replicate limits.seats work.Idle
-      → (meaning.signature core.code).devices ≤ tools → AreLimits limits → IsCrew meaning core 0 code hands tools
-  crew-starts core code hands limits tools same starts all enough right = record {
+      → (meaning.signature core.code).devices ≤ length ends.told → AreLimits limits → IsCrew meaning code (record { core = core; sent = 0; ends = ends }) hands
+  crew-starts core code hands limits ends same starts all enough right = record {
     order = record {
       same = same;
       limits = subst AreLimits (ap (λ (p : Parts). p.limits) (sym starts)) right;
@@ -60,35 +64,32 @@ module _ {C V M : Type 0} (meaning : Meaning C V M) where
   }
 
   -- and after a seat's turn
-  pub crew-turned : (old new : Core C V M) (code : C) (hands : List (Work M)) (seat : ℕ) (last : Work M) (before after sent later : ℕ)
-      → IsCrew meaning old sent code hands before → seat < length hands → IsInOrder meaning new later code after → new.limits ≡ old.limits
-      → Fits meaning new seat last
-      → ((other : ℕ) (rest : Work M) → other ≢ seat → Fits meaning old other rest → Fits meaning new other rest)
-      → IsCrew meaning new later code (set hands seat last) after
-  crew-turned old new code hands seat last before after sent later crew within order limits fits others = record {
-    order = order;
-    count = length-set hands seat last ∙ crew.count ∙ ap (λ (l : Limits). l.seats) (sym limits);
+  pub crew-turned : (code : C) (old new : ShellView C V M) (hands : List (Work M)) (seat : ℕ) (last : Work M) → IsCrew meaning code old hands
+      → seat < length hands → LeavesInOrder meaning code seat old new last → IsCrew meaning code new (set hands seat last)
+  crew-turned code old new hands seat last crew within leaves = record {
+    order = leaves.may.order;
+    count = length-set hands seat last ∙ crew.count ∙ ap (λ (l : Limits). l.seats) (sym leaves.limits);
     fit = λ other. by other (which other seat);
   }
     where
-      by : (other : ℕ) → (other ≡ seat) ⊎ ((other ≡ seat) → ⊥) → Fits meaning new other (slice_index_or (set hands seat last) other work.Idle)
+      by : (other : ℕ) → (other ≡ seat) ⊎ ((other ≡ seat) → ⊥) → Fits meaning new.core other (slice_index_or (set hands seat last) other work.Idle)
       by other (inl here) =
           let is : slice_index_or (set hands seat last) seat work.Idle ≡ last = get_or-set_same hands seat last work.Idle within in
-          subst (λ (k : ℕ). Fits meaning new k (slice_index_or (set hands seat last) k work.Idle)) (sym here)
-          (subst (λ (w : Work M). Fits meaning new seat w) (sym is) fits)
+          subst (λ (k : ℕ). Fits meaning new.core k (slice_index_or (set hands seat last) k work.Idle)) (sym here)
+          (subst (λ (w : Work M). Fits meaning new.core seat w) (sym is) leaves.may.fits)
       by other (inr apart) =
           let is : slice_index_or (set hands seat last) other work.Idle ≡ slice_index_or hands other work.Idle =
           get_or-set_other hands seat other last work.Idle apart in
-          subst (λ (w : Work M). Fits meaning new other w) (sym is)
-          (others other (slice_index_or hands other work.Idle) apart (crew.fit other))
+          subst (λ (w : Work M). Fits meaning new.core other w) (sym is)
+          (leaves.others other (slice_index_or hands other work.Idle) apart (crew.fit other))
 
   -- and once a stop is kept
-  pub crew-stopped : (why : Stop) (core : Core C V M) (sent : ℕ) (code : C) (hands : List (Work M)) (tools : ℕ) → IsCrew meaning core sent code hands tools
-      → IsCrew meaning (stopped_by why core) sent code hands tools
-  crew-stopped why core sent code hands tools crew = record {
-    order = order-stays meaning core (stopped_by why core) code sent sent tools tools crew.order refl refl refl crew.order.within;
+  pub crew-stopped : (why : Stop) (code : C) (shell : ShellView C V M) (hands : List (Work M)) → IsCrew meaning code shell hands
+      → IsCrew meaning code (record shell { core = stopped_by why shell.core }) hands
+  crew-stopped why code shell hands crew = record {
+    order = order-stays meaning code shell (record shell { core = stopped_by why shell.core }) crew.order refl refl refl crew.order.within;
     count = crew.count;
-    fit = λ seat. by-stop meaning core (stopped_by why core) seat why refl (slice_index_or hands seat work.Idle) (crew.fit seat);
+    fit = λ seat. by-stop meaning shell.core (stopped_by why shell.core) seat why refl (slice_index_or hands seat work.Idle) (crew.fit seat);
   }
 
   -- the effect of a turn, from its parts

@@ -30,10 +30,10 @@ picks_left (Some why) turns waits = 0
 
 module _ {C V M : Type 0} (meaning : Meaning C V M) where
   -- The shell is in order. The work in flight of each seat is kept, and it fits.
-  pub record IsCrew (core : Core C V M) (sent : ℕ) (code : C) (hands : List (Work M)) (devices : ℕ) : Type 0 where
-    pub order : IsInOrder meaning core sent code devices
-    pub count : length hands ≡ core.limits.seats
-    pub fit : (seat : ℕ) → Fits meaning core seat (slice_index_or hands seat work.Idle)
+  pub record IsCrew (code : C) (shell : ShellView C V M) (hands : List (Work M)) : Type 0 where
+    pub order : IsInOrder meaning code shell
+    pub count : length hands ≡ shell.core.limits.seats
+    pub fit : (seat : ℕ) → Fits meaning shell.core seat (slice_index_or hands seat work.Idle)
 
 module _ {C V M : Type 0} where
   -- the crew ran out of memory, and that stop is kept

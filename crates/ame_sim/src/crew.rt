@@ -1,6 +1,6 @@
 //! A shell whose seats have their turns on one thread.
 
-ghost use Rattle.std.specs.Prelude.{◌≡◌, ◌≢◌, ◌≤◌, ◌<◌, ℕ, [], None, IsSome, IfOk, IfErr, true, false, is_some, vec_len};
+ghost use Rattle.std.specs.Prelude.{◌≡◌, ◌≢◌, ◌≤◌, ◌<◌, ℕ, [], None, IsSome, IfOk, IfErr, true, false, is_some, length};
 ghost use Rattle.std.specs.Arc.{arc_value};
 ghost use Rattle.ame_engine.specs.Ending.{end_of};
 ghost use Rattle.ame_engine.specs.Makes.{state_of};
@@ -8,9 +8,7 @@ ghost use Rattle.ame_engine.specs.Whole.{AreLimits};
 ghost use Rattle.ame_protocol.specs.declared.types.Task.{Task};
 ghost use Rattle.ame_protocol.specs.Event.State.{started_state};
 ghost use Rattle.ame_protocol.specs.Engine.Parts.{task_at};
-ghost use Rattle.ame_shell.specs.Ends.{ends_of};
-ghost use Rattle.ame_shell.specs.Over.{IsOverSince};
-ghost use Rattle.ame_shell.specs.Shell.{Opening, IsShell};
+ghost use Rattle.ame_shell.specs.Shell.{Opening, IsShell, IsOverFrom};
 ghost use Rattle.ame_sim.specs.Crew.{lacking, left_to_undo, IsUnwound, SomeSeatIsAtWork};
 ghost use Rattle.ame_sim.specs.Played.{HasPlayed};
 ghost use Rattle.ame_shell.specs.declared.work.Work.TheVariants as work;
@@ -23,7 +21,7 @@ use ame_engine::{Engine, Stop};
 use ame_io::Sink;
 use ame_machine::Runner;
 use ame_protocol::{Limits, Task};
-use ame_shell::{Remains, Shell, Turn, Work, prepare_seat};
+use ame_shell::{Io, Remains, Shell, Turn, Work, prepare_seat};
 use std::alloc::Global;
 use std::marker::Model;
 use std::sync::Arc;
@@ -43,16 +41,15 @@ impl<M: Runner, K: Sink, D: Device> Model for Crew<M, K, D>
 where
     M::Code: Drop,
 {
-    ghost use Rattle.std.specs.Prelude.{vec_len};
     ghost use Rattle.std.specs.Arc.{arc_value};
     ghost use Rattle.ame_shell.specs.Shell.{ShellView, shell_view};
     ghost use Rattle.ame_sim.specs.Crew.{IsCrew};
 
     ghost Value = { ShellView M.Code M.Value M };
 
-    ghost view = { λ c. shell_view K.written K.faults D.device_heard D.device_faults c.shell };
+    ghost view = { λ c. shell_view c.shell };
 
-    ghost invariant = { λ c. IsCrew M.meaning c.shell.engine c.shell.sent (arc_value c.code) c.hands.items (vec_len c.shell.devices) };
+    ghost invariant = { λ c. IsCrew M.meaning (arc_value c.code) (shell_view c.shell) c.hands.items };
 }
 
 impl<M: Runner, K: Sink, D: Device> Crew<M, K, D>
@@ -64,36 +61,33 @@ where
         alloc: Global,
         code: Arc<M::Code>,
         limits: Limits,
-        sink: K,
-        devices: Vec<D>,
-    ) -> Result<Crew<M, K, D>, (K, Vec<D>)>
+        io: Io<K, D>,
+    ) -> Result<Crew<M, K, D>, Io<K, D>>
         requires limits { AreLimits limits }
-        requires devices { (M.meaning.signature (arc_value code)).devices ≤ vec_len devices }
+        requires devices { (M.meaning.signature (arc_value code)).devices ≤ length io.ends.told }
         ensures opens { IfOk result (IsShell M.meaning (record {
           code = arc_value code;
           limits = limits;
           base = [];
-          ends = ends_of K.written K.faults D.device_heard D.device_faults sink devices.items;
+          ends = io.ends;
         })) }
         ensures starts { IfOk result (λ crew. state_of M.meaning crew.core
             ≡ started_state (M.meaning.program (arc_value code)) (M.meaning.signature (arc_value code)) limits) }
-        ensures sink { IfErr result (λ back. back.0 ≡ sink) }
-        ensures devices { IfErr result (λ back. back.1 ≡ devices) }
+        ensures back { IfErr result (λ back. back ≡ io) }
     {
         let Ok(hands) = idle_hands(alloc, limits.seats) else {
-            return Err((sink, devices));
+            return Err(io);
         };
         let Ok(share) = Arc::try_clone(&code) else {
-            return Err((sink, devices));
+            return Err(io);
         };
         let Ok(engine) = Engine::<M>::start(alloc, share, limits) else {
-            return Err((sink, devices));
+            return Err(io);
         };
         let shell = Shell {
             engine,
-            sink,
+            io,
             sent: 0,
-            devices,
         };
         Ok(Crew { shell, code, hands })
     }
@@ -205,9 +199,7 @@ where
         requires idle { (seat : ℕ) → task_at self.core.tasks seat ≡ Task.Idle }
         requires stopped { IsSome self.core.stop }
         ensures told { result.ended ≡ end_of self.core }
-        ensures over { (opening : Opening M.Code) → IsShell M.meaning opening self
-            → IsOverSince opening.base (M.meaning.program opening.code) (M.meaning.signature opening.code) opening.limits (M.meaning.value_of opening.code) opening.ends result.ended
-            (ends_of K.written K.faults D.device_heard D.device_faults result.sink result.devices.items) }
+        ensures over { (opening : Opening M.Code) → IsShell M.meaning opening self → IsOverFrom M.meaning opening result.ended result.io.ends }
     {
         let Crew {
             shell,

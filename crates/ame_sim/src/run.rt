@@ -1,11 +1,10 @@
 //! A whole run of a program on one thread.
 
-ghost use Rattle.std.specs.Prelude.{◌≡◌, ◌<◌, ◌≤◌, ◌⊎◌, ℕ, Bool, List, None, IsSome, IfOk, IfErr, true, false, [], OnOk, OnErr, vec_len};
+ghost use Rattle.std.specs.Prelude.{◌≡◌, ◌<◌, ◌≤◌, ◌⊎◌, ℕ, Bool, List, None, IsSome, IfOk, IfErr, true, false, [], OnOk, OnErr, length};
 ghost use Rattle.std.specs.Arc.{arc_value};
 ghost use Rattle.ame_sim.specs.Questions.{questions, seats_of, who_waits};
 ghost use Rattle.ame_sim.specs.Strategy.{PicksSeats};
 ghost use Rattle.ame_engine.specs.Whole.{AreLimits};
-ghost use Rattle.ame_shell.specs.Ends.{ends_of};
 ghost use Rattle.ame_shell.specs.Over.{IsOver};
 ghost use Rattle.ame_shell.specs.Shell.{Opening, ShellView, IsShell};
 ghost use Rattle.ame_sim.specs.Crew.{AreResting, left_to_play};
@@ -20,14 +19,14 @@ use ame_device::Device;
 use ame_io::Sink;
 use ame_machine::Runner;
 use ame_protocol::Limits;
-use ame_shell::Remains;
+use ame_shell::{Io, Remains};
 use ame_term::NoMemory;
 use std::alloc::Global;
 use std::sync::Arc;
 
 /// The remains of a run on one thread, and its picks with their outcomes.
 #[derive(Drop)]
-pub struct Played<V, K, D> {
+pub struct Played<V, K: Sink, D: Device> {
     pub left: Remains<V, K, D>,
     pub mades: PackedMades,
 }
@@ -93,10 +92,9 @@ pub fn run_by_chooser<M, K, D, H>(
     alloc: Global,
     code: Arc<M::Code>,
     limits: Limits,
-    sink: K,
-    devices: Vec<D>,
+    io: Io<K, D>,
     chooser: &mut H,
-) -> Result<Played<M::Value, K, D>, (K, Vec<D>)>
+) -> Result<Played<M::Value, K, D>, Io<K, D>>
 where
     M: Runner,
     M::Code: Drop,
@@ -104,26 +102,24 @@ where
     D: Device,
     H: Chooser,
     requires limits { AreLimits limits }
-    requires devices { (M.meaning.signature (arc_value code)).devices ≤ vec_len devices }
-    ensures over { IfOk result (λ played. IsOver (M.meaning.program (arc_value code)) (M.meaning.signature (arc_value code)) limits (M.meaning.value_of (arc_value code))
-        (ends_of K.written K.faults D.device_heard D.device_faults sink devices.items)
-        played.left.ended (ends_of K.written K.faults D.device_heard D.device_faults played.left.sink played.left.devices.items)) }
+    requires devices { (M.meaning.signature (arc_value code)).devices ≤ length io.ends.told }
+    ensures over { IfOk result (λ played. IsOver (M.meaning.program (arc_value code)) (M.meaning.signature (arc_value code)) limits (M.meaning.value_of (arc_value code)) io.ends
+        played.left.ended played.left.io.ends) }
     ensures played { IfOk result (λ played. IsPlayed M.meaning (record {
       code = arc_value code;
       limits = limits;
       base = [];
-      ends = ends_of K.written K.faults D.device_heard D.device_faults sink devices.items;
+      ends = io.ends;
     }) played.mades.items played.left.ended) }
     ensures answers { IfOk result (λ played. PicksSeats (H.strategy chooser.old) (questions limits.seats (picks_of played.mades.items))
         (seats_of (picks_of played.mades.items)) (H.strategy chooser.new)) }
-    ensures sink { IfErr result (λ back. back.0 ≡ sink) }
-    ensures devices { IfErr result (λ back. back.1 ≡ devices) }
+    ensures back { IfErr result (λ back. back ≡ io) }
 {
     let Ok(book) = Book::new(alloc, limits.seats) else {
-        return Err((sink, devices));
+        return Err(io);
     };
     let mut book = book;
-    let mut crew = match Crew::<M, K, D>::open(alloc, code, limits, sink, devices) {
+    let mut crew = match Crew::<M, K, D>::open(alloc, code, limits, io) {
         Ok(crew) => crew,
         Err(back) => return Err(back),
     };

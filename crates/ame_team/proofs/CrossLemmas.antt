@@ -22,6 +22,8 @@ use Rattle.ame_shell.proofs.work.Work.TheSendSync as work
 use Rattle.ame_protocol.proofs.types.Limits.TheSendSync as limits
 use Rattle.ame_journal.proofs.journal.Journal.TheSendSync as journal
 use Rattle.ame_pool.proofs.pool.Pool.TheSendSync as pool
+use Rattle.ame_shell.specs.contracts.io.Io as Io
+use Rattle.ame_shell.specs.contracts.io.Io.TheInside as IoInside
 use Rattle.ame_shell.specs.contracts.shell.Shell as Shell
 use Rattle.ame_engine.specs.contracts.engine.Engine as Engine
 use Rattle.ame_rows.specs.contracts.memory.Memory as Memory
@@ -97,18 +99,24 @@ module _ (M K D C V : RattleType) (r : runner.Ghosts M.Denot C.Denot V.Denot) (m
       ) in
       view_send _ _ _ _ _ (recorded_send (Struct (shape T)) T.D T.to T.to_one (struct_send (shape T) all))
 
-  shell-send : IsSend (Shell.the_row M K D C V r m v)
+  io-send : IsSend (Io.the_row K D s d)
+  io-send =
+      let T = IoInside.the_type K D s d in
+      let all : AllSend (fields T) = (sk, (Vec-send D sd, tt)) in
+      view_send _ _ _ _ _ (recorded_send (Struct (shape T)) T.D T.to T.to_one (struct_send (shape T) all))
+
+  shell-send : IsSend (Shell.the_row M K D C V r m v s d)
   shell-send =
-      let T = Shell.the_type M K D C V r m v in
-      let all : AllSend (fields T) = (engine-send, (sk, (search (sendable, crosses) depth 20, (Vec-send D sd, tt)))) in
+      let T = Shell.the_type M K D C V r m v s d in
+      let all : AllSend (fields T) = (engine-send, (io-send, (search (sendable, crosses) depth 20, tt))) in
       recorded_send (Struct (shape T)) T.D T.to T.to_one (struct_send (shape T) all)
 
   pub shared-send : IsSend (Shared.the_row M K D C V r m v s d)
   shared-send =
       let T = Shared.the_type M K D C V r m v s d in
       let all : AllSend (fields T) = (
-        Box-send (Shell.the_row M K D C V r m v) shell-send,
-        (Vec-send (Place.the_row M) (place-send M), (trace-send (TurnRecord.the_row M K D C V r m v s d), (snapshot-send (Shell.the_row M K D C V r m v), tt))),
+        Box-send (Shell.the_row M K D C V r m v s d) shell-send,
+        (Vec-send (Place.the_row M) (place-send M), (trace-send (TurnRecord.the_row M K D C V r m v s d), (snapshot-send (Shell.the_row M K D C V r m v s d), tt))),
       ) in
       recorded_send (Struct (shape T)) T.D T.to T.to_one (struct_send (shape T) all)
 

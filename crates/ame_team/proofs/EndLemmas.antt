@@ -1,5 +1,5 @@
 -- What is left once all workers are through.
-use Rattle.std.proofs.Common.{◌≡◌, ℕ, zero, suc, ◌+◌, ◌<◌, ◌≤◌, ◌==◌, eq-eqb, ◌⊎◌, inl, inr, Bool, true, false, cond, List, [], ◌∷◌, length, map, All, Option, Some, IsSome, IsSomeAnd, slice_get, refl, sym, ap, ◌∙◌, subst, arith}
+use Rattle.std.proofs.Common.{◌≡◌, ℕ, zero, suc, ◌+◌, ◌<◌, ◌≤◌, ◌==◌, eq-eqb, ◌⊎◌, inl, inr, Bool, true, false, cond, List, [], ◌∷◌, length, All, Option, Some, IsSome, IsSomeAnd, slice_get, refl, sym, ap, ◌∙◌, subst, arith}
 use Rattle.std.specs.Prelude.{option_map}
 use Rattle.std.proofs.lemmas.Bool.{cases_lt}
 use Rattle.std.proofs.lemmas.List.{get_or_past, length-map}

@@ -1,5 +1,5 @@
 -- The seats of a team of workers.
-use Rattle.std.specs.Prelude.{◌≡◌, ℕ, ◌+◌, ◌<◌, false, List, [], length, All, Option, Some, IsSome, slice_get}
+use Rattle.std.specs.Prelude.{◌≡◌, ℕ, ◌+◌, ◌<◌, false, List, [], length, All, Option, Some, IsSome, slice_get, slice_index_or}
 use Rattle.ame_machine.specs.Meaning.{Meaning}
 use Rattle.ame_protocol.specs.declared.types.Task.{Task}
 use Rattle.ame_protocol.specs.Engine.Parts.{task_at}
@@ -10,7 +10,12 @@ use Rattle.ame_baton.specs.Seats.{Stays}
 use Rattle.ame_baton.specs.declared.seats.SeatAt.{SeatAt}
 use Rattle.ame_baton.specs.declared.turn.Baton.{Baton}
 use Rattle.ame_baton.specs.declared.view.Knows.{Knows}
+use Rattle.std.specs.Arc.{arc_value}
 use Rattle.ame_baton.specs.Batons.{knows, IsSeatOf}
+use Rattle.ame_baton.specs.Keeping.{KeepsSeat}
+use Rattle.ame_worker.specs.declared.shared.Shared.{Shared}
+use Rattle.ame_worker.specs.declared.worker.Worker.{Worker}
+use Rattle.ame_worker.specs.Workers.{IsReadyToTurn, IsThrough}
 use Rattle.ame_worker.specs.Rows.{SeatRow, empty_row}
 use Rattle.ame_worker.specs.Shared.{OpenedView}
 use Rattle.ame_worker.specs.Turns.{TurnView, Turns, maker}
@@ -49,3 +54,21 @@ pub record HasBeenLedBy {C V M : Type 0} (meaning : Meaning C V M) (seats : ℕ)
   pub idle : (seat : ℕ) → task_at last.core.tasks seat ≡ Task.Idle
   pub stopped : IsSome last.core.stop
   pub ended : end ≡ end_of last.core
+
+-- As many workers, each with the seat that it had.
+pub record KeepSeats {M K D C V : Type 0} (old new : List (Worker M K D C V)) : Type 0 where
+  pub count : length new ≡ length old
+  pub each : (i : ℕ) (d : Worker M K D C V) → i < length old → KeepsSeat (knows (slice_index_or old i d).seat) (knows (slice_index_or new i d).seat)
+
+module _ {M K D C V : Type 0} (meaning : Meaning C V M) (baton : Baton (Shared M K D C V) (OpenedView C V M) (SeatRow M) (TurnView C V M)) where
+  -- each worker has a seat of the baton, and is ready for its turn
+  pub record AreReadyToTurn (workers : List (Worker M K D C V)) : Type 0 where
+    pub of : All (λ w. IsSeatOf baton w.seat) workers
+    pub ready : All (λ w. IsReadyToTurn meaning (arc_value w.code) w.limits (knows w.seat) w.work) workers
+
+-- each worker has worked until it was through
+pub record HaveWorked {M K D C V : Type 0} (baton : Baton (Shared M K D C V) (OpenedView C V M) (SeatRow M) (TurnView C V M))
+    (old new : List (Worker M K D C V)) : Type 0 where
+  pub keeps : (i : ℕ) (d : Worker M K D C V) → i < length old → KeepsSeat (knows (slice_index_or old i d).seat) (knows (slice_index_or new i d).seat)
+  pub of : (i : ℕ) (d : Worker M K D C V) → i < length old → IsSeatOf baton (slice_index_or new i d).seat
+  pub through : (i : ℕ) (d : Worker M K D C V) → i < length old → IsThrough (knows (slice_index_or new i d).seat)

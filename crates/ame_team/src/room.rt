@@ -1,7 +1,8 @@
 //! Room for a run by workers.
 
-ghost use Rattle.std.specs.Prelude.{◌≡◌, ◌≤◌, ◌+◌, [], All, IfOk, vec_len, vec_capacity};
+ghost use Rattle.std.specs.Prelude.{◌≡◌, ◌≤◌, All, IfOk, vec_len};
 ghost use Rattle.std.specs.Arc.{arc_value};
+ghost use Rattle.ame_team.specs.Rooms.{IsRoomFor};
 
 use ame_baton::SeatAt;
 use ame_device::Device;
@@ -11,8 +12,8 @@ use ame_worker::{Opened, SeatRow, Shared, TurnRecord, Worker};
 use std::alloc::{AllocError, Global};
 use std::sync::Arc;
 
-/// What a run by workers needs besides its shell, so that nothing is begun before it is there: a share of the code for each worker but
-/// the last, and room for the workers and for their seats.
+/// What a run by workers needs besides its shell, so that nothing is begun before it is there: a share of the code for each
+/// worker, and room for the workers and for their seats.
 pub(crate) struct Room<M: Runner, K: Sink, D: Device>
 where
     M::Code: Drop,
@@ -35,18 +36,20 @@ where
     }
 }
 
-/// So many shares of the code.
-fn shares<C: Drop>(alloc: Global, code: &Arc<C>, count: usize) -> Result<Vec<Arc<C>>, AllocError>
-    ensures same { IfOk result (λ codes. All (λ it. arc_value it ≡ arc_value code.now) codes.items) }
+/// So many shares of the code, this one among them.
+fn shares<C: Drop>(alloc: Global, code: Arc<C>, count: usize) -> Result<Vec<Arc<C>>, AllocError>
+    requires { 1 ≤ count }
+    ensures same { IfOk result (λ codes. All (λ it. arc_value it ≡ arc_value code) codes.items) }
     ensures count { IfOk result (λ codes. vec_len codes ≡ count) }
 {
     let mut codes = Vec::with_capacity(alloc, count)?;
-    for _ in 0..count {
-        let Ok(share) = Arc::try_clone(code) else {
+    for _ in 1..count {
+        let Ok(share) = Arc::try_clone(&code) else {
             return Err(AllocError);
         };
         codes.push_reserved(share);
     }
+    codes.push_reserved(code);
     Ok(codes)
 }
 
@@ -55,18 +58,13 @@ where
     M::Code: Drop,
 {
     /// Room for a run of so many seats.
-    pub fn take(alloc: Global, code: &Arc<M::Code>, seats: u32) -> Result<Room<M, K, D>, AllocError>
-        requires some { 1 ≤ seats }
-        ensures codes { IfOk result (λ room. All (λ it. arc_value it ≡ arc_value code.now) room.codes.items) }
-        ensures count { IfOk result (λ room. vec_len room.codes + 1 ≡ seats) }
-        ensures no_workers { IfOk result (λ room. room.workers.items ≡ []) }
-        ensures workers { IfOk result (λ room. seats ≤ vec_capacity room.workers) }
-        ensures no_seats { IfOk result (λ room. room.seats.items ≡ []) }
-        ensures seats { IfOk result (λ room. seats ≤ vec_capacity room.seats) }
+    pub fn take(alloc: Global, code: Arc<M::Code>, seats: u32) -> Result<Room<M, K, D>, AllocError>
+        requires { 1 ≤ seats }
+        ensures { IfOk result (IsRoomFor (arc_value code) seats) }
     {
         let count = seats as usize;
         Ok(Room {
-            codes: shares(alloc, code, count - 1)?,
+            codes: shares(alloc, code, count)?,
             workers: Vec::with_capacity(alloc, count)?,
             seats: Vec::with_capacity(alloc, count)?,
         })

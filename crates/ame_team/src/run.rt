@@ -1,10 +1,9 @@
 //! A whole run of a program by workers.
 
-ghost use Rattle.std.specs.Prelude.{◌≡◌, ◌≤◌, IfOk, IfErr, vec_len};
+ghost use Rattle.std.specs.Prelude.{◌≡◌, ◌≤◌, length, IfOk, IfErr};
 ghost use Rattle.std.specs.Arc.{arc_value};
 ghost use Rattle.ame_engine.specs.Resuming.{HasResumed};
 ghost use Rattle.ame_engine.specs.Whole.{AreLimits};
-ghost use Rattle.ame_shell.specs.Ends.{ends_of};
 ghost use Rattle.ame_shell.specs.Over.{IsOver, IsOverSince};
 
 use crate::room::Room;
@@ -14,7 +13,7 @@ use ame_engine::Engine;
 use ame_io::Sink;
 use ame_machine::Runner;
 use ame_protocol::Limits;
-use ame_shell::Remains;
+use ame_shell::{Io, Remains};
 use ame_worker::{Gate, Shared};
 use std::alloc::Global;
 use std::sync::{Arc, Wait};
@@ -27,10 +26,9 @@ pub fn run_by_workers<M, K, D, G, R>(
     alloc: Global,
     code: Arc<M::Code>,
     limits: Limits,
-    sink: K,
-    devices: Vec<D>,
+    io: Io<K, D>,
     gate: &G,
-) -> Result<Remains<M::Value, K, D>, (K, Vec<D>)>
+) -> Result<Remains<M::Value, K, D>, Io<K, D>>
 where
     M: Runner + Send,
     M::Code: Drop + Send + Sync,
@@ -40,23 +38,20 @@ where
     G: Gate + Sync,
     R: Threads + Wait + Sync,
     requires limits { AreLimits limits }
-    requires devices { (M.meaning.signature (arc_value code)).devices ≤ vec_len devices }
-    ensures over { IfOk result (λ left. IsOver (M.meaning.program (arc_value code)) (M.meaning.signature (arc_value code)) limits (M.meaning.value_of (arc_value code))
-        (ends_of K.written K.faults D.device_heard D.device_faults sink devices.items)
-        left.ended (ends_of K.written K.faults D.device_heard D.device_faults left.sink left.devices.items)) }
-    ensures sink { IfErr result (λ back. back.0 ≡ sink) }
-    ensures devices { IfErr result (λ back. back.1 ≡ devices) }
+    requires devices { (M.meaning.signature (arc_value code)).devices ≤ length io.ends.told }
+    ensures over { IfOk result (λ left. IsOver (M.meaning.program (arc_value code)) (M.meaning.signature (arc_value code)) limits (M.meaning.value_of (arc_value code)) io.ends left.ended left.io.ends) }
+    ensures back { IfErr result (λ back. back ≡ io) }
 {
-    let Ok(room) = Room::take(alloc, &code, limits.seats) else {
-        return Err((sink, devices));
-    };
     let Ok(share) = Arc::try_clone(&code) else {
-        return Err((sink, devices));
+        return Err(io);
     };
-    let shared = Shared::<M, K, D>::open(alloc, share, limits, sink, devices)?;
-    match run_shared(rt, alloc, code, room, shared, gate, false) {
+    let Ok(room) = Room::take(alloc, code, limits.seats) else {
+        return Err(io);
+    };
+    let shared = Shared::<M, K, D>::open(alloc, share, limits, io)?;
+    match run_shared(rt, room, shared, gate, false) {
         Ok(left) => Ok(left),
-        Err(shared) => Err(shared.into_shell().into_ends()),
+        Err(shared) => Err(shared.into_shell().into_io()),
     }
 }
 
@@ -68,10 +63,9 @@ pub fn resume_by_workers<M, K, D, G, R>(
     alloc: Global,
     code: Arc<M::Code>,
     engine: Engine<M>,
-    sink: K,
-    devices: Vec<D>,
+    io: Io<K, D>,
     gate: &G,
-) -> Result<Remains<M::Value, K, D>, (K, Vec<D>)>
+) -> Result<Remains<M::Value, K, D>, Io<K, D>>
 where
     M: Runner + Send,
     M::Code: Drop + Send + Sync,
@@ -83,18 +77,15 @@ where
     requires opened { HasResumed M.meaning engine.limits engine.base engine }
     requires limits { AreLimits engine.limits }
     requires code { arc_value code ≡ engine.code }
-    requires devices { (M.meaning.signature engine.code).devices ≤ vec_len devices }
-    ensures over { IfOk result (λ left. IsOverSince engine.base (M.meaning.program engine.code) (M.meaning.signature engine.code) engine.limits (M.meaning.value_of engine.code)
-        (ends_of K.written K.faults D.device_heard D.device_faults sink devices.items)
-        left.ended (ends_of K.written K.faults D.device_heard D.device_faults left.sink left.devices.items)) }
-    ensures sink { IfErr result (λ back. back.0 ≡ sink) }
-    ensures devices { IfErr result (λ back. back.1 ≡ devices) }
+    requires devices { (M.meaning.signature engine.code).devices ≤ length io.ends.told }
+    ensures over { IfOk result (λ left. IsOverSince engine.base (M.meaning.program engine.code) (M.meaning.signature engine.code) engine.limits (M.meaning.value_of engine.code) io.ends left.ended left.io.ends) }
+    ensures back { IfErr result (λ back. back ≡ io) }
 {
-    let Ok(room) = Room::take(alloc, &code, engine.limits().seats) else {
-        return Err((sink, devices));
+    let Ok(room) = Room::take(alloc, code, engine.limits().seats) else {
+        return Err(io);
     };
-    let shared = Shared::resume(alloc, engine, sink, devices)?;
-    match run_shared(rt, alloc, code, room, shared, gate, true) {
+    let shared = Shared::resume(alloc, engine, io)?;
+    match run_shared(rt, room, shared, gate, true) {
         Ok(left) => Ok(left),
         Err(shared) => Ok(shared.into_shell().give_up()),
     }

@@ -2,11 +2,10 @@
 
 ghost use Rattle.std.specs.Prelude.{◌≡◌, ◌≤◌, ◌<◌, ◌+◌, ℕ, [], All, Some, ◌++◌, ◌∷◌, length, map, slice_get, vec_len, vec_capacity, slice_index_or};
 ghost use Rattle.std.specs.Arc.{arc_value};
-ghost use Rattle.ame_baton.specs.Batons.{knows, IsSeatOf, IsReadySeat, AreReady};
+ghost use Rattle.ame_baton.specs.Batons.{knows, IsSeatOf};
 ghost use Rattle.ame_baton.specs.Keeping.{KeepsSeat};
 ghost use Rattle.ame_worker.specs.declared.worker.Worker.{Worker};
-ghost use Rattle.ame_worker.specs.Rows.{empty_row};
-ghost use Rattle.ame_team.specs.Teams.{IsFirstSeat, IsSeatAt};
+ghost use Rattle.ame_team.specs.Teams.{IsFirstSeat, IsSeatAt, KeepSeats, AreReadyToTurn, HaveWorked};
 ghost use Rattle.ame_worker.specs.Workers.{IsSeated, IsReadyToTurn, IsThrough};
 
 use ame_baton::{Baton, Seat};
@@ -24,7 +23,6 @@ use std::thread::Threads;
 /// The others stay as they are.
 fn lead<M, K, D, G, R>(
     rt: &R,
-    alloc: Global,
     baton: &Baton<Shared<M, K, D>>,
     gate: &G,
     workers: &mut [Worker<M, K, D>],
@@ -38,17 +36,13 @@ where
     G: Gate,
     R: Wait,
     requires some { 0 < length workers.old }
-    requires of { All (λ w. IsSeatOf baton.now w.seat) workers.old }
-    requires ready { All (λ w. IsReadyToTurn M.meaning (arc_value w.code) w.limits (knows w.seat) w.work) workers.old }
-    ensures count { length workers.new ≡ length workers.old }
+    requires ready { AreReadyToTurn M.meaning baton.now workers.old }
+    ensures ready { AreReadyToTurn M.meaning baton.now workers.new }
+    ensures keep { KeepSeats workers.old workers.new }
     ensures others { (i : ℕ) (d : Worker M K D M.Code M.Value) → i + 1 < length workers.old → slice_index_or workers.new i d ≡ slice_index_or workers.old i d }
-    ensures of { All (λ w. IsSeatOf baton.now w.seat) workers.new }
-    ensures ready { All (λ w. IsReadyToTurn M.meaning (arc_value w.code) w.limits (knows w.seat) w.work) workers.new }
-    ensures keeps { (i : ℕ) (d : Worker M K D M.Code M.Value) → i < length workers.old
-        → KeepsSeat (knows (slice_index_or workers.old i d).seat) (knows (slice_index_or workers.new i d).seat) }
 {
     let last = workers.len() - 1;
-    !gate.may_hold() && workers[last].lead(rt, alloc, baton, gate, are_more)
+    !gate.may_hold() && workers[last].lead(rt, baton, gate, are_more)
 }
 
 /// Each worker of a team works until a stop is kept and it has nothing at work. One leads, and then each has a thread of its own where
@@ -70,15 +64,11 @@ where
     G: Gate + Sync,
     R: Threads + Wait + Sync,
     requires some { 0 < length workers.old }
-    requires of { All (λ w. IsSeatOf baton.now w.seat) workers.old }
-    requires ready { All (λ w. IsReadyToTurn M.meaning (arc_value w.code) w.limits (knows w.seat) w.work) workers.old }
+    requires ready { AreReadyToTurn M.meaning baton.now workers.old }
     ensures count { length workers.new ≡ length workers.old }
-    ensures of { (i : ℕ) (d : Worker M K D M.Code M.Value) → i < length workers.old → IsSeatOf baton.now (slice_index_or workers.new i d).seat }
-    ensures keeps { (i : ℕ) (d : Worker M K D M.Code M.Value) → i < length workers.old
-        → KeepsSeat (knows (slice_index_or workers.old i d).seat) (knows (slice_index_or workers.new i d).seat) }
-    ensures through { (i : ℕ) (d : Worker M K D M.Code M.Value) → i < length workers.old → IsThrough (knows (slice_index_or workers.new i d).seat) }
+    ensures worked { HaveWorked baton.now workers.old workers.new }
 {
-    let is_over = lead(rt, alloc, baton, gate, workers, are_more);
+    let is_over = lead(rt, baton, gate, workers, are_more);
     let threads = if is_over { 1 } else { workers.len() };
     let work = |_: usize, w: &mut Worker<M, K, D>|
         requires { IsSeatOf baton.now w.now.seat × IsReadyToTurn M.meaning (arc_value w.now.code) w.now.limits (knows w.now.seat) w.now.work }

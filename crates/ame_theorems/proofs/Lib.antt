@@ -7,3 +7,4 @@ mod KindLemmas
 mod StoppedLemmas
 mod BackLemmas
 mod RanLemmas
+mod BlockedLemmas

@@ -14,10 +14,8 @@ use ame_shell::Shell;
 pub fn shells_tell_a_run_so_far<M: Runner, K: Sink, D: Device>(shell: &Shell<M, K, D>)
 where
     M::Code: Drop,
-    ensures { (opening : Opening M.Code) → IsShell M.meaning opening (shell_view K.written K.faults D.device_heard D.device_faults shell.now)
-        → opening.base ≡ []
-        → HasShownARun (M.meaning.program opening.code) shell.now.engine.stop opening.ends
-        (shell_view K.written K.faults D.device_heard D.device_faults shell.now).ends }
+    ensures { (opening : Opening M.Code) → IsShell M.meaning opening (shell_view shell.now) → opening.base ≡ []
+        → HasShownARun (M.meaning.program opening.code) shell.now.engine.stop opening.ends shell.now.io.ends }
 {
     shell.engine.stands();
 }

@@ -1,6 +1,6 @@
 -- What a seat knows that gave the turn.
 use Rattle.ame_term.specs.Signature.{Signature}
-use Rattle.std.proofs.Common.{◌≡◌, ℕ, ◌<◌, List, ◌++◌, length, set, Option, Some, slice_get, slice_index_or, sym, ap, ◌∙◌, subst, arith}
+use Rattle.std.proofs.Common.{◌≡◌, ℕ, ◌<◌, List, ◌++◌, set, Option, Some, slice_get, slice_index_or, sym, ap, ◌∙◌, subst, arith}
 use Rattle.std.specs.Prelude.{IsSomeAnd}
 use Rattle.std.proofs.lemmas.List.{get_or-set_same, append_cancel_left}
 use Rattle.std.proofs.lemmas.Option.{slice_get_within}
@@ -10,7 +10,7 @@ use Rattle.ame_engine.specs.Whole.{AreLimits}
 use Rattle.ame_shell.specs.declared.work.Work.{Work}
 use Rattle.ame_shell.specs.Ready.{CanBePrepared, IsPrepared}
 use Rattle.ame_shell.specs.Shell.{ShellView}
-use Rattle.ame_shell.specs.Turned.{IsInOrder}
+use Rattle.ame_shell.specs.Turned.{IsInOrder, MayTurn}
 use Rattle.ame_shell.specs.Work.{stage_at, Fits}
 use Rattle.ame_baton.specs.declared.view.Knows.{Knows}
 use Rattle.ame_baton.specs.Seats.{Takes, MayGive, Gives}
@@ -84,13 +84,13 @@ module _ {C V M : Type 0} (meaning : Meaning C V M) {S : Type 0} (shown_of : S �
         subst (λ (l : Limits). holding.number < l.seats) (sym same-limits) (subst (λ (n : ℕ). n < limits.seats) (sym finds.keeps.number) seated.number)
 
     -- and it is in order
-    pub taken-order : (devices : ℕ) → length (shown_of taken).ends.told ≡ devices → IsInOrder meaning (shown_of taken).core (shown_of taken).sent code devices
-    taken-order devices all =
-        in-order meaning seated.opened (shown_of taken) (places_of taken) (turns_of taken) holding.rows holding.seen was code devices seated.of_code
-        (subst AreLimits (sym seated.of_limits) seated.ranges) seated.enough all
+    taken-order : IsInOrder meaning code (shown_of taken)
+    taken-order =
+        in-order meaning seated.opened (shown_of taken) (places_of taken) (turns_of taken) holding.rows holding.seen was code seated.of_code
+        (subst AreLimits (sym seated.of_limits) seated.ranges) seated.enough
 
     -- what the seat has in flight fits
-    pub taken-fits : (hand : Work M) → IsPrepared meaning.is_machine meaning.stage code limits.slice before.row.hand hand
+    taken-fits : (hand : Work M) → IsPrepared meaning.is_machine meaning.stage code limits.slice before.row.hand hand
         → Fits meaning (shown_of taken).core holding.number hand
     taken-fits hand ready =
         hand-fits meaning seated.opened (shown_of taken) (places_of taken) (turns_of taken) holding.rows holding.seen was holding.number within
@@ -98,6 +98,11 @@ module _ {C V M : Type 0} (meaning : Meaning C V M) {S : Type 0} (shown_of : S �
         (subst (λ (c : C). IsPrepared meaning.is_machine meaning.stage c (shown_of taken).core.limits.slice before.row.hand hand)
         (sym (was.shell.opened.code ∙ seated.of_code))
         (subst (λ (l : Limits). IsPrepared meaning.is_machine meaning.stage code l.slice before.row.hand hand) (sym same-limits) ready))
+
+    -- so it may have its turn
+    pub taken-may : (hand : Work M) → IsPrepared meaning.is_machine meaning.stage code limits.slice before.row.hand hand
+        → MayTurn meaning code holding.number (shown_of taken) hand
+    taken-may hand ready = record { order = taken-order; there = within; fits = taken-fits hand ready }
 
     -- It had turns
     module _ (old new : Work M) (given : S) (led : List (TurnView C V M))
@@ -147,7 +152,7 @@ module _ {C V M : Type 0} (meaning : Meaning C V M) {S : Type 0} (shown_of : S �
             some-is gives.0.row left
             (sym (get_set_here holding.rows holding.number gives.0.row (slice_get_within holding.rows holding.number before.row finds.found))
             ∙ ap (λ (all : List (SeatRow M)). slice_get all holding.number) (sym it.rows)
-            ∙ rows-there new-core (places_of given) holding.number (subst (λ (l : Limits). holding.number < l.seats) (sym played.limits) within)
+            ∙ rows-there new-core (places_of given) holding.number (subst (λ (l : Limits). holding.number < l.seats) (sym played.leaves.limits) within)
             ∙ ap (λ (ps : List (Kept M)). Some (row_of new-core holding.number (slice_index_or ps holding.number nothing_kept))) places
             ∙ ap (λ (x : Kept M). Some (row_of new-core holding.number x))
             (get_or-set_same (places_of taken) holding.number kept nothing_kept (omega (arith, count, there))))

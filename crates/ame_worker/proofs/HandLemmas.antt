@@ -21,8 +21,8 @@ use Rattle.ame_shell.specs.declared.work.Work.{Work}
 use Rattle.ame_shell.specs.Ready.{IsPrepared}
 use Rattle.ame_shell.specs.Work.{Fits}
 use Rattle.ame_shell.proofs.ReadyLemmas.{prepared-fits}
-use Rattle.ame_shell.specs.Shell.{ShellView, Opening, GoesTo, IsShell}
-use Rattle.ame_shell.specs.Turned.{IsInOrder}
+use Rattle.ame_shell.specs.Shell.{ShellView, GoesTo}
+use Rattle.ame_shell.specs.Turned.{IsInOrder, LeavesInOrder}
 use Rattle.ame_worker.specs.Rows.{Kept, SeatRow, nothing_kept, kept_at, row_of, rows_in}
 use Rattle.ame_worker.specs.Shared.{OpenedView, opening_of, keeping, IsShared}
 use Rattle.ame_worker.specs.Slots.{Slot, SlotsStay, slot_at}
@@ -86,18 +86,15 @@ module _ {C V M : Type 0} (meaning : Meaning C V M) where
     pub joined : now ≡ turns ++ led
     pub follows : Turns meaning taken led given
     pub each : AreOfSeat meaning code taken.core.limits.slice seat old led new
-    pub keeps : (opening : Opening C) → IsShell meaning opening taken → IsShell meaning opening given
-    pub limits : given.core.limits ≡ taken.core.limits
-    pub fits : Fits meaning given.core seat new
-    pub others : (other : ℕ) (rest : Work M) → other ≢ seat → Fits meaning taken.core other rest → Fits meaning given.core other rest
+    pub leaves : LeavesInOrder meaning code seat taken given new
     pub keeping_it : kept ≡ set places seat (keeping given.core new)
 
   module _ (opened : OpenedView C V M) (old : ShellView C V M) (places : List (Kept M)) (turns : List (TurnView C V M)) (rows : List (SeatRow M))
       (told : List (TurnView C V M)) (was : IsShared meaning opened old places turns rows told) where
     -- the shell is in order
-    pub in-order : (code : C) (devices : ℕ) → opened.made.core.code ≡ code → AreLimits opened.made.core.limits
-        → (meaning.signature code).devices ≤ length opened.made.ends.told → length old.ends.told ≡ devices → IsInOrder meaning old.core old.sent code devices
-    in-order code devices of_code ranges enough all =
+    pub in-order : (code : C) → opened.made.core.code ≡ code → AreLimits opened.made.core.limits
+        → (meaning.signature code).devices ≤ length opened.made.ends.told → IsInOrder meaning code old
+    in-order code of_code ranges enough =
         let same : old.core.code ≡ code = was.shell.opened.code ∙ of_code in
         record {
           same = sym same;
@@ -105,7 +102,7 @@ module _ {C V M : Type 0} (meaning : Meaning C V M) where
           enough =
               let heard = was.shell.opened.heard.count in
               let few = subst (λ (c : C). (meaning.signature c).devices ≤ length opened.made.ends.told) (sym same) enough in
-              omega (arith, heard, all, few);
+              omega (arith, heard, few);
           within =
               sent-within old.core.stop old.sent (opening_of opened).ends.write_faults old.ends.write_faults (lines old.core.output) was.shell.sends.goes;
         }
@@ -141,7 +138,7 @@ module _ {C V M : Type 0} (meaning : Meaning C V M) where
         stay = others-stay meaning code old.core.limits.slice seat old new led played.follows its-turns
 
         seats : new.core.limits.seats ≡ old.core.limits.seats
-        seats = ap (λ (l : Limits). l.seats) played.limits
+        seats = ap (λ (l : Limits). l.seats) played.leaves.limits
 
         there : seat < length places
         there = let count = was.count in omega (arith, count, within)
@@ -152,10 +149,10 @@ module _ {C V M : Type 0} (meaning : Meaning C V M) where
             by : (other ≡ seat) ⊎ ((other ≡ seat) → ⊥) → Fits meaning new.core other (kept_at given other).hand
             by (inl same) =
                 subst (λ (n : ℕ). Fits meaning new.core n (kept_at given n).hand) (sym same)
-                (subst (λ (x : Kept M). Fits meaning new.core seat x.hand) (sym (kept-here places seat kept there)) played.fits)
+                (subst (λ (x : Kept M). Fits meaning new.core seat x.hand) (sym (kept-here places seat kept there)) played.leaves.may.fits)
             by (inr apart) =
                 subst (λ (x : Kept M). Fits meaning new.core other x.hand) (sym (kept-else places seat other kept apart))
-                (played.others other (kept_at places other).hand apart (was.fits other (let s = seats in omega (arith, s, in_range))))
+                (played.leaves.others other (kept_at places other).hand apart (was.fits other (let s = seats in omega (arith, s, in_range))))
 
         marks-all : (other : ℕ) → (kept_at given other).marked ≡ true → IsSome new.core.stop
         marks-all other marked = by (which other seat)
@@ -180,7 +177,7 @@ module _ {C V M : Type 0} (meaning : Meaning C V M) where
 
         set-on : IsShared meaning opened new given (turns ++ led) (set rows seat (row_of new.core seat kept)) (told ++ led)
         set-on = record {
-          shell = played.keeps (opening_of opened) was.shell;
+          shell = played.leaves.keeps (opening_of opened) was.shell;
           count = length-set places seat kept ∙ was.count ∙ sym seats;
           fits = fits-all;
           marks = marks-all;

@@ -5,7 +5,7 @@ use Rattle.ame_machine.specs.Meaning.{Meaning}
 use Rattle.ame_shell.specs.declared.work.Work.{Work}
 use Rattle.ame_shell.specs.Ready.{IsPrepared}
 use Rattle.ame_shell.specs.Shell.{ShellView}
-use Rattle.ame_shell.specs.Work.{Fits}
+use Rattle.ame_shell.specs.Turned.{MayTurn, LeavesInOrder}
 use Rattle.ame_worker.specs.Leads.{commits, rests, is_heavy, hands_over, LeadsOn, HasLedOn, RestsAtStop}
 use Rattle.ame_worker.specs.Turns.{TurnView, IsTurn, Turns, AreOfSeat}
 use Rattle.ame_worker.proofs.TurnLemmas.{turns-append, turns-once, of-seat-more}
@@ -52,22 +52,24 @@ module _ {C V M : Type 0} (meaning : Meaning C V M) where
     pub joined : now ≡ turns ++ led
     pub follows : Turns meaning old led new
     pub each : AreOfSeat meaning code old.core.limits.slice seat hand led left
+    pub leaves : LeavesInOrder meaning code seat old new left
     pub goes : GoesOn code old.core.limits.seats are_more led more
 
   module _ (code : C) (seat : ℕ) (are_more : Bool) (old : ShellView C V M) (turns : List (TurnView C V M)) (hand : Work M) where
-    pub leads-none : IsLeading code seat are_more old turns hand old turns hand are_more
-    leads-none = record {
+    pub leads-none : MayTurn meaning code seat old hand → IsLeading code seat are_more old turns hand old turns hand are_more
+    leads-none may = record {
       led = [];
       joined = sym (append-nil turns);
       follows = refl;
       each = refl;
+      leaves = record { keeps = λ opening h. h; may = may; limits = refl; others = λ other rest apart h. h };
       goes = refl;
     }
 
     module _ (mid : ShellView C V M) (so_far : List (TurnView C V M)) (work : Work M) (more : Bool) (leads : IsLeading code seat are_more old turns hand mid so_far work more)
         (t : TurnView C V M) (is : IsTurn meaning t) (from : t.old ≡ mid) (own : t.seat ≡ seat)
         (ready : IsPrepared meaning.is_machine meaning.stage code old.core.limits.slice work t.hand)
-        (now : List (TurnView C V M)) (joins : now ≡ so_far ++ t ∷ []) (left : Work M) (fits : Fits meaning t.new.core seat left) where
+        (now : List (TurnView C V M)) (joins : now ≡ so_far ++ t ∷ []) (left : Work M) (leaves : LeavesInOrder meaning code seat mid t.new left) where
       abbrev all : List (TurnView C V M)
       all = leads.led ++ t ∷ []
 
@@ -80,7 +82,15 @@ module _ {C V M : Type 0} (meaning : Meaning C V M) where
           (subst (λ (s : ShellView C V M). Turns meaning s (t ∷ []) t.new) from (turns-once meaning t is))
 
       each : AreOfSeat meaning code old.core.limits.slice seat hand all left
-      each = of-seat-more meaning code old.core.limits.slice seat leads.led hand work left t leads.each own ready fits
+      each = of-seat-more meaning code old.core.limits.slice seat leads.led hand work left t leads.each own ready leaves.may.fits
+
+      both-leave : LeavesInOrder meaning code seat old t.new left
+      both-leave = record {
+        keeps = λ opening h. leaves.keeps opening (leads.leaves.keeps opening h);
+        may = leaves.may;
+        limits = leaves.limits ∙ leads.leaves.limits;
+        others = λ other rest apart h. leaves.others other rest apart (leads.leaves.others other rest apart h);
+      }
 
       -- it goes on
       pub leads-more : hands_over meaning code old.core.limits.seats more t ≡ false
@@ -90,6 +100,7 @@ module _ {C V M : Type 0} (meaning : Meaning C V M) where
         joined = joined;
         follows = follows;
         each = each;
+        leaves = both-leave;
         goes = goes-more code old.core.limits.seats are_more leads.led more t leads.goes stays;
       }
 
@@ -98,9 +109,7 @@ module _ {C V M : Type 0} (meaning : Meaning C V M) where
           → (is_over ≡ true → RestsAtStop t.new.core seat) → HasLedOn meaning code seat are_more old turns hand t.new now left is_over
       leads-until is_over over rests = record {
         led = all;
-        joined = joined;
-        follows = follows;
-        each = each;
+        had = record { joined = joined; follows = follows; each = each; leaves = both-leave };
         until = goes-until code old.core.limits.seats are_more leads.led more t leads.goes over;
         over = rests;
       }

@@ -1,10 +1,9 @@
 -- A shell that was just opened.
 use Rattle.std.proofs.Common.{◌≡◌, ℕ, true, false, List, [], refl, sym, ap, ◌∙◌, subst}
-use Rattle.std.specs.Prelude.{None, Result, Ok, Err, IfOk, replicate, Option}
+use Rattle.std.specs.Prelude.{None, Result, Ok, Err, IfOk, replicate}
 use Rattle.std.proofs.lemmas.List.{length-replicate}
 use Rattle.ame_term.specs.Tree.{Val}
 use Rattle.ame_rows.specs.MemoryView.{Log, row_at}
-use Rattle.ame_device.specs.declared.told.Heard.{Heard}
 use Rattle.ame_protocol.specs.declared.types.Limits.{Limits}
 use Rattle.ame_protocol.specs.declared.types.Task.{Task}
 use Rattle.ame_protocol.specs.declared.stop.Stop.{Stop}
@@ -19,33 +18,24 @@ use Rattle.ame_journal.specs.declared.entry.Entry.{Entry}
 use Rattle.ame_engine.specs.Seen.{parts_of}
 use Rattle.ame_engine.specs.Stops.{stopped_by}
 use Rattle.ame_shell.specs.Work.{Fits}
-use Rattle.ame_shell.specs.Ends.{Ends}
-use Rattle.ame_shell.specs.Shell.{ShellView, Opening, shown, IsShell}
+use Rattle.ame_shell.specs.Ends.{Ends, IoView}
+use Rattle.ame_shell.specs.Shell.{ShellView, Opening, shell_view, IsShell}
 use Rattle.ame_shell.specs.Turned.{HasFlushed}
 use Rattle.ame_shell.proofs.OverLemmas.{shell-starts, shell-resumes}
 use Rattle.ame_worker.specs.Rows.{Kept, nothing_kept, empty_row, kept_at, row_of}
+use Rattle.ame_worker.specs.declared.shared.Shared.{Shared}
+use Rattle.ame_worker.specs.Opened.{IsAround, IsOpenedBy}
+use Rattle.ame_worker.specs.Turns.{TurnView}
 use Rattle.ame_worker.specs.Shared.{OpenedView, opened_from, opening_from, opening_of, IsShared}
 use Rattle.ame_worker.specs.Slots.{Slot, slot_at, empty_slot}
 use Rattle.ame_worker.proofs.IdleLemmas.{AreUnused, unused-slot, map-all-same, replicate-at}
 use Rattle.ame_worker.proofs.HandLemmas.{row-same}
 use Rattle.ame_machine.specs.Meaning.{Meaning}
 
--- what is so of a result by several facts of it
-pub if-ok-by : {T E : Type 0} (r : Result T E) (A B C D F H I G : T → Type 0) → ((x : T) → A x → B x → C x → D x → F x → H x → I x → G x)
-    → IfOk r A → IfOk r B → IfOk r C → IfOk r D → IfOk r F → IfOk r H → IfOk r I → IfOk r G
-if-ok-by (Ok x) A B C D F H I G by a b c d f h i = by x a b c d f h i
-if-ok-by (Err e) A B C D F H I G by a b c d f h i = tt
-
--- what contracts see of a shell that has this engine, has sent so much, and has this sink and these devices
-pub shown-same : {C V M K D : Type 0} (written : K → Option (List ℕ)) (faults : K → ℕ) (heard : D → Option (List Heard)) (device_faults : D → ℕ)
-    (core was : Core C V M) (sent so_far : ℕ) (sink before : K) (devices all : List D)
-    → core ≡ was → sent ≡ so_far → sink ≡ before → devices ≡ all
-    → shown written faults heard device_faults core sent sink devices ≡ shown written faults heard device_faults was so_far before all
-shown-same written faults heard device_faults core was sent so_far sink before devices all engine bytes end tools =
-    ap (λ it. shown written faults heard device_faults it sent sink devices) engine
-    ∙ ap (λ it. shown written faults heard device_faults was it sink devices) bytes
-    ∙ ap (λ it. shown written faults heard device_faults was so_far it devices) end
-    ∙ ap (λ it. shown written faults heard device_faults was so_far before it) tools
+-- what is so of a result by another fact of it
+pub if-ok-by : {T E : Type 0} (r : Result T E) (A B : T → Type 0) → ((x : T) → A x → B x) → IfOk r A → IfOk r B
+if-ok-by (Ok x) A B by a = by x a
+if-ok-by (Err e) A B by a = tt
 
 module _ {C V M : Type 0} (meaning : Meaning C V M) where
   -- a shell is to be shared whose engine did nothing for a seat
@@ -91,9 +81,6 @@ module _ {C V M : Type 0} (meaning : Meaning C V M) where
   module _ (core : Core C V M) (code : C) (limits : Limits) (ends : Ends) (same : core.code ≡ code)
       (starts : parts_of meaning core ≡ started (meaning.program code) (meaning.signature code) limits 0)
       (fresh : state_of meaning core ≡ started_state (meaning.program code) (meaning.signature code) limits) where
-    seats : core.limits.seats ≡ limits.seats
-    seats = ap (λ (p : Parts). p.limits.seats) starts
-
     abbrev shell : ShellView C V M
     shell = record { core = core; sent = 0; ends = ends }
 
@@ -106,12 +93,31 @@ module _ {C V M : Type 0} (meaning : Meaning C V M) where
         ∙ ap (λ (l : Limits). let it : Opening C = record { code = code; limits = l; base = core.base; ends = ends } in it) (ap (λ (p : Parts). p.limits) starts)
         ∙ ap (λ (b : List Entry). let it : Opening C = record { code = code; limits = limits; base = b; ends = ends } in it) (ap (λ (p : Parts). p.base) starts)
 
-    pub shared-starts : IsShared meaning (opened_from shell shell) shell (replicate core.limits.seats nothing_kept) [] (replicate limits.seats empty_row) []
+    shared-starts : IsShared meaning (opened_from shell shell) shell (replicate core.limits.seats nothing_kept) [] (replicate core.limits.seats empty_row) []
     shared-starts =
-        subst (λ (n : ℕ). IsShared meaning (opened_from shell shell) shell (replicate core.limits.seats nothing_kept) [] (replicate n empty_row) []) seats
-        (shared-opens (opened_from shell shell) shell refl
+        shared-opens (opened_from shell shell) shell refl
         (subst (λ (o : Opening C). IsShell meaning o shell) (sym opening-started) (shell-starts meaning core code limits ends same starts fresh))
-        unused-started)
+        unused-started
+
+  -- and workers are about to share it
+  pub opened-started : {K D : Type 0} (core : Core C V M) (code : C) (limits : Limits) (io : IoView K D) → core.code ≡ code
+      → parts_of meaning core ≡ started (meaning.program code) (meaning.signature code) limits 0
+      → state_of meaning core ≡ started_state (meaning.program code) (meaning.signature code) limits
+      → (shared : Shared M K D C V) → IsAround core io shared
+      → IsOpenedBy meaning (record { code = code; limits = limits; base = []; ends = io.ends }) shared
+  opened-started core code limits io same starts fresh shared around =
+      let shell : ShellView C V M = record { core = core; sent = 0; ends = io.ends } in
+      let is : shell_view shared.shell.value ≡ shell = ap shell_view around.shell in
+      let made : shell_view shared.made.value ≡ shell = ap shell_view around.made ∙ is in
+      record {
+        opened = ap opening_from made ∙ opening-started core code limits io.ends same starts fresh;
+        unused =
+            subst (λ (x : ShellView C V M). IsShared meaning (opened_from x (shell_view shared.shell.value)) (shell_view shared.shell.value) shared.places.items shared.turns (replicate x.core.limits.seats empty_row) []) (sym made)
+            (subst (λ (x : ShellView C V M). IsShared meaning (opened_from shell x) x shared.places.items shared.turns (replicate core.limits.seats empty_row) []) (sym is)
+            (subst (λ (ps : List (Kept M)). IsShared meaning (opened_from shell shell) shell ps shared.turns (replicate core.limits.seats empty_row) []) (sym around.places)
+            (subst (λ (ts : List (TurnView C V M)). IsShared meaning (opened_from shell shell) shell (replicate core.limits.seats nothing_kept) ts (replicate core.limits.seats empty_row) []) (sym around.turns)
+            (shared-starts core code limits io.ends same starts fresh))));
+      }
 
   -- where an engine was opened from a base, whose lines were sent then
   module _ (core : Core C V M) (ends : Ends) (resumed : HasResumed meaning core.limits core.base core) where

@@ -1,5 +1,5 @@
 -- How long a seat leads.
-use Rattle.std.specs.Prelude.{◌≡◌, ℕ, ◌||◌, ◌&&◌, ◌++◌, Bool, true, false, List, [], ◌∷◌, nat_le, nat_lt, IsSome}
+use Rattle.std.specs.Prelude.{◌≡◌, ℕ, ◌||◌, ◌&&◌, Bool, true, false, List, [], ◌∷◌, nat_le, nat_lt, IsSome}
 use Rattle.ame_machine.specs.Meaning.{Meaning}
 use Rattle.ame_protocol.specs.declared.types.Task.{Task}
 use Rattle.ame_protocol.specs.Engine.Parts.{task_at}
@@ -8,7 +8,7 @@ use Rattle.ame_shell.specs.declared.work.Outcome.{Outcome}
 use Rattle.ame_shell.specs.declared.work.Work.{Work}
 use Rattle.ame_shell.specs.declared.work.Work.TheVariants as work
 use Rattle.ame_shell.specs.Shell.{ShellView}
-use Rattle.ame_worker.specs.Turns.{TurnView, Turns, AreOfSeat}
+use Rattle.ame_worker.specs.Turns.{TurnView, HasHadTurns}
 
 -- a fragment of so many steps is work enough for others to help
 abbrev pub heavy : ℕ
@@ -54,8 +54,6 @@ module _ {C V M : Type 0} (meaning : Meaning C V M) where
   pub record HasLedOn (code : C) (seat : ℕ) (are_more : Bool) (old : ShellView C V M) (turns : List (TurnView C V M)) (hand : Work M)
       (new : ShellView C V M) (now : List (TurnView C V M)) (left : Work M) (is_over : Bool) : Type 0 where
     pub led : List (TurnView C V M)
-    pub joined : now ≡ turns ++ led
-    pub follows : Turns meaning old led new
-    pub each : AreOfSeat meaning code old.core.limits.slice seat hand led left
+    pub had : HasHadTurns meaning code seat hand old turns new now left led
     pub until : LeadsOn code old.core.limits.seats are_more led
     pub over : is_over ≡ true → RestsAtStop new.core seat

@@ -2,7 +2,9 @@ pub mod Slots
 pub mod Rows
 pub mod Turns
 pub mod Shared
+pub mod Opened
 pub mod Points
 pub mod Leads
 pub mod Led
 pub mod Workers
+pub mod Holding

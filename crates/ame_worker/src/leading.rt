@@ -1,11 +1,10 @@
 //! A seat that has one turn after another, while no other seat has any.
 
-ghost use Rattle.std.specs.Prelude.{◌≡◌, ◌≢◌, ◌<◌, ℕ, vec_len};
+ghost use Rattle.std.specs.Prelude.{◌≡◌};
 ghost use Rattle.std.specs.Arc.{arc_value};
 ghost use Rattle.ame_baton.specs.Batons.{knows};
 ghost use Rattle.ame_shell.specs.Ready.{CanBePrepared};
-ghost use Rattle.ame_shell.specs.Turned.{IsInOrder};
-ghost use Rattle.ame_shell.specs.Work.{Fits};
+ghost use Rattle.ame_shell.specs.Turned.{MayTurn};
 ghost use Rattle.ame_worker.specs.Leads.{commits, is_heavy as is_heavy_by, rests};
 
 use crate::gate::Gate;
@@ -16,7 +15,6 @@ use ame_device::Device;
 use ame_io::Sink;
 use ame_machine::Runner;
 use ame_shell::{Outcome, Work, prepare_seat};
-use std::alloc::Global;
 use std::sync::Wait;
 
 /// A fragment of so many steps is work enough for others to help: it takes as long as its turns, which only one worker has at a time.
@@ -50,8 +48,7 @@ impl<M: Runner, K: Sink, D: Device> Worker<M, K, D>
 where
     M::Code: Drop,
 {
-    ghost use Rattle.ame_shell.specs.declared.work.Work.{Work};
-    ghost use Rattle.ame_shell.specs.Shell.{shell_view, Opening, IsShell};
+    ghost use Rattle.ame_shell.specs.Shell.{shell_view};
     ghost use Rattle.ame_worker.specs.Leads.{HasLedOn};
 
     /// Has turns on a shell until a stop is kept and the seat has nothing at work, or no ready member may begin, or others could help:
@@ -60,30 +57,18 @@ where
     pub(crate) fn lead_on<R: Wait, G: Gate>(
         &mut self,
         rt: &R,
-        alloc: Global,
         gate: &G,
         shared: &mut Shared<M, K, D>,
         mut are_more: bool,
     ) -> bool
-        requires order { IsInOrder M.meaning shared.old.shell.value.engine shared.old.shell.value.sent (arc_value self.old.code) (vec_len shared.old.shell.value.devices) }
-        requires seat { (knows self.old.seat).number < shared.old.shell.value.engine.limits.seats }
-        requires fits { Fits M.meaning shared.old.shell.value.engine (knows self.old.seat).number self.old.work }
+        requires may { MayTurn M.meaning (arc_value self.old.code) (knows self.old.seat).number (shell_view shared.old.shell.value) self.old.work }
         ensures led { HasLedOn M.meaning (arc_value self.old.code) (knows self.old.seat).number are_more
-            (shell_view K.written K.faults D.device_heard D.device_faults shared.old.shell.value) shared.old.turns self.old.work
-            (shell_view K.written K.faults D.device_heard D.device_faults shared.new.shell.value) shared.new.turns self.new.work result }
-        ensures keeps { (opening : Opening M.Code)
-            → IsShell M.meaning opening (shell_view K.written K.faults D.device_heard D.device_faults shared.old.shell.value)
-            → IsShell M.meaning opening (shell_view K.written K.faults D.device_heard D.device_faults shared.new.shell.value) }
-        ensures order { IsInOrder M.meaning shared.new.shell.value.engine shared.new.shell.value.sent (arc_value self.old.code) (vec_len shared.new.shell.value.devices) }
-        ensures limits { shared.new.shell.value.engine.limits ≡ shared.old.shell.value.engine.limits }
-        ensures fits { Fits M.meaning shared.new.shell.value.engine (knows self.old.seat).number self.new.work }
-        ensures others { (other : ℕ) (rest : Work M) → other ≢ (knows self.old.seat).number → Fits M.meaning shared.old.shell.value.engine other rest
-            → Fits M.meaning shared.new.shell.value.engine other rest }
+            (shell_view shared.old.shell.value) shared.old.turns self.old.work (shell_view shared.new.shell.value) shared.new.turns self.new.work result }
         ensures can { CanBePrepared M.meaning.is_machine M.meaning.stage (arc_value self.old.code) shared.new.shell.value.engine.limits.slice self.new.work }
-        ensures rest { shared.new.places ≡ shared.old.places }
-        ensures made { shared.new.made ≡ shared.old.made }
+        ensures rest { shared.new ≡ record shared.old { shell = shared.new.shell; turns = shared.new.turns } }
         ensures worker { self.new ≡ record self.old { work = self.new.work } }
     {
+        let alloc = *shared.places.allocator();
         let seat = self.seat.number();
         let has_others = shared.shell.engine.limits().seats > 1;
         for _ in rt.forever() {

@@ -1,12 +1,9 @@
 //! A shell that workers share.
 
-ghost use Rattle.std.specs.Prelude.{◌≡◌, ◌≢◌, ◌<◌, ◌++◌, ◌∷◌, [], ℕ, vec_len, slice_set};
-ghost use Rattle.ame_protocol.specs.Engine.Parts.{member_of, task_at};
-ghost use Rattle.ame_shell.specs.declared.work.Work.{Work};
+ghost use Rattle.std.specs.Prelude.{◌≡◌, ◌<◌, vec_len, slice_set};
 ghost use Rattle.ame_shell.specs.Ready.{CanBePrepared};
-ghost use Rattle.ame_shell.specs.Shell.{shell_view, Opening, IsShell};
-ghost use Rattle.ame_shell.specs.Turned.{IsInOrder, member_told};
-ghost use Rattle.ame_shell.specs.Work.{Fits};
+ghost use Rattle.ame_shell.specs.Shell.{shell_view};
+ghost use Rattle.ame_shell.specs.Turned.{MayTurn, LeavesInOrder};
 ghost use Rattle.ame_worker.specs.Shared.{keeping};
 
 use crate::turns::{Before, TurnRecord};
@@ -64,7 +61,7 @@ impl<M: Runner, K: Sink, D: Device> Shared<M, K, D>
 where
     M::Code: Drop,
 {
-    ghost use Rattle.ame_worker.specs.Turns.{IsTurn, maker};
+    ghost use Rattle.ame_worker.specs.Turns.{turn_by, HasJoined};
 
     /// The shell, which nobody shares any more.
     pub fn into_shell(self) -> Shell<M, K, D>
@@ -81,36 +78,12 @@ where
 
     /// One event of a seat that has the turn, which joins the turns.
     pub(crate) fn play(&mut self, code: &M::Code, seat: u32, work: &mut Work<M>) -> Turn
-        requires order { IsInOrder M.meaning self.old.shell.value.engine self.old.shell.value.sent code.now (vec_len self.old.shell.value.devices) }
-        requires seat { seat < self.old.shell.value.engine.limits.seats }
-        requires fits { Fits M.meaning self.old.shell.value.engine seat work.old }
-        ensures turns { self.new.turns ≡ self.old.turns ++ record {
-          seat = seat;
-          hand = work.old;
-          old = shell_view K.written K.faults D.device_heard D.device_faults self.old.shell.value;
-          outcome = result.outcome;
-          new = shell_view K.written K.faults D.device_heard D.device_faults self.new.shell.value;
-        } ∷ [] }
-        ensures turned { IsTurn M.meaning (record {
-          seat = seat;
-          hand = work.old;
-          old = shell_view K.written K.faults D.device_heard D.device_faults self.old.shell.value;
-          outcome = result.outcome;
-          new = shell_view K.written K.faults D.device_heard D.device_faults self.new.shell.value;
-        }) }
-        ensures member { result.member ≡ member_told (member_of (task_at self.old.shell.value.engine.tasks seat))
-            (member_of (task_at self.new.shell.value.engine.tasks seat)) }
-        ensures keeps { (opening : Opening M.Code)
-            → IsShell M.meaning opening (shell_view K.written K.faults D.device_heard D.device_faults self.old.shell.value)
-            → IsShell M.meaning opening (shell_view K.written K.faults D.device_heard D.device_faults self.new.shell.value) }
-        ensures order { IsInOrder M.meaning self.new.shell.value.engine self.new.shell.value.sent code.now (vec_len self.new.shell.value.devices) }
-        ensures limits { self.new.shell.value.engine.limits ≡ self.old.shell.value.engine.limits }
-        ensures fits { Fits M.meaning self.new.shell.value.engine seat work.new }
-        ensures others { (other : ℕ) (rest : Work M) → other ≢ seat → Fits M.meaning self.old.shell.value.engine other rest
-            → Fits M.meaning self.new.shell.value.engine other rest }
+        requires may { MayTurn M.meaning code.now seat (shell_view self.old.shell.value) work.old }
+        ensures joins { HasJoined M.meaning (turn_by seat work.old (shell_view self.old.shell.value) result.outcome (shell_view self.new.shell.value))
+            result.member self.old.turns self.new.turns }
+        ensures leaves { LeavesInOrder M.meaning code.now seat (shell_view self.old.shell.value) (shell_view self.new.shell.value) work.new }
         ensures can { CanBePrepared M.meaning.is_machine M.meaning.stage code.now self.new.shell.value.engine.limits.slice work.new }
-        ensures rest { self.new.places ≡ self.old.places }
-        ensures made { self.new.made ≡ self.old.made }
+        ensures rest { self.new ≡ record self.old { shell = self.new.shell; turns = self.new.turns } }
     {
         self.shell.engine.stands();
         let before = Before::of(work, &self.shell);
@@ -150,8 +123,8 @@ where
     ghost Value = { OpenedView M.Code M.Value M };
 
     ghost view = { λ o. record {
-      made = shell_view K.written K.faults D.device_heard D.device_faults o.made.value;
-      first = shell_view K.written K.faults D.device_heard D.device_faults o.first.value;
+      made = shell_view o.made.value;
+      first = shell_view o.first.value;
     } };
 }
 
@@ -184,11 +157,11 @@ where
     ghost use Rattle.ame_worker.specs.Turns.{maker};
 
     ghost stands_for = { λ s opened rows told. IsShared M.meaning opened
-        (shell_view K.written K.faults D.device_heard D.device_faults s.shell.value) s.places.items s.turns rows told };
+        (shell_view s.shell.value) s.places.items s.turns rows told };
 
     ghost opening = { λ s. record {
-      made = shell_view K.written K.faults D.device_heard D.device_faults s.made.value;
-      first = shell_view K.written K.faults D.device_heard D.device_faults s.shell.value;
+      made = shell_view s.made.value;
+      first = shell_view s.shell.value;
     } };
 
     ghost seats_in = { λ opened. opened.made.core.limits.seats };

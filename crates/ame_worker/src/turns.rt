@@ -2,6 +2,7 @@
 
 ghost use Rattle.std.specs.Prelude.{◌≡◌};
 ghost use Rattle.ame_shell.specs.Shell.{shell_view};
+ghost use Rattle.ame_worker.specs.Turns.{turn_by};
 
 use ame_device::Device;
 use ame_io::Sink;
@@ -28,17 +29,11 @@ where
     M::Code: Drop,
 {
     ghost use Rattle.ame_shell.specs.Shell.{shell_view};
-    ghost use Rattle.ame_worker.specs.Turns.{TurnView};
+    ghost use Rattle.ame_worker.specs.Turns.{TurnView, turn_by};
 
     ghost Value = { TurnView M.Code M.Value M };
 
-    ghost view = { λ t. record {
-      seat = t.seat;
-      hand = t.hand.value;
-      old = shell_view K.written K.faults D.device_heard D.device_faults t.old.value;
-      outcome = t.outcome;
-      new = shell_view K.written K.faults D.device_heard D.device_faults t.new.value;
-    } };
+    ghost view = { λ t. turn_by t.seat t.hand.value (shell_view t.old.value) t.outcome (shell_view t.new.value) };
 }
 
 /// What a turn of a seat begins with, as contracts see it.
@@ -68,13 +63,7 @@ where
 
     /// The turn of a seat from here to this shell.
     pub fn to(self, seat: u32, outcome: Outcome, shell: &Shell<M, K, D>) -> TurnRecord<M, K, D>
-        ensures { result ≡ record {
-          seat = seat;
-          hand = self.hand.value;
-          old = shell_view K.written K.faults D.device_heard D.device_faults self.shell.value;
-          outcome = outcome;
-          new = shell_view K.written K.faults D.device_heard D.device_faults shell.now;
-        } }
+        ensures { result ≡ turn_by seat self.hand.value (shell_view self.shell.value) outcome (shell_view shell.now) }
     {
         let Before { hand, shell: old } = self;
         TurnRecord {

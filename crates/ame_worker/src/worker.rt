@@ -8,7 +8,9 @@ ghost use Rattle.ame_baton.specs.Seats.{IsElsewhere};
 ghost use Rattle.ame_baton.specs.declared.turn.passing.Elsewhere.{Elsewhere};
 ghost use Rattle.ame_worker.specs.declared.gate.Point.{Point};
 ghost use Rattle.ame_worker.specs.Rows.{empty_row};
-ghost use Rattle.ame_worker.specs.Led.{HasHadTurn, HasLedOrNot};
+ghost use Rattle.ame_worker.specs.Leads.{RestsAtStop};
+ghost use Rattle.ame_worker.specs.Led.{HasLed, HasHadTurn, HasLedOrNot};
+ghost use Rattle.ame_worker.specs.Holding.{HasTheTurn};
 ghost use Rattle.ame_worker.specs.Workers.{IsSeated, IsReadyToTurn, IsThrough};
 
 use crate::gate::{Gate, Point};
@@ -82,6 +84,26 @@ where
         }
     }
 
+    /// Keeps the seat's work in flight in the shell, and gives the turn.
+    fn hand_over<R: Wait>(
+        &mut self,
+        rt: &R,
+        baton: &Baton<Shared<M, K, D>>,
+        mut shared: Shared<M, K, D>,
+    )
+        requires of { IsSeatOf baton.now self.old.seat }
+        requires holds { HasTheTurn M.meaning (arc_value self.old.code) self.old.limits (knows self.old.seat) self.old.work shared }
+        ensures of { IsSeatOf baton.now self.new.seat }
+        ensures led { (h : HasTheTurn M.meaning (arc_value self.old.code) self.old.limits (knows self.old.seat) self.old.work shared)
+            → HasLed M.meaning (arc_value self.old.code) self.old.limits.slice h.before (knows self.new.seat) h.had self.old.work h.led }
+        ensures through { RestsAtStop shared.shell.value.engine (knows self.old.seat).number → IsThrough (knows self.new.seat) }
+        ensures rest { self.new ≡ record self.old { seat = self.new.seat } }
+    {
+        let number = self.seat.number();
+        shared.keep(number, &self.work);
+        baton.give::<AnyRow, R>(rt, &mut self.seat, shared);
+    }
+
     /// The worker's machine makes steps, without the turn. Then, if the turn is there, it makes one event of its seat and gives the
     /// turn back, and passes the gate. It doesn't wait for the turn.
     pub fn turn<R: Wait, G: Gate>(
@@ -113,8 +135,7 @@ where
         };
         let number = self.seat.number();
         let turn = shared.play(code, number, &mut self.work);
-        shared.keep(number, &self.work);
-        baton.give::<AnyRow, R>(rt, &mut self.seat, shared);
+        self.hand_over(rt, baton, shared);
         let point = point_of(turn);
         gate.pass(number, point);
         Turned::Did(point)
@@ -126,7 +147,6 @@ where
     pub fn lead<R: Wait, G: Gate>(
         &mut self,
         rt: &R,
-        alloc: Global,
         baton: &Baton<Shared<M, K, D>>,
         gate: &G,
         are_more: bool,
@@ -145,10 +165,8 @@ where
         let Ok(mut shared) = baton.try_take(rt, &mut self.seat) else {
             return false;
         };
-        let is_over = self.lead_on(rt, alloc, gate, &mut shared, are_more);
-        let seat = self.seat.number();
-        shared.keep(seat, &self.work);
-        baton.give::<AnyRow, R>(rt, &mut self.seat, shared);
+        let is_over = self.lead_on(rt, gate, &mut shared, are_more);
+        self.hand_over(rt, baton, shared);
         is_over
     }
 

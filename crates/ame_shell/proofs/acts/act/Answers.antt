@@ -1,28 +1,33 @@
-use Rattle.std.proofs.Common.{sym, ◌∙◌}
-use Rattle.std.proofs.lemmas.List.{length-map}
-use Rattle.ame_device.specs.Calls.{told}
-use Rattle.ame_shell.proofs.RestLemmas.{made-leaves}
-use Rattle.ame_shell.proofs.ReadyLemmas.{can-prepare}
-use Rattle.ame_shell.proofs.DoneLemmas.{told-counts}
+use Rattle.std.proofs.Common.{refl, ap, ◌∙◌}
+use Rattle.std.specs.Prelude.{is_some}
+use Rattle.ame_shell.proofs.DoneLemmas.{none-kept, lacked}
 use Rattle.ame_shell.proofs.acts.act.Goals as goal
 
-pub returns-clause-others : goal.returns-clause-others
-returns-clause-others g c = λ other rest apart fits. (made-leaves g.M.Runner.meaning c.args.engine.now c.event-outcome.new.engine c.args.seat c.stands.ensures _ _ _ _ c.event-outcome.ensures.done.event).others other rest apart fits
+pub returns-then-is_some-clause-done : goal.returns-then-is_some-clause-done
+returns-then-is_some-clause-done g c = c.undo_on.ensures.done _ _
 
-pub returns-clause-code : goal.returns-clause-code
-returns-clause-code g c = (made-leaves g.M.Runner.meaning c.args.engine.now c.event-outcome.new.engine c.args.seat c.stands.ensures _ _ _ _ c.event-outcome.ensures.done.event).code
+pub returns-then-is_some-clause-lacks : goal.returns-then-is_some-clause-lacks
+returns-then-is_some-clause-lacks g c = record {
+  unready = λ unready going. absurd (let stops = c.if-is_some.ensures ∙ ap is_some c.stopped.ensures in let none = ap is_some going in cc);
+  due = λ _. c.undo_on.ensures.due _;
+}
 
-pub returns-clause-limits : goal.returns-clause-limits
-returns-clause-limits g c = (made-leaves g.M.Runner.meaning c.args.engine.now c.event-outcome.new.engine c.args.seat c.stands.ensures _ _ _ _ c.event-outcome.ensures.done.event).limits
+pub returns-then-not-is_ready-clause-done : goal.returns-then-not-is_ready-clause-done
+returns-then-not-is_ready-clause-done g c =
+    lacked g.M.Runner.meaning c.args.engine.now c.args.seat _ c.args.engine.now c.give_up.new.engine _ _ refl
+    (none-kept _ (c.if-is_some.ensures ∙ ap is_some c.stopped.ensures)) c.give_up.ensures.halts c.give_up.ensures.engine c.give_up.ensures.outcome
 
-pub returns-clause-can : goal.returns-clause-can
-returns-clause-can g c =
-    can-prepare g.M.Runner.meaning c.event-outcome.new.engine c.args.seat _ c.stands-2.ensures c.event-outcome.ensures.fits c.limits_are_small.ensures.slice
-    c.limits_are_small.ensures.turns
+pub returns-then-not-is_ready-clause-lacks : goal.returns-then-not-is_ready-clause-lacks
+returns-then-not-is_ready-clause-lacks g c = record {
+  unready = λ _ _. c.give_up.ensures.outcome;
+  due = λ ready. absurd (c.if-not-is_ready.ensures.no refl ready);
+}
 
-pub returns-clause-count : goal.returns-clause-count
-returns-clause-count g c =
-    let same = told-counts g.M.Runner.meaning c.args.seat _ c.args.engine.now c.event-outcome.new.engine _ _ _ c.event-outcome.ensures.done in
-    let all = length-map c.event-outcome.new.devices.items (λ d. told (g.D.Device.device_heard d) (g.D.Device.device_faults d)) in
-    let before = length-map c.args.devices.now.items (λ d. told (g.D.Device.device_heard d) (g.D.Device.device_faults d)) in
-    c.has_its_length-2.ensures ∙ sym all ∙ same ∙ before ∙ sym c.has_its_length.ensures
+pub returns-in-Undoing-clause-done : goal.returns-in-Undoing-clause-done
+returns-in-Undoing-clause-done g c = c.undo_on-in-Undoing.ensures.done _ _
+
+pub returns-in-Undoing-clause-lacks : goal.returns-in-Undoing-clause-lacks
+returns-in-Undoing-clause-lacks g c = record {
+  unready = λ unready going. absurd (unready (c.if-not-is_ready.ensures.yes refl));
+  due = λ _. c.undo_on-in-Undoing.ensures.due _;
+}

@@ -6,7 +6,6 @@ use Rattle.ame_engine.specs.Ending.{End}
 use Rattle.ame_protocol.specs.Event.Sound.{Sound}
 use Rattle.ame_protocol.specs.Event.State.{State}
 use Rattle.ame_protocol.proofs.Event.SoundLemmas.{sound-start}
-use Rattle.ame_shell.specs.Ends.{ends_of}
 use Rattle.ame_shell.specs.Shell.{Opening}
 use Rattle.ame_sim.specs.Picks.{picks_of}
 use Rattle.ame_sim.specs.Run.{IsPlaying}
@@ -20,7 +19,7 @@ returns-clause-over g c =
       code = arc_value c.args.code;
       limits = c.args.limits;
       base = [];
-      ends = ends_of g.K.Sink.written g.K.Sink.faults g.D.Device.device_heard g.D.Device.device_faults c.args.sink c.args.devices.items;
+      ends = c.args.io.ends;
     } in
     c.finish.ensures.over opening (c.unwind_all.ensures.keeps opening (c.play.ensures.keeps opening c.in-Ok-open.ensures.opens))
 
@@ -36,7 +35,7 @@ returns-clause-played g c =
       code = arc_value c.args.code;
       limits = c.args.limits;
       base = [];
-      ends = ends_of g.K.Sink.written g.K.Sink.faults g.D.Device.device_heard g.D.Device.device_faults c.args.sink c.args.devices.items;
+      ends = c.args.io.ends;
     } in
     let accepted = g.met.M.Runner.accepted (arc_value c.args.code) in
     let sound = sound-start (r.program opening.code) (r.signature opening.code) opening.limits accepted

@@ -1,6 +1,8 @@
 use Rattle.std.proofs.Common.{◌≡◌, ℕ, ◌+◌, ◌<◌, ◌≤◌, All, vec_len, vec_capacity, List, length, map, slice_index_or, Some, IsSome, slice_get, sym, ap, ◌∙◌, subst, arith}
 use Rattle.std.specs.Arc.{arc_value}
-use Rattle.std.proofs.lemmas.List.{length-map, take_at}
+use Rattle.std.specs.Prelude.{option_to_list, IfSome}
+use Rattle.std.proofs.lemmas.List.{take_at}
+use Rattle.std.proofs.lemmas.List.Elements.{All-pop}
 use Rattle.std.proofs.lemmas.Option.{slice_get-get_or}
 use Rattle.ame_engine.specs.Ending.{end_of}
 use Rattle.ame_engine.specs.Whole.{AreLimits}
@@ -9,11 +11,11 @@ use Rattle.ame_shell.specs.Shell.{ShellView, shell_view, IsShell}
 use Rattle.ame_protocol.specs.declared.types.Limits.{Limits}
 use Rattle.ame_protocol.specs.declared.types.Task.{Task}
 use Rattle.ame_protocol.specs.Engine.Parts.{task_at}
-use Rattle.ame_device.specs.Calls.{told}
 use Rattle.ame_baton.specs.Batons.{knows, IsSeatOf}
 use Rattle.ame_worker.specs.declared.shared.Shared.{Shared}
 use Rattle.ame_worker.specs.declared.worker.Worker.{Worker}
-use Rattle.ame_worker.specs.Shared.{OpenedView, opened_from, opening_of, IsShared}
+use Rattle.ame_worker.specs.Opened.{opened_now}
+use Rattle.ame_worker.specs.Shared.{OpenedView, opening_of, IsShared}
 use Rattle.ame_worker.specs.Workers.{IsReadyToTurn}
 use Rattle.ame_team.specs.Teams.{IsSeatAt, HasBeenLedBy}
 use Rattle.ame_team.proofs.AfterLemmas.{AreThrough, are-through}
@@ -23,18 +25,27 @@ use Rattle.ame_team.proofs.shared.run_shared.Goals.{After-baton-1, After-seats_o
 use Rattle.ame_team.proofs.shared.run_shared.Goals as goal
 
 abbrev view : (g : given.Over) → Shell g.row.M.Denot g.row.K.Denot g.row.D.Denot g.row.M-Code.Denot g.row.M-Value.Denot → ShellView g.row.M-Code.Denot g.row.M-Value.Denot g.row.M.Denot
-view g shell = shell_view g.K.Sink.written g.K.Sink.faults g.D.Device.device_heard g.D.Device.device_faults shell
+view g shell = shell_view shell
 
 -- how a shell was opened
 abbrev opened : (g : given.Over) → Shared g.row.M.Denot g.row.K.Denot g.row.D.Denot g.row.M-Code.Denot g.row.M-Value.Denot → OpenedView g.row.M-Code.Denot g.row.M-Value.Denot g.row.M.Denot
-opened g shared = opened_from (view g shared.made.value) (view g shared.shell.value)
+opened g shared = opened_now shared
 
 -- the limits are those with which the shell was made
 limits-are : (g : given.Over) (c : After-baton-1 g) → c.limits-limits.result.now ≡ c.args.shared.made.value.engine.limits
-limits-are g c = c.limits-limits.ensures ∙ ap (λ it. it.engine.limits) c.deref.ensures ∙ c.requires.stands.shell.opened.limits
+limits-are g c = c.limits-limits.ensures ∙ ap (λ it. it.engine.limits) c.deref.ensures ∙ c.requires.unused.shell.opened.limits
 
 abbrev seats-are : (g : given.Over) (c : After-baton-1 g) → c.limits-limits.result.now.seats ≡ c.args.shared.made.value.engine.limits.seats
 seats-are g c = ap (λ (l : Limits). l.seats) (limits-are g c)
+
+-- each share is one of the code with which the shell was made
+shares-are : (g : given.Over) (c : After-baton-1 g)
+    → All (λ it. arc_value it ≡ c.args.shared.made.value.engine.code) c.pop.new.self.items × (arc_value c.in-Some.code ≡ c.args.shared.made.value.engine.code)
+shares-are g c =
+    let code = c.args.shared.made.value.engine.code in
+    let all = subst (λ codes. All (λ it. arc_value it ≡ code) codes.items) (sym c.into_parts-codes.ensures.codes) c.requires.room.codes in
+    let split = All-pop (λ it. arc_value it ≡ code) c.into_parts-codes.result.0.items c.pop.new.self.items c.pop.result c.pop.ensures.items all in
+    (split.0, subst (λ o. IfSome o (λ it. arc_value it ≡ code)) c.in-Some.is split.1)
 
 pub team-workers-requires-clause-seated : goal.team-workers-requires-clause-seated
 team-workers-requires-clause-seated g c =
@@ -43,18 +54,14 @@ team-workers-requires-clause-seated g c =
     let made = c.in-Ok.ensures.first in
     let limits = limits-are g c in
     let seats = seats-are g c in
+    let code = (shares-are g c).1 in
     record {
       opened = opened g shared;
       is = ap (λ k. k.fixed) made;
-      of_code = sym c.requires.code;
+      of_code = sym code;
       of_limits = sym limits;
       ranges = subst AreLimits (sym limits) c.requires.limits;
-      enough =
-          let devices = shared.made.value.devices in
-          let told = length-map devices.items (λ d. told (g.D.Device.device_heard d) (g.D.Device.device_faults d)) in
-          let all = devices.ok.0 in
-          let few = c.requires.devices in
-          omega (arith, told, all, few);
+      enough = subst (λ k. (r.signature k).devices ≤ length shared.made.value.io.ends.told) (sym code) c.requires.devices;
       number =
           subst (λ n. n < c.limits-limits.result.now.seats) (sym (ap (λ k. k.number) made))
           (let some = c.requires.limits.some_seats in omega (arith, some, seats));
@@ -63,16 +70,24 @@ team-workers-requires-clause-seated g c =
 
 pub team-workers-requires-clause-count : goal.team-workers-requires-clause-count
 team-workers-requires-clause-count g c =
-    ap (λ codes. vec_len codes + 1) c.into_parts-codes.ensures.codes ∙ c.requires.count ∙ sym (seats-are g c)
+    let fewer = subst (λ o. vec_len c.pop.new.self + length (option_to_list o) ≡ vec_len c.into_parts-codes.result.0) c.in-Some.is c.pop.ensures.len in
+    let all = ap (λ codes. vec_len codes) c.into_parts-codes.ensures.codes in
+    let count = c.requires.room.count in
+    let seats = seats-are g c in
+    omega (arith, fewer, all, count, seats)
 
 pub team-workers-requires-clause-codes : goal.team-workers-requires-clause-codes
 team-workers-requires-clause-codes g c =
-    subst (λ codes. All (λ it. arc_value it ≡ arc_value c.args.code) codes.items) (sym c.into_parts-codes.ensures.codes) c.requires.codes
+    let shares = shares-are g c in
+    subst (λ k. All (λ it. arc_value it ≡ k) c.pop.new.self.items) (sym shares.1) shares.0
+
+pub team-workers-requires-clause-none : goal.team-workers-requires-clause-none
+team-workers-requires-clause-none g c = ap (λ ws. ws.items) c.into_parts-codes.ensures.workers ∙ c.requires.room.no_workers
 
 pub team-workers-requires-clause-room : goal.team-workers-requires-clause-room
 team-workers-requires-clause-room g c =
     subst (λ n. n ≤ vec_capacity c.into_parts-codes.result.1) (sym (seats-are g c))
-    (subst (λ ws. c.args.shared.made.value.engine.limits.seats ≤ vec_capacity ws) (sym c.into_parts-codes.ensures.workers) c.requires.workers)
+    (subst (λ ws. c.args.shared.made.value.engine.limits.seats ≤ vec_capacity ws) (sym c.into_parts-codes.ensures.workers) c.requires.room.workers)
 
 pub work_all-requires-clause-some : goal.work_all-requires-clause-some
 work_all-requires-clause-some g c κs lives =
@@ -81,17 +96,16 @@ work_all-requires-clause-some g c κs lives =
     let some = c.requires.limits.some_seats in
     omega (arith, len, seats, some)
 
-pub work_all-requires-clause-of : goal.work_all-requires-clause-of
-work_all-requires-clause-of g c κs lives = λ i d in_range.
-    let items = c.as_mut_slice.ensures.value in
-    subst (λ (ws : List (Worker g.row.M.Denot g.row.K.Denot g.row.D.Denot g.row.M-Code.Denot g.row.M-Value.Denot)). IsSeatOf c.in-Ok.made.0 (slice_index_or ws i d).seat) (sym items)
-    (c.team-workers.ensures.seats i (slice_index_or c.team-workers.result.items i d)
-    (slice_get-get_or c.team-workers.result.items i d (subst (λ ws. i < length ws) items in_range))).of
-
 pub work_all-requires-clause-ready : goal.work_all-requires-clause-ready
 work_all-requires-clause-ready g c κs lives =
-    subst (All (λ w. IsReadyToTurn g.M.Runner.meaning (arc_value w.code) w.limits (knows w.seat) w.work)) (sym c.as_mut_slice.ensures.value)
-    c.team-workers.ensures.ready
+    let items = c.as_mut_slice.ensures.value in
+    record {
+      of = λ i d in_range.
+          subst (λ (ws : List (Worker g.row.M.Denot g.row.K.Denot g.row.D.Denot g.row.M-Code.Denot g.row.M-Value.Denot)). IsSeatOf c.in-Ok.made.0 (slice_index_or ws i d).seat) (sym items)
+          (c.team-workers.ensures.seats i (slice_index_or c.team-workers.result.items i d)
+          (slice_get-get_or c.team-workers.result.items i d (subst (λ ws. i < length ws) items in_range))).of;
+      ready = subst (All (λ w. IsReadyToTurn g.M.Runner.meaning (arc_value w.code) w.limits (knows w.seat) w.work)) (sym items) c.team-workers.ensures.ready;
+    }
 
 pub seats_of-first-requires-clause-some : goal.seats_of-first-requires-clause-some
 seats_of-first-requires-clause-some g c =
@@ -100,11 +114,14 @@ seats_of-first-requires-clause-some g c =
     let some = c.requires.limits.some_seats in
     omega (arith, count, seats, some)
 
+pub seats_of-first-requires-clause-none : goal.seats_of-first-requires-clause-none
+seats_of-first-requires-clause-none g c = ap (λ s. s.items) c.into_parts-codes.ensures.seats ∙ c.requires.room.no_seats
+
 pub seats_of-first-requires-clause-room : goal.seats_of-first-requires-clause-room
 seats_of-first-requires-clause-room g c =
     let count = c.team-workers.ensures.count in
     let seats = seats-are g (goal.at.seats_of-first-requires-clause-room g c).After-baton-1 in
-    let room = subst (λ s. c.args.shared.made.value.engine.limits.seats ≤ vec_capacity s) (sym c.into_parts-codes.ensures.seats) c.requires.seats in
+    let room = subst (λ s. c.args.shared.made.value.engine.limits.seats ≤ vec_capacity s) (sym c.into_parts-codes.ensures.seats) c.requires.room.places in
     omega (arith, count, seats, room)
 
 -- the seats once all workers are through
@@ -121,7 +138,7 @@ through g c =
     let same = ap length value ∙ sym c.team-workers.result.ok.0 in
     let after = c.work_all.ensures in
     let all = ap (map (λ (w : Worker g.row.M.Denot g.row.K.Denot g.row.D.Denot g.row.M-Code.Denot g.row.M-Value.Denot). w.seat)) (sym (take_at new _ c.team-workers.result.len (after.count ∙ same))) ∙ c.seats_of-first.ensures.all in
-    are-through baton fixed count c.as_mut_slice.result.now new (same ∙ c.team-workers.ensures.count) after.count placed after.of after.keeps after.through
+    are-through baton fixed count c.as_mut_slice.result.now new (same ∙ c.team-workers.ensures.count) after.count placed after.worked.of after.worked.keeps after.worked.through
     c.seats_of-first.result.0 c.seats_of-first.result.1.items all
 
 pub end-requires-clause-first : goal.end-requires-clause-first

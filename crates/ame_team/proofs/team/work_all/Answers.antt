@@ -13,7 +13,7 @@ use Rattle.ame_baton.proofs.turn.Baton.TheSendSync as baton
 use Rattle.ame_baton.specs.Batons.{knows, IsSeatOf}
 use Rattle.ame_baton.specs.Keeping.{KeepsSeat}
 use Rattle.ame_baton.proofs.Keeping.{keeps_both}
-use Rattle.ame_worker.specs.Workers.{IsReadyToTurn}
+use Rattle.ame_worker.specs.Workers.{IsReadyToTurn, IsThrough}
 use Rattle.ame_team.proofs.CrossLemmas.{shared-send, worker-send, four-sync}
 use Rattle.ame_team.proofs.team.work_all.Goals as goal
 
@@ -37,14 +37,24 @@ for_each_mut-requires-sync-F g c κs within =
 
 pub for_each_mut-requires-clause-accepts : goal.for_each_mut-requires-clause-accepts
 for_each_mut-requires-clause-accepts g c κs within = λ i p in_range same. (
-  subst (λ w. IsSeatOf c.args.baton.now w.seat) (sym same) (c.lead-is_over.ensures.of i p.now in_range),
-  subst (λ w. IsReadyToTurn g.M.Runner.meaning (arc_value w.code) w.limits (knows w.seat) w.work) (sym same) (c.lead-is_over.ensures.ready i p.now in_range),
+  subst (λ w. IsSeatOf c.args.baton.now w.seat) (sym same) (c.lead-is_over.ensures.ready.of i p.now in_range),
+  subst (λ w. IsReadyToTurn g.M.Runner.meaning (arc_value w.code) w.limits (knows w.seat) w.work) (sym same) (c.lead-is_over.ensures.ready.ready i p.now in_range),
 )
 
-pub returns-clause-keeps : goal.returns-clause-keeps
-returns-clause-keeps g c = λ i d in_range.
+pub returns-clause-worked : goal.returns-clause-worked
+returns-clause-worked g c =
+    let keep = c.lead-is_over.ensures.keep in
     let led = c.lead-is_over.new.workers in
-    let change = (c.for_each_mut.ensures i d (subst (λ n. i < n) (sym c.lead-is_over.ensures.count) in_range)).1 in
-    keeps_both _ _ _ (c.lead-is_over.ensures.keeps i d in_range)
-    (subst (λ w. KeepsSeat (knows (slice_index_or led i d).seat) (knows w.seat)) change.left
-    (subst (λ w. KeepsSeat (knows w.seat) (knows change.after_call.now.seat)) change.argument_is change.call.1.0))
+    record {
+      keeps = λ i d in_range.
+          let it = (c.for_each_mut.ensures i d (subst (λ n. i < n) (sym keep.count) in_range)).1 in
+          keeps_both _ _ _ (keep.each i d in_range)
+          (subst (λ w. KeepsSeat (knows (slice_index_or led i d).seat) (knows w.seat)) it.left
+          (subst (λ w. KeepsSeat (knows w.seat) (knows it.after_call.now.seat)) it.argument_is it.call.1.0));
+      of = λ i d in_range.
+          let it = (c.for_each_mut.ensures i d (subst (λ n. i < n) (sym keep.count) in_range)).1 in
+          subst (λ w. IsSeatOf c.args.baton.now w.seat) it.left it.call.0;
+      through = λ i d in_range.
+          let it = (c.for_each_mut.ensures i d (subst (λ n. i < n) (sym keep.count) in_range)).1 in
+          subst (λ w. IsThrough (knows w.seat)) it.left it.call.1.1;
+    }

@@ -4,5 +4,5 @@ use Rattle.ame_theorems.proofs.so_far.shells_tell_a_run_so_far.Goals as goal
 
 pub returns : goal.returns
 returns g c = λ opening h none.
-    shell-shown g.M.Runner.meaning opening (shell_view g.K.Sink.written g.K.Sink.faults g.D.Device.device_heard g.D.Device.device_faults c.args.shell.now)
+    shell-shown g.M.Runner.meaning opening (shell_view c.args.shell.now)
     c.stands.ensures h none

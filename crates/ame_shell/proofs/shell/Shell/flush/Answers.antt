@@ -13,6 +13,6 @@ returns-in-Err-clause-flushes g c =
     let rest : take (length text - sent) (drop sent text) ≡ drop sent (lines c.args.self.now.engine.output) =
     take_rest text sent ∙ ap (drop sent) c.text-text.ensures.lines in
     HasFlushed.fails gone
-    (subst (λ (t : List ℕ). AppendsFirst gone (g.K.Sink.written c.args.self.now.sink) (g.K.Sink.written c.write_all.new.sink) t) rest c.in-Err.ensures.gone)
+    (subst (λ (t : List ℕ). AppendsFirst gone c.args.self.now.io.ends.written c.write_all.new.self.ends.written t) rest c.in-Err.ensures.gone)
     (subst (λ (t : List ℕ). gone < length t) rest c.in-Err.ensures.short)
     c.in-Err.ensures.risen c.stop.ensures.stops refl

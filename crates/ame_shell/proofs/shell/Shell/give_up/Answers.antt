@@ -1,7 +1,7 @@
 use Rattle.std.proofs.Common.{◌≡◌, ℕ, sym, subst}
 use Rattle.ame_protocol.specs.declared.types.Task.{Task}
 use Rattle.ame_protocol.specs.Engine.Parts.{task_at}
-use Rattle.ame_shell.specs.Shell.{shown, IsShell}
+use Rattle.ame_shell.specs.Shell.{IsShell}
 use Rattle.ame_shell.proofs.OverLemmas.{lacking-keeps}
 use Rattle.ame_shell.proofs.shell.Shell.give_up.Goals as goal
 
@@ -13,5 +13,5 @@ returns-clause-over g c = λ opening h.
     let r = g.M.Runner.meaning in
     let was = c.args.self in
     c.finish.ensures.over opening
-    (subst (λ core. IsShell r opening (shown g.K.Sink.written g.K.Sink.faults g.D.Device.device_heard g.D.Device.device_faults core was.sent was.sink was.devices.items))
+    (subst (λ core. IsShell r opening (record { core = core; sent = was.sent; ends = was.io.ends }))
     (sym c.stop.ensures.stops) (lacking-keeps r opening _ h))

@@ -1,5 +1,5 @@
 -- Why there is no code of a text.
-use Rattle.std.proofs.Common.{◌≡◌, ℕ, [], Option, Some, None, Result, Ok, Err, IfSome, IfOk, sym, ap, subst, Vec, Global}
+use Rattle.std.proofs.Common.{◌≡◌, ℕ, inr, [], Option, Some, None, Result, Ok, Err, IfSome, IfOk, sym, ap, subst, Vec, Global}
 use Rattle.ame_lex.specs.Bytes.{Text}
 use Rattle.ame_lex.specs.declared.tokens.LexFault.{LexFault}
 use Rattle.ame_lex.specs.declared.tokens.Token.{Token}
@@ -35,7 +35,7 @@ text-refused one call command front text asked (Status.Text fault) none =
     by_text fault (record { command = command; front = front; asked = asked; cause = none })
 text-refused one call command front text asked (Status.Types fault) ill =
     by_types fault (record { command = command; front = front; asked = asked; cause = ill })
-text-refused one call command front text asked Status.NoMemory free = by_memory (asked-left one call command front text asked)
+text-refused one call command front text asked Status.NoMemory free = by_memory (inr (command, front, asked)) (asked-left one call command front text asked)
 text-refused one call command front text asked status bad = absurd bad
 
 -- what is so of a value that may be there

@@ -1,6 +1,5 @@
 -- What the status of a call must be.
 use Rattle.std.proofs.Common.{◌≡◌, ◌≢◌, ◌⊎◌, inl, inr, ℕ, ◌<◌, ◌≤◌, List, ◌++◌, length, Option, Some, None, Result, Ok, Err, IfSome, refl, sym, ap, ◌∙◌, subst, arith}
-use Rattle.std.specs.Prelude.{IsSome}
 use Rattle.ame_io.specs.Counts.{HasNotRisen}
 use Rattle.ame_io.specs.Reads.{whole_limit}
 use Rattle.ame_io.specs.Lines.{lines}
@@ -32,12 +31,13 @@ use Rattle.ame_app.specs.declared.parts.Front.{Front}
 use Rattle.ame_app.specs.declared.parts.Own.{Own}
 use Rattle.ame_app.specs.declared.status.Status.{Status}
 use Rattle.ame_app.specs.Verbs.{reads_source, TakesInput, Declines, Settles, options_of, written_behind}
-use Rattle.ame_app.specs.Verbs.Weak.{told_by}
+use Rattle.ame_app.specs.Left.{end_in}
+use Rattle.ame_app.specs.Reported.{RunView, Reported}
 use Rattle.ame_app.specs.Calls.{Call, Given, Asks}
 use Rattle.ame_app.specs.Texts.{why_of, IsNoProgram, IsIllTyped, IsAcceptedText}
 use Rattle.ame_app.specs.Causes.{RefusalCause, RunCause, CommandCause, status_at, status_of}
 use Rattle.ame_app.specs.Causes.RefusalCause.{by_words, by_source, by_length, by_input, by_text, by_types, by_program, by_memory}
-use Rattle.ame_app.specs.Headline.{Reported, DevicesTell, DevicesTellIfAble, DevicesTellOf, Headline, IsTurnedAway, IsWritten, verdict_of}
+use Rattle.ame_app.specs.Headline.{DevicesTell, DevicesTellIfAble, DevicesTellOf, Headline, IsTurnedAway, IsWritten, verdict_of}
 use Rattle.ame_app.specs.Complete.{IsGivenBytes, IsGivenText, IsGivenInVain, IsUnread, IsRefused, NothingFailed, IsUnlessMemory, TellsFault, TellsRule, TellsEnd, TellsEndWith, TellsOutcome, TellsInput, TellsDevice, IsComplete}
 use Rattle.ame_app.specs.Answered.{IsPromised}
 use Rattle.ame_app.specs.Verdict.{verdict}
@@ -235,21 +235,21 @@ asked-stays call command front text asked =
 
 module _ (one : SpellOne) (call : Call) (report : Text) where
   usage-refusal : (ahead : List ℕ) (own : Own) (told : Status) → SpellsNothing call.words → RefusalCause call report ahead own told → IsUnlessMemory Status.Usage told
-  usage-refusal ahead own told nothing (by_words u) = inl refl
-  usage-refusal ahead own told nothing (by_source r) = absurd (nothing r.reader.command r.reader.spelled)
-  usage-refusal ahead own told nothing (by_length long) = absurd (nothing long.reader.command long.reader.spelled)
-  usage-refusal ahead own told nothing (by_input other d) = absurd (nothing d.command d.spelled)
+  usage-refusal ahead own told nothing (by_words none u) = inl refl
+  usage-refusal ahead own told nothing (by_source none r) = absurd (nothing r.reader.command r.reader.spelled)
+  usage-refusal ahead own told nothing (by_length none long) = absurd (nothing long.reader.command long.reader.spelled)
+  usage-refusal ahead own told nothing (by_input other none d) = absurd (nothing d.command d.spelled)
   usage-refusal ahead own told nothing (by_text fault un) = absurd (nothing un.command un.asked.spelled)
   usage-refusal ahead own told nothing (by_types fault ill) = absurd (nothing ill.command ill.asked.spelled)
   usage-refusal ahead own told nothing (by_program bytes held other s) = absurd (nothing s.command s.asked.spelled)
-  usage-refusal ahead own told nothing (by_memory c) = inr refl
+  usage-refusal ahead own told nothing (by_memory text_is c) = inr refl
 
   text-refusal : (ahead : List ℕ) (own : Own) (told : Status) (command : Command) → SpellsCommand call.words command
       → HasNotRisen call.source.faults call.source_after.faults → RefusalCause call report ahead own told → TellsInput command told
-  text-refusal ahead own told command spelled still (by_words u) = absurd (u.words command spelled)
-  text-refusal ahead own told command spelled still (by_source r) = absurd (HasNotRisen-excludes call.source.faults call.source_after.faults still r.faults)
-  text-refusal ahead own told command spelled still (by_length long) = inl tt
-  text-refusal ahead own told command spelled still (by_input other d) =
+  text-refusal ahead own told command spelled still (by_words none u) = absurd (u.words command spelled)
+  text-refusal ahead own told command spelled still (by_source none r) = absurd (HasNotRisen-excludes call.source.faults call.source_after.faults still r.faults)
+  text-refusal ahead own told command spelled still (by_length none long) = inl tt
+  text-refusal ahead own told command spelled still (by_input other none d) =
       inr (inl (d.bytes, subst (λ (k : Command). Declines k d.bytes other) (one call.words d.command command d.spelled spelled) d.declines))
   text-refusal ahead own told command spelled still (by_text fault un) = inl tt
   text-refusal ahead own told command spelled still (by_types fault ill) = inl tt
@@ -257,19 +257,19 @@ module _ (one : SpellOne) (call : Call) (report : Text) where
       let tree = s.accepted.source.tree in
       let settles = subst (λ (k : Command). Settles k s.front tree bytes held other) (one call.words s.command command s.asked.spelled spelled) s.settles in
       inr (inr (s.front, tree, inl (bytes, held, settles)))
-  text-refusal ahead own told command spelled still (by_memory c) = inl tt
+  text-refusal ahead own told command spelled still (by_memory text_is c) = inl tt
 
   source-refusal : (ahead : List ℕ) (own : Own) (told : Status) → call.source.faults < call.source_after.faults → RefusalCause call report ahead own told → told ≡ Status.ReadFault
-  source-refusal ahead own told rises (by_words u) = absurd (let stayed = ap (λ (g : Given). g.faults) u.source in omega (arith, stayed, rises))
-  source-refusal ahead own told rises (by_source r) = refl
-  source-refusal ahead own told rises (by_length long) = absurd (let stayed = long.faults in omega (arith, stayed, rises))
-  source-refusal ahead own told rises (by_input other d) =
+  source-refusal ahead own told rises (by_words none u) = absurd (let stayed = ap (λ (g : Given). g.faults) u.source in omega (arith, stayed, rises))
+  source-refusal ahead own told rises (by_source none r) = refl
+  source-refusal ahead own told rises (by_length none long) = absurd (let stayed = long.faults in omega (arith, stayed, rises))
+  source-refusal ahead own told rises (by_input other none d) =
       absurd (let stayed = input-stays (reads_source d.command) call.source call.source_after d.bytes d.input in omega (arith, stayed, rises))
   source-refusal ahead own told rises (by_text fault un) = absurd (let stayed = asked-stays call un.command un.front report un.asked in omega (arith, stayed, rises))
   source-refusal ahead own told rises (by_types fault ill) = absurd (let stayed = asked-stays call ill.command ill.front report ill.asked in omega (arith, stayed, rises))
   source-refusal ahead own told rises (by_program bytes held other s) =
       absurd (let stayed = asked-stays call s.command s.front report s.asked in omega (arith, stayed, rises))
-  source-refusal ahead own told rises (by_memory c) = absurd (let stayed = c.faults in omega (arith, stayed, rises))
+  source-refusal ahead own told rises (by_memory text_is c) = absurd (let stayed = c.faults in omega (arith, stayed, rises))
 
 -- Where a run was begun, or none
 
@@ -303,10 +303,10 @@ module _ (call : Call) (before after : Ends) (n : NothingFailed call before afte
 
 module _ (one : SpellOne) (call : Call) (before after : Ends) (n : NothingFailed call before after) (bytes : List ℕ) (given : IsGivenBytes call bytes) where
   due-refusal : (report : Text) (ahead : List ℕ) (own : Own) (told : Status) → RefusalCause call report ahead own told → Due given.command bytes call.devices told
-  due-refusal report ahead own told (by_words u) = absurd (u.words given.command given.spelled)
-  due-refusal report ahead own told (by_source r) = absurd (HasNotRisen-excludes call.source.faults call.source_after.faults n.source r.faults)
-  due-refusal report ahead own told (by_length long) = is_long refl (given-more one call bytes given whole_limit long.reader long.given)
-  due-refusal report ahead own told (by_input other d) =
+  due-refusal report ahead own told (by_words none u) = absurd (u.words given.command given.spelled)
+  due-refusal report ahead own told (by_source none r) = absurd (HasNotRisen-excludes call.source.faults call.source_after.faults n.source r.faults)
+  due-refusal report ahead own told (by_length none long) = is_long refl (given-more one call bytes given whole_limit long.reader long.given)
+  due-refusal report ahead own told (by_input other none d) =
       let same = input-given one call bytes given d.command d.spelled d.bytes d.input in
       is_declined (subst (λ (k : Command). Declines k bytes other) (command-is one call bytes given d.command d.spelled)
       (subst (λ (l : List ℕ). Declines d.command l other) same d.declines)) (subst (λ (l : List ℕ). length l ≤ whole_limit) same d.most)
@@ -321,16 +321,16 @@ module _ (one : SpellOne) (call : Call) (before after : Ends) (n : NothingFailed
       (subst (λ (k : Command). Settles k s.front s.accepted.source.tree more held other) (command-is one call bytes given s.command s.asked.spelled) s.settles)
       (asked-takes one call bytes given s.command s.front report s.asked)
       (asked-most one call bytes given s.command s.front report whole_limit s.asked s.asked.text_is.most)
-  due-refusal report ahead own told (by_memory c) = lacks refl
+  due-refusal report ahead own told (by_memory text_is c) = lacks refl
 
-  due-run : (report : Reported) (left end : End Val) → Headline call report left end before after → Due given.command bytes call.devices report.status
-  due-run report left end h =
-      let spoken = h.spoken (sink-held report.status (lines h.final.state.output ++ (verdict_of end ++ written_behind h.command report.own (status_of end))) before after h.output n.sink) in
-      let run = run-told call before after n h.command (status_of end) h.options end h.final h.cause in
+  due-run : (report : Reported) (run : RunView) (end : End Val) → Headline call report run end before after → Due given.command bytes call.devices report.status
+  due-run report run end h =
+      let spoken = h.spoken (sink-held report.status (lines h.final.state.output ++ (verdict_of end ++ written_behind h.command run.left (status_of end))) before after h.output n.sink) in
+      let ended = run-told call before after n h.command (status_of end) h.options end h.final h.cause in
       let source = source_of h.compiled.accepted.program in
       let is = command-is one call bytes given h.command h.asked.spelled in
       is_run h.front h.text (record { source = source; reads = h.program.reads; typed = h.program.typed })
-      (subst (λ (o : Option Options). TellsEndWith o report.status) (sym h.with_options ∙ ap options_of is) (subst TellsEnd (sym spoken) run))
+      (subst (λ (o : Option Options). TellsEndWith o report.status) (sym h.with_options ∙ ap options_of is) (subst TellsEnd (sym spoken) ended))
       (λ ahead own told settles. begins-unsettled h.command h.front source.tree end.base h.begun ahead own told
       (subst (λ (k : Command). Settles k h.front source.tree ahead own told) (sym is) settles))
       (asked-takes one call bytes given h.command h.front h.text h.asked)
@@ -363,12 +363,12 @@ module _ (one : SpellOne) (call : Call) (status : Status) (before after : Ends)
       due-settled g.given.command g.bytes call.devices status g.most g.front text g.takes good ahead own told settles (due n g.bytes g.given)
 
 module _ (one : SpellOne) (call : Call) (report : Reported) (before after : Ends) where
-  complete-run : (left end : End Val) → Headline call report left end before after → IsComplete call report.status before after
-  complete-run left end h =
-      let written = lines h.final.state.output ++ (verdict_of end ++ written_behind h.command report.own (status_of end)) in
+  complete-run : (run : RunView) (end : End Val) → Headline call report run end before after → IsComplete call report.status before after
+  complete-run run end h =
+      let written = lines h.final.state.output ++ (verdict_of end ++ written_behind h.command run.left (status_of end)) in
       let held = sink-held report.status written before after h.output in
       let due : (n : NothingFailed call before after) (bytes : List ℕ) (given : IsGivenBytes call bytes) → Due given.command bytes call.devices report.status =
-      λ n bytes given. due-run one call before after n bytes given report left end h in
+      λ n bytes given. due-run one call before after n bytes given report run end h in
       record {
         usage = λ n nothing. absurd (nothing h.command h.asked.spelled);
         spelled = λ n command words.
@@ -411,24 +411,21 @@ module _ (one : SpellOne) (call : Call) (report : Reported) (before after : Ends
         source_failed = λ still rises. t.alone.spoken (held still) ∙ source-refusal one call report.text t.ahead t.own t.told rises t.cause;
       }
 
-  -- a run was begun, and its headline holds
-  pub answered-run : (ended : Option (End Val)) → IsSome ended → IfSome ended (λ end. Headline call report end (told_by report.own end) before after)
-      → IsPromised call report ended before after
-  answered-run None some ran = absurd (cc)
-  answered-run (Some end) some ran = record {
-    ran = ran;
-    turned_away = λ e. absurd (cc);
-    complete = complete-run end (told_by report.own end) ran;
-    short = subst (λ (l : Text). length l ≤ whole_limit) (sym ran.text_is) ran.asked.most;
+  -- no run was begun
+  pub answered-turned : report.run ≡ None → length report.text ≤ whole_limit → IsTurnedAway call report before after → IsPromised call report before after
+  answered-turned none short turned = record {
+    ran = subst (λ (o : Option RunView). IfSome o (λ (run : RunView). Headline call report run (end_in run.left) before after)) (sym none) tt;
+    turned_away = λ _. turned;
+    complete = complete-turned turned;
+    short = short;
   }
 
-  -- none was
-  pub answered-turned : (ended : Option (End Val)) → ended ≡ None → length report.text ≤ whole_limit → IsTurnedAway call report before after
-      → IsPromised call report ended before after
-  answered-turned None none short turned = record { ran = tt; turned_away = λ _. turned; complete = complete-turned turned; short = short }
-  answered-turned (Some end) none short turned = absurd (cc)
-
-  pub answered : (ended : Option (End Val)) → length report.text ≤ whole_limit → IfSome ended (λ end. Headline call report end (told_by report.own end) before after)
-      → (ended ≡ None → IsTurnedAway call report before after) → IsPromised call report ended before after
-  answered None short ran turned = answered-turned None refl short (turned refl)
-  answered (Some end) short ran turned = answered-run (Some end) refl ran
+  -- one was, or none
+  pub answered : length report.text ≤ whole_limit → IfSome report.run (λ (run : RunView). Headline call report run (end_in run.left) before after)
+      → (report.run ≡ None → IsTurnedAway call report before after) → IsPromised call report before after
+  answered short ran turned = record { ran = ran; turned_away = turned; complete = by report.run refl ran; short = short }
+    where
+      by : (o : Option RunView) → report.run ≡ o → IfSome o (λ (run : RunView). Headline call report run (end_in run.left) before after)
+          → IsComplete call report.status before after
+      by None none h = complete-turned (turned none)
+      by (Some run) is h = complete-run run (end_in run.left) h

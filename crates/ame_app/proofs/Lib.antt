@@ -10,7 +10,7 @@ pub mod TurnedLemmas
 pub mod AskedLemmas
 pub mod CodeLemmas
 pub mod WeakLemmas
-pub mod TakenLemmas
+pub mod LeftLemmas
 pub mod RunLemmas
 pub mod GivenLemmas
 pub mod CompleteLemmas

@@ -1,5 +1,5 @@
 -- What a run under a chooser tells of its picks.
-use Rattle.std.proofs.Common.{◌≡◌, ℕ, ◌-◌, ◌<◌, ◌≤◌, List, ◌++◌, map, take, drop, Result, Ok, Err, Option, sym, ap, ◌∙◌, subst, arith}
+use Rattle.std.proofs.Common.{◌≡◌, ℕ, ◌-◌, ◌<◌, ◌≤◌, List, ◌++◌, map, take, drop, Result, Ok, Err, Option, Some, sym, ap, ◌∙◌, subst, arith}
 use Rattle.std.specs.Prelude.{All, OnErr}
 use Rattle.std.specs.Io.KnownBytes.{Appends}
 use Rattle.std.proofs.KnownBytes.{Appends-trans}
@@ -20,7 +20,8 @@ use Rattle.ame_shell.specs.Shell.{Opening}
 use Rattle.ame_sim.specs.declared.made.Made.{Made}
 use Rattle.ame_sim.specs.Picks.{picked_by, picks_of}
 use Rattle.ame_sim.specs.Run.{AreTold, IsPlayed}
-use Rattle.ame_app.specs.declared.parts.Own.{Own}
+use Rattle.ame_app.specs.declared.left.Extra.{Extra}
+use Rattle.ame_app.specs.declared.left.Left.{Left}
 use Rattle.ame_app.specs.Verbs.Sim.{IsPicked}
 
 -- the signs of picks, one after the other
@@ -74,13 +75,13 @@ seats-low picks n low =
 
 module _ {C M : Type 0} (meaning : Meaning C Val M) where
   -- the picks of a run that was played are those of the strategy that answered
-  pub played-picked : (opening : Opening C) (strategy later : List (List ℕ) → List ℕ) (mades : List Made) (own : Own) (end : End Val)
-      → own ≡ Own.Picked mades → IsPlayed meaning opening mades end
+  pub played-picked : (opening : Opening C) (strategy later : List (List ℕ) → List ℕ) (mades : List Made) (extra : Extra) (end : End Val)
+      → extra ≡ Extra.Picked mades → IsPlayed meaning opening mades end
       → PicksSeats strategy (questions opening.limits.seats (picks_of mades)) (seats_of (picks_of mades)) later
-      → IsPicked strategy opening.limits.seats own end
-  played-picked opening strategy later mades own end is played answers = record {
+      → IsPicked strategy opening.limits.seats (Left.Engine end extra)
+  played-picked opening strategy later mades extra end is played answers = record {
     mades = mades;
-    own_is = is;
+    extra_is = ap Some is;
     told = subst (λ (n : ℕ). AreTold opening.limits.seats n mades end.entries) (sym played.turns)
         (subst (λ (es : List Entry). AreTold opening.limits.seats played.now.core.turns mades es) (sym played.entries) played.playing.told);
     later = later;

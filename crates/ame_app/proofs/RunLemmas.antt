@@ -1,5 +1,5 @@
 -- What a run that is over tells of its call.
-use Rattle.std.proofs.Common.{◌≡◌, ◌≢◌, ℕ, List, [], ◌++◌, map, length, Option, Some, None, refl, sym, ap, ◌∙◌, subst, arith, append-nil}
+use Rattle.std.proofs.Common.{◌≡◌, ◌≢◌, ℕ, List, [], ◌++◌, map, length, Option, Some, None, refl, sym, ap, ◌∙◌, subst, arith}
 use Rattle.std.proofs.lemmas.List.Elements.{All-nil}
 use Rattle.ame_io.specs.Counts.{HasRisen}
 use Rattle.ame_io.specs.Lines.{lines}
@@ -7,48 +7,45 @@ use Rattle.ame_term.specs.Tree.{Tree}
 use Rattle.ame_term.specs.State.{start}
 use Rattle.ame_term.specs.View.{typ_of}
 use Rattle.ame_laws.specs.Orderly.{IsOrderly}
-use Rattle.ame_laws.specs.Typed.Listed.{signature_of}
 use Rattle.ame_laws.proofs.OrderlyLemmas.{run-goes, start-orderly}
 use Rattle.ame_journal.specs.declared.entry.Entry.{Entry}
 use Rattle.ame_journal.specs.Replayed.{Replayed, begun_at}
 use Rattle.ame_journal.specs.Replay.{replay}
-use Rattle.ame_journal.specs.Totals.{without_notes}
 use Rattle.ame_journal.proofs.LabelLemmas.{unfold-all, unfolds_all-run}
-use Rattle.ame_journal.proofs.NoteLemmas.{notes-dropped}
 use Rattle.ame_protocol.specs.declared.types.Limits.{Limits}
 use Rattle.ame_protocol.specs.declared.types.Tried.{Tried}
 use Rattle.ame_value.specs.declared.val.Val.{Val}
-use Rattle.ame_eval.specs.Values.{value_meant}
 use Rattle.ame_code.specs.FlatCode.{FlatCode}
 use Rattle.ame_code.specs.Code.{program_of}
 use Rattle.ame_cli.specs.declared.command.Options.{Options}
 use Rattle.ame_cli.specs.declared.command.Command.{Command}
 use Rattle.ame_lex.specs.Bytes.{Text}
 use Rattle.ame_protocol.specs.declared.certificate.Certificate.{Certificate}
-use Rattle.ame_protocol.specs.declared.counters.Counters.{Counters}
 use Rattle.ame_protocol.specs.declared.stop.Stop.{Stop}
 use Rattle.ame_protocol.specs.Event.Bounds.{HasBounds}
 use Rattle.ame_protocol.specs.Event.Causes.{NotesStop}
 use Rattle.ame_protocol.specs.Event.Counting.{nothing_counted}
-use Rattle.ame_protocol.specs.Event.Lone.{IsUndisturbed}
 use Rattle.ame_protocol.specs.Row.Tries.{IsSoundTry}
 use Rattle.ame_protocol.specs.Waits.Once.{IsNotedOnce}
-use Rattle.ame_engine.specs.Ending.{End, HasStopped}
+use Rattle.ame_engine.specs.Ending.{End, HasStopped, ShowsCounts}
 use Rattle.ame_shell.specs.Ends.{Ends}
-use Rattle.ame_shell.specs.Sent.{IsSent}
 use Rattle.ame_device.specs.declared.told.Told.{Told}
 use Rattle.ame_shell.specs.Heard.{HaveHeardSince, HaveFailed}
 use Rattle.ame_app.specs.declared.parts.Front.{Front}
 use Rattle.ame_app.specs.declared.parts.Own.{Own}
-use Rattle.ame_app.specs.declared.parts.Weakened.{Weakened}
+use Rattle.ame_app.specs.declared.left.Extra.{Extra}
+use Rattle.ame_app.specs.declared.left.Left.{Left}
+use Rattle.ame_app.specs.declared.left.WeakEnd.{WeakEnd}
 use Rattle.ame_app.specs.declared.status.Status.{Status}
 use Rattle.ame_app.specs.Calls.{Call}
 use Rattle.ame_app.specs.Causes.{status_at, status_of, RunCause, CommandCause}
-use Rattle.ame_app.specs.Headline.{limits_of, reported, Headline, IsStore, IsTypedState, DevicesTell, DevicesTellOf, IsNotedOnceBy, journal_of, verdict_of, IsWritten}
-use Rattle.ame_app.specs.Jobs.{IsJobOf, HasWeakStop, TellsWeakly, IsTakenApart, IsEngineRunMade, IsRunMade, SpeaksBehind}
+use Rattle.ame_app.specs.Left.{end_in, extra_in}
+use Rattle.ame_app.specs.Reported.{RunView, Reported}
+use Rattle.ame_app.specs.Headline.{limits_of, Headline, DevicesTell, DevicesTellOf, IsNotedOnceBy, ShowsTurns, journal_of, verdict_of, IsWritten}
+use Rattle.ame_app.specs.Jobs.{IsJobOf, HasWeakStop, TellsWeakly, IsLeftOf, HasLeft, IsEngineRunMade, IsWeakRunMade, IsRunMade, Speaks, SpeaksBehind, SpeaksAfter}
 use Rattle.ame_app.specs.Verbs.{BeginsFrom, written_behind}
-use Rattle.ame_app.specs.Verbs.Weak.{alone_with, told_by}
-use Rattle.ame_app.proofs.WrittenLemmas.{after-lines, tells-fault, spoken-is}
+use Rattle.ame_app.specs.Verbs.Weak.{alone_with}
+use Rattle.ame_app.proofs.WrittenLemmas.{after-lines, written-once, tells-fault, spoken-is}
 use Rattle.ame_app.proofs.CountLemmas.{certified-count}
 
 -- States that a journal leads to
@@ -96,40 +93,52 @@ stop-told stop certificates other = λ e. cc
 
 -- The rows of the tables for commands whose run an engine makes
 
-record IsPlain (code : FlatCode) (command : Command) (own : Own) (left : End Val) (before after : Ends) : Type 0 where
-  told : told_by own left ≡ left
-  devices : DevicesTell code left before after → DevicesTellOf command code left before after
-  cause : (options : Options) (r : Replayed) → RunCause (status_of left) options left r before after
-      → CommandCause command (status_of left) options left r before after
-  once : IsNotedOnce (journal_of left) → IsNotedOnceBy command (journal_of left)
-
-told-other : (own other : Own) (left : End Val) → own ≡ other → told_by other left ≡ left → told_by own left ≡ left
-told-other own other left is told = ap (λ (o : Own). told_by o left) is ∙ told
+record IsPlain (code : FlatCode) (command : Command) (end : End Val) (before after : Ends) : Type 0 where
+  devices : DevicesTell code end before after → DevicesTellOf command code end before after
+  cause : (options : Options) (r : Replayed) → RunCause (status_of end) options end r before after
+      → CommandCause command (status_of end) options end r before after
+  once : IsNotedOnce (journal_of end) → IsNotedOnceBy command (journal_of end)
+  shown : (limits : Limits) → ShowsCounts limits end → ShowsTurns command limits end
 
 -- The headline
 
-module _ (call : Call) (status : Status) (text : Text) (code : FlatCode) (front : Front) (own : Own) (left : End Val) (before mid after : Ends)
-    (kept : after.told ≡ mid.told) where
-  -- what is spoken behind the lines of a run
-  abbrev Spoken : Command → Own → End Val → Type 0
-  Spoken command had end =
-      SpeaksBehind left.stop (status_of end) (verdict_of end ++ written_behind command had (status_of end)) status mid.written mid.write_faults after.written
-      after.write_faults
+-- what is written after the lines of a run that an engine made
+speaks-engine : (left : Left) (extra : Extra) (ahead : List ℕ) (told : Status) (text : List ℕ) (status : Status) (a : Option (List ℕ)) (m : ℕ) (b : Option (List ℕ)) (n : ℕ)
+    → extra_in left ≡ Some extra → SpeaksAfter left ahead told text status a m b n → SpeaksBehind (end_in left).stop told text status a m b n
+speaks-engine (Left.Engine end more) extra ahead told text status a m b n is speaks = speaks
+speaks-engine (Left.Weak weak) extra ahead told text status a m b n is speaks = absurd (cc)
 
-  module _ (command : Command) (job : IsJobOf call text code command front) (made : IsEngineRunMade command front code before own left mid)
-      (plain : IsPlain code command own left before after) (speaks : Spoken command own left) where
-    text-written : IsWritten status (lines made.over.ends.r.state.output ++ (verdict_of left ++ written_behind command own (status_of left))) before after
+-- what is reported of a run
+abbrev pub run_with : FlatCode → Left → RunView
+run_with code left = record { code = code; left = left }
+
+abbrev pub report_with : Status → Text → FlatCode → Command → Left → Reported
+report_with status text code command left =
+    record { status = status; text = text; command = Some command; run = Some (run_with code left); own = Own.Nothing }
+
+module _ (call : Call) (status : Status) (text : Text) (code : FlatCode) (front : Front) (before mid after : Ends) (kept : after.told ≡ mid.told) where
+  -- what is written after the lines
+  abbrev more : Command → Left → List ℕ
+  more command left = verdict_of (end_in left) ++ written_behind command left (status_of (end_in left))
+
+  module _ (command : Command) (left : Left) (job : IsJobOf call text code command front) (made : IsEngineRunMade command front code before left mid)
+      (plain : IsPlain code command (end_in left) before after)
+      (speaks : SpeaksBehind (end_in left).stop (status_of (end_in left)) (more command left) status mid.written mid.write_faults after.written after.write_faults) where
+    abbrev end : End Val
+    end = end_in left
+
+    text-written : IsWritten status (lines made.over.ends.r.state.output ++ more command left) before after
     text-written =
-        after-lines left.stop (status_of left) before mid after status (lines made.over.ends.r.state.output)
-        (verdict_of left ++ written_behind command own (status_of left)) (stop-told left.stop left.certificates) speaks made.over.sent
+        after-lines end.stop (status_of end) before mid after status (lines made.over.ends.r.state.output) (more command left)
+        (stop-told end.stop end.certificates) speaks made.over.sent
 
     is-orderly : IsOrderly made.over.ends.r.state
-    is-orderly = replayed-orderly (program_of code) (journal_of left) made.over.ends.r made.over.ends.replays
+    is-orderly = replayed-orderly (program_of code) (journal_of end) made.over.ends.r made.over.ends.replays
 
-    have-failed : HaveFailed left.stop before.told after.told
-    have-failed = subst (λ (t : List Told). HaveFailed left.stop before.told t) (sym kept) made.over.failed
+    have-failed : HaveFailed end.stop before.told after.told
+    have-failed = subst (λ (t : List Told). HaveFailed end.stop before.told t) (sym kept) made.over.failed
 
-    has-causes : Causes (limits_of made.options) made.options made.over.ends.r left before after status
+    has-causes : Causes (limits_of made.options) made.options made.over.ends.r end before after status
     has-causes = record {
       turns = refl;
       orderly = is-orderly;
@@ -137,12 +146,12 @@ module _ (call : Call) (status : Status) (text : Text) (code : FlatCode) (front 
       failed = have-failed;
       written = λ e. (text-written.front e).1;
       told =
-          tells-fault left.stop (status_of left) (verdict_of left ++ written_behind command own (status_of left)) status mid.written mid.write_faults
-          after.written after.write_faults speaks;
+          tells-fault end.stop (status_of end) (more command left) status mid.written mid.write_faults after.written after.write_faults speaks;
     }
 
-    engine-told : Headline call (reported status text (Some code) own) left left before after
-    engine-told = record {
+    -- a command whose run an engine makes
+    engine-headline : Headline call (report_with status text code command left) (run_with code left) end before after
+    engine-headline = record {
       command = command;
       front = front;
       options = made.options;
@@ -150,6 +159,7 @@ module _ (call : Call) (status : Status) (text : Text) (code : FlatCode) (front 
       compiled = code;
       final = made.over.ends.r;
       asked = job.asked;
+      named = refl;
       with_options = made.with_options;
       text_is = refl;
       program = job.program;
@@ -163,51 +173,40 @@ module _ (call : Call) (status : Status) (text : Text) (code : FlatCode) (front 
       typed = made.over.ends.typed (map typ_of code.accepted.ref_tys.items) refl;
       as_many = ap length kept ∙ made.over.heard.count;
       devices = plain.devices (record {
-        heard = subst (λ (b : List Entry). HaveHeardSince (program_of code) b left.entries before.told after.told) (sym made.over.base)
-            (subst (λ (t : List Told). HaveHeardSince (program_of code) made.base left.entries before.told t) (sym kept) made.over.heard);
+        heard = subst (λ (b : List Entry). HaveHeardSince (program_of code) b end.entries before.told after.told) (sym made.over.base)
+            (subst (λ (t : List Told). HaveHeardSince (program_of code) made.base end.entries before.told t) (sym kept) made.over.heard);
         failed = have-failed;
       });
       cause =
           plain.cause made.options made.over.ends.r
-          (stop-cause (limits_of made.options) made.options made.over.ends.r left before after status has-causes left.stop refl);
+          (stop-cause (limits_of made.options) made.options made.over.ends.r end before after status has-causes end.stop refl);
       spoken =
-          spoken-is left.stop (status_of left) status (verdict_of left ++ written_behind command own (status_of left)) mid.written mid.write_faults
-          after.written after.write_faults speaks;
+          spoken-is end.stop (status_of end) status (more command left) mid.written mid.write_faults after.written after.write_faults speaks;
       own = made.own_is;
       notes = made.over.ends.stopped.ends;
       once = plain.once made.over.ends.once;
-      shown = made.over.ends.shown;
+      shown = plain.shown (limits_of made.options) made.over.ends.shown;
       lone = made.over.lone;
       bounds = made.over.ends.bounds;
     }
 
-  -- a command whose run an engine makes
-  engine-headline : (command : Command) → IsJobOf call text code command front → IsEngineRunMade command front code before own left mid
-      → IsPlain code command own left before after → Spoken command own (told_by own left)
-      → Headline call (reported status text (Some code) own) left (told_by own left) before after
-  engine-headline command job made plain speaks =
-      subst (λ (e : End Val). Headline call (reported status text (Some code) own) left e before after) (sym plain.told)
-      (engine-told command job made plain (subst (Spoken command own) plain.told speaks))
-
   -- a weak run
-  module _ (seed turns : ℕ) (weakened : Weakened) (job : IsJobOf call text code (Command.Weak seed turns) front)
-      (tells : TellsWeakly (program_of code) turns weakened before.told mid.told)
-      (apart : IsTakenApart (without_notes weakened.journal.entries) (program_of code) (signature_of code.accepted) (limits_of (alone_with turns)) (value_meant code) left before mid)
-      (speaks : Spoken (Command.Weak seed turns) (Own.Weak weakened) (told_by (Own.Weak weakened) left)) where
-    abbrev end : End Val
-    end = told_by (Own.Weak weakened) left
+  module _ (seed turns : ℕ) (weakened : WeakEnd) (ahead : List ℕ) (job : IsJobOf call text code (Command.Weak seed turns) front)
+      (tells : TellsWeakly (program_of code) turns weakened before.told mid.told) (has_left : HasLeft code (limits_of (alone_with turns)) weakened)
+      (ahead_is : ahead ≡ lines weakened.output.items) (unwritten : mid.written ≡ before.written) (unfailed : mid.write_faults ≡ before.write_faults)
+      (speaks : Speaks (status_of (end_in (Left.Weak weakened))) (ahead ++ (verdict_of (end_in (Left.Weak weakened)) ++ [])) status mid.written mid.write_faults
+      after.written after.write_faults) where
+    abbrev weak_left : Left
+    weak_left = Left.Weak weakened
+
+    abbrev weak_end : End Val
+    weak_end = end_in weak_left
 
     abbrev journal : List Entry
     journal = weakened.journal.entries
 
-    -- the engine had the state to which the whole journal leads
-    same-state : apart.ends.r ≡ tells.final
-    same-state =
-        let acts : left.base ++ left.entries ≡ without_notes journal =
-        ap (λ (es : List Entry). left.base ++ es) apart.nothing ∙ append-nil left.base ∙ apart.base_is in
-        let one : ◌≡◌ {A = Option Replayed} (Some apart.ends.r) (Some tells.final) =
-        sym apart.ends.replays ∙ ap (replay (program_of code)) acts ∙ notes-dropped (begun_at (program_of code)) journal tells.final tells.replays in
-        cc
+    left-so : IsLeftOf code weakened.store weakened.output.items tells.final.state
+    left-so = has_left.leads tells.final tells.replays
 
     there : IsOrderly tells.final.state
     there = replayed-orderly (program_of code) journal tells.final tells.replays
@@ -216,17 +215,17 @@ module _ (call : Call) (status : Status) (text : Text) (code : FlatCode) (front 
     no-fault Stop.WriteFault cause cs = absurd cause
     no-fault stop cause cs = λ e. cc
 
-    weak-written : IsWritten status (lines tells.final.state.output ++ (verdict_of end ++ [])) before after
+    weak-written : IsWritten status (lines tells.final.state.output ++ (verdict_of weak_end ++ [])) before after
     weak-written =
-        after-lines left.stop (status_of end) before mid after status (lines tells.final.state.output) (verdict_of end ++ [])
-        (λ _. no-fault weakened.stop tells.cause weakened.certificates.items) speaks
-        (subst (λ (r : Replayed). IsSent left.stop (lines r.state.output) before mid) same-state apart.sent)
+        subst (λ (l : List ℕ). IsWritten status (l ++ (verdict_of weak_end ++ [])) before after) (ahead_is ∙ ap lines left-so.printed)
+        (written-once before mid after (status_of weak_end) status (ahead ++ (verdict_of weak_end ++ [])) unwritten unfailed
+        (no-fault weakened.stop tells.cause weakened.certificates.items) speaks)
 
     weak-failed : weakened.stop ≢ Stop.NoMemory → HaveFailed (Some weakened.stop) before.told after.told
     weak-failed able = subst (HaveFailed (Some weakened.stop) before.told) (sym kept) (tells.failed able)
 
     weak-cause : (stop : Stop) → weakened.stop ≡ stop
-        → CommandCause (Command.Weak seed turns) (status_at (Some stop) weakened.certificates.items) (alone_with turns) end tells.final before after
+        → CommandCause (Command.Weak seed turns) (status_at (Some stop) weakened.certificates.items) (alone_with turns) weak_end tells.final before after
     weak-cause Stop.Finished is = subst (λ (k : Stop). HasWeakStop k turns weakened tells.final.state) is tells.cause
     weak-cause Stop.Blocked is =
         let certified = subst (λ (k : Stop). HasWeakStop k turns weakened tells.final.state) is tells.cause in
@@ -242,22 +241,21 @@ module _ (call : Call) (status : Status) (text : Text) (code : FlatCode) (front 
     weak-cause (Stop.Tall number) is = subst (λ (k : Stop). HasWeakStop k turns weakened tells.final.state) is tells.cause
     weak-cause Stop.WriteFault is = absurd (subst (λ (k : Stop). HasWeakStop k turns weakened tells.final.state) is tells.cause)
 
-    weak-bounds : HasBounds (program_of code) (limits_of (alone_with turns)) tells.final [] journal weakened.turns left.counters left.tried (Some weakened.stop)
-    weak-bounds =
-        subst (λ (c : Counters). HasBounds (program_of code) (limits_of (alone_with turns)) tells.final [] journal weakened.turns c left.tried (Some weakened.stop))
-        (sym apart.uncounted)
-        (subst (λ (ts : List Tried). HasBounds (program_of code) (limits_of (alone_with turns)) tells.final [] journal weakened.turns nothing_counted ts (Some weakened.stop))
-        (sym apart.untried) (record {
-          rollbacks = omega arith;
-          tries = record { late = []; seats_enough = omega arith; apart = λ i. omega arith; few = λ i. omega arith };
-          sound = All-nil (λ (t : Tried). IsSoundTry (program_of code) journal t.number t.at t.steps);
-          spent = λ e.
-              let most = tells.paid (λ same. let is : weakened.stop ≡ Stop.Spent = cc in let clash : Stop.Spent ≡ Stop.NoMemory = sym is ∙ same in cc) in
-              omega (arith, most);
-          untried = λ one e. refl;
-        }))
+    weak-bounds : HasBounds (program_of code) (limits_of (alone_with turns)) tells.final [] journal weakened.turns nothing_counted [] (Some weakened.stop)
+    weak-bounds = record {
+      rollbacks = omega arith;
+      tries = record { late = []; seats_enough = omega arith; apart = λ i. omega arith; few = λ i. omega arith };
+      sound = All-nil (λ (t : Tried). IsSoundTry (program_of code) journal t.number t.at t.steps);
+      spent = λ e.
+          let most = tells.paid (λ same. let is : weakened.stop ≡ Stop.Spent = cc in let clash : Stop.Spent ≡ Stop.NoMemory = sym is ∙ same in cc) in
+          omega (arith, most);
+      untried = λ one e. refl;
+    }
 
-    weak-headline : Headline call (reported status text (Some code) (Own.Weak weakened)) left end before after
+    unless-memory : weak_end.stop ≢ Some Stop.NoMemory → weakened.stop ≢ Stop.NoMemory
+    unless-memory able = λ e. able (ap Some e)
+
+    weak-headline : Headline call (report_with status text code (Command.Weak seed turns) weak_left) (run_with code weak_left) weak_end before after
     weak-headline = record {
       command = Command.Weak seed turns;
       front = front;
@@ -266,6 +264,7 @@ module _ (call : Call) (status : Status) (text : Text) (code : FlatCode) (front 
       compiled = code;
       final = tells.final;
       asked = job.asked;
+      named = refl;
       with_options = refl;
       text_is = refl;
       program = job.program;
@@ -274,63 +273,69 @@ module _ (call : Call) (status : Status) (text : Text) (code : FlatCode) (front 
       replays = tells.replays;
       seats = tells.seats;
       output = weak-written;
-      printed = sym apart.ends.printed ∙ ap (λ (r : Replayed). r.state.output) same-state;
-      store = subst (λ (r : Replayed). IsStore code left.cells r.state) same-state (record { stored = apart.ends.store; free = apart.ends.free; forms = apart.ends.forms });
-      typed = subst (λ (r : Replayed). IsTypedState code left.cells r.state) same-state (apart.ends.typed (map typ_of code.accepted.ref_tys.items) refl);
+      printed = left-so.printed;
+      store = left-so.store;
+      typed = left-so.typed;
       as_many = ap length kept ∙ tells.count;
       devices = record {
-        able = λ able.
-            let ne : weakened.stop ≢ Stop.NoMemory = λ e. able (ap Some e) in
-            record {
-              heard = subst (HaveHeardSince (program_of code) [] journal before.told) (sym kept) (tells.heard ne);
-              failed = weak-failed ne;
-            };
+        able = λ able. record {
+          heard = subst (HaveHeardSince (program_of code) [] journal before.told) (sym kept) (tells.heard (unless-memory able));
+          failed = weak-failed (unless-memory able);
+        };
       };
       cause = weak-cause weakened.stop refl;
-      spoken =
-          spoken-is left.stop (status_of end) status (verdict_of end ++ []) mid.written mid.write_faults after.written after.write_faults speaks;
-      own = record {
-        weakened = weakened;
-        own_is = refl;
-        journal = tells.straight;
-        paid = tells.paid;
-        base = apart.base_is;
-        nothing = apart.nothing;
-        untried = apart.untried;
-        uncounted = apart.uncounted;
-      };
+      spoken = spoken-is None (status_of weak_end) status (ahead ++ (verdict_of weak_end ++ [])) mid.written mid.write_faults after.written after.write_faults speaks;
+      own = record { weak = weakened; left_is = refl; journal = tells.straight; paid = tells.paid };
       notes = tells.notes;
       once = tells.apart;
-      shown = apart.ends.shown;
-      lone = λ one. subst (λ (c : Counters). IsUndisturbed c) (sym apart.uncounted) (record { conflicts = refl; invalids = refl });
+      shown = record { limited = has_left.limits_are; most = λ able. tells.within (unless-memory able) };
+      lone = λ one. record { conflicts = refl; invalids = refl };
       bounds = weak-bounds;
     }
 
+  -- what is written after the run of a command
+  abbrev pub Spoken : Command → Left → List ℕ → Type 0
+  Spoken command left ahead =
+      SpeaksAfter left ahead (status_of (end_in left)) (more command left) status mid.written mid.write_faults after.written after.write_faults
+
+  weak-told : (seed turns : ℕ) (left : Left) (ahead : List ℕ) → IsJobOf call text code (Command.Weak seed turns) front
+      → (made : IsWeakRunMade turns code before left ahead mid) → Spoken (Command.Weak seed turns) left ahead
+      → Headline call (report_with status text code (Command.Weak seed turns) left) (run_with code left) (end_in left) before after
+  weak-told seed turns left ahead job made speaks =
+      subst (λ (l : Left). Headline call (report_with status text code (Command.Weak seed turns) l) (run_with code l) (end_in l) before after) (sym made.left_is)
+      (weak-headline seed turns made.weak ahead job made.tells made.has_left made.ahead_is made.unwritten made.unfailed
+      (subst (λ (l : Left). Spoken (Command.Weak seed turns) l ahead) made.left_is speaks))
+
+  -- a command whose run an engine makes, and which has something next to its end
+  engine-told : (command : Command) (left : Left) (extra : Extra) (ahead : List ℕ) → IsJobOf call text code command front
+      → IsEngineRunMade command front code before left mid → extra_in left ≡ Some extra → IsPlain code command (end_in left) before after → Spoken command left ahead
+      → Headline call (report_with status text code command left) (run_with code left) (end_in left) before after
+  engine-told command left extra ahead job made is plain speaks =
+      engine-headline command left job made plain
+      (speaks-engine left extra ahead (status_of (end_in left)) (more command left) status mid.written mid.write_faults after.written after.write_faults is speaks)
+
   -- each command
-  pub headline : (command : Command) → IsJobOf call text code command front → IsRunMade command front code before own left mid
-      → Spoken command own (told_by own left) → Headline call (reported status text (Some code) own) left (told_by own left) before after
-  headline (Command.Run options) job made speaks =
-      engine-headline (Command.Run options) job made (record { told = told-other own Own.Nothing left made.own_is refl; devices = λ d. d; cause = λ o r c. c; once = λ n. n })
+  pub headline : (command : Command) (left : Left) (ahead : List ℕ) → IsJobOf call text code command front → IsRunMade command front code before left ahead mid
+      → Spoken command left ahead → Headline call (report_with status text code command left) (run_with code left) (end_in left) before after
+  headline (Command.Run options) left ahead job made speaks =
+      engine-told (Command.Run options) left _ ahead job made made.own_is (record { devices = λ d. d; cause = λ o r c. c; once = λ n. n; shown = λ l s. s }) speaks
+  headline (Command.Bench seed size options) left ahead job made speaks =
+      engine-told (Command.Bench seed size options) left _ ahead job made made.own_is
+      (record { devices = λ d. d; cause = λ o r c. c; once = λ n. n; shown = λ l s. s }) speaks
+  headline (Command.Sim seed options) left ahead job made speaks =
+      engine-told (Command.Sim seed options) left _ ahead job made made.own_is.extra_is
+      (record { devices = λ d. d; cause = λ o r c. c; once = λ n. n; shown = λ l s. s }) speaks
+  headline (Command.Replay options) left ahead job made speaks =
+      engine-told (Command.Replay options) left _ ahead job made made.own_is.picked.extra_is
+      (record { devices = λ d. d; cause = λ o r c. c; once = λ n. n; shown = λ l s. s }) speaks
+  headline Command.Check left ahead job made speaks = absurd made.begun
+  headline (Command.Resume options) left ahead job made speaks =
+      engine-told (Command.Resume options) left _ ahead job made made.own_is (record { devices = λ d. d; cause = λ o r c. c; once = λ n. n; shown = λ l s. s })
       speaks
-  headline (Command.Bench seed size options) job made speaks =
-      engine-headline (Command.Bench seed size options) job made
-      (record { told = told-other own Own.Nothing left made.own_is refl; devices = λ d. d; cause = λ o r c. c; once = λ n. n }) speaks
-  headline (Command.Sim seed options) job made speaks =
-      engine-headline (Command.Sim seed options) job made
-      (record { told = told-other own (Own.Picked made.own_is.mades) left made.own_is.own_is refl; devices = λ d. d; cause = λ o r c. c; once = λ n. n }) speaks
-  headline (Command.Replay options) job made speaks =
-      engine-headline (Command.Replay options) job made
-      (record { told = told-other own (Own.Picked made.own_is.picked.mades) left made.own_is.picked.own_is refl; devices = λ d. d; cause = λ o r c. c; once = λ n. n }) speaks
-  headline Command.Check job made speaks = absurd made.begun
-  headline (Command.Resume options) job made speaks =
-      engine-headline (Command.Resume options) job made
-      (record { told = told-other own (Own.Resumed (length left.base)) left made.own_is refl; devices = λ d. d; cause = λ o r c. c; once = λ n. n }) speaks
-  headline (Command.Weak seed turns) job made speaks =
-      subst (λ (o : Own). Headline call (reported status text (Some code) o) left (told_by o left) before after) (sym made.own_is)
-      (weak-headline seed turns made.weakened job made.tells made.apart
-      (subst (λ (o : Own). Spoken (Command.Weak seed turns) o (told_by o left)) made.own_is speaks))
+  headline (Command.Weak seed turns) left ahead job made speaks = weak-told seed turns left ahead job made speaks
 
 -- what is told is told of the stop
-pub told-of : (stop : Option Stop) (told : Status) (more : Status → List ℕ) (end : End Val) (status : Status) (a : Option (List ℕ)) (m : ℕ) (b : Option (List ℕ)) (n : ℕ)
-    → told ≡ status_of end → SpeaksBehind stop told (more told) status a m b n → SpeaksBehind stop (status_of end) (more (status_of end)) status a m b n
-told-of stop told more end status a m b n is speaks = subst (λ (t : Status). SpeaksBehind stop t (more t) status a m b n) is speaks
+pub told-of : (left : Left) (ahead : List ℕ) (told : Status) (more : Status → List ℕ) (status : Status) (a : Option (List ℕ)) (m : ℕ) (b : Option (List ℕ)) (n : ℕ)
+    → told ≡ status_of (end_in left) → SpeaksAfter left ahead told (more told) status a m b n
+    → SpeaksAfter left ahead (status_of (end_in left)) (more (status_of (end_in left))) status a m b n
+told-of left ahead told more status a m b n is speaks = subst (λ (t : Status). SpeaksAfter left ahead t (more t) status a m b n) is speaks

@@ -1,5 +1,5 @@
 -- Calls in which no run was begun.
-use Rattle.std.proofs.Common.{◌≡◌, ◌≢◌, ◌⊎◌, inl, inr, ℕ, Bool, true, false, List, [], sym, ap, ◌∙◌, subst}
+use Rattle.std.proofs.Common.{◌≡◌, ◌≢◌, ◌⊎◌, inl, inr, ℕ, Bool, true, false, List, [], Option, sym, ap, ◌∙◌, subst}
 use Rattle.ame_lex.specs.Bytes.{Text}
 use Rattle.ame_parse.specs.Text.{source_of}
 use Rattle.ame_code.specs.FlatCode.{FlatCode}
@@ -11,23 +11,24 @@ use Rattle.ame_app.specs.declared.parts.Own.{Own}
 use Rattle.ame_app.specs.declared.status.Status.{Status}
 use Rattle.ame_shell.specs.Ends.{Ends}
 use Rattle.ame_app.specs.Verbs.{reads_source, Settles}
-use Rattle.ame_app.specs.Headline.{Reported, IsTurnedAway}
+use Rattle.ame_app.specs.Reported.{Reported}
+use Rattle.ame_app.specs.Headline.{IsTurnedAway}
 use Rattle.ame_app.specs.Jobs.{IsJobOf, IsLeft}
 use Rattle.ame_app.specs.Calls.{Given, Call, IsInput, Asks}
-use Rattle.ame_app.specs.Causes.{RefusalCause, IsWithoutMemory}
+use Rattle.ame_app.specs.Causes.{RefusalCause, IsNamed, IsWithoutMemory}
 use Rattle.ame_app.specs.Causes.RefusalCause.{by_words, by_source, by_length, by_input, by_text, by_types, by_program, by_memory}
 use Rattle.ame_app.proofs.VerbLemmas.{declines-other, settles-other}
 
 -- such a call is never told as a fault of the sink
 pub refusal-other : (call : Call) (text : Text) (ahead : List ℕ) (own : Own) (told : Status) → RefusalCause call text ahead own told → told ≢ Status.WriteFault
-refusal-other call text ahead own told (by_input other d) = declines-other d.command d.bytes other d.declines
-refusal-other call text ahead own told (by_words u) = λ e. absurd (cc)
-refusal-other call text ahead own told (by_source r) = λ e. absurd (cc)
-refusal-other call text ahead own told (by_length l) = λ e. absurd (cc)
+refusal-other call text ahead own told (by_input other none d) = declines-other d.command d.bytes other d.declines
+refusal-other call text ahead own told (by_words none u) = λ e. absurd (cc)
+refusal-other call text ahead own told (by_source none r) = λ e. absurd (cc)
+refusal-other call text ahead own told (by_length none l) = λ e. absurd (cc)
 refusal-other call text ahead own told (by_text fault u) = λ e. absurd (cc)
 refusal-other call text ahead own told (by_types fault ill) = λ e. absurd (cc)
 refusal-other call text ahead own told (by_program bytes held other s) = settles-other s.command s.front s.accepted.source.tree bytes held other s.settles
-refusal-other call text ahead own told (by_memory m) = λ e. absurd (cc)
+refusal-other call text ahead own told (by_memory text_is m) = λ e. absurd (cc)
 
 -- an input is taken without a fault of the source
 pub input-stays : (reads : Bool) (source after : Given) (bytes : List ℕ) → IsInput reads source after bytes → after.faults ≡ source.faults
@@ -59,7 +60,14 @@ module _ (one : SpellOne) (call : Call) where
   pub left-turned : (command : Command) (front : Front) (code : FlatCode) (report : Reported) (before after : Ends) → IsJobOf call report.text code command front
       → IsLeft command front code report before after → IsTurnedAway call report before after
   left-turned command front code report before after job left =
-      record { ahead = left.ahead; own = left.own; told = left.told; cause = by left.ahead left.own left.told left.cause; alone = left.alone }
+      record {
+        ahead = left.ahead;
+        own = left.own;
+        told = left.told;
+        cause = by left.ahead left.own left.told left.cause;
+        named = subst (λ (o : Option Command). IsNamed call o left.told) (sym left.named) job.asked.spelled;
+        alone = left.alone;
+      }
     where
       by : (ahead : List ℕ) (own : Own) (told : Status)
           → Settles command front (program_of code) ahead own told ⊎ ((ahead ≡ []) × (own ≡ Own.Nothing) × (told ≡ Status.NoMemory))
@@ -74,4 +82,4 @@ module _ (one : SpellOne) (call : Call) where
       by ahead own told (inr m) =
           subst (λ (l : List ℕ). RefusalCause call report.text l own told) (sym m.0)
           (subst (λ (o : Own). RefusalCause call report.text [] o told) (sym m.1)
-          (subst (RefusalCause call report.text [] Own.Nothing) (sym m.2) (by_memory (asked-left command front report.text job.asked))))
+          (subst (RefusalCause call report.text [] Own.Nothing) (sym m.2) (by_memory (inr (command, front, job.asked)) (asked-left command front report.text job.asked))))

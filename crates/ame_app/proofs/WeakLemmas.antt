@@ -7,6 +7,9 @@ use Rattle.std.proofs.lemmas.Option.{option_and_then_some}
 use Rattle.std.proofs.lemmas.List.Elements.{All-nil, All-cons, All-append}
 use Rattle.ame_term.specs.Tree.{Tree, Val as Value}
 use Rattle.ame_term.specs.Signature.{Signature}
+use Rattle.ame_term.specs.View.{tree_of}
+use Rattle.ame_term.specs.declared.accepted.Accepted.{Accepted}
+use Rattle.ame_laws.specs.Typed.Listed.{signature_of}
 use Rattle.ame_term.specs.declared.types.Unary.TheVariants as unary
 use Rattle.ame_term.specs.Act.{act_of, device_answer}
 use Rattle.ame_term.specs.Maps.{at}
@@ -58,9 +61,9 @@ use Rattle.ame_runner.specs.Tall.{tall_note, IsTallIn}
 use Rattle.ame_runner.specs.declared.stop.WeakStop.{WeakStop}
 use Rattle.ame_runner.specs.Apart.{AreNotedApart}
 use Rattle.ame_runner.proofs.ApartLemmas.{order-behind, notes-apart}
-use Rattle.ame_app.specs.declared.parts.Weakened.{Weakened}
+use Rattle.ame_app.specs.declared.left.WeakEnd.{WeakEnd}
 use Rattle.ame_app.specs.Jobs.{stop_told, LeavesFit, certificate_told, certificates_told, HasWeakStop, TellsWeakly}
-use Rattle.ame_app.specs.Verbs.Weak.{IsNoteAtEnd, StandsAtCallOf}
+use Rattle.ame_app.specs.Verbs.Weak.{IsNoteAtEnd, IsWeakJournal, StandsAtCallOf}
 use Rattle.ame_app.proofs.CountLemmas.{here, more, empty, first-or-later}
 
 -- Entries of the labels, with the notes of the tries
@@ -375,7 +378,7 @@ module _ (program : Tree) (limit : ℕ) (labels : List Label) (tries : List Try)
   told-unless (WeakStop.Tall entry) tells able = tells
   told-unless WeakStop.NoMemory tells able = absurd (able refl)
 
-  module _ (weakened : Weakened) (turns_are : weakened.turns ≡ turns) (w : Weak) (leads : IsWeakRun program labels w) (idle : w.state.active ≡ None)
+  module _ (weakened : WeakEnd) (turns_are : weakened.turns ≡ turns) (w : Weak) (leads : IsWeakRun program labels w) (idle : w.state.active ≡ None)
       (s : State) (is : w ≡ holding_none s) (signature : Signature) (cells : StoreTyping) (typed : IsTyped signature cells w.state) where
     resting : s.active ≡ None
     resting = sym (ap (λ (z : Weak). z.state.active) is) ∙ idle
@@ -553,26 +556,27 @@ TellsCallsWith program =
 abbrev AreTypedRuns : Signature → Tree → Type 0
 AreTypedRuns signature program = (labels : List Label) (w : Weak) → IsWeakRun program labels w → (cells : StoreTyping) × IsTyped signature cells w.state
 
+-- the same, of an accepted program
+abbrev pub AreTypedAs : Accepted → Type 0
+AreTypedAs accepted = AreTypedRuns (signature_of accepted) (tree_of accepted.program.term)
+
+abbrev pub StraightensAs : Accepted → Type 0
+StraightensAs accepted = Straightens (tree_of accepted.program.term)
+
+abbrev pub TellsCallsAs : Accepted → Type 0
+TellsCallsAs accepted = TellsCalls (tree_of accepted.program.term)
+
+abbrev pub TellsCallsWithAs : Accepted → Type 0
+TellsCallsWithAs accepted = TellsCallsWith (tree_of accepted.program.term)
+
 module _ (signature : Signature) (program : Tree) (straightens : Straightens program) (calls : TellsCalls program) (calls_with : TellsCallsWith program)
     (typed : AreTypedRuns signature program) where
-  -- the journal leads on
-  pub weak-leads : (limit : ℕ) (labels : List Label) (tries : List Try) (turns : ℕ) (stop : WeakStop) (entries : List Entry)
-      → IsWeakRunOf program limit labels tries stop → entries ≡ journal_of_run labels tries stop → (before after : List Told)
-      → TellsStop program limit labels tries turns before after stop → (led : Replayed) × (replay program entries ≡ Some led)
-  weak-leads limit labels tries turns stop entries made entries_are before after tells =
-      let w = made.ends.weak in
-      let s = straightens labels tries w made.tried made.ends.leads made.ends.active in
-      let holds = holds-told program limit labels tries turns before after stop w made.ends.leads tells in (
-        s.0,
-        ap (replay program) entries_are
-            ∙ stop-replays stop (begun_at program) s.0 (straight_with 0 tries outset labels) s.1 (subst (λ (z : Weak). HoldsAtEnd stop z.state) s.2 holds),
-      )
-
-  pub weak-tells : (limit : ℕ) (labels : List Label) (tries : List Try) (turns : ℕ) (stop : WeakStop) (weakened : Weakened)
-      → IsWeakRunOf program limit labels tries stop → weakened.journal.entries ≡ journal_of_run labels tries stop → weakened.turns ≡ turns
-      → weakened.stop ≡ stop_told stop → weakened.certificates.items ≡ certificates_told stop → (before after : List Told) → length after ≡ length before
+  -- what it tells
+  pub weak-tells : (limit : ℕ) (labels : List Label) (tries : List Try) (turns : ℕ) (stop : WeakStop) (weakened : WeakEnd)
+      → IsWeakRunOf program limit labels tries stop → weakened.labels.items ≡ labels → weakened.tries.items ≡ tries
+      → weakened.journal.entries ≡ journal_of_run labels tries stop → weakened.turns ≡ turns → weakened.stop ≡ stop_told stop → weakened.certificates.items ≡ certificates_told stop → (before after : List Told) → length after ≡ length before
       → TellsStop program limit labels tries turns before after stop → TellsWeakly program limit weakened before after
-  weak-tells limit labels tries turns stop weakened made entries_are turns_are stop_is certified before after count tells =
+  weak-tells limit labels tries turns stop weakened made labels_are tries_are entries_are turns_are stop_is certified before after count tells =
       let w = made.ends.weak in
       let leads = made.ends.leads in
       let idle = made.ends.active in
@@ -588,20 +592,20 @@ module _ (signature : Signature) (program : Tree) (straightens : Straightens pro
       let able : weakened.stop ≢ Stop.NoMemory → IsToldBy program limit labels tries turns before after stop =
       λ ne. told-unless program limit labels tries turns before after stop tells (λ e. ne (stop_is ∙ e)) in
       record {
-        straight = record {
-          labels = labels;
-          tries = tries;
-          weak = w;
-          leads = leads;
-          idle = idle;
-          tried = made.tried;
-          last = ends.last;
-          entries_are = entries_are ∙ ap (λ (es : List Entry). straight_entries ++ es) ends.notes;
-          grows = ends.grows;
-        };
+        straight = subst (λ (ls : List Label). IsWeakJournal program ls weakened.tries.items weakened.journal.entries) (sym labels_are)
+            (subst (λ (ts : List Try). IsWeakJournal program labels ts weakened.journal.entries) (sym tries_are) (record {
+              weak = w;
+              leads = leads;
+              idle = idle;
+              tried = made.tried;
+              last = ends.last;
+              entries_are = entries_are ∙ ap (λ (es : List Entry). straight_entries ++ es) ends.notes;
+              grows = ends.grows;
+            }));
         paid = λ ne.
             subst (λ (k : ℕ). k ≤ 3 * total_steps weakened.journal.entries) (sym turns_are)
             (subst (λ (es : List Entry). turns ≤ 3 * total_steps es) (sym entries_are) (able ne).whole.paid);
+        within = λ ne. subst (λ (k : ℕ). k ≤ limit) (sym turns_are) (able ne).within;
         final = s.0;
         replays = ap (replay program) entries_are ∙ stop-replays stop (begun_at program) s.0 straight_entries s.1 holds_there;
         seats =
@@ -626,11 +630,15 @@ module _ (signature : Signature) (program : Tree) (straightens : Straightens pro
       }
 
 -- where memory doesn't tell more than the turns
-pub untold-tells : (program : Tree) (limit : ℕ) (weakened : Weakened) → weakened.journal.entries ≡ [] → weakened.stop ≡ Stop.NoMemory
+pub untold-tells : (program : Tree) (limit : ℕ) (weakened : WeakEnd) → weakened.labels.items ≡ [] → weakened.tries.items ≡ [] → weakened.journal.entries ≡ []
+    → weakened.stop ≡ Stop.NoMemory
     → (before after : List Told) → length after ≡ length before → TellsWeakly program limit weakened before after
-untold-tells program limit weakened none stop_is before after count = record {
-  straight = record { labels = []; tries = []; weak = weak_start program; leads = refl; idle = refl; tried = tt; last = None; entries_are = none; grows = tt };
+untold-tells program limit weakened no_labels no_tries none stop_is before after count = record {
+  straight = subst (λ (ls : List Label). IsWeakJournal program ls weakened.tries.items weakened.journal.entries) (sym no_labels)
+      (subst (λ (ts : List Try). IsWeakJournal program [] ts weakened.journal.entries) (sym no_tries)
+      (record { weak = weak_start program; leads = refl; idle = refl; tried = tt; last = None; entries_are = none; grows = tt }));
   paid = λ ne. absurd (ne stop_is);
+  within = λ ne. absurd (ne stop_is);
   final = begun_at program;
   replays = ap (replay program) none;
   seats = subst (AreOfSeats 1) (sym none) (All-nil IsFirstSeat);

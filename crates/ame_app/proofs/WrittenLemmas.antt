@@ -63,3 +63,14 @@ pub spoken-is : (stop : Option Stop) (told status : Status) (more : List ℕ) (a
 spoken-is (Some Stop.WriteFault) told status more a m b n speaks ne = absurd (ne speaks.0)
 spoken-is stop told status more a m b n (inl s) ne = s.is
 spoken-is stop told status more a m b n (inr c) ne = absurd (ne c.is)
+
+-- where all is written at once
+pub written-once : (before mid after : Ends) (told status : Status) (text : List ℕ) → mid.written ≡ before.written → mid.write_faults ≡ before.write_faults
+    → told ≢ Status.WriteFault → Speaks told text status mid.written mid.write_faults after.written after.write_faults → IsWritten status text before after
+written-once before mid after told status text unwritten unfailed other speaks =
+    by (subst (λ (w : Option (List ℕ)). Speaks told text status w before.write_faults after.written after.write_faults) unwritten
+    (subst (λ (n : ℕ). Speaks told text status mid.written n after.written after.write_faults) unfailed speaks))
+  where
+    by : Speaks told text status before.written before.write_faults after.written after.write_faults → IsWritten status text before after
+    by (inl s) = record { whole = λ _. (s.appended, s.stayed); front = λ e. absurd (other (sym s.is ∙ e)) }
+    by (inr c) = record { whole = λ ne. absurd (ne c.is); front = λ _. (c.appended, c.risen) }

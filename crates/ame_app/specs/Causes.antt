@@ -1,5 +1,5 @@
 -- Why a call ends with a status.
-use Rattle.std.specs.Prelude.{◌≡◌, ◌≢◌, ℕ, ◌≤◌, true, false, List, [], Option, Some, None, length, ⊤}
+use Rattle.std.specs.Prelude.{◌≡◌, ◌≢◌, ◌⊎◌, ℕ, ◌≤◌, true, false, List, [], Option, Some, None, length, ⊤}
 use Rattle.ame_io.specs.Counts.{HasRisen}
 use Rattle.ame_io.specs.Reads.{whole_limit, GivesMoreThan}
 use Rattle.ame_lex.specs.Bytes.{Text}
@@ -85,17 +85,26 @@ pub record IsWithoutMemory (call : Call) : Type 0 where
   pub faults : call.source_after.faults ≡ call.source.faults
   pub untouched : (command : Command) → SpellsCommand call.words command → reads_source command ≡ false → call.source_after ≡ call.source
 
--- Why no run was begun, a case a cause: by the text that the report has, with the bytes that are written ahead of the verdict line, and
--- what the report has of the command's own.
+-- the text is the one that the words ask for, or no text was taken
+abbrev pub IsAskedOrNone : Call → Text → Type 0
+IsAskedOrNone call text = (text ≡ []) ⊎ ((command : Command) × (front : Front) × Asks call command front text)
+
+-- Why no run was begun, a case a cause: by the text that the report has, which is empty if none was taken, with the bytes that are written
+-- ahead of the verdict line, and what the report has of the command's own.
 pub data RefusalCause (call : Call) (text : Text) : List ℕ → Own → Status → Type 0 where
-  by_words : IsUsage call → RefusalCause call text [] Own.Nothing Status.Usage
-  by_source : IsReadFault call → RefusalCause call text [] Own.Nothing Status.ReadFault
-  by_length : IsTooLong call → RefusalCause call text [] Own.Nothing Status.TooLong
-  by_input : (told : Status) → IsDeclined call told → RefusalCause call text [] Own.Nothing told
+  by_words : text ≡ [] → IsUsage call → RefusalCause call text [] Own.Nothing Status.Usage
+  by_source : text ≡ [] → IsReadFault call → RefusalCause call text [] Own.Nothing Status.ReadFault
+  by_length : text ≡ [] → IsTooLong call → RefusalCause call text [] Own.Nothing Status.TooLong
+  by_input : (told : Status) → text ≡ [] → IsDeclined call told → RefusalCause call text [] Own.Nothing told
   by_text : (fault : TextFault) → IsUnreadable call text fault → RefusalCause call text [] Own.Nothing (Status.Text fault)
   by_types : (fault : TypeFault) → IsRefusedByTypes call text fault → RefusalCause call text [] Own.Nothing (Status.Types fault)
   by_program : (ahead : List ℕ) (own : Own) (told : Status) → IsSettled call text ahead own told → RefusalCause call text ahead own told
-  by_memory : IsWithoutMemory call → RefusalCause call text [] Own.Nothing Status.NoMemory
+  by_memory : IsAskedOrNone call text → IsWithoutMemory call → RefusalCause call text [] Own.Nothing Status.NoMemory
+
+-- the report has the command that the words spell; without one, they spell none, or memory was wanted
+abbrev pub IsNamed : Call → Option Command → Status → Type 0
+IsNamed call (Some command) told = SpellsCommand call.words command
+IsNamed call None told = SpellsNothing call.words ⊎ (told ≡ Status.NoMemory)
 
 -- Where a run was begun
 

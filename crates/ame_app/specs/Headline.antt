@@ -1,5 +1,5 @@
 -- What is promised of a call.
-use Rattle.std.specs.Prelude.{◌≡◌, ◌≢◌, ◌++◌, ℕ, List, map, length, All, Option, Some, None}
+use Rattle.std.specs.Prelude.{◌≡◌, ◌≢◌, ◌≤◌, ◌++◌, ℕ, List, map, length, All, Some, None}
 use Rattle.std.specs.Io.KnownBytes.{Appends}
 use Rattle.ame_io.specs.Counts.{HasRisen}
 use Rattle.ame_io.specs.Lines.{lines}
@@ -37,22 +37,12 @@ use Rattle.ame_shell.specs.Over.{AreOfSeats, NoneWereInTheWay}
 use Rattle.ame_app.specs.declared.parts.Front.{Front}
 use Rattle.ame_app.specs.declared.parts.Own.{Own}
 use Rattle.ame_app.specs.declared.status.Status.{Status}
+use Rattle.ame_app.specs.Reported.{RunView, Reported}
 use Rattle.ame_app.specs.Verdict.{verdict}
 use Rattle.ame_app.specs.Verbs.{options_of, BeginsFrom, Promises, written_behind}
 use Rattle.ame_app.specs.Calls.{Call, Asks}
 use Rattle.ame_app.specs.Texts.{IsProgramOf}
-use Rattle.ame_app.specs.Causes.{RefusalCause, CommandCause, status_of}
-
--- What a call reports beside its ends and its run: how it ended, the text of the program, which is empty where none was taken, the
--- code that was run, and what the command has of its own.
-pub record Reported : Type 0 where
-  pub status : Status
-  pub text : Text
-  pub code : Option FlatCode
-  pub own : Own
-
-abbrev pub reported : Status → Text → Option FlatCode → Own → Reported
-reported status text code own = record { status = status; text = text; code = code; own = own }
+use Rattle.ame_app.specs.Causes.{RefusalCause, IsNamed, CommandCause, status_of}
 
 -- the entries of a run, those from which it was opened first
 abbrev pub journal_of : End Val → List Entry
@@ -102,9 +92,18 @@ pub record IsWritten (status : Status) (text : List ℕ) (before after : Ends) :
 abbrev pub limits_of : Options → Limits
 limits_of options = record { turns = options.turns; slice = options.slice; seats = options.workers }
 
--- The headline: what is promised of a call in which a run was begun, by what its engine left and what is told of it, with what its ends tell before
--- and after.
-pub record Headline (call : Call) (report : Reported) (left end : End Val) (before after : Ends) : Type 0 where
+-- the limits are shown, and of a weak run that memory let go to its end that its turns are at most as many as they may be
+pub record IsLimited (limits : Limits) (end : End Val) : Type 0 where
+  pub limited : end.limits ≡ limits
+  pub most : end.stop ≢ Some Stop.NoMemory → end.turns ≤ limits.turns
+
+-- what a run of a command shows of its limits and its turns: only an engine counts them by their kinds
+abbrev pub ShowsTurns : Command → Limits → End Val → Type 0
+ShowsTurns (Command.Weak seed turns) limits end = IsLimited limits end
+ShowsTurns command limits end = ShowsCounts limits end
+
+-- The headline: what is promised of a call in which a run was begun, by the run and its end, with what its ends tell before and after.
+pub record Headline (call : Call) (report : Reported) (run : RunView) (end : End Val) (before after : Ends) : Type 0 where
   pub command : Command
   pub front : Front
   pub options : Options
@@ -113,16 +112,17 @@ pub record Headline (call : Call) (report : Reported) (left end : End Val) (befo
   pub final : Replayed
   -- The code is that of the text that the words ask for, which is a program that the types accept.
   pub asked : Asks call command front text
+  pub named : report.command ≡ Some command
   pub with_options : options_of command ≡ Some options
   pub text_is : report.text ≡ text
   pub program : IsProgramOf text call.devices compiled.accepted
-  pub code_is : report.code ≡ Some compiled
+  pub code_is : run.code ≡ compiled
   -- The journal, which begins as the command says, replays from the program as one run of the strong semantics.
   pub begun : BeginsFrom command front (program_of compiled) end.base
   pub replays : replay (program_of compiled) (journal_of end) ≡ Some final
   pub seats : AreOfSeats options.workers end.entries
   -- What was written is the output of that run, a line each, and the verdict line; what is left and reported is its state.
-  pub output : IsWritten report.status (lines final.state.output ++ (verdict_of end ++ written_behind command report.own (status_of end))) before after
+  pub output : IsWritten report.status (lines final.state.output ++ (verdict_of end ++ written_behind command run.left (status_of end))) before after
   pub printed : end.output ≡ final.state.output
   pub store : IsStore compiled end.cells final.state
   pub typed : IsTypedState compiled end.cells final.state
@@ -131,32 +131,33 @@ pub record Headline (call : Call) (report : Reported) (left end : End Val) (befo
   -- The verdict is that of the stop, and has its cause; it is the status, unless the sink failed.
   pub cause : CommandCause command (status_of end) options end final before after
   pub spoken : report.status ≢ Status.WriteFault → report.status ≡ status_of end
-  -- The report has what the command promises of its own.
-  pub own : Promises command front (program_of compiled) options report.own left
+  -- The run has what the command promises of its own.
+  pub own : Promises command front (program_of compiled) options run.left
   -- A fragment that was cut off, or that came to a value that is too high, is noted last, and only with that stop. That a fragment
   -- waits is noted once until somebody commits.
   pub notes : NotesStop end.stop end.entries
   pub once : IsNotedOnceBy command (journal_of end)
-  -- The limits are those of the words. Each turn of the engine is counted by its kind, and there are at most as many as the words let be.
-  pub shown : ShowsCounts (limits_of options) left
+  -- The limits are those of the words. Each turn of an engine is counted by its kind, and there are at most as many turns as the words let be.
+  pub shown : ShowsTurns command (limits_of options) end
   -- One worker by itself has nobody in its way.
   pub lone : options.workers ≡ 1 → NoneWereInTheWay end.counters
   -- Few answers turned a fragment back, at most eight for each fragment that there ever was and for each entry, and few tries left no
   -- entry. Turns that are used up were spent on entries and on tries; with one worker by itself there is no try then.
   pub bounds : HasBounds (program_of compiled) (limits_of options) final end.base end.entries end.turns end.counters end.tried end.stop
 
--- Just the verdict line of a refusal was written, behind what stands ahead of it. There is no code, and no device was called.
+-- Just the verdict line of a refusal was written, behind what stands ahead of it. There is no run, and no device was called.
 pub record IsToldAlone (ahead : List ℕ) (own : Own) (told : Status) (report : Reported) (before after : Ends) : Type 0 where
   pub spoken : report.status ≢ Status.WriteFault → report.status ≡ told
   pub output : IsWritten report.status (ahead ++ verdict told) before after
   pub devices : after.told ≡ before.told
-  pub nothing : report.code ≡ None
+  pub nothing : report.run ≡ None
   pub own_is : report.own ≡ own
 
--- What is promised of a call in which no run was begun: what is told of it has its cause.
+-- What is promised of a call in which no run was begun: what is told of it has its cause, and the report has the command.
 pub record IsTurnedAway (call : Call) (report : Reported) (before after : Ends) : Type 0 where
   pub ahead : List ℕ
   pub own : Own
   pub told : Status
   pub cause : RefusalCause call report.text ahead own told
+  pub named : IsNamed call report.command told
   pub alone : IsToldAlone ahead own told report before after

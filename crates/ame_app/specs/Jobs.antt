@@ -1,5 +1,5 @@
 -- What comes before a run, the run, and what is written after it, for the private functions.
-use Rattle.std.specs.Prelude.{◌≡◌, ◌≢◌, ℕ, ◌*◌, ◌≤◌, ◌⊎◌, List, [], map, length, Option, Some, ⊤}
+use Rattle.std.specs.Prelude.{◌≡◌, ◌≢◌, ℕ, ℤ, ◌*◌, ◌≤◌, ◌++◌, ◌⊎◌, List, [], map, length, Option, Some, ⊤}
 use Rattle.std.specs.Io.KnownBytes.{Appends}
 use Rattle.ame_io.specs.Counts.{HasRisen}
 use Rattle.ame_io.specs.Writes.{AppendsFront}
@@ -9,12 +9,13 @@ use Rattle.ame_lex.specs.Bytes.{Text}
 use Rattle.ame_lex.specs.declared.tokens.LexFault.{LexFault}
 use Rattle.ame_parse.specs.declared.fault.ParseFault.{ParseFault}
 use Rattle.ame_types.specs.declared.fault.TypesFail.{TypesFail}
-use Rattle.ame_term.specs.Tree.{Tree, Val as Value}
-use Rattle.ame_term.specs.Signature.{Signature}
+use Rattle.ame_term.specs.Tree.{Tree}
 use Rattle.ame_laws.specs.Typed.Listed.{signature_of}
+use Rattle.ame_store.specs.declared.cell.Cell.{Cell}
 use Rattle.ame_term.specs.State.{State}
 use Rattle.ame_code.specs.FlatCode.{FlatCode}
 use Rattle.ame_code.specs.Code.{program_of}
+use Rattle.ame_value.specs.View.{flat_value}
 use Rattle.ame_value.specs.declared.val.Val.{Val}
 use Rattle.ame_eval.specs.Values.{value_meant, IsMadeValue}
 use Rattle.ame_eval.specs.Fragments.{IsFragmentOf, stage_of}
@@ -26,7 +27,7 @@ use Rattle.ame_journal.specs.declared.entry.Entry.{Entry}
 use Rattle.ame_journal.specs.JournalView.{IsFit}
 use Rattle.ame_journal.specs.Replayed.{Replayed}
 use Rattle.ame_journal.specs.Replay.{replay}
-use Rattle.ame_journal.specs.Totals.{without_notes, total_steps}
+use Rattle.ame_journal.specs.Totals.{total_steps}
 use Rattle.ame_machine.specs.Meaning.{Meaning}
 use Rattle.ame_engine.specs.Core.{Core}
 use Rattle.ame_device.specs.declared.told.Told.{Told}
@@ -34,27 +35,28 @@ use Rattle.ame_protocol.specs.declared.types.Limits.{Limits}
 use Rattle.ame_protocol.specs.declared.certificate.Certificate.{Certificate}
 use Rattle.ame_protocol.specs.declared.stop.Stop.{Stop}
 use Rattle.ame_protocol.specs.Event.Causes.{IsTall, NotesStop}
-use Rattle.ame_protocol.specs.Event.Counting.{nothing_counted}
-use Rattle.ame_engine.specs.Ending.{End, IsEnd, CertifyAll}
+use Rattle.ame_engine.specs.Ending.{End, CertifyAll}
 use Rattle.ame_engine.specs.Resuming.{HasResumed}
 use Rattle.ame_shell.specs.Ends.{Ends}
-use Rattle.ame_shell.specs.Sent.{IsSent}
 use Rattle.ame_shell.specs.Heard.{HaveHeard, HaveFailed}
 use Rattle.ame_shell.specs.Over.{AreOfSeats, IsOver, IsOverSince}
 use Rattle.ame_weak.specs.declared.tries.Certificate.{Certificate as Failing}
 use Rattle.ame_runner.specs.Apart.{AreNotedApart}
 use Rattle.ame_runner.specs.declared.stop.WeakStop.{WeakStop}
 use Rattle.ame_app.specs.declared.fault.TextFault.{TextFault}
+use Rattle.ame_app.specs.declared.left.Left.{Left}
+use Rattle.ame_app.specs.declared.left.WeakEnd.{WeakEnd}
 use Rattle.ame_app.specs.declared.parts.Front.{Front}
 use Rattle.ame_app.specs.declared.parts.Own.{Own}
-use Rattle.ame_app.specs.declared.parts.Weakened.{Weakened}
 use Rattle.ame_app.specs.declared.status.Status.{Status}
 use Rattle.ame_app.specs.declared.verbs.Outlook.{Outlook}
 use Rattle.ame_app.specs.Verbs.{Declines, Settles, options_of, BeginsFrom, Promises}
 use Rattle.ame_app.specs.Verbs.Weak.{alone_with, IsWeakJournal, StandsAtCallOf}
 use Rattle.ame_app.specs.Calls.{Call, Asks}
 use Rattle.ame_app.specs.Texts.{IsNoProgram, IsIllTyped, IsProgramOf}
-use Rattle.ame_app.specs.Headline.{limits_of, Reported, IsToldAlone}
+use Rattle.ame_app.specs.Left.{end_in}
+use Rattle.ame_app.specs.Reported.{Reported}
+use Rattle.ame_app.specs.Headline.{limits_of, IsStore, IsTypedState, IsToldAlone}
 
 -- How failures of what comes before a run are told
 
@@ -138,6 +140,10 @@ IsOutlook command front code (Outlook.Told settled) = Settles command front (pro
 IsOutlook command front code (Outlook.GoesOn engine) = IsOpened command front code engine
 IsOutlook command front code Outlook.Begins = ⊤
 
+-- two values have the same plain data
+abbrev pub are_alike : Val → Val → Type 0
+are_alike v w = flat_value v ≡ flat_value w
+
 -- The run
 
 -- a run of code from its beginning, with these options, is over
@@ -150,69 +156,68 @@ IsOverFrom engine before end after =
     IsOverSince engine.base (program_of engine.code) (signature_of engine.code.accepted) engine.limits (value_meant engine.code) before end after
 
 -- a run that a command makes by an engine is over, and has kept what the command promises
-pub record IsEngineRunMade (command : Command) (front : Front) (code : FlatCode) (before : Ends) (own : Own) (end : End Val) (after : Ends) : Type 0 where
+pub record IsEngineRunMade (command : Command) (front : Front) (code : FlatCode) (before : Ends) (left : Left) (after : Ends) : Type 0 where
   pub options : Options
   pub with_options : options_of command ≡ Some options
   pub base : List Entry
   pub begun : BeginsFrom command front (program_of code) base
-  pub over : IsOverSince base (program_of code) (signature_of code.accepted) (limits_of options) (value_meant code) before end after
-  pub own_is : Promises command front (program_of code) options own end
+  pub over : IsOverSince base (program_of code) (signature_of code.accepted) (limits_of options) (value_meant code) before (end_in left) after
+  pub own_is : Promises command front (program_of code) options left
 
 -- the cause of the stop of a weak run, with its limit and its turns, in the state that is left
-abbrev pub HasWeakStop : Stop → ℕ → Weakened → State → Type 0
-HasWeakStop Stop.Finished limit weakened s = s.members ≡ []
-HasWeakStop Stop.Blocked limit weakened s = CertifyAll s weakened.certificates.items
-HasWeakStop Stop.Spent limit weakened s = (weakened.turns ≡ limit) × (s.members ≢ [])
-HasWeakStop (Stop.DeviceFault device) limit weakened s = StandsAtCallOf s device
-HasWeakStop (Stop.Tall number) limit weakened s = IsTall number weakened.journal.entries
-HasWeakStop Stop.NoMemory limit weakened s = ⊤
-HasWeakStop stop limit weakened s = ⊥
+abbrev pub HasWeakStop : Stop → ℕ → WeakEnd → State → Type 0
+HasWeakStop Stop.Finished limit weak s = s.members ≡ []
+HasWeakStop Stop.Blocked limit weak s = CertifyAll s weak.certificates.items
+HasWeakStop Stop.Spent limit weak s = (weak.turns ≡ limit) × (s.members ≢ [])
+HasWeakStop (Stop.DeviceFault device) limit weak s = StandsAtCallOf s device
+HasWeakStop (Stop.Tall number) limit weak s = IsTall number weak.journal.entries
+HasWeakStop Stop.NoMemory limit weak s = ⊤
+HasWeakStop stop limit weak s = ⊥
 
 -- what a weak run tells, with what devices tell before and after
-pub record TellsWeakly (program : Tree) (limit : ℕ) (weakened : Weakened) (before after : List Told) : Type 0 where
-  pub straight : IsWeakJournal program weakened.journal.entries
-  pub paid : weakened.stop ≢ Stop.NoMemory → weakened.turns ≤ 3 * total_steps weakened.journal.entries
+pub record TellsWeakly (program : Tree) (limit : ℕ) (weak : WeakEnd) (before after : List Told) : Type 0 where
+  pub straight : IsWeakJournal program weak.labels.items weak.tries.items weak.journal.entries
+  pub paid : weak.stop ≢ Stop.NoMemory → weak.turns ≤ 3 * total_steps weak.journal.entries
+  pub within : weak.stop ≢ Stop.NoMemory → weak.turns ≤ limit
   pub final : Replayed
-  pub replays : replay program weakened.journal.entries ≡ Some final
-  pub seats : AreOfSeats 1 weakened.journal.entries
-  pub cause : HasWeakStop weakened.stop limit weakened final.state
-  pub notes : NotesStop (Some weakened.stop) weakened.journal.entries
-  pub apart : AreNotedApart weakened.journal.entries
+  pub replays : replay program weak.journal.entries ≡ Some final
+  pub seats : AreOfSeats 1 weak.journal.entries
+  pub cause : HasWeakStop weak.stop limit weak final.state
+  pub notes : NotesStop (Some weak.stop) weak.journal.entries
+  pub apart : AreNotedApart weak.journal.entries
   pub count : length after ≡ length before
-  pub heard : weakened.stop ≢ Stop.NoMemory → HaveHeard program weakened.journal.entries before after
-  pub failed : weakened.stop ≢ Stop.NoMemory → HaveFailed (Some weakened.stop) before after
+  pub heard : weak.stop ≢ Stop.NoMemory → HaveHeard program weak.journal.entries before after
+  pub failed : weak.stop ≢ Stop.NoMemory → HaveFailed (Some weak.stop) before after
 
--- an engine was opened on entries and taken apart at once, and its lines were sent
-pub record IsTakenApart (base : List Entry) (program : Tree) (signature : Signature) (limits : Limits) (value : Val → Value) (end : End Val)
-    (before after : Ends) : Type 0 where
-  pub ends : IsEnd program signature limits value end
-  pub base_is : end.base ≡ base
-  pub nothing : end.entries ≡ []
-  pub untried : end.tried ≡ []
-  pub uncounted : end.counters ≡ nothing_counted
-  pub sent : IsSent end.stop (lines ends.r.state.output) before after
+-- cells and an output are those of a state
+pub record IsLeftOf (code : FlatCode) (cells : List (Cell Val)) (output : List ℤ) (s : State) : Type 0 where
+  pub store : IsStore code cells s
+  pub typed : IsTypedState code cells s
+  pub printed : output ≡ s.output
 
--- so it was with this engine
-abbrev pub IsTakenFrom : Core FlatCode Val Fragment → End Val → Ends → Ends → Type 0
-IsTakenFrom engine end before after =
-    IsTakenApart engine.base (program_of engine.code) (signature_of engine.code.accepted) engine.limits (value_meant engine.code) end before after
+-- so it is of the state to which entries lead
+abbrev pub LeadsToLeft : FlatCode → List Entry → List (Cell Val) → List ℤ → Type 0
+LeadsToLeft code entries cells output = (led : Replayed) → replay (program_of code) entries ≡ Some led → IsLeftOf code cells output led.state
 
--- an engine goes on with the code from the journal of a weak run without its notes
-abbrev pub IsEngineBehind : Weakened → ℕ → FlatCode → Core FlatCode Val Fragment → Type 0
-IsEngineBehind weakened turns code engine = IsEngineOn (alone_with turns) (without_notes weakened.journal.entries) code engine
+-- a weak run has the store and the output to which its journal leads, and these limits
+pub record HasLeft (code : FlatCode) (limits : Limits) (weak : WeakEnd) : Type 0 where
+  pub limits_are : weak.limits ≡ limits
+  pub leads : LeadsToLeft code weak.journal.entries weak.store weak.output.items
 
--- a weak run is over, and an engine was taken apart that was opened on its journal without the notes
-pub record IsWeakRunMade (turns : ℕ) (code : FlatCode) (before : Ends) (own : Own) (left : End Val) (after : Ends) : Type 0 where
-  pub weakened : Weakened
-  pub own_is : own ≡ Own.Weak weakened
-  pub tells : TellsWeakly (program_of code) turns weakened before.told after.told
-  pub apart : IsTakenApart (without_notes weakened.journal.entries) (program_of code) (signature_of code.accepted) (limits_of (alone_with turns))
-      (value_meant code) left before after
+-- a weak run is over, and its lines are yet to be written
+pub record IsWeakRunMade (turns : ℕ) (code : FlatCode) (before : Ends) (left : Left) (ahead : List ℕ) (after : Ends) : Type 0 where
+  pub weak : WeakEnd
+  pub left_is : left ≡ Left.Weak weak
+  pub tells : TellsWeakly (program_of code) turns weak before.told after.told
+  pub has_left : HasLeft code (limits_of (alone_with turns)) weak
+  pub ahead_is : ahead ≡ lines weak.output.items
+  pub unwritten : after.written ≡ before.written
+  pub unfailed : after.write_faults ≡ before.write_faults
 
--- the run of a command is over
-abbrev pub IsRunMade : Command → Front → FlatCode → Ends → Own → End Val → Ends → Type 0
-IsRunMade (Command.Weak seed turns) front code before own left after = IsWeakRunMade turns code before own left after
-IsRunMade command front code before own left after = IsEngineRunMade command front code before own left after
+-- the run of a command is over, with these bytes to be written ahead of the verdict line if it was a weak run
+abbrev pub IsRunMade : Command → Front → FlatCode → Ends → Left → List ℕ → Ends → Type 0
+IsRunMade (Command.Weak seed turns) front code before left ahead after = IsWeakRunMade turns code before left ahead after
+IsRunMade command front code before left ahead after = IsEngineRunMade command front code before left after
 
 -- no run was begun of a job: what is told is what its command tells of the program, or memory was wanted
 pub record IsLeft (command : Command) (front : Front) (code : FlatCode) (report : Reported) (before after : Ends) : Type 0 where
@@ -220,9 +225,10 @@ pub record IsLeft (command : Command) (front : Front) (code : FlatCode) (report 
   pub own : Own
   pub told : Status
   pub cause : Settles command front (program_of code) ahead own told ⊎ ((ahead ≡ []) × (own ≡ Own.Nothing) × (told ≡ Status.NoMemory))
+  pub named : report.command ≡ Some command
   pub alone : IsToldAlone ahead own told report before after
 
--- How a weak run stops, as a run of an engine does
+-- Why a weak run stops, as a stop of an engine
 
 abbrev pub stop_told : WeakStop → Stop
 stop_told WeakStop.Finished = Stop.Finished
@@ -265,8 +271,15 @@ abbrev pub Speaks : Status → List ℕ → Status → Option (List ℕ) → ℕ
 Speaks told text status written faults after faults_after =
     IsSpoken told text status written faults after faults_after ⊎ IsCutShort text status written faults after faults_after
 
--- Behind the lines of a run a text was written, by the stop that its engine kept; nothing was, where that is a fault of the sink.
+-- After the lines of a run a text was written, by the stop that its engine kept; nothing was, where that is a fault of the sink.
 abbrev pub SpeaksBehind : Option Stop → Status → List ℕ → Status → Option (List ℕ) → ℕ → Option (List ℕ) → ℕ → Type 0
 SpeaksBehind (Some Stop.WriteFault) told text status written faults after faults_after =
     (status ≡ Status.WriteFault) × (after ≡ written) × (faults_after ≡ faults)
 SpeaksBehind stop told text status written faults after faults_after = Speaks told text status written faults after faults_after
+
+-- An engine's lines were written as it ran. Those of a weak run are written first.
+abbrev pub SpeaksAfter : Left → List ℕ → Status → List ℕ → Status → Option (List ℕ) → ℕ → Option (List ℕ) → ℕ → Type 0
+SpeaksAfter (Left.Engine end extra) ahead told text status written faults after faults_after =
+    SpeaksBehind end.stop told text status written faults after faults_after
+SpeaksAfter (Left.Weak weak) ahead told text status written faults after faults_after =
+    Speaks told (ahead ++ text) status written faults after faults_after

@@ -1,8 +1,10 @@
 pub mod Verdict
+pub mod Left
 pub mod Verbs
 pub mod Calls
 pub mod Texts
 pub mod Causes
+pub mod Reported
 pub mod Headline
 pub mod Complete
 pub mod Answered

@@ -2,11 +2,10 @@
 use Rattle.std.specs.Prelude.{◌≡◌, ◌≢◌, ◌⊎◌, ℕ, List, [], replicate, Option, Some, None}
 use Rattle.ame_device.specs.declared.told.Heard.{Heard}
 use Rattle.ame_device.specs.Calls.{told}
-use Rattle.ame_value.specs.declared.val.Val.{Val}
-use Rattle.ame_engine.specs.Ending.{End}
 use Rattle.ame_shell.specs.Ends.{Ends}
 use Rattle.ame_app.specs.declared.standard.StandardDevice.{StandardDevice}
 use Rattle.ame_app.specs.declared.status.Status.{Status}
+use Rattle.ame_app.specs.Reported.{Reported}
 
 -- what a device heard, and its count of faults
 abbrev pub heard_by : StandardDevice → Option (List Heard)
@@ -22,11 +21,11 @@ abbrev pub with_new : ℕ → Option (List ℕ) → ℕ → Ends
 with_new count written faults = record { written = written; write_faults = faults; told = replicate count (told (Some []) 0) }
 
 -- there was no memory for the devices: none come back, no run was begun, and want of memory is told
-pub record HasNoDevices (count : ℕ) (status : Status) (ended : Option (End Val)) : Type 0 where
+pub record HasNoDevices (count : ℕ) (report : Reported) : Type 0 where
   pub none : count ≡ 0
-  pub unbegun : ended ≡ None
-  pub told : status ≢ Status.WriteFault → status ≡ Status.NoMemory
+  pub unbegun : report.run ≡ None
+  pub told : report.status ≢ Status.WriteFault → report.status ≡ Status.NoMemory
 
 -- the two new devices come back, unless there was no memory for them
-abbrev pub ComeBack : ℕ → Status → Option (End Val) → Type 0
-ComeBack count status ended = (count ≡ 2) ⊎ HasNoDevices count status ended
+abbrev pub ComeBack : ℕ → Reported → Type 0
+ComeBack count report = (count ≡ 2) ⊎ HasNoDevices count report

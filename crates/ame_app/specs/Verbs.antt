@@ -10,10 +10,9 @@ use Rattle.std.specs.Prelude.{ℕ, Bool, true, false, List, [], Option, Some, No
 use Rattle.ame_lex.specs.Bytes.{Text}
 use Rattle.ame_term.specs.Tree.{Tree}
 use Rattle.ame_journal.specs.declared.entry.Entry.{Entry}
-use Rattle.ame_value.specs.declared.val.Val.{Val}
 use Rattle.ame_cli.specs.declared.command.Options.{Options}
 use Rattle.ame_cli.specs.declared.command.Command.{Command}
-use Rattle.ame_engine.specs.Ending.{End}
+use Rattle.ame_app.specs.declared.left.Left.{Left}
 use Rattle.ame_app.specs.declared.parts.Front.{Front}
 use Rattle.ame_app.specs.declared.parts.Own.{Own}
 use Rattle.ame_app.specs.declared.status.Status.{Status}
@@ -94,22 +93,22 @@ BeginsFrom (Command.Weak seed turns) front program base = BeginsWithNothing base
 
 -- What is told
 
--- what the report has of the command's own, of a run of a program whose engine left this
-abbrev pub Promises : Command → Front → Tree → Options → Own → End Val → Type 0
-Promises (Command.Run options) front program with own left = HasNothing own
-Promises (Command.Bench seed size options) front program with own left = HasNothing own
-Promises (Command.Sim seed options) front program with own left = IsPicked (drawn seed) with.workers own left
-Promises (Command.Replay options) front program with own left = IsPickedAsListed front with.workers own left
-Promises Command.Check front program with own left = ⊥
-Promises (Command.Resume options) front program with own left = TellsResumed own left
-Promises (Command.Weak seed turns) front program with own left = IsWeakened program own left
+-- what a run of a program left that the command made
+abbrev pub Promises : Command → Front → Tree → Options → Left → Type 0
+Promises (Command.Run options) front program with left = HasNothing left
+Promises (Command.Bench seed size options) front program with left = HasNothing left
+Promises (Command.Sim seed options) front program with left = IsPicked (drawn seed) with.workers left
+Promises (Command.Replay options) front program with left = IsPickedAsListed front with.workers left
+Promises Command.Check front program with left = ⊥
+Promises (Command.Resume options) front program with left = TellsResumed left
+Promises (Command.Weak seed turns) front program with left = IsWeakened program left
 
--- what is written behind the verdict line of a run
-abbrev pub written_behind : Command → Own → Status → List ℕ
-written_behind (Command.Run options) own told = []
-written_behind (Command.Bench seed size options) own told = []
-written_behind (Command.Sim seed options) own told = schedule_behind own told
-written_behind (Command.Replay options) own told = schedule_behind own told
-written_behind Command.Check own told = []
-written_behind (Command.Resume options) own told = []
-written_behind (Command.Weak seed turns) own told = []
+-- what is written after the verdict line of a run
+abbrev pub written_behind : Command → Left → Status → List ℕ
+written_behind (Command.Run options) left told = []
+written_behind (Command.Bench seed size options) left told = []
+written_behind (Command.Sim seed options) left told = schedule_behind left told
+written_behind (Command.Replay options) left told = schedule_behind left told
+written_behind Command.Check left told = []
+written_behind (Command.Resume options) left told = []
+written_behind (Command.Weak seed turns) left told = []

@@ -1,28 +1,32 @@
 //! The top call: from words and a program's bytes to its lines.
 
-ghost use Rattle.std.specs.Prelude.{◌≡◌, ◌≢◌, ◌≤◌, IfSome, IsSome, None, [], length, map, option_map, string_bytes, vec_len};
+ghost use Rattle.std.specs.Prelude.{◌≡◌, ◌≤◌, IfSome, IsSome, None, Some, [], length, map, string_bytes, vec_len};
 ghost use Rattle.std.specs.Arc.{arc_value};
 ghost use Rattle.ame_types.specs.Limits.{max_devices};
 ghost use Rattle.ame_cli.specs.Ranges.{IsInRange};
 ghost use Rattle.ame_shell.specs.Ends.{Ends, ends_of};
 ghost use Rattle.ame_app.specs.Answered.{IsPromised};
 ghost use Rattle.ame_app.specs.Calls.{Call, what_is_given, call_of};
-ghost use Rattle.ame_app.specs.Headline.{reported, Headline, IsToldAlone, IsTurnedAway};
-ghost use Rattle.ame_app.specs.Verbs.Weak.{told_by};
+ghost use Rattle.ame_app.specs.Headline.{Headline, IsToldAlone};
+ghost use Rattle.ame_app.specs.Left.{end_in};
+ghost use Rattle.ame_app.specs.Reported.{reported};
 ghost use Rattle.ame_app.specs.Jobs.{IsJobOf, IsOpened, IsRunMade, IsLeft};
 
-use crate::asked::{Asked, asked_of};
+use crate::asked::taken_of;
 use crate::code::code_of;
+use crate::left::Ran;
 use crate::parts::Own;
+use crate::refusal::{Refusal, turn_away, turn_back};
 use crate::report::Report;
-use crate::speak::{speak_after, speak_behind};
+use crate::speak::speak_after;
 use crate::status::Status;
-use crate::verbs::{Job, Made, Outlook, Settled, make, settle};
-use ame_cli::spells_one_command;
+use crate::verbs::{Job, Made, Outlook, Settled, Taken, make, settle};
+use ame_cli::{read_words, spells_one_command};
 use ame_device::Device;
 use ame_engine::Engine;
 use ame_eval::Fragment;
 use ame_io::{Sink, Source};
+use ame_shell::Io;
 use ame_term::NoMemory;
 use ame_worker::Gate;
 use std::alloc::Global;
@@ -49,19 +53,32 @@ where
     G: Gate + Sync,
     requires few { vec_len devices ≤ max_devices }
     ensures answered { IsPromised (call_of (map string_bytes words.now)
-        (what_is_given S.left S.faults source.old) (what_is_given S.left S.faults source.new) (vec_len devices))
-        (reported result.status result.text.items (option_map arc_value result.code) result.own) result.ended
+        (what_is_given S.left S.faults source.old) (what_is_given S.left S.faults source.new) (vec_len devices)) (reported result)
         (ends_of K.written K.faults D.device_heard D.device_faults sink devices.items)
         (ends_of K.written K.faults D.device_heard D.device_faults result.sink result.devices.items) }
 {
     spells_one_command();
-    let Asked {
-        command,
-        front,
-        text,
-    } = match asked_of(alloc, words, source) {
-        Ok(asked) => asked,
-        Err(told) => return turn_away(told, Vec::new(alloc), sink, devices),
+    let command = match read_words(alloc, words) {
+        Ok(command) => command,
+        Err(fail) => {
+            let refusal = Refusal {
+                command: None,
+                told: Status::from(fail),
+                text: Vec::new(alloc),
+            };
+            return turn_away(refusal, sink, devices);
+        }
+    };
+    let Taken { front, text } = match taken_of(alloc, &command, source) {
+        Ok(taken) => taken,
+        Err(told) => {
+            let refusal = Refusal {
+                command: Some(command),
+                told,
+                text: Vec::new(alloc),
+            };
+            return turn_away(refusal, sink, devices);
+        }
     };
     match code_of(alloc, &text, devices.len() as u32) {
         Ok(code) => {
@@ -70,13 +87,20 @@ where
                 command,
                 front,
             };
-            answer(rt, alloc, job, text, sink, devices, gate)
+            answer(rt, alloc, job, text, Io::new(sink, devices), gate)
         }
-        Err(told) => turn_away(told, text, sink, devices),
+        Err(told) => {
+            let refusal = Refusal {
+                command: Some(command),
+                told,
+                text,
+            };
+            turn_away(refusal, sink, devices)
+        }
     }
 }
 
-/// The same with boxed devices.
+/// Does the same with boxed devices.
 pub fn run_words<R, S, K, G>(
     rt: &R,
     alloc: Global,
@@ -93,22 +117,20 @@ where
     G: Gate + Sync,
     requires few { vec_len devices ≤ max_devices }
     ensures answered { IsPromised (call_of (map string_bytes words.now)
-        (what_is_given S.left S.faults source.old) (what_is_given S.left S.faults source.new) (vec_len devices))
-        (reported result.status result.text.items (option_map arc_value result.code) result.own) result.ended
+        (what_is_given S.left S.faults source.old) (what_is_given S.left S.faults source.new) (vec_len devices)) (reported result)
         (ends_of K.written K.faults device_heard device_faults sink devices.items)
         (ends_of K.written K.faults device_heard device_faults result.sink result.devices.items) }
 {
     run_words_over(rt, alloc, words, source, sink, devices, gate)
 }
 
-/// Tells what is told of a program without a run, or makes a run.
+/// Answers without a run where possible; otherwise runs.
 fn answer<R, K, D, G>(
     rt: &R,
     alloc: Global,
     job: Job,
     text: Vec<u8>,
-    sink: K,
-    devices: Vec<D>,
+    io: Io<K, D>,
     gate: &G,
 ) -> Report<K, D>
 where
@@ -117,39 +139,45 @@ where
     D: Device + Send,
     G: Gate + Sync,
     requires ranges { IsInRange job.command }
-    requires devices { (arc_value job.code).accepted.devices ≡ vec_len devices }
+    requires devices { (arc_value job.code).accepted.devices ≡ length io.ends.told }
     ensures text { result.text ≡ text }
-    ensures ran { IfSome result.ended (λ end. (call : Call) → call.devices ≡ vec_len devices
-        → IsJobOf call text.items (arc_value job.code) job.command job.front
-        → Headline call (reported result.status result.text.items (option_map arc_value result.code) result.own) end (told_by result.own end)
-        (ends_of K.written K.faults D.device_heard D.device_faults sink devices.items)
+    ensures ran { IfSome (reported result).run (λ run. (call : Call) → IsJobOf call text.items (arc_value job.code) job.command job.front
+        → Headline call (reported result) run (end_in run.left) io.ends
         (ends_of K.written K.faults D.device_heard D.device_faults result.sink result.devices.items)) }
-    ensures turned_away { result.ended ≡ None → IsLeft job.command job.front (arc_value job.code)
-        (reported result.status result.text.items (option_map arc_value result.code) result.own)
-        (ends_of K.written K.faults D.device_heard D.device_faults sink devices.items)
+    ensures turned_away { (reported result).run ≡ None → IsLeft job.command job.front (arc_value job.code) (reported result) io.ends
         (ends_of K.written K.faults D.device_heard D.device_faults result.sink result.devices.items) }
 {
+    let command = Some(job.command);
     match settle(alloc, &job) {
         Ok(Outlook::Told(Settled { told, ahead, own })) => {
-            tell(&ahead, own, told, text, sink, devices)
+            let refusal = Refusal {
+                command,
+                told,
+                text,
+            };
+            turn_back(&ahead, own, refusal, io)
         }
-        Ok(Outlook::Begins) => run(rt, alloc, job, None, text, sink, devices, gate),
-        Ok(Outlook::GoesOn(engine)) => {
-            run(rt, alloc, job, Some(engine), text, sink, devices, gate)
+        Ok(Outlook::Begins) => run(rt, alloc, job, None, text, io, gate),
+        Ok(Outlook::GoesOn(engine)) => { run(rt, alloc, job, Some(engine), text, io, gate) }
+        Err(NoMemory) => {
+            let refusal = Refusal {
+                command,
+                told: Status::NoMemory,
+                text,
+            };
+            turn_back(&[], Own::Nothing, refusal, io)
         }
-        Err(NoMemory) => turn_away(Status::NoMemory, text, sink, devices),
     }
 }
 
-/// Makes a run, from an engine where it goes on from one, and tells how it ended.
+/// Makes a run, from an engine where it goes on from one, and reports how it ended.
 fn run<R, K, D, G>(
     rt: &R,
     alloc: Global,
     job: Job,
     engine: Option<Engine<Fragment>>,
     text: Vec<u8>,
-    sink: K,
-    devices: Vec<D>,
+    io: Io<K, D>,
     gate: &G,
 ) -> Report<K, D>
 where
@@ -158,93 +186,53 @@ where
     D: Device + Send,
     G: Gate + Sync,
     requires ranges { IsInRange job.command }
-    requires devices { (arc_value job.code).accepted.devices ≡ vec_len devices }
+    requires devices { (arc_value job.code).accepted.devices ≡ length io.ends.told }
     requires opened { IfSome engine (IsOpened job.command job.front (arc_value job.code)) }
     ensures text { result.text ≡ text }
-    ensures ran { IfSome result.ended (λ end. (call : Call) → call.devices ≡ vec_len devices
-        → IsJobOf call text.items (arc_value job.code) job.command job.front
-        → Headline call (reported result.status result.text.items (option_map arc_value result.code) result.own) end (told_by result.own end)
-        (ends_of K.written K.faults D.device_heard D.device_faults sink devices.items)
+    ensures command { result.command ≡ Some job.command }
+    ensures ran { IfSome (reported result).run (λ run. (call : Call) → IsJobOf call text.items (arc_value job.code) job.command job.front
+        → Headline call (reported result) run (end_in run.left) io.ends
         (ends_of K.written K.faults D.device_heard D.device_faults result.sink result.devices.items)) }
-    ensures turned_away { result.ended ≡ None → IsToldAlone [] Own.Nothing Status.NoMemory
-        (reported result.status result.text.items (option_map arc_value result.code) result.own)
-        (ends_of K.written K.faults D.device_heard D.device_faults sink devices.items)
+    ensures turned_away { (reported result).run ≡ None → IsToldAlone [] Own.Nothing Status.NoMemory (reported result) io.ends
         (ends_of K.written K.faults D.device_heard D.device_faults result.sink result.devices.items) }
 {
-    match make(rt, alloc, &job, engine, sink, devices, gate) {
+    match make(rt, alloc, &job, engine, io, gate) {
         Ok(made) => conclude(job, text, made),
-        Err((sink, devices)) => turn_away(Status::NoMemory, text, sink, devices),
+        Err(io) => {
+            let told = Status::NoMemory;
+            let refusal = Refusal {
+                command: Some(job.command),
+                told,
+                text,
+            };
+            turn_back(&[], Own::Nothing, refusal, io)
+        }
     }
 }
 
-/// Tells how a run ended.
+/// Writes how a run ended, and reports it.
 fn conclude<K: Sink + Drop, D: Device>(job: Job, text: Vec<u8>, made: Made<K, D>) -> Report<K, D>
-    ensures ended { IsSome result.ended }
+    ensures run { IsSome (reported result).run }
     ensures text { result.text ≡ text }
-    ensures ran { IfSome result.ended (λ end. (call : Call) (before : Ends) → IsJobOf call text.items (arc_value job.code) job.command job.front
-        → IsRunMade job.command job.front (arc_value job.code) before made.own made.left.ended
-        (ends_of K.written K.faults D.device_heard D.device_faults made.left.sink made.left.devices.items)
-        → Headline call (reported result.status result.text.items (option_map arc_value result.code) result.own) end (told_by result.own end) before
+    ensures command { result.command ≡ Some job.command }
+    ensures ran { IfSome (reported result).run (λ run. (call : Call) (before : Ends) → IsJobOf call text.items (arc_value job.code) job.command job.front
+        → IsRunMade job.command job.front (arc_value job.code) before made.left made.ahead.items made.io.ends
+        → Headline call (reported result) run (end_in run.left) before
         (ends_of K.written K.faults D.device_heard D.device_faults result.sink result.devices.items)) }
 {
-    let Made { left, own } = made;
-    let mut sink = left.sink;
-    let told = Status::of(&left.ended, &own);
-    let status = speak_after(&mut sink, &left.ended, told, &job.command, &own);
+    let Made { left, ahead, io } = made;
+    let (mut sink, devices) = io.into_parts();
+    let told = Status::of(&left);
+    let status = speak_after(&mut sink, &ahead, told, &job.command, &left);
     Report {
         status,
         text,
-        code: Some(job.code),
-        ended: Some(left.ended),
-        own,
-        sink,
-        devices: left.devices,
-    }
-}
-
-/// Tells why nothing was run.
-pub(crate) fn turn_away<K: Sink + Drop, D: Device>(
-    told: Status,
-    text: Vec<u8>,
-    sink: K,
-    devices: Vec<D>,
-) -> Report<K, D>
-    requires other { told ≢ Status.WriteFault }
-    ensures ended { result.ended ≡ None }
-    ensures text { result.text ≡ text }
-    ensures devices { result.devices ≡ devices }
-    ensures alone { IsToldAlone [] Own.Nothing told (reported result.status result.text.items (option_map arc_value result.code) result.own)
-        (ends_of K.written K.faults D.device_heard D.device_faults sink devices.items)
-        (ends_of K.written K.faults D.device_heard D.device_faults result.sink result.devices.items) }
-{
-    tell(&[], Own::Nothing, told, text, sink, devices)
-}
-
-/// Tells how a call ended in which no run was begun, behind the bytes that stand ahead.
-fn tell<K: Sink + Drop, D: Device>(
-    ahead: &[u8],
-    own: Own,
-    told: Status,
-    text: Vec<u8>,
-    sink: K,
-    devices: Vec<D>,
-) -> Report<K, D>
-    requires other { told ≢ Status.WriteFault }
-    ensures ended { result.ended ≡ None }
-    ensures text { result.text ≡ text }
-    ensures devices { result.devices ≡ devices }
-    ensures alone { IsToldAlone ahead.now own told (reported result.status result.text.items (option_map arc_value result.code) result.own)
-        (ends_of K.written K.faults D.device_heard D.device_faults sink devices.items)
-        (ends_of K.written K.faults D.device_heard D.device_faults result.sink result.devices.items) }
-{
-    let mut sink = sink;
-    let status = speak_behind(&mut sink, ahead, told);
-    Report {
-        status,
-        text,
-        code: None,
-        ended: None,
-        own,
+        command: Some(job.command),
+        run: Some(Ran {
+            code: job.code,
+            left,
+        }),
+        own: Own::Nothing,
         sink,
         devices,
     }

@@ -1,18 +1,19 @@
 //! A process: its words, and its devices.
 
-ghost use Rattle.std.specs.Prelude.{◌≡◌, ◌≤◌, [], ◌∷◌, IfOk, IfErr, IfSome, Some, None, map, option_map, string_bytes, vec_len};
-ghost use Rattle.std.specs.Arc.{arc_value};
+ghost use Rattle.std.specs.Prelude.{◌≡◌, ◌≤◌, [], ◌∷◌, IfOk, IfErr, IfSome, Some, None, map, string_bytes, vec_len};
 ghost use Rattle.ame_device.specs.Calls.{told, all_told};
 ghost use Rattle.ame_shell.specs.Ends.{ends_of};
 ghost use Rattle.ame_app.specs.Calls.{what_is_given, call_of};
 ghost use Rattle.ame_app.specs.Answered.{IsPromised};
-ghost use Rattle.ame_app.specs.Headline.{reported, IsToldAlone};
+ghost use Rattle.ame_app.specs.Headline.{IsToldAlone};
+ghost use Rattle.ame_app.specs.Reported.{reported};
 ghost use Rattle.ame_app.specs.declared.parts.Own.{Own};
 ghost use Rattle.ame_app.specs.Standard.{heard_by, faults_of, with_new, ComeBack};
 ghost use Rattle.ame_app.specs.Verdict.{unread};
 
-use crate::call::{run_words_over, turn_away};
+use crate::call::run_words_over;
 use crate::fault::WordsFault;
+use crate::refusal::{Refusal, turn_away};
 use crate::report::Report;
 use crate::standard::StandardDevice;
 use crate::status::Status;
@@ -53,13 +54,11 @@ where
     K: Sink + Send + Drop,
     ensures answered { IfOk words (λ ws. IsPromised (call_of (map string_bytes ws.items)
         (what_is_given S.left S.faults source.old) (what_is_given S.left S.faults source.new) 2)
-        (reported result.status result.text.items (option_map arc_value result.code) result.own) result.ended
-        (with_new (vec_len result.devices) (K.written sink) (K.faults sink))
+        (reported result) (with_new (vec_len result.devices) (K.written sink) (K.faults sink))
         (ends_of K.written K.faults heard_by faults_of result.sink result.devices.items)) }
-    ensures two { IfSome result.ended (λ _. vec_len result.devices ≡ 2) }
-    ensures devices { IfOk words (λ _. ComeBack (vec_len result.devices) result.status result.ended) }
-    ensures unread { IfErr words (λ fault. (result.ended ≡ None) × IsToldAlone [] Own.Nothing (unread fault)
-        (reported result.status result.text.items (option_map arc_value result.code) result.own)
+    ensures two { IfSome result.run (λ _. vec_len result.devices ≡ 2) }
+    ensures devices { IfOk words (λ _. ComeBack (vec_len result.devices) (reported result)) }
+    ensures unread { IfErr words (λ fault. (result.command ≡ None) × IsToldAlone [] Own.Nothing (unread fault) (reported result)
         (ends_of K.written K.faults heard_by faults_of sink [])
         (ends_of K.written K.faults heard_by faults_of result.sink result.devices.items)) }
     ensures small { vec_len result.text ≤ READ_LIMIT }
@@ -67,11 +66,25 @@ where
     spells_one_command();
     let words = match words {
         Ok(words) => words,
-        Err(fault) => return turn_away(unread(fault), Vec::new(alloc), sink, Vec::new(alloc)),
+        Err(fault) => {
+            let refusal = Refusal {
+                command: None,
+                told: unread(fault),
+                text: Vec::new(alloc),
+            };
+            return turn_away(refusal, sink, Vec::new(alloc));
+        }
     };
     match standard_devices(alloc) {
         Ok(devices) => run_words_over(rt, alloc, &words, source, sink, devices, &NoGate),
-        Err(_) => turn_away(Status::NoMemory, Vec::new(alloc), sink, Vec::new(alloc)),
+        Err(_) => {
+            let refusal = Refusal {
+                command: None,
+                told: Status::NoMemory,
+                text: Vec::new(alloc),
+            };
+            turn_away(refusal, sink, Vec::new(alloc))
+        }
     }
 }
 
@@ -85,7 +98,7 @@ fn standard_devices(alloc: Global) -> Result<Vec<StandardDevice>, AllocError>
     Ok(devices)
 }
 
-/// The status of a call whose words can't be read.
+/// Returns the status of a call whose words can't be read.
 fn unread(fault: WordsFault) -> Status
     ensures { result ≡ unread fault }
 {

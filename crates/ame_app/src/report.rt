@@ -1,24 +1,23 @@
 //! What a call reports.
 
+use crate::left::Ran;
 use crate::parts::Own;
 use crate::status::Status;
-use ame_code::Code;
-use ame_engine::{Certificate, Ended};
+use ame_cli::Command;
+use ame_engine::Certificate;
 use ame_journal::Entry;
-use ame_value::Val;
-use std::sync::Arc;
 
-/// How a call ended, the text that was read or generated, the code that was run, what the run left, what the command has of its own, and
-/// the sink and the devices that were handed in.
+/// How a call ended, the text that was read or generated, the command, the run, and the sink and the devices that were handed in.
 #[derive(Drop)]
 pub struct Report<K, D> {
     pub status: Status,
     /// The text of the program, in which a status has its places; empty where none was read or generated.
     pub text: Vec<u8>,
+    /// The command that the words spell, with its limits.
+    pub command: Option<Command>,
     /// Given exactly where a run was begun.
-    pub code: Option<Arc<Code>>,
-    /// Given exactly where a run was begun.
-    pub ended: Option<Ended<Val>>,
+    pub run: Option<Ran>,
+    /// What the command has of its own where no run was begun.
     pub own: Own,
     pub sink: K,
     pub devices: Vec<D>,
@@ -28,7 +27,7 @@ impl<K, D> Report<K, D> {
     ghost use Rattle.std.specs.Prelude.{◌≡◌, ◌≢◌, ℕ, [], IfSome, None};
     ghost use Rattle.ame_app.specs.declared.status.Status.{Status};
     ghost use Rattle.ame_app.specs.Verdict.{number_of};
-    ghost use Rattle.ame_app.specs.Verbs.Weak.{told_by};
+    ghost use Rattle.ame_app.specs.Left.{end_in};
 
     /// The number of the status, with which a process ends. All else is let go.
     pub fn into_number(self) -> u8
@@ -42,45 +41,46 @@ impl<K, D> Report<K, D> {
 
     /// A certificate for each member that is left, in order of their numbers, where all are blocked.
     pub fn blocked(&self) -> &[Certificate]
-        ensures blocked { (members : ℕ) → self.now.status ≡ Status.Blocked members → IfSome self.now.ended (λ end. result.now ≡ (told_by self.now.own end).certificates) }
+        ensures blocked { (members : ℕ) → self.now.status ≡ Status.Blocked members → IfSome self.now.run (λ run. result.now ≡ (end_in run.left).certificates) }
         ensures other { ((members : ℕ) → self.now.status ≢ Status.Blocked members) → result.now ≡ [] }
+        ensures none { self.now.run ≡ None → result.now ≡ [] }
     {
-        match (&self.status, &self.own, &self.ended) {
-            (Status::Blocked(_), Own::Weak(weakened), _) => weakened.certificates.as_slice(),
-            (Status::Blocked(_), _, Some(ended)) => ended.certificates(),
+        match (&self.status, &self.run) {
+            (Status::Blocked(_), Some(run)) => run.left.certificates(),
             _ => &[],
         }
     }
 
     /// The entries from which the run went on; none where no run was begun.
     pub fn base(&self) -> &[Entry]
-        ensures ran { IfSome self.now.ended (λ end. result.now ≡ (told_by self.now.own end).base) }
+        ensures ran { IfSome self.now.run (λ run. result.now ≡ (end_in run.left).base) }
+        ensures none { self.now.run ≡ None → result.now ≡ [] }
     {
-        match (&self.own, &self.ended) {
-            (Own::Weak(_), _) | (_, None) => &[],
-            (_, Some(ended)) => ended.base(),
+        match &self.run {
+            Some(run) => run.left.base(),
+            None => &[],
         }
     }
 
-    /// The entries of the run behind those from which it went on; none where no run was begun.
+    /// The entries of the run after those from which it went on; none where no run was begun.
     pub fn journal(&self) -> &[Entry]
-        ensures ran { IfSome self.now.ended (λ end. result.now ≡ (told_by self.now.own end).entries) }
+        ensures ran { IfSome self.now.run (λ run. result.now ≡ (end_in run.left).entries) }
+        ensures none { self.now.run ≡ None → result.now ≡ [] }
     {
-        match (&self.own, &self.ended) {
-            (Own::Weak(weakened), _) => weakened.journal.entries(),
-            (_, Some(ended)) => ended.journal(),
-            (_, None) => &[],
+        match &self.run {
+            Some(run) => run.left.journal(),
+            None => &[],
         }
     }
 
     /// The turns of the run; none where no run was begun.
     pub fn turns(&self) -> u32
-        ensures ran { IfSome self.now.ended (λ end. result ≡ (told_by self.now.own end).turns) }
+        ensures ran { IfSome self.now.run (λ run. result ≡ (end_in run.left).turns) }
+        ensures none { self.now.run ≡ None → result ≡ 0 }
     {
-        match (&self.own, &self.ended) {
-            (Own::Weak(weakened), _) => weakened.turns,
-            (_, Some(ended)) => ended.turns(),
-            (_, None) => 0,
+        match &self.run {
+            Some(run) => run.left.turns(),
+            None => 0,
         }
     }
 }

@@ -1,17 +1,16 @@
 //! Writing how a call ended.
 
 ghost use Rattle.std.specs.Prelude.{◌++◌};
-ghost use Rattle.ame_app.specs.Jobs.{Speaks, SpeaksBehind};
+ghost use Rattle.ame_app.specs.Jobs.{Speaks, SpeaksAfter, SpeaksBehind};
 ghost use Rattle.ame_app.specs.Verbs.{written_behind};
 ghost use Rattle.ame_app.specs.Verdict.{verdict};
 
-use crate::parts::Own;
+use crate::left::Left;
 use crate::status::Status;
 use crate::verbs::write_behind;
 use ame_cli::Command;
-use ame_engine::{Ended, Stop};
+use ame_engine::Stop;
 use ame_io::{Sink, write_all, write_line};
-use ame_value::Val;
 
 /// Writes some bytes and then the verdict line of a status, and tells the status of the call: the same, unless the sink fails.
 pub(crate) fn speak_behind<K: Sink>(sink: &mut K, ahead: &[u8], told: Status) -> Status
@@ -26,33 +25,67 @@ pub(crate) fn speak_behind<K: Sink>(sink: &mut K, ahead: &[u8], told: Status) ->
     }
 }
 
-/// Writes the verdict line of a run, and behind it what its command writes there.
-fn speak_of<K: Sink>(sink: &mut K, told: Status, command: &Command, own: &Own) -> Status
-    ensures { Speaks told (verdict told ++ written_behind command.now own.now told) result
+/// Writes the verdict line of a run, and then what its command writes after it.
+fn speak_of<K: Sink>(sink: &mut K, told: Status, command: &Command, left: &Left) -> Status
+    ensures { Speaks told (verdict told ++ written_behind command.now left.now told) result
         (K.written sink.old) (K.faults sink.old) (K.written sink.new) (K.faults sink.new) }
 {
     let Ok(()) = write_line(sink, &told.line()) else {
         return Status::WriteFault;
     };
-    match write_behind(sink, command, own, &told) {
+    match write_behind(sink, command, left, &told) {
         Ok(()) => told,
         Err(_) => Status::WriteFault,
     }
 }
 
-/// The same behind the lines of a run; nothing, where the sink failed at those.
-pub(crate) fn speak_after<K: Sink>(
+/// Writes the same after the lines of a run that an engine made; nothing, if the sink failed at those.
+fn speak_on<K: Sink>(
     sink: &mut K,
-    ended: &Ended<Val>,
+    stopped: Option<Stop>,
     told: Status,
     command: &Command,
-    own: &Own,
+    left: &Left,
 ) -> Status
-    ensures { SpeaksBehind ended.now.stop told (verdict told ++ written_behind command.now own.now told) result
+    ensures { SpeaksBehind stopped told (verdict told ++ written_behind command.now left.now told) result
         (K.written sink.old) (K.faults sink.old) (K.written sink.new) (K.faults sink.new) }
 {
-    match ended.stopped() {
+    match stopped {
         Some(Stop::WriteFault) => Status::WriteFault,
-        _ => speak_of(sink, told, command, own),
+        _ => speak_of(sink, told, command, left),
+    }
+}
+
+/// Writes the lines of a weak run, and then the same.
+fn speak_weakly<K: Sink>(
+    sink: &mut K,
+    ahead: &[u8],
+    told: Status,
+    command: &Command,
+    left: &Left,
+) -> Status
+    ensures { Speaks told (ahead.now ++ (verdict told ++ written_behind command.now left.now told)) result
+        (K.written sink.old) (K.faults sink.old) (K.written sink.new) (K.faults sink.new) }
+{
+    let Ok(()) = write_all(sink, ahead) else {
+        return Status::WriteFault;
+    };
+    speak_of(sink, told, command, left)
+}
+
+/// Writes how a run ended. The lines of a weak run are those ahead; those of another one were written as it ran.
+pub(crate) fn speak_after<K: Sink>(
+    sink: &mut K,
+    ahead: &[u8],
+    told: Status,
+    command: &Command,
+    left: &Left,
+) -> Status
+    ensures { SpeaksAfter left.now ahead.now told (verdict told ++ written_behind command.now left.now told) result
+        (K.written sink.old) (K.faults sink.old) (K.written sink.new) (K.faults sink.new) }
+{
+    match left {
+        Left::Engine(ended, _) => speak_on(sink, ended.stopped(), told, command, left),
+        Left::Weak(_) => speak_weakly(sink, ahead, told, command, left),
     }
 }

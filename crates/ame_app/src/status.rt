@@ -3,15 +3,14 @@
 ghost use Rattle.std.specs.Prelude.{◌≡◌};
 ghost use Rattle.ame_app.specs.Verdict.{number_of, verdict};
 ghost use Rattle.ame_app.specs.Causes.{status_at, status_of};
-ghost use Rattle.ame_app.specs.Verbs.Weak.{told_by};
+ghost use Rattle.ame_app.specs.Left.{end_in};
 
 use crate::fault::TextFault;
-use crate::parts::Own;
+use crate::left::Left;
 use crate::verdict::{device_failed, ill_typed, numbered, plain, refused};
-use ame_engine::{Certificate, Ended, Stop};
+use ame_engine::{Certificate, Stop};
 use ame_io::Line;
 use ame_types::TypeFault;
-use ame_value::Val;
 
 /// How a call ends.
 #[derive(Drop)]
@@ -106,16 +105,11 @@ impl Status {
         }
     }
 
-    /// How a run is told that is over, of which a command has this of its own.
-    pub(crate) fn of(ended: &Ended<Val>, own: &Own) -> Status
-        ensures { result ≡ status_of (told_by own.now ended.now) }
+    /// Returns the status of a finished run.
+    pub(crate) fn of(left: &Left) -> Status
+        ensures { result ≡ status_of (end_in left.now) }
     {
-        match own {
-            Own::Weak(weakened) => Status::at(Some(weakened.stop), &weakened.certificates),
-            Own::Nothing | Own::Picked(_) | Own::Unmade(_) | Own::Resumed(_) => {
-                Status::at(ended.stopped(), ended.certificates())
-            }
-        }
+        Status::at(left.stopped(), left.certificates())
     }
 
     /// How a stop is told, with the certificates of members that are blocked.

@@ -8,16 +8,16 @@ mod run;
 mod sim;
 mod weak;
 
-ghost use Rattle.std.specs.Prelude.{◌≡◌, ◌≤◌, [], IfOk, IfErr, IfSome, OnOk, OnErr, vec_len};
+ghost use Rattle.std.specs.Prelude.{◌≡◌, ◌≤◌, [], IfOk, IfErr, IfSome, OnOk, OnErr, length, vec_len};
 ghost use Rattle.std.specs.Arc.{arc_value};
 ghost use Rattle.std.specs.Io.KnownBytes.{Appends};
 ghost use Rattle.ame_cli.specs.Ranges.{IsInRange};
 ghost use Rattle.ame_io.specs.Counts.{HasRisen};
 ghost use Rattle.ame_io.specs.Writes.{AppendsFront};
-ghost use Rattle.ame_shell.specs.Ends.{ends_of};
 ghost use Rattle.ame_app.specs.Jobs.{IsOpened, IsOutlook, IsRunMade, IsUntaken};
 ghost use Rattle.ame_app.specs.Verbs as spec;
 
+use crate::left::Left;
 use crate::parts::{Front, Own};
 use crate::status::Status;
 use ame_cli::Command;
@@ -26,10 +26,9 @@ use ame_device::Device;
 use ame_engine::Engine;
 use ame_eval::Fragment;
 use ame_io::{READ_LIMIT, Sink, WriteFault};
-use ame_shell::Remains;
+use ame_shell::Io;
 use ame_sim::Drawn;
 use ame_term::NoMemory;
-use ame_value::Val;
 use ame_worker::Gate;
 use std::alloc::Global;
 use std::sync::{Arc, Wait};
@@ -69,10 +68,11 @@ pub(crate) enum Outlook {
     GoesOn(Engine<Fragment>),
 }
 
-/// What a run left, and what the command has of its own.
-pub(crate) struct Made<K, D> {
-    pub(crate) left: Remains<Val, K, D>,
-    pub(crate) own: Own,
+/// What a run left, and the lines of a weak run, which are yet to be written.
+pub(crate) struct Made<K: Sink, D: Device> {
+    pub(crate) left: Left,
+    pub(crate) ahead: Vec<u8>,
+    pub(crate) io: Io<K, D>,
 }
 
 /// Whether a command reads its source.
@@ -142,53 +142,47 @@ pub(crate) fn make<R, K, D, G>(
     alloc: Global,
     job: &Job,
     engine: Option<Engine<Fragment>>,
-    sink: K,
-    devices: Vec<D>,
+    io: Io<K, D>,
     gate: &G,
-) -> Result<Made<K, D>, (K, Vec<D>)>
+) -> Result<Made<K, D>, Io<K, D>>
 where
     R: Threads + Wait + Sync,
     K: Sink + Send + Drop,
     D: Device + Send,
     G: Gate + Sync,
     requires ranges { IsInRange job.now.command }
-    requires devices { (arc_value job.now.code).accepted.devices ≡ vec_len devices }
+    requires devices { (arc_value job.now.code).accepted.devices ≡ length io.ends.told }
     requires opened { IfSome engine (IsOpened job.now.command job.now.front (arc_value job.now.code)) }
-    ensures made { IfOk result (λ made. IsRunMade job.now.command job.now.front (arc_value job.now.code)
-        (ends_of K.written K.faults D.device_heard D.device_faults sink devices.items) made.own made.left.ended
-        (ends_of K.written K.faults D.device_heard D.device_faults made.left.sink made.left.devices.items)) }
-    ensures sink { IfErr result (λ back. back.0 ≡ sink) }
-    ensures devices { IfErr result (λ back. back.1 ≡ devices) }
+    ensures made { IfOk result (λ made. IsRunMade job.now.command job.now.front (arc_value job.now.code) io.ends made.left made.ahead.items made.io.ends) }
+    ensures back { IfErr result (λ back. back ≡ io) }
 {
     if let Some(engine) = engine {
-        return resume::run(rt, alloc, &job.code, engine, sink, devices, gate);
+        return resume::run(rt, alloc, &job.code, engine, io, gate);
     }
     match job.command {
         Command::Run(options) | Command::Bench(_, _, options) => {
-            run::run(rt, alloc, &job.code, options, sink, devices, gate)
+            run::run(rt, alloc, &job.code, options, io, gate)
         }
         Command::Sim(seed, options) => {
             let mut chooser = Drawn::new(seed);
-            sim::run(alloc, &job.code, options, sink, devices, &mut chooser)
+            sim::run(alloc, &job.code, options, io, &mut chooser)
         }
-        Command::Replay(options) => {
-            replay::run(alloc, &job.code, options, &job.front, sink, devices)
-        }
-        Command::Weak(seed, turns) => weak::run(alloc, &job.code, seed, turns, sink, devices),
-        Command::Check | Command::Resume(_) => Err((sink, devices)),
+        Command::Replay(options) => { replay::run(alloc, &job.code, options, &job.front, io) }
+        Command::Weak(seed, turns) => Ok(weak::run(alloc, &job.code, seed, turns, io)),
+        Command::Check | Command::Resume(_) => Err(io),
     }
 }
 
-/// Writes what stands behind the verdict line of a run.
+/// Writes what stands after the verdict line of a run.
 pub(crate) fn write_behind<K: Sink>(
     sink: &mut K,
     command: &Command,
-    own: &Own,
+    left: &Left,
     told: &Status,
 ) -> Result<(), WriteFault>
-    ensures whole { OnOk result (Appends (K.written sink.old) (K.written sink.new) (spec.written_behind command.now own.now told.now)) }
+    ensures whole { OnOk result (Appends (K.written sink.old) (K.written sink.new) (spec.written_behind command.now left.now told.now)) }
     ensures stayed { OnOk result (K.faults sink.new ≡ K.faults sink.old) }
-    ensures front { OnErr result (AppendsFront (K.written sink.old) (K.written sink.new) (spec.written_behind command.now own.now told.now)) }
+    ensures front { OnErr result (AppendsFront (K.written sink.old) (K.written sink.new) (spec.written_behind command.now left.now told.now)) }
     ensures risen { OnErr result (HasRisen (K.faults sink.old) (K.faults sink.new)) }
 {
     match command {
@@ -197,6 +191,6 @@ pub(crate) fn write_behind<K: Sink>(
         | Command::Check
         | Command::Resume(_)
         | Command::Weak(_, _) => Ok(()),
-        Command::Sim(_, _) | Command::Replay(_) => sim::write_behind(sink, own, told),
+        Command::Sim(_, _) | Command::Replay(_) => sim::write_behind(sink, left, told),
     }
 }

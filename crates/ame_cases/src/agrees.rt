@@ -4,10 +4,8 @@ use crate::device::Boxed;
 use crate::fault::Fault;
 use crate::replay::replayed;
 use crate::told::CaseReport;
-use ame_app::Status;
-use ame_code::Code;
+use ame_app::{Ran, Status};
 use ame_device::Device;
-use ame_engine::Ended;
 use ame_journal::{Entry, EntryKind};
 use ame_store::Store;
 use ame_strong::StrongState;
@@ -17,18 +15,13 @@ use std::alloc::Global;
 
 /// Whether a run's journal can be made, and the run left the output, the integers in the cells and the members to which it leads. The devices
 /// heard as many calls as it tells. A note of a value that is too high isn't replayed.
-pub fn agrees(
-    alloc: Global,
-    report: &CaseReport,
-    code: &Code,
-    ended: &Ended<Val>,
-) -> Result<bool, Fault> {
-    let program = copy_term(alloc, &code.accepted().program.term)?;
+pub fn agrees(alloc: Global, report: &CaseReport, run: &Ran) -> Result<bool, Fault> {
+    let program = copy_term(alloc, &run.code.accepted().program.term)?;
     let entries = without_tall(report.journal());
     match replayed(alloc, program, report.base(), entries)? {
         Some(state) => Ok(
-            state.output() == ended.output()
-                && are_same_cells(ended.store(), &state)
+            state.output() == run.left.output()
+                && are_same_cells(run.left.store(), &state)
                 && are_left(&report.status, state.pool_len() as u64)
                 && answers_told(entries) == calls_heard(&report.devices),
         ),

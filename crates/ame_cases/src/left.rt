@@ -3,7 +3,7 @@
 use crate::fault::Fault;
 use crate::field::Field;
 use crate::told::{CaseReport, line};
-use ame_engine::Ended;
+use ame_app::Left;
 use ame_journal::{Entry, EntryKind};
 use ame_store::Store;
 use ame_term::Loc;
@@ -14,16 +14,16 @@ use std::alloc::{AllocError, Global};
 pub fn left(
     alloc: Global,
     report: &CaseReport,
-    ended: &Ended<Val>,
+    run: &Left,
     field: Field,
     is_alone: bool,
 ) -> Result<String, Fault> {
     match field {
         Field::Journal => journal(alloc, report, is_alone),
-        Field::Output => output(alloc, ended.output()),
-        Field::Turns => turns(alloc, report.turns(), ended),
-        Field::Unwound => line(alloc, u64::from(ended.counters().unwound)),
-        _ => cells(alloc, ended.store()),
+        Field::Output => output(alloc, run.output()),
+        Field::Turns => turns(alloc, run),
+        Field::Unwound => line(alloc, unwound(run)),
+        _ => cells(alloc, run.store()),
     }
 }
 
@@ -77,13 +77,24 @@ fn output(alloc: Global, output: &[i64]) -> Result<String, Fault> {
 }
 
 /// The events that counted, and how often a seat was in another's way, where that was.
-fn turns(alloc: Global, turns: u32, ended: &Ended<Val>) -> Result<String, Fault> {
-    let counters = ended.counters();
-    let (conflicts, invalids) = (counters.conflicts, counters.invalids);
+fn turns(alloc: Global, run: &Left) -> Result<String, Fault> {
+    let turns = run.turns();
+    let (conflicts, invalids) = match run.ended() {
+        Some(ended) => (ended.counters().conflicts, ended.counters().invalids),
+        None => (0, 0),
+    };
     if conflicts == 0 && invalids == 0 {
         return line(alloc, u64::from(turns));
     }
     Ok(format!(in alloc; "{turns} with {conflicts} conflicts and {invalids} invalid reads\n")?)
+}
+
+/// How many values were put back; a weak run puts none back.
+fn unwound(run: &Left) -> u64 {
+    match run.ended() {
+        Some(ended) => u64::from(ended.counters().unwound),
+        None => 0,
+    }
 }
 
 /// Each live cell, a line each.

@@ -1,14 +1,20 @@
 //! What each pick of a run on one thread did.
 
 use crate::fault::Fault;
-use ame_app::Own;
+use ame_app::{Extra, Left, Ran};
 use ame_shell::Outcome;
 use std::alloc::Global;
 
 /// The seats in the order of their picks, and what each did, with a line for picks of the same seat in a row.
-pub fn picks(alloc: Global, own: &Own) -> Result<String, Fault> {
+pub fn picks(alloc: Global, run: &Option<Ran>) -> Result<String, Fault> {
     let mut text = String::new(alloc);
-    let Own::Picked(mades) = own else {
+    let Some(
+        Ran {
+            left: Left::Engine(_, Extra::Picked(mades)),
+            ..
+        },
+    ) = run
+    else {
         text.push_str("none\n")?;
         return Ok(text);
     };

@@ -8,7 +8,7 @@ use crate::field::Field;
 use crate::left::left;
 use crate::picks::picks;
 use crate::replay::replayed;
-use ame_app::{Own, Report};
+use ame_app::{Extra, Left, Ran, Report};
 use ame_code::Code;
 use ame_device::Device;
 use ame_engine::Certificate;
@@ -34,9 +34,9 @@ pub fn told(
         Field::Lines => Ok(String::from_utf8_lossy(alloc, report.sink.written())?),
         Field::Written => written(alloc, report.sink.written()),
         Field::Run => begun(alloc, report),
-        Field::Resumed => resumed(alloc, &report.own),
+        Field::Resumed => resumed(alloc, &report.run),
         Field::Heard => heard(alloc, &report.devices),
-        Field::Picks => picks(alloc, &report.own),
+        Field::Picks => picks(alloc, &report.run),
         Field::Certificates => certificates(alloc, report.blocked()),
         Field::Replay => replay(alloc, case, report),
         Field::Agrees => word(
@@ -47,13 +47,13 @@ pub fn told(
                 "no"
             },
         ),
-        Field::Names | Field::Types => match &report.code {
-            Some(code) => sizes(alloc, code, field),
+        Field::Names | Field::Types => match &report.run {
+            Some(run) => sizes(alloc, &run.code, field),
             None => word(alloc, "none"),
         },
         Field::Journal | Field::Output | Field::Turns | Field::Unwound | Field::Cells => {
-            match &report.ended {
-                Some(ended) => left(alloc, report, ended, field, is_alone),
+            match &report.run {
+                Some(run) => left(alloc, report, &run.left, field, is_alone),
                 None => word(alloc, "none"),
             }
         }
@@ -77,20 +77,24 @@ fn written(alloc: Global, bytes: &[u8]) -> Result<String, Fault> {
     Ok(text)
 }
 
-/// Whether a run was begun, of which there are code and an end then.
+/// Whether a run was begun.
 fn begun(alloc: Global, report: &CaseReport) -> Result<String, Fault> {
-    match (report.code.is_some(), report.ended.is_some()) {
-        (true, true) => word(alloc, "some"),
-        (false, false) => word(alloc, "none"),
-        _ => word(alloc, "half of one"),
+    match &report.run {
+        Some(_) => word(alloc, "some"),
+        None => word(alloc, "none"),
     }
 }
 
 /// From how many entries a run went on, where it did.
-fn resumed(alloc: Global, own: &Own) -> Result<String, Fault> {
-    match own {
-        Own::Resumed(entries) => line(alloc, *entries),
-        Own::Nothing | Own::Picked(_) | Own::Unmade(_) | Own::Weak(_) => word(alloc, "none"),
+fn resumed(alloc: Global, run: &Option<Ran>) -> Result<String, Fault> {
+    match run {
+        Some(
+            Ran {
+                left: Left::Engine(_, Extra::Resumed(entries)),
+                ..
+            },
+        ) => line(alloc, *entries),
+        _ => word(alloc, "none"),
     }
 }
 
@@ -132,10 +136,10 @@ fn sizes(alloc: Global, code: &Code, field: Field) -> Result<String, Fault> {
 
 /// What the strong semantics comes to by the certificate, or by the journal of the run.
 fn replay(alloc: Global, case: &Case, report: &CaseReport) -> Result<String, Fault> {
-    let Some(code) = &report.code else {
+    let Some(run) = &report.run else {
         return word(alloc, "none");
     };
-    let program = copy_term(alloc, &code.accepted().program.term)?;
+    let program = copy_term(alloc, &run.code.accepted().program.term)?;
     let state = match &case.certificate {
         None => replayed(alloc, program, report.base(), report.journal())?,
         Some(lines) => match journal(alloc, lines.as_str())? {
@@ -151,9 +155,9 @@ fn replay(alloc: Global, case: &Case, report: &CaseReport) -> Result<String, Fau
 
 /// Whether a run was begun, and left what its journal comes to.
 fn does_agree(alloc: Global, report: &CaseReport) -> Result<bool, Fault> {
-    match (&report.code, &report.ended) {
-        (Some(code), Some(ended)) => agrees(alloc, report, code, ended),
-        _ => Ok(false),
+    match &report.run {
+        Some(run) => agrees(alloc, report, run),
+        None => Ok(false),
     }
 }
 

@@ -5,3 +5,4 @@ pub mod TypeLemmas
 pub mod JournalLemmas
 pub mod EndingLemmas
 pub mod OneRunLemmas
+pub mod CertificateLemmas

@@ -1,6 +1,6 @@
 -- The headline of a run that begins with the program is one run by the rules.
-use Rattle.std.proofs.Common.{◌≡◌, inl, inr, ◌↔◌, ℕ, ℤ, List, [], ◌++◌, Option, Some, Result, Ok, Err, refl, sym, ap, ◌∙◌, subst, append_assoc}
-use Rattle.std.specs.Prelude.{IfSome, IfOk}
+use Rattle.std.proofs.Common.{◌≡◌, inl, inr, ◌↔◌, ℕ, ℤ, List, [], ◌++◌, Option, Some, None, Result, Ok, Err, refl, sym, ap, ◌∙◌, subst, append_assoc}
+use Rattle.std.specs.Prelude.{IfSome, IfOk, option_map}
 use Rattle.std.specs.Io.KnownBytes.{Appends}
 use Rattle.ame_io.specs.Lines.{lines}
 use Rattle.ame_io.specs.Reads.{IsReadWhole}
@@ -27,10 +27,11 @@ use Rattle.ame_shell.specs.Heard.{answered_all, and_more, added_calls}
 use Rattle.ame_app.specs.declared.parts.Front.{Front}
 use Rattle.ame_app.specs.declared.status.Status.{Status}
 use Rattle.ame_app.specs.Verbs.{BeginsFrom, written_behind}
-use Rattle.ame_app.specs.Verbs.Weak.{told_by}
+use Rattle.ame_app.specs.Left.{end_in}
+use Rattle.ame_app.specs.Reported.{RunView, Reported}
 use Rattle.ame_app.specs.Calls.{Given, Call, IsTextOf, Asks}
 use Rattle.ame_app.specs.Causes.{status_of, RunCause, CommandCause}
-use Rattle.ame_app.specs.Headline.{Reported, DevicesTell, DevicesTellOf, Headline, verdict_of}
+use Rattle.ame_app.specs.Headline.{DevicesTell, DevicesTellOf, Headline, verdict_of}
 use Rattle.ame_app.specs.Answered.{IsPromised}
 use Rattle.ame_app.proofs.CodeLemmas.{some-weaker}
 use Rattle.ame_one_run.specs.OneRun.{AskForRun, line_of_ending, IsOneRun}
@@ -77,8 +78,8 @@ line-moved front line more other is = sym (append_assoc front line more) ∙ ap 
 abbrev pub SpelledIsRead : Type 0
 SpelledIsRead = (text : List ℕ) (source : Source) → Spells text source ↔ (reading text ≡ Ok source)
 
-module _ (spelled : SpelledIsRead) (call : Call) (report : Reported) (left end : End Val) (before after : Ends) (h : Headline call report left end before after) where
-  pub headline-run : BeginsAnew h.command → IsOneRun report.text call.devices (written_behind h.command report.own (status_of end)) before after
+module _ (spelled : SpelledIsRead) (call : Call) (report : Reported) (run : RunView) (end : End Val) (before after : Ends) (h : Headline call report run end before after) where
+  pub headline-run : BeginsAnew h.command → IsOneRun report.text call.devices (written_behind h.command run.left (status_of end)) before after
   headline-run anew =
       let accepted = h.compiled.accepted in
       let program = program_of h.compiled in
@@ -88,7 +89,7 @@ module _ (spelled : SpelledIsRead) (call : Call) (report : Reported) (left end :
       let tells = anew-devices h.command h.compiled end before after anew h.devices in
       let named = status-named program h.options end h.final before after replays end.stop
       (anew-cause h.command (status_of end) h.options end h.final before after anew h.cause) in
-      let behind = written_behind h.command report.own (status_of end) in
+      let behind = written_behind h.command run.left (status_of end) in
       let text = lines h.final.state.output ++ (verdict_of end ++ behind) in
       let moved = line-moved (lines h.final.state.output) (verdict_of end) behind (line_of_ending named.ending h.final.state) named.line_is in
       record {
@@ -122,41 +123,46 @@ is-run : (words : List (List ℕ)) (command : Command) → AskForRun words → S
 is-run words command (inl none) spells = no-words words command spells none
 is-run words command (inr first) spells = run-first first.0 words command spells first.1
 
-module _ (spelled : SpelledIsRead) (call : Call) (report : Reported) (ended : Option (End Val)) (before after : Ends) (promised : IsPromised call report ended before after) where
+module _ (spelled : SpelledIsRead) (call : Call) (report : Reported) (before after : Ends) (promised : IsPromised call report before after) where
   pub run-promised : AskForRun call.words →
-      IfSome ended (λ end. IsReadWhole call.source.left call.source_after.left report.text × IsOneRun report.text call.devices [] before after)
-  run-promised words = some-weaker ended _ _ (λ left h. by left h) promised.ran
+      IfSome report.run (λ _. IsReadWhole call.source.left call.source_after.left report.text × IsOneRun report.text call.devices [] before after)
+  run-promised words = some-weaker report.run _ _ (λ run h. by run h) promised.ran
     where
-      by : (left : End Val) → Headline call report left (told_by report.own left) before after →
+      by : (run : RunView) → Headline call report run (end_in run.left) before after →
           IsReadWhole call.source.left call.source_after.left report.text × IsOneRun report.text call.devices [] before after
-      by left h =
-          let end = told_by report.own left in
-          let run = is-run call.words h.command words h.asked.spelled in
-          let anew : BeginsAnew h.command = subst BeginsAnew (sym run.1) tt in (
+      by run h =
+          let end = end_in run.left in
+          let is = is-run call.words h.command words h.asked.spelled in
+          let anew : BeginsAnew h.command = subst BeginsAnew (sym is.1) tt in (
             subst (IsReadWhole call.source.left call.source_after.left) (sym h.text_is)
-                (taken-whole h.command run.0 call.source call.source_after h.front h.text run.1 h.asked.text_is),
-            subst (λ (c : Command). IsOneRun report.text call.devices (written_behind c report.own (status_of end)) before after) run.1
-                (headline-run spelled call report left end before after h anew),
+                (taken-whole h.command is.0 call.source call.source_after h.front h.text is.1 h.asked.text_is),
+            subst (λ (c : Command). IsOneRun report.text call.devices (written_behind c run.left (status_of end)) before after) is.1
+                (headline-run spelled call report run end before after h anew),
           )
 
   pub each-promised : ((words : List (List ℕ)) (command other : Command) → SpellsCommand words command → SpellsCommand words other → command ≡ other) →
       (command : Command) → SpellsCommand call.words command → BeginsAnew command →
-      IfSome ended (λ end. IsRunOf command call report (told_by report.own end) before after)
-  each-promised one command spells anew = some-weaker ended _ _ (λ left h. by left h) promised.ran
+      IfSome report.run (λ run. IsRunOf command call report run before after)
+  each-promised one command spells anew = some-weaker report.run _ _ (λ run h. by run h) promised.ran
     where
-      by : (left : End Val) → Headline call report left (told_by report.own left) before after →
-          IsRunOf command call report (told_by report.own left) before after
-      by left h =
-          let end = told_by report.own left in
+      by : (run : RunView) → Headline call report run (end_in run.left) before after →
+          IsRunOf command call report run before after
+      by run h =
+          let end = end_in run.left in
           let same : h.command ≡ command = one call.words h.command command h.asked.spelled spells in
-          let run = headline-run spelled call report left end before after h (subst BeginsAnew (sym same) anew) in
+          let makes = headline-run spelled call report run end before after h (subst BeginsAnew (sym same) anew) in
           record {
             front = h.front;
             asked = subst (λ (c : Command). Asks call c h.front report.text) same (subst (Asks call h.command h.front) (sym h.text_is) h.asked);
-            run = subst (λ (c : Command). IsOneRun report.text call.devices (written_behind c report.own (status_of end)) before after) same run;
+            makes = subst (λ (c : Command). IsOneRun report.text call.devices (written_behind c run.left (status_of end)) before after) same makes;
           }
 
 -- what follows from what holds of an answer
 pub ok-weaker : {T E : Type 0} (r : Result T E) (P Q : T → Type 0) → ((x : T) → P x → Q x) → IfOk r P → IfOk r Q
 ok-weaker (Ok x) P Q go h = go x h
 ok-weaker (Err e) P Q go h = tt
+
+-- what is so if there is a value, whatever it is
+pub some-there : {A B : Type 0} (f : A → B) (o : Option A) (P : Type 0) → IfSome (option_map f o) (λ _. P) → IfSome o (λ _. P)
+some-there f None P h = tt
+some-there f (Some x) P h = h

@@ -1,7 +1,6 @@
 //! The top call, with what it promises by the rules alone.
 
-ghost use Rattle.std.specs.Prelude.{◌≤◌, [], IfSome, map, option_map, string_bytes, vec_len};
-ghost use Rattle.std.specs.Arc.{arc_value};
+ghost use Rattle.std.specs.Prelude.{◌≤◌, [], IfSome, map, string_bytes, vec_len};
 ghost use Rattle.ame_io.specs.Reads.{IsReadWhole};
 ghost use Rattle.ame_types.specs.Limits.{max_devices};
 ghost use Rattle.ame_cli.specs.declared.command.Command.{Command};
@@ -9,8 +8,7 @@ ghost use Rattle.ame_cli.specs.Grammar.{SpellsCommand};
 ghost use Rattle.ame_shell.specs.Ends.{ends_of};
 ghost use Rattle.ame_app.specs.Answered.{IsPromised};
 ghost use Rattle.ame_app.specs.Calls.{what_is_given, call_of};
-ghost use Rattle.ame_app.specs.Headline.{reported};
-ghost use Rattle.ame_app.specs.Verbs.Weak.{told_by};
+ghost use Rattle.ame_app.specs.Reported.{reported};
 ghost use Rattle.ame_one_run.specs.OneRun.{AskForRun, IsOneRun};
 ghost use Rattle.ame_one_run.specs.Commands.{BeginsAnew, IsRunOf};
 
@@ -40,19 +38,18 @@ where
     D: Device + Send,
     G: Gate + Sync,
     requires few { vec_len devices ≤ max_devices }
-    ensures one_run { AskForRun (map string_bytes words.now) → IfSome result.ended (λ end.
+    ensures one_run { AskForRun (map string_bytes words.now) → IfSome result.run (λ _.
         IsReadWhole (S.left source.old) (S.left source.new) result.text.items × IsOneRun result.text.items (vec_len devices) []
         (ends_of K.written K.faults D.device_heard D.device_faults sink devices.items)
         (ends_of K.written K.faults D.device_heard D.device_faults result.sink result.devices.items)) }
-    ensures each_run { (command : Command) → SpellsCommand (map string_bytes words.now) command → BeginsAnew command → IfSome result.ended (λ end.
+    ensures each_run { (command : Command) → SpellsCommand (map string_bytes words.now) command → BeginsAnew command → IfSome (reported result).run (λ run.
         IsRunOf command (call_of (map string_bytes words.now)
         (what_is_given S.left S.faults source.old) (what_is_given S.left S.faults source.new) (vec_len devices))
-        (reported result.status result.text.items (option_map arc_value result.code) result.own) (told_by result.own end)
+        (reported result) run
         (ends_of K.written K.faults D.device_heard D.device_faults sink devices.items)
         (ends_of K.written K.faults D.device_heard D.device_faults result.sink result.devices.items)) }
     ensures answered { IsPromised (call_of (map string_bytes words.now)
-        (what_is_given S.left S.faults source.old) (what_is_given S.left S.faults source.new) (vec_len devices))
-        (reported result.status result.text.items (option_map arc_value result.code) result.own) result.ended
+        (what_is_given S.left S.faults source.old) (what_is_given S.left S.faults source.new) (vec_len devices)) (reported result)
         (ends_of K.written K.faults D.device_heard D.device_faults sink devices.items)
         (ends_of K.written K.faults D.device_heard D.device_faults result.sink result.devices.items) }
 {

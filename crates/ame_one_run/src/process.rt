@@ -1,7 +1,6 @@
 //! A process, with what it promises by the rules alone.
 
-ghost use Rattle.std.specs.Prelude.{◌≡◌, ◌≤◌, [], IfOk, IfErr, IfSome, None, map, option_map, string_bytes, vec_len};
-ghost use Rattle.std.specs.Arc.{arc_value};
+ghost use Rattle.std.specs.Prelude.{◌≡◌, ◌≤◌, [], IfOk, IfErr, IfSome, None, map, string_bytes, vec_len};
 ghost use Rattle.ame_io.specs.Reads.{IsReadWhole};
 ghost use Rattle.ame_cli.specs.declared.command.Command.{Command};
 ghost use Rattle.ame_cli.specs.Grammar.{SpellsCommand};
@@ -9,9 +8,9 @@ ghost use Rattle.ame_shell.specs.Ends.{ends_of};
 ghost use Rattle.ame_app.specs.declared.parts.Own.{Own};
 ghost use Rattle.ame_app.specs.Answered.{IsPromised};
 ghost use Rattle.ame_app.specs.Calls.{what_is_given, call_of};
-ghost use Rattle.ame_app.specs.Headline.{reported, IsToldAlone};
+ghost use Rattle.ame_app.specs.Headline.{IsToldAlone};
+ghost use Rattle.ame_app.specs.Reported.{reported};
 ghost use Rattle.ame_app.specs.Standard.{heard_by, faults_of, with_new, ComeBack};
-ghost use Rattle.ame_app.specs.Verbs.Weak.{told_by};
 ghost use Rattle.ame_app.specs.Verdict.{unread};
 ghost use Rattle.ame_one_run.specs.OneRun.{AskForRun, IsOneRun};
 ghost use Rattle.ame_one_run.specs.Commands.{BeginsAnew, IsRunOf};
@@ -36,25 +35,22 @@ where
     R: Threads + Wait + Sync,
     S: Source,
     K: Sink + Send + Drop,
-    ensures one_run { IfOk words (λ ws. AskForRun (map string_bytes ws.items) → IfSome result.ended (λ end.
+    ensures one_run { IfOk words (λ ws. AskForRun (map string_bytes ws.items) → IfSome result.run (λ _.
         IsReadWhole (S.left source.old) (S.left source.new) result.text.items × IsOneRun result.text.items 2 []
         (with_new (vec_len result.devices) (K.written sink) (K.faults sink))
         (ends_of K.written K.faults heard_by faults_of result.sink result.devices.items))) }
-    ensures each_run { IfOk words (λ ws. (command : Command) → SpellsCommand (map string_bytes ws.items) command → BeginsAnew command → IfSome result.ended (λ end.
-        IsRunOf command (call_of (map string_bytes ws.items)
-        (what_is_given S.left S.faults source.old) (what_is_given S.left S.faults source.new) 2)
-        (reported result.status result.text.items (option_map arc_value result.code) result.own) (told_by result.own end)
+    ensures each_run { IfOk words (λ ws. (command : Command) → SpellsCommand (map string_bytes ws.items) command → BeginsAnew command
+        → IfSome (reported result).run (λ run. IsRunOf command (call_of (map string_bytes ws.items)
+        (what_is_given S.left S.faults source.old) (what_is_given S.left S.faults source.new) 2) (reported result) run
         (with_new (vec_len result.devices) (K.written sink) (K.faults sink))
         (ends_of K.written K.faults heard_by faults_of result.sink result.devices.items))) }
     ensures answered { IfOk words (λ ws. IsPromised (call_of (map string_bytes ws.items)
         (what_is_given S.left S.faults source.old) (what_is_given S.left S.faults source.new) 2)
-        (reported result.status result.text.items (option_map arc_value result.code) result.own) result.ended
-        (with_new (vec_len result.devices) (K.written sink) (K.faults sink))
+        (reported result) (with_new (vec_len result.devices) (K.written sink) (K.faults sink))
         (ends_of K.written K.faults heard_by faults_of result.sink result.devices.items)) }
-    ensures two { IfSome result.ended (λ _. vec_len result.devices ≡ 2) }
-    ensures devices { IfOk words (λ _. ComeBack (vec_len result.devices) result.status result.ended) }
-    ensures unread { IfErr words (λ fault. (result.ended ≡ None) × IsToldAlone [] Own.Nothing (unread fault)
-        (reported result.status result.text.items (option_map arc_value result.code) result.own)
+    ensures two { IfSome result.run (λ _. vec_len result.devices ≡ 2) }
+    ensures devices { IfOk words (λ _. ComeBack (vec_len result.devices) (reported result)) }
+    ensures unread { IfErr words (λ fault. (result.command ≡ None) × IsToldAlone [] Own.Nothing (unread fault) (reported result)
         (ends_of K.written K.faults heard_by faults_of sink [])
         (ends_of K.written K.faults heard_by faults_of result.sink result.devices.items)) }
     ensures small { vec_len result.text ≤ READ_LIMIT }

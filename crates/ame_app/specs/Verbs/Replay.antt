@@ -1,12 +1,10 @@
 -- `replay`: a source that is a schedule, and the text of the program that it is for. Its run is that of `sim`, with the picks that are listed.
 use Rattle.std.specs.Prelude.{◌≡◌, ℕ, List}
 use Rattle.ame_lex.specs.Bytes.{Text}
-use Rattle.ame_value.specs.declared.val.Val.{Val}
-use Rattle.ame_engine.specs.Ending.{End}
 use Rattle.ame_sim.specs.Listed.{picked_as_listed}
 use Rattle.ame_sim.specs.Schedule.{IsScheduled}
+use Rattle.ame_app.specs.declared.left.Left.{Left}
 use Rattle.ame_app.specs.declared.parts.Front.{Front}
-use Rattle.ame_app.specs.declared.parts.Own.{Own}
 use Rattle.ame_app.specs.declared.status.Status.{Status}
 use Rattle.ame_app.specs.Verbs.Sim.{IsPicked}
 
@@ -22,7 +20,7 @@ pub record HasNoSchedule (bytes : List ℕ) (told : Status) : Type 0 where
   pub none : (picks text : List ℕ) → ¬ IsScheduled bytes picks text
 
 -- the picks are those of the schedule, as far as they could be made
-pub record IsPickedAsListed (front : Front) (seats : ℕ) (own : Own) (end : End Val) : Type 0 where
+pub record IsPickedAsListed (front : Front) (seats : ℕ) (left : Left) : Type 0 where
   pub picks : List ℕ
   pub front_is : front ≡ Front.Schedule picks
-  pub picked : IsPicked (picked_as_listed picks) seats own end
+  pub picked : IsPicked (picked_as_listed picks) seats left

@@ -1,15 +1,16 @@
 -- `resume`: a source that is a certificate, as for `check`. A run goes on from the journal without its notes; where none can, what is told of the
 -- journal is told without a run.
-use Rattle.std.specs.Prelude.{◌≡◌, ℕ, ℤ, List, [], length, take, false}
+use Rattle.std.specs.Prelude.{◌≡◌, ℕ, ℤ, List, [], length, take, false, Some}
 use Rattle.ame_term.specs.Tree.{Tree}
-use Rattle.ame_value.specs.declared.val.Val.{Val}
 use Rattle.ame_journal.specs.declared.entry.Entry.{Entry}
 use Rattle.ame_journal.specs.Totals.{is_note, without_notes}
 use Rattle.ame_check.specs.Judge.{LeadsTo, IsTallAt}
-use Rattle.ame_engine.specs.Ending.{End}
 use Rattle.ame_engine.specs.Resuming.{IsFar}
+use Rattle.ame_app.specs.declared.left.Extra.{Extra}
+use Rattle.ame_app.specs.declared.left.Left.{Left}
 use Rattle.ame_app.specs.declared.parts.Own.{Own}
 use Rattle.ame_app.specs.declared.status.Status.{Status}
+use Rattle.ame_app.specs.Left.{end_in, extra_in}
 use Rattle.ame_app.specs.Verbs.Check.{IsUnmade, IsTooMuch}
 
 -- What is told
@@ -48,6 +49,6 @@ pub record BeginsFromActs (program : Tree) (entries base : List Entry) : Type 0 
   pub acts : base ≡ without_notes entries
   pub near : (n : ℕ) → IsFar base n → ⊥
 
--- and the report has how many they are
-abbrev pub TellsResumed : Own → End Val → Type 0
-TellsResumed own end = own ≡ Own.Resumed (length end.base)
+-- an engine makes it, and the report has how many they are
+abbrev pub TellsResumed : Left → Type 0
+TellsResumed left = extra_in left ≡ Some (Extra.Resumed (length (end_in left).base))

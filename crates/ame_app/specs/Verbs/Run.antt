@@ -1,9 +1,11 @@
 -- `run`: a source that is the text of a program.
-use Rattle.std.specs.Prelude.{◌≡◌, ℕ, List, []}
+use Rattle.std.specs.Prelude.{◌≡◌, ℕ, List, [], Some}
 use Rattle.ame_lex.specs.Bytes.{Text}
 use Rattle.ame_journal.specs.declared.entry.Entry.{Entry}
 use Rattle.ame_app.specs.declared.parts.Front.{Front}
-use Rattle.ame_app.specs.declared.parts.Own.{Own}
+use Rattle.ame_app.specs.declared.left.Extra.{Extra}
+use Rattle.ame_app.specs.declared.left.Left.{Left}
+use Rattle.ame_app.specs.Left.{extra_in}
 
 -- the bytes are the text
 abbrev pub TakesAll : List ℕ → Front → Text → Type 0
@@ -13,6 +15,6 @@ TakesAll bytes front text = (front ≡ Front.Nothing) × (text ≡ bytes)
 abbrev pub BeginsWithNothing : List Entry → Type 0
 BeginsWithNothing base = base ≡ []
 
--- and has nothing of its own
-abbrev pub HasNothing : Own → Type 0
-HasNothing own = own ≡ Own.Nothing
+-- an engine makes it, and the command has nothing of its own
+abbrev pub HasNothing : Left → Type 0
+HasNothing left = extra_in left ≡ Some Extra.Nothing

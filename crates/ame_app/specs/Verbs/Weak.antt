@@ -1,6 +1,5 @@
--- `weak`: a source that is the text of a program, run under the weak semantics by the choices of a seed. An engine is opened on the journal of that
--- run without its notes, and is taken apart at once.
-use Rattle.std.specs.Prelude.{◌≡◌, ◌≢◌, ℕ, ℤ, ◌*◌, ◌≤◌, List, [], ◌++◌, Option, Some, None, option_to_list, ⊤}
+-- `weak`: a source that is the text of a program, run under the weak semantics by the choices of a seed.
+use Rattle.std.specs.Prelude.{◌≡◌, ◌≢◌, ℕ, ℤ, ◌*◌, ◌≤◌, List, ◌++◌, Option, Some, None, option_to_list, ⊤}
 use Rattle.ame_term.specs.Tree.{Tree}
 use Rattle.ame_term.specs.Frame.{Side}
 use Rattle.ame_term.specs.Context.{Focus, focus}
@@ -8,13 +7,10 @@ use Rattle.ame_term.specs.Act.{Act, act_of}
 use Rattle.ame_term.specs.Maps.{at}
 use Rattle.ame_term.specs.State.{State}
 use Rattle.ame_term.specs.declared.semantics.Label.{Label}
-use Rattle.ame_value.specs.declared.val.Val.{Val}
 use Rattle.ame_io.specs.Counts.{HasRisen}
 use Rattle.ame_journal.specs.declared.entry.Entry.{Entry}
-use Rattle.ame_journal.specs.Totals.{without_notes, total_steps}
+use Rattle.ame_journal.specs.Totals.{total_steps}
 use Rattle.ame_protocol.specs.declared.stop.Stop.{Stop}
-use Rattle.ame_protocol.specs.Event.Counting.{nothing_counted}
-use Rattle.ame_engine.specs.Ending.{End}
 use Rattle.ame_shell.specs.Ends.{Ends, told_at}
 use Rattle.ame_weak.specs.Weak.{Weak, IsWeakRun}
 use Rattle.ame_weak.specs.Straight.{outset}
@@ -24,8 +20,8 @@ use Rattle.ame_runner.specs.Tall.{IsTallIn}
 use Rattle.ame_cli.specs.Items.{default_of}
 use Rattle.ame_cli.specs.declared.item.Item.TheVariants.{Slice}
 use Rattle.ame_cli.specs.declared.command.Options.{Options}
-use Rattle.ame_app.specs.declared.parts.Own.{Own}
-use Rattle.ame_app.specs.declared.parts.Weakened.{Weakened}
+use Rattle.ame_app.specs.declared.left.Left.{Left}
+use Rattle.ame_app.specs.declared.left.WeakEnd.{WeakEnd}
 
 -- What is run
 
@@ -38,11 +34,9 @@ abbrev pub IsNoteAtEnd : Option Entry → State → Type 0
 IsNoteAtEnd None s = ⊤
 IsNoteAtEnd (Some entry) s = IsTallIn s entry
 
--- Entries are the journal of the labels of a weak run, at whose end nothing is active, with the notes of tries that hold where they stand, and with that
--- of a value that would be too high, if the run stopped by one.
-pub record IsWeakJournal (program : Tree) (entries : List Entry) : Type 0 where
-  pub labels : List Label
-  pub tries : List Try
+-- Labels are those of a weak run, at whose end nothing is active, and tries hold where they stand. Entries are the journal of the labels with
+-- notes of the tries, and with that of a value that would be too high, if the run stopped by one.
+pub record IsWeakJournal (program : Tree) (labels : List Label) (tries : List Try) (entries : List Entry) : Type 0 where
   pub weak : Weak
   pub leads : IsWeakRun program labels weak
   pub idle : weak.state.active ≡ None
@@ -53,29 +47,13 @@ pub record IsWeakJournal (program : Tree) (entries : List Entry) : Type 0 where
 
 -- What is told
 
--- of a run what its engine left, but of a weak run its own journal, turns and stop
-abbrev pub told_by : Own → End Val → End Val
-told_by (Own.Weak weakened) left =
-    record left {
-      base = [];
-      entries = weakened.journal.entries;
-      turns = weakened.turns;
-      stop = Some weakened.stop;
-      certificates = weakened.certificates.items;
-    }
-told_by own left = left
-
--- The report has the journal of a weak run, whose steps and entries pay a third of its turns at least, unless memory was wanted. The engine
--- that was opened on it has added nothing.
-pub record IsWeakened (program : Tree) (own : Own) (left : End Val) : Type 0 where
-  pub weakened : Weakened
-  pub own_is : own ≡ Own.Weak weakened
-  pub journal : IsWeakJournal program weakened.journal.entries
-  pub paid : weakened.stop ≢ Stop.NoMemory → weakened.turns ≤ 3 * total_steps weakened.journal.entries
-  pub base : left.base ≡ without_notes weakened.journal.entries
-  pub nothing : left.entries ≡ []
-  pub untried : left.tried ≡ []
-  pub uncounted : left.counters ≡ nothing_counted
+-- The run was a weak one, and its journal is that of its labels and tries. Steps and entries pay a third of its turns at least, unless memory
+-- was wanted.
+pub record IsWeakened (program : Tree) (left : Left) : Type 0 where
+  pub weak : WeakEnd
+  pub left_is : left ≡ Left.Weak weak
+  pub journal : IsWeakJournal program weak.labels.items weak.tries.items weak.journal.entries
+  pub paid : weak.stop ≢ Stop.NoMemory → weak.turns ≤ 3 * total_steps weak.journal.entries
 
 -- a member stands at a call of a device
 pub record StandsAtCallOf (s : State) (device : ℕ) : Type 0 where

@@ -3,8 +3,8 @@
 ghost use Rattle.std.specs.Prelude.{◌≡◌, ◌≤◌, ◌⊎◌, IfOk, IfErr, length, vec_len};
 ghost use Rattle.std.specs.Arc.{arc_value};
 ghost use Rattle.ame_cli.specs.Ranges.{AreInRange};
-ghost use Rattle.ame_shell.specs.Ends.{ends_of};
 ghost use Rattle.ame_app.specs.Jobs.{IsOverWith};
+ghost use Rattle.ame_app.specs.Left.{end_in};
 ghost use Rattle.ame_app.specs.Verbs.Replay.{TakesScheduled, HasNoSchedule, IsPickedAsListed};
 ghost use Rattle.ame_app.specs.declared.status.Status.{Status as Told};
 
@@ -16,6 +16,7 @@ use ame_cli::Options;
 use ame_code::Code;
 use ame_device::Device;
 use ame_io::Sink;
+use ame_shell::Io;
 use ame_sim::{Listed, ScheduleFault, read_schedule};
 use std::alloc::Global;
 use std::sync::Arc;
@@ -45,27 +46,23 @@ pub(crate) fn run<K, D>(
     code: &Arc<Code>,
     options: Options,
     front: &Front,
-    sink: K,
-    devices: Vec<D>,
-) -> Result<Made<K, D>, (K, Vec<D>)>
+    io: Io<K, D>,
+) -> Result<Made<K, D>, Io<K, D>>
 where
     K: Sink + Drop,
     D: Device,
     requires ranges { AreInRange options }
-    requires devices { (arc_value code.now).accepted.devices ≡ vec_len devices }
-    ensures over { IfOk result (λ made. IsOverWith options (arc_value code.now)
-        (ends_of K.written K.faults D.device_heard D.device_faults sink devices.items) made.left.ended
-        (ends_of K.written K.faults D.device_heard D.device_faults made.left.sink made.left.devices.items)) }
-    ensures own { IfOk result (λ made. IsPickedAsListed front.now options.workers made.own made.left.ended) }
-    ensures sink { IfErr result (λ back. back.0 ≡ sink) }
-    ensures devices { IfErr result (λ back. back.1 ≡ devices) }
+    requires devices { (arc_value code.now).accepted.devices ≡ length io.ends.told }
+    ensures over { IfOk result (λ made. IsOverWith options (arc_value code.now) io.ends (end_in made.left) made.io.ends) }
+    ensures own { IfOk result (λ made. IsPickedAsListed front.now options.workers made.left) }
+    ensures back { IfErr result (λ back. back ≡ io) }
 {
     let Front::Schedule(picks) = front else {
-        return Err((sink, devices));
+        return Err(io);
     };
     let Ok(seats) = Vec::from_slice(alloc, picks.as_slice()) else {
-        return Err((sink, devices));
+        return Err(io);
     };
     let mut chooser = Listed::new(seats);
-    sim::run(alloc, code, options, sink, devices, &mut chooser)
+    sim::run(alloc, code, options, io, &mut chooser)
 }

@@ -11,11 +11,12 @@ ghost use Rattle.ame_code.specs.Code.{program_of};
 ghost use Rattle.ame_code.specs.FlatCode.{FlatCode};
 ghost use Rattle.ame_engine.specs.Resuming.{AreActs, FailsToResume, IsFar};
 ghost use Rattle.ame_engine.specs.Whole.{AreLimits};
-ghost use Rattle.ame_shell.specs.Ends.{ends_of};
 ghost use Rattle.ame_app.specs.Jobs.{HasJustResumed, IsEngineOn, IsOutlook, IsOverFrom, IsReplayable};
+ghost use Rattle.ame_app.specs.Left.{end_in};
 ghost use Rattle.ame_app.specs.Verbs.Check.{entries_before as entries_in};
 ghost use Rattle.ame_app.specs.Verbs.Resume.{TellsResumed};
 
+use crate::left::{Extra, Left};
 use crate::limits::limits_of;
 use crate::parts::{Front, Own};
 use crate::status::Status;
@@ -29,6 +30,7 @@ use ame_engine::{Engine, ResumeFail};
 use ame_eval::Fragment;
 use ame_io::Sink;
 use ame_journal::{Entry, Journal};
+use ame_shell::Io;
 use ame_team::resume_by_workers;
 use ame_term::{Copied, NoMemory};
 use ame_worker::Gate;
@@ -78,7 +80,7 @@ fn tall(alloc: Global, front: &Front, options: Options, place: u64) -> Result<Ou
 }
 
 /// An engine that goes on from entries that are no notes and lead to a state.
-pub(crate) fn engine_on(
+fn engine_on(
     alloc: Global,
     code: &Arc<Code>,
     options: Options,
@@ -153,10 +155,9 @@ pub(crate) fn run<R, K, D, G>(
     alloc: Global,
     code: &Arc<Code>,
     engine: Engine<Fragment>,
-    sink: K,
-    devices: Vec<D>,
+    io: Io<K, D>,
     gate: &G,
-) -> Result<Made<K, D>, (K, Vec<D>)>
+) -> Result<Made<K, D>, Io<K, D>>
 where
     R: Threads + Wait + Sync,
     K: Sink + Send + Drop,
@@ -165,23 +166,21 @@ where
     requires resumed { HasJustResumed engine }
     requires limits { AreLimits engine.limits }
     requires code { arc_value code.now ≡ engine.code }
-    requires devices { engine.code.accepted.devices ≡ vec_len devices }
-    ensures over { IfOk result (λ made. IsOverFrom engine
-        (ends_of K.written K.faults D.device_heard D.device_faults sink devices.items) made.left.ended
-        (ends_of K.written K.faults D.device_heard D.device_faults made.left.sink made.left.devices.items)) }
-    ensures own { IfOk result (λ made. TellsResumed made.own made.left.ended) }
-    ensures sink { IfErr result (λ back. back.0 ≡ sink) }
-    ensures devices { IfErr result (λ back. back.1 ≡ devices) }
+    requires devices { engine.code.accepted.devices ≡ length io.ends.told }
+    ensures over { IfOk result (λ made. IsOverFrom engine io.ends (end_in made.left) made.io.ends) }
+    ensures own { IfOk result (λ made. TellsResumed made.left) }
+    ensures back { IfErr result (λ back. back ≡ io) }
 {
     let Ok(code) = Arc::try_clone(code) else {
-        return Err((sink, devices));
+        return Err(io);
     };
-    match resume_by_workers::<Fragment, K, D, G, R>(rt, alloc, code, engine, sink, devices, gate) {
+    match resume_by_workers::<Fragment, K, D, G, R>(rt, alloc, code, engine, io, gate) {
         Ok(left) => {
             let resumed = left.ended.base().len() as u64;
             Ok(Made {
-                left,
-                own: Own::Resumed(resumed),
+                left: Left::Engine(left.ended, Extra::Resumed(resumed)),
+                ahead: Vec::new(alloc),
+                io: left.io,
             })
         }
         Err(back) => Err(back),

@@ -1,20 +1,22 @@
 //! `run`: a source that is the text of a program.
 
-ghost use Rattle.std.specs.Prelude.{◌≡◌, IfOk, IfErr, vec_len};
+ghost use Rattle.std.specs.Prelude.{◌≡◌, IfOk, IfErr, length};
 ghost use Rattle.std.specs.Arc.{arc_value};
 ghost use Rattle.ame_cli.specs.Ranges.{AreInRange};
-ghost use Rattle.ame_shell.specs.Ends.{ends_of};
 ghost use Rattle.ame_app.specs.Jobs.{IsOverWith};
+ghost use Rattle.ame_app.specs.Left.{end_in};
 ghost use Rattle.ame_app.specs.Verbs.Run.{TakesAll, HasNothing};
 
+use crate::left::{Extra, Left};
 use crate::limits::limits_of;
-use crate::parts::{Front, Own};
+use crate::parts::Front;
 use crate::verbs::{Made, Taken};
 use ame_cli::Options;
 use ame_code::Code;
 use ame_device::Device;
 use ame_eval::Fragment;
 use ame_io::Sink;
+use ame_shell::Io;
 use ame_team::run_by_workers;
 use ame_worker::Gate;
 use std::alloc::Global;
@@ -38,32 +40,29 @@ pub(crate) fn run<R, K, D, G>(
     alloc: Global,
     code: &Arc<Code>,
     options: Options,
-    sink: K,
-    devices: Vec<D>,
+    io: Io<K, D>,
     gate: &G,
-) -> Result<Made<K, D>, (K, Vec<D>)>
+) -> Result<Made<K, D>, Io<K, D>>
 where
     R: Threads + Wait + Sync,
     K: Sink + Send + Drop,
     D: Device + Send,
     G: Gate + Sync,
     requires ranges { AreInRange options }
-    requires devices { (arc_value code.now).accepted.devices ≡ vec_len devices }
-    ensures over { IfOk result (λ made. IsOverWith options (arc_value code.now)
-        (ends_of K.written K.faults D.device_heard D.device_faults sink devices.items) made.left.ended
-        (ends_of K.written K.faults D.device_heard D.device_faults made.left.sink made.left.devices.items)) }
-    ensures own { IfOk result (λ made. HasNothing made.own) }
-    ensures sink { IfErr result (λ back. back.0 ≡ sink) }
-    ensures devices { IfErr result (λ back. back.1 ≡ devices) }
+    requires devices { (arc_value code.now).accepted.devices ≡ length io.ends.told }
+    ensures over { IfOk result (λ made. IsOverWith options (arc_value code.now) io.ends (end_in made.left) made.io.ends) }
+    ensures own { IfOk result (λ made. HasNothing made.left) }
+    ensures back { IfErr result (λ back. back ≡ io) }
 {
     let Ok(code) = Arc::try_clone(code) else {
-        return Err((sink, devices));
+        return Err(io);
     };
     let limits = limits_of(options);
-    match run_by_workers::<Fragment, K, D, G, R>(rt, alloc, code, limits, sink, devices, gate) {
+    match run_by_workers::<Fragment, K, D, G, R>(rt, alloc, code, limits, io, gate) {
         Ok(left) => Ok(Made {
-            left,
-            own: Own::Nothing,
+            left: Left::Engine(left.ended, Extra::Nothing),
+            ahead: Vec::new(alloc),
+            io: left.io,
         }),
         Err(back) => Err(back),
     }

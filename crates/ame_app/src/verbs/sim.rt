@@ -7,16 +7,16 @@ ghost use Rattle.ame_cli.specs.Ranges.{AreInRange};
 ghost use Rattle.ame_io.specs.Counts.{HasRisen};
 ghost use Rattle.ame_io.specs.Writes.{AppendsFront};
 ghost use Rattle.ame_app.specs.Verbs.Sim.{IsPicked, mades_in, seats_picked, schedule_behind};
-ghost use Rattle.ame_app.specs.declared.parts.Own.{Own as Owned};
+ghost use Rattle.ame_app.specs.declared.left.Left.{Left as Ending};
+ghost use Rattle.ame_app.specs.Left.{end_in};
 ghost use Rattle.ame_app.specs.Jobs.{IsOverWith};
-ghost use Rattle.ame_shell.specs.Ends.{ends_of};
 ghost use Rattle.ame_sim.specs.Picks.{picks_of};
 ghost use Rattle.ame_sim.specs.Questions.{seats_of};
 ghost use Rattle.ame_sim.specs.Schedule.{schedule_line, signs};
 
+use crate::left::{Extra, Left};
 use crate::limits::limits_of;
 use crate::lists::Mades;
-use crate::parts::Own;
 use crate::status::Status;
 use crate::verbs::Made;
 use ame_cli::Options;
@@ -24,7 +24,8 @@ use ame_code::Code;
 use ame_device::Device;
 use ame_eval::Fragment;
 use ame_io::{Sink, WriteFault, write_all};
-use ame_sim::{Chooser, Picked, run_by_chooser, sign_of};
+use ame_shell::Io;
+use ame_sim::{Chooser, Picked, Played, run_by_chooser, sign_of};
 use arrayvec::ArrayVec;
 use std::alloc::Global;
 use std::sync::Arc;
@@ -37,70 +38,70 @@ pub(crate) fn run<K, D, H>(
     alloc: Global,
     code: &Arc<Code>,
     options: Options,
-    sink: K,
-    devices: Vec<D>,
+    io: Io<K, D>,
     chooser: &mut H,
-) -> Result<Made<K, D>, (K, Vec<D>)>
+) -> Result<Made<K, D>, Io<K, D>>
 where
     K: Sink + Drop,
     D: Device,
     H: Chooser,
     requires ranges { AreInRange options }
-    requires devices { (arc_value code.now).accepted.devices ≡ vec_len devices }
-    ensures over { IfOk result (λ made. IsOverWith options (arc_value code.now)
-        (ends_of K.written K.faults D.device_heard D.device_faults sink devices.items) made.left.ended
-        (ends_of K.written K.faults D.device_heard D.device_faults made.left.sink made.left.devices.items)) }
-    ensures own { IfOk result (λ made. IsPicked (H.strategy chooser.old) options.workers made.own made.left.ended) }
-    ensures sink { IfErr result (λ back. back.0 ≡ sink) }
-    ensures devices { IfErr result (λ back. back.1 ≡ devices) }
+    requires devices { (arc_value code.now).accepted.devices ≡ length io.ends.told }
+    ensures over { IfOk result (λ made. IsOverWith options (arc_value code.now) io.ends (end_in made.left) made.io.ends) }
+    ensures own { IfOk result (λ made. IsPicked (H.strategy chooser.old) options.workers made.left) }
+    ensures back { IfErr result (λ back. back ≡ io) }
 {
     let Ok(code) = Arc::try_clone(code) else {
-        return Err((sink, devices));
+        return Err(io);
     };
     let limits = limits_of(options);
-    match run_by_chooser::<Fragment, K, D, H>(alloc, code, limits, sink, devices, chooser) {
-        Ok(played) => Ok(Made {
-            left: played.left,
-            own: Own::Picked(Mades::of_run(played.mades)),
-        }),
+    match run_by_chooser::<Fragment, K, D, H>(alloc, code, limits, io, chooser) {
+        Ok(played) => {
+            let Played { left, mades } = played;
+            Ok(Made {
+                left: Left::Engine(left.ended, Extra::Picked(Mades::of_run(mades))),
+                ahead: Vec::new(alloc),
+                io: left.io,
+            })
+        }
         Err(back) => Err(back),
     }
 }
 
-/// Whether a schedule stands behind the verdict line of a status.
+/// Returns whether a schedule stands after the verdict line of a status.
 fn has_schedule(told: &Status) -> bool
-    ensures stands { result ≡ true → (own : Owned) → schedule_behind own told.now ≡ schedule_line (seats_picked own) }
-    ensures none { result ≡ false → (own : Owned) → schedule_behind own told.now ≡ [] }
+    ensures stands { result ≡ true → (left : Ending) → schedule_behind left told.now ≡ schedule_line (seats_picked left) }
+    ensures none { result ≡ false → (left : Ending) → schedule_behind left told.now ≡ [] }
 {
     !matches!(told, Status::NoMemory | Status::WriteFault)
 }
 
-/// The picks, where the report has them.
-fn picks_in(own: &Own) -> &[Picked]
-    ensures value { result.now ≡ picks_of (mades_in own.now) }
+/// Returns the picks of a run, if it has any.
+fn picks_in(left: &Left) -> &[Picked]
+    ensures value { result.now ≡ picks_of (mades_in left.now) }
     ensures low { All (λ pick. pick.seat < 32) result.now }
 {
-    match own {
-        Own::Picked(mades) => mades.picks(),
-        Own::Nothing | Own::Unmade(_) | Own::Resumed(_) | Own::Weak(_) => &[],
+    match left {
+        Left::Engine(_, Extra::Picked(mades)) => mades.picks(),
+        Left::Engine(_, Extra::Nothing | Extra::Resumed(_)) | Left::Weak(_) => &[],
     }
 }
 
-/// Writes the schedule of a run behind its verdict line. Takes no memory.
+/// Writes the schedule of a run after its verdict line. Takes no memory.
 pub(crate) fn write_behind<K: Sink>(
     sink: &mut K,
-    own: &Own,
+    left: &Left,
     told: &Status,
 ) -> Result<(), WriteFault>
-    ensures whole { OnOk result (Appends (K.written sink.old) (K.written sink.new) (schedule_behind own.now told.now)) }
+    ensures whole { OnOk result (Appends (K.written sink.old) (K.written sink.new) (schedule_behind left.now told.now)) }
     ensures stayed { OnOk result (K.faults sink.new ≡ K.faults sink.old) }
-    ensures front { OnErr result (AppendsFront (K.written sink.old) (K.written sink.new) (schedule_behind own.now told.now)) }
+    ensures front { OnErr result (AppendsFront (K.written sink.old) (K.written sink.new) (schedule_behind left.now told.now)) }
     ensures risen { OnErr result (HasRisen (K.faults sink.old) (K.faults sink.new)) }
 {
     if !has_schedule(told) {
         return Ok(());
     }
-    write_schedule(sink, picks_in(own))
+    write_schedule(sink, picks_in(left))
 }
 
 /// Writes the line of a schedule.

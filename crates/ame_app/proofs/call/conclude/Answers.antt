@@ -1,23 +1,30 @@
-use Rattle.std.proofs.Common.{◌++◌, refl}
+use Rattle.std.proofs.Common.{◌++◌, List, ℕ, refl, sym, ap, subst}
 use Rattle.std.specs.Arc.{arc_value}
-use Rattle.ame_shell.specs.Ends.{ends_of}
+use Rattle.ame_shell.specs.Ends.{Ends, ends_of}
 use Rattle.ame_app.specs.declared.status.Status.{Status}
+use Rattle.ame_app.specs.Jobs.{IsRunMade, SpeaksAfter}
 use Rattle.ame_app.specs.Verbs.{written_behind}
-use Rattle.ame_app.specs.Verbs.Weak.{told_by}
 use Rattle.ame_app.specs.Verdict.{verdict}
 use Rattle.ame_app.proofs.RunLemmas.{headline, told-of}
 use Rattle.ame_app.proofs.call.conclude.Goals as goal
 
 pub returns-clause-ran : goal.returns-clause-ran
 returns-clause-ran g c = λ call before job made.
+    let written = g.K.Sink.written in
+    let faults = g.K.Sink.faults in
     let left = c.args.made.left in
-    let own = c.args.made.own in
+    let ahead = c.args.made.ahead.items in
     let command = c.args.job.command in
+    let code = arc_value c.args.job.code in
     let status = c.speak_after-status.result in
+    let parts = c.into_parts-sink.result in
     let sink = c.speak_after-status.new.sink in
-    let speaks = told-of left.ended.stop c.of-told.result (λ (t : Status). verdict t ++ written_behind command own t) (told_by own left.ended) status
-    (g.K.Sink.written left.sink) (g.K.Sink.faults left.sink) (g.K.Sink.written sink) (g.K.Sink.faults sink) c.of-told.ensures c.speak_after-status.ensures in
-    headline call status c.args.text.items (arc_value c.args.job.code) c.args.job.front own left.ended before
-    (ends_of g.K.Sink.written g.K.Sink.faults g.D.Device.device_heard g.D.Device.device_faults left.sink left.devices.items)
-    (ends_of g.K.Sink.written g.K.Sink.faults g.D.Device.device_heard g.D.Device.device_faults sink left.devices.items)
-    refl command job made speaks
+    let mid = ends_of written faults g.D.Device.device_heard g.D.Device.device_faults parts.0 parts.1.items in
+    let after = ends_of written faults g.D.Device.device_heard g.D.Device.device_faults sink parts.1.items in
+    let told = c.of-told.result in
+    let spoken = subst (λ (l : List ℕ). SpeaksAfter left l told (verdict told ++ written_behind command left told) status (written parts.0)
+    (faults parts.0) (written sink) (faults sink)) c.deref.ensures.value c.speak_after-status.ensures in
+    let speaks = told-of left ahead told (λ (t : Status). verdict t ++ written_behind command left t) status
+    (written parts.0) (faults parts.0) (written sink) (faults sink) c.of-told.ensures spoken in
+    headline call status c.args.text.items code c.args.job.front before mid after refl command left ahead job
+    (subst (λ (e : Ends). IsRunMade command c.args.job.front code before left ahead e) (sym (ap (λ v. v.ends) c.into_parts-sink.ensures)) made) speaks

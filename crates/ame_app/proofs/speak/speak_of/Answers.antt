@@ -14,7 +14,7 @@ returns-in-Err g c =
     inr (record {
       is = refl;
       appended = AppendsFront-after (written c.args.sink.now) (written c.write_line.new.sink) (written c.write_behind.new.sink)
-          (verdict c.args.told) (written_behind c.args.command.now c.args.own.now c.args.told) whole c.in-Err.ensures.front;
+          (verdict c.args.told) (written_behind c.args.command.now c.args.left.now c.args.told) whole c.in-Err.ensures.front;
       risen = subst (λ (n : ℕ). HasRisen n (g.K.Sink.faults c.write_behind.new.sink)) c.in-Ok.ensures.stayed c.in-Err.ensures.risen;
     })
 
@@ -24,7 +24,7 @@ returns-in_default g c =
     inr (record {
       is = refl;
       appended = AppendsFront-longer (written c.args.sink.now) (written c.write_line.new.sink) (verdict c.args.told)
-          (written_behind c.args.command.now c.args.own.now c.args.told)
+          (written_behind c.args.command.now c.args.left.now c.args.told)
           (subst (λ (l : List ℕ). AppendsFront (written c.args.sink.now) (written c.write_line.new.sink) l) c.line.ensures c.in_default.ensures.front);
       risen = c.in_default.ensures.risen;
     })

@@ -1,23 +1,20 @@
 use Rattle.std.proofs.Common.{map}
-use Rattle.std.specs.Prelude.{option_map, string_bytes, vec_len}
-use Rattle.std.specs.Arc.{arc_value}
+use Rattle.std.specs.Prelude.{string_bytes, vec_len}
 use Rattle.ame_shell.specs.Ends.{ends_of}
 use Rattle.ame_app.specs.Calls.{what_is_given, call_of}
-use Rattle.ame_app.specs.Headline.{reported}
+use Rattle.ame_app.specs.Reported.{run_view, reported}
 use Rattle.ame_app.specs.Standard.{heard_by, faults_of, with_new}
-use Rattle.ame_one_run.proofs.OneRunLemmas.{ok-weaker}
+use Rattle.ame_one_run.proofs.OneRunLemmas.{ok-weaker, some-there}
 use Rattle.ame_one_run.proofs.process.run_process.Goals as goal
 
 pub returns-clause-one_run : goal.returns-clause-one_run
 returns-clause-one_run g c =
     let r = c.run_process.result in
-    ok-weaker c.args.words _ _ (λ ws promised. c.one_run.ensures
+    ok-weaker c.args.words _ _ (λ ws promised. λ words. some-there run_view r.run _ (c.one_run.ensures
     (call_of (map string_bytes ws.items) (what_is_given g.S.Source.left g.S.Source.faults c.args.source.now)
     (what_is_given g.S.Source.left g.S.Source.faults c.run_process.new.source) 2)
-    (reported r.status r.text.items (option_map arc_value r.code) r.own) r.ended
-    (with_new (vec_len r.devices) (g.K.Sink.written c.args.sink) (g.K.Sink.faults c.args.sink))
-    (ends_of g.K.Sink.written g.K.Sink.faults heard_by faults_of r.sink r.devices.items)
-    promised) c.run_process.ensures.answered
+    (reported r) (with_new (vec_len r.devices) (g.K.Sink.written c.args.sink) (g.K.Sink.faults c.args.sink)) (ends_of g.K.Sink.written g.K.Sink.faults heard_by faults_of r.sink r.devices.items)
+    promised words)) c.run_process.ensures.answered
 
 pub returns-clause-each_run : goal.returns-clause-each_run
 returns-clause-each_run g c =
@@ -25,9 +22,7 @@ returns-clause-each_run g c =
     ok-weaker c.args.words _ _ (λ ws promised. λ command. c.each_run.ensures
     (call_of (map string_bytes ws.items) (what_is_given g.S.Source.left g.S.Source.faults c.args.source.now)
     (what_is_given g.S.Source.left g.S.Source.faults c.run_process.new.source) 2)
-    (reported r.status r.text.items (option_map arc_value r.code) r.own) r.ended
-    (with_new (vec_len r.devices) (g.K.Sink.written c.args.sink) (g.K.Sink.faults c.args.sink))
-    (ends_of g.K.Sink.written g.K.Sink.faults heard_by faults_of r.sink r.devices.items)
+    (reported r) (with_new (vec_len r.devices) (g.K.Sink.written c.args.sink) (g.K.Sink.faults c.args.sink)) (ends_of g.K.Sink.written g.K.Sink.faults heard_by faults_of r.sink r.devices.items)
     command promised) c.run_process.ensures.answered
 
 pub returns-clause-answered : goal.returns-clause-answered

@@ -2,5 +2,5 @@ use Rattle.ame_one_run.proofs.OneRunLemmas.{each-promised}
 use Rattle.ame_one_run.proofs.theorems.each_run.Goals as goal
 
 pub returns : goal.returns
-returns c = λ call report ended before after command promised spells anew.
-    each-promised c.spelled_is_read.ensures call report ended before after promised c.spells_one_command.ensures command spells anew
+returns c = λ call report before after command promised spells anew.
+    each-promised c.spelled_is_read.ensures call report before after promised c.spells_one_command.ensures command spells anew

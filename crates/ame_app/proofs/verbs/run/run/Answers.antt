@@ -1,7 +1,6 @@
 use denote.Param.Send.{sendable}
 use Rattle.ame_eval.proofs.FragmentCrossing.{fragment_send}
 use Rattle.std.specs.Arc.{arc_value}
-use Rattle.ame_shell.specs.Ends.{ends_of}
 use Rattle.ame_app.proofs.CrossingLemmas.{code_send, code_sync}
 use Rattle.ame_app.proofs.OverLemmas.{over-with}
 use Rattle.ame_app.proofs.verbs.run.run.Goals as goal
@@ -9,9 +8,7 @@ use Rattle.ame_app.proofs.verbs.run.run.Goals as goal
 pub returns-in-Ok-run_by_workers-clause-over : goal.returns-in-Ok-run_by_workers-clause-over
 returns-in-Ok-run_by_workers-clause-over g c =
     let left = c.in-Ok-run_by_workers.left in
-    let before = ends_of g.K.Sink.written g.K.Sink.faults g.D.Device.device_heard g.D.Device.device_faults c.args.sink c.args.devices.items in
-    let after = ends_of g.K.Sink.written g.K.Sink.faults g.D.Device.device_heard g.D.Device.device_faults left.sink left.devices.items in
-    over-with c.args.options (arc_value c.args.code.now) _ c.limits_of-limits.result before after left.ended
+    over-with c.args.options (arc_value c.args.code.now) _ c.limits_of-limits.result c.args.io.ends left.io.ends left.ended
     c.in-Ok.ensures c.limits_of-limits.ensures c.in-Ok-run_by_workers.ensures.over
 
 pub run_by_workers-requires-send-M : goal.run_by_workers-requires-send-M

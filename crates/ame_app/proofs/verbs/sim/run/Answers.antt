@@ -1,8 +1,8 @@
 use Rattle.std.proofs.Common.{◌≤◌, ap, subst, sym}
 use Rattle.std.specs.Arc.{arc_value}
 use Rattle.ame_protocol.specs.declared.types.Limits.{Limits}
-use Rattle.ame_shell.specs.Ends.{ends_of}
-use Rattle.ame_app.specs.declared.parts.Own.{Own}
+use Rattle.ame_app.specs.declared.left.Extra.{Extra}
+use Rattle.ame_app.specs.declared.left.Left.{Left}
 use Rattle.ame_app.specs.Verbs.Sim.{IsPicked}
 use Rattle.ame_app.proofs.OverLemmas.{over-with}
 use Rattle.ame_app.proofs.PickLemmas.{played-picked, mades-low}
@@ -11,17 +11,15 @@ use Rattle.ame_app.proofs.verbs.sim.run.Goals as goal
 pub returns-in-Ok-run_by_chooser-clause-over : goal.returns-in-Ok-run_by_chooser-clause-over
 returns-in-Ok-run_by_chooser-clause-over g c =
     let left = c.in-Ok-run_by_chooser.played.left in
-    let before = ends_of g.K.Sink.written g.K.Sink.faults g.D.Device.device_heard g.D.Device.device_faults c.args.sink c.args.devices.items in
-    let after = ends_of g.K.Sink.written g.K.Sink.faults g.D.Device.device_heard g.D.Device.device_faults left.sink left.devices.items in
-    over-with c.args.options (arc_value c.args.code.now) _ c.limits_of-limits.result before after left.ended
+    over-with c.args.options (arc_value c.args.code.now) _ c.limits_of-limits.result c.args.io.ends left.io.ends left.ended
     c.in-Ok.ensures c.limits_of-limits.ensures c.in-Ok-run_by_chooser.ensures.over
 
 pub returns-in-Ok-run_by_chooser-clause-own : goal.returns-in-Ok-run_by_chooser-clause-own
 returns-in-Ok-run_by_chooser-clause-own g c =
     let strategy = g.H.Chooser.strategy c.args.chooser.now in
-    subst (λ (l : Limits). IsPicked strategy l.seats (Own.Picked c.of_run.result) c.in-Ok-run_by_chooser.played.left.ended) c.limits_of-limits.ensures
+    subst (λ (l : Limits). IsPicked strategy l.seats (Left.Engine c.in-Ok-run_by_chooser.played.left.ended (Extra.Picked c.of_run.result))) c.limits_of-limits.ensures
     (played-picked _ _ strategy (g.H.Chooser.strategy c.run_by_chooser.new.chooser) _ _ _
-    (ap Own.Picked c.of_run.ensures) c.in-Ok-run_by_chooser.ensures.played c.in-Ok-run_by_chooser.ensures.answers)
+    (ap Extra.Picked c.of_run.ensures) c.in-Ok-run_by_chooser.ensures.played c.in-Ok-run_by_chooser.ensures.answers)
 
 pub of_run-requires : goal.of_run-requires
 of_run-requires g c =

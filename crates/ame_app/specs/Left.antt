@@ -1,0 +1,34 @@
+-- What a run left, whichever way it was made.
+use Rattle.std.specs.Prelude.{[], Option, Some, None}
+use Rattle.ame_value.specs.declared.val.Val.{Val}
+use Rattle.ame_protocol.specs.Event.Counting.{nothing_counted}
+use Rattle.ame_engine.specs.Ending.{End}
+use Rattle.ame_app.specs.declared.left.Extra.{Extra}
+use Rattle.ame_app.specs.declared.left.Left.{Left}
+
+-- The engine's end. A weak run has its journal, turns, stop, certificates, store and output in that place. It goes on from no entries, counts
+-- no turn by its kind, and notes its tries in its journal.
+abbrev pub end_in : Left → End Val
+end_in (Left.Engine end extra) = end
+end_in (Left.Weak weak) = record {
+  limits = weak.limits;
+  base = [];
+  entries = weak.journal.entries;
+  cells = weak.store;
+  output = weak.output.items;
+  turns = weak.turns;
+  counters = nothing_counted;
+  tried = [];
+  stop = Some weak.stop;
+  certificates = weak.certificates.items;
+}
+
+-- the engine's end, if an engine made the run
+abbrev pub engine_in : Left → Option (End Val)
+engine_in (Left.Engine end extra) = Some end
+engine_in (Left.Weak weak) = None
+
+-- what the command has next to it
+abbrev pub extra_in : Left → Option Extra
+extra_in (Left.Engine end extra) = Some extra
+extra_in (Left.Weak weak) = None

@@ -1,11 +1,1 @@
-pub mod LaneLemmas
-pub mod StampLemmas
-pub mod EscapeLemmas
-pub mod ArrowLemmas
-pub mod CauseLemmas
-pub mod CountLemmas
-pub mod EndLemmas
 pub mod HiddenLemmas
-pub mod MomentLemmas
-pub mod EventLemmas
-pub mod FateLemmas

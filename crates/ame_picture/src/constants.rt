@@ -1,12 +1,6 @@
-//! What is the same in each picture.
+//! Parts that are the same in each picture.
 
-/// What a picture begins with.
-pub const OPENING: &[u8] = b"<svg xmlns=\"http://www.w3.org/2000/svg\"";
-
-/// What stands in front of the width and the height of what is shown.
-pub const VIEW_BOX: &[u8] = b" viewBox=\"0 0 ";
-
-/// How the marks look. While the pointer is on a mark, those of other colours are dimmed.
+/// The styles of marks. While the pointer is on a mark, those of other colours are dimmed.
 pub const STYLES: &[u8] = b"\
 <style>
 text{font-family:Helvetica,Arial,sans-serif;font-size:11px;fill:#222}
@@ -45,12 +39,8 @@ pub const HATCHINGS: &[u8] = b"\
 </defs>
 ";
 
-/// What the legend begins with.
-pub const LEGEND: &[u8] = b"<g class=\"key\" transform=\"translate(96,";
-
-/// What stands behind its height, and what boxes mean.
+/// The meaning of boxes.
 pub const BOX_KEYS: &[u8] = b"\
-)\">
 <rect class=\"ran\" width=\"22\" height=\"14\" rx=\"3\"/><text x=\"28\" y=\"11\">committed</text>
 <rect class=\"rolled\" x=\"110\" width=\"22\" height=\"14\" rx=\"3\"/><text x=\"138\" y=\"11\">rolled back</text>
 <rect class=\"stuck\" x=\"220\" width=\"22\" height=\"14\" rx=\"3\"/><text x=\"248\" y=\"11\">false condition</text>
@@ -58,48 +48,34 @@ pub const BOX_KEYS: &[u8] = b"\
 <rect class=\"crossed\" x=\"470\" width=\"22\" height=\"14\" rx=\"3\"/><text x=\"498\" y=\"11\">cut off, too high</text>
 ";
 
-/// What signs and lines mean.
+/// The meaning of signs and lines.
 pub const KEYS: &[u8] = b"\
 <text y=\"34\">signs: r reads, w writes, + makes a location, o home again, x turns back, ? false condition, u undoes, - nothing to begin</text>
 <text y=\"50\">dotted: goes on; grey: started by; green: woken by; red: in the way, dashed: a read that is not valid; bars: owners, hatched: undone</text>
 </g>
 ";
 
-/// What columns and lines mean in a picture by fragments.
+/// The meaning of columns and lines in a picture by fragments.
 pub const COURSE_KEYS: &[u8] = b"\
 <text y=\"34\">a column an entry of the journal, or a try that left none, behind the entries where it was valid last</text>
 <text y=\"50\">dotted: from the entry that started a fragment down to its lane</text>
 </g>
 ";
 
-/// What a text that is not shown begins with, in front of its name, and what it ends with.
+/// The beginning of a text that is not shown, before its name, and the end.
 pub const HIDDEN: &[u8] = b"<metadata id=\"";
 
 pub const HIDDEN_END: &[u8] = b"</metadata>\n";
 
-/// What the events of seats begin with.
+/// The beginning of the events of seats.
 pub const EVENTS_BEGIN: &[u8] = b"\
 {\"traceEvents\":[
 {\"name\":\"process_name\",\"ph\":\"M\",\"pid\":1,\"args\":{\"name\":\"a run of ame, a microsecond a pick\"}}";
 
-/// What the events of fragments begin with.
+/// The beginning of the events of fragments.
 pub const COURSE_BEGIN: &[u8] = b"\
 {\"traceEvents\":[
 {\"name\":\"process_name\",\"ph\":\"M\",\"pid\":1,\"args\":{\"name\":\"a run of ame, a microsecond an entry or a try\"}}";
 
-/// What they end with.
+/// The end of events.
 pub const EVENTS_END: &[u8] = b"\n]}\n";
-
-/// What stands in front of the number of a track that is named.
-pub const TRACK: &[u8] = b",\n{\"ph\":\"M\",\"pid\":1,\"tid\":";
-
-/// What stands in front of its name.
-pub const TRACK_NAME: &[u8] = b",\"name\":\"thread_name\",\"args\":{\"name\":\"";
-
-/// What stands behind the sort of an event: that it has a beginning and a length.
-pub const PHASE: &[u8] = b"\",\"ph\":\"X\",\"pid\":1";
-
-/// What stands in front of the number behind which a try was valid, and what became of it.
-pub const TRY: &[u8] = b"try behind ";
-
-pub const ROLLED_BACK: &[u8] = b"rolled back";

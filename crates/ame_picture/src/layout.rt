@@ -1,55 +1,55 @@
-//! Where the marks of a picture stand.
+//! The places of marks in a picture.
 
-ghost use Rattle.std.specs.Prelude.{◌≡◌, ◌<◌, ◌^◌};
-ghost use Rattle.ame_picture.specs.Layout as spec;
+ghost use Rattle.std.specs.Prelude.{◌<◌, ◌^◌};
 
-/// The left edge of a pick's column.
-pub(crate) fn left_of(pick: u32) -> u64
-    ensures { result ≡ spec.left_of pick }
-{
-    96 + 22 * u64::from(pick)
+/// A point: how far from the left edge, and from the upper one.
+#[derive(Clone, Copy)]
+pub(crate) struct Point(pub u64, pub u64);
+
+/// The numbers of lanes of a picture, of seats or fragments and of locations, and of columns.
+#[derive(Clone, Copy)]
+pub(crate) struct Layout {
+    pub lanes: u32,
+    pub places: u32,
+    pub columns: u32,
 }
 
-/// The middle of a pick's column.
-pub(crate) fn middle_of(pick: u32) -> u64
-    ensures { result ≡ spec.middle_of pick }
-{
-    107 + 22 * u64::from(pick)
+impl Layout {
+    /// Returns the upper edge of the lane of a location.
+    pub(crate) fn place_top(self, place: u32) -> u64
+        ensures { result < 2 ^ 40 }
+    {
+        90 + 46 * u64::from(self.lanes) + 24 * u64::from(place)
+    }
+
+    /// Returns the upper edge of the journal.
+    pub(crate) fn journal_top(self) -> u64
+        ensures { result < 2 ^ 40 }
+    {
+        100 + 46 * u64::from(self.lanes) + 24 * u64::from(self.places)
+    }
+
+    /// Returns the width of the picture.
+    pub(crate) fn width(self) -> u64 {
+        (120 + 22 * u64::from(self.columns)).max(720)
+    }
 }
 
-/// The upper edge of the boxes of a seat.
-pub(crate) fn top_of(seat: u32) -> u64
-    ensures { result ≡ spec.top_of seat }
+/// Returns the left edge of a column.
+pub(crate) fn left_of(column: u32) -> u64
+    ensures { result < 2 ^ 40 }
 {
-    74 + 46 * u64::from(seat)
+    96 + 22 * u64::from(column)
 }
 
-/// The upper edge of the lane of a location, below so many seats.
-pub(crate) fn place_top(seats: u32, place: u32) -> u64
-    ensures { result ≡ spec.place_top seats place }
-{
-    90 + 46 * u64::from(seats) + 24 * u64::from(place)
+/// Returns the middle of a column.
+pub(crate) fn middle_of(column: u32) -> u64 {
+    107 + 22 * u64::from(column)
 }
 
-/// The upper edge of the journal below so many seats and locations.
-pub(crate) fn journal_top(seats: u32, places: u32) -> u64
-    ensures value { result ≡ spec.journal_top seats places }
-    ensures low { result < 2 ^ 40 }
+/// Returns the upper edge of the boxes in a lane.
+pub(crate) fn top_of(lane: u32) -> u64
+    ensures { result < 2 ^ 40 }
 {
-    100 + 46 * u64::from(seats) + 24 * u64::from(places)
-}
-
-/// How wide a picture of so many picks is.
-pub(crate) fn width_of(picks: u32) -> u64
-    ensures { result ≡ spec.width_of picks }
-{
-    (120 + 22 * u64::from(picks)).max(720)
-}
-
-/// How high a picture is whose journal is there.
-pub(crate) fn height_of(top: u64) -> u64
-    requires { top < 2 ^ 40 }
-    ensures { result ≡ spec.height_of top }
-{
-    top + 124
+    74 + 46 * u64::from(lane)
 }

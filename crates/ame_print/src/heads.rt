@@ -5,10 +5,10 @@ ghost use Rattle.ame_print.specs.Layout.{open_token, word};
 ghost use Rattle.ame_print.specs.Printer.{with_token, with_tokens, spelling_of};
 ghost use Rattle.ame_print.specs.Tokens.{sort_token, effect_token, op_token, unary_tokens, binary_token, truth_token, name_token, location_token};
 
-use crate::page::Page;
+use crate::token_page::TokenPage;
 use ame_term::{Binary, Effect, Loc, Name, NoMemory, Op, Sort, Unary};
 
-pub fn sort(page: &mut Page, sort: Sort) -> Result<(), NoMemory>
+pub fn sort(page: &mut TokenPage, sort: Sort) -> Result<(), NoMemory>
     ensures { OnOk result (page.new ≡ with_token page.old (sort_token sort)) }
 {
     match sort {
@@ -17,7 +17,7 @@ pub fn sort(page: &mut Page, sort: Sort) -> Result<(), NoMemory>
     }
 }
 
-pub fn effect(page: &mut Page, effect: Effect) -> Result<(), NoMemory>
+pub fn effect(page: &mut TokenPage, effect: Effect) -> Result<(), NoMemory>
     ensures { OnOk result (page.new ≡ with_token page.old (effect_token effect)) }
 {
     match effect {
@@ -28,14 +28,14 @@ pub fn effect(page: &mut Page, effect: Effect) -> Result<(), NoMemory>
 }
 
 /// The parenthesis and the word of a function form, and its effect.
-pub fn begin_function(page: &mut Page, head: &[u8], under: Effect) -> Result<(), NoMemory>
+pub fn begin_function(page: &mut TokenPage, head: &[u8], under: Effect) -> Result<(), NoMemory>
     ensures { OnOk result (page.new ≡ with_token (with_token (with_token page.old open_token) (word head.now)) (effect_token under)) }
 {
     page.begin(head)?;
     effect(page, under)
 }
 
-pub fn op(page: &mut Page, op: Op) -> Result<(), NoMemory>
+pub fn op(page: &mut TokenPage, op: Op) -> Result<(), NoMemory>
     ensures { OnOk result (page.new ≡ with_token page.old (op_token op)) }
 {
     match op {
@@ -48,7 +48,7 @@ pub fn op(page: &mut Page, op: Op) -> Result<(), NoMemory>
 }
 
 /// The parenthesis and the word of a form with one part, and the sort or the number before the part.
-pub fn begin_one(page: &mut Page, op: Unary) -> Result<(), NoMemory>
+pub fn begin_one(page: &mut TokenPage, op: Unary) -> Result<(), NoMemory>
     ensures { OnOk result (page.new ≡ with_tokens (with_token page.old open_token) (unary_tokens op)) }
 {
     match op {
@@ -71,7 +71,7 @@ pub fn begin_one(page: &mut Page, op: Unary) -> Result<(), NoMemory>
 }
 
 /// The parenthesis and the word or the symbol of a form with two parts.
-pub fn begin_two(page: &mut Page, which: Binary) -> Result<(), NoMemory>
+pub fn begin_two(page: &mut TokenPage, which: Binary) -> Result<(), NoMemory>
     ensures { OnOk result (page.new ≡ with_token (with_token page.old open_token) (binary_token which)) }
 {
     match which {
@@ -85,7 +85,7 @@ pub fn begin_two(page: &mut Page, which: Binary) -> Result<(), NoMemory>
     }
 }
 
-pub fn truth(page: &mut Page, truth: bool) -> Result<(), NoMemory>
+pub fn truth(page: &mut TokenPage, truth: bool) -> Result<(), NoMemory>
     ensures { OnOk result (page.new ≡ with_token page.old (truth_token truth)) }
 {
     if truth {
@@ -96,7 +96,7 @@ pub fn truth(page: &mut Page, truth: bool) -> Result<(), NoMemory>
 }
 
 /// A name by its spelling, where it has one.
-pub fn name(page: &mut Page, names: &[Vec<u8>], x: Name) -> Result<(), NoMemory>
+pub fn name(page: &mut TokenPage, names: &[Vec<u8>], x: Name) -> Result<(), NoMemory>
     ensures { OnOk result (page.new ≡ with_token page.old (name_token (spelling_of names.now) x.0)) }
 {
     match names.get(x.0 as usize) {
@@ -105,7 +105,7 @@ pub fn name(page: &mut Page, names: &[Vec<u8>], x: Name) -> Result<(), NoMemory>
     }
 }
 
-pub fn location(page: &mut Page, l: Loc) -> Result<(), NoMemory>
+pub fn location(page: &mut TokenPage, l: Loc) -> Result<(), NoMemory>
     ensures { OnOk result (page.new ≡ with_token page.old (location_token l.0)) }
 {
     page.numbered(b'@', l.0)

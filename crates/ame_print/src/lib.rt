@@ -2,11 +2,11 @@
 #![tactic(auto)]
 
 mod heads;
-mod laws;
-mod page;
 mod print;
 mod terms;
+mod theorems;
+mod token_page;
 mod types;
 
-pub use laws::printed_is_read;
 pub use print::{print_program, print_term, print_ty};
+pub use theorems::printed_is_read;

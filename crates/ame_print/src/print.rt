@@ -7,9 +7,9 @@ ghost use Rattle.ame_print.specs.Again.{ReadsAs, source_text};
 ghost use Rattle.ame_print.specs.Printer.{spelling_of};
 ghost use Rattle.ame_print.specs.Tokens.{type_text, term_text};
 
-use crate::laws::printed_is_read;
-use crate::page::Page;
 use crate::terms::term;
+use crate::theorems::printed_is_read;
+use crate::token_page::TokenPage;
 use crate::types::ty;
 use ame_term::{NoMemory, Program, Term, Ty};
 use std::alloc::Global;
@@ -19,7 +19,7 @@ use std::alloc::Global;
 pub fn print_ty(alloc: Global, shown: &Ty) -> Result<Vec<u8>, NoMemory>
     ensures { IfOk result (λ text. text.items ≡ type_text (typ_of shown.now)) }
 {
-    let mut page = Page::new(alloc);
+    let mut page = TokenPage::new(alloc);
     ty(&mut page, shown)?;
     Ok(page.into_text())
 }
@@ -29,7 +29,7 @@ pub fn print_ty(alloc: Global, shown: &Ty) -> Result<Vec<u8>, NoMemory>
 pub fn print_term(alloc: Global, names: &[Vec<u8>], shown: &Term) -> Result<Vec<u8>, NoMemory>
     ensures { IfOk result (λ text. text.items ≡ term_text (spelling_of names.now) (tree_of shown.now)) }
 {
-    let mut page = Page::new(alloc);
+    let mut page = TokenPage::new(alloc);
     term(&mut page, names, shown)?;
     Ok(page.into_text())
 }

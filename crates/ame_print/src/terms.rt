@@ -8,7 +8,7 @@ ghost use Rattle.ame_print.specs.Printer.{with_tokens, spelling_of};
 ghost use Rattle.ame_print.specs.Tokens.{form, value_tokens, term_tokens, row_tokens, function_tokens, param_tokens, name_token, unary_tokens, binary_token, is_unit_tree};
 
 use crate::heads::{begin_function, begin_one, begin_two, location, name, truth};
-use crate::page::Page;
+use crate::token_page::TokenPage;
 use crate::types::ty;
 use ame_term::{Binary, Function, Name, NoMemory, Term, Unary, Value};
 
@@ -22,7 +22,7 @@ fn is_unit(term: &Term) -> bool
 /// Prints a value.
 #[cycle(print)]
 #[tactic(auto, using(crate::proofs::PrinterLemmas::append), unfolding(crate::specs::Tokens::value_tokens))]
-fn held(page: &mut Page, names: &[Vec<u8>], value: &Value) -> Result<(), NoMemory>
+fn held(page: &mut TokenPage, names: &[Vec<u8>], value: &Value) -> Result<(), NoMemory>
     ensures { OnOk result (page.new ≡ with_tokens page.old (value_tokens (spelling_of names.now) (val_of value.now))) }
 {
     match value {
@@ -42,7 +42,7 @@ fn held(page: &mut Page, names: &[Vec<u8>], value: &Value) -> Result<(), NoMemor
 
 /// Prints the parameter of a function, with its type.
 #[tactic(auto, using(crate::proofs::PrinterLemmas::append))]
-fn param(page: &mut Page, names: &[Vec<u8>], f: &Function) -> Result<(), NoMemory>
+fn param(page: &mut TokenPage, names: &[Vec<u8>], f: &Function) -> Result<(), NoMemory>
     ensures { OnOk result (page.new ≡ with_tokens page.old (param_tokens (spelling_of names.now) (function_head f.now))) }
 {
     page.open()?;
@@ -54,7 +54,7 @@ fn param(page: &mut Page, names: &[Vec<u8>], f: &Function) -> Result<(), NoMemor
 /// Prints a function as its form.
 #[cycle(print)]
 #[tactic(auto, using(crate::proofs::PrinterLemmas::append))]
-fn function(page: &mut Page, names: &[Vec<u8>], f: &Function) -> Result<(), NoMemory>
+fn function(page: &mut TokenPage, names: &[Vec<u8>], f: &Function) -> Result<(), NoMemory>
     ensures { OnOk result (page.new
         ≡ with_tokens page.old (function_tokens (spelling_of names.now) (function_head f.now) (term_tokens (spelling_of names.now) (tree_of f.now.body)))) }
 {
@@ -77,7 +77,7 @@ fn function(page: &mut Page, names: &[Vec<u8>], f: &Function) -> Result<(), NoMe
 /// Prints a form with one part.
 #[cycle(print)]
 #[tactic(auto, using(crate::proofs::PrinterLemmas::append))]
-fn one(page: &mut Page, names: &[Vec<u8>], op: Unary, part: &Term) -> Result<(), NoMemory>
+fn one(page: &mut TokenPage, names: &[Vec<u8>], op: Unary, part: &Term) -> Result<(), NoMemory>
     ensures { OnOk result (page.new ≡ with_tokens page.old (form (unary_tokens op ++ term_tokens (spelling_of names.now) (tree_of part.now)))) }
 {
     begin_one(page, op)?;
@@ -89,7 +89,7 @@ fn one(page: &mut Page, names: &[Vec<u8>], op: Unary, part: &Term) -> Result<(),
 #[cycle(print)]
 #[tactic(auto, using(crate::proofs::PrinterLemmas::append))]
 fn two(
-    page: &mut Page,
+    page: &mut TokenPage,
     names: &[Vec<u8>],
     op: Binary,
     first: &Term,
@@ -107,7 +107,7 @@ fn two(
 /// Prints a form that is its word and a term.
 #[cycle(print)]
 #[tactic(auto, using(crate::proofs::PrinterLemmas::append))]
-fn alone(page: &mut Page, names: &[Vec<u8>], head: &[u8], part: &Term) -> Result<(), NoMemory>
+fn alone(page: &mut TokenPage, names: &[Vec<u8>], head: &[u8], part: &Term) -> Result<(), NoMemory>
     ensures { OnOk result (page.new ≡ with_tokens page.old (form (word head.now ∷ term_tokens (spelling_of names.now) (tree_of part.now)))) }
 {
     page.begin(head)?;
@@ -119,7 +119,7 @@ fn alone(page: &mut Page, names: &[Vec<u8>], head: &[u8], part: &Term) -> Result
 #[cycle(print)]
 #[tactic(auto, using(crate::proofs::PrinterLemmas::append))]
 fn binding(
-    page: &mut Page,
+    page: &mut TokenPage,
     names: &[Vec<u8>],
     x: Name,
     bound: &Term,
@@ -139,7 +139,7 @@ fn binding(
 #[cycle(print)]
 #[tactic(auto, using(crate::proofs::PrinterLemmas::append))]
 fn choice(
-    page: &mut Page,
+    page: &mut TokenPage,
     names: &[Vec<u8>],
     test: &Term,
     yes: &Term,
@@ -158,7 +158,7 @@ fn choice(
 /// Prints an `unprotected` form, as `yield` where its part is unit.
 #[cycle(print)]
 #[tactic(auto, using(crate::proofs::PrinterLemmas::append), unfolding(crate::specs::Tokens::term_tokens))]
-fn unprotected(page: &mut Page, names: &[Vec<u8>], part: &Term) -> Result<(), NoMemory>
+fn unprotected(page: &mut TokenPage, names: &[Vec<u8>], part: &Term) -> Result<(), NoMemory>
     ensures { OnOk result (page.new ≡ with_tokens page.old (term_tokens (spelling_of names.now) (Tree.Unprotected (tree_of part.now)))) }
 {
     if is_unit(part) {
@@ -171,7 +171,7 @@ fn unprotected(page: &mut Page, names: &[Vec<u8>], part: &Term) -> Result<(), No
 /// Prints a `do` form.
 #[cycle(print)]
 #[tactic(auto, using(crate::proofs::PrinterLemmas::append))]
-fn sequence(page: &mut Page, names: &[Vec<u8>], parts: &[Term]) -> Result<(), NoMemory>
+fn sequence(page: &mut TokenPage, names: &[Vec<u8>], parts: &[Term]) -> Result<(), NoMemory>
     ensures { OnOk result (page.new ≡ with_tokens page.old (form (word (codes "do") ∷ row_tokens (spelling_of names.now) (trees_of parts.now)))) }
 {
     page.begin(b"do")?;
@@ -182,7 +182,7 @@ fn sequence(page: &mut Page, names: &[Vec<u8>], parts: &[Term]) -> Result<(), No
 /// Prints the parts of a `do` form.
 #[cycle(print)]
 #[tactic(auto, using(crate::proofs::PrinterLemmas::append), unfolding(crate::specs::Tokens::row_tokens))]
-fn row(page: &mut Page, names: &[Vec<u8>], parts: &[Term]) -> Result<(), NoMemory>
+fn row(page: &mut TokenPage, names: &[Vec<u8>], parts: &[Term]) -> Result<(), NoMemory>
     ensures { OnOk result (page.new ≡ with_tokens page.old (row_tokens (spelling_of names.now) (trees_of parts.now))) }
 {
     for part in parts {
@@ -194,7 +194,7 @@ fn row(page: &mut Page, names: &[Vec<u8>], parts: &[Term]) -> Result<(), NoMemor
 /// Prints a term.
 #[cycle(print)]
 #[tactic(auto, using(crate::proofs::PrinterLemmas::append, crate::proofs::Sizes::tree_of_do), unfolding(crate::specs::Tokens::term_tokens))]
-pub fn term(page: &mut Page, names: &[Vec<u8>], shown: &Term) -> Result<(), NoMemory>
+pub fn term(page: &mut TokenPage, names: &[Vec<u8>], shown: &Term) -> Result<(), NoMemory>
     ensures { OnOk result (page.new ≡ with_tokens page.old (term_tokens (spelling_of names.now) (tree_of shown.now))) }
 {
     match shown {

@@ -6,12 +6,12 @@ ghost use Rattle.ame_print.specs.Printer.{with_tokens};
 ghost use Rattle.ame_print.specs.Tokens.{type_tokens};
 
 use crate::heads::{effect, sort};
-use crate::page::Page;
+use crate::token_page::TokenPage;
 use ame_term::{NoMemory, Ty};
 
 /// Prints a type.
 #[tactic(auto, using(crate::proofs::PrinterLemmas::append), unfolding(crate::specs::Tokens::type_tokens))]
-pub fn ty(page: &mut Page, shown: &Ty) -> Result<(), NoMemory>
+pub fn ty(page: &mut TokenPage, shown: &Ty) -> Result<(), NoMemory>
     ensures { OnOk result (page.new ≡ with_tokens page.old (type_tokens (typ_of shown.now))) }
 {
     match shown {

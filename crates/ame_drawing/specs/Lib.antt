@@ -1,0 +1,12 @@
+pub mod Picks
+pub mod Lanes
+pub mod Stamps
+pub mod Spans
+pub mod Arrows
+pub mod Causes
+pub mod Drawings
+pub mod Moments
+pub mod Courses
+pub mod Claims
+pub mod Timelines
+pub mod Shown

@@ -1,6 +1,0 @@
-use Rattle.std.proofs.Common.{◌≡◌, drop, None}
-use Rattle.ame_picture.specs.Arrows.{last_spot}
-use Rattle.ame_picture.proofs.arrow.last_spot.Given as goal
-
-abbrev pub invariant-loop-index : goal.invariant-loop-index
-invariant-loop-index l = last_spot l.sought l.index l.last (drop l.index l.picks) ≡ last_spot l.sought 0 None l.picks

@@ -1,6 +1,0 @@
-use Rattle.std.proofs.Common.{◌≡◌}
-use Rattle.ame_picture.specs.Causes as spec
-use Rattle.ame_picture.proofs.cause.waker.Given as goal
-
-abbrev pub invariant-loop-place : goal.invariant-loop-place
-invariant-loop-place l = l.first ≡ spec.waker l.place l.member l.index l.spans l.earlier

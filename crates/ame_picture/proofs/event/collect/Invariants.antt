@@ -1,9 +1,0 @@
-use Rattle.std.proofs.Common.{◌≡◌, ◌+◌, ◌≤◌, ◌++◌, drop, None}
-use Rattle.ame_picture.specs.Events.{events_from}
-use Rattle.ame_picture.proofs.event.collect.Given as goal
-
-abbrev pub invariant-loop-index : goal.invariant-loop-index
-invariant-loop-index l = record {
-  few : l.number ≤ l.index + 1;
-  so_far : l.events.items ++ events_from l.seat l.number l.index l.begun (drop l.index l.picks) ≡ events_from l.seat 1 0 None l.picks;
-}

@@ -1,6 +1,0 @@
-use Rattle.std.proofs.Common.{◌≡◌, ◌++◌, take}
-use Rattle.ame_picture.specs.Moments.{tries_shown}
-use Rattle.ame_picture.proofs.moment.add_tries.Given as goal
-
-abbrev pub invariant-loop-lost : goal.invariant-loop-lost
-invariant-loop-lost l = l.moments.items ≡ l.initial.moments.items ++ tries_shown (take l.lost-index l.tries)

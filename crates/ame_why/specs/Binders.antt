@@ -11,8 +11,7 @@ use Rattle.ame_lex.specs.Tokens.{spelled}
 use Rattle.ame_term.specs.Shown.{TypeFault, wrong_effect, wrong_sort, no_reference}
 use Rattle.ame_why.specs.declared.parts.Parts.{Parts}
 use Rattle.ame_why.specs.declared.binders.Binding.{Binding}
-use Rattle.ame_why.specs.Forms.{tokens_or_none}
-use Rattle.ame_why.specs.Open.{open_before}
+use Rattle.ame_why.specs.Open.{open_before, tokens_or_none}
 use Rattle.ame_why.specs.Placed.{placed_within}
 
 -- whether a token begins at a place or before it

@@ -1,6 +1,6 @@
 -- A place as editors read it, with what is told of it.
 use Rattle.std.specs.Prelude.{ℕ, List, ◌++◌, Some, length, min, codes}
-use Rattle.ame_why.specs.Forms.{position, position_words}
+use Rattle.ame_why.specs.Position.{position, position_words}
 
 -- the name of the text, the line and the column of a place, or of the end of a shorter text, and what is told of it
 abbrev pub heading : List ℕ → List ℕ → ℕ → List ℕ → List ℕ

@@ -1,8 +1,9 @@
 -- The parentheses that are open before a place.
-use Rattle.std.specs.Prelude.{ℕ, ◌-◌, ◌++◌, nat_lt, if◌then◌else◌, List, [], ◌∷◌, length, take}
+use Rattle.std.specs.Prelude.{ℕ, ◌-◌, ◌++◌, nat_lt, if◌then◌else◌, List, [], ◌∷◌, length, take, Ok, Err}
 use Rattle.std.specs.List.{fold}
 use Rattle.ame_lex.specs.declared.tokens.Kind.{Kind}
 use Rattle.ame_lex.specs.declared.tokens.Token.{Token}
+use Rattle.ame_lex.specs.Reading.{LexOutcome}
 
 -- the parentheses that are open after a token, the innermost last
 abbrev pub open_after : List ℕ → ℕ → Kind → List ℕ
@@ -13,3 +14,8 @@ open_after before start _ = before
 -- the places of those that are open before a place, the innermost last
 abbrev pub open_before : ℕ → List Token → List ℕ
 open_before place tokens = fold (λ before token. if nat_lt token.start place then open_after before token.start token.kind else before) [] tokens
+
+-- the tokens of a text; none where it has a fault
+abbrev pub tokens_or_none : LexOutcome → List Token
+tokens_or_none (Ok tokens) = tokens
+tokens_or_none (Err fault) = []

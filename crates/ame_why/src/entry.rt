@@ -1,63 +1,113 @@
 //! An entry of a certificate that can't be made.
 
-ghost use Rattle.std.specs.Prelude.{ℕ, IfOk};
-ghost use Rattle.ame_why.specs.Placed.{IsExplained};
+ghost use Rattle.std.specs.Prelude.{◌≡◌, ◌++◌, ◌≤◌, IfOk, OnOk, decimal, length};
+ghost use Rattle.ame_why.specs.Certificates as spec;
+ghost use Rattle.ame_why.specs.Words.{IsLastWord};
 
 use crate::page::{append, append_decimal};
 use crate::placed::explained;
-use crate::words::{line_from, line_start, start_of, word_at, word_start};
+use crate::words::{line_from, line_start, start_of, word_from, word_start};
 use ame_check::Reason;
 use ame_machine::Wants;
 use ame_term::{Loc, NoMemory};
 use itoa::Buffer;
 use std::alloc::Global;
 
-/// The words of a line: the kind stands first.
-const MEMBER: usize = 2;
-
-const STEPS: usize = 3;
-
-/// Why the entry in a line of a certificate can't be made, where the entries before it lead.
+/// Returns why the entry in a line of a certificate can't be made, if the entries before it lead somewhere: the place in the line, and the reason
+/// in words.
 pub fn explain_entry(
     alloc: Global,
     input: &[u8],
     line: u64,
     why: &Reason,
 ) -> Result<Vec<u8>, NoMemory>
-    ensures { IfOk result (λ page. (place : ℕ) × IsExplained input.now place page.items) }
+    ensures { IfOk result (λ page. spec.ExplainsEntry input.now line why.now page.items) }
 {
     let start = line_start(input, line);
     let row = line_from(input, start);
-    let mut message = Vec::new(alloc);
-    append_reason(&mut message, row, why)?;
-    append(&mut message, b"\n")?;
-    let place = start.saturating_add(place_in(row, why));
-    explained(alloc, input, place, &message)
+    let message = message_of(alloc, row, why)?;
+    explained(alloc, input, start + place_in(row, why), &message)
 }
 
-/// The place in a line of which a reason tells.
-fn place_in(row: &[u8], why: &Reason) -> usize {
+/// Returns the place in a line that a reason speaks of.
+fn place_in(row: &[u8], why: &Reason) -> usize
+    ensures there { spec.IsPlaceOf why.now row.now result }
+    ensures within { result ≤ length row.now }
+{
     match why {
-        Reason::NoMember => word_start(row, MEMBER),
+        Reason::NoMember => word_start(row, 2),
         Reason::Inside | Reason::Outside => 0,
-        Reason::NoSteps | Reason::Stops(_, _) => word_start(row, STEPS),
+        Reason::NoSteps | Reason::Stops(_, _) => word_start(row, 3),
         Reason::Answered => start_of(row, b"="),
         Reason::Unanswered(_) | Reason::Missing(_) => row.len(),
-        Reason::Taken(_, location) | Reason::Unused(_, location) => place_of_location(
+        Reason::Taken(_, location) | Reason::Unused(_, location) => start_of_location(
             row, *location,
         ),
     }
 }
 
-/// Where a location stands in a line.
-fn place_of_location(row: &[u8], location: Loc) -> usize {
+/// Returns where a location stands in a line.
+fn start_of_location(row: &[u8], location: Loc) -> usize
+    ensures there { IsLastWord row.now (decimal location.0) result }
+    ensures within { result ≤ length row.now }
+{
     let mut buffer = Buffer::new();
     start_of(row, buffer.format(location.0).as_bytes())
 }
 
-/// Adds why the entry of a line can't be made.
-fn append_reason(message: &mut Vec<u8>, row: &[u8], why: &Reason) -> Result<(), NoMemory> {
+/// Returns why the entry of a line can't be made, in words.
+fn message_of(alloc: Global, row: &[u8], why: &Reason) -> Result<Vec<u8>, NoMemory>
+    ensures { IfOk result (λ message. message.items ≡ spec.entry_message row.now why.now) }
+{
+    let mut message = Vec::new(alloc);
+    append_after(&mut message, row, steps_told(why))?;
+    append_reason(&mut message, why)?;
+    append(&mut message, b"\n")?;
+    Ok(message)
+}
+
+/// Returns after how many of the steps a reason speaks of them.
+fn steps_told(why: &Reason) -> Option<u64>
+    ensures { result ≡ spec.steps_told why.now }
+{
     match why {
+        Reason::Unanswered(steps)
+        | Reason::Missing(steps)
+        | Reason::Taken(steps, _)
+        | Reason::Unused(steps, _)
+        | Reason::Stops(steps, _) => Some(*steps),
+        Reason::NoMember | Reason::Inside | Reason::Outside | Reason::NoSteps | Reason::Answered =>
+            None,
+    }
+}
+
+/// Appends after how many of the line's steps it is so.
+fn append_after(message: &mut Vec<u8>, row: &[u8], steps: Option<u64>) -> Result<(), NoMemory>
+    ensures { OnOk result (message.new.items ≡ message.old.items ++ spec.after_words row.now steps) }
+{
+    match steps {
+        Some(steps) => append_steps(message, steps, word_from(row, word_start(row, 3))),
+        None => Ok(()),
+    }
+}
+
+#[tactic(auto, unfolding(crate::specs::Certificates::steps_words))]
+fn append_steps(message: &mut Vec<u8>, steps: u64, word: &[u8]) -> Result<(), NoMemory>
+    ensures { OnOk result (message.new.items ≡ message.old.items ++ spec.steps_words steps word.now) }
+{
+    append(message, b"after ")?;
+    append_decimal(message, steps)?;
+    append(message, b" of ")?;
+    append(message, word)?;
+    append(message, b" steps ")
+}
+
+/// Appends a reason.
+fn append_reason(message: &mut Vec<u8>, why: &Reason) -> Result<(), NoMemory>
+    ensures { OnOk result (message.new.items ≡ message.old.items ++ spec.reason_words why.now) }
+{
+    match why {
+        Reason::Stops(_, want) => append_want(message, *want),
         Reason::NoMember => append(
             message,
             b"there is no fragment of this number here: it has ended, or isn't started yet",
@@ -75,98 +125,70 @@ fn append_reason(message: &mut Vec<u8>, row: &[u8], why: &Reason) -> Result<(), 
             message,
             b"the last step calls no device, so there is no answer",
         ),
-        Reason::Unanswered(steps) => append_behind(
+        Reason::Unanswered(_) => append(
             message,
-            row,
-            *steps,
             b"the fragment calls a device, and the line tells no answer",
         ),
-        Reason::Missing(steps) => append_behind(
+        Reason::Missing(_) => append(
             message,
-            row,
-            *steps,
             b"the fragment makes a location, and the line tells no further one",
         ),
-        Reason::Taken(steps, _) => append_behind(
+        Reason::Taken(_, _) => append(
             message,
-            row,
-            *steps,
             b"the fragment makes a location, and this one has a value already",
         ),
-        Reason::Unused(steps, _) => append_behind(
+        Reason::Unused(_, _) => append(
             message,
-            row,
-            *steps,
             b"the fragment makes no further location, and this one is left",
         ),
-        Reason::Stops(steps, want) => {
-            append_after(message, row, *steps)?;
-            append_want(message, *want)
-        }
     }
 }
 
-/// Adds what is so after so many steps of those that a line tells.
-fn append_behind(
-    message: &mut Vec<u8>,
-    row: &[u8],
-    steps: u64,
-    told: &[u8],
-) -> Result<(), NoMemory> {
-    append_after(message, row, steps)?;
-    append(message, told)
-}
-
-/// Adds after how many steps of those that a line tells.
-fn append_after(message: &mut Vec<u8>, row: &[u8], steps: u64) -> Result<(), NoMemory> {
-    append(message, b"after ")?;
-    append_decimal(message, steps)?;
-    append(message, b" of ")?;
-    append(message, word_at(row, STEPS))?;
-    append(message, b" steps ")
-}
-
-/// Adds what a member wants, by which it doesn't do what its line tells.
-fn append_want(message: &mut Vec<u8>, want: Wants) -> Result<(), NoMemory> {
+/// Appends what a member wants, by which it doesn't do what its line says.
+fn append_want(message: &mut Vec<u8>, want: Wants) -> Result<(), NoMemory>
+    ensures { OnOk result (message.new.items ≡ message.old.items ++ spec.want_words want) }
+{
     match want {
-        Wants::Read(location) | Wants::Peek(location) => append_at(
+        Wants::Read(location) | Wants::Peek(location) => append_between(
             message,
             b"the fragment reads location ",
-            location,
+            u64::from(location.0),
             b", which has no value",
         ),
-        Wants::Write(location) => append_at(
+        Wants::Write(location) => append_between(
             message,
             b"the fragment writes location ",
-            location,
+            u64::from(location.0),
             b", which has no value",
         ),
-        Wants::Device(device, _) => {
-            append(message, b"the fragment calls device ")?;
-            append_decimal(message, u64::from(device))?;
-            append(
-                message,
-                b", which only a `free` line does, in its last step",
-            )
-        }
+        Wants::Device(device, _) => append_between(
+            message,
+            b"the fragment calls device ",
+            u64::from(device),
+            b", which only a `free` line does, in its last step",
+        ),
         _ => append(message, want_words(want)),
     }
 }
 
-/// Adds a location between words.
-fn append_at(
+/// Appends a number between words.
+fn append_between(
     message: &mut Vec<u8>,
     before: &[u8],
-    location: Loc,
-    behind: &[u8],
-) -> Result<(), NoMemory> {
+    number: u64,
+    after: &[u8],
+) -> Result<(), NoMemory>
+    ensures { OnOk result (message.new.items ≡ message.old.items ++ spec.between before.now number after.now) }
+{
     append(message, before)?;
-    append_decimal(message, u64::from(location.0))?;
-    append(message, behind)
+    append_decimal(message, number)?;
+    append(message, after)
 }
 
-/// What a member wants, in words.
-fn want_words(want: Wants) -> &'static [u8] {
+/// Returns what a member wants that names no location and no device, in words.
+fn want_words(want: Wants) -> &'static [u8]
+    ensures { result.now ≡ spec.plain_words want }
+{
     match want {
         Wants::Block =>
             b"the fragment has come to a condition that is false: only a `stuck` line ends there",

@@ -3,8 +3,8 @@
 ghost use Rattle.std.specs.Prelude.{◌≡◌, IfOk};
 ghost use Rattle.ame_why.specs.Heading as spec;
 
-use crate::forms::append_position;
 use crate::page::append;
+use crate::position::append_position;
 use crate::position_of;
 use ame_term::NoMemory;
 use std::alloc::Global;

@@ -1,10 +1,11 @@
 //! A line that spells no entry of a journal.
 
-ghost use Rattle.std.specs.Prelude.{ℕ, IfOk};
-ghost use Rattle.ame_why.specs.Placed.{IsExplained};
+ghost use Rattle.std.specs.Prelude.{◌≡◌, ◌==◌, ◌≤◌, IfOk, length};
+ghost use Rattle.std.specs.List.{list_any};
+ghost use Rattle.ame_why.specs.BadLines as spec;
 
 use crate::placed::explained;
-use crate::words::{line_from, line_start};
+use crate::words::{line_from, line_start, word_from};
 use ame_check::split_input;
 use ame_term::NoMemory;
 use std::alloc::Global;
@@ -22,43 +23,48 @@ enum Part {
     End,
 }
 
-/// Why an input is no certificate, where this line of it is told.
+/// Returns why an input is no certificate, of which this line is reported: the place in the line, and what would have to stand there.
 pub fn explain_line(alloc: Global, input: &[u8], line: u64) -> Result<Vec<u8>, NoMemory>
-    ensures { IfOk result (λ page. (place : ℕ) × IsExplained input.now place page.items) }
+    ensures { IfOk result (λ page. spec.ExplainsLine input.now line page.items) }
 {
     let start = line_start(input, line);
     if split_input(input).is_none() {
-        return explained(
+        let page = explained(
             alloc,
             input,
             start,
             b"no line is `program`, which stands between a journal and the text of its program\n",
-        );
+        )?;
+        return Ok(page);
     }
-    let (offset, message) = fault_of(line_from(input, start));
-    explained(alloc, input, start.saturating_add(offset), message)
+    let (place, message) = fault_of(line_from(input, start));
+    let page = explained(alloc, input, start + place, message)?;
+    Ok(page)
 }
 
-/// The first word that can't stand where it stands, by its place in the line, and what would have to stand there.
-fn fault_of(line: &[u8]) -> (usize, &'static [u8]) {
+/// Returns the first word that can't stand where it stands, and what would have to stand there.
+fn fault_of(line: &[u8]) -> (usize, &'static [u8])
+    ensures fault { spec.IsFault line.now result.0 result.1.now }
+    ensures within { result.0 ≤ length line.now }
+{
     let mut start: usize = 0;
     let mut part = Part::Kind;
     let mut is_free = false;
-    for word in line.split(|b| *b == b' ') {
-        if word.contains(&b'\r') {
-            return (start, b"a line ends with a line feed alone\n");
-        }
+    loop {
+        let word = word_from(line, start);
         let Some(next) = next_part(part, word, is_free) else {
-            return (start, wanted(part));
+            return (start, wanted(part, word));
         };
+        if word.len() >= line.len() - start {
+            return (
+                line.len(),
+                b"the line isn't whole: it has a kind, a seat, a fragment, its steps, and its new locations\n",
+            );
+        }
         is_free = is_free || word == b"free".as_slice();
         part = next;
-        start = start.saturating_add(word.len()).saturating_add(1);
+        start += word.len() + 1;
     }
-    (
-        line.len(),
-        b"the line isn't whole: it has a kind, a seat, a fragment, its steps, and its new locations\n",
-    )
 }
 
 /// What may stand behind a word, if the word may stand there.
@@ -121,8 +127,27 @@ fn is_answer(word: &[u8]) -> bool {
     }
 }
 
-/// What must stand somewhere, in words.
-fn wanted(part: Part) -> &'static [u8] {
+/// Returns what must stand where this word stands.
+fn wanted(part: Part, word: &[u8]) -> &'static [u8]
+    ensures { result.now ≡ spec.wanted part word.now }
+{
+    if has_return(word) {
+        b"a line ends with a line feed alone\n"
+    } else {
+        part_words(part)
+    }
+}
+
+fn has_return(word: &[u8]) -> bool
+    ensures { result ≡ list_any (λ b. b == 13) word.now }
+{
+    word.iter().any(|b| *b == b'\r')
+}
+
+/// Returns what must stand somewhere, in words.
+fn part_words(part: Part) -> &'static [u8]
+    ensures { result.now ≡ spec.part_words part }
+{
     match part {
         Part::Kind => b"a line begins with `ran`, `free`, `stuck`, `cut` or `tall`\n",
         Part::Seat => b"this is the seat, which is 0 to 31\n",

@@ -8,7 +8,7 @@ use ame_term::NoMemory;
 use itoa::Buffer;
 
 /// Adds bytes.
-pub(crate) fn append(page: &mut Vec<u8>, bytes: &[u8]) -> Result<(), NoMemory>
+pub fn append(page: &mut Vec<u8>, bytes: &[u8]) -> Result<(), NoMemory>
     ensures { OnOk result (page.new.items ≡ page.old.items ++ bytes.now) }
 {
     page.extend_from_slice(bytes)?;
@@ -16,7 +16,7 @@ pub(crate) fn append(page: &mut Vec<u8>, bytes: &[u8]) -> Result<(), NoMemory>
 }
 
 /// Adds a number in a column, and a space.
-pub(crate) fn append_column(page: &mut Vec<u8>, width: usize, number: u64) -> Result<(), NoMemory>
+pub fn append_column(page: &mut Vec<u8>, width: usize, number: u64) -> Result<(), NoMemory>
     ensures { OnOk result (page.new.items ≡ page.old.items ++ column width number) }
 {
     let mut buffer = Buffer::new();
@@ -27,7 +27,7 @@ pub(crate) fn append_column(page: &mut Vec<u8>, width: usize, number: u64) -> Re
 }
 
 /// Adds spaces.
-pub(crate) fn append_spaces(page: &mut Vec<u8>, count: usize) -> Result<(), NoMemory>
+pub fn append_spaces(page: &mut Vec<u8>, count: usize) -> Result<(), NoMemory>
     ensures { OnOk result (page.new.items ≡ page.old.items ++ replicate count 32) }
 {
     for _ in 0..count {
@@ -37,7 +37,7 @@ pub(crate) fn append_spaces(page: &mut Vec<u8>, count: usize) -> Result<(), NoMe
 }
 
 /// Adds words in a column.
-pub(crate) fn append_padded(page: &mut Vec<u8>, width: usize, words: &[u8]) -> Result<(), NoMemory>
+pub fn append_padded(page: &mut Vec<u8>, width: usize, words: &[u8]) -> Result<(), NoMemory>
     ensures { OnOk result (page.new.items ≡ page.old.items ++ padded width words.now) }
 {
     append(page, words)?;
@@ -45,7 +45,7 @@ pub(crate) fn append_padded(page: &mut Vec<u8>, width: usize, words: &[u8]) -> R
 }
 
 /// Adds words and an integer behind them.
-pub(crate) fn append_told(page: &mut Vec<u8>, words: &[u8], number: i64) -> Result<(), NoMemory>
+pub fn append_told(page: &mut Vec<u8>, words: &[u8], number: i64) -> Result<(), NoMemory>
     ensures { OnOk result (page.new.items ≡ page.old.items ++ (words.now ++ signed_decimal number)) }
 {
     let mut buffer = Buffer::new();
@@ -54,7 +54,7 @@ pub(crate) fn append_told(page: &mut Vec<u8>, words: &[u8], number: i64) -> Resu
 }
 
 /// Adds a number.
-pub(crate) fn append_decimal(page: &mut Vec<u8>, number: u64) -> Result<(), NoMemory>
+pub fn append_decimal(page: &mut Vec<u8>, number: u64) -> Result<(), NoMemory>
     ensures { OnOk result (page.new.items ≡ page.old.items ++ decimal number) }
 {
     let mut buffer = Buffer::new();

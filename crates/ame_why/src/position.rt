@@ -1,8 +1,11 @@
 //! Where a place of a text is, as a person counts.
 
-ghost use Rattle.std.specs.Prelude.{◌≡◌, ◌≤◌, count_by, length};
+ghost use Rattle.std.specs.Prelude.{◌≡◌, ◌++◌, ◌≤◌, OnOk, count_by, length};
 ghost use Rattle.std.specs.List.{after_last, before_first, position_or_len, suffix_len};
-ghost use Rattle.ame_why.specs.Position.{is_feed, is_within_line, line_number, column_of};
+ghost use Rattle.ame_why.specs.Position.{is_feed, is_within_line, line_number, column_of, position_words};
+
+use crate::page::{append, append_decimal};
+use ame_term::NoMemory;
 
 /// A line and a column of it, both counted from 1. A column is a byte.
 #[derive(Clone, Copy, PartialEq, Eq, Debug)]
@@ -60,4 +63,16 @@ fn line_len(text: &[u8]) -> usize
     ensures within { result ≤ length text.now }
 {
     text.iter().take_while(|b| **b != b'\n').count()
+}
+
+/// Appends a line and a column.
+pub fn append_position(page: &mut Vec<u8>, at: Option<Position>) -> Result<(), NoMemory>
+    ensures { OnOk result (page.new.items ≡ page.old.items ++ position_words at) }
+{
+    let Some(at) = at else {
+        return append(page, b"unknown");
+    };
+    append_decimal(page, at.line as u64)?;
+    append(page, b":")?;
+    append_decimal(page, at.column as u64)
 }

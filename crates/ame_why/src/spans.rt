@@ -5,7 +5,7 @@ ghost use Rattle.std.specs.List.{find};
 ghost use Rattle.ame_lex.specs.Bytes.{max_text};
 ghost use Rattle.ame_lex.specs.Reading as reading;
 ghost use Rattle.ame_lex.specs.Tokens.{IsWithin};
-ghost use Rattle.ame_why.specs.Forms.{tokens_or_none};
+ghost use Rattle.ame_why.specs.Open.{tokens_or_none};
 ghost use Rattle.ame_why.specs.Open as spec;
 
 use ame_lex::{Kind, LexFault, Token, lex};
@@ -13,7 +13,7 @@ use ame_term::NoMemory;
 use std::alloc::Global;
 
 /// The tokens of a text; none where it has none.
-pub(crate) fn tokens_of(alloc: Global, text: &[u8]) -> Result<Vec<Token>, NoMemory>
+pub fn tokens_of(alloc: Global, text: &[u8]) -> Result<Vec<Token>, NoMemory>
     requires { length text.now ≤ max_text }
     ensures tokens { IfOk result (λ tokens. tokens.items ≡ tokens_or_none (reading.tokens_of text.now)) }
     ensures within { IfOk result (λ tokens. All (IsWithin text.now) tokens.items) }

@@ -1,7 +1,6 @@
 //! What the words ask for, beside those that `ame` has.
 
-use ame_cli::{Command, Verb, read_words};
-use ame_protocol::Limits;
+use ame_cli::Verb;
 use std::alloc::{AllocError, Global};
 
 /// What is shown.
@@ -126,31 +125,4 @@ pub fn file_of(words: &mut Vec<String>) -> Option<String> {
 /// Whether a word is none that `ame` has.
 fn is_file(word: &str) -> bool {
     Verb::named(word).is_none() && !word.starts_with('-')
-}
-
-/// How words choose a run.
-#[derive(Clone, Copy)]
-pub enum Chosen {
-    /// An engine makes it, within these limits.
-    Engine(Limits),
-    /// It is a weak run, by the choices of this seed, with so many turns.
-    Weak(u32, u32),
-    /// They ask for none.
-    Nothing,
-}
-
-/// The run for which words ask, where they begin one.
-pub fn chosen_of(alloc: Global, words: &[String]) -> Chosen {
-    let options = match read_words(alloc, words) {
-        Ok(Command::Run(options) | Command::Bench(_, _, options)) => options,
-        Ok(Command::Sim(_, options) | Command::Replay(options) | Command::Resume(options)) =>
-            options,
-        Ok(Command::Weak(seed, turns)) => return Chosen::Weak(seed, turns),
-        Ok(Command::Check) | Err(_) => return Chosen::Nothing,
-    };
-    Chosen::Engine(Limits {
-        turns: options.turns,
-        slice: options.slice,
-        seats: options.workers,
-    })
 }

@@ -10,9 +10,9 @@ use ame_journal::EntryKind;
 use ame_lex::LexFault;
 use ame_parse::ParseFault;
 use ame_term::NoMemory;
+use ame_views::{halted_of, standings_of, waits_of};
 use ame_why::{
-    explain_bytes, explain_entry, explain_line, explain_tokens, explain_types, halted_of,
-    heading_of, standings_of, waits_of,
+    explain_bytes, explain_entry, explain_line, explain_tokens, explain_types, heading_of,
 };
 use std::alloc::Global;
 
@@ -111,9 +111,9 @@ fn waiting<K>(alloc: Global, report: &Report<K, StandardDevice>) -> Result<Vec<u
     requires small { vec_len report.now.text ≤ max_text }
 {
     let certificates = report.blocked();
-    if let Some(code) = &report.code {
+    if let Some(run) = &report.run {
         let entries = entries_of(alloc, report)?;
-        let told = standings_of(alloc, &report.text, code, &entries, certificates)?;
+        let told = standings_of(alloc, &report.text, &run.code, &entries, certificates)?;
         if let Some(lines) = told {
             return Ok(lines);
         }
@@ -134,7 +134,7 @@ fn halted<K>(alloc: Global, report: &Report<K, StandardDevice>) -> Result<Vec<u8
 fn halting<K>(alloc: Global, report: &Report<K, StandardDevice>) -> Result<Vec<u8>, NoMemory>
     requires small { vec_len report.now.text ≤ max_text }
 {
-    let Some(code) = &report.code else {
+    let Some(run) = &report.run else {
         return Ok(Vec::new(alloc));
     };
     let mut entries = entries_of(alloc, report)?;
@@ -150,7 +150,7 @@ fn halting<K>(alloc: Global, report: &Report<K, StandardDevice>) -> Result<Vec<u
     if note.steps > MOST_STEPS {
         return Ok(Vec::from_slice(alloc, TOO_MANY)?);
     }
-    let told = halted_of(alloc, &report.text, code, &entries, &note)?;
+    let told = halted_of(alloc, &report.text, &run.code, &entries, &note)?;
     Ok(told.unwrap_or(Vec::new(alloc)))
 }
 

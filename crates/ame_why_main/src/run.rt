@@ -3,7 +3,7 @@
 ghost use Rattle.std.specs.Prelude.{◌≤◌, vec_len};
 ghost use Rattle.ame_lex.specs.Bytes.{max_text};
 
-use crate::asked::{Asked, Chosen, View, chosen_of};
+use crate::asked::{Asked, View};
 use crate::explain::{explain, place_of};
 use crate::kept::Kept;
 use crate::late::Late;
@@ -40,10 +40,9 @@ where
     }
     let alloc = rt.alloc();
     let mut source = source;
-    let chosen = chosen_of(alloc, &words);
     let report = run_process(rt, alloc, Ok(words), &mut source, StdSink::new(io::sink()));
-    let begun = report.ended.is_some();
-    let page = told(alloc, asked.view, &report, source.bytes(), chosen, origin);
+    let begun = report.run.is_some();
+    let page = told(alloc, asked.view, &report, source.bytes(), origin);
     let verdict = report.status.line();
     let number = report.into_number();
     let Ok(page) = page else {
@@ -109,13 +108,12 @@ fn told<K>(
     view: View,
     report: &Report<K, StandardDevice>,
     input: &[u8],
-    chosen: Chosen,
     origin: Origin<'_>,
 ) -> Result<Vec<u8>, NoMemory>
     requires small { vec_len report.now.text ≤ max_text }
 {
     let verdict = report.status.line();
-    let Some(ended) = &report.ended else {
+    let Some(run) = &report.run else {
         let why = explain(alloc, report, input, origin)?;
         if place_of(&report.status).is_some() {
             return Ok(why);
@@ -124,7 +122,7 @@ fn told<K>(
         page.extend_from_slice(&why)?;
         return Ok(page);
     };
-    let mut page = page_of(alloc, view, report, ended, chosen, origin.name)?;
+    let mut page = page_of(alloc, view, report, run, origin.name)?;
     if !view.is_input() {
         page.extend_from_slice(verdict.as_str().as_bytes())?;
     }

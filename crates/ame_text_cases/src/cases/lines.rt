@@ -1,9 +1,9 @@
 //! The lines of a small program's entries.
 
 use crate::cases::code::code_of;
-use ame_eval::Fragment;
+use ame_check::Halt;
 use ame_journal::Journal;
-use ame_why::printed_of;
+use ame_views::replayed_run_of;
 use std::alloc::Global;
 use std::test::Fail;
 
@@ -20,7 +20,11 @@ fn told(alloc: Global, journal: &[u8]) -> Result<Option<Vec<Vec<i64>>>, Fail> {
     }
     let journal = Journal::from_text(alloc, journal).map_err(|_| "a journal")?;
     let code = code_of(alloc, PROGRAM)?;
-    Ok(printed_of::<Fragment>(alloc, &code, journal.entries())?)
+    match replayed_run_of(alloc, PROGRAM, &code, journal.entries()) {
+        Ok(run) => Ok(Some(run.lines)),
+        Err(Halt::Undefined(_, _) | Halt::Tall(_)) => Ok(None),
+        Err(Halt::NoMemory) => Err("memory".into()),
+    }
 }
 
 #[test]

@@ -3,7 +3,8 @@
 use ame_journal::Journal;
 use ame_protocol::Tried;
 use ame_term::{Loc, TyNo};
-use ame_why::{Made, Position, Starter, forms_of, table_of};
+use ame_views::{Made, Starter, forms_of, table_of};
+use ame_why::Position;
 use std::alloc::Global;
 use std::test::Fail;
 

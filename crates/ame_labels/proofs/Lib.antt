@@ -1,0 +1,4 @@
+pub mod LedgerLemmas
+pub mod OrderLemmas
+pub mod StepperLemmas
+pub mod FrontLemmas

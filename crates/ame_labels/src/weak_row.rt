@@ -1,0 +1,246 @@
+//! The row of a label of a weak run.
+
+ghost use Rattle.std.specs.Prelude.{◌≡◌, ◌++◌, IfOk, OnOk, option_map};
+ghost use Rattle.ame_term.specs.Context.{focus};
+ghost use Rattle.ame_term.specs.View.{tree_of};
+ghost use Rattle.ame_print.specs.Printer.{spelling_of};
+ghost use Rattle.ame_strong.specs.View.{state_of};
+ghost use Rattle.ame_weak.specs.View.{weak_of};
+ghost use Rattle.ame_labels.specs.Stepped as stepped;
+ghost use Rattle.ame_labels.specs.WeakOrder as spec;
+
+use crate::label_row::{changed_location, held_text, kind_of, reduced_term};
+use ame_strong::StrongState;
+use ame_term::{Label, Loc, NoMemory, Split, StepKind, Term, Value, split};
+use ame_weak::{Try, WeakState};
+use ame_why::page::{append, append_column, append_decimal, append_spaces, append_told};
+use std::alloc::Global;
+
+/// Adds what is known of a label before it is made; tells the location that it touches.
+#[tactic(auto, unfolding(crate::specs::WeakOrder::before_label))]
+pub(crate) fn append_before(
+    page: &mut Vec<u8>,
+    state: &WeakState,
+    number: u64,
+    entry: u64,
+    label: Label,
+) -> Result<Option<Loc>, NoMemory>
+    ensures page { OnOk result (page.new.items ≡ page.old.items ++ spec.before_label number entry (weak_of state.now) label) }
+    ensures touched { IfOk result (λ l. option_map (λ l. l.0) l
+        ≡ spec.touched_at (stepped.kind_of label) (stepped.reduced_term (weak_of state.now).state label)) }
+{
+    let term = reduced_term(state.strong(), label);
+    append_columns(page, number, entry, state.active(), label)?;
+    append_said(page, term, label)?;
+    Ok(touched_at(term, label))
+}
+
+/// Adds what the location holds that a label touched, where this is the state behind the label.
+#[tactic(auto, unfolding(crate::specs::WeakOrder::behind_label))]
+pub(crate) fn append_behind(
+    alloc: Global,
+    page: &mut Vec<u8>,
+    names: &[Vec<u8>],
+    state: &WeakState,
+    touched: Option<Loc>,
+) -> Result<(), NoMemory>
+    ensures { OnOk result (page.new.items ≡ page.old.items
+        ++ spec.behind_label (spelling_of names.now) (weak_of state.now) (option_map (λ l. l.0) touched)) }
+{
+    append_touched(alloc, page, names, state.strong(), touched)?;
+    append(page, b"\n")
+}
+
+/// The location that a label makes, reads or writes.
+fn touched_at(term: Option<&Term>, label: Label) -> Option<Loc>
+    ensures { option_map (λ l. l.0) result ≡ spec.touched_at (stepped.kind_of label) (option_map (λ t. tree_of t.now) term.entry) }
+{
+    match kind_of(label) {
+        Some(StepKind::Read | StepKind::Peek) => read_location(term),
+        _ => changed_location(term, label),
+    }
+}
+
+/// The location from which the redex of a term reads.
+fn read_location(term: Option<&Term>) -> Option<Loc>
+    ensures { option_map (λ l. l.0) result ≡ spec.read_location (option_map (λ t. tree_of t.now) term.entry) }
+{
+    match term {
+        Some(term) => read_at(term),
+        None => None,
+    }
+}
+
+/// The same of a term.
+fn read_at(term: &Term) -> Option<Loc>
+    ensures { option_map (λ l. l.0) result ≡ spec.read_at (focus (tree_of term.now)) }
+{
+    let Split::Redex {
+        redex: Term::Get(cell) | Term::Peek(cell),
+        ..
+    } = split(term)
+    else {
+        return None;
+    };
+    match &**cell {
+        Term::Held(Value::Loc(location)) => Some(*location),
+        _ => None,
+    }
+}
+
+/// The columns of a label, and what it does.
+#[tactic(auto, unfolding(crate::specs::WeakOrder::columns))]
+fn append_columns(
+    row: &mut Vec<u8>,
+    number: u64,
+    entry: u64,
+    active: Option<u64>,
+    label: Label,
+) -> Result<(), NoMemory>
+    ensures { OnOk result (row.new.items ≡ row.old.items ++ spec.columns number entry active label) }
+{
+    append_column(row, 5, number)?;
+    append_column(row, 6, entry)?;
+    append_column(row, 9, label_member(active, label))?;
+    append_spaces(row, lane_width(label))?;
+    append(row, label_deed(label))
+}
+
+/// The member whose label it is.
+fn label_member(active: Option<u64>, label: Label) -> u64
+    ensures { result ≡ spec.label_member active label }
+{
+    match label {
+        Label::Activate(number) | Label::Free(number, _) | Label::Close(number) => number,
+        Label::Step(_) | Label::Leave | Label::End => active.unwrap_or(0),
+    }
+}
+
+/// How far the column of a label is to the right.
+fn lane_width(label: Label) -> usize
+    ensures { result ≡ spec.lane_width label }
+{
+    match label {
+        Label::Free(_, _) | Label::Close(_) => 22,
+        _ => 0,
+    }
+}
+
+/// What a label does.
+fn label_deed(label: Label) -> &'static [u8]
+    ensures { result.now ≡ spec.label_deed label }
+{
+    match label {
+        Label::Activate(_) => b"  activate",
+        Label::Step(kind) | Label::Free(_, kind) => step_deed(kind),
+        Label::Leave => b"  leave",
+        Label::End => b"  end",
+        Label::Close(_) => b"  close",
+    }
+}
+
+/// What a reduction does, with spaces where more is told of it.
+fn step_deed(kind: StepKind) -> &'static [u8]
+    ensures { result.now ≡ spec.step_deed kind }
+{
+    match kind {
+        StepKind::Local => b"  local",
+        StepKind::Alloc(_) => b"  alloc    ",
+        StepKind::Read => b"  read     ",
+        StepKind::Peek => b"  peek     ",
+        StepKind::Write => b"  write    ",
+        StepKind::Spawn => b"  spawn",
+        StepKind::Print => b"  print    ",
+        StepKind::Block => b"  block",
+        StepKind::Device(_) => b"  device   ",
+    }
+}
+
+/// Adds what a reduction of a term tells others, and what it is answered.
+fn append_said(row: &mut Vec<u8>, term: Option<&Term>, label: Label) -> Result<(), NoMemory>
+    ensures { OnOk result (row.new.items ≡ row.old.items ++ spec.said_words (stepped.kind_of label) (option_map (λ t. tree_of t.now) term.entry)) }
+{
+    match kind_of(label) {
+        Some(StepKind::Print) => append_said_by(row, term),
+        Some(StepKind::Device(answer)) => {
+            append_said_by(row, term)?;
+            append_told(row, b" = ", answer)
+        }
+        _ => Ok(()),
+    }
+}
+
+/// Adds what the redex of a term prints or calls.
+fn append_said_by(row: &mut Vec<u8>, term: Option<&Term>) -> Result<(), NoMemory>
+    ensures { OnOk result (row.new.items ≡ row.old.items ++ spec.said_by (option_map (λ t. tree_of t.now) term.entry)) }
+{
+    match term {
+        Some(term) => append_said_at(row, term),
+        None => Ok(()),
+    }
+}
+
+/// The same of a term.
+fn append_said_at(row: &mut Vec<u8>, term: &Term) -> Result<(), NoMemory>
+    ensures { OnOk result (row.new.items ≡ row.old.items ++ spec.said_at (focus (tree_of term.now))) }
+{
+    match split(term) {
+        Split::Redex {
+            redex: Term::Print(part),
+            ..
+        } => append_integer(row, part),
+        Split::Redex {
+            redex: Term::Call(device, part),
+            ..
+        } => {
+            append_decimal(row, u64::from(*device))?;
+            append(row, b"(")?;
+            append_integer(row, part)?;
+            append(row, b")")
+        }
+        _ => Ok(()),
+    }
+}
+
+/// Adds an integer, where a term is one.
+fn append_integer(row: &mut Vec<u8>, part: &Term) -> Result<(), NoMemory>
+    ensures { OnOk result (row.new.items ≡ row.old.items ++ spec.integer_words (tree_of part.now)) }
+{
+    match part {
+        Term::Held(Value::Int(n)) => append_told(row, b"", *n),
+        _ => Ok(()),
+    }
+}
+
+/// Adds what a location holds, if one is told.
+fn append_touched(
+    alloc: Global,
+    row: &mut Vec<u8>,
+    names: &[Vec<u8>],
+    state: &StrongState,
+    touched: Option<Loc>,
+) -> Result<(), NoMemory>
+    ensures { OnOk result (row.new.items ≡ row.old.items ++ spec.touched_words (spelling_of names.now) (state_of state.now) (option_map (λ l. l.0) touched)) }
+{
+    let Some(location) = touched else {
+        return Ok(());
+    };
+    let held = held_text(alloc, names, state.stored(location))?;
+    append(row, b"@")?;
+    append_decimal(row, u64::from(location.0))?;
+    append(row, b" = ")?;
+    append(row, &held)
+}
+
+/// Adds the row of a try, the note of which is this entry.
+#[tactic(auto, unfolding(crate::specs::WeakOrder::taken_back_row))]
+pub(crate) fn append_try(page: &mut Vec<u8>, entry: u64, t: &Try) -> Result<(), NoMemory>
+    ensures { OnOk result (page.new.items ≡ page.old.items ++ spec.taken_back_row entry t.now) }
+{
+    append(page, b"      ")?;
+    append_column(page, 6, entry)?;
+    append_column(page, 9, t.certificate.number)?;
+    append(page, b"  was tried, and taken back behind step ")?;
+    append_decimal(page, t.certificate.steps)?;
+    append(page, b"\n")
+}

@@ -1,0 +1,13 @@
+pub mod BegunLemmas
+pub mod CountLemmas
+pub mod FormLemmas
+pub mod FaultLemmas
+pub mod InputLemmas
+pub mod LineIndexLemmas
+pub mod LineLemmas
+pub mod NextLemmas
+pub mod PrintedLemmas
+pub mod RowLemmas
+pub mod StandingsLemmas
+pub mod StarterLemmas
+pub mod StoredLemmas

@@ -1,0 +1,7 @@
+use Rattle.std.proofs.Common.{◌≡◌, ◌++◌, take}
+use Rattle.std.specs.List.{flat_map}
+use Rattle.ame_views.specs.Forms.{form_row}
+use Rattle.ame_views.proofs.forms.append_forms.Given as goal
+
+abbrev pub invariant-loop-one : goal.invariant-loop-one
+invariant-loop-one l = l.page.items ≡ l.initial.page.items ++ flat_map (form_row l.places) (take l.one-index l.made)

@@ -1,0 +1,16 @@
+use Rattle.std.proofs.Common.{◌++◌, codes, decimal, ap, ◌∙◌, append_assoc}
+use Rattle.std.proofs.lemmas.Result.{on_ok_weaker}
+use Rattle.ame_views.specs.Table as spec
+use Rattle.ame_views.proofs.table.append_tried_words.Goals as goal
+
+pub returns : goal.returns
+unfolding spec.tried_words
+returns c =
+    let old = c.args.page.now.items in
+    let words = codes " was rolled back; so far it was valid behind entry " in
+    let number = decimal c.args.at in
+    on_ok_weaker c.append-2.result
+    (λ added. added
+    ∙ ap (λ xs. xs ++ codes "\n") (c.in_ok-append_decimal.ensures ∙ ap (λ xs. xs ++ number) c.in_ok-append.ensures)
+    ∙ append_assoc (old ++ words) number (codes "\n") ∙ append_assoc old words (number ++ codes "\n"))
+    c.append-2.ensures

@@ -1,0 +1,16 @@
+pub mod Input
+pub mod Nexts
+pub mod Starters
+pub mod Table
+pub mod Forms
+pub mod Lines
+pub mod Counts
+pub mod Stored
+pub mod Faults
+pub mod Waits
+pub mod LineIndex
+pub mod FragmentMeaning
+pub mod NodePlaces
+pub mod Begun
+pub mod Standings
+pub mod Trace

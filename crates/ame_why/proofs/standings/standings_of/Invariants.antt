@@ -1,8 +1,0 @@
--- The certificates so far are told.
-use Rattle.std.proofs.Common.{take}
-use Rattle.ame_why.specs.Standings.{TellEach}
-use Rattle.ame_why.proofs.standings.standings_of.Given as goal
-
-abbrev pub invariant-loop-certificate : goal.invariant-loop-certificate
-invariant-loop-certificate l =
-    TellEach l.lines.text.now l.code l.entries l.replay.cells.entries (take l.certificate-index l.certificates) l.page.items

@@ -1,17 +1,18 @@
 # Completion of ame, try and why, also as ./ame: `source PATH/editors/ame.bash`.
 
+# tools/lists makes: words
 _AME_COMMANDS='run bench sim replay check resume weak'
-_AME_VIEWS='--journal --trace --schedule --counts --store --steps --picture --events'
+_AME_VIEWS='--trace --steps --store --counts --picture --events --journal --schedule'
+_AME_OPTIONS='--workers --turns --slice'
+declare -gA _AME_NUMBERS_OF=([run]='' [bench]='seed size' [sim]='seed' [replay]='' [check]='' [resume]='' [weak]='seed')
+declare -gA _AME_OPTIONS_OF=([run]='--workers --turns --slice' [bench]='--workers --turns --slice' [sim]='--workers --turns --slice' [replay]='--workers --turns --slice' [check]='' [resume]='--workers --turns --slice' [weak]='--turns')
+declare -gA _AME_FILES_OF=([run]='*.ame' [bench]='' [sim]='*.ame' [replay]='*' [check]='*' [resume]='*' [weak]='*.ame')
+declare -gA _AME_VALUES=([seed]='0 1 65536' [size]='1 10 100 1000 4000' [--workers]='1 2 4 8 16 32' [--turns]='1 1000 10000 100000 1000000 4000000' [--slice]='1 10 100 1000' [--explain]='1 2 3 4 5 6 7 8 9 11')
+# tools/lists: end
 
-# Numbers in the range of an option or a number, with the least and the greatest.
-_ame_numbers() {
-  case $1 in
-  --workers) echo {1..32} ;;
-  --turns) echo 1 1000 10000 100000 1000000 4000000 ;;
-  --slice) echo 1 10 100 1000 ;;
-  seed) echo 0 1 65536 ;;
-  size) echo 1 10 100 1000 4000 ;;
-  esac
+# Succeeds if a word is in a list of words.
+_ame_has() {
+  [[ " $1 " == *" $2 "* ]]
 }
 
 # Offers these words.
@@ -30,24 +31,22 @@ _ame_offer_files() {
 
 # Offers what may follow a command: its numbers, options that are not given yet, a file if none is given, and these words.
 _ame_offer_parts() {
-  local command=${words[0]} option given offered=() numbers=0
+  local command=${words[0]} option given offered=() numbers
+  numbers=(${_AME_NUMBERS_OF[$command]})
   for given in "${words[@]:1}"; do
-    [[ $given == [0-9]* ]] && ((numbers++))
+    [[ $given == [0-9]* ]] && numbers=("${numbers[@]:1}")
   done
-  if [[ $cur != -* ]]; then
-    [[ $command == @(bench|sim|weak) && $numbers == 0 ]] && { _ame_offer "$(_ame_numbers seed)"; return; }
-    [[ $command == bench && $numbers == 1 ]] && { _ame_offer "$(_ame_numbers size)"; return; }
-  fi
-  for option in --workers --turns --slice; do
-    [[ $command == check || $command == weak && $option != --turns ]] && continue
+  [[ $cur != -* && ${numbers[0]-} ]] && { _ame_offer "${_AME_VALUES[${numbers[0]}]}"; return; }
+  for option in ${_AME_OPTIONS_OF[$command]}; do
     [[ " ${words[*]} " == *" $option"[\ =]* ]] || offered+=("$option")
   done
-  [[ $command != check ]] && offered+=("$@")
-  case $file$command in
-  bench | file*) _ame_offer "${offered[@]}" ;;
-  replay | check | resume) _ame_offer_files '*' "${offered[@]}" ;;
-  *) _ame_offer_files '*.ame' "${offered[@]}" ;;
-  esac
+  # A command without options makes no run, and has no view and no certificate.
+  [[ ${_AME_OPTIONS_OF[$command]} ]] && offered+=("$@")
+  if [[ $file || ! ${_AME_FILES_OF[$command]} ]]; then
+    _ame_offer "${offered[@]}"
+  else
+    _ame_offer_files "${_AME_FILES_OF[$command]}" "${offered[@]}"
+  fi
 }
 
 _ame() {
@@ -56,13 +55,12 @@ _ame() {
   # The words before the one at the cursor: redirections and certificates are left out, and an option's value stands in its word.
   for ((at = 1; at < COMP_CWORD; at++)); do
     word=${COMP_WORDS[at]}
-    case $last in
-    [\<\>]* | --certificate) ;;
-    = | --workers | --turns | --slice)
+    if [[ $last == = ]] || _ame_has "$_AME_OPTIONS" "$last"; then
       if [[ $word == = ]]; then last='='; continue; fi
-      words[-1]+="=$word" ;;
-    *) [[ $word == [\<\>]* || $word == --certificate ]] || words+=("$word") ;;
-    esac
+      words[-1]+="=$word"
+    elif [[ $last != [\<\>]* && $last != --certificate && $word != [\<\>]* && $word != --certificate ]]; then
+      words+=("$word")
+    fi
     last=$word
     [[ $word == --*=* ]] && last=
   done
@@ -72,21 +70,22 @@ _ame() {
   esac
   case $last in
   [\<\>]* | --certificate) compopt -o default 2>/dev/null; return ;;
-  = | --workers | --turns | --slice) _ame_offer "$(_ame_numbers "${words[-1]}")"; return ;;
+  --explain) _ame_offer "${_AME_VALUES[--explain]}"; return ;;
   esac
+  if [[ $last == = ]] || _ame_has "$_AME_OPTIONS" "$last"; then
+    _ame_offer "${_AME_VALUES[${words[-1]}]-}"
+    return
+  fi
   case $program in
   why) others=($_AME_VIEWS) ;;
   ame) others=(--certificate) ;;
   esac
   for word in "${words[@]}"; do
-    case $word in
-    --journal | --trace | --schedule | --counts | --store | --steps | --picture | --events) others=() ;;
-    *) rest+=("$word") ;;
-    esac
+    if _ame_has "$_AME_VIEWS" "$word"; then others=(); else rest+=("$word"); fi
   done
   words=("${rest[@]}")
   # A file may stand before the command.
-  if [[ ${words[0]-} && " $_AME_COMMANDS " != *" ${words[0]} "* ]]; then
+  if [[ ${words[0]-} ]] && ! _ame_has "$_AME_COMMANDS" "${words[0]}"; then
     file=file words=("${words[@]:1}")
   fi
   if [[ ${words[0]-} ]]; then
